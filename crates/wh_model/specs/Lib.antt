@@ -1,1 +1,10 @@
 pub mod Numbering
+pub mod Grammar
+pub mod Leb
+pub mod Syntax
+pub mod Opcodes
+pub mod Limits
+pub mod Instructions
+pub mod Modules
+pub mod Spelling
+pub mod Nested

@@ -1,0 +1,2 @@
+pub mod ReadingCode
+pub mod Stack

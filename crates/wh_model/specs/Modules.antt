@@ -1,0 +1,253 @@
+-- Modules in the binary format, section 5.5 of the standard, with the types of section 5.3 that stand in them.
+use Rattle.std.specs.Prelude.{◌≡◌, ℕ, zero, suc, ◌+◌, ◌-◌, ◌⊎◌, List, [], ◌∷◌, ◌++◌, length, Some, None, Bool, true, false, if◌then◌else◌, nat_lt, IsUtf8}
+use Rattle.std.proofs.Math.ListN.{replicate}
+use Rattle.wh_model.specs.declared.FaultKind.{FaultKind}
+use Rattle.wh_model.specs.declared.FaultKind.TheVariants.{Magic, Version, UnknownByte, Utf8, CountMismatch, SectionOrder}
+use Rattle.wh_model.specs.declared.ValType.{ValType}
+use Rattle.wh_model.specs.Grammar.{Grammar, gives, ◌>>=◌, ◌>>◌, one_of, this_byte, bytes, only_if, up_to, Each, times, exactly, exactly_from}
+use Rattle.wh_model.specs.Leb.{u32, vec, vec_up_to}
+use Rattle.wh_model.specs.Syntax.{FuncType, Limits, GlobalType, ImportDesc, of_func, of_global, Import, Global, Export, Element, Data, Body, Code, Module, empty_module}
+use Rattle.wh_model.specs.Opcodes.{value_type, mutability, imported_mutability, limits_flag, export_kind, import_kind}
+use Rattle.wh_model.specs.Limits.{most_types, most_params, most_imports, most_functions, most_globals, most_exports, most_elements, most_segments, most_locals, most_instructions}
+use Rattle.wh_model.specs.Instructions.{expr}
+
+-- ---- types (5.3)
+
+abbrev pub valtype : Grammar ValType
+valtype = one_of value_type
+
+-- functype (5.3.3)
+abbrev pub functype : Grammar FuncType
+functype = do
+  this_byte UnknownByte 0x60
+  params ← vec_up_to most_params valtype
+  results ← vec valtype
+  gives (record { params = params; results = results })
+
+-- limits (5.3.4)
+abbrev pub limits_by : Bool → Grammar Limits
+limits_by false = do
+  min ← u32
+  gives (record { min = min; max = None })
+limits_by true = do
+  min ← u32
+  max ← u32
+  gives (record { min = min; max = Some max })
+
+abbrev pub limits : Grammar Limits
+limits = one_of limits_flag >>= limits_by
+
+-- tabletype (5.3.6)
+abbrev pub tabletype : Grammar Limits
+tabletype = do
+  this_byte UnknownByte 0x70
+  limits
+
+-- globaltype (5.3.7)
+abbrev pub globaltype : Grammar GlobalType
+globaltype = do
+  t ← valtype
+  m ← one_of mutability
+  gives (record { value = t; mutability = m })
+
+-- ---- parts of modules
+
+-- name (5.2.4)
+abbrev pub name : Grammar (List ℕ)
+name = do
+  n ← u32
+  only_if IsUtf8 Utf8 (bytes n)
+
+-- an expression that gives a value once, without a limit on its instructions
+abbrev pub constant : Grammar Code
+constant = expr None
+
+-- import (5.5.5)
+abbrev pub importdesc : Bool → Grammar ImportDesc
+importdesc true = do
+  x ← u32
+  gives (of_func x)
+importdesc false = do
+  t ← valtype
+  m ← one_of imported_mutability
+  gives (of_global t)
+
+abbrev pub «import» : Grammar Import
+«import» = do
+  from ← name
+  item ← name
+  kind ← one_of import_kind
+  desc ← importdesc kind
+  gives (record { from = from; name = item; desc = desc })
+
+-- global (5.5.9)
+abbrev pub global : Grammar Global
+global = do
+  t ← globaltype
+  e ← constant
+  gives (record { type = t; init = e })
+
+-- export (5.5.10)
+abbrev pub export : Grammar Export
+export = do
+  item ← name
+  kind ← one_of export_kind
+  x ← u32
+  gives (record { name = item; kind = kind; index = x })
+
+-- elem (5.5.12)
+abbrev pub element : Grammar Element
+element = do
+  x ← u32
+  e ← constant
+  ys ← vec u32
+  gives (record { table = x; offset = e; init = ys })
+
+-- data (5.5.14)
+abbrev pub byte_vector : Grammar (List ℕ)
+byte_vector = u32 >>= bytes
+
+abbrev pub segment : Grammar Data
+segment = do
+  x ← u32
+  e ← constant
+  bs ← byte_vector
+  gives (record { memory = x; offset = e; init = bs })
+
+-- locals (5.5.13): runs of one type, behind so many that are declared
+abbrev pub runs : ℕ → ℕ → Grammar (List ValType)
+runs zero declared = gives []
+runs (suc k) declared = do
+  n ← up_to (most_locals - declared) u32
+  t ← valtype
+  rest ← runs k (declared + n)
+  gives (replicate n t ++ rest)
+
+abbrev pub locals : Grammar (List ValType)
+locals = do
+  k ← u32
+  runs k 0
+
+-- func and code (5.5.13)
+abbrev pub func : Grammar Body
+func = do
+  declared ← locals
+  code ← expr (Some most_instructions)
+  gives (record { locals = declared; code = code })
+
+abbrev pub code : Grammar Body
+code = do
+  size ← u32
+  exactly size func
+
+-- as many as there are functions
+abbrev pub codes : ℕ → Grammar (List Body)
+codes n = do
+  k ← only_if (λ k. k ≡ n) CountMismatch u32
+  times k code
+
+-- ---- sections (5.5.2)
+
+abbrev pub BeginsWith : ℕ → List ℕ → Type 0
+BeginsWith n [] = ⊥
+BeginsWith n (m ∷ b) = m ≡ n
+
+-- customsec (5.5.3): a name, and any bytes
+abbrev pub custom : Grammar (List ℕ)
+custom = do
+  this_byte UnknownByte 0
+  size ← u32
+  exactly_from size name
+
+-- customsec*, and what is behind them
+abbrev pub customs_then : {A : Type 0} → Grammar A → Grammar A
+customs_then next = record {
+  spells = λ x b. (names : List (List ℕ)) × (t u : List ℕ) × (b ≡ t ++ u) × Each custom.spells names t × next.spells x u;
+  within = λ x b. (names : List (List ℕ)) × (t u : List ℕ) × (b ≡ t ++ u) × Each custom.within names t × next.within x u;
+  breaks = λ b kind k. (names : List (List ℕ)) × (t u : List ℕ) × (j : ℕ) × (b ≡ t ++ u) × (k ≡ length t + j) × Each custom.within names t
+      × ((BeginsWith 0 u × custom.breaks u kind j) ⊎ ((BeginsWith 0 u → ⊥) × next.breaks u kind j));
+}
+
+-- section_N: the id, the size, the contents
+abbrev pub section : {A : Type 0} → ℕ → Grammar A → Grammar A
+section id contents = do
+  this_byte UnknownByte id
+  size ← u32
+  exactly size contents
+
+-- a section that may be missing, and what is behind it
+abbrev pub section_or : {A B : Type 0} → ℕ → Grammar A → (A → Grammar B) → Grammar B → Grammar B
+section_or id contents next missing = record {
+  spells = λ y b. (section id contents >>= next).spells y b ⊎ missing.spells y b;
+  within = λ y b. (section id contents >>= next).within y b ⊎ missing.within y b;
+  breaks = λ b kind k. (BeginsWith id b × (section id contents >>= next).breaks b kind k) ⊎ ((BeginsWith id b → ⊥) × missing.breaks b kind k);
+}
+
+-- A section among custom ones. What it gives is put into the module read so far, m; without it m goes on as it is.
+abbrev pub part : {A : Type 0} → ℕ → Grammar A → (A → Module) → (Module → Grammar Module) → Module → Grammar Module
+part id contents put next m = customs_then (section_or id contents (λ x. next (put x)) (next m))
+
+-- The end of the module, where P holds. A section's id that stands here repeats one, doesn't rise, or is none.
+abbrev pub EndBreaks : Type 0 → List ℕ → FaultKind → Type 0
+EndBreaks P [] kind = (P → ⊥) × (kind ≡ CountMismatch)
+EndBreaks P (n ∷ b) kind = kind ≡ (if nat_lt 11 n then UnknownByte else SectionOrder)
+
+abbrev pub ends_with : {A : Type 0} → Type 0 → A → Grammar A
+ends_with P x = record {
+  spells = λ y b. (y ≡ x) × (b ≡ []) × P;
+  within = λ y b. (y ≡ x) × (b ≡ []) × P;
+  breaks = λ b kind k. (k ≡ 0) × EndBreaks P b kind;
+}
+
+-- ---- modules (5.5.15): from each section on
+
+unfoldable pub from_end : Module → Grammar Module
+from_end m = customs_then (ends_with (length m.bodies ≡ length m.funcs) m)
+
+unfoldable pub from_data : Module → Grammar Module
+from_data m = part 11 (vec_up_to most_segments segment) (λ ds. record m { segments = ds }) from_end m
+
+unfoldable pub from_code : Module → Grammar Module
+from_code m = part 10 (codes (length m.funcs)) (λ fs. record m { bodies = fs }) from_data m
+
+unfoldable pub from_elements : Module → Grammar Module
+from_elements m = part 9 (vec_up_to most_elements element) (λ es. record m { elements = es }) from_code m
+
+unfoldable pub from_start : Module → Grammar Module
+from_start m = part 8 u32 (λ x. record m { start = Some x }) from_elements m
+
+unfoldable pub from_exports : Module → Grammar Module
+from_exports m = part 7 (vec_up_to most_exports export) (λ es. record m { exports = es }) from_start m
+
+unfoldable pub from_globals : Module → Grammar Module
+from_globals m = part 6 (vec_up_to most_globals global) (λ gs. record m { globals = gs }) from_exports m
+
+unfoldable pub from_memories : Module → Grammar Module
+from_memories m = part 5 (vec limits) (λ ls. record m { memories = ls }) from_globals m
+
+unfoldable pub from_tables : Module → Grammar Module
+from_tables m = part 4 (vec tabletype) (λ ls. record m { tables = ls }) from_memories m
+
+unfoldable pub from_functions : Module → Grammar Module
+from_functions m = part 3 (vec_up_to most_functions u32) (λ xs. record m { funcs = xs }) from_tables m
+
+unfoldable pub from_imports : Module → Grammar Module
+from_imports m = part 2 (vec_up_to most_imports «import») (λ is. record m { imports = is }) from_functions m
+
+unfoldable pub from_types : Module → Grammar Module
+from_types m = part 1 (vec_up_to most_types functype) (λ ts. record m { types = ts }) from_imports m
+
+-- the magic bytes and the version
+abbrev pub preamble : Grammar (Unit {0})
+preamble = do
+  this_byte Magic 0x00
+  this_byte Magic 0x61
+  this_byte Magic 0x73
+  this_byte Magic 0x6d
+  this_byte Version 0x01
+  this_byte Version 0x00
+  this_byte Version 0x00
+  this_byte Version 0x00
+
+unfoldable pub «module» : Grammar Module
+«module» = preamble >> from_types empty_module

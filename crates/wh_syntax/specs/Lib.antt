@@ -1,0 +1,4 @@
+pub mod Shown
+pub mod Laid
+pub mod ShownLaid
+pub mod Stored
