@@ -63,21 +63,23 @@ abbrev pub constant : Grammar Code
 constant = expr None
 
 -- import (5.5.5)
-abbrev pub importdesc : Bool → Grammar ImportDesc
-importdesc true = do
+abbrev pub importdesc_by : Bool → Grammar ImportDesc
+importdesc_by true = do
   x ← u32
   gives (of_func x)
-importdesc false = do
+importdesc_by false = do
   t ← valtype
   m ← one_of imported_mutability
   gives (of_global t)
+
+abbrev pub importdesc : Grammar ImportDesc
+importdesc = one_of import_kind >>= importdesc_by
 
 abbrev pub «import» : Grammar Import
 «import» = do
   from ← name
   item ← name
-  kind ← one_of import_kind
-  desc ← importdesc kind
+  desc ← importdesc
   gives (record { from = from; name = item; desc = desc })
 
 -- global (5.5.9)

@@ -134,9 +134,10 @@ impl Trap {
 }
 
 /// A value type (2.3.1), and the width of an integer operator. Floating point is left out.
-#[derive(Clone, Copy, Debug, PartialEq, Eq)]
+#[derive(Clone, Copy, Debug, Default, PartialEq, Eq)]
 pub enum ValType {
     /// An integer of 32 bits.
+    #[default]
     I32,
     /// An integer of 64 bits.
     I64,

@@ -12,4 +12,5 @@ pub use expr::{Expr, Flat};
 pub use instr::Instr;
 pub use module::{
     Body, Data, Element, Export, FuncType, Global, GlobalType, Import, ImportDesc, Limits, Module,
+    TableType,
 };

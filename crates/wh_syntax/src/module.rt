@@ -22,6 +22,13 @@ pub struct Limits {
     pub max: Option<u32>,
 }
 
+/// The type of a table (2.3.5); its elements are functions.
+#[derive(Clone, Copy, Debug, PartialEq, Eq)]
+pub struct TableType {
+    /// How many entries it may have.
+    pub limits: Limits,
+}
+
 /// The type of a global (2.3.6).
 #[derive(Clone, Copy, Debug, PartialEq, Eq)]
 pub struct GlobalType {
@@ -111,9 +118,9 @@ pub struct Module {
     pub imports: Vec<Import>,
     /// The index of the type of each function that the module defines.
     pub funcs: Vec<u32>,
-    /// The tables.
-    pub tables: Vec<Limits>,
-    /// The memories.
+    /// The types of the tables.
+    pub tables: Vec<TableType>,
+    /// The sizes of the memories.
     pub memories: Vec<Limits>,
     /// The globals that the module defines.
     pub globals: Vec<Global>,

@@ -1,0 +1,12 @@
+pub mod Productions
+pub mod ReadsSections
+pub mod ReadsModules
+pub mod SmallParts
+pub mod SmallModules
+pub mod Modules
+pub mod Sequences
+pub mod Text
+pub mod Closed
+pub mod Runs
+pub mod Skips
+pub mod Whole

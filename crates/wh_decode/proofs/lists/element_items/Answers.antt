@@ -1,0 +1,7 @@
+use Rattle.wh_syntax.specs.View.{view_element}
+use Rattle.wh_decode.specs.ReadingModule.{element_at}
+use Rattle.wh_decode.proofs.Sequences.{vec_give}
+use Rattle.wh_decode.proofs.lists.element_items.Goals as goal
+
+pub returns-clause-exact : goal.returns-clause-exact
+returns-clause-exact c = vec_give view_element _ element_at (λ b at r g. g) c.args.count c.args.bytes.now c.args.at c.items.result c.items.ensures.exact

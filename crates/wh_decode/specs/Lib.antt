@@ -1,0 +1,4 @@
+pub mod ReadingModule
+pub mod Items
+pub mod Beginnings
+pub mod Promises

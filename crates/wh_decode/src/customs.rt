@@ -1,0 +1,69 @@
+//! Custom sections (5.5.3), which stand anywhere and leave nothing, and the beginnings of the others (5.5.2).
+
+ghost use Rattle.std.specs.Prelude.{◌≡◌, ◌≢◌, ℕ, ◌≤◌, length, drop, IfOk};
+ghost use Rattle.wh_leb.specs.Reading.{Gives};
+ghost use Rattle.wh_decode.specs.ReadingModule.{custom_at, begins, skip_at};
+ghost use Rattle.wh_decode.specs.Beginnings.{EndsAt, section_start_at};
+
+use crate::parts::name;
+use crate::types::expect_byte;
+use crate::windows::{outer, window};
+use wh_leb::{DecodeError, fault, read_u32};
+use wh_model::FaultKind;
+
+/// The place behind a custom section.
+#[tactic(auto, unfolding(crate::specs::ReadingModule::custom_at))]
+fn custom(bytes: &[u8], at: usize) -> Result<usize, DecodeError>
+    requires { at ≤ length bytes.now }
+    ensures exact { EndsAt result (custom_at bytes.now at) }
+    ensures inside { IfOk result (λ next. next ≤ length bytes.now) }
+{
+    let next = expect_byte(bytes, at, 0, FaultKind::UnknownByte)?;
+    let (size, start) = read_u32(bytes, next)?;
+    let end = start + size as usize;
+    let whole = end <= bytes.len();
+    match name(window(bytes, end), start) {
+        Ok(_) => {
+            if whole {
+                Ok(end)
+            } else {
+                fault(FaultKind::Truncated, bytes.len())
+            }
+        }
+        Err(inner) => Err(outer(whole, inner)),
+    }
+}
+
+/// Whether this byte stands here.
+pub fn stands_at(bytes: &[u8], at: usize, byte: u8) -> bool
+    requires { at ≤ length bytes.now }
+    ensures { result ≡ begins byte (drop at bytes.now) }
+{
+    if at == bytes.len() {
+        return false;
+    }
+    bytes[at] == byte
+}
+
+/// The place behind the custom sections that stand here.
+pub fn skip(bytes: &[u8], at: usize) -> Result<usize, DecodeError>
+    requires { at ≤ length bytes.now }
+    ensures exact { Gives (λ next. next) result (skip_at bytes.now at) }
+    ensures inside { IfOk result (λ next. next ≤ length bytes.now) }
+{
+    let mut place = at;
+    while stands_at(bytes, place, 0) {
+        place = custom(bytes, place)?;
+    }
+    Ok(place)
+}
+
+/// The size of a section whose id stands here, and the place of its contents.
+pub fn section_start(bytes: &[u8], at: usize, id: u8) -> Result<(u32, usize), DecodeError>
+    requires { at ≤ length bytes.now }
+    ensures exact { Gives (λ x. x) result (section_start_at id bytes.now at) }
+    ensures inside { IfOk result (λ found. found.1 ≤ length bytes.now) }
+{
+    let next = expect_byte(bytes, at, id, FaultKind::UnknownByte)?;
+    read_u32(bytes, next)
+}

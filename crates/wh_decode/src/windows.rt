@@ -1,0 +1,52 @@
+//! Windows: so many bytes of the input, as far as there are any, which what is read has to fill.
+
+ghost use Rattle.std.specs.Prelude.{◌≡◌, ◌≤◌, length, take, Result};
+ghost use Rattle.wh_leb.specs.Reading.{outer_fault, closed};
+
+use wh_leb::{DecodeError, fault};
+use wh_model::FaultKind;
+
+/// The bytes up to this place, as far as there are any.
+pub fn window(bytes: &[u8], end: usize) -> &[u8]
+    ensures value { result.now ≡ take end bytes.now }
+    ensures shorter { length result.now ≤ length bytes.now }
+{
+    if end <= bytes.len() {
+        &bytes[..end]
+    } else {
+        bytes
+    }
+}
+
+/// A fault inside a window, seen from outside: the end of a window that is there whole is a wrong size.
+pub fn outer(whole: bool, inner: DecodeError) -> DecodeError
+    ensures { result ≡ outer_fault whole inner }
+{
+    match inner.kind {
+        FaultKind::Truncated if whole => DecodeError {
+            kind: FaultKind::SectionSize,
+            offset: inner.offset,
+        },
+        _ => inner,
+    }
+}
+
+/// What was read in a window that has to end where the reading ended.
+pub fn close<T: Drop>(
+    whole: bool,
+    end: usize,
+    read: Result<(T, usize), DecodeError>,
+) -> Result<(T, usize), DecodeError>
+    ensures { result ≡ closed whole end read }
+{
+    match read {
+        Ok((value, next)) => {
+            if next == end {
+                Ok((value, next))
+            } else {
+                fault(FaultKind::SectionSize, next)
+            }
+        }
+        Err(inner) => Err(outer(whole, inner)),
+    }
+}
