@@ -52,7 +52,7 @@ unsigned-signed N i fits = ⊎_elim
     (λ high. ap (unsigned N) (signed-high N i high fits) ∙ unsigned-high N i fits)
     (cases_lt i (2 ^ (N - 1)))
 
-pow-half : (N : ℕ) → 0 < N → 2 ^ N ≡ 2 ^ (N - 1) + 2 ^ (N - 1)
+pub pow-half : (N : ℕ) → 0 < N → 2 ^ N ≡ 2 ^ (N - 1) + 2 ^ (N - 1)
 pow-half zero h = absurd (omega arith)
 pow-half (suc N) h = rw (sub-one, pow-suc) (omega arith)
 
@@ -71,6 +71,13 @@ signed-unsigned N (negsuc n) some low high =
     let above : 2 ^ (N - 1) ≤ 2 ^ N - 1 - n = omega arith in
     let same : 2 ^ N - suc (2 ^ N - 1 - n) ≡ n = omega arith in
     ap (λ m. signed N (2 ^ N - 1 - m)) (mod-eq_of_lt fits) ∙ signed-high N (2 ^ N - 1 - n) above (omega arith) ∙ ap negsuc same
+
+-- the signed numbers of N bits are those from -2 ^ (N - 1) to below 2 ^ (N - 1)
+pub signed-bounds : (N i : ℕ) → 0 < N → i < 2 ^ N → (neg_ℤ (pos (2 ^ (N - 1))) ≤ℤ signed N i) × (signed N i <ℤ pos (2 ^ (N - 1)))
+signed-bounds N i some fits = let half = pow-half N some in ⊎_elim
+    (λ low. let e = signed-low N i low in (omega (arith, ints), omega (arith, ints)))
+    (λ high. let e = signed-high N i high fits in (omega (arith, ints), omega (arith, ints)))
+    (cases_lt i (2 ^ (N - 1)))
 
 pub unsigned-lt : (N : ℕ) (z : ℤ) → unsigned N z < 2 ^ N
 unfolding unsigned
@@ -161,20 +168,100 @@ bits-pos I64 = lit< tt
 
 -- ---- each operator's result is an integer of its type
 
-pub unary-lt : (t : ValType) (op : UnaryOp) (a : ℕ) → unary t op a < 2 ^ bits t
-unfolding unary iclz ictz ipopcnt
-unary-lt t Clz a = lt_of_le_of_lt (count_below-le (bits t) (λ k. a / 2 ^ k == 0)) (bits-lt t)
-unary-lt t Ctz a = lt_of_le_of_lt (count_below-le (bits t) (λ k. a % 2 ^ (k + 1) == 0)) (bits-lt t)
-unary-lt t Popcnt a = lt_of_le_of_lt (count_below-le (bits t) (λ k. a / 2 ^ k % 2 == 1)) (bits-lt t)
+pub iadd-lt : (N a b : ℕ) → iadd N a b < 2 ^ N
+unfolding iadd
+iadd-lt N a b = mod-lt (a + b) (pow_pos N)
+
+pub isub-lt : (N a b : ℕ) → isub N a b < 2 ^ N
+unfolding isub
+isub-lt N a b = mod-lt (a + 2 ^ N - b) (pow_pos N)
+
+pub imul-lt : (N a b : ℕ) → imul N a b < 2 ^ N
+unfolding imul
+imul-lt N a b = mod-lt (a * b) (pow_pos N)
+
+-- a result after a test that decides between it and a trap
+after_test : (n : ℕ) (c : Bool) (e : Trap) (r : Result ℕ Trap) → IfOk r (λ m. m < n) → IfOk (if c then Err e else r) (λ m. m < n)
+after_test n true e r h = tt
+after_test n false e r h = h
+
+before_test : (n : ℕ) (c : Bool) (e : Trap) (r : Result ℕ Trap) → IfOk r (λ m. m < n) → IfOk (if c then r else Err e) (λ m. m < n)
+before_test n true e r h = h
+before_test n false e r h = tt
+
+pub idiv_u-lt : (N a b : ℕ) → a < 2 ^ N → IfOk (idiv_u a b) (λ m. m < 2 ^ N)
+unfolding idiv_u
+idiv_u-lt N a b fits = after_test (2 ^ N) (b == 0) DivideByZero (Ok (a / b)) (lt_of_le_of_lt (div-le_self a b) fits)
+
+pub idiv_s-lt : (N a b : ℕ) → IfOk (idiv_s N a b) (λ m. m < 2 ^ N)
+unfolding idiv_s
+idiv_s-lt N a b =
+    let q = quotient N a b in
+    let word = before_test (2 ^ N) (int_lt q (pos (2 ^ (N - 1)))) Overflow (Ok (unsigned N q)) (unsigned-lt N q) in
+    after_test (2 ^ N) (b == 0) DivideByZero (if int_lt q (pos (2 ^ (N - 1))) then Ok (unsigned N q) else Err Overflow) word
+
+pub irem_u-lt : (N a b : ℕ) → a < 2 ^ N → IfOk (irem_u a b) (λ m. m < 2 ^ N)
+unfolding irem_u
+irem_u-lt N a b fits = after_test (2 ^ N) (b == 0) DivideByZero (Ok (a - b * (a / b))) (omega arith)
+
+pub irem_s-lt : (N a b : ℕ) → IfOk (irem_s N a b) (λ m. m < 2 ^ N)
+unfolding irem_s
+irem_s-lt N a b =
+    let r = signed N a -ℤ signed N b *ℤ quotient N a b in
+    after_test (2 ^ N) (b == 0) DivideByZero (Ok (unsigned N r)) (unsigned-lt N r)
+
+pub ishl-lt : (N a b : ℕ) → ishl N a b < 2 ^ N
+unfolding ishl
+ishl-lt N a b = mod-lt (a * 2 ^ (b % N)) (pow_pos N)
+
+pub ishr_u-lt : (N a b : ℕ) → a < 2 ^ N → ishr_u N a b < 2 ^ N
+unfolding ishr_u
+ishr_u-lt N a b fits = lt_of_le_of_lt (div-le_self a (2 ^ (b % N))) fits
+
+pub binary-lt : (t : ValType) (op : BinaryOp) (a b : ℕ) → a < 2 ^ bits t → b < 2 ^ bits t → IfOk (binary t op a b) (λ m. m < 2 ^ bits t)
+unfolding binary
+binary-lt t Add a b left right = iadd-lt (bits t) a b
+binary-lt t Sub a b left right = isub-lt (bits t) a b
+binary-lt t Mul a b left right = imul-lt (bits t) a b
+binary-lt t DivS a b left right = idiv_s-lt (bits t) a b
+binary-lt t DivU a b left right = idiv_u-lt (bits t) a b left
+binary-lt t RemS a b left right = irem_s-lt (bits t) a b
+binary-lt t RemU a b left right = irem_u-lt (bits t) a b left
+binary-lt t And a b left right = lt_of_le_of_lt (and_le_l a b) left
+binary-lt t Or a b left right = or_lt (bits t) a b left right
+binary-lt t Xor a b left right = xor_lt (bits t) a b left right
+binary-lt t Shl a b left right = ishl-lt (bits t) a b
+binary-lt t ShrS a b left right = ishr_s-lt (bits t) a b (bits-pos t) left
+binary-lt t ShrU a b left right = ishr_u-lt (bits t) a b left
+binary-lt t Rotl a b left right = irotl-lt (bits t) a b (bits-pos t) left
+binary-lt t Rotr a b left right = irotr-lt (bits t) a b (bits-pos t) left
+
+pub iclz-lt : (t : ValType) (i : ℕ) → iclz (bits t) i < 2 ^ bits t
+unfolding iclz
+iclz-lt t i = lt_of_le_of_lt (count_below-le (bits t) (λ k. i / 2 ^ k == 0)) (bits-lt t)
+
+pub ictz-lt : (t : ValType) (i : ℕ) → ictz (bits t) i < 2 ^ bits t
+unfolding ictz
+ictz-lt t i = lt_of_le_of_lt (count_below-le (bits t) (λ k. i % 2 ^ (k + 1) == 0)) (bits-lt t)
+
+pub ipopcnt-lt : (t : ValType) (i : ℕ) → ipopcnt (bits t) i < 2 ^ bits t
+unfolding ipopcnt
+ipopcnt-lt t i = lt_of_le_of_lt (count_below-le (bits t) (λ k. i / 2 ^ k % 2 == 1)) (bits-lt t)
+
+pub unary-lt : (t : ValType) (op : UnaryOp) (i : ℕ) → unary t op i < 2 ^ bits t
+unfolding unary
+unary-lt t Clz i = iclz-lt t i
+unary-lt t Ctz i = ictz-lt t i
+unary-lt t Popcnt i = ipopcnt-lt t i
 
 truth-lt : (b : Bool) → truth b < 2 ^ bits I32
 unfolding truth
 truth-lt true = lit< tt
 truth-lt false = lit< tt
 
-pub test-lt : (t : ValType) (op : TestOp) (a : ℕ) → test t op a < 2 ^ bits I32
+pub test-lt : (op : TestOp) (a : ℕ) → test op a < 2 ^ bits I32
 unfolding test
-test-lt t Eqz a = truth-lt (a == 0)
+test-lt Eqz a = truth-lt (a == 0)
 
 pub compare-lt : (t : ValType) (op : CompareOp) (a b : ℕ) → compare t op a b < 2 ^ bits I32
 unfolding compare
@@ -185,34 +272,3 @@ unfolding convert wrap extend_u extend_s operand_type result_type
 convert-lt WrapI64 a fits = mod-lt a (pow_pos 32)
 convert-lt ExtendI32S a fits = unsigned-lt 64 (signed 32 a)
 convert-lt ExtendI32U a fits = omega arith
-
--- a result after the test of the divisor
-after_test : (n : ℕ) (c : Bool) (e : Trap) (r : Result ℕ Trap) → IfOk r (λ m. m < n) → IfOk (if c then Err e else r) (λ m. m < n)
-after_test n true e r h = tt
-after_test n false e r h = h
-
-before_test : (n : ℕ) (c : Bool) (e : Trap) (r : Result ℕ Trap) → IfOk r (λ m. m < n) → IfOk (if c then r else Err e) (λ m. m < n)
-before_test n true e r h = h
-before_test n false e r h = tt
-
-pub binary-lt : (t : ValType) (op : BinaryOp) (a b : ℕ) → a < 2 ^ bits t → b < 2 ^ bits t → IfOk (binary t op a b) (λ m. m < 2 ^ bits t)
-unfolding binary iadd isub imul idiv_u idiv_s irem_u irem_s ishl ishr_u
-binary-lt t Add a b left right = mod-lt (a + b) (pow_pos (bits t))
-binary-lt t Sub a b left right = mod-lt (a + 2 ^ bits t - b) (pow_pos (bits t))
-binary-lt t Mul a b left right = mod-lt (a * b) (pow_pos (bits t))
-binary-lt t DivU a b left right = after_test (2 ^ bits t) (b == 0) DivideByZero (Ok (a / b)) (lt_of_le_of_lt (div-le_self a b) left)
-binary-lt t DivS a b left right =
-    after_test (2 ^ bits t) (b == 0) DivideByZero (if int_lt (quotient (bits t) a b) (pos (2 ^ (bits t - 1))) then Ok (unsigned (bits t) (quotient (bits t) a b)) else Err Overflow)
-      (before_test (2 ^ bits t) (int_lt (quotient (bits t) a b) (pos (2 ^ (bits t - 1)))) Overflow (Ok (unsigned (bits t) (quotient (bits t) a b))) (unsigned-lt (bits t) (quotient (bits t) a b)))
-binary-lt t RemU a b left right = after_test (2 ^ bits t) (b == 0) DivideByZero (Ok (a - b * (a / b))) (omega arith)
-binary-lt t RemS a b left right =
-    after_test (2 ^ bits t) (b == 0) DivideByZero (Ok (unsigned (bits t) (signed (bits t) a -ℤ signed (bits t) b *ℤ quotient (bits t) a b)))
-      (unsigned-lt (bits t) (signed (bits t) a -ℤ signed (bits t) b *ℤ quotient (bits t) a b))
-binary-lt t And a b left right = lt_of_le_of_lt (and_le_l a b) left
-binary-lt t Or a b left right = or_lt (bits t) a b left right
-binary-lt t Xor a b left right = xor_lt (bits t) a b left right
-binary-lt t Shl a b left right = mod-lt (a * 2 ^ (b % bits t)) (pow_pos (bits t))
-binary-lt t ShrU a b left right = lt_of_le_of_lt (div-le_self a (2 ^ (b % bits t))) left
-binary-lt t ShrS a b left right = ishr_s-lt (bits t) a b (bits-pos t) left
-binary-lt t Rotl a b left right = irotl-lt (bits t) a b (bits-pos t) left
-binary-lt t Rotr a b left right = irotr-lt (bits t) a b (bits-pos t) left

@@ -159,8 +159,8 @@ binary t Rotl a b = Ok (irotl (bits t) a b)
 binary t Rotr a b = Ok (irotr (bits t) a b)
 
 -- a test of one integer
-unfoldable pub test : ValType → TestOp → ℕ → ℕ
-test t Eqz i = truth (i == 0)
+unfoldable pub test : TestOp → ℕ → ℕ
+test Eqz i = truth (i == 0)
 
 -- whether two integers compare so
 unfoldable pub holds : ValType → CompareOp → ℕ → ℕ → Bool
