@@ -1,8 +1,9 @@
 -- What the machine's instructions on words of 64 and 32 bits give, in the terms of the definitions.
 use Rattle.std.proofs.Common.{◌≡◌, ℕ, zero, suc, ◌+◌, ◌-◌, ◌*◌, ◌/◌, ◌%◌, ◌^◌, ◌<◌, ◌≤◌, ◌⊎◌, Bool, true, false, ltb, ℤ, pos, negsuc, w32, w64, to_z, of_z, SFits, refl, sym, ap, ap₂, ◌∙◌, subst, arith, ⊎_elim, inl, inr, le-ltb, add-zero, mod-lt, mod-eq_of_lt, pow_pos, pow-add, lt_of_le_of_lt, lit<, ◌≢◌, neg_ℤ, ◌+ℤ◌, ◌-ℤ◌, ◌*ℤ◌, ◌≤ℤ◌, ◌<ℤ◌, Result, Ok, Err, ne_eqb, T}
-use Rattle.std.proofs.lemmas.Int.{quot-rem}
+use Rattle.std.proofs.lemmas.Int.{quot-rem, to_z-of_z}
 use Rattle.std.proofs.Math.IntN.{*ℤ_comm}
 use Rattle.std.specs.Int.{int_shr, rotate_left, rotate_right}
+use Rattle.std.specs.Int.Signed.{mag_shr}
 use Rattle.std.specs.Int.Count.{ones, count_leading_zeros, count_trailing_zeros}
 use Rattle.wh_intops.proofs.Counts.{iclz-is, ictz-is, ipopcnt-is}
 use Rattle.std.proofs.Math.Nat.{add_comm, mul-mod_left, div-le_self, div-eq_of_lt, div-eq_of_lt-le, sub-zero, mod_self, mul-one, div-one, mod-one, eq-zero-or-pos, eq-or-lt_of_le, div-lt_self, mod_def, pos_of_ne-zero}
@@ -50,6 +51,16 @@ unsigned-of_z I32 (negsuc n) fits = omega arith
 unsigned-of_z I64 (negsuc n) fits = omega arith
 
 pub ruleset signs = (ints, to_z-I32, to_z-I64, unsigned-of_z)
+
+within-word : (t : ValType) (z : ℤ) → neg_ℤ (pos (2 ^ (bits t - 1))) ≤ℤ z → z <ℤ pos (2 ^ (bits t - 1)) → SFits w64 z
+within-word I32 (pos n) low high = record { sfits = omega (arith, ints) }
+within-word I32 (negsuc n) low high = record { sfits = omega (arith, ints) }
+within-word I64 (pos n) low high = record { sfits = omega (arith, ints) }
+within-word I64 (negsuc n) low high = record { sfits = omega (arith, ints) }
+
+-- a word read as signed is a number of 64 bits, which a machine register keeps
+pub signed-fits : (t : ValType) (i : ℕ) → i < 2 ^ bits t → SFits w64 (signed (bits t) i)
+signed-fits t i fits = let range = signed-bounds (bits t) i (bits-pos t) fits in within-word t (signed (bits t) i) range.0 range.1
 
 -- ---- sums, differences and products
 
@@ -116,9 +127,21 @@ module _ (N k a : ℕ) (some : 0 < N) (within : k < N) (fits : a < 2 ^ N) where
   shr-signed : unsigned N (int_shr (signed N a) k) ≡ a / 2 ^ (N - 1) * (2 ^ k - 1) * 2 ^ (N - k) + a / 2 ^ k
   shr-signed = ⊎_elim shr-low shr-high (cases_lt a (2 ^ (N - 1)))
 
-pub shr_s-word : (t : ValType) (a b : ℕ) → a < 2 ^ bits t → unsigned (bits t) (int_shr (signed (bits t) a) (b % bits t)) ≡ ishr_s (bits t) a b
+shr_s-word : (t : ValType) (a b : ℕ) → a < 2 ^ bits t → unsigned (bits t) (int_shr (signed (bits t) a) (b % bits t)) ≡ ishr_s (bits t) a b
 unfolding ishr_s
 shr_s-word t a b fits = shr-signed (bits t) (b % bits t) a (bits-pos t) (mod-lt b (bits-pos t)) fits
+
+shr-fits : (z : ℤ) (k : ℕ) → SFits w64 z → SFits w64 (int_shr z k)
+shr-fits z k fits = record { sfits = lt_of_le_of_lt (mag_shr z (2 ^ k)) fits.sfits }
+
+pub shr_s-is : (t : ValType) (a b : ℕ) (x : ℤ) (k word : ℕ) → a < 2 ^ bits t → x ≡ signed (bits t) a → k ≡ b % bits t
+    → word ≡ unsigned (bits t) (to_z w64 (of_z w64 (int_shr (to_z w64 (of_z w64 x)) k))) → word ≡ ishr_s (bits t) a b
+shr_s-is t a b x k word left number count result =
+    let fits = signed-fits t a left in
+    result ∙ ap₂ (λ y n. unsigned (bits t) (to_z w64 (of_z w64 (int_shr (to_z w64 (of_z w64 y)) n)))) number count
+    ∙ ap (λ y. unsigned (bits t) (to_z w64 (of_z w64 (int_shr y (b % bits t))))) (to_z-of_z w64 (signed (bits t) a) fits)
+    ∙ ap (unsigned (bits t)) (to_z-of_z w64 (int_shr (signed (bits t) a) (b % bits t)) (shr-fits (signed (bits t) a) (b % bits t) fits))
+    ∙ shr_s-word t a b left
 
 -- ---- rotations
 
@@ -183,7 +206,7 @@ unfolding irotr
 rotr-I64 I32 a b k e fits count = cc
 rotr-I64 I64 a b k e fits count = rw count (rotate_right-is 64 (b % 64) a (mod-lt b (lit< tt)) fits)
 
-pub ruleset shifts = (ints, shl-word, shr_s-word)
+pub ruleset shifts = (shl-word, shr_s-is)
 pub ruleset rotations = (rotl-I32, rotl-I64, rotr-I32, rotr-I64)
 
 -- ---- counts
@@ -223,12 +246,6 @@ quot-bounds h (negsuc a) (negsuc zero) some low high apart =
 quot-bounds h (negsuc a) (negsuc (suc b)) some low high apart =
     let q : suc a / suc (suc b) < suc a = div-lt_self (omega arith) (omega arith) in (omega (arith, ints), omega (arith, ints))
 
-within-word : (t : ValType) (z : ℤ) → neg_ℤ (pos (2 ^ (bits t - 1))) ≤ℤ z → z <ℤ pos (2 ^ (bits t - 1)) → SFits w64 z
-within-word I32 (pos n) low high = record { sfits = omega (arith, ints) }
-within-word I32 (negsuc n) low high = record { sfits = omega (arith, ints) }
-within-word I64 (pos n) low high = record { sfits = omega (arith, ints) }
-within-word I64 (negsuc n) low high = record { sfits = omega (arith, ints) }
-
 nonzero-high : (t : ValType) (b : ℕ) → b < 2 ^ bits t → 0 < b → 0 < of_z w64 (negsuc (2 ^ bits t - suc b))
 nonzero-high I32 b fits some = omega arith
 nonzero-high I64 b fits some = omega arith
@@ -242,7 +259,7 @@ is_true : (b : Bool) → T b → b ≡ true
 is_true true h = refl
 is_true false h = absurd h
 
-pub divides : (t : ValType) (a b : ℕ) → b ≢ 0 → a < 2 ^ bits t → (signed (bits t) a ≡ neg_ℤ (pos (2 ^ (bits t - 1))) → signed (bits t) b ≡ negsuc 0 → ⊥) → Ok (unsigned (bits t) (int_div (signed (bits t) a) (signed (bits t) b))) ≡ idiv_s (bits t) a b
+divides : (t : ValType) (a b : ℕ) → b ≢ 0 → a < 2 ^ bits t → (signed (bits t) a ≡ neg_ℤ (pos (2 ^ (bits t - 1))) → signed (bits t) b ≡ negsuc 0 → ⊥) → Ok (unsigned (bits t) (int_div (signed (bits t) a) (signed (bits t) b))) ≡ idiv_s (bits t) a b
 unfolding idiv_s quotient
 divides t a b nonzero fits apart =
     let range = signed-bounds (bits t) a (bits-pos t) fits in
@@ -250,7 +267,7 @@ divides t a b nonzero fits apart =
     rw (ne_eqb b 0 nonzero) (sym (cond-true (int_lt (quotient (bits t) a b) (pos (2 ^ (bits t - 1)))) (Ok (unsigned (bits t) (quotient (bits t) a b))) (Err Overflow) (is_true (int_lt (quotient (bits t) a b) (pos (2 ^ (bits t - 1)))) q.1.lt)))
 
 -- the signed quotient is a number of 64 bits
-pub quotient-fits : (t : ValType) (a b : ℕ) → a < 2 ^ bits t → (signed (bits t) a ≡ neg_ℤ (pos (2 ^ (bits t - 1))) → signed (bits t) b ≡ negsuc 0 → ⊥) → SFits w64 (int_div (signed (bits t) a) (signed (bits t) b))
+quotient-fits : (t : ValType) (a b : ℕ) → a < 2 ^ bits t → (signed (bits t) a ≡ neg_ℤ (pos (2 ^ (bits t - 1))) → signed (bits t) b ≡ negsuc 0 → ⊥) → SFits w64 (int_div (signed (bits t) a) (signed (bits t) b))
 quotient-fits t a b fits apart =
     let range = signed-bounds (bits t) a (bits-pos t) fits in
     let q = quot-bounds (2 ^ (bits t - 1)) (signed (bits t) a) (signed (bits t) b) (pow_pos (bits t - 1)) range.0 range.1 apart in
@@ -283,12 +300,51 @@ rem_s-zero t a b e = rw e refl
 rem-is : (x y : ℤ) → x -ℤ y *ℤ int_div x y ≡ int_rem x y
 rem-is x y = let e = quot-rem x y in let c = *ℤ_comm y (int_div x y) in rw c (omega (arith, ints))
 
-pub rem_s-word : (t : ValType) (a b : ℕ) → b ≢ 0 → Ok (unsigned (bits t) (int_rem (signed (bits t) a) (signed (bits t) b))) ≡ irem_s (bits t) a b
+rem_s-word : (t : ValType) (a b : ℕ) → b ≢ 0 → Ok (unsigned (bits t) (int_rem (signed (bits t) a) (signed (bits t) b))) ≡ irem_s (bits t) a b
 unfolding irem_s quotient
 rem_s-word t a b nonzero = rw (ne_eqb b 0 nonzero) (ap (λ z. Ok (unsigned (bits t) z)) (sym (rem-is (signed (bits t) a) (signed (bits t) b))))
 
-pub ruleset quotients = (ints, overflows, divides, quotient-fits, nonzero-word, div_s-zero)
-pub ruleset remainders = (ints, rem_u-zero, rem_u-word, rem_s-zero, rem_s-word, nonzero-word)
+pub rem_s-is : (t : ValType) (a b : ℕ) (x y r : ℤ) (word : ℕ) → a < 2 ^ bits t → b < 2 ^ bits t → b ≢ 0 → x ≡ signed (bits t) a → y ≡ signed (bits t) b → SFits w64 r
+    → r ≡ int_rem (to_z w64 (of_z w64 x)) (to_z w64 (of_z w64 y)) → word ≡ unsigned (bits t) (to_z w64 (of_z w64 r)) → Ok word ≡ irem_s (bits t) a b
+rem_s-is t a b x y r word left right nonzero dividend divisor fits remainder result =
+    let same_left = to_z-of_z w64 (signed (bits t) a) (signed-fits t a left) in
+    let same_right = to_z-of_z w64 (signed (bits t) b) (signed-fits t b right) in
+    let same = to_z-of_z w64 r fits in
+    let main = rem_s-word t a b nonzero in
+    cc
+
+-- what the code's tests say of the least number and of -1
+apart-tests : (x least y : ℤ) → ((of_z w64 x ≡ of_z w64 least) × (of_z w64 y ≡ 2 ^ 64 - 1 → ⊥)) ⊎ (of_z w64 x ≡ of_z w64 least → ⊥) → x ≡ least → y ≡ negsuc 0 → ⊥
+apart-tests x least y (inl (same, other)) e f = other (ap (of_z w64) f)
+apart-tests x least y (inr other) e f = other (ap (of_z w64) e)
+
+div_s-fits : (t : ValType) (a b : ℕ) (x y least : ℤ) → a < 2 ^ bits t → b < 2 ^ bits t → x ≡ signed (bits t) a → y ≡ signed (bits t) b → least ≡ neg_ℤ (pos (2 ^ (bits t - 1)))
+    → ((of_z w64 x ≡ of_z w64 least) × (of_z w64 y ≡ 2 ^ 64 - 1 → ⊥)) ⊎ (of_z w64 x ≡ of_z w64 least → ⊥)
+    → SFits w64 (int_div (to_z w64 (of_z w64 x)) (to_z w64 (of_z w64 y)))
+div_s-fits t a b x y least left right dividend divisor lowest tests =
+    let kept_left = ap (λ z. to_z w64 (of_z w64 z)) dividend ∙ to_z-of_z w64 (signed (bits t) a) (signed-fits t a left) in
+    let kept_right = ap (λ z. to_z w64 (of_z w64 z)) divisor ∙ to_z-of_z w64 (signed (bits t) b) (signed-fits t b right) in
+    rw (kept_left, kept_right) (quotient-fits t a b left (λ e f. apart-tests x least y tests (dividend ∙ e ∙ sym lowest) (divisor ∙ f)))
+
+-- what the machine asks of a signed division
+pub div_s-asks : (t : ValType) (a b : ℕ) (x y least : ℤ) → a < 2 ^ bits t → b < 2 ^ bits t → b ≢ 0 → x ≡ signed (bits t) a → y ≡ signed (bits t) b → least ≡ neg_ℤ (pos (2 ^ (bits t - 1)))
+    → ((of_z w64 x ≡ of_z w64 least) × (of_z w64 y ≡ 2 ^ 64 - 1 → ⊥)) ⊎ (of_z w64 x ≡ of_z w64 least → ⊥)
+    → (0 < of_z w64 y) × SFits w64 (int_div (to_z w64 (of_z w64 x)) (to_z w64 (of_z w64 y)))
+div_s-asks t a b x y least left right nonzero dividend divisor lowest tests =
+    (rw divisor (nonzero-word t b right nonzero), div_s-fits t a b x y least left right dividend divisor lowest tests)
+
+pub div_s-is : (t : ValType) (a b : ℕ) (x y least : ℤ) (word : ℕ) → a < 2 ^ bits t → b < 2 ^ bits t → b ≢ 0 → x ≡ signed (bits t) a → y ≡ signed (bits t) b → least ≡ neg_ℤ (pos (2 ^ (bits t - 1)))
+    → ((of_z w64 x ≡ of_z w64 least) × (of_z w64 y ≡ 2 ^ 64 - 1 → ⊥)) ⊎ (of_z w64 x ≡ of_z w64 least → ⊥)
+    → word ≡ unsigned (bits t) (to_z w64 (of_z w64 (int_div (to_z w64 (of_z w64 x)) (to_z w64 (of_z w64 y))))) → Ok word ≡ idiv_s (bits t) a b
+div_s-is t a b x y least word left right nonzero dividend divisor lowest tests result =
+    let kept_left = ap (λ z. to_z w64 (of_z w64 z)) dividend ∙ to_z-of_z w64 (signed (bits t) a) (signed-fits t a left) in
+    let kept_right = ap (λ z. to_z w64 (of_z w64 z)) divisor ∙ to_z-of_z w64 (signed (bits t) b) (signed-fits t b right) in
+    let kept = to_z-of_z w64 (int_div (to_z w64 (of_z w64 x)) (to_z w64 (of_z w64 y))) (div_s-fits t a b x y least left right dividend divisor lowest tests) in
+    let main = divides t a b nonzero left (λ e f. apart-tests x least y tests (dividend ∙ e ∙ sym lowest) (divisor ∙ f)) in
+    ap (λ n. Ok n) (result ∙ ap (unsigned (bits t)) (kept ∙ ap₂ int_div kept_left kept_right)) ∙ main
+
+pub ruleset quotients = (overflows, div_s-asks, div_s-is, nonzero-word, div_s-zero)
+pub ruleset remainders = (rem_u-zero, rem_u-word, rem_s-zero, rem_s-is, nonzero-word)
 
 -- ---- bounds
 
