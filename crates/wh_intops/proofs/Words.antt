@@ -167,7 +167,7 @@ module _ (N k a : ℕ) (within : k < N) (fits : a < 2 ^ N) where
       let parts : N - k + k ≡ N = omega arith in
       let rest : N - k < N = omega arith in
       rw (mod-eq_of_lt rest)
-        (subst (λ m. a < 2 ^ m → bit_or ((a * 2 ^ k) % 2 ^ m) (a / 2 ^ (N - k)) ≡ a % 2 ^ (N - k) * 2 ^ k + a / 2 ^ (N - k)) parts (rotated (N - k) k a) fits)
+      (subst (λ m. a < 2 ^ m → bit_or ((a * 2 ^ k) % 2 ^ m) (a / 2 ^ (N - k)) ≡ a % 2 ^ (N - k) * 2 ^ k + a / 2 ^ (N - k)) parts (rotated (N - k) k a) fits)
 
   rotate_left-is : bit_or ((a * 2 ^ (k % N)) % 2 ^ N) (a / 2 ^ ((N - k % N) % N)) ≡ a % 2 ^ (N - k) * 2 ^ k + a / 2 ^ (N - k)
   rotate_left-is = rw (mod-eq_of_lt within) (⊎_elim rotate_left-zero rotate_left-some (eq-zero-or-pos k))
@@ -181,7 +181,7 @@ module _ (N k a : ℕ) (within : k < N) (fits : a < 2 ^ N) where
       let parts : k + (N - k) ≡ N = omega arith in
       let rest : N - k < N = omega arith in
       rw (mod-eq_of_lt rest)
-        (subst (λ m. a < 2 ^ m → bit_or (a / 2 ^ k) ((a * 2 ^ (N - k)) % 2 ^ m) ≡ a % 2 ^ k * 2 ^ (N - k) + a / 2 ^ k) parts (rotated' k (N - k) a) fits)
+      (subst (λ m. a < 2 ^ m → bit_or (a / 2 ^ k) ((a * 2 ^ (N - k)) % 2 ^ m) ≡ a % 2 ^ k * 2 ^ (N - k) + a / 2 ^ k) parts (rotated' k (N - k) a) fits)
 
   rotate_right-is : bit_or (a / 2 ^ (k % N)) ((a * 2 ^ ((N - k % N) % N)) % 2 ^ N) ≡ a % 2 ^ k * 2 ^ (N - k) + a / 2 ^ k
   rotate_right-is = rw (mod-eq_of_lt within) (⊎_elim rotate_right-zero rotate_right-some (eq-zero-or-pos k))
@@ -207,6 +207,7 @@ rotr-I64 I32 a b k e fits count = cc
 rotr-I64 I64 a b k e fits count = rw count (rotate_right-is 64 (b % 64) a (mod-lt b (lit< tt)) fits)
 
 pub ruleset shifts = (shl-word, shr_s-is)
+
 pub ruleset rotations = (rotl-I32, rotl-I64, rotr-I32, rotr-I64)
 
 -- ---- counts
@@ -344,6 +345,7 @@ div_s-is t a b x y least word left right nonzero dividend divisor lowest tests r
     ap (λ n. Ok n) (result ∙ ap (unsigned (bits t)) (kept ∙ ap₂ int_div kept_left kept_right)) ∙ main
 
 pub ruleset quotients = (overflows, div_s-asks, div_s-is, nonzero-word, div_s-zero)
+
 pub ruleset remainders = (rem_u-zero, rem_u-word, rem_s-zero, rem_s-is, nonzero-word)
 
 -- ---- bounds
@@ -367,4 +369,5 @@ pub shr_s-lt : (t : ValType) (a b : ℕ) → a < 2 ^ bits t → ishr_s (bits t) 
 shr_s-lt t a b fits = ishr_s-lt (bits t) a b (bits-pos t) fits
 
 pub ruleset results = (iadd-lt, isub-lt, imul-lt, idiv_u-lt, idiv_s-lt, irem_u-lt, irem_s-lt, ishl-lt, ishr_u-lt, shr_s-lt, rotl-lt, rotr-lt, and-lt, or-lt, xor-lt)
+
 pub ruleset count_results = (counts, iclz-lt, ictz-lt, ipopcnt-lt)

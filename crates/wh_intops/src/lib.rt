@@ -90,7 +90,7 @@ pub fn relop(width: ValType, op: CompareOp, left: u64, right: u64) -> u64
 
 /// A conversion of one integer to the other type.
 #[inline]
-#[tactic(auto, unfolding(wh_model::specs::Numbers::convert, wh_model::specs::Numbers::wrap, wh_model::specs::Numbers::extend_s, wh_model::specs::Numbers::extend_u, wh_model::specs::Numbers::operand_type, wh_model::specs::Numbers::result_type))]
+#[tactic(auto, unfolding(wh_model::specs::Numbers::convert, wh_model::specs::Numbers::wrap, wh_model::specs::Numbers::extend_s, wh_model::specs::Numbers::extend_u))]
 pub fn convert(op: ConvertOp, operand: u64) -> u64
     requires { operand < 2 ^ bits (operand_type op) }
     ensures value { result ≡ convert op operand }
@@ -313,3 +313,6 @@ fn shift_count(width: ValType, count: u64) -> u32
         ValType::I64 => (count % 64) as u32,
     }
 }
+
+#[cfg(test)]
+mod tests;

@@ -268,7 +268,7 @@ unfolding compare
 compare-lt t op a b = truth-lt (holds t op a b)
 
 pub convert-lt : (op : ConvertOp) (a : ℕ) → a < 2 ^ bits (operand_type op) → convert op a < 2 ^ bits (result_type op)
-unfolding convert wrap extend_u extend_s operand_type result_type
+unfolding convert wrap extend_u extend_s
 convert-lt WrapI64 a fits = mod-lt a (pow_pos 32)
 convert-lt ExtendI32S a fits = unsigned-lt 64 (signed 32 a)
 convert-lt ExtendI32U a fits = omega arith
