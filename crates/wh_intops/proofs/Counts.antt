@@ -1,11 +1,11 @@
 -- The counts of bits, which the definitions state by places, are std's, which go from digit to digit.
-use Rattle.std.proofs.Common.{◌≡◌, ℕ, zero, suc, ◌+◌, ◌-◌, ◌*◌, ◌/◌, ◌%◌, ◌^◌, ◌<◌, ◌≤◌, ◌⊎◌, Bool, true, false, refl, sym, ap, ap₂, ◌∙◌, arith, ⊎_elim, mod-lt, eqb}
-use Rattle.std.proofs.Math.Nat.{div-one, div-div-eq-div-mul, pow-succ', zero-div, zero-lt-suc, suc-add}
+use Rattle.std.proofs.Common.{◌≡◌, ℕ, zero, suc, ◌+◌, ◌*◌, ◌/◌, ◌%◌, ◌^◌, ◌<◌, ◌⊎◌, Bool, true, false, refl, sym, ap, ap₂, ◌∙◌, arith, ⊎_elim, mod-lt}
+use Rattle.std.proofs.Math.Nat.{div-one, div-div-eq-div-mul, pow-succ', zero-div, zero-lt-suc}
 use Rattle.std.proofs.lemmas.Bool.{cases_lt}
 use Rattle.std.proofs.lemmas.Bool.Decides.{nat_tests}
 use Rattle.std.proofs.lemmas.Nat.{mod-pow-add, shr_below, ones-le}
 use Rattle.std.proofs.Common.{add-one, zero-add, one-add, inl, inr, eq-eqb, ne_eqb}
-use Rattle.std.specs.Int.Count.{ones, ones_step, count_leading_zeros, count_trailing_zeros, leading_of_zero, under}
+use Rattle.std.specs.Int.Count.{ones, ones_step, count_leading_zeros, count_trailing_zeros, under}
 use Rattle.std.specs.Prelude.{◌==◌, if◌then◌else◌}
 use Rattle.wh_model.specs.Numbers.{count_below, iclz, ictz, ipopcnt}
 

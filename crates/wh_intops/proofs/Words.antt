@@ -1,5 +1,5 @@
 -- What the machine's instructions on words of 64 and 32 bits give, in the terms of the definitions.
-use Rattle.std.proofs.Common.{◌≡◌, ℕ, zero, suc, ◌+◌, ◌-◌, ◌*◌, ◌/◌, ◌%◌, ◌^◌, ◌<◌, ◌≤◌, ◌⊎◌, Bool, true, false, ltb, ℤ, pos, negsuc, w32, w64, to_z, of_z, SFits, refl, sym, ap, ap₂, ◌∙◌, subst, arith, ⊎_elim, inl, inr, le-ltb, add-zero, mod-lt, mod-eq_of_lt, pow_pos, pow-add, lt_of_le_of_lt, lit<, ◌≢◌, neg_ℤ, ◌+ℤ◌, ◌-ℤ◌, ◌*ℤ◌, ◌≤ℤ◌, ◌<ℤ◌, Result, Ok, Err, ne_eqb, T}
+use Rattle.std.proofs.Common.{◌≡◌, ℕ, zero, suc, ◌+◌, ◌-◌, ◌*◌, ◌/◌, ◌%◌, ◌^◌, ◌<◌, ◌≤◌, ◌⊎◌, Bool, true, false, ℤ, pos, negsuc, w32, w64, to_z, of_z, SFits, refl, sym, ap, ap₂, ◌∙◌, subst, arith, ⊎_elim, inl, inr, le-ltb, add-zero, mod-lt, mod-eq_of_lt, pow_pos, pow-add, lt_of_le_of_lt, lit<, ◌≢◌, neg_ℤ, ◌-ℤ◌, ◌*ℤ◌, ◌≤ℤ◌, ◌<ℤ◌, Ok, Err, ne_eqb, T}
 use Rattle.std.proofs.lemmas.Int.{quot-rem, to_z-of_z}
 use Rattle.std.proofs.Math.IntN.{*ℤ_comm}
 use Rattle.std.specs.Int.{int_shr, rotate_left, rotate_right}
@@ -11,11 +11,9 @@ use Rattle.std.proofs.lemmas.Nat.{mod-pow-add, shl-shr, shr_below, shr_high, div
 use Rattle.std.specs.Int.Bits.{or_self}
 use Rattle.std.specs.Prelude.{bit_and, bit_or, bit_xor, int_div, int_rem, int_lt}
 use Rattle.std.proofs.lemmas.Bool.{cases_lt, cond-true}
-use Rattle.std.proofs.lemmas.Bool.Decides.{nat_tests}
 use Rattle.std.proofs.lemmas.Int.{ints}
-use Rattle.wh_model.specs.declared.Trap.{Trap}
 use Rattle.wh_model.specs.declared.Trap.TheVariants.{DivideByZero, Overflow}
-use Rattle.wh_model.specs.Numbers.{bits, signed, unsigned, iadd, isub, imul, quotient, idiv_u, idiv_s, irem_u, irem_s, ishl, ishr_u, ishr_s, irotl, irotr, iclz, ictz, ipopcnt}
+use Rattle.wh_model.specs.Numbers.{bits, signed, unsigned, iadd, isub, imul, quotient, idiv_s, irem_u, irem_s, ishl, ishr_s, irotl, irotr, iclz, ictz, ipopcnt}
 use Rattle.wh_model.specs.declared.ValType.{ValType}
 use Rattle.wh_model.specs.declared.ValType.TheVariants.{I32, I64}
 use Rattle.wh_model.proofs.Numbers.{signed-low, signed-high, signed-bounds, pow-half, bits-pos, iadd-lt, isub-lt, imul-lt, idiv_u-lt, idiv_s-lt, irem_u-lt, irem_s-lt, ishl-lt, ishr_u-lt, ishr_s-lt, irotl-lt, irotr-lt, iclz-lt, ictz-lt, ipopcnt-lt}

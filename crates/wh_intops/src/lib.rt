@@ -1,16 +1,23 @@
-//! The integer operators of WebAssembly 1.0 (section 4.3.2 of the W3C Core Specification), on machine words.
+//! The integer operators of WebAssembly 1.0, on machine words.
 //!
-//! An operand is a `u64` below 2^N, where N is the number of bits of its type, and so is a result: an i32 is a word
-//! below 2^32. Each function returns what the definition in `wh_model`'s `specs/Numbers.antt` says, traps included.
-//! None takes memory, and each branches on the operator, the width and the traps alone.
+//! They are those of section 4.3.2 of the W3C WebAssembly Core Specification 1.0, "Integer Operations", which
+//! `specs/Numbers.antt` of `wh_model` restates. A type has N bits, 32 or 64; an operand is a `u64` below 2^N, and so is a
+//! result, so an i32 stands in the low half of its word. Each function returns exactly what the definition says, traps
+//! included.
+//!
+//! They take no memory, and branch on the operator and the traps. Inlined where the width is known, most operators
+//! are one machine instruction; where it is not, a width costs a conditional move.
 #![tactic(auto)]
 
 ghost use Rattle.std.specs.Prelude.{◌≡◌, ◌-◌, ◌<◌, ◌^◌, ◌%◌, IfOk, pos, neg_ℤ};
-ghost use Rattle.wh_model.specs.Numbers.{bits, signed, unsigned, unary, binary, test, compare, convert, holds, truth, iadd, isub, imul, idiv_s, idiv_u, irem_s, irem_u, ishl, ishr_s, ishr_u, irotl, irotr, iclz, ictz, operand_type, result_type};
+ghost use Rattle.wh_model.specs.Numbers.{bits, signed, unsigned, unary, binary, test, compare, convert, operand_type, result_type};
+ghost use Rattle.wh_model.specs.Numbers.{iadd, isub, imul, idiv_s, idiv_u, irem_s, irem_u, ishl, ishr_s, ishr_u, irotl, irotr, iclz, ictz};
 
 use wh_model::{BinaryOp, CompareOp, ConvertOp, TestOp, Trap, UnaryOp, ValType};
 
-/// An operator on one integer of this type.
+/// A count of an operand's bits (`iclz`, `ictz` and `ipopcnt` of the standard), from 0 to N.
+///
+/// The operand is below 2^N at the type's N.
 #[inline]
 #[tactic(auto, using(crate::proofs::Words::count_results), unfolding(wh_model::specs::Numbers::unary))]
 pub fn unop(width: ValType, op: UnaryOp, operand: u64) -> u64
@@ -25,7 +32,11 @@ pub fn unop(width: ValType, op: UnaryOp, operand: u64) -> u64
     }
 }
 
-/// An operator on two integers of this type.
+/// An operator on two integers of one type (`iadd`, `isub` and so on of the standard).
+///
+/// The operands are below 2^N at the type's N, and so is the result. Counts of shifts and rotations are taken modulo N.
+/// A division or a remainder by 0 is [`Trap::DivideByZero`], whatever the dividend, and the signed division of the
+/// least number by -1 is [`Trap::Overflow`]; the remainder of that division is 0. The other operators never trap.
 #[inline]
 #[tactic(auto, using(crate::proofs::Words::results), unfolding(wh_model::specs::Numbers::binary))]
 pub fn binop(width: ValType, op: BinaryOp, left: u64, right: u64) -> Result<u64, Trap>
@@ -53,7 +64,7 @@ pub fn binop(width: ValType, op: BinaryOp, left: u64, right: u64) -> Result<u64,
     }
 }
 
-/// A test of one integer of either type, with an i32 result that is 1 or 0.
+/// A test of one integer, of either type (`ieqz` of the standard), with an i32 result: 1 if it holds, else 0.
 #[inline]
 #[tactic(auto, unfolding(wh_model::specs::Numbers::test, wh_model::specs::Numbers::truth))]
 pub fn testop(op: TestOp, operand: u64) -> u64
@@ -65,7 +76,10 @@ pub fn testop(op: TestOp, operand: u64) -> u64
     }
 }
 
-/// A comparison of two integers of this type, with an i32 result that is 1 or 0.
+/// A comparison of two integers of one type (`ieq`, `ilt_s` and so on of the standard), with an i32 result: 1 if it
+/// holds, else 0.
+///
+/// The operands are below 2^N at the type's N.
 #[inline]
 #[tactic(auto, unfolding(wh_model::specs::Numbers::compare, wh_model::specs::Numbers::holds, wh_model::specs::Numbers::truth))]
 pub fn relop(width: ValType, op: CompareOp, left: u64, right: u64) -> u64
@@ -88,7 +102,10 @@ pub fn relop(width: ValType, op: CompareOp, left: u64, right: u64) -> u64
     })
 }
 
-/// A conversion of one integer to the other type.
+/// A conversion of one integer to the other type (`wrap`, `extend_u` and `extend_s` of the standard).
+///
+/// The operand is below 2^N at the N of the type that the conversion takes, and the result at that of the type that
+/// it gives.
 #[inline]
 #[tactic(auto, unfolding(wh_model::specs::Numbers::convert, wh_model::specs::Numbers::wrap, wh_model::specs::Numbers::extend_s, wh_model::specs::Numbers::extend_u))]
 pub fn convert(op: ConvertOp, operand: u64) -> u64
@@ -168,7 +185,7 @@ fn rem_u(left: u64, right: u64) -> Result<u64, Trap>
     Ok(left % right)
 }
 
-// The least number by -1 leaves 0, though the machine's own instruction stops there.
+// The least number by -1 leaves 0, where the machine's own instruction would stop.
 #[inline]
 #[tactic(auto, using(crate::proofs::Words::remainders))]
 fn rem_s(width: ValType, left: u64, right: u64) -> Result<u64, Trap>

@@ -1,5 +1,5 @@
 -- Laws of the integer operators of specs/Numbers.antt.
-use Rattle.std.proofs.Common.{◌≡◌, ℕ, zero, suc, ◌+◌, ◌-◌, ◌*◌, ◌/◌, ◌%◌, ◌^◌, ◌<◌, ◌≤◌, ◌⊎◌, Bool, true, false, cond, ltb, ℤ, pos, negsuc, ◌+ℤ◌, ◌-ℤ◌, ◌*ℤ◌, neg_ℤ, ◌≤ℤ◌, ◌<ℤ◌, refl, sym, ap, ap₂, ◌∙◌, subst, arith, ⊎_elim, inl, inr, mod-lt, mod-eq_of_lt, pow_pos, pow-add, sub-one, mul_comm, lt_of_le_of_lt, lit<, zero-le, Result, Ok, Err, not}
+use Rattle.std.proofs.Common.{◌≡◌, ℕ, zero, suc, ◌+◌, ◌-◌, ◌*◌, ◌/◌, ◌%◌, ◌^◌, ◌<◌, ◌≤◌, ◌⊎◌, Bool, true, false, ℤ, pos, negsuc, ◌-ℤ◌, ◌*ℤ◌, neg_ℤ, ◌≤ℤ◌, ◌<ℤ◌, refl, ap, ap₂, ◌∙◌, subst, arith, ⊎_elim, inl, inr, mod-lt, mod-eq_of_lt, pow_pos, pow-add, sub-one, mul_comm, lt_of_le_of_lt, lit<, zero-le, Result, Ok, Err}
 use Rattle.std.specs.Prelude.{◌==◌, if◌then◌else◌, IfOk, int_lt}
 use Rattle.std.proofs.Math.Nat.{add_comm, pow-suc, div-le_self}
 use Rattle.std.proofs.lemmas.Nat.{shr_below, mul-add-lt, mod_low, shr_high, div-add-mod', and_le_l, or_lt, xor_lt}
@@ -140,12 +140,12 @@ module _ (N a b : ℕ) (some : 0 < N) (fits : a < 2 ^ N) where
       let sign : a / 2 ^ (N - 1) < 2 = shr_below a 1 (N - 1) (let e : 1 + (N - 1) ≡ N = omega arith in rw e fits) in
       let some_ones = pow_pos (b % N) in
       let copies : a / 2 ^ (N - 1) * (2 ^ (b % N) - 1) < 2 ^ (b % N) = ⊎_elim
-          (λ e. rw e (omega arith))
-          (λ e. rw e (omega arith))
-          (bit_cases (a / 2 ^ (N - 1)) sign) in
+      (λ e. rw e (omega arith))
+      (λ e. rw e (omega arith))
+      (bit_cases (a / 2 ^ (N - 1)) sign) in
       let high : a / 2 ^ (b % N) < 2 ^ (N - b % N) = shr_below a (N - b % N) (b % N) (rw parted fits) in
       subst (λ m. a / 2 ^ (N - 1) * (2 ^ (b % N) - 1) * 2 ^ (N - b % N) + a / 2 ^ (b % N) < 2 ^ m) parted
-        (rw pow-add (mul-add-lt (a / 2 ^ (N - 1) * (2 ^ (b % N) - 1)) (2 ^ (N - b % N)) (a / 2 ^ (b % N)) (2 ^ (b % N)) copies high))
+      (rw pow-add (mul-add-lt (a / 2 ^ (N - 1) * (2 ^ (b % N) - 1)) (2 ^ (N - b % N)) (a / 2 ^ (b % N)) (2 ^ (b % N)) copies high))
 
 -- ---- counts
 

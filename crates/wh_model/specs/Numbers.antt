@@ -179,12 +179,13 @@ holds t GeU a b = nat_le b a
 unfoldable pub compare : ValType → CompareOp → ℕ → ℕ → ℕ
 compare t op a b = truth (holds t op a b)
 
--- the type that a conversion takes, and the type that it gives
+-- the type of the integer that a conversion takes
 abbrev pub operand_type : ConvertOp → ValType
 operand_type WrapI64 = I64
 operand_type ExtendI32S = I32
 operand_type ExtendI32U = I32
 
+-- the type of the integer that it gives
 abbrev pub result_type : ConvertOp → ValType
 result_type WrapI64 = I32
 result_type ExtendI32S = I64
