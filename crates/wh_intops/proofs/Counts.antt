@@ -7,7 +7,9 @@ use Rattle.std.proofs.lemmas.Nat.{mod-pow-add, shr_below, ones-le}
 use Rattle.std.proofs.Common.{add-one, zero-add, one-add, inl, inr, eq-eqb, ne_eqb}
 use Rattle.std.specs.Int.Count.{ones, ones_step, count_leading_zeros, count_trailing_zeros, under}
 use Rattle.std.specs.Prelude.{◌==◌, if◌then◌else◌}
-use Rattle.wh_model.specs.Numbers.{count_below, iclz, ictz, ipopcnt}
+use Rattle.wh_model.specs.Numbers.{bits, count_below, iclz, ictz, ipopcnt}
+use Rattle.wh_model.specs.declared.ValType.{ValType}
+use Rattle.wh_model.specs.declared.ValType.TheVariants.{I32, I64}
 
 -- ---- the numbers below n that pass a test
 
@@ -43,7 +45,7 @@ half-lt i N fits = shr_below i N 1 (rw add-one fits)
 positive-test : (i : ℕ) → (suc i / 1 == 0) ≡ false
 positive-test i = let e = div-one (suc i) in ne_eqb (suc i / 1) 0 (λ f. absurd (omega arith))
 
-pub iclz-is : (N i : ℕ) → i < 2 ^ N → iclz N i ≡ count_leading_zeros N i
+iclz-is : (N i : ℕ) → i < 2 ^ N → iclz N i ≡ count_leading_zeros N i
 unfolding iclz count_leading_zeros
 iclz-is zero i fits = unfold count_below in refl
 iclz-is (suc N) zero fits = count_below-all (suc N) (λ k. 0 / 2 ^ k == 0) (λ k. ap (λ x. x == 0) (zero-div (2 ^ k)))
@@ -79,7 +81,7 @@ ictz-odd N i odd =
     count_below-first N (λ k. i % 2 ^ (k + 1) == 0)
     ∙ ap₂ (λ b c. (if b then 1 else 0) + c) (ne_eqb (i % 2 ^ (0 + 1)) 0 (λ f. absurd (omega arith))) (count_below-none N (λ k. i % 2 ^ (suc k + 1) == 0) (λ k. odd-test i k odd))
 
-pub ictz-is : (N i : ℕ) → ictz N i ≡ count_trailing_zeros N i
+ictz-is : (N i : ℕ) → ictz N i ≡ count_trailing_zeros N i
 unfolding count_trailing_zeros
 ictz-is zero i = unfold ictz count_below in refl
 ictz-is (suc N) i = ⊎_elim
@@ -95,10 +97,33 @@ lowest-bit i = rw div-one (⊎_elim
     (λ e. ap (λ d. if d == 1 then 1 else 0) e ∙ sym e)
     (digit_cases (i % 2) (mod-lt i (zero-lt-suc 1))))
 
-pub ipopcnt-is : (N i : ℕ) → i < 2 ^ N → ipopcnt N i ≡ ones i
+ipopcnt-is : (N i : ℕ) → i < 2 ^ N → ipopcnt N i ≡ ones i
 unfolding ipopcnt
 ipopcnt-is zero i fits = let none = ones-le 0 i fits in unfold count_below in (omega arith)
 ipopcnt-is (suc N) i fits =
     count_below-first N (λ k. i / 2 ^ k % 2 == 1)
     ∙ ap₂ (λ b c. b + c) (lowest-bit i) (count_below-same N (λ k. i / 2 ^ suc k % 2 == 1) (λ k. i / 2 / 2 ^ k % 2 == 1) (λ k. ap (λ x. x % 2 == 1) (half-shr i k)))
     ∙ ap (λ c. i % 2 + c) (ipopcnt-is N (i / 2) (half-lt i N fits)) ∙ sym (ones_step i)
+
+-- ---- what the machine counts
+
+pub clz-I32 : (t : ValType) (i : ℕ) → t ≡ I32 → i < 2 ^ bits t → count_leading_zeros 32 i ≡ iclz (bits t) i
+clz-I32 I32 i e fits = sym (iclz-is 32 i fits)
+clz-I32 I64 i e fits = cc
+
+pub clz-I64 : (t : ValType) (i : ℕ) → t ≡ I64 → i < 2 ^ bits t → count_leading_zeros 64 i ≡ iclz (bits t) i
+clz-I64 I32 i e fits = cc
+clz-I64 I64 i e fits = sym (iclz-is 64 i fits)
+
+pub ctz-I32 : (t : ValType) (i : ℕ) → t ≡ I32 → count_trailing_zeros 32 i ≡ ictz (bits t) i
+ctz-I32 I32 i e = sym (ictz-is 32 i)
+ctz-I32 I64 i e = cc
+
+pub ctz-I64 : (t : ValType) (i : ℕ) → t ≡ I64 → count_trailing_zeros 64 i ≡ ictz (bits t) i
+ctz-I64 I32 i e = cc
+ctz-I64 I64 i e = sym (ictz-is 64 i)
+
+pub popcnt-word : (t : ValType) (i : ℕ) → i < 2 ^ bits t → ones i ≡ ipopcnt (bits t) i
+popcnt-word t i fits = sym (ipopcnt-is (bits t) i fits)
+
+pub ruleset counts = (clz-I32, clz-I64, ctz-I32, ctz-I64, popcnt-word)

@@ -157,7 +157,7 @@ fn div_u(left: u64, right: u64) -> Result<u64, Trap>
 }
 
 #[inline]
-#[tactic(auto, using(crate::proofs::Words::quotients))]
+#[tactic(auto, using(crate::proofs::Quotients::quotients))]
 fn div_s(width: ValType, left: u64, right: u64) -> Result<u64, Trap>
     requires left_fits { left < 2 ^ bits width }
     requires right_fits { right < 2 ^ bits width }
@@ -175,7 +175,7 @@ fn div_s(width: ValType, left: u64, right: u64) -> Result<u64, Trap>
 }
 
 #[inline]
-#[tactic(auto, using(crate::proofs::Words::remainders))]
+#[tactic(auto, using(crate::proofs::Quotients::remainders))]
 fn rem_u(left: u64, right: u64) -> Result<u64, Trap>
     ensures { result ≡ irem_u left right }
 {
@@ -187,7 +187,7 @@ fn rem_u(left: u64, right: u64) -> Result<u64, Trap>
 
 // The least number by -1 leaves 0, where the machine's own instruction would stop.
 #[inline]
-#[tactic(auto, using(crate::proofs::Words::remainders))]
+#[tactic(auto, using(crate::proofs::Quotients::remainders))]
 fn rem_s(width: ValType, left: u64, right: u64) -> Result<u64, Trap>
     requires left_fits { left < 2 ^ bits width }
     requires right_fits { right < 2 ^ bits width }
@@ -202,7 +202,7 @@ fn rem_s(width: ValType, left: u64, right: u64) -> Result<u64, Trap>
 }
 
 #[inline]
-#[tactic(auto, using(crate::proofs::Words::shifts))]
+#[tactic(auto, using(crate::proofs::Shifts::shifts))]
 fn shl(width: ValType, left: u64, right: u64) -> u64
     ensures { result ≡ ishl (bits width) left right }
 {
@@ -210,7 +210,7 @@ fn shl(width: ValType, left: u64, right: u64) -> u64
 }
 
 #[inline]
-#[tactic(auto, using(crate::proofs::Words::shifts))]
+#[tactic(auto, using(crate::proofs::Shifts::shifts))]
 fn shr_s(width: ValType, left: u64, right: u64) -> u64
     requires { left < 2 ^ bits width }
     ensures { result ≡ ishr_s (bits width) left right }
@@ -227,7 +227,7 @@ fn shr_u(width: ValType, left: u64, right: u64) -> u64
 }
 
 #[inline]
-#[tactic(auto, using(crate::proofs::Words::rotations))]
+#[tactic(auto, using(crate::proofs::Shifts::rotations))]
 fn rotl(width: ValType, left: u64, right: u64) -> u64
     requires { left < 2 ^ bits width }
     ensures { result ≡ irotl (bits width) left right }
@@ -240,7 +240,7 @@ fn rotl(width: ValType, left: u64, right: u64) -> u64
 }
 
 #[inline]
-#[tactic(auto, using(crate::proofs::Words::rotations))]
+#[tactic(auto, using(crate::proofs::Shifts::rotations))]
 fn rotr(width: ValType, left: u64, right: u64) -> u64
     requires { left < 2 ^ bits width }
     ensures { result ≡ irotr (bits width) left right }
@@ -253,7 +253,7 @@ fn rotr(width: ValType, left: u64, right: u64) -> u64
 }
 
 #[inline]
-#[tactic(auto, using(crate::proofs::Words::counts))]
+#[tactic(auto, using(crate::proofs::Counts::counts))]
 fn clz(width: ValType, word: u64) -> u64
     requires { word < 2 ^ bits width }
     ensures { result ≡ iclz (bits width) word }
@@ -265,7 +265,7 @@ fn clz(width: ValType, word: u64) -> u64
 }
 
 #[inline]
-#[tactic(auto, using(crate::proofs::Words::counts))]
+#[tactic(auto, using(crate::proofs::Counts::counts))]
 fn ctz(width: ValType, word: u64) -> u64
     requires { word < 2 ^ bits width }
     ensures { result ≡ ictz (bits width) word }

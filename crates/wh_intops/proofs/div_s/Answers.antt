@@ -1,5 +1,5 @@
 -- The machine divides: the divisor isn't 0, and the tests have left out the least number by -1.
-use Rattle.wh_intops.proofs.Words.{div_s-asks}
+use Rattle.wh_intops.proofs.Quotients.{div_s-asks}
 use Rattle.wh_intops.proofs.div_s.Goals as goal
 
 pub nonzero_div-dividend : goal.nonzero_div-dividend
