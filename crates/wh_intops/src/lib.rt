@@ -5,8 +5,8 @@
 //! result, so an i32 stands in the low half of its word. Each function returns exactly what the definition says, traps
 //! included.
 //!
-//! They take no memory, and branch on the operator and the traps. Inlined where the width is known, most operators
-//! are one machine instruction; where it is not, a width costs a conditional move.
+//! They take no memory, and branch on the operator and the traps. Inlined where the caller has branched on the width,
+//! most operators are one machine instruction; elsewhere the width costs a conditional move or two.
 #![tactic(auto)]
 
 ghost use Rattle.std.specs.Prelude.{◌≡◌, ◌-◌, ◌<◌, ◌^◌, ◌%◌, IfOk, pos, neg_ℤ};

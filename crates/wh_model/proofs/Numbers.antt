@@ -1,4 +1,4 @@
--- Laws of the integer operators of specs/Numbers.antt.
+-- Laws of the integer operators of specs/Numbers.antt: each result is an integer of its type, `signed` and `unsigned` are inverse, and so are rotations to the left and to the right.
 use Rattle.std.proofs.Common.{◌≡◌, ℕ, zero, suc, ◌+◌, ◌-◌, ◌*◌, ◌/◌, ◌%◌, ◌^◌, ◌<◌, ◌≤◌, ◌⊎◌, Bool, true, false, ℤ, pos, negsuc, ◌-ℤ◌, ◌*ℤ◌, neg_ℤ, ◌≤ℤ◌, ◌<ℤ◌, refl, ap, ap₂, ◌∙◌, subst, arith, ⊎_elim, inl, inr, mod-lt, mod-eq_of_lt, pow_pos, pow-add, sub-one, mul_comm, lt_of_le_of_lt, lit<, zero-le, Result, Ok, Err}
 use Rattle.std.specs.Prelude.{◌==◌, if◌then◌else◌, IfOk, int_lt}
 use Rattle.std.proofs.Math.Nat.{add_comm, pow-suc, div-le_self}
@@ -23,6 +23,7 @@ use Rattle.wh_model.specs.declared.ConvertOp.TheVariants.{WrapI64, ExtendI32S, E
 
 -- ---- signs
 
+-- `signed` by cases: below 2 ^ (N - 1), where i stands for itself, and from there on, where it stands for i - 2 ^ N
 pub signed-low : (N i : ℕ) → i < 2 ^ (N - 1) → signed N i ≡ pos i
 unfolding signed
 signed-low N i low = grind (arith, nat_tests)
@@ -34,6 +35,7 @@ pub signed-high : (N i : ℕ) → 2 ^ (N - 1) ≤ i → i < 2 ^ N → signed N i
 unfolding signed
 signed-high N i high fits = let e = sub_large i (2 ^ N) fits in grind (arith, nat_tests)
 
+-- and back, in the two cases
 unsigned-low : (N i : ℕ) → i < 2 ^ N → unsigned N (pos i) ≡ i
 unfolding unsigned
 unsigned-low N i fits = mod-eq_of_lt fits
@@ -52,6 +54,7 @@ unsigned-signed N i fits = ⊎_elim
     (λ high. ap (unsigned N) (signed-high N i high fits) ∙ unsigned-high N i fits)
     (cases_lt i (2 ^ (N - 1)))
 
+-- 2 ^ N is twice 2 ^ (N - 1)
 pub pow-half : (N : ℕ) → 0 < N → 2 ^ N ≡ 2 ^ (N - 1) + 2 ^ (N - 1)
 pow-half zero h = absurd (omega arith)
 pow-half (suc N) h = rw (sub-one, pow-suc) (omega arith)
@@ -79,6 +82,7 @@ signed-bounds N i some fits = let half = pow-half N some in ⊎_elim
     (λ high. let e = signed-high N i high fits in (omega (arith, ints), omega (arith, ints)))
     (cases_lt i (2 ^ (N - 1)))
 
+-- any number modulo 2 ^ N is an integer
 pub unsigned-lt : (N : ℕ) (z : ℤ) → unsigned N z < 2 ^ N
 unfolding unsigned
 unsigned-lt N (pos n) = mod-lt n (pow_pos N)
@@ -87,8 +91,9 @@ unsigned-lt N (negsuc n) = let p = pow_pos N in omega arith
 bit_cases : (s : ℕ) → s < 2 → (s ≡ 0) ⊎ (s ≡ 1)
 bit_cases s h = ⊎_elim (λ e. inl (omega arith)) (λ e. inr (omega arith)) (cases_lt s 1)
 
--- ---- rotations: the j low bits before the k high ones
+-- ---- rotations and the shift that copies the sign
 
+-- of j + k bits, the j low ones before the k high ones: each rotation is one such exchange
 exchanged : ℕ → ℕ → ℕ → ℕ
 exchanged j k a = a % 2 ^ j * 2 ^ k + a / 2 ^ j
 
@@ -149,6 +154,7 @@ module _ (N a b : ℕ) (some : 0 < N) (fits : a < 2 ^ N) where
 
 -- ---- counts
 
+-- of n numbers no more than n pass a test
 one_more : (b : Bool) (c n : ℕ) → c ≤ n → c + (if b then 1 else 0) ≤ suc n
 one_more true c n h = omega arith
 one_more false c n h = omega arith
@@ -158,6 +164,7 @@ unfolding count_below
 count_below-le zero p = zero-le
 count_below-le (suc n) p = let ih = count_below-le n p in one_more (p n) (count_below n p) n ih
 
+-- a type has some bits, and an integer can count them
 pub bits-lt : (t : ValType) → bits t < 2 ^ bits t
 bits-lt I32 = lit< tt
 bits-lt I64 = lit< tt
@@ -267,8 +274,16 @@ pub compare-lt : (t : ValType) (op : CompareOp) (a b : ℕ) → compare t op a b
 unfolding compare
 compare-lt t op a b = truth-lt (holds t op a b)
 
+pub wrap-lt : (N i : ℕ) → wrap N i < 2 ^ N
+unfolding wrap
+wrap-lt N i = mod-lt i (pow_pos N)
+
+pub extend_s-lt : (K N i : ℕ) → extend_s K N i < 2 ^ N
+unfolding extend_s
+extend_s-lt K N i = unsigned-lt N (signed K i)
+
 pub convert-lt : (op : ConvertOp) (a : ℕ) → a < 2 ^ bits (operand_type op) → convert op a < 2 ^ bits (result_type op)
-unfolding convert wrap extend_u extend_s
-convert-lt WrapI64 a fits = mod-lt a (pow_pos 32)
-convert-lt ExtendI32S a fits = unsigned-lt 64 (signed 32 a)
+unfolding convert extend_u
+convert-lt WrapI64 a fits = wrap-lt 32 a
+convert-lt ExtendI32S a fits = extend_s-lt 32 64 a
 convert-lt ExtendI32U a fits = omega arith
