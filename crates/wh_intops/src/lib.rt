@@ -1,9 +1,9 @@
 //! The integer operators of WebAssembly 1.0, on machine words.
 //!
-//! They are those of section 4.3.2 of the W3C WebAssembly Core Specification 1.0, "Integer Operations", which
-//! `specs/Numbers.antt` of `wh_model` restates. A type has N bits, 32 or 64; an operand is a `u64` below 2^N, and so is a
-//! result, so an i32 stands in the low half of its word. Each function returns exactly what the definition says, traps
-//! included.
+//! They are those of the W3C WebAssembly Core Specification 1.0, sections 4.3.2, "Integer Operations", and 4.3.4,
+//! "Conversions", which `specs/Numbers.antt` of `wh_model` restates. A type has N bits, 32 or 64; an operand is a `u64`
+//! below 2^N, and so is a result, so an i32 stands in the low half of its word. Each function returns exactly what the
+//! definition says, traps included.
 //!
 //! They take no memory, and branch on the operator and the traps. Inlined where the caller has branched on the width,
 //! most operators are one machine instruction; elsewhere the width costs a conditional move or two.
@@ -15,7 +15,7 @@ ghost use Rattle.wh_model.specs.Numbers.{iadd, isub, imul, idiv_s, idiv_u, irem_
 
 use wh_model::{BinaryOp, CompareOp, ConvertOp, TestOp, Trap, UnaryOp, ValType};
 
-/// A count of an operand's bits (`iclz`, `ictz` and `ipopcnt` of the standard), from 0 to N.
+/// A count of an operand's bits (`iclz`, `ictz` and `ipopcnt` of the standard, 4.3.2), from 0 to N.
 ///
 /// The operand is below 2^N at the type's N.
 #[inline]
@@ -32,7 +32,7 @@ pub fn unop(width: ValType, op: UnaryOp, operand: u64) -> u64
     }
 }
 
-/// An operator on two integers of one type (`iadd`, `isub` and so on of the standard).
+/// An operator on two integers of one type (`iadd`, `isub` and so on of the standard, 4.3.2).
 ///
 /// The operands are below 2^N at the type's N, and so is the result. Counts of shifts and rotations are taken modulo N.
 /// A division or a remainder by 0 is [`Trap::DivideByZero`], whatever the dividend, and the signed division of the
@@ -64,7 +64,7 @@ pub fn binop(width: ValType, op: BinaryOp, left: u64, right: u64) -> Result<u64,
     }
 }
 
-/// A test of one integer, of either type (`ieqz` of the standard), with an i32 result: 1 if it holds, else 0.
+/// A test of one integer, of either type (`ieqz` of the standard, 4.3.2), with an i32 result: 1 if it holds, else 0.
 #[inline]
 #[tactic(auto, unfolding(wh_model::specs::Numbers::test, wh_model::specs::Numbers::truth))]
 pub fn testop(op: TestOp, operand: u64) -> u64
@@ -76,8 +76,8 @@ pub fn testop(op: TestOp, operand: u64) -> u64
     }
 }
 
-/// A comparison of two integers of one type (`ieq`, `ilt_s` and so on of the standard), with an i32 result: 1 if it
-/// holds, else 0.
+/// A comparison of two integers of one type (`ieq`, `ilt_s` and so on of the standard, 4.3.2), with an i32 result: 1 if
+/// it holds, else 0.
 ///
 /// The operands are below 2^N at the type's N.
 #[inline]
@@ -102,7 +102,7 @@ pub fn relop(width: ValType, op: CompareOp, left: u64, right: u64) -> u64
     })
 }
 
-/// A conversion of one integer to the other type (`wrap`, `extend_u` and `extend_s` of the standard).
+/// A conversion of one integer to the other type (`wrap`, `extend_u` and `extend_s` of the standard, 4.3.4).
 ///
 /// The operand is below 2^N at the N of the type that the conversion takes, and the result at that of the type that
 /// it gives.

@@ -1,9 +1,9 @@
--- The integer operators, as section 4.3.2 of the W3C WebAssembly Core Specification 1.0, "Integer Operations", states them.
+-- The integer operators, as the W3C WebAssembly Core Specification 1.0 states them in section 4.3, "Numerics": its parts
+-- 4.3.2, "Integer Operations", and 4.3.4, "Conversions". An operator has the name that it has there.
 --
--- N is the number of bits. An integer is a number i with 0 ≤ i < 2 ^ N, and so is every result. Operators that the
--- standard names have its names. Its bits are counted from the low end: bit k of i is `i / 2 ^ k % 2`. So where the
--- standard writes i as the high bits d₁ and then k low bits d₂, d₁ is `i / 2 ^ k` and d₂ is `i % 2 ^ k`; and k bits e
--- followed by N - k bits d are `e * 2 ^ (N - k) + d`.
+-- N is the number of bits. An integer is a number i with 0 ≤ i < 2 ^ N, and so is every result. Bits are counted from
+-- the low end: bit k of i is `i / 2 ^ k % 2`. Where the standard writes i as high bits d₁ and then k low bits d₂, d₁ is
+-- `i / 2 ^ k` and d₂ is `i % 2 ^ k`; back, k bits e and then N - k bits d are `e * 2 ^ (N - k) + d`.
 use Rattle.std.specs.Prelude.{ℕ, zero, suc, ◌+◌, ◌-◌, ◌*◌, ◌/◌, ◌%◌, ◌^◌, Bool, not, if◌then◌else◌, ◌==◌, nat_lt, nat_le, ℤ, pos, negsuc, ◌-ℤ◌, ◌*ℤ◌, int_lt, int_le, int_div, bit_and, bit_or, bit_xor, Result}
 use Rattle.std.specs.declared.result.Result.TheVariants.{Ok, Err}
 use Rattle.wh_model.specs.declared.Trap.{Trap}
@@ -114,7 +114,7 @@ ictz N i = count_below N (λ k. i % 2 ^ (k + 1) == 0)
 unfoldable pub ipopcnt : ℕ → ℕ → ℕ
 ipopcnt N i = count_below N (λ k. i / 2 ^ k % 2 == 1)
 
--- ---- conversions; those of K low bits that later standards add, extend8_s and the like, are `extend_s` of `wrap`
+-- ---- conversions; the sign extensions of later standards, as extend8_s, would be `extend_s` of `wrap`, and unary operators
 
 -- modulo 2 ^ N
 unfoldable pub wrap : ℕ → ℕ → ℕ
@@ -140,7 +140,7 @@ unary t Clz i = iclz (bits t) i
 unary t Ctz i = ictz (bits t) i
 unary t Popcnt i = ipopcnt (bits t) i
 
--- an operator on two integers
+-- an operator on two integers, where `bit_and`, `bit_or` and `bit_xor` go bit by bit
 unfoldable pub binary : ValType → BinaryOp → ℕ → ℕ → Result ℕ Trap
 binary t Add a b = Ok (iadd (bits t) a b)
 binary t Sub a b = Ok (isub (bits t) a b)
@@ -162,7 +162,7 @@ binary t Rotr a b = Ok (irotr (bits t) a b)
 unfoldable pub test : TestOp → ℕ → ℕ
 test Eqz i = truth (i == 0)
 
--- whether two integers compare so
+-- whether a comparison of two integers holds
 unfoldable pub holds : ValType → CompareOp → ℕ → ℕ → Bool
 holds t Eq a b = a == b
 holds t Ne a b = not (a == b)
