@@ -8,3 +8,4 @@ pub mod Instructions
 pub mod Modules
 pub mod Spelling
 pub mod Nested
+pub mod Numbers

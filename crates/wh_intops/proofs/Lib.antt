@@ -1,0 +1,4 @@
+pub mod Counts
+pub mod Quotients
+pub mod Shifts
+pub mod Words
