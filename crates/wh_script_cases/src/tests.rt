@@ -1,0 +1,197 @@
+use crate::fakes::{Tired, Trickle};
+use std::alloc::AllocError;
+use std::io::Read;
+use std::test::Fail;
+use wh_script::{ScriptFault, run_script};
+
+const LONGEST_LINE: usize = 2200000;
+
+/// What a script gets: its result, and the text that was written.
+fn outcome<R: Read>(
+    rt: &HostRuntime,
+    mut reader: R,
+) -> Result<(Result<(), ScriptFault>, Vec<u8>), AllocError>
+where
+    R: Drop,
+{
+    let mut written = Vec::new(rt.alloc());
+    let result = run_script(rt.alloc(), &mut reader, &mut written);
+    Ok((result, written))
+}
+
+/// Scripts, each with the replies that it has to get. The module of 34 bytes gives 7 by its function `f`.
+const SCRIPTS: [(&[u8], &str); 32] = [
+    (b"", ""),
+    (b"\n\n", ""),
+    (b"# comments", ""),
+    (b"# \xff\x80 not text\n#\n", ""),
+    (b"module m 0061736d01000000", "module m ok\n"),
+    (b"module m 0061736d01000000\n", "module m ok\n"),
+    (b"module m 0061736D01000000\n", "module m ok\n"),
+    (
+        b"module m 0061736d010000000105016000017f03020100070501016600000a0601040041070b\n",
+        "module m ok\n",
+    ),
+    (
+        b"module m 0061736d010000000105016000017f03020100070501016600000a070105004187000b\n",
+        "module m ok\n",
+    ),
+    (
+        b"module m 0061736d010000000105016000017f03020100070501016600000a0a01080041ffffffff0f0b\n",
+        "module m refused D6 at 36\n",
+    ),
+    (b"module m 0061736d010000\n", "module m refused D3 at 7\n"),
+    (b"module m 0061736d02000000\n", "module m refused D2 at 4\n"),
+    (
+        b"module m 0061736d01000000030100010100\n",
+        "module m refused D4 at 11\n",
+    ),
+    (
+        b"module m 00\nmodule m 0061736d01000000\n",
+        "module m refused D3 at 1\nmodule m ok\n",
+    ),
+    (
+        b"module m 0061736d01000000\nmodule m 0061736d01000000\nmodule n 00\n",
+        "module m ok\nerror C3 line 2\nmodule n refused D3 at 1\n",
+    ),
+    (
+        b"module m 0061736d01000000\nmodule m 0\nmodule m zz\n",
+        "module m ok\nerror C1 line 2\nerror C1 line 3\n",
+    ),
+    (b"module m 0061736d01000000\r\n", "error C1 line 1\n"),
+    (b"\tmodule m 0061736d01000000\n", "error C1 line 1\n"),
+    (b"module\tm 0061736d01000000\n", "error C1 line 1\n"),
+    (b"module  m 0061736d01000000\n", "error C1 line 1\n"),
+    (b"module m  0061736d01000000\n", "error C1 line 1\n"),
+    (b" module m 0061736d01000000\n", "error C1 line 1\n"),
+    (b"module m 0061736d01000000 \n", "error C1 line 1\n"),
+    (b"module m \n", "error C1 line 1\n"),
+    (b"module m\n", "error C1 line 1\n"),
+    (b"module\n", "error C1 line 1\n"),
+    (b"module m 0061736d01000000 x\n", "error C1 line 1\n"),
+    (b"module m 006\n", "error C1 line 1\n"),
+    (b"module m 00g0\n", "error C1 line 1\n"),
+    (
+        b"module M 00\nmodule m- 00\n",
+        "error C1 line 1\nerror C1 line 2\n",
+    ),
+    (
+        b"# one\n\nadmit a m 100 2 16 0 0 0\ndrain\n",
+        "error C1 line 3\nerror C1 line 4\n",
+    ),
+    (b"module m \xc3\xa9\n", "error C1 line 1\n"),
+];
+
+#[test]
+fn scripts_get_their_replies(rt: HostRuntime) -> Result<(), Fail> {
+    for (script, replies) in SCRIPTS {
+        let (result, written) = outcome(&rt, script)?;
+        assert_eq!(rt; result, Ok(()), "{replies}");
+        assert_eq!(rt; str::from_utf8(written.as_slice()), Ok(replies));
+        let all = Trickle {
+            bytes: script,
+            fails_after: usize::MAX,
+        };
+        let (result, written) = outcome(&rt, all)?;
+        assert_eq!(rt; result, Ok(()), "a byte at a time: {replies}");
+        assert_eq!(rt; str::from_utf8(written.as_slice()), Ok(replies));
+    }
+    Ok(())
+}
+
+#[test]
+fn names_have_32_bytes_at_most(rt: HostRuntime) -> Result<(), Fail> {
+    for (length, reply) in [(32, "module "), (33, "error C1 line 1\n")] {
+        let mut script = b"module ".to_vec(rt.alloc())?;
+        for _ in 0..length {
+            script.push(b'z')?;
+        }
+        script.extend_from_slice(b" 0061736d01000000\n")?;
+        let (result, written) = outcome(&rt, script.as_slice())?;
+        assert_eq!(rt; result, Ok(()));
+        assert!(rt;
+            written.as_slice().starts_with(reply.as_bytes()),
+            "at {length}"
+        );
+    }
+    Ok(())
+}
+
+#[test]
+fn lines_have_2200000_bytes_at_most(rt: HostRuntime) -> Result<(), Fail> {
+    for (length, first, reply) in [
+        // An odd number of digits is no line to obey; here they are even.
+        (
+            LONGEST_LINE,
+            b"module mm ",
+            "module mm refused D11 at 1048576\n",
+        ),
+        (LONGEST_LINE + 1, b"module mm ", "error C1 line 1\n"),
+        (LONGEST_LINE + 1, b"# comments", ""),
+        (3 * LONGEST_LINE, b"# comments", ""),
+        (3 * LONGEST_LINE, b"module mm ", "error C1 line 1\n"),
+    ] {
+        let mut script = first.to_vec(rt.alloc())?;
+        for _ in first.len()..length {
+            script.push(b'0')?;
+        }
+        script.extend_from_slice(b"\nmodule n 00\n")?;
+        let (result, written) = outcome(&rt, script.as_slice())?;
+        let mut replies = reply.as_bytes().to_vec(rt.alloc())?;
+        replies.extend_from_slice(b"module n refused D3 at 1\n")?;
+        assert_eq!(rt; result, Ok(()), "at {length}");
+        assert_eq!(rt; written.len(), replies.len(), "at {length}");
+        assert!(rt; written.as_slice() == replies.as_slice(), "at {length}");
+    }
+    Ok(())
+}
+
+const THREE: &[u8] = b"module m 00\nmodule m 0061736d01000000\n\nmodule m 00\n";
+
+const THREE_REPLIES: &[u8] = b"module m refused D3 at 1\nmodule m ok\nerror C3 line 4\n";
+
+#[test]
+fn a_failed_write_ends_a_script(rt: HostRuntime) -> Result<(), Fail> {
+    for (writes, kept) in [(0, 0), (1, 25), (2, 37)] {
+        let mut writer = Tired {
+            written: Vec::new(rt.alloc()),
+            writes,
+        };
+        let mut reader = THREE;
+        let result = run_script(rt.alloc(), &mut reader, &mut writer);
+        assert_eq!(rt; result, Err(ScriptFault::Output), "after {writes}");
+        assert_eq!(rt; writer.written.len(), kept, "after {writes}");
+        assert!(rt; THREE_REPLIES.starts_with(writer.written.as_slice()));
+    }
+    let mut writer = Tired {
+        written: Vec::new(rt.alloc()),
+        writes: 3,
+    };
+    let mut reader = THREE;
+    assert_eq!(rt; run_script(rt.alloc(), &mut reader, &mut writer), Ok(()));
+    assert!(rt; writer.written.as_slice() == THREE_REPLIES);
+    Ok(())
+}
+
+#[test]
+fn a_failed_read_ends_a_script(rt: HostRuntime) -> Result<(), Fail> {
+    for (fails_after, kept) in [
+        (0, 0),
+        (5, 0),
+        (11, 0),
+        (12, 25),
+        (20, 25),
+        (37, 25),
+        (38, 37),
+    ] {
+        let reader = Trickle {
+            bytes: THREE,
+            fails_after,
+        };
+        let (result, written) = outcome(&rt, reader)?;
+        assert_eq!(rt; result, Err(ScriptFault::Script), "after {fails_after}");
+        assert_eq!(rt; written.len(), kept, "after {fails_after}");
+        assert!(rt; THREE_REPLIES.starts_with(written.as_slice()));
+    }
+    Ok(())
+}
