@@ -1,2 +1,3 @@
+pub mod Frames
 pub mod Hash
 pub mod Tax
