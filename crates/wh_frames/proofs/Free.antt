@@ -2,7 +2,8 @@
 use Rattle.std.proofs.Common.{◌≡◌, ℕ, ◌+◌, ◌-◌, ◌<◌, ◌≤◌, ◌++◌, ◌⊎◌, List, [], ◌∷◌, length, replicate, get_or, slice_get, Some, zero, suc, add-zero, refl, sym, ◌∙◌, ap, arith, inl, inr}
 use Rattle.std.proofs.lemmas.Bool.{cases_lt}
 use Rattle.std.proofs.lemmas.List.{append_assoc, append-nil, length-append, length-replicate, length-set, set-append_left}
-use Rattle.wh_host_model.specs.Frames.{tally, one_if, zero_page, IsTaken, Takes}
+use Rattle.wh_host_model.specs.Frames.{tally, one_if, IsTaken, Takes}
+use Rattle.wh_host_model.specs.Pages.{zero_page}
 use Rattle.wh_host_model.proofs.Tally.{tally-append, one_same, one_other, length-le_from_once}
 use Rattle.wh_frames.specs.Parts.{falling, pool_of, GivenBack}
 use Rattle.std.specs.Vec.{with_item}
@@ -121,6 +122,15 @@ free_next : (k limit : ℕ) → k < limit → falling k (limit - k) ≡ falling 
 free_next k limit below =
     let rest : limit - k ≡ suc (limit - (k + 1)) = omega arith in
     ap (falling k) rest ∙ falling_next k (limit - (k + 1))
+
+-- a frame that was given back is taken
+pub takes_given : (a b : Inside) (f : ℕ) → b.limit ≡ a.limit → b.frames.items ≡ a.frames.items → a.free.items ≡ b.free.items ++ f ∷ [] → Takes (pool_of a) f (pool_of b)
+takes_given a b f limit frames last =
+    let unused = falling (length a.frames.items) (a.limit - length a.frames.items) in
+    record {
+      frames = rw (frames, limit) refl;
+      free = rw (frames, limit) (ap (λ (l : List ℕ). unused ++ l) last ∙ sym (append_assoc unused b.free.items (f ∷ [])));
+    }
 
 -- a frame is taken for the first time
 pub takes_next : (a b : Inside) (f : ℕ) → f ≡ length a.frames.items → f < a.limit → b.limit ≡ a.limit → b.frames.items ≡ a.frames.items ++ zero_page ∷ [] → a.free.items ≡ [] → b.free.items ≡ [] → Takes (pool_of a) f (pool_of b)

@@ -1,7 +1,8 @@
 -- What the parts of a frame pool stand for.
 use Rattle.std.specs.Prelude.{ℕ, ◌≡◌, ◌+◌, ◌-◌, ◌^◌, ◌<◌, ◌≤◌, ◌++◌, List, [], ◌∷◌, length, replicate, zero, suc}
 use Rattle.std.specs.Vec.{vec_capacity}
-use Rattle.wh_host_model.specs.Frames.{Pool, tally, one_if, zero_page}
+use Rattle.wh_host_model.specs.Frames.{Pool, tally, one_if}
+use Rattle.wh_host_model.specs.Pages.{zero_page}
 use Rattle.wh_frames.specs.declared.pool.FramePool.TheInside.{Inside}
 
 -- so many numbers from the first on, the greatest first

@@ -1,9 +1,10 @@
 // The frames and their free list.
 
-ghost use Rattle.std.specs.Prelude.{◌≡◌, ◌↔◌, ℕ, ◌+◌, ◌<◌, ◌≤◌, ◌++◌, [], ◌∷◌, length, replicate, slice_get, Some, Err, OnErr, IfOk, IfErr, vec_len, vec_capacity};
+ghost use Rattle.std.specs.Prelude.{◌≡◌, ◌≢◌, ◌↔◌, ℕ, ◌+◌, ◌<◌, ◌≤◌, ◌++◌, [], ◌∷◌, length, replicate, slice_get, Some, Err, OnErr, IfOk, IfErr, vec_len, vec_capacity};
 ghost use Rattle.std.specs.Borrow.{sem};
 ghost use Rattle.wh_frames.specs.Lending.{LendsFrame};
-ghost use Rattle.wh_host_model.specs.Frames.{IsTaken, HasDistinctFree, Takes, tally, one_if, zero_page};
+ghost use Rattle.wh_host_model.specs.Frames.{IsTaken, HasDistinctFree, Takes, tally, one_if};
+ghost use Rattle.wh_host_model.specs.Pages.{zero_page};
 
 use crate::FrameError;
 use std::alloc::Global;
@@ -34,7 +35,7 @@ impl Model for FramePool {
 }
 
 // Adds a frame of zeros.
-#[tactic(auto, unfolding(wh_host_model::specs::Frames::zero_page))]
+#[tactic(auto, unfolding(wh_host_model::specs::Pages::zero_page))]
 fn add_frame(frames: &mut Vec<[u8; 4096]>)
     requires { vec_len frames.old < vec_capacity frames.old }
     ensures items { frames.new.items ≡ frames.old.items ++ zero_page ∷ [] }
@@ -82,6 +83,8 @@ impl FramePool {
     pub fn take(&mut self) -> Result<u32, FrameError>
         ensures takes { IfOk result (λ frame. Takes self.old frame self.new) }
         ensures taken { IfOk result (λ frame. IsTaken self.new frame) }
+        ensures others { IfOk result
+            (λ frame. (f : ℕ) → IsTaken self.old f → (f ≢ frame) × IsTaken self.new f) }
         ensures none { (result ≡ Err FrameError.NoFrame) ↔ (self.old.free ≡ []) }
         ensures only { IfErr result (λ error. error ≡ FrameError.NoFrame) }
         ensures unchanged { OnErr result (self.new ≡ self.old) }
@@ -100,7 +103,8 @@ impl FramePool {
     /// Gives a taken frame back. It keeps its bytes until it is taken again and written.
     pub fn give(&mut self, frame: u32)
         requires { IsTaken self.old frame }
-        ensures { self.new ≡ record self.old { free = self.old.free ++ frame ∷ [] } }
+        ensures gives { self.new ≡ record self.old { free = self.old.free ++ frame ∷ [] } }
+        ensures others { (f : ℕ) → f ≢ frame → IsTaken self.old f → IsTaken self.new f }
     {
         add_free(&mut self.free, frame);
     }

@@ -1,5 +1,5 @@
 -- The pool of frames, each of 4096 bytes, on which all linear memories lie.
-use Rattle.std.specs.Prelude.{ℕ, ◌≡◌, ◌+◌, ◌<◌, ◌≤◌, ◌==◌, ◌++◌, cond, List, [], ◌∷◌, length, replicate}
+use Rattle.std.specs.Prelude.{ℕ, ◌≡◌, ◌+◌, ◌<◌, ◌≤◌, ◌==◌, ◌++◌, cond, List, [], ◌∷◌, length}
 
 -- the sum of what w gives for each element of a list
 abbrev pub tally : {X : Type 0} → (X → ℕ) → List X → ℕ
@@ -9,10 +9,6 @@ tally w (x ∷ xs) = w x + tally w xs
 -- 1 for this number, and 0 for another: its tally counts how often the number stands in a list
 abbrev pub one_if : ℕ → ℕ → ℕ
 one_if f g = cond (f == g) 1 0
-
--- the bytes of a page of zeros
-unfoldable pub zero_page : List ℕ
-zero_page = replicate 4096 0
 
 -- the bytes of each frame, and the numbers of the free ones
 pub record Pool : Type 0 where

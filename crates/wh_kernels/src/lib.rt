@@ -4,6 +4,7 @@
 ghost use Rattle.std.specs.Prelude.{◌≡◌, ◌↔◌, ◌≤◌, ◌+◌, IsTrue, length, replicate};
 ghost use Rattle.std.specs.Simd.Lanes.{chunk};
 ghost use Rattle.wh_host_model.specs.Hash.{fnv64};
+ghost use Rattle.wh_host_model.specs.Pages.{zero_page};
 
 use std::simd::prelude::*;
 
@@ -46,7 +47,7 @@ pub fn pages_equal(first: &[u8; 4096], second: &[u8; 4096]) -> bool
 
 /// Whether each byte of the page is 0.
 pub fn is_zero(page: &[u8; 4096]) -> bool
-    ensures { IsTrue result ↔ (page.now ≡ replicate 4096 0) }
+    ensures { IsTrue result ↔ (page.now ≡ zero_page) }
 {
     for part in 0..64 {
         if !block_is_zero(block(page, 64 * part)) {

@@ -1,11 +1,11 @@
 -- How the choice of the one that pays goes on by one claim.
-use Rattle.std.proofs.Common.{ℕ, ◌≡◌, ◌+◌, ◌*◌, ◌-◌, ◌<◌, ◌≤◌, List, [], ◌∷◌, ◌++◌, Option, Some, None, length, get_or, take, zero, suc, refl, sym, ◌∙◌, subst, arith}
+use Rattle.std.proofs.Common.{ℕ, ◌≡◌, ◌+◌, ◌*◌, ◌-◌, ◌<◌, ◌≤◌, List, [], ◌∷◌, ◌++◌, Option, Some, None, length, get_or, take, zero, suc, refl, sym, ◌∙◌, ap, subst, arith}
 use Rattle.std.specs.Prelude.{slice_get}
 use Rattle.std.specs.List.{All}
 use Rattle.std.proofs.Math.Nat.{mul-pos, zero-mul, sub-zero, zero-lt-suc, lt_of_mul-lt-mul_right, mul-lt-mul_of_pos_right, mul-le-mul_right, mul_right_comm}
 use Rattle.std.proofs.Math.Seq.{take-append_seam}
 use Rattle.std.proofs.lemmas.List.{take-append-le, take_more, length-take-le}
-use Rattle.std.proofs.lemmas.List.Elements.{All-push, All-weaker, All-same}
+use Rattle.std.proofs.lemmas.List.Elements.{All-get_or, All-push, All-same, All-weaker}
 use Rattle.std.proofs.lemmas.Option.{slice_get_within, get_or_from_slice_get}
 use Rattle.wh_host_model.specs.declared.Claim.{Claim}
 use Rattle.wh_host_model.specs.declared.Tax.{Tax}
@@ -118,3 +118,31 @@ begins tax xs i x within here can none =
 pub passes : (tax : Tax) (xs : List Claim) (i : ℕ) (x : Claim) (choice : Option ℕ) → i < length xs → x ≡ get_or xs i x → ¬ CanPay x → IsChoice tax (take i xs) choice → IsChoice tax (take (i + 1) xs) choice
 passes tax xs i x choice within here unable so_far =
     rw (take_more xs i x within, ← here) (keeps_unable tax (take i xs) x choice unable so_far)
+
+-- what holds of each element holds of the one at a place
+at_place : {X : Type 0} (P : X → Type 0) (xs : List X) (k : ℕ) (x : X) → slice_get xs k ≡ Some x → All P xs → P x
+at_place P xs k x is all = subst (λ y. P y) (get_or_from_slice_get xs k x x is) (All-get_or P xs k x (slice_get_within xs k x is) all)
+
+-- an element stands in each front that is long enough
+slice_get-take : {X : Type 0} (xs : List X) (i k : ℕ) (x : X) → k < i → slice_get xs k ≡ Some x → slice_get (take i xs) k ≡ Some x
+slice_get-take xs zero k x low is = absurd (omega arith)
+slice_get-take [] (suc i) k x low is = is
+slice_get-take (y ∷ xs) (suc i) zero x low is = is
+slice_get-take (y ∷ xs) (suc i) (suc k) x low is = slice_get-take xs i k x (omega arith) is
+
+-- no second one pays at a higher place
+not_above : (tax : Tax) (claims : List Claim) (j k : ℕ) (payer other : Claim) → HasLeast tax claims j payer → HasLeast tax claims k other → j < k → ⊥
+not_above tax claims j k payer other has also below =
+    at_place (λ claim. CanPay claim → ¬ RhoLess tax claim payer) claims k other also.stands has.least also.can_pay
+    (at_place (λ claim. CanPay claim → RhoLess tax other claim) (take k claims) j payer (slice_get-take claims k j payer below has.stands) also.first has.can_pay)
+
+-- there is one choice
+pub one_choice : (tax : Tax) (claims : List Claim) (choice other : Option ℕ) → IsChoice tax claims choice → IsChoice tax claims other → other ≡ choice
+one_choice tax claims None None none also = refl
+one_choice tax claims None (Some k) none (payer, has) = absurd (at_place (λ claim. ¬ CanPay claim) claims k payer has.stands none has.can_pay)
+one_choice tax claims (Some j) None (payer, has) none = absurd (at_place (λ claim. ¬ CanPay claim) claims j payer has.stands none has.can_pay)
+one_choice tax claims (Some j) (Some k) (payer, has) (other, also) =
+    let low : ¬ (j < k) = λ below. not_above tax claims j k payer other has also below in
+    let high : ¬ (k < j) = λ above. not_above tax claims k j other payer also has above in
+    let same : k ≡ j = omega (arith, low, high) in
+    ap Some same

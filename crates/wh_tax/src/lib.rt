@@ -4,14 +4,14 @@
 //! (P - A) * den`, and its fraction is `S * (den - num) / w`. The instance with the least fraction pays.
 #![tactic(auto)]
 
-ghost use Rattle.std.specs.Prelude.{◌≡◌, ◌↔◌, ◌≤◌, ◌<◌, ◌+◌, IsTrue, length, take};
+ghost use Rattle.std.specs.Prelude.{◌≡◌, ◌↔◌, ◌≤◌, ◌<◌, ◌+◌, ℕ, IsTrue, Option, length, take};
 ghost use Rattle.wh_host_model.specs.Tax.{weight, RhoLess, RhoEqual, CanPay, IsChoice};
 
 use std::cmp::Ordering;
 pub use wh_host_model::{Claim, Tax};
 
-// What the claim's pages weigh.
-fn weight(tax: Tax, claim: &Claim) -> u64
+/// What the claim's pages weigh: `den - num` for each that was touched, and `den` for each other one.
+pub fn weight(tax: Tax, claim: &Claim) -> u64
     ensures exact { result ≡ weight tax claim.now }
     ensures within { result ≤ 65536000 }
 {
@@ -64,7 +64,8 @@ fn next_payer(tax: Tax, claims: &[Claim], place: usize, payer: Option<usize>) ->
 /// one with the least fraction, and the first of several. None where there is no such claim. It goes once over the
 /// claims and takes no memory.
 pub fn victim(tax: Tax, claims: &[Claim]) -> Option<usize>
-    ensures { IsChoice tax claims.now result }
+    ensures choice { IsChoice tax claims.now result }
+    ensures only { (other : Option ℕ) → IsChoice tax claims.now other → other ≡ result }
 {
     let mut payer = None;
     for place in 0..claims.len() {
@@ -98,6 +99,8 @@ mod tests {
 
         // Weights 100 and 200 under the tax, 100 and 50 without one.
         let busy_and_idle = [claim(2, 100, 100), claim(2, 50, 0)];
+        assert_eq!(rt; weight(taxed, &busy_and_idle[0]), 100);
+        assert_eq!(rt; weight(taxed, &busy_and_idle[1]), 200);
         assert_eq!(rt; victim(taxed, &busy_and_idle), Some(1));
         assert_eq!(rt; victim(untaxed, &busy_and_idle), Some(0));
 

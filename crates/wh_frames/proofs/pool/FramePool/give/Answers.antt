@@ -1,5 +1,7 @@
-use Rattle.std.proofs.Common.{◌++◌, ◌∷◌, [], arith}
-use Rattle.std.proofs.lemmas.List.{length-append}
+use Rattle.std.proofs.Common.{◌-◌, ◌++◌, ◌∷◌, [], length, arith}
+use Rattle.std.proofs.lemmas.List.{append_assoc, length-append}
+use Rattle.wh_host_model.proofs.FrameLemmas.{IsTaken-gives}
+use Rattle.wh_frames.specs.Parts.{falling, pool_of}
 use Rattle.wh_frames.proofs.Free.{taken_of, gives_back, given_back-le}
 use Rattle.wh_frames.proofs.pool.FramePool.give.Goals as goal
 
@@ -22,3 +24,11 @@ invariant_of-self c =
       within = c.self.invariant.within;
       given = rw c.add_free.ensures.items (gives_back _ a.free.items c.args.frame c.self.invariant.given taken.0 taken.1);
     }
+
+pub returns-clause-others : goal.returns-clause-others
+returns-clause-others c =
+    let a = c.self.inside in
+    let unused = falling (length a.frames.items) (a.limit - length a.frames.items) in
+    λ f other taken.
+    let still = IsTaken-gives (pool_of a) c.args.frame f other (rw (← c.self.view_is) at taken) in
+    rw (c.add_free.ensures.items, ← append_assoc unused a.free.items (c.args.frame ∷ [])) still

@@ -1,6 +1,8 @@
 use Rattle.std.proofs.Common.{◌-◌, length, refl, ◌∙◌, arith}
 use Rattle.wh_frames.specs.declared.pool.FramePool.TheInside.{Inside}
-use Rattle.wh_frames.proofs.Free.{takes_back, takes_next, taken_next, nothing_left, length_frames}
+use Rattle.wh_host_model.proofs.FrameLemmas.{IsTaken-takes}
+use Rattle.wh_frames.specs.Parts.{pool_of}
+use Rattle.wh_frames.proofs.Free.{takes_back, takes_given, takes_next, taken_next, nothing_left, length_frames}
 use Rattle.wh_frames.proofs.pool.FramePool.take.Goals as goal
 
 pub invariant_of-self : goal.invariant_of-self
@@ -34,3 +36,17 @@ returns-clause-taken c =
     let b : Inside = record { limit = a.limit; frames = c.add_frame.new.frames; free = c.pop.new.self } in
     let empty = nothing_left a.free.items b.free.items c.in_default.ensures.items (omega (arith, c.in_default.ensures.cases.1, b.free.ok.0)) in
     taken_next a b _ (c.len-frame.ensures ∙ a.frames.ok.0) (omega (arith, c.self.invariant.within, a.frames.ok.0)) refl c.add_frame.ensures.items empty.1
+
+pub returns-in-Some-clause-others : goal.returns-in-Some-clause-others
+returns-in-Some-clause-others c =
+    let a = c.self.inside in
+    let b : Inside = record { limit = a.limit; frames = a.frames; free = c.pop.new.self } in
+    λ f taken. IsTaken-takes (pool_of a) (pool_of b) c.in-Some.frame (takes_given a b c.in-Some.frame refl refl c.in-Some.ensures.items) f (rw (← c.self.view_is) at taken)
+
+pub returns-clause-others : goal.returns-clause-others
+returns-clause-others c =
+    let a = c.self.inside in
+    let b : Inside = record { limit = a.limit; frames = c.add_frame.new.frames; free = c.pop.new.self } in
+    let empty = nothing_left a.free.items b.free.items c.in_default.ensures.items (omega (arith, c.in_default.ensures.cases.1, b.free.ok.0)) in
+    let takes = takes_next a b _ (c.len-frame.ensures ∙ a.frames.ok.0) (omega (arith, c.self.invariant.within, a.frames.ok.0)) refl c.add_frame.ensures.items empty.0 empty.1 in
+    λ f taken. IsTaken-takes (pool_of a) (pool_of b) _ takes f (rw (← c.self.view_is) at taken)
