@@ -1,0 +1,4 @@
+pub mod Frames
+pub mod Hash
+pub mod Pages
+pub mod Tax

@@ -1,0 +1,37 @@
+//! The plain types that the definitions of the host and its code share.
+//!
+//! The definitions themselves are in `specs/`.
+#![tactic(auto)]
+
+ghost use Rattle.std.specs.Prelude.{◌≤◌, ◌<◌};
+
+/// The tax on idle memory: the fraction `num / den` of a page that isn't touched is taken from its owner, so that
+/// an idle page costs its owner as much as `den / (den - num)` touched ones.
+#[derive(Clone, Copy, Debug, PartialEq, Eq)]
+pub struct Tax {
+    /// The numerator, below the denominator. 0 is no tax.
+    pub num: u32,
+    /// The denominator, 1 to 1000.
+    pub den: u32,
+    ghost below_one: { num < den },
+    ghost den_within: { den ≤ 1000 },
+}
+
+/// What one instance brings to the choice of the one that has to give up a page.
+#[derive(Clone, Copy, Debug, PartialEq, Eq)]
+pub struct Claim {
+    /// The share of memory that its owner has, 1 to 1000000, against the shares of the other instances.
+    pub shares: u32,
+    /// How many pages it may keep in any case.
+    pub min: u32,
+    /// How many of its pages are resident, at most 65536. A page on a shared frame counts like any other.
+    pub pages: u32,
+    /// How many of these were touched in this epoch.
+    pub active: u32,
+    /// Whether one of its pages can leave now.
+    pub can_leave: bool,
+    ghost shares_above: { 1 ≤ shares },
+    ghost shares_within: { shares ≤ 1000000 },
+    ghost pages_within: { pages ≤ 65536 },
+    ghost active_within: { active ≤ pages },
+}
