@@ -1,2 +1,4 @@
 pub mod Nesting
 pub mod Numbers
+pub mod Typing
+pub mod Typed

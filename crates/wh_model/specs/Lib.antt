@@ -9,3 +9,5 @@ pub mod Modules
 pub mod Spelling
 pub mod Nested
 pub mod Numbers
+pub mod Typing
+pub mod Validity
