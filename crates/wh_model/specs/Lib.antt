@@ -11,3 +11,4 @@ pub mod Nested
 pub mod Numbers
 pub mod Typing
 pub mod Validity
+pub mod Heights
