@@ -55,7 +55,7 @@ fn add_repeated(alloc: Global, bytes: &mut Vec<u8>, digits: &str, times: usize) 
             }
             Ok(())
         }
-        Err(_) => bail!("{digits:?} are no bytes"),
+        Err(error) => bail!("{digits:?}: {error}"),
     }
 }
 
