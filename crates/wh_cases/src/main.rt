@@ -87,9 +87,10 @@ fn run_pattern(
         if let Some(list) = expected.strip_prefix("cuts") {
             judge_cuts(rt, alloc, tally, name, list, &bytes)?;
         } else if expected == "show" {
-            match decode(alloc, &bytes) {
-                Ok(module) => show(rt, alloc, name, &module)?,
-                Err(error) => println!(rt; "{name}: {error}")?,
+            let decoded = decode(alloc, &bytes);
+            match &decoded {
+                Ok(module) => show(rt, alloc, name, module)?,
+                Err(_) => judge(rt, tally, name, Answer::Module, answer_of(&decoded)?)?,
             }
         } else {
             let expected = parse_answer(expected)?;
