@@ -1,7 +1,6 @@
 //! The engine: one line after the other.
 
-ghost use Rattle.std.specs.Prelude.{◌≡◌, ℕ, List, ◌++◌, OnOk, IfErr, string_bytes, codes};
-ghost use Rattle.std.specs.Io.KnownBytes.{Appends};
+ghost use Rattle.std.specs.Prelude.{◌≡◌, IfErr, string_bytes};
 ghost use Rattle.wh_model.specs.Numbering.{fault_number};
 ghost use Rattle.wh_host_model.specs.Script.{kept_reply, refused_reply, error_reply};
 ghost use Rattle.wh_script.specs.Numbering.{complaint_number};
