@@ -1,1 +1,4 @@
+pub mod Coming
+pub mod Commands
 pub mod Numbering
+pub mod Replies

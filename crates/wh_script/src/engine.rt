@@ -1,12 +1,18 @@
 //! The engine: one line after the other.
 
+ghost use Rattle.std.specs.Prelude.{◌≡◌, IfErr, string_bytes};
+ghost use Rattle.wh_model.specs.Numbering.{fault_number};
+ghost use Rattle.wh_host_model.specs.Script.{kept_reply, refused_reply, error_reply};
+ghost use Rattle.wh_script.specs.Numbering.{complaint_number};
+ghost use Rattle.wh_script.specs.Replies.{Sent};
+
 use crate::command::{Command, parse};
 use crate::fault::{Complaint, ScriptFault};
 use crate::lines::{Line, Lines};
 use hex::FromHexError;
 use std::alloc::{AllocError, Global};
 use std::collections::BTreeMap;
-use std::io::{Read, Write};
+use std::io::{ErrorKind, Read, Write};
 use wh_decode::decode;
 use wh_leb::DecodeError;
 use wh_syntax::Module;
@@ -111,7 +117,10 @@ impl Engine {
         Ok(())
     }
 
-    fn accept<W: Write>(&mut self, writer: &mut W, name: &str) -> Result<(), ScriptFault> {
+    fn accept<W: Write>(&mut self, writer: &mut W, name: &str) -> Result<(), ScriptFault>
+        ensures sent { Sent (W.contents writer.old) (W.contents writer.new) result (kept_reply name.now) }
+        ensures names { self.new.modules ≡ self.old.modules }
+    {
         self.reply.clear();
         if writeln!(self.reply, "module {name} ok").is_err() {
             return Err(ScriptFault::Memory);
@@ -124,7 +133,10 @@ impl Engine {
         writer: &mut W,
         name: &str,
         fault: DecodeError,
-    ) -> Result<(), ScriptFault> {
+    ) -> Result<(), ScriptFault>
+        ensures sent { Sent (W.contents writer.old) (W.contents writer.new) result (refused_reply name.now (fault_number fault.kind) fault.offset) }
+        ensures names { self.new.modules ≡ self.old.modules }
+    {
         let kind = fault.kind.number();
         let offset = fault.offset;
         self.reply.clear();
@@ -139,7 +151,10 @@ impl Engine {
         writer: &mut W,
         complaint: Complaint,
         line: u64,
-    ) -> Result<(), ScriptFault> {
+    ) -> Result<(), ScriptFault>
+        ensures sent { Sent (W.contents writer.old) (W.contents writer.new) result (error_reply (complaint_number complaint) line) }
+        ensures names { self.new.modules ≡ self.old.modules }
+    {
         let cause = complaint.number();
         self.reply.clear();
         if writeln!(self.reply, "error C{cause} line {line}").is_err() {
@@ -149,10 +164,31 @@ impl Engine {
     }
 
     /// Writes the reply, whole and at once.
-    fn send<W: Write>(&self, writer: &mut W) -> Result<(), ScriptFault> {
-        if writer.write_all(self.reply.as_bytes()).is_err() || writer.flush().is_err() {
-            return Err(ScriptFault::Output);
-        }
-        Ok(())
+    fn send<W: Write>(&self, writer: &mut W) -> Result<(), ScriptFault>
+        ensures sent { Sent (W.contents writer.old) (W.contents writer.new) result (string_bytes self.now.reply) }
+        ensures output { IfErr result (λ e. e ≡ ScriptFault.Output) }
+    {
+        write_whole(writer, self.reply.as_bytes())?;
+        writer.flush().map_err(|_| ScriptFault::Output)
     }
+}
+
+/// Writes all of the bytes, or as many as the writer takes.
+fn write_whole<W: Write>(writer: &mut W, bytes: &[u8]) -> Result<(), ScriptFault>
+    ensures sent { Sent (W.contents writer.old) (W.contents writer.new) result bytes.now }
+    ensures output { IfErr result (λ e. e ≡ ScriptFault.Output) }
+{
+    let mut rest = bytes;
+    for _ in 0..u64::MAX {
+        if rest.is_empty() {
+            return Ok(());
+        }
+        match writer.write(rest) {
+            Ok(0) => return Err(ScriptFault::Output),
+            Ok(count) => rest = &rest[count..],
+            Err(e) if e.kind() == ErrorKind::Interrupted => {}
+            Err(_) => return Err(ScriptFault::Output),
+        }
+    }
+    Err(ScriptFault::Output)
 }

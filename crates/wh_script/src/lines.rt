@@ -1,5 +1,11 @@
 //! The lines of a script, one at a time, in memory of a fixed size.
 
+ghost use Rattle.std.specs.Prelude.{◌≡◌, ◌≢◌, ℕ, ◌+◌, ◌<◌, ◌≤◌, false, List, [], ◌∷◌, ◌++◌, drop, length, IfOk, OnOk, IfErr};
+ghost use Rattle.std.specs.Bool.{MatchBool, OnTrue};
+ghost use Rattle.std.specs.List.{All};
+ghost use Rattle.std.specs.Io.KnownBytes.{Consumes, IsAtEnd};
+ghost use Rattle.wh_script.specs.Coming.{unread, coming, Within, Holds, Takes, IsKind, ReadsLine};
+
 use crate::fault::ScriptFault;
 use memchr::memchr;
 use std::alloc::Global;
@@ -38,7 +44,11 @@ impl Lines {
     ///
     /// # Errors
     /// `Memory` where it is refused.
-    pub fn new(alloc: Global) -> Result<Lines, ScriptFault> {
+    pub fn new(alloc: Global) -> Result<Lines, ScriptFault>
+        ensures within { IfOk result (λ lines. Within lines) }
+        ensures empty { IfOk result (λ lines. unread lines ≡ []) }
+        ensures err { IfErr result (λ e. e ≡ ScriptFault.Memory) }
+    {
         let Ok(line) = Vec::with_capacity(alloc, LONGEST_LINE) else {
             return Err(ScriptFault::Memory);
         };
@@ -55,7 +65,9 @@ impl Lines {
     }
 
     /// The line that was read last.
-    pub fn line(&self) -> &[u8] {
+    pub fn line(&self) -> &[u8]
+        ensures { result.now ≡ self.now.line.items }
+    {
         &self.line
     }
 }
@@ -65,13 +77,23 @@ impl Lines {
     ///
     /// # Errors
     /// `Script` where the reader fails; `Memory` only if room that was reserved is refused after all.
-    pub fn read<R: Read>(&mut self, reader: &mut R) -> Result<Line, ScriptFault> {
+    pub fn read<R: Read>(&mut self, reader: &mut R) -> Result<Line, ScriptFault>
+        requires { Within self.old }
+        // It is the first of the lines to come, and what is said of it is so.
+        ensures line { IfOk result (λ kind. ReadsLine (coming self.old (R.remaining reader.old))
+            (coming self.new (R.remaining reader.new)) kind self.new.line.items) }
+        ensures within { OnOk result (Within self.new) }
+        ensures err { IfErr result (λ e. e ≢ ScriptFault.Output) }
+    {
         self.line.clear();
         self.is_long = false;
         let mut begun = false;
         for _ in 0..u64::MAX {
-            if self.next >= self.end && !self.fill(reader)? {
-                return Ok(if begun { self.kind() } else { Line::End });
+            if !self.has_more(reader)? {
+                if begun {
+                    return Ok(self.kind());
+                }
+                return Ok(Line::End);
             }
             begun = true;
             if self.take()? {
@@ -82,7 +104,9 @@ impl Lines {
     }
 
     /// What the line is that was read.
-    fn kind(&self) -> Line {
+    fn kind(&self) -> Line
+        ensures { (line : List ℕ) → Holds self.now.line.items self.now.is_long line → IsKind result self.now.line.items line }
+    {
         match self.line.first() {
             None | Some(b'#') => Line::Skipped,
             Some(_) if self.is_long => Line::TooLong,
@@ -90,8 +114,31 @@ impl Lines {
         }
     }
 
+    /// Whether more of the script is to come; then some of it lies in the chunk.
+    fn has_more<R: Read>(&mut self, reader: &mut R) -> Result<bool, ScriptFault>
+        requires { Within self.old }
+        ensures bytes { OnOk result (Consumes (coming self.old (R.remaining reader.old)) (coming self.new (R.remaining reader.new)) []) }
+        ensures more { IfOk result (λ more. MatchBool more (self.new.next < self.new.end) (IsAtEnd (coming self.new (R.remaining reader.new)))) }
+        ensures within { OnOk result (Within self.new) }
+        ensures line { (self.new.line ≡ self.old.line) × (self.new.is_long ≡ self.old.is_long) }
+        ensures err { IfErr result (λ e. e ≡ ScriptFault.Script) }
+    {
+        if self.next < self.end {
+            return Ok(true);
+        }
+        let more = self.fill(reader)?;
+        Ok(more)
+    }
+
     /// Reads more of the script; false at its end.
-    fn fill<R: Read>(&mut self, reader: &mut R) -> Result<bool, ScriptFault> {
+    fn fill<R: Read>(&mut self, reader: &mut R) -> Result<bool, ScriptFault>
+        requires { Within self.old }
+        ensures bytes { OnOk result (Consumes (R.remaining reader.old) (R.remaining reader.new) (unread self.new)) }
+        ensures more { IfOk result (λ more. MatchBool more (self.new.next < self.new.end) (IsAtEnd (R.remaining reader.new) × (unread self.new ≡ []))) }
+        ensures within { OnOk result (Within self.new) }
+        ensures line { (self.new.line ≡ self.old.line) × (self.new.is_long ≡ self.old.is_long) }
+        ensures err { IfErr result (λ e. e ≡ ScriptFault.Script) }
+    {
         for _ in 0..u64::MAX {
             match reader.read(&mut self.chunk) {
                 Ok(count) => {
@@ -107,31 +154,45 @@ impl Lines {
     }
 
     /// Takes what there is of the line; true where that is up to its newline.
-    fn take(&mut self) -> Result<bool, ScriptFault> {
-        let end = self.end.min(self.chunk.len());
-        if self.next >= end {
+    fn take(&mut self) -> Result<bool, ScriptFault>
+        requires within { Within self.old }
+        requires some { self.old.next < self.old.end }
+        ensures piece { IfOk result (λ is_last. (piece : List ℕ) × Takes self.old self.new is_last piece) }
+        ensures within { OnOk result (Within self.new) }
+        ensures err { IfErr result (λ e. e ≡ ScriptFault.Memory) }
+    {
+        let rest = &self.chunk[self.next..self.end];
+        let (piece, is_last) = first_piece(rest);
+        let length = piece.len();
+        keep(&mut self.line, &mut self.is_long, piece)?;
+        if !is_last {
             self.next = self.end;
             return Ok(false);
         }
-        let rest = &self.chunk[self.next..end];
-        match memchr(b'\n', rest) {
-            Some(length) => {
-                keep(&mut self.line, &mut self.is_long, &rest[..length])?;
-                self.next += length + 1;
-                Ok(true)
-            }
-            None => {
-                keep(&mut self.line, &mut self.is_long, rest)?;
-                self.next = self.end;
-                Ok(false)
-            }
-        }
+        self.next += length + 1;
+        Ok(true)
+    }
+}
+
+/// The bytes up to the first newline, and whether there is one.
+fn first_piece(bytes: &[u8]) -> (&[u8], bool)
+    ensures free { All (λ b. b ≢ 10) result.0.now }
+    ensures cut { MatchBool result.1 (bytes.now ≡ result.0.now ++ 10 ∷ drop (length result.0.now + 1) bytes.now) (bytes.now ≡ result.0.now) }
+    ensures fits { OnTrue result.1 (length result.0.now + 1 ≤ length bytes.now) }
+{
+    match memchr(b'\n', bytes) {
+        Some(length) => (&bytes[..length], true),
+        None => (bytes, false),
     }
 }
 
 /// Puts bytes at the end of a line, as far as they are wanted: of a comment only its beginning is.
-fn keep(line: &mut Vec<u8>, is_long: &mut bool, bytes: &[u8]) -> Result<(), ScriptFault> {
-    if line.first() == Some(&b'#') {
+fn keep(line: &mut Vec<u8>, is_long: &mut bool, bytes: &[u8]) -> Result<(), ScriptFault>
+    ensures held { OnOk result ((so_far : List ℕ) → Holds line.old.items is_long.old so_far
+        → Holds line.new.items is_long.new (so_far ++ bytes.now)) }
+    ensures err { IfErr result (λ e. e ≡ ScriptFault.Memory) }
+{
+    if matches!(line.first(), Some(b'#')) {
         return Ok(());
     }
     if line.len() > LONGEST_LINE || bytes.len() > LONGEST_LINE - line.len() {
