@@ -1,17 +1,8 @@
 -- Sequences of instructions, nested and in binary order: each form determines the other.
 use Rattle.std.proofs.Common.{◌≡◌, ℕ, ◌≤◌, List, [], ◌∷◌, ◌++◌, Option, Some, None, refl, sym, ap, ◌∙◌, append_assoc, arith}
-use Rattle.wh_model.specs.Syntax.{Code, nothing, plain, block, loop, if_then, if_else, Instr, single, block_start, loop_start, if_start, else_mark, end_mark, flatten, expression}
+use Rattle.wh_model.specs.Syntax.{Code, nothing, plain, block, loop, if_then, if_else, Instr, single, block_start, loop_start, if_start, else_mark, end_mark, flatten, expression, join}
 use Rattle.wh_model.specs.Limits.{depth}
 use Rattle.wh_model.specs.Nested.{Parts, grow, grown, first_code, nested}
-
--- one sequence behind another
-abbrev pub join : Code → Code → Code
-join nothing d = d
-join (plain op rest) d = plain op (join rest d)
-join (block t body rest) d = block t body (join rest d)
-join (loop t body rest) d = loop t body (join rest d)
-join (if_then t first rest) d = if_then t first (join rest d)
-join (if_else t first second rest) d = if_else t first second (join rest d)
 
 join-nothing : (c : Code) → join c nothing ≡ c
 join-nothing nothing = refl

@@ -12,3 +12,8 @@ pub mod Numbers
 pub mod Typing
 pub mod Validity
 pub mod Heights
+pub mod Store
+pub mod Configuration
+pub mod Execution
+pub mod Reduction
+pub mod Laws

@@ -72,6 +72,15 @@ flatten (loop t body rest) = loop_start t ∷ flatten body ++ end_mark ∷ flatt
 flatten (if_then t first rest) = if_start t ∷ flatten first ++ end_mark ∷ flatten rest
 flatten (if_else t first second rest) = if_start t ∷ flatten first ++ else_mark ∷ flatten second ++ end_mark ∷ flatten rest
 
+-- one sequence, and behind it another
+abbrev pub join : Code → Code → Code
+join nothing d = d
+join (plain op rest) d = plain op (join rest d)
+join (block t body rest) d = block t body (join rest d)
+join (loop t body rest) d = loop t body (join rest d)
+join (if_then t first rest) d = if_then t first (join rest d)
+join (if_else t first second rest) d = if_else t first second (join rest d)
+
 -- expr (2.4.6): the instructions, and an end
 abbrev pub expression : Code → List Instr
 expression c = flatten c ++ end_mark ∷ []

@@ -377,3 +377,14 @@ pub enum ExternKind {
     /// A global.
     Global,
 }
+
+/// A function that the host offers for import, in its module `host`. These are this host's own.
+#[derive(Clone, Copy, Debug, PartialEq, Eq)]
+pub enum HostFunc {
+    /// `input`, `[i32] -> [i64]`: the input word at that place.
+    Input,
+    /// `put`, `[i64] -> []`: appends the 8 bytes of the operand to the output, the lowest first.
+    Put,
+    /// `emit`, `[i32 i32] -> []`: appends bytes of the memory, given by address and length, to the output.
+    Emit,
+}
