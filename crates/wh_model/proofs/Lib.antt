@@ -6,3 +6,6 @@ pub mod Heights
 pub mod OneRule
 pub mod OneReduction
 pub mod Chains
+pub mod StepsReduce
+pub mod ReductionsStep
+pub mod Agrees

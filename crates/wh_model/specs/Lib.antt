@@ -17,3 +17,6 @@ pub mod Configuration
 pub mod Execution
 pub mod Reduction
 pub mod Laws
+pub mod Focus
+pub mod FocusSteps
+pub mod FocusLaws
