@@ -9,3 +9,5 @@ pub mod Chains
 pub mod StepsReduce
 pub mod ReductionsStep
 pub mod Agrees
+pub mod Journals
+pub mod Instance

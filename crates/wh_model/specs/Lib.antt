@@ -20,3 +20,6 @@ pub mod Laws
 pub mod Focus
 pub mod FocusSteps
 pub mod FocusLaws
+pub mod Instance
+pub mod Replay
+pub mod ReplayLaws

@@ -74,9 +74,9 @@ bytes_of (suc k) n = n % 256 ∷ bytes_of k (n / 256)
 abbrev pub bytes_at : List ℕ → ℕ → ℕ → List ℕ
 bytes_at bytes at k = slice_range bytes at (at + k)
 
--- the bytes with these written over them from a place on
-abbrev pub written : List ℕ → ℕ → List ℕ → List ℕ
-written bytes at given = take at bytes ++ (given ++ drop (at + length given) bytes)
+-- a list with these written over it from a place on
+abbrev pub written : {X : Type 0} → List X → ℕ → List X → List X
+written old at given = take at old ++ (given ++ drop (at + length given) old)
 
 -- what a load makes of the number that it reads (4.4.4): a narrow one extends it
 abbrev pub loaded : LoadOp → ℕ → ℕ
