@@ -11,3 +11,5 @@ pub mod ReductionsStep
 pub mod Agrees
 pub mod Journals
 pub mod Instance
+pub mod Worked
+pub mod WorkedDepth

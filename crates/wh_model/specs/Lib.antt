@@ -23,3 +23,4 @@ pub mod FocusLaws
 pub mod Instance
 pub mod Replay
 pub mod ReplayLaws
+pub mod Worked
