@@ -38,11 +38,11 @@ imported_same types p [] fs gs vs ws x y = (x.0 ∙ sym y.0, x.1 ∙ sym y.1)
 imported_same types p (i ∷ is) fs gs vs ws x y =
     ⊎_elim
     (λ (a, b, c, d, e). ⊎_elim
-      (λ (a2, b2, c2, d2, e2). let r = imported_same types p is b b2 vs ws e e2 in (d ∙ ap (λ k. host k ∷ b) (func_same types i a a2 c c2) ∙ ap (λ k. host a2 ∷ k) r.0 ∙ sym d2, r.1))
-      (λ (a2, b2, c2, d2, e2). absurd (func_or_global types p i a a2 c c2)) y)
+    (λ (a2, b2, c2, d2, e2). let r = imported_same types p is b b2 vs ws e e2 in (d ∙ ap (λ k. host k ∷ b) (func_same types i a a2 c c2) ∙ ap (λ k. host a2 ∷ k) r.0 ∙ sym d2, r.1))
+    (λ (a2, b2, c2, d2, e2). absurd (func_or_global types p i a a2 c c2)) y)
     (λ (a, b, c, d, e). ⊎_elim
-      (λ (a2, b2, c2, d2, e2). absurd (func_or_global types p i a2 a c2 c))
-      (λ (a2, b2, c2, d2, e2). let r = imported_same types p is fs gs b b2 e e2 in (r.0, d ∙ ap (λ k. k ∷ b) (global_same p i a a2 c c2) ∙ ap (λ k. a2 ∷ k) r.1 ∙ sym d2)) y)
+    (λ (a2, b2, c2, d2, e2). absurd (func_or_global types p i a2 a c2 c))
+    (λ (a2, b2, c2, d2, e2). let r = imported_same types p is fs gs b b2 e e2 in (r.0, d ∙ ap (λ k. k ∷ b) (global_same p i a a2 c c2) ∙ ap (λ k. a2 ∷ k) r.1 ∙ sym d2)) y)
     x
 
 -- ---- functions, globals and segments
@@ -60,15 +60,15 @@ evaluates_same : (globals : List Value) (e : Code) (v w : Value) → Evaluates g
 evaluates_same globals e v w x y =
     ⊎_elim
     (λ (n, p, q). ⊎_elim
-      (λ (n2, p2, q2). cc (p, q, p2, q2))
-      (λ z. ⊎_elim (λ (n2, p2, q2). absurd (cc (p, p2))) (λ (n2, p2, q2). absurd (cc (p, p2))) z) y)
+    (λ (n2, p2, q2). cc (p, q, p2, q2))
+    (λ z. ⊎_elim (λ (n2, p2, q2). absurd (cc (p, p2))) (λ (n2, p2, q2). absurd (cc (p, p2))) z) y)
     (λ u. ⊎_elim
-      (λ (n, p, q). ⊎_elim
-        (λ (n2, p2, q2). absurd (cc (p, p2)))
-        (λ z. ⊎_elim (λ (n2, p2, q2). cc (p, q, p2, q2)) (λ (n2, p2, q2). absurd (cc (p, p2))) z) y)
-      (λ (n, p, q). ⊎_elim
-        (λ (n2, p2, q2). absurd (cc (p, p2)))
-        (λ z. ⊎_elim (λ (n2, p2, q2). absurd (cc (p, p2))) (λ (n2, p2, q2). cc (p, q, p2, q2)) z) y) u)
+    (λ (n, p, q). ⊎_elim
+    (λ (n2, p2, q2). absurd (cc (p, p2)))
+    (λ z. ⊎_elim (λ (n2, p2, q2). cc (p, q, p2, q2)) (λ (n2, p2, q2). absurd (cc (p, p2))) z) y)
+    (λ (n, p, q). ⊎_elim
+    (λ (n2, p2, q2). absurd (cc (p, p2)))
+    (λ z. ⊎_elim (λ (n2, p2, q2). absurd (cc (p, p2))) (λ (n2, p2, q2). cc (p, q, p2, q2)) z) y) u)
     x
 
 begun_same : (imported : List Value) (gs : List Global) (vs ws : List Value) → Begun imported gs vs → Begun imported gs ws → vs ≡ ws
@@ -120,12 +120,12 @@ bounds_differ m p inst inst2 gs gs2 es es2 ds ds2 x y never q r =
 
 abbrev stands : Module → Parameters → Instance → List Value → List Piece → List Piece → Beginning
 stands m p inst gs es ds = begins inst (record {
-    bytes = replicate (first_size m.memories * 65536) 0;
-    globals = gs;
-    table = filled (replicate (first_size m.tables) None) es;
-    inputs = p.inputs;
-    output = [];
-  }) (fragments ds)
+  bytes = replicate (first_size m.memories * 65536) 0;
+  globals = gs;
+  table = filled (replicate (first_size m.tables) None) es;
+  inputs = p.inputs;
+  output = [];
+}) (fragments ds)
 
 initial_same : (m : Module) (p : Parameters) {a b : Beginning} → IsInitial m p a → IsInitial m p b → a ≡ b
 initial_same m p (needs_more x) (needs_more y) = refl

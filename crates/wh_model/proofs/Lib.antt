@@ -13,3 +13,4 @@ pub mod Journals
 pub mod Instance
 pub mod Worked
 pub mod WorkedDepth
+pub mod Fragments

@@ -40,7 +40,7 @@ pub branches_out : (inst : Instance) (s : Store) → Done inst (invoked s [] (I3
 unfolding unsigned
 branches_out inst s = done s s [] (I32 ∷ []) branch_out [] (value I32 1 ∷ []) 2
     (steps 1 1 (refl, refl) (steps 0 1 (refl, refl) (steps 1 0 (refl, ([], _, _, refl, refl, value I32 1 ∷ [], [], record { split = refl; count = refl }, refl))
-      (steps 0 0 (refl, inl (_, _, refl, refl)) (steps 0 0 (refl, inr (refl, refl, refl)) rests)))))
+    (steps 0 0 (refl, inl (_, _, refl, refl)) (steps 0 0 (refl, inr (refl, refl, refl)) rests)))))
 
 -- block (result i32), i32.const 5, i32.const 7, br 0, end
 abbrev branch_over : Code
@@ -51,8 +51,8 @@ pub branches_over : (inst : Instance) (s : Store) → Done inst (invoked s [] (I
 unfolding unsigned
 branches_over inst s = done s s [] (I32 ∷ []) branch_over [] (value I32 7 ∷ []) 2
     (steps 1 1 (refl, refl) (steps 0 1 (refl, refl) (steps 0 1 (refl, refl)
-      (steps 1 0 (refl, ([], _, _, refl, refl, value I32 7 ∷ [], value I32 5 ∷ [], record { split = refl; count = refl }, refl))
-      (steps 0 0 (refl, inl (_, _, refl, refl)) (steps 0 0 (refl, inr (refl, refl, refl)) rests))))))
+    (steps 1 0 (refl, ([], _, _, refl, refl, value I32 7 ∷ [], value I32 5 ∷ [], record { split = refl; count = refl }, refl))
+    (steps 0 0 (refl, inl (_, _, refl, refl)) (steps 0 0 (refl, inr (refl, refl, refl)) rests))))))
 
 -- block, block, local.get 0, br_table 0 1, end, i32.const 10, return, end, i32.const 20
 abbrev table_body : Code
@@ -63,23 +63,23 @@ pub table_first : (inst : Instance) (s : Store) → Done inst (invoked s (I32 �
 unfolding unsigned
 table_first inst s = done s s (I32 ∷ []) (I32 ∷ []) table_body (value I32 0 ∷ []) (value I32 10 ∷ []) 5
     (steps 1 4 (refl, refl) (steps 1 3 (refl, refl) (steps 1 2 (refl, (_, refl, refl))
-      (steps 1 1 (refl, (0, _, refl, ([], _, _, refl, refl, [], [], record { split = refl; count = refl }, refl)))
-      (steps 0 1 (refl, refl) (steps 1 0 (refl, (value I32 10 ∷ [], [], record { split = refl; count = refl }, refl)) rests))))))
+    (steps 1 1 (refl, (0, _, refl, ([], _, _, refl, refl, [], [], record { split = refl; count = refl }, refl)))
+    (steps 0 1 (refl, refl) (steps 1 0 (refl, (value I32 10 ∷ [], [], record { split = refl; count = refl }, refl)) rests))))))
 
 -- past the list it is 20 after 4 charges: at 1, and at -1, which is unsigned
 pub table_last : (inst : Instance) (s : Store) → Done inst (invoked s (I32 ∷ []) (I32 ∷ []) table_body (value I32 1 ∷ [])) s (value I32 20 ∷ []) 4
 unfolding unsigned
 table_last inst s = done s s (I32 ∷ []) (I32 ∷ []) table_body (value I32 1 ∷ []) (value I32 20 ∷ []) 4
     (steps 1 3 (refl, refl) (steps 1 2 (refl, refl) (steps 1 1 (refl, (_, refl, refl))
-      (steps 1 0 (refl, (1, _, refl, (_ ∷ [], _, _, refl, refl, [], [], record { split = refl; count = refl }, refl)))
-      (steps 0 0 (refl, refl) (steps 0 0 (refl, inl (_, _, refl, refl)) (steps 0 0 (refl, inr (refl, refl, refl)) rests)))))))
+    (steps 1 0 (refl, (1, _, refl, (_ ∷ [], _, _, refl, refl, [], [], record { split = refl; count = refl }, refl)))
+    (steps 0 0 (refl, refl) (steps 0 0 (refl, inl (_, _, refl, refl)) (steps 0 0 (refl, inr (refl, refl, refl)) rests)))))))
 
 pub table_beyond : (inst : Instance) (s : Store) → Done inst (invoked s (I32 ∷ []) (I32 ∷ []) table_body (value I32 4294967295 ∷ [])) s (value I32 20 ∷ []) 4
 unfolding unsigned
 table_beyond inst s = done s s (I32 ∷ []) (I32 ∷ []) table_body (value I32 4294967295 ∷ []) (value I32 20 ∷ []) 4
     (steps 1 3 (refl, refl) (steps 1 2 (refl, refl) (steps 1 1 (refl, (_, refl, refl))
-      (steps 1 0 (refl, (4294967295, _, refl, (_ ∷ [], _, _, refl, refl, [], [], record { split = refl; count = refl }, refl)))
-      (steps 0 0 (refl, refl) (steps 0 0 (refl, inl (_, _, refl, refl)) (steps 0 0 (refl, inr (refl, refl, refl)) rests)))))))
+    (steps 1 0 (refl, (4294967295, _, refl, (_ ∷ [], _, _, refl, refl, [], [], record { split = refl; count = refl }, refl)))
+    (steps 0 0 (refl, refl) (steps 0 0 (refl, inl (_, _, refl, refl)) (steps 0 0 (refl, inr (refl, refl, refl)) rests)))))))
 
 -- ---- numbers
 
@@ -98,7 +98,7 @@ pub remainder_is_zero : (inst : Instance) (s : Store) → Done inst (invoked s [
 unfolding unsigned numbers.binary irem_s quotient signed
 remainder_is_zero inst s = done s s [] (I32 ∷ []) (least_by_minus_one (plain (binary I32 RemS) nothing)) [] (value I32 0 ∷ []) 1
     (steps 0 1 (refl, refl) (steps 0 1 (refl, refl) (steps 1 0 (refl, (2147483648, 4294967295, [], refl, inl (0, refl, refl)))
-      (steps 0 0 (refl, inl (_, _, refl, refl)) (steps 0 0 (refl, inr (refl, refl, refl)) rests)))))
+    (steps 0 0 (refl, inl (_, _, refl, refl)) (steps 0 0 (refl, inr (refl, refl, refl)) rests)))))
 
 -- and by 0 it is another trap
 pub by_zero_traps : (inst : Instance) (s : Store) → Trapped inst (invoked s [] (I32 ∷ []) (plain (i32_const (negsuc 2147483647)) (plain (i32_const (pos 0)) (plain (binary I32 DivS) nothing))) []) s DivideByZero 1
@@ -116,12 +116,12 @@ endless = loop None (plain (br 0) nothing) nothing
 abbrev around_loop : Store → Bool → Focused
 around_loop s false = begun s [] [] endless []
 around_loop s true = running s (record {
-    operands = [];
-    code = plain (br 0) nothing;
-    labels = record { carries = 0; next = endless; beneath = []; after_end = nothing } ∷ record { carries = 0; next = nothing; beneath = []; after_end = nothing } ∷ [];
-    locals = [];
-    results = 0;
-  }) []
+  operands = [];
+  code = plain (br 0) nothing;
+  labels = record { carries = 0; next = endless; beneath = []; after_end = nothing } ∷ record { carries = 0; next = nothing; beneath = []; after_end = nothing } ∷ [];
+  locals = [];
+  results = 0;
+}) []
 
 -- there is a charged step next, and none that is free
 abbrev Waits : Instance → Focused → Type 0
@@ -168,14 +168,25 @@ last_word inst s zeros =
     let word = zeros_at s.bytes 65536 65532 4 zeros in
     let size : length s.bytes ≡ 65536 = ap length zeros ∙ length-replicate {A = ℕ} 65536 0 in
     done s s (I32 ∷ []) (I32 ∷ []) (load_there 0) (value I32 65532 ∷ []) (value I32 0 ∷ []) 2
-      (steps 1 1 (refl, (_, refl, refl)) (steps 1 0 (refl, (65532, [], refl, inl (omega arith, ap (λ n. running s (record {
-        operands = value I32 n ∷ [];
-        code = nothing;
-        labels = record { carries = 1; next = nothing; beneath = []; after_end = nothing } ∷ [];
-        locals = value I32 65532 ∷ [];
-        results = 1;
-      }) []) (sym word))))
-      (steps 0 0 (refl, inl (_, _, refl, refl)) (steps 0 0 (refl, inr (refl, refl, refl)) rests))))
+    (steps 1 1 (refl, (_, refl, refl)) (steps 1 0 (
+      refl,
+      (
+        65532,
+        [],
+        refl,
+        inl (
+          omega arith,
+          ap (λ n. running s (record {
+            operands = value I32 n ∷ [];
+            code = nothing;
+            labels = record { carries = 1; next = nothing; beneath = []; after_end = nothing } ∷ [];
+            locals = value I32 65532 ∷ [];
+            results = 1;
+          }) []) (sym word),
+        ),
+      ),
+    )
+    (steps 0 0 (refl, inl (_, _, refl, refl)) (steps 0 0 (refl, inr (refl, refl, refl)) rests))))
 
 -- and one byte further on is a trap
 pub beyond_word : (inst : Instance) (s : Store) → length s.bytes ≡ 65536 → Trapped inst (invoked s (I32 ∷ []) (I32 ∷ []) (load_there 0) (value I32 65533 ∷ [])) s OutOfBounds 2

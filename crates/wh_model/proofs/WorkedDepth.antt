@@ -51,9 +51,9 @@ counts {inst = inst} {z = z} s ws n m room e r =
     let sum : 0 + (0 + (1 + (0 + (1 + (1 + n))))) ≡ m = omega (arith, e) in
     let word = number (bytes_at s.bytes 0 4) in
     subst (λ w. FocusedLeads inst (running s (activation counting counting_body []) ws) w z) sum
-      (steps 0 _ (refl, refl) (steps 0 _ (refl, refl) (steps 1 _ (refl, (0, _, refl, inl (omega (arith, room), refl))) (steps 0 _ (refl, refl)
-      (steps 1 _ (refl, (word, 1, _, refl, inl (iadd 32 word 1, refl, refl)))
-      (steps 1 n (refl, (0, iadd 32 word 1, [], refl, inl (omega (arith, room), refl))) r))))))
+    (steps 0 _ (refl, refl) (steps 0 _ (refl, refl) (steps 1 _ (refl, (0, _, refl, inl (omega (arith, room), refl))) (steps 0 _ (refl, refl)
+    (steps 1 _ (refl, (word, 1, _, refl, inl (iadd 32 word 1, refl, refl)))
+    (steps 1 n (refl, (0, iadd 32 word 1, [], refl, inl (omega (arith, room), refl))) r))))))
 
 longer : (bs : List ℕ) (n : ℕ) → 4 ≤ length bs → 4 ≤ length (written bs 0 (bytes_of 4 n))
 longer bs n room = omega arith
@@ -64,11 +64,11 @@ deep : (inst : Instance) → slice_get inst.funcs 0 ≡ Some (own counting count
     → length ws + suc left ≡ 128 → number (bytes_at s.bytes 0 4) ≡ k → k + suc left < 4294967296 → 4 ≤ length s.bytes
     → (s2 : Store) × FocusedLeads inst (running s (activation counting counting_body []) ws) (suc left * 4) (stopped s2 CallDepth) × (number (bytes_at s2.bytes 0 4) ≡ k + suc left) × (4 ≤ length s2.bytes)
 deep inst at zero k s ws depth word small room = (
-    counted s,
-    counts s ws 1 4 room refl (steps 1 0 (refl, (_, at, ([], [], record { split = refl; count = refl }, inr (omega (arith, depth), refl)))) rests),
-    read_again s.bytes _ (omega (arith, small, one_more _ k word (omega (arith, small)))) ∙ one_more _ k word (omega (arith, small)),
-    longer s.bytes (iadd 32 (number (bytes_at s.bytes 0 4)) 1) room,
-  )
+  counted s,
+  counts s ws 1 4 room refl (steps 1 0 (refl, (_, at, ([], [], record { split = refl; count = refl }, inr (omega (arith, depth), refl)))) rests),
+  read_again s.bytes _ (omega (arith, small, one_more _ k word (omega (arith, small)))) ∙ one_more _ k word (omega (arith, small)),
+  longer s.bytes (iadd 32 (number (bytes_at s.bytes 0 4)) 1) room,
+)
 deep inst at (suc left) k s ws depth word small room =
     let sum = one_more (number (bytes_at s.bytes 0 4)) k word (omega (arith, small)) in
     let next = read_again s.bytes (iadd 32 (number (bytes_at s.bytes 0 4)) 1) (omega (arith, small, sum)) ∙ sum in
@@ -85,15 +85,28 @@ load_count = plain (i32_const (pos 0)) (plain (load I32Load 2 0) nothing)
 
 loads : (inst : Instance) (s : Store) (n : ℕ) → number (bytes_at s.bytes 0 4) ≡ n → 4 ≤ length s.bytes → Done inst (invoked s [] (I32 ∷ []) load_count []) s (value I32 n ∷ []) 1
 unfolding unsigned
-loads inst s n word room = after_agrees.0 inst (running s (activation (record { params = []; results = I32 ∷ [] }) (record { locals = []; code = load_count }) []) []) (finished s (value I32 n ∷ [])) 1
-    (steps 0 1 (refl, refl) (steps 1 0 (refl, (0, [], refl, inl (omega (arith, room), ap (λ m. running s (record {
-      operands = value I32 m ∷ [];
-      code = nothing;
-      labels = record { carries = 1; next = nothing; beneath = []; after_end = nothing } ∷ [];
-      locals = [];
-      results = 1;
-    }) []) (sym word))))
-    (steps 0 0 (refl, inl (_, _, refl, refl)) (steps 0 0 (refl, inr (refl, refl, refl)) rests))), λ c x. x)
+loads inst s n word room = after_agrees.0 inst (running s (activation (record { params = []; results = I32 ∷ [] }) (record { locals = []; code = load_count }) []) []) (finished s (value I32 n ∷ [])) 1 (
+  steps 0 1 (refl, refl) (steps 1 0 (
+    refl,
+    (
+      0,
+      [],
+      refl,
+      inl (
+        omega (arith, room),
+        ap (λ m. running s (record {
+          operands = value I32 m ∷ [];
+          code = nothing;
+          labels = record { carries = 1; next = nothing; beneath = []; after_end = nothing } ∷ [];
+          locals = [];
+          results = 1;
+        }) []) (sym word),
+      ),
+    ),
+  )
+      (steps 0 0 (refl, inl (_, _, refl, refl)) (steps 0 0 (refl, inr (refl, refl, refl)) rests))),
+  λ c x. x,
+)
 
 -- the call at depth 128 traps, after 512 charges; and what a load then finds is 128, the calls that have counted
 pub calls_to_the_depth : (inst : Instance) → slice_get inst.funcs 0 ≡ Some (own counting counting_body) → (s : Store) → 4 ≤ length s.bytes → number (bytes_at s.bytes 0 4) ≡ 0

@@ -141,9 +141,9 @@ pub data IsInitial (m : Module) (p : Parameters) : Beginning → Type 0 where
       → first_size m.memories ≤ p.page_limit → Prepares m p inst globals elements segments
       → Within (first_size m.tables) elements → Within (first_size m.memories * 65536) segments
       → IsInitial m p (begins inst (record {
-          bytes = replicate (first_size m.memories * 65536) 0;
-          globals = globals;
-          table = filled (replicate (first_size m.tables) None) elements;
-          inputs = p.inputs;
-          output = [];
-        }) (fragments segments))
+        bytes = replicate (first_size m.memories * 65536) 0;
+        globals = globals;
+        table = filled (replicate (first_size m.tables) None) elements;
+        inputs = p.inputs;
+        output = [];
+      }) (fragments segments))

@@ -1,9 +1,9 @@
 -- What an instance comes to by its journal: the calls in order, each with what it was given and how far it got.
-use Rattle.std.specs.Prelude.{◌≡◌, ℕ, ◌<◌, List, [], ◌∷◌, length, take, drop, reverse, slice_get, Option, Some, None}
+use Rattle.std.specs.Prelude.{◌≡◌, ℕ, ◌<◌, List, [], ◌∷◌, length, take, drop, reverse, map, slice_get, Option, Some, None}
 use Rattle.std.specs.List.{AllByRecursion}
 use Rattle.wh_model.specs.declared.Trap.{Trap}
 use Rattle.wh_model.specs.Syntax.{nothing, FuncType, Body, Module}
-use Rattle.wh_model.specs.Store.{Value, own, Instance, Store, written}
+use Rattle.wh_model.specs.Store.{Value, type_of, own, Instance, Store, written}
 use Rattle.wh_model.specs.Configuration.{code, called, Config, config, trapped}
 use Rattle.wh_model.specs.Reduction.{Reduces, After}
 use Rattle.wh_model.specs.Instance.{Parameters, Piece, begins, IsInitial}
@@ -37,7 +37,7 @@ with_pieces s (p ∷ ps) = with_pieces (record s { bytes = written s.bytes p.at 
 -- the call at its invocation, over this store (4.5.5)
 abbrev pub Invocation : Instance → Store → Call → Config → Type 0
 Invocation inst s call c = (x : ℕ) × (type : FuncType) × (body : Body) × (call.func ≡ Some x) × (slice_get inst.funcs x ≡ Some (own type body))
-    × (length call.args ≡ length type.params) × (c ≡ config s [] (called type body (reverse call.args) [] nothing))
+    × (map type_of call.args ≡ type.params) × (c ≡ config s [] (called type body (reverse call.args) [] nothing))
 
 abbrev pub store_of : Config → Store
 store_of (config s f t) = s

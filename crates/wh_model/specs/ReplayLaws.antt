@@ -1,10 +1,10 @@
 -- What holds of instantiation and of journals.
-use Rattle.std.specs.Prelude.{◌≡◌, List, [], ◌∷◌, ◌++◌}
+use Rattle.std.specs.Prelude.{◌≡◌, ◌+◌, ◌%◌, ◌<◌, ◌≤◌, length, List, [], ◌∷◌, ◌++◌}
 use Rattle.std.specs.List.{AllByRecursion}
 use Rattle.wh_model.specs.Syntax.{Module}
 use Rattle.wh_model.specs.Store.{Instance, Store}
-use Rattle.wh_model.specs.Instance.{Parameters, Piece, Beginning, IsInitial}
-use Rattle.wh_model.specs.Replay.{pending, Call, Ends, Standing, idle, Replays}
+use Rattle.wh_model.specs.Instance.{Parameters, Piece, fragments, Within, Beginning, IsInitial}
+use Rattle.wh_model.specs.Replay.{pending, Call, with_pieces, Ends, Standing, idle, Replays}
 
 -- a module with these parameters begins in one way at most
 abbrev pub OneBeginning : Type 0
@@ -25,3 +25,14 @@ HistorySplits = (inst : Instance) (s : Store) (ps : List Piece) (first : Call) (
     → ¬ (first.outcome ≡ pending) → AllByRecursion (λ call. ¬ (call.outcome ≡ pending)) history
     → Replays inst s ps (first ∷ history ++ calls) z
     → (s2 : Store) × Replays inst s ps (first ∷ history) (idle s2) × Replays inst s2 [] calls z
+
+-- a fragment has bytes, all of one page of 4096
+abbrev pub InOnePage : Piece → Type 0
+InOnePage p = (0 < length p.items) × (p.at % 4096 + length p.items ≤ 4096)
+
+abbrev pub FragmentsInPages : Type 0
+FragmentsInPages = (ps : List Piece) → AllByRecursion InOnePage (fragments ps)
+
+-- written one after the other, the fragments are the segments
+abbrev pub FragmentsWrite : Type 0
+FragmentsWrite = (s : Store) (ps : List Piece) → Within (length s.bytes) ps → with_pieces s (fragments ps) ≡ with_pieces s ps

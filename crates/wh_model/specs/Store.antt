@@ -16,6 +16,9 @@ use Rattle.wh_model.specs.Numbers.{extend_s, extend_u}
 pub data Value : Type 0 where
   value : (t : ValType) (n : ℕ) → Value
 
+abbrev pub type_of : Value → ValType
+type_of (value t n) = t
+
 abbrev pub zero_of : ValType → Value
 zero_of t = value t 0
 

@@ -1,0 +1,118 @@
+-- Fragments lie in one page each, and together they are the segments.
+use Rattle.std.proofs.Common.{◌≡◌, ℕ, zero, suc, ◌+◌, ◌%◌, ◌==◌, ◌<◌, ◌≤◌, Bool, true, false, List, [], ◌∷◌, ◌++◌, length, refl, sym, ap, subst, arith, ◌∙◌, if◌then◌else◌, take-append-drop, length-append, length-take, length-drop}
+use Rattle.std.specs.List.{AllByRecursion}
+use Rattle.wh_model.specs.Store.{Store, written}
+use Rattle.wh_model.specs.Instance.{Piece, onto_piece, cut_up, fragments, Within}
+use Rattle.wh_model.specs.Replay.{with_pieces}
+use Rattle.wh_model.specs.ReplayLaws.{InOnePage, FragmentsInPages, FragmentsWrite}
+
+-- ---- writing
+
+pub length-written : (bs given : List ℕ) (at : ℕ) → at + length given ≤ length bs → length (written bs at given) ≡ length bs
+length-written bs given at h = simp (length-append, length-take, length-drop) (omega arith)
+
+written_later : (x : ℕ) (bs given : List ℕ) (at : ℕ) → written (x ∷ bs) (suc at) given ≡ x ∷ written bs at given
+written_later x bs given at = let e : suc at + length given ≡ suc (at + length given) = omega arith in rw e refl
+
+write_nothing : (bs : List ℕ) (at : ℕ) → written bs at [] ≡ bs
+write_nothing bs at = let e : at + 0 ≡ at = omega arith in rw e (take-append-drop at bs)
+
+-- a byte, and then those behind it
+write_on : (bs : List ℕ) (at b : ℕ) (items : List ℕ) → at + suc (length items) ≤ length bs → written (written bs at (b ∷ [])) (at + 1) items ≡ written bs at (b ∷ items)
+write_on [] at b items h = absurd (omega arith)
+write_on (x ∷ bs) zero b items h =
+    let e : 0 + length items ≡ length items = omega arith in
+    let f : 0 + suc (length items) ≡ suc (length items) = omega arith in
+    written_later b bs items 0 ∙ rw (e, f) refl
+write_on (x ∷ bs) (suc at) b items h =
+    let e : suc at + 1 ≡ suc (at + 1) = omega arith in
+    ap (λ w. written w (suc at + 1) items) (written_later x bs (b ∷ []) at) ∙ rw e (written_later x (written bs at (b ∷ [])) items (at + 1))
+    ∙ ap (λ w. x ∷ w) (write_on bs at b items (omega arith)) ∙ sym (written_later x bs (b ∷ items) at)
+
+-- ---- pieces
+
+with_append : (s : Store) (ps qs : List Piece) → with_pieces s (ps ++ qs) ≡ with_pieces (with_pieces s ps) qs
+with_append s [] qs = refl
+with_append s (p ∷ ps) qs = with_append (record s { bytes = written s.bytes p.at p.items }) ps qs
+
+-- the pieces begin at that place, with not more than so many bytes
+abbrev Begins : ℕ → ℕ → List Piece → Type 0
+Begins at most [] = Unit {0}
+Begins at most (p ∷ ps) = (p.at ≡ at) × (length p.items ≤ most)
+
+abbrev longer_piece : ℕ → ℕ → Piece → Piece
+longer_piece at b p = record { at = at; items = b ∷ p.items }
+
+abbrev either : Bool → ℕ → ℕ → Piece → List Piece → List Piece
+either c at b p ps = if c then record { at = at; items = b ∷ [] } ∷ p ∷ ps else longer_piece at b p ∷ ps
+
+onto_begins : (at b most : ℕ) (ps : List Piece) → Begins (at + 1) most ps → Begins at (suc most) (onto_piece at b ps)
+onto_begins at b most [] h = (refl, omega arith)
+onto_begins at b most (p ∷ ps) h = by_case (p.at % 4096 == 0)
+  where
+    by_case : (c : Bool) → Begins at (suc most) (either c at b p ps)
+    by_case true = (refl, omega arith)
+    by_case false = (refl, omega (arith, h.1))
+
+cut_begins : (at : ℕ) (items : List ℕ) → Begins at (length items) (cut_up at items)
+cut_begins at [] = tt
+cut_begins at (b ∷ bs) = onto_begins at b (length bs) (cut_up (at + 1) bs) (cut_begins (at + 1) bs)
+
+-- ---- pages
+
+not_zero : (n : ℕ) → (n == 0) ≡ false → 0 < n
+not_zero zero e = absurd (cc e)
+not_zero (suc n) e = omega arith
+
+next_in_page : (at next n : ℕ) → next ≡ at + 1 → 0 < next % 4096 → next % 4096 + n ≤ 4096 → at % 4096 + suc n ≤ 4096
+next_in_page at next n e some h = omega (arith, e, some, h)
+
+onto_in_page : (at b most : ℕ) (ps : List Piece) → Begins (at + 1) most ps → AllByRecursion InOnePage ps → AllByRecursion InOnePage (onto_piece at b ps)
+onto_in_page at b most [] h w = ((omega arith, omega arith), tt)
+onto_in_page at b most (p ∷ ps) h w = by_case (p.at % 4096 == 0) refl
+  where
+    by_case : (c : Bool) → (p.at % 4096 == 0) ≡ c → AllByRecursion InOnePage (either c at b p ps)
+    by_case true e = ((omega arith, omega arith), w)
+    by_case false e = let some = not_zero (p.at % 4096) e in ((omega arith, next_in_page at p.at (length p.items) h.0 some w.0.1), w.1)
+
+cut_in_pages : (at : ℕ) (items : List ℕ) → AllByRecursion InOnePage (cut_up at items)
+cut_in_pages at [] = tt
+cut_in_pages at (b ∷ bs) = onto_in_page at b (length bs) (cut_up (at + 1) bs) (cut_begins (at + 1) bs) (cut_in_pages (at + 1) bs)
+
+all_append : (ps qs : List Piece) → AllByRecursion InOnePage ps → AllByRecursion InOnePage qs → AllByRecursion InOnePage (ps ++ qs)
+all_append [] qs x y = y
+all_append (p ∷ ps) qs x y = (x.0, all_append ps qs x.1 y)
+
+pub fragments_in_pages : FragmentsInPages
+fragments_in_pages [] = tt
+fragments_in_pages (p ∷ ps) = all_append (cut_up p.at p.items) (fragments ps) (cut_in_pages p.at p.items) (fragments_in_pages ps)
+
+-- ---- what is written
+
+abbrev over : Store → ℕ → List ℕ → Store
+over s at given = record s { bytes = written s.bytes at given }
+
+onto_writes : (s : Store) (at b most : ℕ) (ps : List Piece) → Begins (at + 1) most ps → at + suc most ≤ length s.bytes → with_pieces s (onto_piece at b ps) ≡ with_pieces (over s at (b ∷ [])) ps
+onto_writes s at b most [] h room = refl
+onto_writes s at b most (p ∷ ps) h room = by_case (p.at % 4096 == 0)
+  where
+    by_case : (c : Bool) → with_pieces s (either c at b p ps) ≡ with_pieces (over s at (b ∷ [])) (p ∷ ps)
+    by_case true = refl
+    by_case false =
+        let e = write_on s.bytes at b p.items (omega (arith, h.1, room)) in
+        ap (λ (w : List ℕ). with_pieces (record s { bytes = w }) ps) (sym e) ∙ ap (λ (n : ℕ). with_pieces (over (over s at (b ∷ [])) n p.items) ps) (sym h.0)
+
+cut_writes : (s : Store) (at : ℕ) (items : List ℕ) → at + length items ≤ length s.bytes → with_pieces s (cut_up at items) ≡ over s at items
+cut_writes s at [] room = ap (λ (w : List ℕ). record s { bytes = w }) (sym (write_nothing s.bytes at))
+cut_writes s at (b ∷ bs) room =
+    let same = length-written s.bytes (b ∷ []) at (omega arith) in
+    onto_writes s at b (length bs) (cut_up (at + 1) bs) (cut_begins (at + 1) bs) room
+    ∙ cut_writes (over s at (b ∷ [])) (at + 1) bs (omega (arith, same))
+    ∙ ap (λ (w : List ℕ). record s { bytes = w }) (write_on s.bytes at b bs room)
+
+pub fragments_write : FragmentsWrite
+fragments_write s [] h = refl
+fragments_write s (p ∷ ps) h =
+    let same = length-written s.bytes p.items p.at h.0 in
+    with_append s (cut_up p.at p.items) (fragments ps) ∙ ap (λ (w : Store). with_pieces w (fragments ps)) (cut_writes s p.at p.items h.0)
+    ∙ fragments_write (over s p.at p.items) ps (subst (λ n. Within n ps) (sym same) h.1)
