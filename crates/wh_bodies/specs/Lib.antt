@@ -1,0 +1,6 @@
+pub mod Faults
+pub mod Known
+pub mod Stepping
+pub mod Marks
+pub mod Starting
+pub mod Views
