@@ -1,5 +1,6 @@
 pub mod Faults
 pub mod Known
+pub mod Table
 pub mod Stepping
 pub mod Marks
 pub mod Starting
