@@ -1,0 +1,240 @@
+-- What is known of operands before and after they are taken and given.
+use Rattle.std.proofs.Common.{◌≡◌, ℕ, suc, zero, ◌+◌, ◌-◌, ◌<◌, ◌≤◌, max, List, [], ◌∷◌, ◌++◌, length, take, drop, reverse, Option, Some, None, Result, Ok, Err, Bool, true, false, cond, refl, sym, ap, subst, ◌∙◌, arith, append_assoc, append-nil, length-drop, length-append}
+use Rattle.std.specs.Prelude.{nat_lt}
+use Rattle.std.proofs.lemmas.List.{reverse-append}
+use Rattle.std.proofs.lemmas.Bool.{ltb-true}
+use Rattle.std.proofs.lemmas.Bool.Decides.{nat_tests}
+use Rattle.wh_model.specs.declared.ValType.{ValType}
+use Rattle.wh_model.specs.declared.ValType.TheVariants.{I32, I64}
+use Rattle.wh_bodies.specs.declared.fault.ValidKind.{ValidKind}
+use Rattle.wh_bodies.specs.declared.fault.ValidKind.TheVariants.{BadType, Arity, Height}
+use Rattle.wh_bodies.specs.Faults.{follow}
+use Rattle.wh_bodies.specs.Known.{Known, above, beneath, Admits, Agree, Fit, same_type, topmost, take_any, is_wanted, take_one, give_one, fall, take_all, give_all}
+use Rattle.wh_bodies.proofs.Follow.{ok_is, follow_ok, cond_ok, by_test}
+
+-- ---- the operands above the floor
+
+take_front : {A : Type 0} (n m : ℕ) (x : A) (xs : List A) → n ≡ suc m → take n (x ∷ xs) ≡ x ∷ take m xs
+take_front n m x xs e = rw e refl
+
+drop_front : {A : Type 0} (n m : ℕ) (x : A) (xs : List A) → n ≡ suc m → drop n (x ∷ xs) ≡ drop m xs
+drop_front n m x xs e = rw e refl
+
+take_none : {A : Type 0} (n : ℕ) (xs : List A) → n ≡ 0 → take n xs ≡ []
+take_none n xs e = rw e refl
+
+drop_none : {A : Type 0} (n : ℕ) (xs : List A) → n ≡ 0 → drop n xs ≡ xs
+drop_none n xs e = rw e refl
+
+pub above-front : (floor : ℕ) (o : Option ValType) (os : List (Option ValType)) → floor ≤ length os → above floor (o ∷ os) ≡ o ∷ above floor os
+above-front floor o os h = take_front (length (o ∷ os) - floor) (length os - floor) o os (omega arith)
+
+pub beneath-front : (floor : ℕ) (o : Option ValType) (os : List (Option ValType)) → floor ≤ length os → beneath floor (o ∷ os) ≡ beneath floor os
+beneath-front floor o os h = drop_front (length (o ∷ os) - floor) (length os - floor) o os (omega arith)
+
+pub above_none : (floor : ℕ) (os : List (Option ValType)) → length os ≤ floor → above floor os ≡ []
+above_none floor os h = take_none (length os - floor) os (omega arith)
+
+pub beneath_all : (floor : ℕ) (os : List (Option ValType)) → length os ≤ floor → beneath floor os ≡ os
+beneath_all floor os h = drop_none (length os - floor) os (omega arith)
+
+-- ---- what stays the same in the innermost sequence
+
+pub record Stays (k n : Known) : Type 0 where
+  pub floor : n.floor ≡ k.floor
+  pub within : n.floor ≤ length n.types
+  pub beneath : beneath n.floor n.types ≡ beneath k.floor k.types
+  pub small : length k.types ≤ 256 → length n.types ≤ 256
+
+pub stay : (k : Known) → k.floor ≤ length k.types → Stays k k
+stay k w = record { floor = refl; within = w; beneath = refl; small = λ h. h }
+
+pub stays_on : (a b d : Known) → Stays a b → Stays b d → Stays a d
+stays_on a b d p q = record { floor = q.floor ∙ p.floor; within = q.within; beneath = q.beneath ∙ p.beneath; small = λ h. q.small (p.small h) }
+
+-- ---- one operand
+
+-- one operand was taken, of which this was known
+pub record Popped (k : Known) (o : Option ValType) (n : Known) : Type 0 where
+  pub stays : Stays k n
+  pub height : length n.types ≡ max k.floor (length k.types - 1)
+  pub back : (after : List ValType) → Fit n after → (t : ValType) → Admits o t → Fit k (t ∷ after)
+
+pop_known : (o : Option ValType) (os : List (Option ValType)) (floor : ℕ) (dead : Bool) → floor ≤ length os → Popped (record { types = o ∷ os; floor = floor; dead = dead }) o (record { types = os; floor = floor; dead = dead })
+pop_known o os floor dead w = record {
+  stays = record { floor = refl; within = w; beneath = sym (beneath-front floor o os w); small = λ h. omega arith };
+  height = omega arith;
+  back = λ after fit t admits. subst (λ xs. Agree xs dead (t ∷ after)) (sym (above-front floor o os w)) (admits, fit);
+}
+
+pop_dead : (k : Known) → k.floor ≤ length k.types → length k.types ≤ k.floor → k.dead ≡ true → Popped k None k
+pop_dead k w h dead = record {
+  stays = stay k w;
+  height = omega arith;
+  back = λ after fit t admits. subst (λ d. Agree (above k.floor k.types) d (t ∷ after)) (sym dead) (subst (λ xs. Agree xs true (t ∷ after)) (sym (above_none k.floor k.types h)) tt);
+}
+
+pop_top : (types : List (Option ValType)) (floor : ℕ) (dead : Bool) (o : Option ValType) (n : Known) → floor < length types → topmost (record { types = types; floor = floor; dead = dead }) types ≡ Ok (o, n) → Popped (record { types = types; floor = floor; dead = dead }) o n
+pop_top [] floor dead o n w e = cc
+pop_top (x ∷ os) floor dead o n w e =
+    let k : Known = record { types = x ∷ os; floor = floor; dead = dead } in
+    let m : Known = record { types = os; floor = floor; dead = dead } in
+    let same = ok_is {E = ValidKind} (x, m) (o, n) e in
+    let first : x ≡ o = ap (λ (r : Option ValType × Known). r.0) same in
+    let second : m ≡ n = ap (λ (r : Option ValType × Known). r.1) same in
+    subst (λ u. Popped k o u) second (subst (λ u. Popped k u m) first (pop_known x os floor dead (omega arith)))
+
+pop_floor : (k : Known) (o : Option ValType) (n : Known) → k.floor ≤ length k.types → length k.types ≤ k.floor → cond {A = Result (Option ValType × Known) ValidKind} k.dead (Ok (None, k)) (Err Arity) ≡ Ok (o, n) → Popped k o n
+pop_floor k o n w h e =
+    let passed = cond_ok k.dead (Ok (None, k)) Arity (o, n) e in
+    let same = ok_is {E = ValidKind} (None, k) (o, n) passed.1 in
+    let first : None ≡ o = ap (λ (r : Option ValType × Known). r.0) same in
+    let second : k ≡ n = ap (λ (r : Option ValType × Known). r.1) same in
+    subst (λ u. Popped k o u) second (subst (λ u. Popped k u k) first (pop_dead k w h passed.0))
+
+pub popped : (k : Known) (o : Option ValType) (n : Known) → k.floor ≤ length k.types → take_any k ≡ Ok (o, n) → Popped k o n
+popped k o n w e = by_test (nat_lt k.floor (length k.types))
+    (λ h. pop_top k.types k.floor k.dead o n (ltb-true k.floor (length k.types) h) (rw h at e))
+    (λ h. pop_floor k o n w (grind (arith, nat_tests, h)) (rw h at e))
+
+-- ---- operands of known types
+
+-- an instruction takes and gives operands of these types, the topmost first
+pub record Passes (k n : Known) (ins outs : List ValType) : Type 0 where
+  pub stays : Stays k n
+  pub height : length n.types ≡ max k.floor (length k.types - length ins) + length outs
+  pub back : (after : List ValType) → Fit n after → (rest : List ValType) × (after ≡ outs ++ rest) × Fit k (ins ++ rest)
+
+same_types : (a b : ValType) → same_type a b ≡ true → a ≡ b
+same_types I32 I32 e = refl
+same_types I64 I64 e = refl
+same_types I32 I64 e = cc
+same_types I64 I32 e = cc
+
+admits_wanted : (o : Option ValType) (t : ValType) (n m : Known) → is_wanted t o n ≡ Ok m → Admits o t × (n ≡ m)
+admits_wanted None t n m e = (tt, ok_is {E = ValidKind} n m e)
+admits_wanted (Some u) t n m e = let p = cond_ok (same_type u t) (Ok n) BadType m e in (same_types u t p.0, ok_is {E = ValidKind} n m p.1)
+
+pub takes_one : (k n : Known) (t : ValType) → k.floor ≤ length k.types → take_one k t ≡ Ok n → Passes k n (t ∷ []) []
+takes_one k n t w e =
+    let q = follow_ok (take_any k) (λ r. is_wanted t r.0 r.1) n e in
+    let p = popped k q.0.0 q.0.1 w q.1 in
+    let a = admits_wanted q.0.0 t q.0.1 n q.2 in
+    let stays : Stays k n = subst (λ u. Stays k u) a.1 p.stays in
+    let high : length n.types ≡ max k.floor (length k.types - 1) = subst (λ (u : Known). length u.types ≡ max k.floor (length k.types - 1)) a.1 p.height in
+    record {
+      stays = stays;
+      height = omega arith;
+      back = λ after fit. (after, refl, p.back after (subst (λ u. Fit u after) (sym a.1) fit) t a.0);
+    }
+
+-- an operand of which this is known was given
+pub record Pushed (k : Known) (o : Option ValType) (n : Known) : Type 0 where
+  pub stays : Stays k n
+  pub height : length n.types ≡ length k.types + 1
+  pub back : (after : List ValType) → Fit n after → (t : ValType) × (rest : List ValType) × (after ≡ t ∷ rest) × Admits o t × Fit k rest
+
+agrees_front : (o : Option ValType) (os : List (Option ValType)) (dead : Bool) (after : List ValType) → Agree (o ∷ os) dead after → (t : ValType) × (rest : List ValType) × (after ≡ t ∷ rest) × Admits o t × Agree os dead rest
+agrees_front o os dead [] f = absurd f
+agrees_front o os dead (t ∷ rest) f = (t, rest, refl, f.0, f.1)
+
+pub pushed : (k n : Known) (o : Option ValType) → k.floor ≤ length k.types → give_one k o ≡ Ok n → Pushed k o n
+pushed k n o w e =
+    let m : Known = record k { types = o ∷ k.types } in
+    let p = cond_ok (nat_lt (length k.types) 256) (Ok m) Height n e in
+    let room : length k.types < 256 = ltb-true (length k.types) 256 p.0 in
+    let made : Pushed k o m = record {
+      stays = record { floor = refl; within = omega arith; beneath = beneath-front k.floor o k.types w; small = λ h. omega arith };
+      height = omega arith;
+      back = λ after fit. agrees_front o (above k.floor k.types) k.dead after (subst (λ xs. Agree xs k.dead after) (above-front k.floor o k.types w) fit);
+    } in
+    subst (λ u. Pushed k o u) (ok_is {E = ValidKind} m n p.1) made
+
+pub gives_one : (k n : Known) (t : ValType) → k.floor ≤ length k.types → give_one k (Some t) ≡ Ok n → Passes k n [] (t ∷ [])
+gives_one k n t w e =
+    let p = pushed k n (Some t) w e in
+    let high = p.height in
+    record {
+      stays = p.stays;
+      height = omega arith;
+      back = λ after fit. let q = p.back after fit in (q.1, q.2 ∙ ap (λ u. u ∷ q.1) (sym q.3), q.4);
+    }
+
+-- ---- one behind the other
+
+pub take_then : (a b d : Known) (xs ys : List ValType) → Passes a b xs [] → Passes b d ys [] → Passes a d (xs ++ ys) []
+take_then a b d xs ys p q = record {
+  stays = stays_on a b d p.stays q.stays;
+  height = (let h = p.height in let j = q.height in let f = p.stays.floor in let l = length-append xs ys in omega arith);
+  back = λ after fit.
+      let u = q.back after fit in
+      let v = p.back (ys ++ u.0) u.2 in
+      (u.0, u.1, subst (Fit a) (ap (λ w. xs ++ w) (sym v.1) ∙ sym (append_assoc xs ys u.0)) v.2);
+}
+
+pub take_then_give : (a b d : Known) (xs ys : List ValType) → Passes a b xs [] → Passes b d [] ys → Passes a d xs ys
+take_then_give a b d xs ys p q = record {
+  stays = stays_on a b d p.stays q.stays;
+  height = (let h = p.height in let j = q.height in let f = p.stays.floor in let w = p.stays.within in omega arith);
+  back = λ after fit.
+      let u = q.back after fit in
+      let v = p.back u.0 u.2 in
+      (u.0, u.1, subst (λ w. Fit a (xs ++ w)) (sym v.1) v.2);
+}
+
+pub give_then : (a b d : Known) (xs ys : List ValType) → a.floor ≤ length a.types → Passes a b [] xs → Passes b d [] ys → Passes a d [] (ys ++ xs)
+give_then a b d xs ys w p q = record {
+  stays = stays_on a b d p.stays q.stays;
+  height = (let h = p.height in let j = q.height in let f = p.stays.floor in let l = length-append ys xs in let v = p.stays.within in omega arith);
+  back = λ after fit.
+      let u = q.back after fit in
+      let v = p.back u.0 u.2 in
+      (v.0, u.1 ∙ ap (λ r. ys ++ r) v.1 ∙ sym (append_assoc ys xs v.0), v.2);
+}
+
+pub passes_none : (k : Known) → k.floor ≤ length k.types → Passes k k [] []
+passes_none k w = record { stays = stay k w; height = omega arith; back = λ after fit. (after, refl, fit) }
+
+pub takes_all : (k n : Known) (ts : List ValType) → k.floor ≤ length k.types → take_all k ts ≡ Ok n → Passes k n ts []
+takes_all k n [] w e = subst (λ u. Passes k u [] []) (ok_is {E = ValidKind} k n e) (passes_none k w)
+takes_all k n (t ∷ ts) w e =
+    let q = follow_ok (take_one k t) (λ left. take_all left ts) n e in
+    let p = takes_one k q.0 t w q.1 in
+    take_then k q.0 n (t ∷ []) ts p (takes_all q.0 n ts p.stays.within q.2)
+
+pub gives_all : (k n : Known) (ts : List ValType) → k.floor ≤ length k.types → give_all k ts ≡ Ok n → Passes k n [] (reverse ts)
+gives_all k n [] w e = subst (λ u. Passes k u [] []) (ok_is {E = ValidKind} k n e) (passes_none k w)
+gives_all k n (t ∷ ts) w e =
+    let q = follow_ok (give_one k (Some t)) (λ more. give_all more ts) n e in
+    let p = gives_one k q.0 t w q.1 in
+    subst (λ xs. Passes k n [] xs) (sym (reverse-append (t ∷ []) ts)) (give_then k q.0 n (t ∷ []) (reverse ts) w p (gives_all q.0 n ts p.stays.within q.2))
+
+-- ---- what follows isn't reached
+
+pub record Falls (k n : Known) : Type 0 where
+  pub stays : Stays k n
+  pub height : length n.types ≡ k.floor
+  pub back : (after : List ValType) → Fit n after
+
+pub falls : (k : Known) → k.floor ≤ length k.types → Falls k (fall k)
+falls k w =
+    let under = beneath k.floor k.types in
+    let high : length under ≡ k.floor = let l = length-drop (length k.types - k.floor) k.types in omega arith in
+    record {
+      stays = record { floor = refl; within = omega arith; beneath = beneath_all k.floor under (omega arith); small = λ h. omega arith };
+      height = high;
+      back = λ after. subst (λ xs. Agree xs true after) (sym (above_none k.floor under (omega arith))) tt;
+    }
+
+-- something fits whatever is known
+some_type : (o : Option ValType) → (t : ValType) × Admits o t
+some_type None = (I32, tt)
+some_type (Some t) = (t, refl)
+
+some_agree : (os : List (Option ValType)) (dead : Bool) → (ts : List ValType) × Agree os dead ts
+some_agree [] true = ([], tt)
+some_agree [] false = ([], refl)
+some_agree (o ∷ os) dead = let t = some_type o in let r = some_agree os dead in (t.0 ∷ r.0, (t.1, r.1))
+
+pub some_fit : (k : Known) → (ts : List ValType) × Fit k ts
+some_fit k = some_agree (above k.floor k.types) k.dead

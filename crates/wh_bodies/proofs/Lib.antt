@@ -1,0 +1,4 @@
+pub mod Lists
+pub mod MarkSteps
+pub mod Follow
+pub mod Knowing

@@ -1,0 +1,38 @@
+-- Faults of modules that were decoded: their numbers, which are this project's own, and how a check answers.
+use Rattle.std.specs.Prelude.{◌≡◌, ◌≢◌, ℕ, Result, Ok, Err}
+use Rattle.wh_bodies.specs.declared.fault.ValidKind.{ValidKind}
+use Rattle.wh_bodies.specs.declared.fault.ValidKind.TheVariants.{BadType, Index, Align, Arity, Const, DuplicateExport, Start, Limits, Height, ConstImmutable, Memory}
+
+-- a fault of a module that was decoded is named V and this number
+abbrev pub kind_number : ValidKind → ℕ
+kind_number BadType = 1
+kind_number Index = 2
+kind_number Align = 3
+kind_number Arity = 4
+kind_number Const = 5
+kind_number DuplicateExport = 6
+kind_number Start = 7
+kind_number Limits = 8
+kind_number Height = 9
+kind_number ConstImmutable = 10
+kind_number Memory = 11
+
+-- one step, and another one from what it leaves
+abbrev pub follow : {A B E : Type 0} → Result A E → (A → Result B E) → Result B E
+follow (Ok x) next = next x
+follow (Err e) next = Err e
+
+-- A call left `new`, as was to be; or it failed as it had to, unless memory was refused.
+abbrev pub Checks : {A B : Type 0} → Result B ValidKind → A → Result A ValidKind → Type 0
+Checks (Ok y) new wanted = wanted ≡ Ok new
+Checks (Err kind) new wanted = kind ≢ Memory → wanted ≡ Err kind
+
+-- the same of a call that answers something
+abbrev pub Yields : {A B : Type 0} → Result B ValidKind → A → Result (B × A) ValidKind → Type 0
+Yields (Ok y) new wanted = wanted ≡ Ok (y, new)
+Yields (Err kind) new wanted = kind ≢ Memory → wanted ≡ Err kind
+
+-- and of one that leaves two things
+abbrev pub YieldsTwo : {A B D : Type 0} → Result B ValidKind → A → D → Result (B × A × D) ValidKind → Type 0
+YieldsTwo (Ok y) new more wanted = wanted ≡ Ok (y, new, more)
+YieldsTwo (Err kind) new more wanted = kind ≢ Memory → wanted ≡ Err kind

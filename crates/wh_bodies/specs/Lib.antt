@@ -1,0 +1,7 @@
+pub mod Faults
+pub mod Known
+pub mod Table
+pub mod Stepping
+pub mod Marks
+pub mod Starting
+pub mod Views

@@ -1,0 +1,26 @@
+-- Where the check of a body begins, and how it answers.
+use Rattle.std.specs.Prelude.{◌≡◌, ◌≢◌, ℕ, List, [], ◌∷◌, Option, Result, Ok, Err, false}
+use Rattle.wh_model.specs.declared.ValType.{ValType}
+use Rattle.wh_model.specs.declared.Open.TheVariants.{Other}
+use Rattle.wh_bodies.specs.declared.fault.ValidKind.TheVariants.{Memory}
+use Rattle.wh_bodies.specs.declared.fault.BodyFault.{BodyFault}
+use Rattle.wh_bodies.specs.declared.labels.Label.{Label}
+use Rattle.wh_bodies.specs.declared.marks.Mark.{Mark}
+use Rattle.wh_bodies.specs.Known.{Known}
+use Rattle.wh_bodies.specs.Stepping.{State}
+
+-- no operands
+abbrev pub nothing_known : Known
+nothing_known = record { types = []; floor = 0; dead = false }
+
+-- the label of a body of so many instructions
+abbrev pub body_label : Option ValType → ℕ → Label
+body_label of count = record { kind = Other; result = of; carries = of; place = count; height = 0; outer_floor = 0; outer_dead = false }
+
+abbrev pub started : Option ValType → ℕ → List Mark → State
+started of count marks = record { known = nothing_known; labels = body_label of count ∷ []; marks = marks; entries = []; pool = [] }
+
+-- A call left `new`, as was to be; or it failed as it had to, unless memory was refused.
+abbrev pub RunsTo : {A B : Type 0} → Result B BodyFault → A → Result A BodyFault → Type 0
+RunsTo (Ok y) new wanted = wanted ≡ Ok new
+RunsTo (Err fault) new wanted = fault.kind ≢ Memory → wanted ≡ Err fault
