@@ -105,7 +105,7 @@ pub record Passes (k n : Known) (ins outs : List ValType) : Type 0 where
   pub height : length n.types ≡ max k.floor (length k.types - length ins) + length outs
   pub back : (after : List ValType) → Fit n after → (rest : List ValType) × (after ≡ outs ++ rest) × Fit k (ins ++ rest)
 
-same_types : (a b : ValType) → same_type a b ≡ true → a ≡ b
+pub same_types : (a b : ValType) → same_type a b ≡ true → a ≡ b
 same_types I32 I32 e = refl
 same_types I64 I64 e = refl
 same_types I32 I64 e = cc
