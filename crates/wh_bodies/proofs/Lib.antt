@@ -9,3 +9,4 @@ pub mod Constructs
 pub mod Running
 pub mod Parts
 pub mod Sound
+pub mod Bodies

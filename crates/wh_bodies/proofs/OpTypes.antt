@@ -1,5 +1,5 @@
 -- Instructions of a fixed type have it.
-use Rattle.std.proofs.Common.{◌≡◌, ℕ, ◌+◌, ◌≤◌, ◌^◌, List, [], ◌∷◌, ◌++◌, length, reverse, Some, None, Ok, Err, refl, sym, ap, subst, ◌∙◌, arith}
+use Rattle.std.proofs.Common.{◌≡◌, ℕ, ◌≤◌, ◌^◌, List, [], ◌∷◌, length, reverse, Ok, refl, ap, subst, arith}
 use Rattle.std.specs.Prelude.{nat_le, slice_get, unwrap_or, ℤ, ◌<◌}
 use Rattle.std.proofs.lemmas.Bool.{leb-true}
 use Rattle.std.proofs.Math.Nat.{pow-le-pow_right}
@@ -16,12 +16,12 @@ use Rattle.wh_model.specs.declared.CompareOp.{CompareOp}
 use Rattle.wh_model.specs.declared.UnaryOp.{UnaryOp}
 use Rattle.wh_model.specs.declared.BinaryOp.{BinaryOp}
 use Rattle.wh_model.specs.declared.ConvertOp.{ConvertOp}
-use Rattle.wh_model.specs.Syntax.{Op, nop, call, local_get, local_set, local_tee, global_get, global_set, load, store, memory_size, memory_grow, i32_const, i64_const, test, comparison, unary, binary, conversion, FuncType, Limits, GlobalType}
+use Rattle.wh_model.specs.Syntax.{Op, nop, call, local_get, local_set, local_tee, global_get, global_set, load, store, memory_size, memory_grow, i32_const, i64_const, test, comparison, unary, binary, conversion, FuncType}
 use Rattle.wh_model.specs.Typing.{Context, OpType, load_type, store_type, conversion_type}
 use Rattle.wh_model.specs.Heights.{taken, given, no_type}
 use Rattle.wh_bodies.specs.declared.fault.ValidKind.{ValidKind}
 use Rattle.wh_bodies.specs.declared.fault.ValidKind.TheVariants.{Align}
-use Rattle.wh_bodies.specs.Stepping.{fixed, found, typed, load_exponent, store_exponent, aligned, written}
+use Rattle.wh_bodies.specs.Stepping.{fixed, typed, load_exponent, store_exponent, aligned, written}
 use Rattle.wh_bodies.proofs.Follow.{ok_is, found_ok, cond_ok}
 
 -- the instruction has this type, and takes and gives as many operands

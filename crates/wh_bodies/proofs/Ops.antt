@@ -1,10 +1,10 @@
 -- An instruction without a body that passes has a type that explains what is known behind it.
-use Rattle.std.proofs.Common.{◌≡◌, ℕ, zero, suc, ◌+◌, ◌-◌, ◌≤◌, max, List, [], ◌∷◌, ◌++◌, length, reverse, map, Option, Some, None, Result, Ok, Err, Bool, true, false, cond, refl, sym, ap, subst, ◌∙◌, arith, append_assoc, append-nil}
-use Rattle.std.specs.Prelude.{slice_get, unwrap_or, is_some}
+use Rattle.std.proofs.Common.{◌≡◌, ℕ, zero, suc, ◌+◌, ◌-◌, ◌≤◌, max, List, [], ◌∷◌, ◌++◌, length, reverse, map, Option, Some, None, Result, Ok, Err, true, cond, refl, sym, ap, subst, ◌∙◌, arith, append_assoc, append-nil}
+use Rattle.std.specs.Prelude.{slice_get, unwrap_or}
 use Rattle.std.specs.List.{AllByRecursion}
-use Rattle.std.proofs.lemmas.List.{length-reverse, map-append, reverse-append}
+use Rattle.std.proofs.lemmas.List.{length-reverse, map-append}
 use Rattle.wh_model.specs.declared.ValType.{ValType}
-use Rattle.wh_model.specs.declared.ValType.TheVariants.{I32, I64}
+use Rattle.wh_model.specs.declared.ValType.TheVariants.{I32}
 use Rattle.wh_model.specs.Syntax.{Op, unreachable, nop, br, br_if, br_table, return, call, call_indirect, drop_operand, select, local_get, local_set, local_tee, global_get, global_set, load, store, memory_size, memory_grow, i32_const, i64_const, test, comparison, unary, binary, conversion, single, FuncType}
 use Rattle.wh_model.specs.Typing.{Context, OpType, operand}
 use Rattle.wh_model.specs.Heights.{taken, given, lowered, height_behind, operands, carried, no_type}
@@ -18,7 +18,7 @@ use Rattle.wh_bodies.specs.Table.{Target, nowhere, leads_to, entry_of, run_of, b
 use Rattle.wh_bodies.specs.Opened.{target_of, targets_of, around}
 use Rattle.wh_bodies.specs.Stepping.{found, fixed, straight, numeric, entry_to, branch, branch_if, same_operand, add_run, branch_table, plain_step}
 use Rattle.wh_bodies.proofs.Follow.{ok_is, follow_ok, found_ok, cond_ok}
-use Rattle.wh_bodies.proofs.Knowing.{Stays, stays_on, Passes, Pushed, pushed, popped, takes_one, takes_all, gives_all, take_then, take_then_give, Falls, falls, some_fit, same_types}
+use Rattle.wh_bodies.proofs.Knowing.{Stays, stays_on, Passes, pushed, popped, takes_one, takes_all, gives_all, take_then, take_then_give, falls, some_fit, same_types}
 use Rattle.wh_bodies.proofs.OpTypes.{Typed, call_typed, get_typed, set_typed, tee_typed, global_typed, written_typed, load_typed, store_typed, size_typed, grow_typed, nop_typed, i32_typed, i64_typed, test_typed, comparison_typed, unary_typed, binary_typed, conversion_typed}
 
 -- Whatever fits behind the instruction comes of something that fitted before it.
