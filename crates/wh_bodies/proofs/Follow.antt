@@ -1,6 +1,5 @@
 -- What a chain of steps that passes went through.
-use Rattle.std.proofs.Common.{◌≡◌, ℕ, ◌≤◌, ◌<◌, refl, Result, Ok, Err, Option, Some, None, Bool, true, false, cond}
-use Rattle.std.specs.Prelude.{nat_lt, nat_le, nat_eq}
+use Rattle.std.proofs.Common.{◌≡◌, refl, Result, Ok, Err, Option, Some, None, Bool, true, false, cond, IsTrue, rules}
 use Rattle.wh_bodies.specs.declared.fault.ValidKind.{ValidKind}
 use Rattle.wh_bodies.specs.Faults.{follow}
 use Rattle.wh_bodies.specs.Stepping.{found}
@@ -23,3 +22,6 @@ cond_ok false x k r e = cc
 pub by_test : {P : Type 0} (b : Bool) → (b ≡ true → P) → (b ≡ false → P) → P
 by_test true f g = f refl
 by_test false f g = g refl
+
+pub true_of : {b : Bool} → b ≡ true → IsTrue b
+true_of e = rw e (search rules)

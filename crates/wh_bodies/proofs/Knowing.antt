@@ -1,5 +1,5 @@
 -- What is known of operands before and after they are taken and given.
-use Rattle.std.proofs.Common.{◌≡◌, ℕ, suc, zero, ◌+◌, ◌-◌, ◌<◌, ◌≤◌, max, List, [], ◌∷◌, ◌++◌, length, take, drop, reverse, Option, Some, None, Result, Ok, Err, Bool, true, false, cond, refl, sym, ap, subst, ◌∙◌, arith, append_assoc, append-nil, length-drop, length-append}
+use Rattle.std.proofs.Common.{◌≡◌, ℕ, suc, ◌+◌, ◌-◌, ◌<◌, ◌≤◌, max, List, [], ◌∷◌, ◌++◌, length, take, drop, reverse, Option, Some, None, Result, Ok, Err, Bool, true, false, cond, refl, sym, ap, subst, ◌∙◌, arith, append_assoc, length-drop, length-append}
 use Rattle.std.specs.Prelude.{nat_lt}
 use Rattle.std.proofs.lemmas.List.{reverse-append}
 use Rattle.std.proofs.lemmas.Bool.{ltb-true}
@@ -8,7 +8,6 @@ use Rattle.wh_model.specs.declared.ValType.{ValType}
 use Rattle.wh_model.specs.declared.ValType.TheVariants.{I32, I64}
 use Rattle.wh_bodies.specs.declared.fault.ValidKind.{ValidKind}
 use Rattle.wh_bodies.specs.declared.fault.ValidKind.TheVariants.{BadType, Arity, Height}
-use Rattle.wh_bodies.specs.Faults.{follow}
 use Rattle.wh_bodies.specs.Known.{Known, above, beneath, Admits, Agree, Fit, same_type, topmost, take_any, is_wanted, take_one, give_one, fall, take_all, give_all}
 use Rattle.wh_bodies.proofs.Follow.{ok_is, follow_ok, cond_ok, by_test}
 
@@ -105,7 +104,7 @@ pub record Passes (k n : Known) (ins outs : List ValType) : Type 0 where
   pub height : length n.types ≡ max k.floor (length k.types - length ins) + length outs
   pub back : (after : List ValType) → Fit n after → (rest : List ValType) × (after ≡ outs ++ rest) × Fit k (ins ++ rest)
 
-same_types : (a b : ValType) → same_type a b ≡ true → a ≡ b
+pub same_types : (a b : ValType) → same_type a b ≡ true → a ≡ b
 same_types I32 I32 e = refl
 same_types I64 I64 e = refl
 same_types I32 I64 e = cc

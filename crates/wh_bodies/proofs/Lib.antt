@@ -2,3 +2,11 @@ pub mod Lists
 pub mod MarkSteps
 pub mod Follow
 pub mod Knowing
+pub mod OpTypes
+pub mod Ops
+pub mod Places
+pub mod Constructs
+pub mod Running
+pub mod Parts
+pub mod Sound
+pub mod Bodies

@@ -3,5 +3,6 @@ pub mod Known
 pub mod Table
 pub mod Stepping
 pub mod Marks
+pub mod Opened
 pub mod Starting
 pub mod Views

@@ -7,6 +7,8 @@ use Rattle.wh_syntax.specs.View.{view_type, view_limits, view_table, view_global
 use Rattle.wh_bodies.specs.declared.context.Context.{Context}
 use Rattle.wh_bodies.specs.declared.context.Around.{Around}
 use Rattle.wh_bodies.specs.declared.steps.Checker.{Checker}
+use Rattle.wh_bodies.specs.declared.table.SideTable.{SideTable}
+use Rattle.wh_bodies.specs.Table.{Table}
 use Rattle.wh_bodies.specs.Known.{known}
 use Rattle.wh_bodies.specs.Stepping.{State}
 
@@ -33,3 +35,6 @@ view_around a = record (view_context a.context) { locals = a.params.now ++ a.loc
 
 abbrev pub state_of : Checker → State
 state_of c = record { known = known c.operands; labels = reverse c.labels.items; marks = reverse c.marks.items; entries = c.entries.items; pool = c.pool.items }
+
+abbrev pub view_side : SideTable → Table
+view_side t = record { entries = t.entries.items; pool = t.pool.items }

@@ -1,21 +1,29 @@
 //! The check of a whole body.
 
-ghost use Rattle.std.specs.Prelude.{◌≡◌, ◌≢◌, ◌+◌, ◌<◌, ◌≤◌, ◌^◌, ℕ, List, [], ◌∷◌, Option, Ok, Err, length, map, reverse, OnOk, IfOk, IfErr};
+ghost use Rattle.std.specs.Prelude.{◌≡◌, ◌≢◌, ◌+◌, ◌<◌, ◌≤◌, ◌^◌, ℕ, List, [], ◌∷◌, Option, Ok, Err, length, map, reverse, OnOk, IfOk, IfErr, IsTrue, ◌↔◌};
 ghost use Rattle.std.specs.List.{AllByRecursion};
 ghost use Rattle.wh_syntax.specs.Shown.{instr_of, InPool};
 ghost use Rattle.wh_bodies.specs.Stepping.{run};
-ghost use Rattle.wh_bodies.specs.Starting.{started, RunsTo};
-ghost use Rattle.wh_bodies.specs.Views.{view_around, state_of};
+ghost use Rattle.wh_bodies.specs.Starting.{started, whole_run, RunsTo, RunsFrom};
+ghost use Rattle.wh_bodies.specs.Marks.{all_marks};
+ghost use Rattle.wh_bodies.specs.Table.{table_of};
+ghost use Rattle.wh_bodies.specs.Views.{view_around, view_context, view_side, state_of};
+ghost use Rattle.wh_model.specs.Validity.{ValidBody};
+ghost use Rattle.wh_model.specs.Heights.{FitsBody};
+ghost use Rattle.wh_syntax.specs.View.{view_type, view_body};
 
-use crate::context::Around;
+use crate::context::{Around, Context};
 use crate::fault::{BodyFault, ValidKind, push};
 use crate::labels::Label;
-use crate::marks::Mark;
+use crate::marks::{Mark, all_marks};
 use crate::operands::Operands;
 use crate::steps::{Checker, step};
+use crate::table::SideTable;
 use std::alloc::Global;
 use wh_model::{Open, ValType};
-use wh_syntax::Instr;
+use wh_syntax::{Body, FuncType, Instr};
+
+const MOST_LOCALS: usize = 256;
 
 /// What is known before the first of so many instructions.
 fn start(
@@ -75,4 +83,87 @@ fn check_all(
         }
     }
     Ok(())
+}
+
+/// What is known before the first instruction, with the marks of all constructs.
+fn prepare(alloc: Global, instrs: &[Instr], of: Option<ValType>) -> Result<Checker, ValidKind>
+    ensures ok { IfOk result (λ c. (labels : List ℕ) → state_of c ≡ started of (length instrs.now) (all_marks 0 (map (instr_of labels) instrs.now)).done) }
+    ensures short { OnOk result (length instrs.now < 2 ^ 32) }
+    ensures err { IfErr result (λ k. k ≡ ValidKind.Memory) }
+{
+    let marks = all_marks(alloc, instrs)?;
+    let checker = start(alloc, of, instrs.len() as u32, marks)?;
+    Ok(checker)
+}
+
+/// What is known behind all instructions of a body.
+fn run_body(
+    alloc: Global,
+    around: &Around,
+    instrs: &[Instr],
+    targets: &[u32],
+) -> Result<Checker, BodyFault>
+    requires named { AllByRecursion (λ x. x < length around.now.context.types.now) around.now.context.funcs.now }
+    requires in_pool { AllByRecursion (InPool targets.now) instrs.now }
+    ensures { RunsFrom state_of result (whole_run (view_around around.now) (map (instr_of targets.now) instrs.now)) }
+{
+    let mut checker = match prepare(alloc, instrs, around.result) {
+        Ok(checker) => checker,
+        Err(kind) => return Err(before_all(kind)),
+    };
+    check_all(around, instrs, targets, &mut checker)?;
+    Ok(checker)
+}
+
+/// Whether parameters and locals are no more than there may be.
+fn few_locals(func_type: &FuncType, body: &Body) -> bool
+    ensures { IsTrue result ↔ (length func_type.now.params.items + length body.now.locals.items ≤ 256) }
+{
+    let params = func_type.params.len();
+    params <= MOST_LOCALS && body.locals.len() <= MOST_LOCALS - params
+}
+
+/// A fault that no instruction has: it is named at the first one.
+fn before_all(kind: ValidKind) -> BodyFault
+    ensures { result ≡ record { instr = 0; kind = kind } }
+{
+    BodyFault { instr: 0, kind }
+}
+
+/// Checks a body of this type, and finds where its branches lead.
+///
+/// # Errors
+/// The fault of the first instruction in binary order at which the check fails, its opcodes counted from 0, `else` and
+/// `end` included: `BadType`, `Index`, `Align`, `Arity`, `Height`, `ConstImmutable`; `Limits` at the first one where
+/// parameters and locals are more than 256; and `Memory` where a growth was refused.
+pub fn check_body(
+    alloc: Global,
+    context: &Context,
+    func_type: &FuncType,
+    body: &Body,
+) -> Result<SideTable, BodyFault>
+    requires named { AllByRecursion (λ x. x < length context.now.types.now) context.now.funcs.now }
+    requires one_result { length func_type.now.results.items ≤ 1 }
+    // The body is valid with this type (3.4.3).
+    ensures valid { OnOk result (ValidBody (view_context context.now) (view_type func_type.now) (view_body body.now)) }
+    // It has few locals, and no more operands at any place than there may be.
+    ensures fits { OnOk result (FitsBody (view_context context.now) (view_type func_type.now) (view_body body.now)) }
+    // The table is that of the body.
+    ensures table { IfOk result (λ found. view_side found ≡ table_of (view_context context.now) (view_type func_type.now) (view_body body.now)) }
+{
+    if !few_locals(func_type, body) {
+        return Err(before_all(ValidKind::Limits));
+    }
+    let flat = body.code.flat();
+    let around = Around {
+        context: *context,
+        params: &func_type.params,
+        locals: &body.locals,
+        result: func_type.results.first().copied(),
+    };
+    let checker = run_body(alloc, &around, flat.instrs, flat.labels)?;
+    Ok(SideTable {
+        entries: checker.entries,
+        pool: checker.pool,
+    })
 }

@@ -15,6 +15,7 @@ mod steps;
 mod straight;
 mod table;
 
+pub use body::check_body;
 pub use context::Context;
 pub use fault::{BodyFault, ValidKind};
 pub use table::{Entry, SideTable};
