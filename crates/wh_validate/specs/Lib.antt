@@ -1,0 +1,5 @@
+pub mod Deciding
+pub mod Naming
+pub mod Constants
+pub mod Parts
+pub mod Names

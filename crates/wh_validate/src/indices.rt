@@ -1,0 +1,88 @@
+//! What the indices of a module name: imported functions and globals come before its own (3.4.10).
+
+ghost use Rattle.std.specs.Prelude.{◌≡◌, ◌≢◌, ◌<◌, ◌++◌, ◌∷◌, [], map, length, OnOk, IfErr, IfOk};
+ghost use Rattle.std.specs.List.{All};
+ghost use Rattle.wh_model.specs.Validity.{imported_funcs, imported_globals};
+ghost use Rattle.wh_syntax.specs.View.{view_import, view_global_type};
+ghost use Rattle.wh_validate.specs.Deciding.{Decides};
+ghost use Rattle.wh_validate.specs.Naming.{NamesType};
+
+use std::alloc::Global as Heap;
+use wh_bodies::ValidKind;
+use wh_model::Mutability;
+use wh_syntax::{FuncType, Global, GlobalType, Import, ImportDesc};
+
+/// What indices name.
+#[derive(Drop)]
+pub struct Indices {
+    /// The index of the type of each function.
+    pub funcs: Vec<u32>,
+    /// The type of each global.
+    pub globals: Vec<GlobalType>,
+}
+
+/// Puts an item at the end of a list.
+pub fn push<T: Drop>(items: &mut Vec<T>, item: T) -> Result<(), ValidKind>
+    ensures ok { OnOk result (items.new.items ≡ items.old.items ++ item ∷ []) }
+    ensures err { IfErr result (λ k. k ≡ ValidKind.Memory) }
+{
+    match items.push(item) {
+        Ok(()) => Ok(()),
+        Err(_) => Err(ValidKind::Memory),
+    }
+}
+
+/// What the imports bring, in order.
+///
+/// # Errors
+/// `Index` where the type of a function isn't there.
+pub fn imported(
+    alloc: Heap,
+    types: &[FuncType],
+    imports: &[Import],
+) -> Result<Indices, ValidKind>
+    ensures funcs { IfOk result (λ i. i.funcs.items ≡ imported_funcs (map view_import imports.now)) }
+    ensures globals { IfOk result (λ i. map view_global_type i.globals.items ≡ imported_globals (map view_import imports.now)) }
+    ensures decides { Decides result (All (λ i. NamesType (length types.now) i) imports.now) }
+    ensures err { IfErr result (λ k. k ≢ ValidKind.Memory → k ≡ ValidKind.Index) }
+{
+    let mut funcs = Vec::new(alloc);
+    let mut globals = Vec::new(alloc);
+    for import in imports {
+        match import.desc {
+            ImportDesc::Func(func) => {
+                if func as usize >= types.len() {
+                    return Err(ValidKind::Index);
+                }
+                push(&mut funcs, func)?;
+            }
+            ImportDesc::Global(value) => {
+                let mutability = Mutability::Const;
+                push(&mut globals, GlobalType { value, mutability })?;
+            }
+        }
+    }
+    Ok(Indices { funcs, globals })
+}
+
+/// Puts the functions that the module defines behind those that it imports.
+pub fn add_funcs(funcs: &mut Vec<u32>, own: &[u32]) -> Result<(), ValidKind>
+    ensures ok { OnOk result (funcs.new.items ≡ funcs.old.items ++ own.now) }
+    ensures err { IfErr result (λ k. k ≡ ValidKind.Memory) }
+{
+    match funcs.extend_from_slice(own) {
+        Ok(()) => Ok(()),
+        Err(_) => Err(ValidKind::Memory),
+    }
+}
+
+/// Puts the types of the globals that the module defines behind those of the ones that it imports.
+pub fn add_globals(globals: &mut Vec<GlobalType>, own: &[Global]) -> Result<(), ValidKind>
+    ensures ok { OnOk result (globals.new.items ≡ globals.old.items ++ map (λ g. g.global_type) own.now) }
+    ensures err { IfErr result (λ k. k ≡ ValidKind.Memory) }
+{
+    for global in own {
+        push(globals, global.global_type)?;
+    }
+    Ok(())
+}
