@@ -1,4 +1,5 @@
 pub mod Lists
+pub mod BodyLemmas
 pub mod ConstantCode
 pub mod Deciding
 pub mod ExportLemmas

@@ -3,3 +3,5 @@ pub mod Naming
 pub mod Constants
 pub mod Parts
 pub mod Names
+pub mod Soundness
+pub mod Gathering

@@ -2,9 +2,12 @@
 //! (section 7.2).
 #![tactic(auto)]
 
+mod bodies;
 mod constants;
+mod error;
 mod exports;
 mod indices;
+mod whole;
 mod segments;
 mod sizes;
 mod types;

@@ -1,0 +1,28 @@
+use Rattle.std.proofs.Common.{◌≡◌, ℕ, ◌<◌, ◌++◌, ◌∷◌, [], length, map, get_or, Some, slice_get, refl, sym, ap, subst, arith, ◌∙◌, ◌+◌}
+use Rattle.std.proofs.lemmas.List.{map-append}
+use Rattle.wh_syntax.specs.View.{view_type, view_body}
+use Rattle.wh_bodies.specs.Views.{view_context, view_side}
+use Rattle.wh_validate.specs.Soundness.{Checked}
+use Rattle.wh_validate.proofs.Lists.{get_mapped}
+use Rattle.wh_validate.proofs.BodyLemmas.{Rests, one_more_checked, all_checked}
+use Rattle.wh_validate.proofs.bodies.check_bodies.Goals as goal
+
+pub loop-at-preserved : goal.loop-at-preserved
+loop-at-preserved c =
+    let k = c.loop-at.at in
+    let context = view_context c.args.context.now in
+    let funcs = c.args.funcs.now in
+    let bodies = c.args.bodies.now in
+    let x = get_or funcs k 0 in
+    let given = c.index-context-funcs.result in
+    let type = get_mapped view_type c.args.context.now.types.now x given (c.requires.own k 0 c.loop-at-test.true) in
+    let same = c.requires.same_count in
+    let more = one_more_checked context funcs bodies k x 0 c.index-bodies-at.result (view_type (get_or c.args.context.now.types.now x given)) (view_side c.in-Ok.table) (map view_side c.loop-at.tables.items) c.loop-at-test.true (omega (arith, c.loop-at-test.true, same)) refl c.index-bodies-at.is
+      type c.in-Ok.ensures.valid c.in-Ok.ensures.fits c.in-Ok.ensures.table c.loop-at.invariant in
+    let items = ap (map view_side) c.in_ok-add_table-in-Ok.ensures.ok ∙ map-append view_side c.loop-at.tables.items (c.in-Ok.table ∷ []) in
+    subst (λ w. Rests context funcs bodies (k + 1) w) (sym items) more
+
+pub returns : goal.returns
+returns c =
+    let same = c.requires.same_count in
+    all_checked (view_context c.args.context.now) c.args.funcs.now c.args.bodies.now c.loop-at.at (map view_side c.loop-at.tables.items) (omega (arith, c.loop-at-test.false)) (omega (arith, c.loop-at-test.false, same)) c.loop-at.invariant

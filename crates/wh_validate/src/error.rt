@@ -1,0 +1,41 @@
+//! What is wrong with a module, and where.
+
+ghost use Rattle.std.specs.Prelude.{◌≡◌, None};
+
+use thiserror::Error;
+use wh_bodies::{BodyFault, ValidKind};
+
+/// Why a module isn't valid, or passes a limit.
+#[derive(Clone, Copy, Debug, PartialEq, Eq, Error)]
+#[error("{kind}")]
+pub struct ValidError {
+    /// The function in whose body the fault lies, where it lies in one. Imported functions count first.
+    pub func: Option<u32>,
+    /// The instruction of that body, where opcodes count from 0, `else` and `end` included; 0 without a function.
+    pub instr: u32,
+    /// What is wrong.
+    pub kind: ValidKind,
+}
+
+impl ValidError {
+    /// A fault that lies in no function.
+    pub fn of_module(kind: ValidKind) -> ValidError
+        ensures { result ≡ record { func = None; instr = 0; kind = kind } }
+    {
+        ValidError {
+            func: None,
+            instr: 0,
+            kind,
+        }
+    }
+
+    /// A fault in the body of the function that stands so far behind the imported ones.
+    pub fn in_body(imported: usize, at: usize, fault: BodyFault) -> ValidError {
+        let func = u32::try_from(imported.saturating_add(at)).unwrap_or(u32::MAX);
+        ValidError {
+            func: Some(func),
+            instr: fault.instr,
+            kind: fault.kind,
+        }
+    }
+}

@@ -1,0 +1,90 @@
+//! Whole modules (3.4.10).
+
+ghost use Rattle.std.specs.Prelude.{◌≡◌, ◌≢◌, ◌<◌, ◌≤◌, ◌++◌, map, take, length, OnOk, IfOk, IfErr};
+ghost use Rattle.std.specs.List.{All, AllByRecursion};
+ghost use Rattle.wh_model.specs.Validity.{Valid, ValidType, imported_funcs, imported_globals, IsContext, IsValidIn};
+ghost use Rattle.wh_model.specs.Heights.{Fits, FitsIn};
+ghost use Rattle.wh_syntax.specs.View.{view_module, view_import, view_type, view_global_type};
+ghost use Rattle.wh_bodies.specs.Views.{view_context, view_side};
+ghost use Rattle.wh_validate.specs.Soundness.{IsSound};
+ghost use Rattle.wh_validate.specs.Gathering.{IsGathered, IsAround};
+
+use crate::bodies::check_bodies;
+use crate::error::ValidError;
+use crate::exports::check_exports;
+use crate::indices::{Indices, add_funcs, add_globals, imported};
+use crate::segments::{check_elements, check_globals, check_segments, check_start};
+use crate::sizes::{check_memories, check_tables};
+use crate::types::{check_funcs, check_types};
+use std::alloc::Global;
+use wh_bodies::{Context, SideTable, ValidKind};
+use wh_syntax::Module;
+
+/// A module that is valid and passes no limit, with the places that branches of its bodies lead to.
+#[derive(Drop)]
+pub struct ValidModule {
+    decoded: Module,
+    tables: Vec<SideTable>,
+    ghost sound: { ∥ IsSound (view_module decoded) (map view_side tables.items) ∥₁ },
+}
+
+impl ValidModule {
+    /// The module.
+    pub fn module(&self) -> &Module
+        ensures { result.now ≡ self.now.decoded }
+    {
+        &self.decoded
+    }
+
+    /// The branch targets of each body, in the order of the functions that the module defines.
+    pub fn tables(&self) -> &[SideTable]
+        ensures { result.now ≡ self.now.tables.items }
+    {
+        &self.tables
+    }
+}
+
+/// What stands around the bodies of a module.
+#[derive(Drop)]
+struct Gathered {
+    indices: Indices,
+    imported_funcs: usize,
+    imported_globals: usize,
+}
+
+/// Types, functions, sizes, and what indices name.
+fn gather(alloc: Global, decoded: &Module) -> Result<Gathered, ValidKind>
+    ensures { IfOk result (λ g. IsGathered decoded.now g) }
+{
+    check_types(&decoded.types)?;
+    let mut indices = imported(alloc, &decoded.types, &decoded.imports)?;
+    check_funcs(&decoded.types, &decoded.funcs)?;
+    check_tables(&decoded.tables)?;
+    check_memories(&decoded.memories)?;
+    let imported_funcs = indices.funcs.len();
+    let imported_globals = indices.globals.len();
+    add_funcs(&mut indices.funcs, &decoded.funcs)?;
+    add_globals(&mut indices.globals, &decoded.globals)?;
+    Ok(Gathered {
+        indices,
+        imported_funcs,
+        imported_globals,
+    })
+}
+
+/// Everything but bodies: constants, exports, the start function and segments.
+fn check_around(
+    alloc: Global,
+    decoded: &Module,
+    context: &Context<'_>,
+    imported_globals: usize,
+) -> Result<(), ValidKind>
+    requires named { AllByRecursion (λ x. x < length context.now.types.now) context.now.funcs.now }
+    ensures { OnOk result (IsAround decoded.now (view_context context.now) (map view_global_type (take imported_globals context.now.globals.now))) }
+{
+    check_globals(&decoded.globals, context.globals, imported_globals)?;
+    check_exports(alloc, context, &decoded.exports)?;
+    check_start(context, decoded.start)?;
+    check_elements(context, &decoded.elements)?;
+    check_segments(context, &decoded.segments)
+}
