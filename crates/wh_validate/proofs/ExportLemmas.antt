@@ -1,8 +1,7 @@
 -- What is exported is there where its index is below the count; and names that differ.
-use Rattle.std.proofs.Common.{◌≡◌, ℕ, ◌<◌, List, length, map, sym, subst, Some, slice_get}
+use Rattle.std.proofs.Common.{◌≡◌, ◌<◌, length, map, sym, subst}
 use Rattle.wh_model.specs.declared.ExternKind.{ExternKind}
 use Rattle.wh_model.specs.declared.ExternKind.TheVariants.{Func, Table, Memory, Global}
-use Rattle.wh_model.specs.Typing.{Context}
 use Rattle.wh_model.specs.Validity.{Exported}
 use Rattle.wh_syntax.specs.View.{view_global_type, view_table, view_limits, view_type}
 use Rattle.wh_syntax.specs.declared.module.Export.{Export}

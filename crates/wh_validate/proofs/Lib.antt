@@ -5,3 +5,4 @@ pub mod Deciding
 pub mod ExportLemmas
 pub mod NameLemmas
 pub mod PartLemmas
+pub mod WholeLemmas

@@ -1,10 +1,10 @@
 -- What is known of a module before its bodies are looked at.
-use Rattle.std.specs.Prelude.{◌≡◌, ◌<◌, ◌≤◌, ◌++◌, ℕ, List, map, take, length}
+use Rattle.std.specs.Prelude.{◌≡◌, ◌<◌, ◌≤◌, ◌++◌, List, map, length}
 use Rattle.std.specs.List.{All}
 use Rattle.wh_model.specs.Validity.{ValidType, WithinBound, most_pages, imported_funcs, imported_globals, DifferentNames, ValidStart}
 use Rattle.wh_model.specs.Syntax.{GlobalType}
 use Rattle.wh_model.specs.Typing.{Context}
-use Rattle.wh_model.specs.Heights.{FitsTable}
+use Rattle.wh_validate.specs.Sizing.{IsTable}
 use Rattle.wh_syntax.specs.declared.module.Module.{Module}
 use Rattle.wh_syntax.specs.View.{view_import, view_type, view_table, view_limits, view_global_type, view_export}
 use Rattle.wh_validate.specs.Parts.{IsGlobal, IsExport, IsElement, IsSegment}
@@ -17,7 +17,7 @@ pub record IsGathered (m : Module) (g : Gathered) : Type 0 where
   pub imports : All (NamesType (length m.types.items)) m.imports.items
   pub own : All (λ x. x < length m.types.items) m.funcs.items
   pub one_table : length m.tables.items ≤ 1
-  pub tables : All (λ t. FitsTable (view_table t)) m.tables.items
+  pub tables : All (λ t. IsTable (view_table t)) m.tables.items
   pub one_memory : length m.memories.items ≤ 1
   pub memories : All (λ l. WithinBound most_pages (view_limits l)) m.memories.items
   pub funcs : g.indices.funcs.items ≡ imported_funcs (map view_import m.imports.items) ++ m.funcs.items

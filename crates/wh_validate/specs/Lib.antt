@@ -5,3 +5,4 @@ pub mod Parts
 pub mod Names
 pub mod Soundness
 pub mod Gathering
+pub mod Sizing

@@ -1,5 +1,9 @@
 //! The validator (section 3 of the W3C WebAssembly Core Specification 1.0), and the limits that this host sets beside it
 //! (section 7.2).
+//!
+//! `validate` takes a module that was decoded, and gives it back as a `ValidModule`, or the first fault. Proved: what
+//! passes is valid, in the standard's terms, and passes no limit; a `ValidModule` carries that its bodies are typed and
+//! that its tables of branch targets are theirs.
 #![tactic(auto)]
 
 mod bodies;
@@ -7,7 +11,10 @@ mod constants;
 mod error;
 mod exports;
 mod indices;
-mod whole;
 mod segments;
 mod sizes;
 mod types;
+mod whole;
+
+pub use error::ValidError;
+pub use whole::{ValidModule, validate};

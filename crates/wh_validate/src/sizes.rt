@@ -4,7 +4,7 @@ ghost use Rattle.std.specs.Prelude.{◌≡◌, ◌≤◌, map, length, IfErr};
 ghost use Rattle.std.specs.Bool.{MatchBool};
 ghost use Rattle.std.specs.List.{All};
 ghost use Rattle.wh_model.specs.Validity.{WithinBound, most_pages};
-ghost use Rattle.wh_model.specs.Heights.{FitsTable};
+ghost use Rattle.wh_validate.specs.Sizing.{IsTable};
 ghost use Rattle.wh_syntax.specs.View.{view_limits, view_table};
 ghost use Rattle.wh_validate.specs.Deciding.{Decides};
 
@@ -19,7 +19,7 @@ const MOST_FIRST_ENTRIES: u32 = 4096;
 /// # Errors
 /// `Limits` where it isn't so.
 pub fn check_tables(tables: &[TableType]) -> Result<(), ValidKind>
-    ensures decides { Decides result ((length tables.now ≤ 1) × All (λ t. FitsTable (view_table t)) tables.now) }
+    ensures decides { Decides result ((length tables.now ≤ 1) × All (λ t. IsTable (view_table t)) tables.now) }
     ensures err { IfErr result (λ k. k ≡ ValidKind.Limits) }
 {
     match tables {
@@ -30,7 +30,7 @@ pub fn check_tables(tables: &[TableType]) -> Result<(), ValidKind>
 }
 
 fn is_table(limits: Limits) -> bool
-    ensures { MatchBool result (FitsTable (view_limits limits)) (¬ (FitsTable (view_limits limits))) }
+    ensures { MatchBool result (IsTable (view_limits limits)) (¬ (IsTable (view_limits limits))) }
 {
     match limits.max {
         None => limits.min <= MOST_FIRST_ENTRIES,

@@ -88,3 +88,51 @@ fn check_around(
     check_elements(context, &decoded.elements)?;
     check_segments(context, &decoded.segments)
 }
+
+/// Everything, and where the branches of each body lead.
+fn check_whole(alloc: Global, decoded: &Module) -> Result<Vec<SideTable>, ValidError>
+    ensures { IfOk result (λ tables. IsSound (view_module decoded.now) (map view_side tables.items)) }
+{
+    let gathered = match gather(alloc, decoded) {
+        Ok(gathered) => gathered,
+        Err(kind) => return Err(ValidError::of_module(kind)),
+    };
+    if decoded.bodies.len() != decoded.funcs.len() {
+        return Err(ValidError::of_module(ValidKind::Index));
+    }
+    let context = Context {
+        types: &decoded.types,
+        funcs: &gathered.indices.funcs,
+        tables: &decoded.tables,
+        memories: &decoded.memories,
+        globals: &gathered.indices.globals,
+    };
+    if let Err(kind) = check_around(alloc, decoded, &context, gathered.imported_globals) {
+        return Err(ValidError::of_module(kind));
+    }
+    check_bodies(
+        alloc,
+        &context,
+        gathered.imported_funcs,
+        &decoded.funcs,
+        &decoded.bodies,
+    )
+}
+
+/// Checks a module.
+///
+/// # Errors
+/// The first fault, in this order: types, imports, functions, tables, memories, globals, exports, the start function,
+/// element segments and data segments, all of these without a function; then bodies by function, in each the first
+/// instruction at which the check fails. `Memory` where a growth was refused.
+pub fn validate(alloc: Global, decoded: Module) -> Result<ValidModule, ValidError>
+    // What passes is valid.
+    ensures valid { OnOk result (Valid (view_module decoded)) }
+    // It passes no limit.
+    ensures fits { OnOk result (Fits (view_module decoded)) }
+    // It is the module that was given.
+    ensures same { IfOk result (λ v. v.decoded ≡ decoded) }
+{
+    let tables = check_whole(alloc, &decoded)?;
+    Ok(ValidModule { decoded, tables })
+}

@@ -1,8 +1,7 @@
-use Rattle.std.proofs.Common.{◌≡◌, ℕ, ◌<◌, ◌++◌, ◌∷◌, [], length, map, get_or, Some, slice_get, refl, sym, ap, subst, arith, ◌∙◌, ◌+◌}
+use Rattle.std.proofs.Common.{◌∷◌, [], map, get_or, refl, sym, ap, subst, arith, ◌∙◌, ◌+◌}
 use Rattle.std.proofs.lemmas.List.{map-append}
-use Rattle.wh_syntax.specs.View.{view_type, view_body}
+use Rattle.wh_syntax.specs.View.{view_type}
 use Rattle.wh_bodies.specs.Views.{view_context, view_side}
-use Rattle.wh_validate.specs.Soundness.{Checked}
 use Rattle.wh_validate.proofs.Lists.{get_mapped}
 use Rattle.wh_validate.proofs.BodyLemmas.{Rests, one_more_checked, all_checked}
 use Rattle.wh_validate.proofs.bodies.check_bodies.Goals as goal
