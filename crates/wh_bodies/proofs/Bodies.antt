@@ -30,7 +30,7 @@ module _ (c : Context) (ls : List ValType) (r : Option ValType) where
   behind_same ts floor h unreachable = refl
   behind_same ts floor h _ = refl
 
-  greatest_same : (ts : List (Option ValType)) (floor h : ℕ) (code : Code) → greatest (record with_locals { labels = ts }) floor h code ≡ greatest (record c { labels = ts }) floor h code
+  pub greatest_same : (ts : List (Option ValType)) (floor h : ℕ) (code : Code) → greatest (record with_locals { labels = ts }) floor h code ≡ greatest (record c { labels = ts }) floor h code
   greatest_same ts floor h nothing = refl
   greatest_same ts floor h (plain op rest) =
       let low = height_behind (record c { labels = ts }) floor h op in

@@ -10,3 +10,8 @@ pub mod Running
 pub mod Parts
 pub mod Sound
 pub mod Bodies
+pub mod Forward
+pub mod OpsForward
+pub mod ConstructsForward
+pub mod Complete
+pub mod Refused

@@ -39,7 +39,7 @@ is_typed c op f g e t = subst (λ u. Typed c op u) e t
 known_type : (c : Context) (op : Op) (f : FuncType) (params results : List ValType) → typed params results ≡ Ok f → Typed c op (type params results) → Typed c op f
 known_type c op f params results e t = is_typed c op (type params results) f (ok_is {E = ValidKind} (type params results) f e) t
 
-load_width : (op : LoadOp) → 2 ^ load_exponent op ≡ (load_type op).1
+pub load_width : (op : LoadOp) → 2 ^ load_exponent op ≡ (load_type op).1
 load_width I32Load = refl
 load_width I64Load = refl
 load_width I32Load8S = refl
@@ -53,7 +53,7 @@ load_width I64Load16U = refl
 load_width I64Load32S = refl
 load_width I64Load32U = refl
 
-store_width : (op : StoreOp) → 2 ^ store_exponent op ≡ (store_type op).1
+pub store_width : (op : StoreOp) → 2 ^ store_exponent op ≡ (store_type op).1
 store_width I32Store = refl
 store_width I64Store = refl
 store_width I32Store8 = refl

@@ -148,6 +148,8 @@ pub fn check_body(
     ensures valid { OnOk result (ValidBody (view_context context.now) (view_type func_type.now) (view_body body.now)) }
     // It has few locals, and no more operands at any place than there may be.
     ensures fits { OnOk result (FitsBody (view_context context.now) (view_type func_type.now) (view_body body.now)) }
+    // Unless memory was refused, a body that is refused isn't valid, or doesn't fit.
+    ensures complete { IfErr result (λ e. e.kind ≢ ValidKind.Memory → ValidBody (view_context context.now) (view_type func_type.now) (view_body body.now) → FitsBody (view_context context.now) (view_type func_type.now) (view_body body.now) → ⊥) }
     // The table is that of the body.
     ensures table { IfOk result (λ found. view_side found ≡ table_of (view_context context.now) (view_type func_type.now) (view_body body.now)) }
 {
