@@ -1,3 +1,7 @@
 pub mod Coming
+pub mod Hex
+pub mod Kept
+pub mod Requests
+pub mod Runs
 pub mod Words
 pub mod Written
