@@ -52,7 +52,7 @@ pub data LineReply (gets : Replying) (before : Modules) (number : ℕ) (line tex
   skipped : is_skipped line ≡ true → text ≡ [] → after ≡ before → LineReply gets before number line text after
   too_long : is_skipped line ≡ false → longest_line < length line → text ≡ error_reply 1 number → after ≡ before → LineReply gets before number line text after
   no_request : is_skipped line ≡ false → ((request : Request) → Asks line request → ⊥) → text ≡ error_reply 1 number → after ≡ before → LineReply gets before number line text after
-  asked : (request : Request) → length line ≤ longest_line → Asks line request → gets before number request text after → LineReply gets before number line text after
+  asked : (request : Request) → is_skipped line ≡ false → length line ≤ longest_line → Asks line request → gets before number request text after → LineReply gets before number line text after
 
 -- what lines get, one after the other, the first of them having this number
 abbrev pub Replies : Replying → Modules → ℕ → List (List ℕ) → List ℕ → Modules → Type 0

@@ -73,3 +73,6 @@ hex_read word bytes h = rw (digits_of word bytes h).0 (pairs_read 0 word bytes h
 
 pub read_same : (word bytes items : List ℕ) → IsHex word bytes → decode_of word ≡ Ok items → items ≡ bytes
 read_same word bytes items is read = let e = hex_read word bytes is in cc
+
+pub one_hex : (word a b : List ℕ) → IsHex word a → IsHex word b → a ≡ b
+one_hex word a b p q = read_same word b a q (hex_read word a p)

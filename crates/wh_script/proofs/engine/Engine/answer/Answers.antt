@@ -11,4 +11,4 @@ returns-in-Ok g c = λ line h.
     let kind : IsKind Kept held line = subst (λ k. IsKind k held line) c.in-Kept.is h in
     let found = c.in-Ok.ensures.found in
     let obeyed = c.obey.ensures found.0 found.2 in
-    (obeyed.0, asked found.0 kind.2 (subst (λ xs. Asks xs found.0) kind.0 found.1) obeyed.1, obeyed.2)
+    (obeyed.0, asked found.0 kind.1 kind.2 (subst (λ xs. Asks xs found.0) kind.0 found.1) obeyed.1, obeyed.2)
