@@ -149,12 +149,12 @@ impl Engine {
         }
     }
 
-    fn keep(&mut self, name: &str, partial: Module) -> Result<(), AllocError>
-        ensures kept { OnOk result (modules_of self.new ≡ with_module (modules_of self.old) name.now (view_module partial)) }
+    fn keep(&mut self, name: &str, decoded: Module) -> Result<(), AllocError>
+        ensures kept { OnOk result (modules_of self.new ≡ with_module (modules_of self.old) name.now (view_module decoded)) }
         ensures same { OnErr result (modules_of self.new ≡ modules_of self.old) }
     {
         let name = String::from_str(self.alloc, name)?;
-        self.modules.insert(name, partial)?;
+        self.modules.insert(name, decoded)?;
         Ok(())
     }
 

@@ -10,4 +10,4 @@ returns-clause-kept c =
     let old = c.args.self.now.modules in
     let new = c.insert.new.self in
     let sets = btree_map_updates_text (string_bytes c.in_ok-name.name) old new _ c.in_ok-insert.ensures.updates in
-    seen_update view_module (get_by_text old) (get_by_text new) c.args.name.now c.args.partial (rw c.in_ok-name.ensures.ok at sets)
+    seen_update view_module (get_by_text old) (get_by_text new) c.args.name.now c.args.decoded (rw c.in_ok-name.ensures.ok at sets)
