@@ -1,5 +1,5 @@
 -- Known bytes that are read, piece by piece, and the first of their lines.
-use Rattle.std.proofs.Common.{drop_of_length-le, ◌≡◌, ◌≢◌, ℕ, ◌+◌, ◌-◌, ◌<◌, ◌≤◌, ◌==◌, Bool, false, List, [], ◌∷◌, ◌++◌, length, min, take, drop, All, Option, Some, None, refl, sym, ap, subst, subst₂, ◌∙◌, append-nil, append_assoc, arith}
+use Rattle.std.proofs.Common.{drop_of_length-le, ◌≡◌, ◌≢◌, ℕ, ◌+◌, ◌-◌, ◌<◌, ◌≤◌, ◌==◌, Bool, false, List, [], ◌∷◌, ◌++◌, length, min, take, drop, All, Option, Some, None, Result, Ok, Err, OnErr, refl, sym, ap, subst, subst₂, ◌∙◌, append-nil, append_assoc, arith}
 use Rattle.std.specs.Io.KnownBytes.{Consumes, Keeps, IsAtEnd, prepend_known}
 use Rattle.std.specs.List.{AllByRecursion}
 use Rattle.std.proofs.lemmas.List.{take-append-le, take_all, drop-drop, drop-take, length-take, length-drop}
@@ -8,7 +8,9 @@ use Rattle.std.proofs.lemmas.List.Elements.{recursion_from_All, All-append}
 use Rattle.wh_host_model.specs.Script.{lines_of, onto_first}
 use Rattle.wh_script.specs.declared.lines.Line.{Line}
 use Rattle.wh_script.specs.declared.lines.Line.TheVariants.{Kept, TooLong, Skipped, End}
-use Rattle.wh_script.specs.Coming.{Holds, IsFirstLine, IsKind, ReadsLine}
+use Rattle.wh_script.specs.declared.fault.ScriptFault.{ScriptFault}
+use Rattle.wh_script.specs.declared.fault.ScriptFault.TheVariants.{Script, Output, Memory}
+use Rattle.wh_script.specs.Coming.{FailsAt, Holds, TakesLines, IsKind, ReadsLine}
 
 pub consumes_nothing : (k : Option (List ℕ)) → Consumes k k []
 consumes_nothing None = tt
@@ -64,19 +66,19 @@ lines_last b [] free = rw (byte_test b free.0) refl
 lines_last b (c ∷ line) free = rw (byte_test b free.0) (ap (onto_first b) (lines_last c line free.1))
 
 -- the line was read up to its newline
-pub first_line : (a b : Option (List ℕ)) (line : List ℕ) → All (λ b. b ≢ 10) line → Consumes a b (line ++ 10 ∷ []) → IsFirstLine a b line
+pub first_line : (a b : Option (List ℕ)) (line : List ℕ) → All (λ b. b ≢ 10) line → Consumes a b (line ++ 10 ∷ []) → TakesLines a b (line ∷ [])
 first_line None b line free p = tt
 first_line (Some us) None line free p = p
-first_line (Some us) (Some vs) line free p = ap lines_of (p ∙ append_assoc line (10 ∷ []) vs) ∙ lines_cut line vs (recursion_from_All (λ b. b ≢ 10) line free)
+first_line (Some us) (Some vs) line free p = (line ++ 10 ∷ [], p, ap lines_of (p ∙ append_assoc line (10 ∷ []) vs) ∙ lines_cut line vs (recursion_from_All (λ b. b ≢ 10) line free))
 
 -- the line was read up to the end of all
-pub last_line : (a b : Option (List ℕ)) (line : List ℕ) → All (λ b. b ≢ 10) line → 0 < length line → Consumes a b line → IsAtEnd b → IsFirstLine a b line
+pub last_line : (a b : Option (List ℕ)) (line : List ℕ) → All (λ b. b ≢ 10) line → 0 < length line → Consumes a b line → IsAtEnd b → TakesLines a b (line ∷ [])
 last_line None b line free some p end = tt
 last_line (Some us) None line free some p end = p
 last_line (Some us) (Some vs) [] free some p end = absurd (omega (arith, some))
 last_line (Some us) (Some vs) (c ∷ line) free some p end =
     let whole : us ≡ c ∷ line = p ∙ ap (λ zs. (c ∷ line) ++ zs) end ∙ append-nil (c ∷ line) in
-    ap lines_of whole ∙ lines_last c line (recursion_from_All (λ b. b ≢ 10) (c ∷ line) free) ∙ ap (λ zs. (c ∷ line) ∷ lines_of zs) (sym end)
+    (c ∷ line, p, ap lines_of whole ∙ lines_last c line (recursion_from_All (λ b. b ≢ 10) (c ∷ line) free) ∙ ap (λ zs. (c ∷ line) ∷ lines_of zs) (sym end))
 
 -- nothing came, and nothing comes
 pub at_end : (a b : Option (List ℕ)) → Consumes a b [] → IsAtEnd b → IsAtEnd a
@@ -121,7 +123,7 @@ consumes_on a b c xs p q = subst (λ ys. Consumes a c ys) (append-nil xs) (consu
 
 module _ (a m k : Option (List ℕ)) (u v line piece : List ℕ) (free : All (λ b. b ≢ 10) line) (clear : All (λ b. b ≢ 10) piece) (so_far : Consumes a m line) (more : Consumes m (prepend_known u k) []) where
   -- a piece with a newline ends the line
-  pub line_ends : u ≡ piece ++ 10 ∷ [] ++ v → IsFirstLine a (prepend_known v k) (line ++ piece)
+  pub line_ends : u ≡ piece ++ 10 ∷ [] ++ v → TakesLines a (prepend_known v k) ((line ++ piece) ∷ [])
   line_ends e =
       first_line a (prepend_known v k) (line ++ piece) (All-append (λ b. b ≢ 10) line piece free clear)
       (subst (λ xs. Consumes a (prepend_known v k) xs) (sym (append_assoc line piece (10 ∷ [])))
@@ -135,7 +137,7 @@ module _ (a m k : Option (List ℕ)) (u v line piece : List ℕ) (free : All (λ
   )
 
 -- what is said of the line is said of the first line to come
-pub says : (kind : Line) (a b : Option (List ℕ)) (held line : List ℕ) → IsFirstLine a b line → IsKind kind held line → ReadsLine a b kind held
+pub says : (kind : Line) (a b : Option (List ℕ)) (held line : List ℕ) → TakesLines a b (line ∷ []) → IsKind kind held line → ReadsLine a b kind held
 says Kept a b held line first is = (line, first, is)
 says TooLong a b held line first is = (line, first, is)
 says Skipped a b held line first is = (line, first, is)
@@ -143,3 +145,33 @@ says End a b held line first is = elim is [ ]
 
 pub holds_same : (u v : List ℕ) (x y : Bool) (line : List ℕ) → u ≡ v → x ≡ y → Holds v y line → Holds u x line
 holds_same u v x y line e f h = subst₂ (λ w z. Holds w z line) (sym e) (sym f) h
+
+-- the reader failed before it gave anything
+pub filled_nothing : (a b : Option (List ℕ)) (old : List ℕ) → old ≡ [] → Keeps a b → Consumes (prepend_known old a) b []
+filled_nothing None b old e p = tt
+filled_nothing (Some us) None old e p = p
+filled_nothing (Some us) (Some vs) old e p = rw e (sym p)
+
+-- no lines were taken yet
+pub takes_none : (a : Option (List ℕ)) → TakesLines a a []
+takes_none None = tt
+takes_none (Some us) = ([], refl, refl)
+
+-- more lines were taken
+pub takes_more : (a b c : Option (List ℕ)) (ls ms : List (List ℕ)) → TakesLines a b ls → TakesLines b c ms → TakesLines a c (ls ++ ms)
+takes_more None b c ls ms p q = tt
+takes_more (Some us) None c ls ms p q = elim p [ ]
+takes_more (Some us) (Some vs) None ls ms p q = elim q [ ]
+takes_more (Some us) (Some vs) (Some ws) ls ms p q =
+    (p.0 ++ q.0, p.1 ∙ ap (λ zs. p.0 ++ zs) q.1 ∙ sym (append_assoc p.0 q.0 ws), p.2 ∙ ap (λ zs. ls ++ zs) q.2 ∙ sym (append_assoc ls ms (lines_of ws)))
+
+pub on_err : {X E P : Type 0} (r : Result X E) → P → OnErr r P
+on_err (Ok x) p = tt
+on_err (Err e) p = p
+
+-- the reader failed behind a piece of the line
+pub fails_at : (a b c : Option (List ℕ)) (r : Result Line ScriptFault) (begun : List ℕ) → All (λ n. n ≢ 10) begun → Consumes a b begun → Consumes b c [] → FailsAt a c r
+fails_at a b c (Ok kind) begun free p q = tt
+fails_at a b c (Err Script) begun free p q = (begun, free, consumes_on a b c begun p q)
+fails_at a b c (Err Output) begun free p q = tt
+fails_at a b c (Err Memory) begun free p q = tt

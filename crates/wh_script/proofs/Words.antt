@@ -46,3 +46,7 @@ one_split line words a b name word e cut free shape =
 pub no_space : (line words name word : List ℕ) → words ≡ drop 7 line → All (λ n. n ≢ 32) words → IsModuleLine line name word → ⊥
 no_space line words name word e free shape =
     no_space_by name word (subst (λ xs. AllByRecursion (λ n. n ≢ 32) xs) (behind line words name word shape e) (recursion_from_All (λ n. n ≢ 32) words free))
+
+-- a module line has one name and one word
+pub one_module_line : (line a b name word : List ℕ) → IsModuleLine line a b → IsModuleLine line name word → (a ≡ name) × (b ≡ word)
+one_module_line line a b name word p q = one_split line (drop 7 line) a b name word refl (behind line (drop 7 line) a b p refl) (name_spaceless a p.is_name) q

@@ -1,11 +1,13 @@
 -- The bytes of a script that are still to come, and what is held of the line that is being read.
-use Rattle.std.specs.Prelude.{◌≡◌, ◌≢◌, ℕ, ◌<◌, ◌≤◌, Bool, true, false, List, [], ◌∷◌, ◌++◌, take, drop, length, slice_get, Option, None, Some, ⊤, if◌then◌else◌, vec_len}
+use Rattle.std.specs.Prelude.{◌≡◌, ◌≢◌, ℕ, ◌<◌, ◌≤◌, Bool, true, false, List, [], ◌∷◌, ◌++◌, take, drop, length, slice_get, Option, None, Some, Result, Ok, Err, ⊤, if◌then◌else◌, vec_len}
 use Rattle.std.specs.Bool.{MatchBool}
 use Rattle.std.specs.List.{All}
-use Rattle.std.specs.Io.KnownBytes.{prepend_known, IsAtEnd}
+use Rattle.std.specs.Io.KnownBytes.{prepend_known, Consumes, IsAtEnd}
 use Rattle.wh_script.specs.declared.lines.Lines.{Lines}
 use Rattle.wh_script.specs.declared.lines.Line.{Line}
 use Rattle.wh_script.specs.declared.lines.Line.TheVariants.{Kept, TooLong, Skipped, End}
+use Rattle.wh_script.specs.declared.fault.ScriptFault.{ScriptFault}
+use Rattle.wh_script.specs.declared.fault.ScriptFault.TheVariants.{Script, Output, Memory}
 use Rattle.wh_host_model.specs.Script.{lines_of, is_skipped, longest_line}
 
 -- what lies unread in the chunk
@@ -34,11 +36,11 @@ pub record Takes (old new : Lines) (is_last : Bool) (piece : List ℕ) : Type 0 
   pub cut : unread old ≡ piece ++ (if is_last then 10 ∷ [] else []) ++ unread new
   pub held : (line : List ℕ) → Holds old.line.items old.is_long line → Holds new.line.items new.is_long (line ++ piece)
 
--- this is the first of the lines to come, and the others are to come still
-abbrev pub IsFirstLine : Option (List ℕ) → Option (List ℕ) → List ℕ → Type 0
-IsFirstLine None new line = ⊤
-IsFirstLine (Some xs) None line = ⊥
-IsFirstLine (Some xs) (Some ys) line = lines_of xs ≡ line ∷ lines_of ys
+-- These were the first lines of the bytes to come, and the others are to come still.
+abbrev pub TakesLines : Option (List ℕ) → Option (List ℕ) → List (List ℕ) → Type 0
+TakesLines None new lines = ⊤
+TakesLines (Some xs) None lines = ⊥
+TakesLines (Some xs) (Some ys) lines = (done : List ℕ) × (xs ≡ done ++ ys) × (lines_of xs ≡ lines ++ lines_of ys)
 
 -- what is said of a line of which this is held
 abbrev pub IsKind : Line → List ℕ → List ℕ → Type 0
@@ -50,6 +52,13 @@ IsKind End held line = ⊥
 -- What is said of the bytes to come: at End there are none; else it is said of the first line, and the others are to come.
 abbrev pub ReadsLine : Option (List ℕ) → Option (List ℕ) → Line → List ℕ → Type 0
 ReadsLine old new End held = IsAtEnd old
-ReadsLine old new Kept held = (line : List ℕ) × IsFirstLine old new line × IsKind Kept held line
-ReadsLine old new TooLong held = (line : List ℕ) × IsFirstLine old new line × IsKind TooLong held line
-ReadsLine old new Skipped held = (line : List ℕ) × IsFirstLine old new line × IsKind Skipped held line
+ReadsLine old new Kept held = (line : List ℕ) × TakesLines old new (line ∷ []) × IsKind Kept held line
+ReadsLine old new TooLong held = (line : List ℕ) × TakesLines old new (line ∷ []) × IsKind TooLong held line
+ReadsLine old new Skipped held = (line : List ℕ) × TakesLines old new (line ∷ []) × IsKind Skipped held line
+
+-- Where the reader failed, it had given less than a line of the bytes to come.
+abbrev pub FailsAt : Option (List ℕ) → Option (List ℕ) → Result Line ScriptFault → Type 0
+FailsAt old new (Ok kind) = ⊤
+FailsAt old new (Err Script) = (begun : List ℕ) × All (λ b. b ≢ 10) begun × Consumes old new begun
+FailsAt old new (Err Output) = ⊤
+FailsAt old new (Err Memory) = ⊤

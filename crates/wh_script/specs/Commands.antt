@@ -1,15 +1,15 @@
 -- What a command says.
-use Rattle.std.specs.Prelude.{◌≡◌, ℕ, List, Result, Ok, Err}
+use Rattle.std.specs.Prelude.{◌≡◌, Result, Ok, Err}
 use Rattle.wh_script.specs.declared.command.Command.{Command}
 use Rattle.wh_script.specs.declared.command.Command.TheVariants.{Module}
 use Rattle.wh_script.specs.declared.fault.Complaint.{Complaint}
-use Rattle.wh_host_model.specs.Script.{IsModuleLine}
+use Rattle.wh_host_model.specs.Requests.{Request, keep_module, IsHex}
 
--- the line has the shape of this command
-abbrev pub HasShape : List ℕ → Command → Type 0
-HasShape line (Module name hex) = IsModuleLine line name.now hex.now
+-- the command is this request, its bytes still in digits
+abbrev pub Means : Command → Request → Type 0
+Means (Module name hex) (keep_module n bytes) = (name.now ≡ n) × IsHex hex.now bytes
 
--- the command is that of this name and this word
-abbrev pub IsModule : Result Command Complaint → List ℕ → List ℕ → Type 0
-IsModule (Ok (Module n h)) name word = (n.now ≡ name) × (h.now ≡ word)
-IsModule (Err e) name word = ⊥
+-- the command that is found is this request
+abbrev pub Finds : Result Command Complaint → Request → Type 0
+Finds (Ok command) request = Means command request
+Finds (Err e) request = ⊥

@@ -2,3 +2,4 @@ pub mod Coming
 pub mod Commands
 pub mod Numbering
 pub mod Replies
+pub mod Runs

@@ -2,10 +2,12 @@
 
 ghost use Rattle.std.specs.Prelude.{◌≡◌, ◌≢◌, ℕ, List, ◌∷◌, ◌++◌, IfSome, IfNone, IfOk, IfErr};
 ghost use Rattle.std.specs.Bool.{MatchBool};
-ghost use Rattle.std.specs.List.{All};
+ghost use Rattle.std.specs.Char.{is_ascii_hexdigit};
+ghost use Rattle.std.specs.List.{All, AllPass};
 ghost use Rattle.wh_host_model.specs.Script as spec;
-ghost use Rattle.wh_host_model.specs.Script.{IsName, IsWord, IsModuleLine};
-ghost use Rattle.wh_script.specs.Commands.{HasShape, IsModule};
+ghost use Rattle.wh_host_model.specs.Script.{IsName, IsWord};
+ghost use Rattle.wh_host_model.specs.Requests.{Request, Asks, IsHex};
+ghost use Rattle.wh_script.specs.Commands.{Means, Finds};
 
 use crate::fault::Complaint;
 use memchr::memchr;
@@ -44,6 +46,23 @@ fn is_word(bytes: &[u8]) -> bool
     !bytes.is_empty() && bytes.is_ascii() && memchr(b' ', bytes).is_none()
 }
 
+/// Whether a word is bytes in hexadecimal: two digits each, in either case.
+fn is_hex(word: &[u8]) -> bool
+    ensures { MatchBool result ((bytes : List ℕ) × IsHex word.now bytes) ((bytes : List ℕ) → IsHex word.now bytes → ⊥) }
+{
+    if word.len() % 2 != 0 {
+        return false;
+    }
+    has_digits_alone(word)
+}
+
+/// Whether all of the bytes are digits in hexadecimal.
+fn has_digits_alone(word: &[u8]) -> bool
+    ensures { MatchBool result (AllPass is_ascii_hexdigit word.now) (¬ (AllPass is_ascii_hexdigit word.now)) }
+{
+    word.iter().all(|b| b.is_ascii_hexdigit())
+}
+
 /// The two parts of a line at its first space.
 fn at_space(line: &[u8]) -> Option<(&[u8], &[u8])>
     ensures some { IfSome result (λ parts. (line.now ≡ parts.0.now ++ 32 ∷ parts.1.now) × All (λ b. b ≢ 32) parts.0.now) }
@@ -56,13 +75,12 @@ fn at_space(line: &[u8]) -> Option<(&[u8], &[u8])>
 /// The command that a line without its newline has, if it has one.
 ///
 /// # Errors
-/// `Syntax` where the line holds a byte above 127 or has not the shape of a command. That the digits of a `HEX` are digits
-/// isn't looked at here.
+/// `Syntax` where the line holds a byte above 127, has not the shape of a command, or a `HEX` isn't bytes in hexadecimal.
 pub fn parse(line: &[u8]) -> Result<Command<'_>, Complaint>
-    // The line has the shape of the command that is found.
-    ensures found { IfOk result (λ command. HasShape line.now command) }
-    // The command of whose shape the line is, is found.
-    ensures only { (name word : List ℕ) → IsModuleLine line.now name word → IsModule result name word }
+    // The line asks for what the command that is found means.
+    ensures found { IfOk result (λ command. (request : Request) × Asks line.now request × Means command request) }
+    // What the line asks for is found.
+    ensures only { (request : Request) → Asks line.now request → Finds result request }
     ensures err { IfErr result (λ e. e ≡ Complaint.Syntax) }
 {
     let Some(words) = line.strip_prefix(b"module ") else {
@@ -71,7 +89,7 @@ pub fn parse(line: &[u8]) -> Result<Command<'_>, Complaint>
     let Some((name, hex)) = at_space(words) else {
         return Err(Complaint::Syntax);
     };
-    if !is_name(name) || !is_word(hex) {
+    if !is_name(name) || !is_word(hex) || !is_hex(hex) {
         return Err(Complaint::Syntax);
     }
     let Ok(name) = str::from_utf8(name) else {

@@ -1,15 +1,20 @@
 //! The engine: one line after the other.
 
-ghost use Rattle.std.specs.Prelude.{◌≡◌, IfErr, string_bytes};
+ghost use Rattle.std.specs.Prelude.{◌≡◌, ℕ, List, IfOk, IfErr, OnOk, OnErr, string_bytes};
 ghost use Rattle.wh_model.specs.Numbering.{fault_number};
+ghost use Rattle.wh_host_model.specs.Replies.{no_modules, with_module};
+ghost use Rattle.wh_host_model.specs.Requests.{Request, keep_module, IsHex};
+ghost use Rattle.wh_syntax.specs.View.{view_module};
 ghost use Rattle.wh_host_model.specs.Script.{kept_reply, refused_reply, error_reply};
 ghost use Rattle.wh_script.specs.Numbering.{complaint_number};
-ghost use Rattle.wh_script.specs.Replies.{Sent};
+ghost use Rattle.wh_script.specs.Coming.{IsKind};
+ghost use Rattle.wh_script.specs.Commands.{Means};
+ghost use Rattle.wh_script.specs.Replies.{modules_of, Sent, Obeys, Answers};
+ghost use Rattle.wh_script.specs.Runs.{Runs};
 
 use crate::command::{Command, parse};
 use crate::fault::{Complaint, ScriptFault};
 use crate::lines::{Line, Lines};
-use hex::FromHexError;
 use std::alloc::{AllocError, Global};
 use std::collections::BTreeMap;
 use std::io::{ErrorKind, Read, Write};
@@ -30,32 +35,33 @@ struct Engine {
 /// Reads a script to its end, and writes the replies.
 ///
 /// # Errors
-/// `Script` where the reader fails, after the replies to the lines before; `Output` where the writer fails, after a
-/// beginning of the replies; `Memory` where there is none for the engine itself. Want of memory for a request is
-/// answered in its reply.
+/// `Script` where the reader fails, after the replies to the lines that it gave; `Output` where the writer fails, after a
+/// beginning of the replies; `Memory` where there is none for the engine itself, or where lines can't be counted, after the
+/// replies to the first lines. Want of memory for a request is answered in its reply.
 pub fn run_script<R: Read, W: Write>(
     alloc: Global,
     reader: &mut R,
     writer: &mut W,
-) -> Result<(), ScriptFault> {
+) -> Result<(), ScriptFault>
+    // The replies to the lines of the script were written, and nothing else; where it stopped, those to lines before.
+    ensures { Runs (R.remaining reader.old) (R.remaining reader.new) (W.contents writer.old) (W.contents writer.new) result }
+{
     let mut lines = Lines::new(alloc)?;
     let mut engine = Engine::new(alloc)?;
     for number in 1..u64::MAX {
         match lines.read(reader)? {
             Line::End => return Ok(()),
-            Line::Skipped => {}
-            Line::TooLong => engine.complain(writer, Complaint::Syntax, number)?,
-            Line::Kept => match parse(lines.line()) {
-                Ok(command) => engine.obey(writer, command, number)?,
-                Err(complaint) => engine.complain(writer, complaint, number)?,
-            },
+            kind => engine.answer(writer, kind, lines.line(), number)?,
         }
     }
-    Err(ScriptFault::Script)
+    Err(ScriptFault::Memory)
 }
 
 impl Engine {
-    fn new(alloc: Global) -> Result<Engine, ScriptFault> {
+    fn new(alloc: Global) -> Result<Engine, ScriptFault>
+        ensures none { IfOk result (λ engine. modules_of engine ≡ no_modules) }
+        ensures err { IfErr result (λ e. e ≡ ScriptFault.Memory) }
+    {
         let Ok(reply) = String::with_capacity(alloc, LONGEST_REPLY) else {
             return Err(ScriptFault::Memory);
         };
@@ -66,41 +72,73 @@ impl Engine {
         })
     }
 
-    fn obey<W: Write>(
+    /// Answers a line that was read.
+    fn answer<W: Write>(
         &mut self,
         writer: &mut W,
-        command: Command<'_>,
+        kind: Line,
+        held: &[u8],
         number: u64,
-    ) -> Result<(), ScriptFault> {
-        match command {
-            Command::Module { name, hex } => match self.bytes_of(name, hex) {
-                Ok(bytes) => self.module(writer, name, &bytes, number),
+    ) -> Result<(), ScriptFault>
+        ensures { (line : List ℕ) → IsKind kind held.now line
+            → Answers self.old self.new number line (W.contents writer.old) (W.contents writer.new) result }
+    {
+        match kind {
+            Line::End | Line::Skipped => Ok(()),
+            Line::TooLong => self.complain(writer, Complaint::Syntax, number),
+            Line::Kept => match parse(held) {
+                Ok(command) => self.obey(writer, command, number),
                 Err(complaint) => self.complain(writer, complaint, number),
             },
         }
     }
 
-    /// The bytes that a module line brings for a name that is free.
-    fn bytes_of(&self, name: &str, hex: &str) -> Result<Vec<u8>, Complaint> {
-        let bytes = hex::decode(self.alloc, hex);
-        if let Err(FromHexError::InvalidHexCharacter { .. } | FromHexError::OddLength) = bytes {
-            return Err(Complaint::Syntax);
+    fn obey<W: Write>(
+        &mut self,
+        writer: &mut W,
+        command: Command<'_>,
+        number: u64,
+    ) -> Result<(), ScriptFault>
+        ensures { (request : Request) → Means command.entry request
+            → Obeys self.old self.new number request (W.contents writer.old) (W.contents writer.new) result }
+    {
+        match command {
+            Command::Module { name, hex } => self.module(writer, name, hex, number),
         }
-        if self.modules.contains_key(name) {
-            return Err(Complaint::NameTaken);
-        }
-        bytes.map_err(|_| Complaint::Memory)
     }
 
-    /// Decodes a module, and keeps it under the name if it is one.
     fn module<W: Write>(
         &mut self,
         writer: &mut W,
         name: &str,
-        bytes: &[u8],
+        hex: &str,
         number: u64,
-    ) -> Result<(), ScriptFault> {
-        match decode(self.alloc, bytes) {
+    ) -> Result<(), ScriptFault>
+        ensures { (bytes : List ℕ) → IsHex hex.now bytes
+            → Obeys self.old self.new number (keep_module name.now bytes) (W.contents writer.old) (W.contents writer.new) result }
+    {
+        if self.modules.contains_key(name) {
+            return self.complain(writer, Complaint::NameTaken, number);
+        }
+        self.new_module(writer, name, hex, number)
+    }
+
+    /// Decodes a module, and keeps it under a free name if it is one.
+    fn new_module<W: Write>(
+        &mut self,
+        writer: &mut W,
+        name: &str,
+        hex: &str,
+        number: u64,
+    ) -> Result<(), ScriptFault>
+        requires { modules_of self.old name.now ≡ None }
+        ensures { (bytes : List ℕ) → IsHex hex.now bytes
+            → Obeys self.old self.new number (keep_module name.now bytes) (W.contents writer.old) (W.contents writer.new) result }
+    {
+        let Ok(bytes) = hex::decode(self.alloc, hex) else {
+            return self.complain(writer, Complaint::Memory, number);
+        };
+        match decode(self.alloc, &bytes) {
             Ok(module) => {
                 if self.keep(name, module).is_err() {
                     return self.complain(writer, Complaint::Memory, number);
@@ -111,15 +149,18 @@ impl Engine {
         }
     }
 
-    fn keep(&mut self, name: &str, module: Module) -> Result<(), AllocError> {
+    fn keep(&mut self, name: &str, decoded: Module) -> Result<(), AllocError>
+        ensures kept { OnOk result (modules_of self.new ≡ with_module (modules_of self.old) name.now (view_module decoded)) }
+        ensures same { OnErr result (modules_of self.new ≡ modules_of self.old) }
+    {
         let name = String::from_str(self.alloc, name)?;
-        self.modules.insert(name, module)?;
+        self.modules.insert(name, decoded)?;
         Ok(())
     }
 
     fn accept<W: Write>(&mut self, writer: &mut W, name: &str) -> Result<(), ScriptFault>
         ensures sent { Sent (W.contents writer.old) (W.contents writer.new) result (kept_reply name.now) }
-        ensures names { self.new.modules ≡ self.old.modules }
+        ensures names { modules_of self.new ≡ modules_of self.old }
     {
         self.reply.clear();
         if writeln!(self.reply, "module {name} ok").is_err() {
@@ -135,7 +176,7 @@ impl Engine {
         fault: DecodeError,
     ) -> Result<(), ScriptFault>
         ensures sent { Sent (W.contents writer.old) (W.contents writer.new) result (refused_reply name.now (fault_number fault.kind) fault.offset) }
-        ensures names { self.new.modules ≡ self.old.modules }
+        ensures names { modules_of self.new ≡ modules_of self.old }
     {
         let kind = fault.kind.number();
         let offset = fault.offset;
@@ -153,7 +194,7 @@ impl Engine {
         line: u64,
     ) -> Result<(), ScriptFault>
         ensures sent { Sent (W.contents writer.old) (W.contents writer.new) result (error_reply (complaint_number complaint) line) }
-        ensures names { self.new.modules ≡ self.old.modules }
+        ensures names { modules_of self.new ≡ modules_of self.old }
     {
         let cause = complaint.number();
         self.reply.clear();

@@ -9,16 +9,19 @@
 //!
 //! A line that can't be obeyed is answered `error C1 line 4`, with the number of the line; `Complaint` lists the causes.
 //!
-//! Proved: over a reader whose bytes are known, the lines that are read are those of the bytes, each whole, and each is
-//! rightly skipped, too long or kept; `parse` finds the one command of whose shape a line is; and each reply's text is
-//! written whole, or a beginning of it where the writer fails. That each line gets its reply, in order, is tested.
+//! Proved: over a reader and a writer whose bytes are known, what `run_script` writes are the replies to the lines of the
+//! script, in order and each under the number of its line, and nothing else; where the reader or the writer fails, or
+//! memory is wanted, those to lines before, or a beginning of them. Where memory is wanted for a request, its reply may be
+//! C5 or D13 in place of the one that it has. That nothing of this comes without its cause is tested.
 #![tactic(auto)]
 
 mod command;
 mod engine;
 mod fault;
+mod laws;
 mod lines;
 
 pub use command::{Command, parse};
 pub use engine::run_script;
 pub use fault::{Complaint, ScriptFault};
+pub use laws::one_text;

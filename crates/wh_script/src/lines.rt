@@ -1,10 +1,10 @@
 //! The lines of a script, one at a time, in memory of a fixed size.
 
-ghost use Rattle.std.specs.Prelude.{◌≡◌, ◌≢◌, ℕ, ◌+◌, ◌<◌, ◌≤◌, false, List, [], ◌∷◌, ◌++◌, drop, length, IfOk, OnOk, IfErr};
+ghost use Rattle.std.specs.Prelude.{◌≡◌, ◌≢◌, ℕ, ◌+◌, ◌<◌, ◌≤◌, false, List, [], ◌∷◌, ◌++◌, drop, length, IfOk, OnOk, IfErr, OnErr};
 ghost use Rattle.std.specs.Bool.{MatchBool, OnTrue};
 ghost use Rattle.std.specs.List.{All};
-ghost use Rattle.std.specs.Io.KnownBytes.{Consumes, IsAtEnd};
-ghost use Rattle.wh_script.specs.Coming.{unread, coming, Within, Holds, Takes, IsKind, ReadsLine};
+ghost use Rattle.std.specs.Io.KnownBytes.{Consumes, Keeps, IsAtEnd};
+ghost use Rattle.wh_script.specs.Coming.{unread, coming, Within, Holds, Takes, IsKind, ReadsLine, FailsAt};
 
 use crate::fault::ScriptFault;
 use memchr::memchr;
@@ -76,12 +76,15 @@ impl Lines {
     /// Reads the next line. A comment isn't kept, whatever it holds.
     ///
     /// # Errors
-    /// `Script` where the reader fails; `Memory` only if room that was reserved is refused after all.
+    /// `Script` where the reader fails; `Memory` only if room that was reserved is refused after all, or where the pieces of
+    /// the line can't be counted.
     pub fn read<R: Read>(&mut self, reader: &mut R) -> Result<Line, ScriptFault>
         requires { Within self.old }
         // It is the first of the lines to come, and what is said of it is so.
         ensures line { IfOk result (λ kind. ReadsLine (coming self.old (R.remaining reader.old))
             (coming self.new (R.remaining reader.new)) kind self.new.line.items) }
+        // Where the reader failed, no whole line was lost.
+        ensures failed { FailsAt (coming self.old (R.remaining reader.old)) (R.remaining reader.new) result }
         ensures within { OnOk result (Within self.new) }
         ensures err { IfErr result (λ e. e ≢ ScriptFault.Output) }
     {
@@ -100,7 +103,7 @@ impl Lines {
                 return Ok(self.kind());
             }
         }
-        Err(ScriptFault::Script)
+        Err(ScriptFault::Memory)
     }
 
     /// What the line is that was read.
@@ -118,6 +121,7 @@ impl Lines {
     fn has_more<R: Read>(&mut self, reader: &mut R) -> Result<bool, ScriptFault>
         requires { Within self.old }
         ensures bytes { OnOk result (Consumes (coming self.old (R.remaining reader.old)) (coming self.new (R.remaining reader.new)) []) }
+        ensures none { OnErr result (Consumes (coming self.old (R.remaining reader.old)) (R.remaining reader.new) []) }
         ensures more { IfOk result (λ more. MatchBool more (self.new.next < self.new.end) (IsAtEnd (coming self.new (R.remaining reader.new)))) }
         ensures within { OnOk result (Within self.new) }
         ensures line { (self.new.line ≡ self.old.line) × (self.new.is_long ≡ self.old.is_long) }
@@ -134,6 +138,7 @@ impl Lines {
     fn fill<R: Read>(&mut self, reader: &mut R) -> Result<bool, ScriptFault>
         requires { Within self.old }
         ensures bytes { OnOk result (Consumes (R.remaining reader.old) (R.remaining reader.new) (unread self.new)) }
+        ensures none { OnErr result (Keeps (R.remaining reader.old) (R.remaining reader.new)) }
         ensures more { IfOk result (λ more. MatchBool more (self.new.next < self.new.end) (IsAtEnd (R.remaining reader.new) × (unread self.new ≡ []))) }
         ensures within { OnOk result (Within self.new) }
         ensures line { (self.new.line ≡ self.old.line) × (self.new.is_long ≡ self.old.is_long) }

@@ -36,6 +36,8 @@ pub struct Tired {
     pub written: Vec<u8>,
     /// How many writes there may be.
     pub writes: usize,
+    /// How often it was flushed.
+    pub flushes: usize,
 }
 
 impl Write for Tired {
@@ -49,6 +51,7 @@ impl Write for Tired {
     }
 
     fn flush(&mut self) -> Result<()> {
+        self.flushes = self.flushes.saturating_add(1);
         Ok(())
     }
 }

@@ -146,6 +146,25 @@ fn lines_have_2200000_bytes_at_most(rt: HostRuntime) -> Result<(), Fail> {
     Ok(())
 }
 
+#[test]
+fn all_lines_are_counted(rt: HostRuntime) -> Result<(), Fail> {
+    let mut script = Vec::new(rt.alloc());
+    let mut replies = Vec::new(rt.alloc());
+    for number in 1..30001 {
+        if number % 3 == 0 {
+            script.extend_from_slice(b"# no line to obey\n")?;
+        } else {
+            script.extend_from_slice(b"no command\n")?;
+            let reply = format!(in rt.alloc(); "error C1 line {number}\n")?;
+            replies.extend_from_slice(reply.as_bytes())?;
+        }
+    }
+    let (result, written) = outcome(&rt, script.as_slice())?;
+    assert_eq!(rt; result, Ok(()));
+    assert!(rt; written.as_slice() == replies.as_slice());
+    Ok(())
+}
+
 const THREE: &[u8] = b"module m 00\nmodule m 0061736d01000000\n\nmodule m 00\n";
 
 const THREE_REPLIES: &[u8] = b"module m refused D3 at 1\nmodule m ok\nerror C3 line 4\n";
@@ -156,6 +175,7 @@ fn a_failed_write_ends_a_script(rt: HostRuntime) -> Result<(), Fail> {
         let mut writer = Tired {
             written: Vec::new(rt.alloc()),
             writes,
+            flushes: 0,
         };
         let mut reader = THREE;
         let result = run_script(rt.alloc(), &mut reader, &mut writer);
@@ -166,10 +186,12 @@ fn a_failed_write_ends_a_script(rt: HostRuntime) -> Result<(), Fail> {
     let mut writer = Tired {
         written: Vec::new(rt.alloc()),
         writes: 3,
+        flushes: 0,
     };
     let mut reader = THREE;
     assert_eq!(rt; run_script(rt.alloc(), &mut reader, &mut writer), Ok(()));
     assert!(rt; writer.written.as_slice() == THREE_REPLIES);
+    assert_eq!(rt; writer.flushes, 3, "once for each reply");
     Ok(())
 }
 

@@ -1,6 +1,6 @@
 use Rattle.std.proofs.Common.{rules, ◌++◌, ap, vec_items, arith, length-append}
 use Rattle.wh_script.specs.Coming.{unread, coming}
-use Rattle.wh_script.proofs.Coming.{says, last_line, consumes_on, line_ends, line_goes_on, holds_same}
+use Rattle.wh_script.proofs.Coming.{fails_at, says, last_line, consumes_on, line_ends, line_goes_on, holds_same}
 use Rattle.wh_script.proofs.lines.Lines.read.Goals as goal
 
 pub returns-then-begun-clause-line : goal.returns-then-begun-clause-line
@@ -49,3 +49,9 @@ loop-preserved g c =
     let cut = rw c.if-branch.false at took.cut in
     let more = line_goes_on a (coming c.loop.self (left c.loop.reader)) (left c.has_more.new.reader) (unread l) (unread n) line piece inv.1 took.free inv.4 c.in_ok-has_more.ensures.bytes cut in
     record { within = search rules; so_far = (line ++ piece, more.0, took.held line held, omega (arith, length-append line piece, took.some c.if-branch.false), more.1) }
+
+pub returns-in_err-has_more-clause-failed : goal.returns-in_err-has_more-clause-failed
+returns-in_err-has_more-clause-failed g c =
+    let left = g.R.Read.remaining in
+    let inv = c.loop.invariant.so_far in
+    fails_at (coming c.args.self.now (left c.args.reader.now)) (coming c.loop.self (left c.loop.reader)) (left c.has_more.new.reader) c.from_residual.result inv.0 inv.1 inv.4 c.in_err-has_more.ensures.none
