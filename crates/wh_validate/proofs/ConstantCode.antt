@@ -66,8 +66,8 @@ op_constant gs labels i op t e h =
     ⊎_elim
     (λ (n, p, q). is_i32 gs labels i n t (e ∙ ap single (same_op op (i32_const n) p)) q)
     (λ w. ⊎_elim
-      (λ (n, p, q). is_i64 gs labels i n t (e ∙ ap single (same_op op (i64_const n) p)) q)
-      (λ (x, p, q). is_global gs labels i x t (e ∙ ap single (same_op op (global_get x) p)) q) w) h
+    (λ (n, p, q). is_i64 gs labels i n t (e ∙ ap single (same_op op (i64_const n) p)) q)
+    (λ (x, p, q). is_global gs labels i x t (e ∙ ap single (same_op op (global_get x) p)) q) w) h
 
 -- ---- both
 

@@ -133,5 +133,5 @@ pub if_ok_turned : {V E : Type 0} (tables_of : V → List Table) (m : Module) (g
     → IfOk r (λ v. Checked (view_context c) fs (map view_body bs) (tables_of v)) → IfOk r (λ v. IsSound (view_module m) (tables_of v))
 if_ok_turned tables_of m g c fs bs (Ok v) gathered types funcs ts memories globals around ef eb checked =
     is_sound m g c gathered types funcs ts memories globals (tables_of v) around
-      (subst (λ w. Checked (view_context c) m.funcs.items (map view_body w) (tables_of v)) eb (subst (λ w. Checked (view_context c) w (map view_body bs) (tables_of v)) ef checked))
+    (subst (λ w. Checked (view_context c) m.funcs.items (map view_body w) (tables_of v)) eb (subst (λ w. Checked (view_context c) w (map view_body bs) (tables_of v)) ef checked))
 if_ok_turned tables_of m g c fs bs (Err e) gathered types funcs ts memories globals around ef eb checked = tt

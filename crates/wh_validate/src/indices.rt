@@ -36,11 +36,7 @@ pub fn push<T: Drop>(items: &mut Vec<T>, item: T) -> Result<(), ValidKind>
 ///
 /// # Errors
 /// `Index` where the type of a function isn't there.
-pub fn imported(
-    alloc: Heap,
-    types: &[FuncType],
-    imports: &[Import],
-) -> Result<Indices, ValidKind>
+pub fn imported(alloc: Heap, types: &[FuncType], imports: &[Import]) -> Result<Indices, ValidKind>
     ensures funcs { IfOk result (λ i. i.funcs.items ≡ imported_funcs (map view_import imports.now)) }
     ensures globals { IfOk result (λ i. map view_global_type i.globals.items ≡ imported_globals (map view_import imports.now)) }
     ensures decides { Decides result (All (λ i. NamesType (length types.now) i) imports.now) }

@@ -36,11 +36,7 @@ pub fn check_index<T>(items: &[T], index: u32) -> Result<(), ValidKind>
 /// # Errors
 /// As `check_constant`'s.
 #[tactic(auto, unfolding(crate::specs::Parts::IsGlobal))]
-fn check_global(
-    global: &Global,
-    globals: &[GlobalType],
-    imported: usize,
-) -> Result<(), ValidKind>
+fn check_global(global: &Global, globals: &[GlobalType], imported: usize) -> Result<(), ValidKind>
     ensures decides { Decides result (IsGlobal (map view_global_type (take imported globals.now)) global.now) }
     ensures err { IfErr result (λ k. k ≢ ValidKind.Memory) }
 {

@@ -12,6 +12,7 @@ use wh_bodies::ValidKind;
 use wh_syntax::{Limits, TableType};
 
 const MOST_PAGES: u32 = 65536;
+
 const MOST_FIRST_ENTRIES: u32 = 4096;
 
 /// Whether there is one table at most, with 4096 entries at first at most, and no more than at last.

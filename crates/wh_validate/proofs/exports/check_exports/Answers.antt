@@ -11,7 +11,7 @@ loop-export-init c = record { there = λ k d lt. absurd (omega (arith, lt)); see
 pub returns-in-Err : goal.returns-in-Err
 returns-in-Err c = record {
   decides = λ other both.
-    repeats_seen c.loop-export.names c.args.exports.now c.loop-export.export-index c.export-item.result c.deref.result.now c.export-item.is c.deref.ensures c.loop-export.invariant.seen c.loop-export-test.true (c.in-Err.ensures.err other).1 both.1;
+      repeats_seen c.loop-export.names c.args.exports.now c.loop-export.export-index c.export-item.result c.deref.result.now c.export-item.is c.deref.ensures c.loop-export.invariant.seen c.loop-export-test.true (c.in-Err.ensures.err other).1 both.1;
 }
 
 pub loop-export-preserved : goal.loop-export-preserved
