@@ -15,3 +15,4 @@ pub mod OpsForward
 pub mod ConstructsForward
 pub mod Complete
 pub mod Refused
+pub mod BodyKinds

@@ -17,6 +17,20 @@ kind_number Height = 9
 kind_number ConstImmutable = 10
 kind_number Memory = 11
 
+-- the faults that a body's instructions can have
+abbrev pub IsOfBody : ValidKind → Type 0
+IsOfBody Const = ⊥
+IsOfBody DuplicateExport = ⊥
+IsOfBody Start = ⊥
+IsOfBody BadType = Unit {0}
+IsOfBody Index = Unit {0}
+IsOfBody Align = Unit {0}
+IsOfBody Arity = Unit {0}
+IsOfBody Limits = Unit {0}
+IsOfBody Height = Unit {0}
+IsOfBody ConstImmutable = Unit {0}
+IsOfBody Memory = Unit {0}
+
 -- one step, and another one from what it leaves
 abbrev pub follow : {A B E : Type 0} → Result A E → (A → Result B E) → Result B E
 follow (Ok x) next = next x

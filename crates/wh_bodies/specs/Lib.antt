@@ -1,6 +1,7 @@
 pub mod Faults
 pub mod Known
 pub mod Table
+pub mod Classes
 pub mod Stepping
 pub mod Marks
 pub mod Opened
