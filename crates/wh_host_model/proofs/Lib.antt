@@ -1,3 +1,4 @@
 pub mod FrameLemmas
+pub mod LinkingLemmas
 pub mod PageLemmas
 pub mod Tally

@@ -1,5 +1,6 @@
 pub mod Frames
 pub mod Hash
+pub mod Linking
 pub mod Pages
 pub mod Replies
 pub mod Requests

@@ -4,7 +4,10 @@ use Rattle.wh_model.specs.declared.FaultKind.{FaultKind}
 use Rattle.wh_model.specs.Numbering.{fault_number}
 use Rattle.wh_model.specs.Syntax.{Module}
 use Rattle.wh_model.specs.Spelling.{Spells, Small, IsBroken}
-use Rattle.wh_host_model.specs.Script.{is_skipped, longest_line, error_reply, kept_reply, refused_reply}
+use Rattle.wh_model.specs.Validity.{Valid}
+use Rattle.wh_model.specs.Heights.{Fits}
+use Rattle.wh_host_model.specs.Linking.{ImportFault, import_fault_number, Links, IsFirstFault}
+use Rattle.wh_host_model.specs.Script.{is_skipped, longest_line, Place, error_reply, kept_reply, refused_reply, invalid_reply, unlinked_reply, no_link_memory_reply}
 use Rattle.wh_host_model.specs.Requests.{Request, keep_module, Asks}
 
 -- which module each name has, if it has one
@@ -19,17 +22,34 @@ no_modules name = None
 abbrev pub with_module : Modules → List ℕ → Module → Modules
 with_module modules name m other = if bytes_eq name other then Some m else modules other
 
--- The reply to a module, and what is kept before and after it: a taken name is C3, whatever the bytes; a module that the
--- bytes spell is kept; bytes that break are refused with their fault, and the name stays free.
+-- the bytes spell the module, within the limits of the format
+pub record IsModule (bytes : List ℕ) (m : Module) : Type 0 where
+  pub spelled : Spells bytes m
+  pub small : Small bytes m
+
+-- the validator's faults are numbered so, but for want of memory
+abbrev pub IsValidFault : ℕ → Type 0
+IsValidFault kind = (1 ≤ kind) × (kind ≤ 10)
+
+-- The reply to a module, and what is kept before and after it. A taken name is C3, whatever the bytes. Bytes that break are
+-- refused with their fault. A module that isn't valid, or doesn't fit, is refused with one of the validator's faults, and which
+-- one and where is left open; one that has an import without its item is refused with the first such import. Else the module
+-- is kept. Where it is refused the name stays free.
 pub data ModuleReply (before : Modules) (number : ℕ) (name bytes text : List ℕ) (after : Modules) : Type 0 where
   taken : (m : Module) → before name ≡ Some m → text ≡ error_reply 3 number → after ≡ before → ModuleReply before number name bytes text after
-  kept : (m : Module) → before name ≡ None → Spells bytes m → Small bytes m → text ≡ kept_reply name → after ≡ with_module before name m → ModuleReply before number name bytes text after
+  kept : (m : Module) → before name ≡ None → IsModule bytes m → Valid m → Fits m → Links m → text ≡ kept_reply name → after ≡ with_module before name m → ModuleReply before number name bytes text after
   refused : (kind : FaultKind) (offset : ℕ) → before name ≡ None → IsBroken bytes kind offset → text ≡ refused_reply name (fault_number kind) offset → after ≡ before → ModuleReply before number name bytes text after
+  invalid : (m : Module) (kind : ℕ) (place : Place) → before name ≡ None → IsModule bytes m → ¬ (Valid m × Fits m) → IsValidFault kind → text ≡ invalid_reply name kind place → after ≡ before → ModuleReply before number name bytes text after
+  unlinked : (m : Module) (fault : ImportFault) (place : ℕ) → before name ≡ None → IsModule bytes m → Valid m → Fits m → IsFirstFault m fault place → text ≡ unlinked_reply name (import_fault_number fault) place → after ≡ before
+      → ModuleReply before number name bytes text after
 
--- What a module may get instead where memory is wanted: C5, or the decoder's D13 at some place. Its name is free, and stays so.
-pub data ModuleWant (before : Modules) (number : ℕ) (name text : List ℕ) (after : Modules) : Type 0 where
-  by_engine : before name ≡ None → text ≡ error_reply 5 number → after ≡ before → ModuleWant before number name text after
-  by_decoder : (offset : ℕ) → before name ≡ None → text ≡ refused_reply name 13 offset → after ≡ before → ModuleWant before number name text after
+-- What a module may get instead where memory is wanted: C5, the decoder's D13 at some place, the validator's V11 at some place,
+-- or L3. Its name is free, and stays so.
+pub data ModuleWant (before : Modules) (number : ℕ) (name bytes text : List ℕ) (after : Modules) : Type 0 where
+  by_engine : before name ≡ None → text ≡ error_reply 5 number → after ≡ before → ModuleWant before number name bytes text after
+  by_decoder : (offset : ℕ) → before name ≡ None → text ≡ refused_reply name 13 offset → after ≡ before → ModuleWant before number name bytes text after
+  by_validator : (m : Module) (place : Place) → before name ≡ None → IsModule bytes m → text ≡ invalid_reply name 11 place → after ≡ before → ModuleWant before number name bytes text after
+  by_linker : (m : Module) → before name ≡ None → IsModule bytes m → Valid m → Fits m → text ≡ no_link_memory_reply name → after ≡ before → ModuleWant before number name bytes text after
 
 -- what requests get: what is kept before, the number of the line, the request, the text of the reply, what is kept after
 abbrev pub Replying : Type 1
@@ -41,7 +61,7 @@ Reply before number (keep_module name bytes) text after = ModuleReply before num
 
 -- what a request may get instead where memory is wanted
 abbrev pub Want : Replying
-Want before number (keep_module name bytes) text after = ModuleWant before number name text after
+Want before number (keep_module name bytes) text after = ModuleWant before number name bytes text after
 
 -- the reply, or want of memory
 abbrev pub ReplyOrWant : Replying
@@ -63,3 +83,13 @@ Replies gets before number (line ∷ lines) text after = (reply rest : List ℕ)
 -- the text is what the first lines of a script get
 abbrev pub AreReplies : Replying → List (List ℕ) → List ℕ → Type 0
 AreReplies gets lines text = (after : Modules) × Replies gets no_modules 1 lines text after
+
+-- Two replies to a line agree: they are the same, or they refuse a module of one name with faults of the validator.
+pub data AgreeAt (reply other : List ℕ) : Type 0 where
+  same : reply ≡ other → AgreeAt reply other
+  both_invalid : (name : List ℕ) (kind kind2 : ℕ) (place place2 : Place) → IsValidFault kind → IsValidFault kind2 → reply ≡ invalid_reply name kind place → other ≡ invalid_reply name kind2 place2 → AgreeAt reply other
+
+-- the replies to lines agree, one by one
+abbrev pub Agree : List (List ℕ) → List ℕ → List ℕ → Type 0
+Agree [] text other = (text ≡ []) × (other ≡ [])
+Agree (line ∷ lines) text other = (reply reply2 rest rest2 : List ℕ) × (text ≡ reply ++ rest) × (other ≡ reply2 ++ rest2) × AgreeAt reply reply2 × Agree lines rest rest2

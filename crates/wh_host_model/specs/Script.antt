@@ -55,3 +55,21 @@ kept_reply name = codes "module " ++ name ++ codes " ok\n"
 -- `module NAME refused D3 at 7`
 abbrev pub refused_reply : List ℕ → ℕ → ℕ → List ℕ
 refused_reply name kind offset = codes "module " ++ name ++ codes " refused D" ++ decimal kind ++ codes " at " ++ decimal offset ++ codes "\n"
+
+-- where a fault of the validator lies: in no function, or at an instruction of one
+pub data Place : Type 0 where
+  in_module : Place
+  in_func : (func instr : ℕ) → Place
+
+-- `module NAME refused V6 module`, or `module NAME refused V1 func 0 instr 4`
+abbrev pub invalid_reply : List ℕ → ℕ → Place → List ℕ
+invalid_reply name kind in_module = codes "module " ++ name ++ codes " refused V" ++ decimal kind ++ codes " module\n"
+invalid_reply name kind (in_func func instr) = codes "module " ++ name ++ codes " refused V" ++ decimal kind ++ codes " func " ++ decimal func ++ codes " instr " ++ decimal instr ++ codes "\n"
+
+-- `module NAME refused L1 import 0`
+abbrev pub unlinked_reply : List ℕ → ℕ → ℕ → List ℕ
+unlinked_reply name kind place = codes "module " ++ name ++ codes " refused L" ++ decimal kind ++ codes " import " ++ decimal place ++ codes "\n"
+
+-- `module NAME refused L3`
+abbrev pub no_link_memory_reply : List ℕ → List ℕ
+no_link_memory_reply name = codes "module " ++ name ++ codes " refused L3\n"

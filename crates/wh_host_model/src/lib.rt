@@ -5,6 +5,27 @@
 
 ghost use Rattle.std.specs.Prelude.{◌≤◌, ◌<◌};
 
+use wh_model::HostFunc;
+
+/// A global that the host offers for import, in its module `host`. It is never written; the owner of an instance gives its
+/// value.
+#[derive(Clone, Copy, Debug, PartialEq, Eq)]
+pub enum HostGlobal {
+    /// `base`, an i32.
+    Base,
+    /// `salt`, an i64.
+    Salt,
+}
+
+/// An item that the host offers for import, in its module `host`.
+#[derive(Clone, Copy, Debug, PartialEq, Eq)]
+pub enum HostItem {
+    /// A function.
+    Func(HostFunc),
+    /// A global.
+    Global(HostGlobal),
+}
+
 /// The tax on idle memory: the fraction `num / den` of a page that isn't touched is taken from its owner, so that
 /// an idle page costs its owner as much as `den / (den - num)` touched ones.
 #[derive(Clone, Copy, Debug, PartialEq, Eq)]

@@ -24,3 +24,4 @@ pub mod Instance
 pub mod Replay
 pub mod ReplayLaws
 pub mod Worked
+pub mod Memory

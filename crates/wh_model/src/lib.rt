@@ -7,6 +7,9 @@
 ghost use Rattle.std.specs.Prelude.{◌≡◌};
 ghost use Rattle.wh_model.specs.Numbering.{fault_number, trap_number};
 
+mod memory;
+
+pub use memory::{Got, Grown, Need};
 use thiserror::Error;
 
 /// What is wrong with the bytes of a module. The standard says only which bytes are a module; these kinds, and
