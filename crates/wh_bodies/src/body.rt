@@ -19,12 +19,23 @@ use crate::labels::Label;
 use crate::marks::{Mark, all_marks};
 use crate::operands::Operands;
 use crate::steps::{Checker, step};
-use crate::table::SideTable;
+use crate::table::{Entry, SideTable};
 use std::alloc::Global;
 use wh_model::{Open, ValType};
 use wh_syntax::{Body, FuncType, Instr};
 
 const MOST_LOCALS: usize = 256;
+
+/// An empty table with room for so many entries.
+fn room(alloc: Global, count: u32) -> Result<Vec<Entry>, ValidKind>
+    ensures ok { IfOk result (λ entries. entries.items ≡ []) }
+    ensures err { IfErr result (λ k. k ≡ ValidKind.Memory) }
+{
+    match Vec::with_capacity(alloc, count as usize) {
+        Ok(entries) => Ok(entries),
+        Err(_) => Err(ValidKind::Memory),
+    }
+}
 
 /// What is known before the first of so many instructions.
 fn start(
@@ -55,7 +66,7 @@ fn start(
         },
         labels,
         marks,
-        entries: Vec::new(alloc),
+        entries: room(alloc, count)?,
         pool: Vec::new(alloc),
     })
 }

@@ -1,7 +1,8 @@
 //! The check of one function body (sections 3.3 and 3.4.3 of the W3C WebAssembly Core Specification 1.0, by the forward
 //! algorithm of its appendix 7.3), and where its branches lead.
 //!
-//! A body that is checked is typed as `wh_model` defines it, and no more than 256 operands stand in it at any place.
+//! A body that is checked is typed as `wh_model` defines it, and no more than 256 operands stand in it at any place. One
+//! that is refused isn't, or doesn't fit, unless memory was refused.
 #![tactic(auto)]
 
 mod body;

@@ -1,5 +1,5 @@
 -- One body more is checked; and what is known of checked bodies.
-use Rattle.std.proofs.Common.{◌≡◌, ℕ, zero, suc, ◌+◌, ◌<◌, List, [], ◌∷◌, ◌++◌, length, map, drop, get_or, Some, slice_get, refl, sym, ap, subst, arith, ◌∙◌, append_assoc, append-nil, ◌≤◌}
+use Rattle.std.proofs.Common.{◌≡◌, ℕ, zero, suc, ◌+◌, ◌<◌, List, [], ◌∷◌, ◌++◌, length, map, drop, get_or, Some, slice_get, refl, sym, ap, subst, arith, ◌∙◌, append_assoc, append-nil, ◌≤◌, Option, min, ◌-◌, ◌^◌}
 use Rattle.std.proofs.Math.ListN.{drop_of_length-le}
 use Rattle.wh_model.specs.Syntax.{FuncType, Body}
 use Rattle.wh_model.specs.Typing.{Context}
@@ -9,6 +9,8 @@ use Rattle.wh_syntax.specs.View.{view_body}
 use Rattle.wh_syntax.specs.declared.module.Body.{Body as Given}
 use Rattle.wh_bodies.specs.Table.{Table, table_of}
 use Rattle.wh_validate.specs.Soundness.{Checked}
+use Rattle.wh_validate.specs.Blaming.{IsBadBody, Blames}
+use Rattle.wh_validate.proofs.Lists.{get_there, get_mapped}
 
 abbrev pub Rests : Context → List ℕ → List Given → ℕ → List Table → Type 0
 Rests c fs bs k ts = (rest : List Table) → Checked c (drop k fs) (map view_body (drop k bs)) rest → Checked c fs (map view_body bs) (ts ++ rest)
@@ -39,3 +41,49 @@ pub all_checked : (c : Context) (fs : List ℕ) (bs : List Given) (k : ℕ) (ts 
 all_checked c fs bs k ts lf lb rests =
     let no_more : Checked c (drop k fs) (map view_body (drop k bs)) [] = subst (λ (w : List ℕ). Checked c w (map view_body (drop k bs)) []) (sym (drop_of_length-le fs lf)) (ap (λ w. map view_body w) (drop_of_length-le bs lb), refl) in
     subst (λ w. Checked c fs (map view_body bs) w) (append-nil ts) (rests [] no_more)
+
+-- ---- a body of bodies that are valid and fit
+
+body_valid : (c : Context) (fs : List ℕ) (bs : List Given) (k d : ℕ) (e : Given) (f : FuncType) → k < length fs → ValidBodies c fs (map view_body bs) → slice_get c.types (get_or fs k d) ≡ Some f → ValidBody c f (view_body (get_or bs k e))
+body_valid c [] bs k d e f lt all type = absurd (omega (arith, lt))
+body_valid c (x ∷ fs) [] k d e f lt (b, rest, eb, t, at, valid, more) type = absurd (cc eb)
+body_valid c (x ∷ fs) (g ∷ bs) zero d e f lt (b, rest, eb, t, at, valid, more) type =
+    let same : t ≡ f = cc (at, type) in
+    let body : b ≡ view_body g = cc eb in
+    subst (λ w. ValidBody c w (view_body g)) same (subst (λ w. ValidBody c t w) body valid)
+body_valid c (x ∷ fs) (g ∷ bs) (suc k) d e f lt (b, rest, eb, t, at, valid, more) type =
+    let others : rest ≡ map view_body bs = cc eb in
+    body_valid c fs bs k d e f (omega (arith, lt)) (subst (λ w. ValidBodies c fs w) others more) type
+
+body_fits : (c : Context) (fs : List ℕ) (bs : List Given) (k d : ℕ) (e : Given) (f : FuncType) → k < length fs → FitBodies c fs (map view_body bs) → slice_get c.types (get_or fs k d) ≡ Some f → FitsBody c f (view_body (get_or bs k e))
+body_fits c [] bs k d e f lt all type = absurd (omega (arith, lt))
+body_fits c (x ∷ fs) [] k d e f lt (b, rest, eb, t, at, fits, more) type = absurd (cc eb)
+body_fits c (x ∷ fs) (g ∷ bs) zero d e f lt (b, rest, eb, t, at, fits, more) type =
+    let same : t ≡ f = cc (at, type) in
+    let body : b ≡ view_body g = cc eb in
+    subst (λ w. FitsBody c w (view_body g)) same (subst (λ w. FitsBody c t w) body fits)
+body_fits c (x ∷ fs) (g ∷ bs) (suc k) d e f lt (b, rest, eb, t, at, fits, more) type =
+    let others : rest ≡ map view_body bs = cc eb in
+    body_fits c fs bs k d e f (omega (arith, lt)) (subst (λ w. FitBodies c fs w) others more) type
+
+pub body_right : (c : Context) (fs : List ℕ) (bs : List Given) (k d : ℕ) (b : Given) (f : FuncType) → k < length fs → b ≡ get_or bs k b → slice_get c.types (get_or fs k d) ≡ Some f
+    → ValidBodies c fs (map view_body bs) × FitBodies c fs (map view_body bs) → ValidBody c f (view_body b) × FitsBody c f (view_body b)
+body_right c fs bs k d b f lt at type all =
+    subst (λ (w : Given). ValidBody c f (view_body w) × FitsBody c f (view_body w)) (sym at) (body_valid c fs bs k d b f lt all.0 type, body_fits c fs bs k d b f lt all.1 type)
+
+-- ---- a body that was refused
+
+pub bad_body : (c : Context) (fs : List ℕ) (bs : List Given) (k d : ℕ) (b : Given) (f : FuncType) → k < length fs → k < length bs → b ≡ get_or bs k b → slice_get c.types (get_or fs k d) ≡ Some f
+    → ¬ (ValidBody c f (view_body b) × FitsBody c f (view_body b)) → IsBadBody c fs (map view_body bs) k
+bad_body c fs bs k d b f lf lb at type refused = record {
+  index = get_or fs k d;
+  type = f;
+  body = view_body b;
+  named = get_there fs k d lf;
+  typed = type;
+  there = get_mapped view_body bs k b lb ∙ ap (λ (w : Given). Some (view_body w)) (sym at);
+  refused = refused;
+}
+
+pub blamed : (c : Context) (imported : ℕ) (fs : List ℕ) (bs : List Body) (k : ℕ) (func : Option ℕ) → func ≡ Some (min (imported + k) (2 ^ 32 - 1)) → IsBadBody c fs bs k → Blames c imported fs bs func
+blamed c imported fs bs k func e bad = subst (λ w. Blames c imported fs bs w) (sym e) (k, refl, bad)

@@ -10,6 +10,7 @@ use Rattle.wh_syntax.specs.declared.instr.Instr.{Instr}
 use Rattle.wh_syntax.specs.declared.instr.Instr.TheVariants.{I32Const, I64Const, GlobalGet}
 use Rattle.wh_syntax.specs.Shown.{instr_of}
 use Rattle.wh_validate.specs.Constants.{IsConstant}
+use Rattle.wh_validate.proofs.Deciding.{Same}
 
 -- ---- two instructions
 
@@ -70,9 +71,6 @@ op_constant gs labels i op t e h =
     (λ (x, p, q). is_global gs labels i x t (e ∙ ap single (same_op op (global_get x) p)) q) w) h
 
 -- ---- both
-
-abbrev Same : Type 0 → Type 0 → Type 0
-Same P Q = (P → Q) × (Q → P)
 
 pub first_decides : (gs : List GlobalType) (labels : List ℕ) (instrs : List Instr) (d : Instr) (e : Code) (t : ValType) → map (instr_of labels) instrs ≡ expression e → length instrs ≡ 2
     → Same (IsConstant gs (get_or instrs 0 d) t) (ConstantOf gs e t)

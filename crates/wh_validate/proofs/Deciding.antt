@@ -3,7 +3,11 @@ use Rattle.std.proofs.Common.{Result, Ok, Err}
 use Rattle.wh_bodies.specs.declared.fault.ValidKind.{ValidKind}
 use Rattle.wh_validate.specs.Deciding.{Decides}
 
-pub decides_same : {A P Q : Type 0} (r : Result A ValidKind) → (P → Q) × (Q → P) → Decides r P → Decides r Q
+-- either follows from the other
+abbrev pub Same : Type 0 → Type 0 → Type 0
+Same P Q = (P → Q) × (Q → P)
+
+pub decides_same : {A P Q : Type 0} (r : Result A ValidKind) → Same P Q → Decides r P → Decides r Q
 decides_same (Ok x) s p = s.0 p
 decides_same (Err k) s p = λ other q. p other (s.1 q)
 

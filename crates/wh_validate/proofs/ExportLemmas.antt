@@ -9,9 +9,7 @@ use Rattle.wh_bodies.specs.declared.context.Context.{Context as Given}
 use Rattle.wh_bodies.specs.Views.{view_context, type_at}
 use Rattle.wh_validate.specs.Parts.{IsExport}
 use Rattle.wh_validate.proofs.Lists.{item_at, item_below}
-
-abbrev Same : Type 0 → Type 0 → Type 0
-Same P Q = (P → Q) × (Q → P)
+use Rattle.wh_validate.proofs.Deciding.{Same}
 
 by_kind : {P : Type 0} (c : Given) (e : Export) (kind : ExternKind) → e.kind ≡ kind → Same P (Exported (view_context c) kind e.index) → Same P (IsExport (view_context c) e)
 unfolding IsExport

@@ -6,3 +6,4 @@ pub mod ExportLemmas
 pub mod NameLemmas
 pub mod PartLemmas
 pub mod WholeLemmas
+pub mod CompleteLemmas

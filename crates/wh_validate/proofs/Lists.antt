@@ -45,6 +45,11 @@ get_mapped f [] i d lt = absurd (omega (arith, lt))
 get_mapped f (x ∷ xs) zero d lt = refl
 get_mapped f (x ∷ xs) (suc i) d lt = get_mapped f xs i d (omega (arith, lt))
 
+pub get_there : {X : Type 0} (xs : List X) (i : ℕ) (d : X) → i < length xs → slice_get xs i ≡ Some (get_or xs i d)
+get_there [] i d lt = absurd (omega (arith, lt))
+get_there (x ∷ xs) zero d lt = refl
+get_there (x ∷ xs) (suc i) d lt = get_there xs i d (omega (arith, lt))
+
 -- ---- one element more
 
 split_last : (j k : ℕ) → j < k + 1 → (j < k) ⊎ (j ≡ k)

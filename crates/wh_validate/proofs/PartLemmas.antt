@@ -13,9 +13,7 @@ use Rattle.wh_bodies.specs.declared.context.Context.{Context as Given}
 use Rattle.wh_bodies.specs.Views.{view_context, type_at}
 use Rattle.wh_validate.specs.Parts.{IsElement, IsSegment}
 use Rattle.wh_validate.proofs.Lists.{item_at, item_below, take_whole, each_recursion, recursion_each, get_mapped}
-
-abbrev Same : Type 0 → Type 0 → Type 0
-Same P Q = (P → Q) × (Q → P)
+use Rattle.wh_validate.proofs.Deciding.{Same}
 
 -- an offset sees all globals
 abbrev Offset : Given → Code → Type 0

@@ -1,11 +1,11 @@
 -- From the parts of a module to the whole.
-use Rattle.std.proofs.Common.{◌≡◌, ℕ, zero, suc, ◌<◌, ◌≤◌, List, [], ◌∷◌, ◌++◌, length, map, take, Some, slice_get, Result, Ok, Err, IfOk, refl, sym, ap, subst, arith, ◌∙◌, All}
+use Rattle.std.proofs.Common.{◌≡◌, ℕ, zero, suc, ◌<◌, ◌≤◌, List, [], ◌∷◌, ◌++◌, length, map, take, Option, None, Some, slice_get, Result, Ok, Err, IfOk, IfErr, ◌≢◌, refl, sym, ap, subst, arith, ◌∙◌, All}
 use Rattle.std.specs.List.{AllByRecursion}
 use Rattle.std.proofs.lemmas.List.{map-append, length-map}
 use Rattle.std.proofs.Math.Seq.{take-append_seam}
 use Rattle.wh_model.specs.Syntax as model
-use Rattle.wh_model.specs.Validity.{func_first, ValidType, WithinBound, most_entries, most_pages, imported_funcs, imported_globals, Name, IsContext, ValidGlobal, ValidElement, ValidData, Exported, IsValidIn, ConstantOf}
-use Rattle.wh_model.specs.Heights.{FitsTable, FitsIn}
+use Rattle.wh_model.specs.Validity.{func_first, ValidType, WithinBound, most_entries, most_pages, imported_funcs, imported_globals, Name, IsContext, ValidGlobal, ValidElement, ValidData, Exported, IsValidIn, ConstantOf, Valid, ValidBodies}
+use Rattle.wh_model.specs.Heights.{FitsTable, FitsIn, Fits, FitBodies}
 use Rattle.wh_syntax.specs.declared.module.Module.{Module}
 use Rattle.wh_syntax.specs.declared.module.Import.{Import}
 use Rattle.wh_syntax.specs.declared.module.ImportDesc.{ImportDesc}
@@ -17,12 +17,16 @@ use Rattle.wh_bodies.specs.Table.{Table}
 use Rattle.wh_syntax.specs.declared.module.Body.{Body}
 use Rattle.wh_bodies.specs.Views.{view_context, type_at}
 use Rattle.wh_validate.specs.declared.whole.Gathered.{Gathered}
-use Rattle.wh_validate.specs.Gathering.{IsGathered, IsAround}
+use Rattle.wh_validate.specs.Gathering.{HasValidOutline, IsGathered, IsAround}
 use Rattle.wh_validate.specs.Sizing.{IsTable}
 use Rattle.wh_validate.specs.Naming.{NamesTypeOf, NamesType}
 use Rattle.wh_validate.specs.Parts.{IsGlobal, IsExport, IsElement, IsSegment}
 use Rattle.wh_validate.specs.Soundness.{Checked, IsSound}
 use Rattle.wh_validate.proofs.Lists.{each_recursion}
+use Rattle.wh_validate.specs.declared.error.ValidError.{ValidError}
+use Rattle.wh_bodies.specs.declared.fault.ValidKind.TheVariants.{Memory}
+use Rattle.wh_validate.specs.Blaming.{Blames, BlamesRightly}
+use Rattle.wh_validate.proofs.CompleteLemmas.{around_in, bodies_in}
 use Rattle.wh_validate.proofs.BodyLemmas.{valid_checked, fit_checked}
 
 -- ---- lists
@@ -51,9 +55,9 @@ imports_below n (i ∷ is) a = first i.desc a.0 (imports_below n is a.1)
 same_list : {X : Type 0} (xs : List X) (P : X → Type 0) → All P xs → AllByRecursion P xs
 same_list xs P all = each_recursion P P (λ x p. p) xs all
 
-pub all_named : (m : Module) (g : Gathered) (n : ℕ) (funcs : List ℕ) → n ≡ length m.types.items → funcs ≡ g.indices.funcs.items → IsGathered m g → AllByRecursion (λ x. x < n) funcs
-all_named m g n funcs en ef gathered =
-    let below = all_joined (λ x. x < length m.types.items) (imported_funcs (map view_import m.imports.items)) m.funcs.items (imports_below (length m.types.items) m.imports.items (same_list m.imports.items (NamesType (length m.types.items)) gathered.imports)) (same_list m.funcs.items (λ x. x < length m.types.items) gathered.own) in
+pub all_named : (m : Module) (g : Gathered) (n : ℕ) (funcs : List ℕ) → n ≡ length m.types.items → funcs ≡ g.indices.funcs.items → HasValidOutline m → IsGathered m g → AllByRecursion (λ x. x < n) funcs
+all_named m g n funcs en ef outline gathered =
+    let below = all_joined (λ x. x < length m.types.items) (imported_funcs (map view_import m.imports.items)) m.funcs.items (imports_below (length m.types.items) m.imports.items (same_list m.imports.items (NamesType (length m.types.items)) outline.imports)) (same_list m.funcs.items (λ x. x < length m.types.items) outline.own) in
     subst (λ w. AllByRecursion (λ x. x < w) funcs) (sym en) (subst (λ w. AllByRecursion (λ x. x < length m.types.items) w) (sym (ef ∙ gathered.funcs)) below)
 
 named_types : (types : List model.FuncType) (xs : List ℕ) → AllByRecursion (λ x. x < length types) xs → Name types xs (map (type_at types) xs)
@@ -71,11 +75,11 @@ global_types (g ∷ gs) = ap (λ w. view_global_type g.global_type ∷ w) (globa
 
 -- ---- parts in a context
 
-module _ (m : Module) (g : Gathered) (c : Given) (gathered : IsGathered m g) (types : c.types.now ≡ m.types.items) (funcs : c.funcs.now ≡ g.indices.funcs.items) (tables : c.tables.now ≡ m.tables.items)
+module _ (m : Module) (g : Gathered) (c : Given) (outline : HasValidOutline m) (gathered : IsGathered m g) (types : c.types.now ≡ m.types.items) (funcs : c.funcs.now ≡ g.indices.funcs.items) (tables : c.tables.now ≡ m.tables.items)
     (memories : c.memories.now ≡ m.memories.items) (globals : c.globals.now ≡ g.indices.globals.items) where
-  is_context : IsContext (view_module m) (view_context c)
+  pub is_context : IsContext (view_module m) (view_context c)
   is_context =
-      let own = all_named m g (length (map view_type c.types.now)) c.funcs.now (length-map c.types.now view_type ∙ ap length types) funcs gathered in
+      let own = all_named m g (length (map view_type c.types.now)) c.funcs.now (length-map c.types.now view_type ∙ ap length types) funcs outline gathered in
       let named = named_types (map view_type c.types.now) c.funcs.now own in
       let (imported, brought, count, all) = gathered.globals in
       record {
@@ -89,7 +93,7 @@ module _ (m : Module) (g : Gathered) (c : Given) (gathered : IsGathered m g) (ty
         no_locals = (refl, refl, refl);
       }
 
-  seen_imported : map view_global_type (take g.imported_globals c.globals.now) ≡ imported_globals (map view_import m.imports.items)
+  pub seen_imported : map view_global_type (take g.imported_globals c.globals.now) ≡ imported_globals (map view_import m.imports.items)
   seen_imported =
       let (imported, brought, count, all) = gathered.globals in
       ap (λ n. map view_global_type (take n c.globals.now)) (sym count) ∙ ap (λ w. map view_global_type (take (length imported) w)) (globals ∙ all)
@@ -99,12 +103,12 @@ module _ (m : Module) (g : Gathered) (c : Given) (gathered : IsGathered m g) (ty
   unfolding IsGlobal IsElement IsSegment IsExport
   is_valid ts around checked = record {
     context = is_context;
-    types = each_mapped (λ t. ValidType (view_type t)) ValidType view_type (λ t p. p) m.types.items gathered.types;
+    types = each_mapped (λ t. ValidType (view_type t)) ValidType view_type (λ t p. p) m.types.items outline.types;
     bodies = valid_checked (view_context c) m.funcs.items (map view_body m.bodies.items) ts checked;
-    tables = each_mapped (λ t. IsTable (view_table t)) (WithinBound most_entries) view_table (λ t p. p.1) m.tables.items gathered.tables;
-    one_table = few_mapped view_table m.tables.items 1 gathered.one_table;
-    memories = each_mapped (λ l. WithinBound most_pages (view_limits l)) (WithinBound most_pages) view_limits (λ l p. p) m.memories.items gathered.memories;
-    one_memory = few_mapped view_limits m.memories.items 1 gathered.one_memory;
+    tables = each_mapped (λ t. IsTable (view_table t)) (WithinBound most_entries) view_table (λ t p. p.1) m.tables.items outline.tables;
+    one_table = few_mapped view_table m.tables.items 1 outline.one_table;
+    memories = each_mapped (λ l. WithinBound most_pages (view_limits l)) (WithinBound most_pages) view_limits (λ l p. p) m.memories.items outline.memories;
+    one_memory = few_mapped view_limits m.memories.items 1 outline.one_memory;
     globals = each_mapped (IsGlobal (map view_global_type (take g.imported_globals c.globals.now))) (ValidGlobal (map view_import m.imports.items)) view_global (λ x p. subst (λ w. ConstantOf w x.init x.global_type.value) seen_imported p) m.globals.items around.globals;
     elements = each_mapped (IsElement (view_context c)) (ValidElement (view_context c)) view_element (λ e p. p) m.elements.items around.elements;
     segments = each_mapped (IsSegment (view_context c)) (ValidData (view_context c)) view_data (λ d p. p) m.segments.items around.segments;
@@ -116,22 +120,49 @@ module _ (m : Module) (g : Gathered) (c : Given) (gathered : IsGathered m g) (ty
   does_fit : (ts : List Table) → Checked (view_context c) m.funcs.items (map view_body m.bodies.items) ts → FitsIn (view_module m) (view_context c)
   does_fit ts checked = record {
     context = is_context;
-    types = each_mapped (λ t. ValidType (view_type t)) ValidType view_type (λ t p. p) m.types.items gathered.types;
+    types = each_mapped (λ t. ValidType (view_type t)) ValidType view_type (λ t p. p) m.types.items outline.types;
     bodies = fit_checked (view_context c) m.funcs.items (map view_body m.bodies.items) ts checked;
-    tables = each_mapped (λ t. IsTable (view_table t)) FitsTable view_table (λ t p. p.0) m.tables.items gathered.tables;
-    one_table = few_mapped view_table m.tables.items 1 gathered.one_table;
-    memories = each_mapped (λ l. WithinBound most_pages (view_limits l)) (WithinBound most_pages) view_limits (λ l p. p) m.memories.items gathered.memories;
-    one_memory = few_mapped view_limits m.memories.items 1 gathered.one_memory;
+    tables = each_mapped (λ t. IsTable (view_table t)) FitsTable view_table (λ t p. p.0) m.tables.items outline.tables;
+    one_table = few_mapped view_table m.tables.items 1 outline.one_table;
+    memories = each_mapped (λ l. WithinBound most_pages (view_limits l)) (WithinBound most_pages) view_limits (λ l p. p) m.memories.items outline.memories;
+    one_memory = few_mapped view_limits m.memories.items 1 outline.one_memory;
   }
 
   pub is_sound : (ts : List Table) → IsAround m (view_context c) (map view_global_type (take g.imported_globals c.globals.now)) → Checked (view_context c) m.funcs.items (map view_body m.bodies.items) ts → IsSound (view_module m) ts
   is_sound ts around checked = record { context = view_context c; valid = is_valid ts around checked; fits = does_fit ts checked; checked = checked }
 
--- the same of bodies that were checked, if they were
-pub if_ok_turned : {V E : Type 0} (tables_of : V → List Table) (m : Module) (g : Gathered) (c : Given) (fs : List ℕ) (bs : List Body) (r : Result V E) → IsGathered m g → c.types.now ≡ m.types.items → c.funcs.now ≡ g.indices.funcs.items → c.tables.now ≡ m.tables.items
-    → c.memories.now ≡ m.memories.items → c.globals.now ≡ g.indices.globals.items → IsAround m (view_context c) (map view_global_type (take g.imported_globals c.globals.now)) → fs ≡ m.funcs.items → bs ≡ m.bodies.items
-    → IfOk r (λ v. Checked (view_context c) fs (map view_body bs) (tables_of v)) → IfOk r (λ v. IsSound (view_module m) (tables_of v))
-if_ok_turned tables_of m g c fs bs (Ok v) gathered types funcs ts memories globals around ef eb checked =
-    is_sound m g c gathered types funcs ts memories globals (tables_of v) around
-    (subst (λ w. Checked (view_context c) m.funcs.items (map view_body w) (tables_of v)) eb (subst (λ w. Checked (view_context c) w (map view_body bs) (tables_of v)) ef checked))
-if_ok_turned tables_of m g c fs bs (Err e) gathered types funcs ts memories globals around ef eb checked = tt
+-- the same of bodies that were checked, if they were; and if they were refused, the module isn't valid, or doesn't fit
+module _ {V : Type 0} (tables_of : V → List Table) (m : Module) (g : Gathered) (c : Given) (fs : List ℕ) (bs : List Body) (outline : HasValidOutline m) (gathered : IsGathered m g) (types : c.types.now ≡ m.types.items) (funcs : c.funcs.now ≡ g.indices.funcs.items)
+    (tables : c.tables.now ≡ m.tables.items) (memories : c.memories.now ≡ m.memories.items) (globals : c.globals.now ≡ g.indices.globals.items) (ef : fs ≡ m.funcs.items) (eb : bs ≡ m.bodies.items) where
+  pub ok_turned : (r : Result V ValidError) → IsAround m (view_context c) (map view_global_type (take g.imported_globals c.globals.now)) → IfOk r (λ v. Checked (view_context c) fs (map view_body bs) (tables_of v)) → IfOk r (λ v. IsSound (view_module m) (tables_of v))
+  ok_turned (Ok v) around checked =
+      is_sound m g c outline gathered types funcs tables memories globals (tables_of v) around
+      (subst (λ w. Checked (view_context c) m.funcs.items (map view_body w) (tables_of v)) eb (subst (λ w. Checked (view_context c) w (map view_body bs) (tables_of v)) ef checked))
+  ok_turned (Err e) around checked = tt
+
+  pub err_turned : (r : Result V ValidError) → IfErr r (λ e. e.kind ≢ Memory → ¬ (ValidBodies (view_context c) fs (map view_body bs) × FitBodies (view_context c) fs (map view_body bs)))
+      → IfErr r (λ e. e.kind ≢ Memory → ¬ (Valid (view_module m) × Fits (view_module m)))
+  err_turned (Ok v) refused = tt
+  err_turned (Err e) refused = λ other both.
+      refused other (subst (λ w. ValidBodies (view_context c) fs (map view_body w) × FitBodies (view_context c) fs (map view_body w)) (sym eb)
+      (subst (λ w. ValidBodies (view_context c) w (map view_body m.bodies.items) × FitBodies (view_context c) w (map view_body m.bodies.items)) (sym ef)
+      (bodies_in m (view_context c) (is_context m g c outline gathered types funcs tables memories globals) both)))
+
+  pub blame_turned : (r : Result V ValidError) → IfErr r (λ e. e.kind ≢ Memory → Blames (view_context c) g.imported_funcs fs (map view_body bs) e.func) → IfErr r (λ e. e.kind ≢ Memory → BlamesRightly (view_module m) e.func)
+  blame_turned (Ok v) blames = tt
+  blame_turned (Err e) blames = λ other. named e.func (blames other)
+    where
+      named : (func : Option ℕ) → Blames (view_context c) g.imported_funcs fs (map view_body bs) func → BlamesRightly (view_module m) func
+      named None h = absurd h
+      named (Some func) h = (
+        view_context c,
+        is_context m g c outline gathered types funcs tables memories globals,
+        subst (λ n. Blames (view_context c) n m.funcs.items (map view_body m.bodies.items) (Some func)) gathered.count
+            (subst (λ w. Blames (view_context c) g.imported_funcs m.funcs.items (map view_body w) (Some func)) eb (subst (λ w. Blames (view_context c) g.imported_funcs w (map view_body bs) (Some func)) ef h)),
+      )
+
+-- what is valid and fits is so around its bodies
+pub around_given : (m : Module) (g : Gathered) (c : Given) → HasValidOutline m → IsGathered m g → c.types.now ≡ m.types.items → c.funcs.now ≡ g.indices.funcs.items → c.tables.now ≡ m.tables.items → c.memories.now ≡ m.memories.items → c.globals.now ≡ g.indices.globals.items
+    → Valid (view_module m) × Fits (view_module m) → IsAround m (view_context c) (map view_global_type (take g.imported_globals c.globals.now))
+around_given m g c outline gathered types funcs tables memories globals both =
+    around_in m (view_context c) (map view_global_type (take g.imported_globals c.globals.now)) (is_context m g c outline gathered types funcs tables memories globals) (seen_imported m g c outline gathered types funcs tables memories globals) both

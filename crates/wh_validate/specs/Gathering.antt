@@ -11,8 +11,8 @@ use Rattle.wh_validate.specs.Parts.{IsGlobal, IsExport, IsElement, IsSegment}
 use Rattle.wh_validate.specs.declared.whole.Gathered.{Gathered}
 use Rattle.wh_validate.specs.Naming.{NamesType}
 
--- types, sizes, and what indices name: imported functions and globals, and then the module's own
-pub record IsGathered (m : Module) (g : Gathered) : Type 0 where
+-- types and sizes are right, and imports and functions name types that are there
+pub record HasValidOutline (m : Module) : Type 0 where
   pub types : All (λ t. ValidType (view_type t)) m.types.items
   pub imports : All (NamesType (length m.types.items)) m.imports.items
   pub own : All (λ x. x < length m.types.items) m.funcs.items
@@ -20,7 +20,11 @@ pub record IsGathered (m : Module) (g : Gathered) : Type 0 where
   pub tables : All (λ t. IsTable (view_table t)) m.tables.items
   pub one_memory : length m.memories.items ≤ 1
   pub memories : All (λ l. WithinBound most_pages (view_limits l)) m.memories.items
+
+-- what indices name: imported functions and globals, and then the module's own
+pub record IsGathered (m : Module) (g : Gathered) : Type 0 where
   pub funcs : g.indices.funcs.items ≡ imported_funcs (map view_import m.imports.items) ++ m.funcs.items
+  pub count : g.imported_funcs ≡ length (imported_funcs (map view_import m.imports.items))
   pub globals : (imported : List _) × (map view_global_type imported ≡ imported_globals (map view_import m.imports.items))
       × (length imported ≡ g.imported_globals) × (g.indices.globals.items ≡ imported ++ map (λ x. x.global_type) m.globals.items)
 

@@ -6,3 +6,4 @@ pub mod Names
 pub mod Soundness
 pub mod Gathering
 pub mod Sizing
+pub mod Blaming

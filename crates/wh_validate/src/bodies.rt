@@ -1,10 +1,12 @@
 //! The bodies of a module's functions (3.4.1).
 
-ghost use Rattle.std.specs.Prelude.{◌≡◌, ◌<◌, ◌++◌, ◌∷◌, [], map, length, IfOk, OnOk};
+ghost use Rattle.std.specs.Prelude.{◌≡◌, ◌≢◌, ◌<◌, ◌++◌, ◌∷◌, [], map, length, IfOk, IfErr, OnOk};
 ghost use Rattle.std.specs.List.{All, AllByRecursion};
 ghost use Rattle.wh_syntax.specs.View.{view_body, view_type};
-ghost use Rattle.wh_model.specs.Validity.{ValidType};
+ghost use Rattle.wh_model.specs.Validity.{ValidType, ValidBodies};
+ghost use Rattle.wh_model.specs.Heights.{FitBodies};
 ghost use Rattle.wh_bodies.specs.Views.{view_context, view_side};
+ghost use Rattle.wh_validate.specs.Blaming.{Blames};
 ghost use Rattle.wh_validate.specs.Soundness.{Checked};
 
 use crate::error::ValidError;
@@ -27,7 +29,9 @@ pub fn check_bodies(
     requires own { All (λ x. x < length context.now.types.now) funcs.now }
     requires results { All (λ t. ValidType (view_type t)) context.now.types.now }
     requires same_count { length bodies.now ≡ length funcs.now }
-    ensures { IfOk result (λ tables. Checked (view_context context.now) funcs.now (map view_body bodies.now) (map view_side tables.items)) }
+    ensures checked { IfOk result (λ tables. Checked (view_context context.now) funcs.now (map view_body bodies.now) (map view_side tables.items)) }
+    ensures complete { IfErr result (λ e. e.kind ≢ ValidKind.Memory → ¬ (ValidBodies (view_context context.now) funcs.now (map view_body bodies.now) × FitBodies (view_context context.now) funcs.now (map view_body bodies.now))) }
+    ensures blames { IfErr result (λ e. e.kind ≢ ValidKind.Memory → Blames (view_context context.now) imported funcs.now (map view_body bodies.now) e.func) }
 {
     let mut tables = Vec::new(alloc);
     for at in 0..funcs.len() {
@@ -42,6 +46,7 @@ pub fn check_bodies(
 
 fn add_table(tables: &mut Vec<SideTable>, table: SideTable) -> Result<(), ValidError>
     ensures ok { OnOk result (tables.new.items ≡ tables.old.items ++ table ∷ []) }
+    ensures err { IfErr result (λ e. e.kind ≡ ValidKind.Memory) }
 {
     match tables.push(table) {
         Ok(()) => Ok(()),

@@ -11,7 +11,7 @@ ghost use Rattle.wh_validate.specs.Deciding.{Decides};
 ghost use Rattle.wh_validate.specs.Parts.{IsExport};
 ghost use Rattle.wh_validate.specs.Names.{has_name};
 
-use crate::segments::check_index;
+use crate::indices::check_index;
 use std::alloc::Global;
 use std::collections::BTreeMap;
 use wh_bodies::{Context, ValidKind};

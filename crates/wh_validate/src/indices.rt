@@ -21,6 +21,37 @@ pub struct Indices {
     pub globals: Vec<GlobalType>,
 }
 
+/// Whether the index names one of the items.
+///
+/// # Errors
+/// `Index` where it doesn't.
+pub fn check_index<T>(items: &[T], index: u32) -> Result<(), ValidKind>
+    ensures decides { Decides result (index < length items.now) }
+    ensures err { IfErr result (λ k. k ≡ ValidKind.Index) }
+{
+    if (index as usize) < items.len() {
+        Ok(())
+    } else {
+        Err(ValidKind::Index)
+    }
+}
+
+/// Whether each index is below a count.
+///
+/// # Errors
+/// `Index` where one isn't.
+pub fn check_indices(count: usize, indices: &[u32]) -> Result<(), ValidKind>
+    ensures decides { Decides result (All (λ x. x < count) indices.now) }
+    ensures err { IfErr result (λ k. k ≡ ValidKind.Index) }
+{
+    for index in indices {
+        if *index as usize >= count {
+            return Err(ValidKind::Index);
+        }
+    }
+    Ok(())
+}
+
 /// Puts an item at the end of a list.
 pub fn push<T: Drop>(items: &mut Vec<T>, item: T) -> Result<(), ValidKind>
     ensures ok { OnOk result (items.new.items ≡ items.old.items ++ item ∷ []) }

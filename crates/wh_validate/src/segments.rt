@@ -11,24 +11,10 @@ ghost use Rattle.wh_validate.specs.Deciding.{Decides};
 ghost use Rattle.wh_validate.specs.Parts.{IsGlobal, IsElement, IsSegment};
 
 use crate::constants::check_constant;
+use crate::indices::{check_index, check_indices};
 use wh_bodies::{Context, ValidKind};
 use wh_model::ValType;
 use wh_syntax::{Data, Element, FuncType, Global, GlobalType};
-
-/// Whether the index names one of the items.
-///
-/// # Errors
-/// `Index` where it doesn't.
-pub fn check_index<T>(items: &[T], index: u32) -> Result<(), ValidKind>
-    ensures decides { Decides result (index < length items.now) }
-    ensures err { IfErr result (λ k. k ≡ ValidKind.Index) }
-{
-    if (index as usize) < items.len() {
-        Ok(())
-    } else {
-        Err(ValidKind::Index)
-    }
-}
 
 /// Whether a global's own expression is a constant of its type. It sees the imported globals, which are the first so
 /// many of all.
@@ -59,20 +45,7 @@ fn check_element(context: &Context<'_>, element: &Element) -> Result<(), ValidKi
         context.globals,
         context.globals.len(),
     )?;
-    check_each(context.funcs.len(), &element.init)
-}
-
-/// Whether each index is below a count.
-fn check_each(count: usize, indices: &[u32]) -> Result<(), ValidKind>
-    ensures decides { Decides result (All (λ x. x < count) indices.now) }
-    ensures err { IfErr result (λ k. k ≡ ValidKind.Index) }
-{
-    for index in indices {
-        if *index as usize >= count {
-            return Err(ValidKind::Index);
-        }
-    }
-    Ok(())
+    check_indices(context.funcs.len(), &element.init)
 }
 
 /// Whether a data segment names a memory that is there, and its offset is an i32 constant.

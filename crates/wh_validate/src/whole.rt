@@ -6,16 +6,18 @@ ghost use Rattle.wh_model.specs.Validity.{Valid, ValidType, imported_funcs, impo
 ghost use Rattle.wh_model.specs.Heights.{Fits, FitsIn};
 ghost use Rattle.wh_syntax.specs.View.{view_module, view_import, view_type, view_global_type};
 ghost use Rattle.wh_bodies.specs.Views.{view_context, view_side};
+ghost use Rattle.wh_validate.specs.Blaming.{BlamesRightly};
 ghost use Rattle.wh_validate.specs.Soundness.{IsSound};
-ghost use Rattle.wh_validate.specs.Gathering.{IsGathered, IsAround};
+ghost use Rattle.wh_validate.specs.Gathering.{HasValidOutline, IsGathered, IsAround};
+ghost use Rattle.wh_validate.specs.Deciding.{Decides};
 
 use crate::bodies::check_bodies;
 use crate::error::ValidError;
 use crate::exports::check_exports;
-use crate::indices::{Indices, add_funcs, add_globals, imported};
+use crate::indices::{Indices, add_funcs, add_globals, check_indices, imported};
 use crate::segments::{check_elements, check_globals, check_segments, check_start};
 use crate::sizes::{check_memories, check_tables};
-use crate::types::{check_funcs, check_types};
+use crate::types::check_types;
 use std::alloc::Global;
 use wh_bodies::{Context, SideTable, ValidKind};
 use wh_syntax::Module;
@@ -54,11 +56,12 @@ struct Gathered {
 
 /// Types, functions, sizes, and what indices name.
 fn gather(alloc: Global, decoded: &Module) -> Result<Gathered, ValidKind>
-    ensures { IfOk result (λ g. IsGathered decoded.now g) }
+    ensures decides { Decides result (HasValidOutline decoded.now) }
+    ensures gathered { IfOk result (λ g. IsGathered decoded.now g) }
 {
     check_types(&decoded.types)?;
     let mut indices = imported(alloc, &decoded.types, &decoded.imports)?;
-    check_funcs(&decoded.types, &decoded.funcs)?;
+    check_indices(decoded.types.len(), &decoded.funcs)?;
     check_tables(&decoded.tables)?;
     check_memories(&decoded.memories)?;
     let imported_funcs = indices.funcs.len();
@@ -80,7 +83,7 @@ fn check_around(
     imported_globals: usize,
 ) -> Result<(), ValidKind>
     requires named { AllByRecursion (λ x. x < length context.now.types.now) context.now.funcs.now }
-    ensures { OnOk result (IsAround decoded.now (view_context context.now) (map view_global_type (take imported_globals context.now.globals.now))) }
+    ensures decides { Decides result (IsAround decoded.now (view_context context.now) (map view_global_type (take imported_globals context.now.globals.now))) }
 {
     check_globals(&decoded.globals, context.globals, imported_globals)?;
     check_exports(alloc, context, &decoded.exports)?;
@@ -91,7 +94,9 @@ fn check_around(
 
 /// Everything, and where the branches of each body lead.
 fn check_whole(alloc: Global, decoded: &Module) -> Result<Vec<SideTable>, ValidError>
-    ensures { IfOk result (λ tables. IsSound (view_module decoded.now) (map view_side tables.items)) }
+    ensures sound { IfOk result (λ tables. IsSound (view_module decoded.now) (map view_side tables.items)) }
+    ensures complete { IfErr result (λ e. e.kind ≢ ValidKind.Memory → ¬ (Valid (view_module decoded.now) × Fits (view_module decoded.now))) }
+    ensures blames { IfErr result (λ e. e.kind ≢ ValidKind.Memory → BlamesRightly (view_module decoded.now) e.func) }
 {
     let gathered = match gather(alloc, decoded) {
         Ok(gathered) => gathered,
@@ -130,6 +135,10 @@ pub fn validate(alloc: Global, decoded: Module) -> Result<ValidModule, ValidErro
     ensures valid { OnOk result (Valid (view_module decoded)) }
     // It passes no limit.
     ensures fits { OnOk result (Fits (view_module decoded)) }
+    // Unless memory was refused, a module that is refused isn't valid, or passes a limit.
+    ensures complete { IfErr result (λ e. e.kind ≢ ValidKind.Memory → ¬ (Valid (view_module decoded) × Fits (view_module decoded))) }
+    // A fault that names a function names one whose body isn't valid or passes a limit.
+    ensures blames { IfErr result (λ e. e.kind ≢ ValidKind.Memory → BlamesRightly (view_module decoded) e.func) }
     // It is the module that was given.
     ensures same { IfOk result (λ v. v.decoded ≡ decoded) }
 {

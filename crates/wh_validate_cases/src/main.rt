@@ -1,31 +1,38 @@
-//! Validates modules that come as text on standard input, and prints how each comes out.
+//! Validates and links modules that come as text on standard input, and prints how each comes out.
 //!
-//! A line is `NAME HEX`. What is printed is `NAME ok`, or the first fault as `NAME V1 func 0 instr 4` or, where it lies in
-//! no function, as `NAME V6 module`; or `NAME undecoded`, where the bytes are no module.
+//! A line is `NAME HEX`. What is printed is `NAME ok`, or the first fault: of the validator as `NAME V1 func 0 instr 4` or,
+//! where it lies in no function, as `NAME V6 module`; of the linker as `NAME L1 import 0`; or `NAME undecoded`, where the
+//! bytes are no module.
 #![tactic(auto)]
 
 use anyhow::{Result, bail};
 use std::alloc::Global;
 use std::io::{BufRead, BufReader};
 use wh_decode::decode;
+use wh_imports::{LinkError, link};
 use wh_validate::{ValidError, validate};
 
 /// How a module comes out.
 #[derive(Clone, Copy)]
 enum Answer {
-    Valid,
+    Linked,
     Undecoded,
     Refused(ValidError),
+    Unlinked(LinkError),
 }
 
-/// Decodes and validates a module.
+/// Decodes, validates and links a module.
 fn answer_of(alloc: Global, bytes: &[u8]) -> Answer {
     let Ok(decoded) = decode(alloc, bytes) else {
         return Answer::Undecoded;
     };
-    match validate(alloc, decoded) {
-        Ok(_) => Answer::Valid,
-        Err(error) => Answer::Refused(error),
+    let valid = match validate(alloc, decoded) {
+        Ok(valid) => valid,
+        Err(error) => return Answer::Refused(error),
+    };
+    match link(alloc, valid) {
+        Ok(_) => Answer::Linked,
+        Err(error) => Answer::Unlinked(error),
     }
 }
 
@@ -38,9 +45,10 @@ fn run(rt: &impl Print, alloc: Global, line: &str) -> Result<()> {
         Err(error) => bail!("{name:?}: {error}"),
     };
     match answer_of(alloc, &bytes) {
-        Answer::Valid => println!(rt; "{name} ok")?,
+        Answer::Linked => println!(rt; "{name} ok")?,
         Answer::Undecoded => println!(rt; "{name} undecoded")?,
         Answer::Refused(error) => refuse(rt, name, error)?,
+        Answer::Unlinked(error) => say_unlinked(rt, name, error)?,
     }
     Ok(())
 }
@@ -51,6 +59,17 @@ fn refuse(rt: &impl Print, name: &str, error: ValidError) -> Result<()> {
     match error.func {
         Some(func) => println!(rt; "{name} V{kind} func {func} instr {instr}")?,
         None => println!(rt; "{name} V{kind} module")?,
+    }
+    Ok(())
+}
+
+fn say_unlinked(rt: &impl Print, name: &str, error: LinkError) -> Result<()> {
+    let kind = error.number();
+    match error {
+        LinkError::UnknownImport(at) | LinkError::ImportType(at) => {
+            println!(rt; "{name} L{kind} import {at}")?
+        }
+        LinkError::Memory => println!(rt; "{name} L{kind}")?,
     }
     Ok(())
 }

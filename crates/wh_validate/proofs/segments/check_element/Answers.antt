@@ -5,5 +5,5 @@ use Rattle.wh_validate.proofs.segments.check_element.Goals as goal
 
 pub returns-clause-decides : goal.returns-clause-decides
 returns-clause-decides c =
-    decides_same c.check_each.result (element_same c.args.context.now c.args.element.now)
-    (decides_both _ c.check_each.result c.in_ok-check_index.ensures.decides (decides_both _ c.check_each.result c.in_ok-check_constant.ensures.decides (search rules)))
+    decides_same c.check_indices.result (element_same c.args.context.now c.args.element.now)
+    (decides_both _ c.check_indices.result c.in_ok-check_index.ensures.decides (decides_both _ c.check_indices.result c.in_ok-check_constant.ensures.decides (search rules)))

@@ -4,8 +4,8 @@ use Rattle.wh_validate.proofs.whole.validate.Goals as goal
 
 pub returns-clause-valid : goal.returns-clause-valid
 unfolding Valid
-returns-clause-valid c = let sound = c.in_ok-tables.ensures in (sound.context, sound.valid)
+returns-clause-valid c = let sound = c.in_ok-tables.ensures.sound in (sound.context, sound.valid)
 
 pub returns-clause-fits : goal.returns-clause-fits
 unfolding Fits
-returns-clause-fits c = let sound = c.in_ok-tables.ensures in (sound.context, sound.fits)
+returns-clause-fits c = let sound = c.in_ok-tables.ensures.sound in (sound.context, sound.fits)

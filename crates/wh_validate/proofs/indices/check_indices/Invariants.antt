@@ -1,5 +1,5 @@
 use Rattle.std.proofs.Common.{ℕ, ◌<◌, get_or}
-use Rattle.wh_validate.proofs.segments.check_each.Given as goal
+use Rattle.wh_validate.proofs.indices.check_indices.Given as goal
 
 abbrev pub invariant-loop-index : goal.invariant-loop-index
 invariant-loop-index l = (k d : ℕ) → k < l.index-index → get_or l.indices k d < l.count

@@ -1,0 +1,11 @@
+//! A law of the definitions alone.
+
+ghost use Rattle.std.specs.Prelude.{◌≡◌};
+ghost use Rattle.wh_model.specs.Syntax.{Module};
+ghost use Rattle.wh_model.specs.Typing.{Context};
+ghost use Rattle.wh_model.specs.Validity.{IsContext};
+
+/// A module has one context at most. The function does nothing; what it ensures is the law.
+pub fn one_context()
+    ensures { (m : Module) (c d : Context) → IsContext m c → IsContext m d → c ≡ d }
+{}
