@@ -1,0 +1,3 @@
+pub mod Refusing
+pub mod Resolving
+pub mod Typed

@@ -1,0 +1,125 @@
+//! Whole modules, linked.
+
+ghost use Rattle.std.specs.Prelude.{◌≡◌, map, OnOk, IfOk, IfErr};
+ghost use Rattle.wh_host_model.specs.Linking.{Links};
+ghost use Rattle.wh_syntax.specs.View.{view_module};
+ghost use Rattle.wh_bodies.specs.Views.{view_side};
+ghost use Rattle.wh_validate.specs.Soundness.{IsSound};
+ghost use Rattle.wh_imports.specs.Resolving.{IsResolved, Adds};
+ghost use Rattle.wh_imports.specs.Refusing.{Refuses};
+
+use crate::error::LinkError;
+use crate::items::item_of;
+use std::alloc::Global;
+use wh_bodies::SideTable;
+use wh_host_model::{HostGlobal, HostItem};
+use wh_model::HostFunc;
+use wh_syntax::Module;
+use wh_validate::ValidModule;
+
+/// A valid module, with what its imports are.
+#[derive(Drop)]
+pub struct Linked {
+    valid: ValidModule,
+    funcs: Vec<HostFunc>,
+    globals: Vec<HostGlobal>,
+    ghost resolved: { ∥ IsResolved (view_module valid.decoded) funcs.items globals.items ∥₁ },
+}
+
+impl Linked {
+    /// The module.
+    pub fn module(&self) -> &Module
+        ensures same { result.now ≡ self.now.valid.decoded }
+        // It is valid, it fits, and its bodies have their tables.
+        ensures sound { ∥ IsSound (view_module result.now) (map view_side self.now.valid.tables.items) ∥₁ }
+        // Its imports are what they are linked to.
+        ensures resolved { ∥ IsResolved (view_module result.now) self.now.funcs.items self.now.globals.items ∥₁ }
+    {
+        self.valid.module()
+    }
+
+    /// The branch targets of each body, in the order of the functions that the module defines.
+    pub fn tables(&self) -> &[SideTable]
+        ensures { result.now ≡ self.now.valid.tables.items }
+    {
+        self.valid.tables()
+    }
+
+    /// The functions that are imported, in order: what the first indices of functions name.
+    pub fn funcs(&self) -> &[HostFunc]
+        ensures { result.now ≡ self.now.funcs.items }
+    {
+        &self.funcs
+    }
+
+    /// The globals that are imported, in order: what the first indices of globals name.
+    pub fn globals(&self) -> &[HostGlobal]
+        ensures { result.now ≡ self.now.globals.items }
+    {
+        &self.globals
+    }
+}
+
+/// What imports are.
+#[derive(Drop)]
+struct Resolved {
+    funcs: Vec<HostFunc>,
+    globals: Vec<HostGlobal>,
+}
+
+impl Resolved {
+    /// Adds what one more import is.
+    fn add(&mut self, item: HostItem) -> Result<(), LinkError>
+        ensures ok { OnOk result (Adds item self.old.funcs.items self.old.globals.items self.new.funcs.items self.new.globals.items) }
+        ensures err { IfErr result (λ e. e ≡ LinkError.Memory) }
+    {
+        let pushed = match item {
+            HostItem::Func(func) => self.funcs.push(func).is_ok(),
+            HostItem::Global(global) => self.globals.push(global).is_ok(),
+        };
+        if pushed {
+            return Ok(());
+        }
+        Err(LinkError::Memory)
+    }
+}
+
+/// What each import of a module is.
+fn resolve(alloc: Global, decoded: &Module) -> Result<Resolved, LinkError>
+    ensures ok { OnOk result (Links (view_module decoded.now)) }
+    ensures resolved { IfOk result (λ r. IsResolved (view_module decoded.now) r.funcs.items r.globals.items) }
+    ensures err { IfErr result (Refuses (view_module decoded.now)) }
+{
+    let mut resolved = Resolved {
+        funcs: Vec::new(alloc),
+        globals: Vec::new(alloc),
+    };
+    for at in 0..decoded.imports.len() {
+        match item_of(&decoded.types, &decoded.imports[at], at) {
+            Ok(item) => resolved.add(item)?,
+            Err(error) => return Err(error),
+        }
+    }
+    Ok(resolved)
+}
+
+/// Finds what each import of a module is.
+///
+/// # Errors
+/// Of the first import that the host doesn't offer, its place: `UnknownImport` or `ImportType`. `Memory` where a growth was
+/// refused.
+pub fn link(alloc: Global, valid: ValidModule) -> Result<Linked, LinkError>
+    // Each import of what is linked has its item.
+    ensures ok { OnOk result (Links (view_module valid.decoded)) }
+    // It is the module that was given.
+    ensures same { IfOk result (λ linked. linked.valid ≡ valid) }
+    // The first import without its item is named, with its cause.
+    ensures err { IfErr result (Refuses (view_module valid.decoded)) }
+{
+    let resolved = resolve(alloc, valid.module())?;
+    Ok(Linked {
+        valid,
+        funcs: resolved.funcs,
+        globals: resolved.globals,
+    })
+}
