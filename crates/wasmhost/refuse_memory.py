@@ -7,7 +7,8 @@ import os, re, subprocess, tempfile
 HERE = os.path.dirname(os.path.abspath(__file__))
 PROGRAM = HERE + "/out/wasmhost"
 SOURCE = HERE + "/../wh_cases/modules/refuse_memory.c"
-GIVES_7 = "0061736d0100000001050160017f00030201000a0601040041070b"
+GIVES_7 = "0061736d010000000105016000017f03020100070501016600000a0601040041070b"
+IMPORTS_ALL = "0061736d01000000010f0360017f017e60017e0060027f7f00023f0504686f73740473616c74037e0004686f737404656d6974000204686f737405696e707574000004686f73740462617365037f0004686f7374037075740001"
 SCRIPT = f"""# each line's reply, where no memory is refused, is worked out by hand below
 module empty 0061736d01000000
 module seven {GIVES_7}
@@ -15,7 +16,10 @@ module cut 0061736d010000
 module seven {GIVES_7}
 module wrong 00g0
 nothing
-module imports 0061736d0100000001050160017e00020c0104686f7374037075740000
+module imports {IMPORTS_ALL}
+module typed 0061736d010000000105016000017f030201000a0e010c00027f41010c0042006a0b0b
+module names 0061736d0100000001040160000003020100070d030161000001620000016100000a040102000b
+module other 0061736d010000000105016000017e02190204686f73740462617365037f0004686f7374037075740000
 """
 REPLIES = """module empty ok
 module seven ok
@@ -24,6 +28,9 @@ error C3 line 5
 error C1 line 6
 error C1 line 7
 module imports ok
+module typed refused V1 func 0 instr 4
+module names refused V6 module
+module other refused L2 import 1
 """
 
 
@@ -38,7 +45,7 @@ def is_right(number, line, wanted, before):
         return True
     if wanted == "error C3 line 5":
         return before[1] != "module seven ok" and line == "module seven ok"
-    return re.fullmatch(f"module {name} refused D13 at \\d+", line) is not None
+    return re.fullmatch(f"module {name} refused (D13 at \\d+|V11 module|V11 func \\d+ instr \\d+|L3)", line) is not None
 
 
 whole = run()
@@ -47,6 +54,7 @@ with tempfile.TemporaryDirectory() as folder:
     library, mark = folder + "/refuse_memory.so", folder + "/refused"
     subprocess.run(["cc", "-shared", "-fPIC", "-O1", "-o", library, SOURCE], check=True)
     requests = wanting = stopped = 0
+    kinds = set()
     while True:
         refused = run(LD_PRELOAD=library, REFUSE_AT=str(requests + 1), REFUSED=mark)
         if not os.path.exists(mark):
@@ -61,5 +69,7 @@ with tempfile.TemporaryDirectory() as folder:
         else:
             assert (refused.returncode, refused.stderr, len(lines)) == (0, b"", len(wanted)), (requests, refused)
             wanting += lines != wanted
+            kinds |= {found for found in re.findall("D13|V11|L3|C5", refused.stdout.decode())}
     assert requests > 0 and (refused.returncode, refused.stdout) == (0, whole.stdout), requests
+assert kinds == {"D13", "V11", "L3", "C5"}, kinds
 print(f"{requests} requests for memory refused in turn: {wanting} in a reply, {stopped} by stopping; every reply was right")

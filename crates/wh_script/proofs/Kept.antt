@@ -1,16 +1,10 @@
 -- What is kept in a map with texts as keys.
-use Rattle.std.proofs.Common.{◌≡◌, ◌≢◌, ℕ, ◌⊎◌, inl, inr, Bool, true, false, cond, List, Option, Some, None, Result, Ok, Err, OnOk, bytes_eq, is_some, is_err, refl, ap, ◌∙◌}
+use Rattle.std.proofs.Common.{◌≡◌, ℕ, Bool, true, false, cond, List, Option, Some, None, Result, Ok, Err, OnOk, bytes_eq, is_some, is_err, refl, ap, ◌∙◌}
 use Rattle.std.specs.Prelude.{option_map, if◌then◌else◌}
 use Rattle.std.specs.Map.{update}
 use mathlib.Core.Path.{fun_ext}
 use Rattle.wh_model.specs.Syntax.{Module}
-use Rattle.wh_model.specs.declared.FaultKind.{FaultKind}
-use Rattle.wh_model.specs.declared.FaultKind.TheVariants.{Magic, Version, Truncated, SectionOrder, SectionSize, Leb, Utf8, UnknownByte, Float, Unsupported, Limit, CountMismatch, Memory}
-use Rattle.wh_model.specs.Numbering.{fault_number}
-use Rattle.wh_model.specs.Spelling.{IsBroken}
-use Rattle.wh_host_model.specs.Script.{refused_reply}
-use Rattle.wh_host_model.specs.Requests.{keep_module}
-use Rattle.wh_host_model.specs.Replies.{Modules, with_module, refused, by_decoder, ReplyOrWant}
+use Rattle.wh_host_model.specs.Replies.{with_module}
 
 seen_cond : {X : Type 0} (view : X → Module) (b : Bool) (x : X) (y : Option X) → option_map view (cond b (Some x) y) ≡ (if b then Some (view x) else option_map view y)
 seen_cond view true x y = refl
@@ -30,29 +24,6 @@ taken_by view None e = cc
 pub is_free : {X : Type 0} (view : X → Module) (o : Option X) → is_some o ≡ false → option_map view o ≡ None
 is_free view (Some x) e = cc
 is_free view None e = refl
-
-is_memory : (kind : FaultKind) → (kind ≡ Memory) ⊎ (kind ≢ Memory)
-is_memory Magic = inr (λ e. cc)
-is_memory Version = inr (λ e. cc)
-is_memory Truncated = inr (λ e. cc)
-is_memory SectionOrder = inr (λ e. cc)
-is_memory SectionSize = inr (λ e. cc)
-is_memory Leb = inr (λ e. cc)
-is_memory Utf8 = inr (λ e. cc)
-is_memory UnknownByte = inr (λ e. cc)
-is_memory Float = inr (λ e. cc)
-is_memory Unsupported = inr (λ e. cc)
-is_memory Limit = inr (λ e. cc)
-is_memory CountMismatch = inr (λ e. cc)
-is_memory Memory = inl refl
-
--- a fault of the decoder is the reply, or want of memory
-pub refuses : (before after : Modules) (number : ℕ) (name bytes : List ℕ) (kind : FaultKind) (offset : ℕ) → before name ≡ None → (kind ≢ Memory → IsBroken bytes kind offset) → after ≡ before
-    → ReplyOrWant before number (keep_module name bytes) (refused_reply name (fault_number kind) offset) after
-refuses before after number name bytes kind offset free broken same = elim (is_memory kind) [
-  | inl e ↦ inr (by_decoder offset free (ap (λ k. refused_reply name (fault_number k) offset) e) same)
-  | inr n ↦ inl (refused kind offset free (broken n) refl same)
-]
 
 pub where_ok : {X E P : Type 0} (r : Result X E) → is_err r ≡ false → OnOk r P → P
 where_ok (Ok x) e p = p

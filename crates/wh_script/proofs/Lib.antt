@@ -2,6 +2,7 @@ pub mod Coming
 pub mod Hex
 pub mod Kept
 pub mod OneText
+pub mod Refusing
 pub mod Requests
 pub mod Runs
 pub mod Words

@@ -1,3 +1,4 @@
+pub mod Accepting
 pub mod Coming
 pub mod Commands
 pub mod Numbering

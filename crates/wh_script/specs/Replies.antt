@@ -5,13 +5,13 @@ use Rattle.std.specs.Io.KnownBytes.{Appends, Keeps}
 use Rattle.wh_script.specs.declared.engine.Engine.{Engine}
 use Rattle.wh_script.specs.declared.fault.ScriptFault.{ScriptFault}
 use Rattle.wh_script.specs.declared.fault.ScriptFault.TheVariants.{Script, Output, Memory}
-use Rattle.wh_syntax.specs.View.{view_module}
+use Rattle.wh_script.specs.Accepting.{view_linked}
 use Rattle.wh_host_model.specs.Requests.{Request}
 use Rattle.wh_host_model.specs.Replies.{Modules, ReplyOrWant, LineReply}
 
 -- which module each name has
 abbrev pub modules_of : Engine → Modules
-modules_of engine name = option_map view_module (get_by_text engine.modules name)
+modules_of engine name = option_map view_linked (get_by_text engine.modules name)
 
 -- the known bytes grew by a beginning of the text
 abbrev pub AppendsFront : Option (List ℕ) → Option (List ℕ) → List ℕ → Type 0

@@ -1,12 +1,12 @@
 //! The engine: one line after the other.
 
-ghost use Rattle.std.specs.Prelude.{◌≡◌, ℕ, List, IfOk, IfErr, OnOk, OnErr, string_bytes};
-ghost use Rattle.wh_model.specs.Numbering.{fault_number};
+ghost use Rattle.std.specs.Prelude.{◌≡◌, ℕ, List, IfOk, [], IfErr, OnOk, OnErr, string_bytes};
 ghost use Rattle.wh_host_model.specs.Replies.{no_modules, with_module};
 ghost use Rattle.wh_host_model.specs.Requests.{Request, keep_module, IsHex};
-ghost use Rattle.wh_syntax.specs.View.{view_module};
-ghost use Rattle.wh_host_model.specs.Script.{kept_reply, refused_reply, error_reply};
+ghost use Rattle.wh_bodies.specs.Faults.{kind_number};
+ghost use Rattle.wh_host_model.specs.Script.{kept_reply, error_reply, invalid_reply};
 ghost use Rattle.wh_script.specs.Numbering.{complaint_number};
+ghost use Rattle.wh_script.specs.Accepting.{view_linked, place_of, link_reply, refusal_reply};
 ghost use Rattle.wh_script.specs.Coming.{IsKind};
 ghost use Rattle.wh_script.specs.Commands.{Means};
 ghost use Rattle.wh_script.specs.Replies.{modules_of, Sent, Obeys, Answers};
@@ -15,12 +15,12 @@ ghost use Rattle.wh_script.specs.Runs.{Runs};
 use crate::command::{Command, parse};
 use crate::fault::{Complaint, ScriptFault};
 use crate::lines::{Line, Lines};
+use crate::module::{ModuleError, accept};
 use std::alloc::{AllocError, Global};
 use std::collections::BTreeMap;
 use std::io::{ErrorKind, Read, Write};
-use wh_decode::decode;
-use wh_leb::DecodeError;
-use wh_syntax::Module;
+use wh_imports::{LinkError, Linked};
+use wh_validate::ValidError;
 
 const LONGEST_REPLY: usize = 128;
 
@@ -28,7 +28,7 @@ const LONGEST_REPLY: usize = 128;
 #[derive(Drop)]
 struct Engine {
     alloc: Global,
-    modules: BTreeMap<String, Module>,
+    modules: BTreeMap<String, Linked>,
     reply: String,
 }
 
@@ -123,7 +123,7 @@ impl Engine {
         self.new_module(writer, name, hex, number)
     }
 
-    /// Decodes a module, and keeps it under a free name if it is one.
+    /// Keeps a module under a free name, if it is accepted.
     fn new_module<W: Write>(
         &mut self,
         writer: &mut W,
@@ -138,27 +138,27 @@ impl Engine {
         let Ok(bytes) = hex::decode(self.alloc, hex) else {
             return self.complain(writer, Complaint::Memory, number);
         };
-        match decode(self.alloc, &bytes) {
-            Ok(module) => {
-                if self.keep(name, module).is_err() {
+        match accept(self.alloc, &bytes) {
+            Ok(linked) => {
+                if self.keep(name, linked).is_err() {
                     return self.complain(writer, Complaint::Memory, number);
                 }
-                self.accept(writer, name)
+                self.say_kept(writer, name)
             }
-            Err(fault) => self.refuse(writer, name, fault),
+            Err(error) => self.refuse(writer, name, error),
         }
     }
 
-    fn keep(&mut self, name: &str, decoded: Module) -> Result<(), AllocError>
-        ensures kept { OnOk result (modules_of self.new ≡ with_module (modules_of self.old) name.now (view_module decoded)) }
+    fn keep(&mut self, name: &str, linked: Linked) -> Result<(), AllocError>
+        ensures kept { OnOk result (modules_of self.new ≡ with_module (modules_of self.old) name.now (view_linked linked)) }
         ensures same { OnErr result (modules_of self.new ≡ modules_of self.old) }
     {
         let name = String::from_str(self.alloc, name)?;
-        self.modules.insert(name, decoded)?;
+        self.modules.insert(name, linked)?;
         Ok(())
     }
 
-    fn accept<W: Write>(&mut self, writer: &mut W, name: &str) -> Result<(), ScriptFault>
+    fn say_kept<W: Write>(&mut self, writer: &mut W, name: &str) -> Result<(), ScriptFault>
         ensures sent { Sent (W.contents writer.old) (W.contents writer.new) result (kept_reply name.now) }
         ensures names { modules_of self.new ≡ modules_of self.old }
     {
@@ -173,18 +173,67 @@ impl Engine {
         &mut self,
         writer: &mut W,
         name: &str,
-        fault: DecodeError,
+        error: ModuleError,
     ) -> Result<(), ScriptFault>
-        ensures sent { Sent (W.contents writer.old) (W.contents writer.new) result (refused_reply name.now (fault_number fault.kind) fault.offset) }
+        ensures sent { Sent (W.contents writer.old) (W.contents writer.new) result (refusal_reply name.now error) }
         ensures names { modules_of self.new ≡ modules_of self.old }
     {
-        let kind = fault.kind.number();
-        let offset = fault.offset;
         self.reply.clear();
-        if writeln!(self.reply, "module {name} refused D{kind} at {offset}").is_err() {
+        if self.say_refused(name, error).is_err() {
             return Err(ScriptFault::Memory);
         }
         self.send(writer)
+    }
+
+    /// Puts the reply to a refused module together.
+    fn say_refused(&mut self, name: &str, error: ModuleError) -> Result<(), AllocError>
+        requires { string_bytes self.old.reply ≡ [] }
+        ensures said { OnOk result (string_bytes self.new.reply ≡ refusal_reply name.now error) }
+        ensures names { modules_of self.new ≡ modules_of self.old }
+    {
+        match error {
+            ModuleError::Decode(fault) => {
+                let kind = fault.kind.number();
+                let offset = fault.offset;
+                writeln!(self.reply, "module {name} refused D{kind} at {offset}")
+            }
+            ModuleError::Valid(error) => self.say_invalid(name, error),
+            ModuleError::Link(error) => self.say_unlinked(name, error),
+        }
+    }
+
+    /// Puts the reply to a module that isn't valid together.
+    fn say_invalid(&mut self, name: &str, error: ValidError) -> Result<(), AllocError>
+        requires { string_bytes self.old.reply ≡ [] }
+        ensures said { OnOk result (string_bytes self.new.reply ≡ invalid_reply name.now (kind_number error.kind) (place_of error.func error.instr)) }
+        ensures names { modules_of self.new ≡ modules_of self.old }
+    {
+        let kind = error.kind.number();
+        let instr = error.instr;
+        match error.func {
+            Some(func) => {
+                writeln!(
+                    self.reply,
+                    "module {name} refused V{kind} func {func} instr {instr}"
+                )
+            }
+            None => writeln!(self.reply, "module {name} refused V{kind} module"),
+        }
+    }
+
+    /// Puts the reply to a module that can't be linked together.
+    fn say_unlinked(&mut self, name: &str, error: LinkError) -> Result<(), AllocError>
+        requires { string_bytes self.old.reply ≡ [] }
+        ensures said { OnOk result (string_bytes self.new.reply ≡ link_reply name.now error) }
+        ensures names { modules_of self.new ≡ modules_of self.old }
+    {
+        let kind = error.number();
+        match error {
+            LinkError::UnknownImport(at) | LinkError::ImportType(at) => {
+                writeln!(self.reply, "module {name} refused L{kind} import {at}")
+            }
+            LinkError::Memory => writeln!(self.reply, "module {name} refused L3"),
+        }
     }
 
     fn complain<W: Write>(

@@ -19,8 +19,9 @@ where
     Ok((result, written))
 }
 
-/// Scripts, each with the replies that it has to get. The module of 34 bytes gives 7 by its function `f`.
-const SCRIPTS: [(&[u8], &str); 32] = [
+/// Scripts, each with the replies that it has to get. The module of 34 bytes gives 7 by its function `f`; that of 90 bytes
+/// imports all that the host offers.
+const SCRIPTS: [(&[u8], &str); 41] = [
     (b"", ""),
     (b"\n\n", ""),
     (b"# comments", ""),
@@ -39,6 +40,42 @@ const SCRIPTS: [(&[u8], &str); 32] = [
     (
         b"module m 0061736d010000000105016000017f03020100070501016600000a0a01080041ffffffff0f0b\n",
         "module m refused D6 at 36\n",
+    ),
+    (
+        b"module m 0061736d010000000105016000017f030201000a0c010a00027f41010c006a0b0b\n",
+        "module m ok\n",
+    ),
+    (
+        b"module m 0061736d010000000105016000017f030201000a0e010c00027f41010c0042006a0b0b\n",
+        "module m refused V1 func 0 instr 4\n",
+    ),
+    (
+        b"module m 0061736d0100000001040160000003020100070d030161000001620000016100000a040102000b\n",
+        "module m refused V6 module\n",
+    ),
+    (
+        b"module m 0061736d01000000010f0360017f017e60017e0060027f7f00023f0504686f73740473616c74037e0004686f737404656d6974000204686f737405696e707574000004686f73740462617365037f0004686f7374037075740001\n",
+        "module m ok\n",
+    ),
+    (
+        b"module m 0061736d0100000001060160017f017e02090103656e7601780000\n",
+        "module m refused L1 import 0\n",
+    ),
+    (
+        b"module m 0061736d0100000001060160017f017f020e0104686f737405696e7075740000\n",
+        "module m refused L2 import 0\n",
+    ),
+    (
+        b"module m 0061736d01000000010a0260017f017e6000017f02090103656e7601780000030201010a040102000b\n",
+        "module m refused V4 func 1 instr 0\n",
+    ),
+    (
+        b"module m 0061736d0100000001010005050200000000\nmodule m 0061736d0100000001060160017f017e02090103656e7601780000\nmodule m 0061736d01000000\n",
+        "module m refused V8 module\nmodule m refused L1 import 0\nmodule m ok\n",
+    ),
+    (
+        b"module m 0061736d01000000\nmodule m 0061736d0100000001010005050200000000\n",
+        "module m ok\nerror C3 line 2\n",
     ),
     (b"module m 0061736d010000\n", "module m refused D3 at 7\n"),
     (b"module m 0061736d02000000\n", "module m refused D2 at 4\n"),

@@ -1,30 +1,29 @@
 use Rattle.std.proofs.Common.{refl, sym, subst, inl, ◌∙◌}
-use Rattle.wh_model.specs.Numbering.{fault_number}
-use Rattle.wh_model.specs.Spelling.{Spells, Small, IsBroken}
-use Rattle.wh_host_model.specs.Script.{kept_reply, refused_reply}
+use Rattle.wh_host_model.specs.Script.{kept_reply}
 use Rattle.wh_host_model.specs.Replies.{kept}
-use Rattle.wh_syntax.specs.View.{view_module}
+use Rattle.wh_script.specs.Accepting.{view_linked, Accepts, Refuses, refusal_reply}
 use Rattle.wh_script.specs.Replies.{modules_of}
 use Rattle.wh_script.proofs.Hex.{read_same}
-use Rattle.wh_script.proofs.Kept.{refuses, where_ok}
+use Rattle.wh_script.proofs.Kept.{where_ok}
+use Rattle.wh_script.proofs.Refusing.{refuses}
 use Rattle.wh_script.proofs.engine.Engine.new_module.Goals as goal
 
-pub returns-in-Ok-decode : goal.returns-in-Ok-decode
-returns-in-Ok-decode g c = λ bytes is.
+pub returns-in-Ok-accept : goal.returns-in-Ok-accept
+returns-in-Ok-accept g c = λ bytes is.
     let same = c.deref.ensures.value ∙ read_same c.args.hex.now bytes c.in-Ok.bytes.items is c.in-Ok.ensures.ok in
-    let m = view_module c.in-Ok-decode.module in
-    let found = c.in-Ok-decode.ensures.found in
+    let m = view_linked c.in-Ok-accept.linked in
+    let found = subst (λ bs. Accepts bs m) same c.in-Ok-accept.ensures.ok in
     let keeps = where_ok c.keep.result (sym c.if-is_err.ensures.value) c.keep.ensures.kept in (
       kept_reply c.args.name.now,
-      inl (kept m c.requires (subst (λ bs. Spells bs m) same found.0) (subst (λ bs. Small bs m) same found.1) refl (c.accept.ensures.names ∙ keeps)),
-      c.accept.ensures.sent,
+      inl (kept m c.requires found.is_module found.valid found.fits found.links refl (c.say_kept.ensures.names ∙ keeps)),
+      c.say_kept.ensures.sent,
     )
 
 pub returns : goal.returns
 returns g c = λ bytes is.
     let same = c.deref.ensures.value ∙ read_same c.args.hex.now bytes c.in-Ok.bytes.items is c.in-Ok.ensures.ok in
-    let fault = c.in-Err.fault in (
-      refused_reply c.args.name.now (fault_number fault.kind) fault.offset,
-      refuses (modules_of c.args.self.now) (modules_of c.refuse.new.self) c.args.number c.args.name.now bytes fault.kind fault.offset c.requires (λ n. subst (λ bs. IsBroken bs fault.kind fault.offset) same (c.in-Err.ensures.fault n)) c.refuse.ensures.names,
+    let error = c.in-Err.error in (
+      refusal_reply c.args.name.now error,
+      refuses (modules_of c.args.self.now) (modules_of c.refuse.new.self) c.args.number c.args.name.now bytes c.requires c.refuse.ensures.names error (subst (λ bs. Refuses bs error) same c.in-Err.ensures.err),
       c.refuse.ensures.sent,
     )

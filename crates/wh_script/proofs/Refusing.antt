@@ -1,0 +1,68 @@
+-- What is refused gets the reply of its fault, or want of memory.
+use Rattle.std.proofs.Common.{◌≡◌, ◌≢◌, ℕ, ◌⊎◌, inl, inr, List, None, refl, ap, arith}
+use Rattle.wh_model.specs.declared.FaultKind.{FaultKind}
+use Rattle.wh_model.specs.declared.FaultKind.TheVariants.{Magic, Version, Truncated, SectionOrder, SectionSize, Leb, Utf8, UnknownByte, Float, Unsupported, Limit, CountMismatch, Memory as NoRoom}
+use Rattle.wh_model.specs.Numbering.{fault_number}
+use Rattle.wh_model.specs.Spelling.{IsBroken}
+use Rattle.wh_model.specs.Syntax.{Module}
+use Rattle.wh_model.specs.Validity.{Valid}
+use Rattle.wh_model.specs.Heights.{Fits}
+use Rattle.wh_host_model.specs.Linking.{unknown_import, import_type}
+use Rattle.wh_host_model.specs.Script.{Place, refused_reply, invalid_reply}
+use Rattle.wh_host_model.specs.Requests.{keep_module}
+use Rattle.wh_host_model.specs.Replies.{Modules, IsModule, IsValidFault, refused, invalid, unlinked, by_decoder, by_validator, by_linker, ReplyOrWant}
+use Rattle.wh_bodies.specs.declared.fault.ValidKind.{ValidKind}
+use Rattle.wh_bodies.specs.declared.fault.ValidKind.TheVariants.{BadType, Index, Align, Arity, Const, DuplicateExport, Start, Limits, Height, ConstImmutable, Memory as NoRoomToCheck}
+use Rattle.wh_bodies.specs.Faults.{kind_number}
+use Rattle.wh_imports.specs.declared.error.LinkError.TheVariants.{UnknownImport, ImportType, Memory}
+use Rattle.wh_script.specs.declared.module.ModuleError.{ModuleError}
+use Rattle.wh_script.specs.declared.module.ModuleError.TheVariants.{Decode, Valid as Invalid, Link}
+use Rattle.wh_script.specs.Accepting.{Refuses, place_of, refusal_reply}
+
+no_room : (kind : FaultKind) → (kind ≡ NoRoom) ⊎ (kind ≢ NoRoom)
+no_room Magic = inr (λ e. cc)
+no_room Version = inr (λ e. cc)
+no_room Truncated = inr (λ e. cc)
+no_room SectionOrder = inr (λ e. cc)
+no_room SectionSize = inr (λ e. cc)
+no_room Leb = inr (λ e. cc)
+no_room Utf8 = inr (λ e. cc)
+no_room UnknownByte = inr (λ e. cc)
+no_room Float = inr (λ e. cc)
+no_room Unsupported = inr (λ e. cc)
+no_room Limit = inr (λ e. cc)
+no_room CountMismatch = inr (λ e. cc)
+no_room NoRoom = inl refl
+
+no_room_to_check : (kind : ValidKind) → (kind ≡ NoRoomToCheck) ⊎ ((kind ≢ NoRoomToCheck) × IsValidFault (kind_number kind))
+no_room_to_check BadType = inr ((λ e. cc), (omega arith, omega arith))
+no_room_to_check Index = inr ((λ e. cc), (omega arith, omega arith))
+no_room_to_check Align = inr ((λ e. cc), (omega arith, omega arith))
+no_room_to_check Arity = inr ((λ e. cc), (omega arith, omega arith))
+no_room_to_check Const = inr ((λ e. cc), (omega arith, omega arith))
+no_room_to_check DuplicateExport = inr ((λ e. cc), (omega arith, omega arith))
+no_room_to_check Start = inr ((λ e. cc), (omega arith, omega arith))
+no_room_to_check Limits = inr ((λ e. cc), (omega arith, omega arith))
+no_room_to_check Height = inr ((λ e. cc), (omega arith, omega arith))
+no_room_to_check ConstImmutable = inr ((λ e. cc), (omega arith, omega arith))
+no_room_to_check NoRoomToCheck = inl refl
+
+module _ (before after : Modules) (number : ℕ) (name bytes : List ℕ) (free : before name ≡ None) (same : after ≡ before) where
+  not_decoded : (kind : FaultKind) (offset : ℕ) → (kind ≢ NoRoom → IsBroken bytes kind offset) → ReplyOrWant before number (keep_module name bytes) (refused_reply name (fault_number kind) offset) after
+  not_decoded kind offset broken = elim (no_room kind) [
+    | inl e ↦ inr (by_decoder offset free (ap (λ k. refused_reply name (fault_number k) offset) e) same)
+    | inr n ↦ inl (refused kind offset free (broken n) refl same)
+  ]
+
+  not_valid : (m : Module) (kind : ValidKind) (place : Place) → IsModule bytes m → (kind ≢ NoRoomToCheck → ¬ (Valid m × Fits m)) → ReplyOrWant before number (keep_module name bytes) (invalid_reply name (kind_number kind) place) after
+  not_valid m kind place is wrong = elim (no_room_to_check kind) [
+    | inl e ↦ inr (by_validator m place free is (ap (λ k. invalid_reply name (kind_number k) place) e) same)
+    | inr n ↦ inl (invalid m (kind_number kind) place free is (wrong n.0) n.1 refl same)
+  ]
+
+  pub refuses : (e : ModuleError) → Refuses bytes e → ReplyOrWant before number (keep_module name bytes) (refusal_reply name e) after
+  refuses (Decode e) broken = not_decoded e.kind e.offset broken
+  refuses (Invalid e) (m, is, wrong) = not_valid m e.kind (place_of e.func e.instr) is wrong
+  refuses (Link (UnknownImport at)) (m, is, valid, fits, first) = inl (unlinked m unknown_import at free is valid fits first refl same)
+  refuses (Link (ImportType at)) (m, is, valid, fits, first) = inl (unlinked m import_type at free is valid fits first refl same)
+  refuses (Link Memory) (m, is, valid, fits, first) = inr (by_linker m free is valid fits refl same)
