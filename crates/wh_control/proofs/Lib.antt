@@ -1,0 +1,13 @@
+pub mod Levels
+pub mod Typed
+pub mod Places
+pub mod Labels
+pub mod Stacks
+pub mod Branches
+pub mod Constructs
+pub mod Jumps
+pub mod Entries
+pub mod Calling
+pub mod Standing
+pub mod Room
+pub mod Cuts

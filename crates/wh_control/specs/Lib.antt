@@ -1,0 +1,5 @@
+pub mod Lies
+pub mod Represents
+pub mod Moves
+pub mod Next
+pub mod Stored

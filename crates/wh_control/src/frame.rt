@@ -1,0 +1,82 @@
+//! Calls that have begun.
+
+ghost use Rattle.std.specs.Prelude.{◌≡◌, ℕ, ◌<◌, ◌≤◌, List, [], ◌∷◌, length, reverse, IfOk, IfSome, IfNone};
+ghost use Rattle.std.specs.Vec.{vec_capacity};
+ghost use Rattle.wh_model.specs.Execution.{call_depth};
+ghost use Rattle.wh_control.specs.Stored.{stored_frames};
+ghost use Rattle.wh_control.specs.declared.frame.Frame.{Frame};
+
+use std::alloc::{AllocError, Global};
+use std::marker::Model;
+
+/// How many calls run at once at most (7.2).
+pub const CALL_DEPTH: usize = 128;
+
+/// A call of one of the module's own functions: where its words lie and its code goes on.
+#[derive(Clone, Copy, Debug, PartialEq, Eq)]
+pub struct Frame {
+    /// The function, counted among those that the module defines.
+    pub func: usize,
+    /// How many words lie beneath its parameters.
+    pub base: usize,
+    /// How many words lie beneath its operands: those beneath its parameters, its parameters and its locals.
+    pub operands: usize,
+    /// The place of the instruction that comes next, or the code's length, which is the end of the function.
+    pub place: usize,
+}
+
+/// The calls that wait for a result, which contracts see innermost first. Room for as many as there may be is reserved when
+/// it is made.
+#[derive(Drop)]
+pub struct Frames {
+    items: Vec<Frame>,
+}
+
+impl Model for Frames {
+    ghost Value = { List Frame };
+
+    ghost coded = { stored_frames };
+
+    ghost view = { λ f. reverse f.items.items };
+
+    ghost invariant = { λ f. call_depth ≤ vec_capacity f.items };
+}
+
+impl Frames {
+    /// No calls, and room for all.
+    ///
+    /// # Errors
+    /// Where memory was refused.
+    pub fn reserve(alloc: Global) -> Result<Frames, AllocError>
+        ensures { IfOk result (λ frames. frames ≡ []) }
+    {
+        let items = Vec::with_capacity(alloc, CALL_DEPTH)?;
+        Ok(Frames { items })
+    }
+
+    /// How many there are.
+    #[inline(always)]
+    pub fn len(&self) -> usize
+        ensures { result ≡ length self.now }
+    {
+        self.items.len()
+    }
+
+    /// One more call waits.
+    #[inline(always)]
+    pub fn push(&mut self, frame: Frame)
+        requires { length self.old < call_depth }
+        ensures { self.new ≡ frame ∷ self.old }
+    {
+        self.items.push_reserved(frame);
+    }
+
+    /// Takes the innermost one.
+    #[inline(always)]
+    pub fn pop(&mut self) -> Option<Frame>
+        ensures some { IfSome result (λ frame. self.old ≡ frame ∷ self.new) }
+        ensures none { IfNone result ((self.old ≡ []) × (self.new ≡ [])) }
+    {
+        self.items.pop()
+    }
+}
