@@ -1,0 +1,210 @@
+//! A linear memory as one list of bytes: the plain form of what section 4.2.8 of the W3C WebAssembly Core Specification
+//! 1.0 describes, for the plain program and for tests.
+//!
+//! [`FlatMemory`] is proved to be a `LinearMem` of `wh_machine` whose bytes are always at hand: a load reads exactly the
+//! bytes that it names, a store changes exactly those, each traps exactly where they aren't all in the memory, and a
+//! growth adds zeros exactly up to the limit. Only making it takes memory, so nothing else can be refused any.
+//!
+//! Inlined where the count of bytes is known, as for numbers, a load or a store is one test of the bounds and one machine
+//! move.
+#![tactic(auto)]
+
+ghost use Rattle.std.specs.Prelude.{◌≡◌, ℕ, ◌+◌, ◌*◌, ◌≤◌, List, length, replicate, IfOk, IsTrue, IsFalse, vec_capacity};
+ghost use Rattle.wh_flatmem.specs.Flat.{Flat, Begins};
+ghost use Rattle.wh_model.specs.Store.{written};
+
+use std::alloc::{AllocError, Global};
+use std::marker::Model;
+use wh_machine::LinearMem;
+use wh_model::{Got, Grown};
+
+// The bytes of a page.
+const PAGE: usize = 65536;
+
+/// A linear memory that is one list of bytes, all of them always at hand.
+///
+/// Contracts see its bytes, and to how many pages it may grow.
+#[derive(Drop)]
+pub struct FlatMemory {
+    pages: u32,
+    limit: u32,
+    bytes: Vec<u8>,
+}
+
+impl Model for FlatMemory {
+    ghost Value = { Flat };
+
+    ghost view = { λ m. record { bytes = m.bytes.items; limit = m.limit } };
+
+    ghost invariant = { λ m. (length m.bytes.items ≡ m.pages * 65536) × (m.pages ≤ m.limit) × (m.limit ≤ 65536)
+        × (m.limit * 65536 ≤ vec_capacity m.bytes) };
+}
+
+// Writes over N bytes by as many, if there are so many, and says whether it did.
+#[inline(always)]
+fn copy_array<const N: usize>(part: &mut [u8], given: &[u8]) -> bool
+    requires few { N ≤ 8 }
+    requires same { length part.old ≡ length given.now }
+    ensures done { IsTrue result → part.new ≡ given.now }
+    ensures left { IsFalse result → part.new ≡ part.old }
+{
+    let Some(from) = given.as_array::<N>() else {
+        return false;
+    };
+    let Some(to) = part.as_mut_array::<N>() else {
+        return false;
+    };
+    *to = *from;
+    true
+}
+
+// Writes over bytes by as many others. Those of a number go as one array: inlined where their count is known, that is one
+// machine move, while a copy of slices would first test whether the two overlap.
+#[inline(always)]
+fn copy(part: &mut [u8], given: &[u8])
+    requires { length part.old ≡ length given.now }
+    ensures { part.new ≡ given.now }
+{
+    if !copy_array::<8>(part, given)
+        && !copy_array::<4>(part, given)
+        && !copy_array::<2>(part, given)
+    {
+        part.copy_from_slice(given);
+    }
+}
+
+impl FlatMemory {
+    /// So many pages of 65536 zero bytes. There may be as many as `limit` says, at most 65536; room for them all is
+    /// reserved now, and growing takes no more.
+    ///
+    /// # Errors
+    /// Where that room was refused.
+    pub fn new(alloc: Global, pages: u32, limit: u32) -> Result<FlatMemory, AllocError>
+        requires within { pages ≤ limit }
+        requires most { limit ≤ 65536 }
+        ensures bytes { IfOk result (λ m. m.bytes ≡ replicate (pages * 65536) 0) }
+        ensures limit { IfOk result (λ m. m.limit ≡ limit) }
+    {
+        let mut bytes = Vec::with_capacity(alloc, limit as usize * PAGE)?;
+        bytes.resize(pages as usize * PAGE, 0)?;
+        Ok(FlatMemory {
+            pages,
+            limit,
+            bytes,
+        })
+    }
+
+    /// All its bytes.
+    pub fn bytes(&self) -> &[u8]
+        ensures { result.now ≡ self.now.bytes }
+    {
+        self.bytes.as_slice()
+    }
+
+    /// Writes these bytes from a place on. They have to end within the memory.
+    #[inline(always)]
+    pub fn write(&mut self, at: usize, given: &[u8])
+        requires { at + length given.now ≤ length self.old.bytes }
+        ensures { self.new ≡ record self.old { bytes = written self.old.bytes at given.now } }
+    {
+        copy(&mut self.bytes[at..at + given.len()], given);
+    }
+
+    // Where so many bytes begin, if all of them are in the memory.
+    #[inline(always)]
+    fn place(&self, at: u64, count: usize) -> Option<usize>
+        ensures { Begins self.now.bytes at count result }
+    {
+        if at.saturating_add(count as u64) > self.bytes.len() as u64 {
+            return None;
+        }
+        Some(at as usize)
+    }
+}
+
+impl LinearMem for FlatMemory {
+    ghost bytes = { λ m. m.bytes };
+
+    ghost limit = { λ m. m.limit };
+
+    ghost ready = { λ _ _. Unit {0} };
+
+    ghost keeps = { λ _ _. Unit {0} };
+
+    #[inline(always)]
+    fn load(&mut self, at: u64, into: &mut [u8]) -> Got {
+        let Some(start) = self.place(at, into.len()) else {
+            return Got::Trap;
+        };
+        into.copy_from_slice(&self.bytes[start..start + into.len()]);
+        Got::Value
+    }
+
+    #[inline(always)]
+    fn store(&mut self, at: u64, given: &[u8]) -> Got {
+        let Some(start) = self.place(at, given.len()) else {
+            return Got::Trap;
+        };
+        self.write(start, given);
+        Got::Value
+    }
+
+    fn size(&self) -> u32 {
+        self.pages
+    }
+
+    fn grow(&mut self, pages: u32) -> Grown {
+        if pages > self.limit - self.pages {
+            return Grown::Refused;
+        }
+        let before = self.pages;
+        let Ok(()) = self.bytes.resize((before + pages) as usize * PAGE, 0) else {
+            unreachable!()
+        };
+        self.pages = before + pages;
+        Grown::Done(before)
+    }
+
+    ghost keeps_same = { λ _. tt };
+
+    ghost keeps_more = { λ _ _ _ _ _. tt };
+}
+
+#[cfg(test)]
+mod tests {
+    use super::*;
+    use std::test::Fail;
+
+    fn sizes<M: LinearMem>(memory: &mut M, pages: u32) -> (u32, Grown, u32) {
+        let before = memory.size();
+        let grown = memory.grow(pages);
+        (before, grown, memory.size())
+    }
+
+    fn loaded<M: LinearMem>(memory: &mut M, at: u64) -> (Got, [u8; 4]) {
+        let mut word = [9; 4];
+        let got = memory.load(at, &mut word);
+        (got, word)
+    }
+
+    fn stored<M: LinearMem>(memory: &mut M, at: u64, given: [u8; 4]) -> Got {
+        memory.store(at, &given)
+    }
+
+    #[test]
+    fn a_memory_is_written_read_and_grown(rt: HostRuntime) -> Result<(), Fail> {
+        let mut memory = FlatMemory::new(rt.alloc(), 1, 2)?;
+        memory.write(65535, &[1]);
+        assert_eq!(rt; loaded(&mut memory, 65532), (Got::Value, [0, 0, 0, 1]));
+        assert_eq!(rt; loaded(&mut memory, 65533), (Got::Trap, [9; 4]));
+        assert_eq!(rt; loaded(&mut memory, u64::MAX), (Got::Trap, [9; 4]));
+        assert_eq!(rt; stored(&mut memory, 65533, [2; 4]), Got::Trap);
+        assert_eq!(rt; sizes(&mut memory, 2), (1, Grown::Refused, 1));
+        assert_eq!(rt; sizes(&mut memory, 1), (1, Grown::Done(1), 2));
+        assert_eq!(rt; stored(&mut memory, 65533, [2, 3, 4, 5]), Got::Value);
+        assert_eq!(rt; loaded(&mut memory, 65534), (Got::Value, [3, 4, 5, 0]));
+        assert_eq!(rt; memory.bytes().len(), 131072);
+        assert_eq!(rt; sizes(&mut memory, 0), (2, Grown::Done(2), 2));
+        Ok(())
+    }
+}

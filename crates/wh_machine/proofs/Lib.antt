@@ -1,0 +1,11 @@
+pub mod Straight
+pub mod Locals
+pub mod Memories
+pub mod HostSteps
+pub mod Lookups
+pub mod Turning
+pub mod Numerals
+pub mod Hosted
+pub mod OwnCalls
+pub mod Accessing
+pub mod SameTypes

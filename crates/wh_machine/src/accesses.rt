@@ -1,0 +1,145 @@
+//! What the machine does at instructions of globals (4.4.3) and of the memory (4.4.4).
+
+ghost use Rattle.std.specs.Prelude.{◌≡◌, ℕ, ◌^◌, ◌<◌, List, ◌∷◌, length};
+ghost use Rattle.wh_model.specs.declared.memory.Grown.TheVariants.{Done, Refused};
+ghost use Rattle.wh_syntax.specs.declared.instr.Instr.TheVariants.{GlobalGet, GlobalSet, Load, Store as StoreAt, MemorySize, MemoryGrow};
+ghost use Rattle.wh_machine.specs.Alone.{IsNextInStore, InStore, IsNextInMemory, InMemory};
+
+use crate::bytes::{Loaded, read, write};
+use crate::instructions::advance;
+use crate::machine::{Machine, Turn};
+use crate::memory::LinearMem;
+use crate::store::Store;
+use wh_control::Words;
+use wh_model::{Got, Grown, LoadOp, StoreOp, Trap};
+
+/// `global.get`
+#[inline(always)]
+pub fn turn_global_get(machine: &mut Machine, store: &Store, global: u32) -> Turn
+    requires { IsNextInStore machine.old store.now (GlobalGet global) }
+    ensures { InStore machine.old store.now (GlobalGet global) result machine.new store.now }
+{
+    machine.words.push(store.globals[global as usize]);
+    advance(machine);
+    Turn::Charged
+}
+
+/// `global.set`
+#[inline(always)]
+pub fn turn_global_set(machine: &mut Machine, store: &mut Store, global: u32) -> Turn
+    requires { IsNextInStore machine.old store.old (GlobalSet global) }
+    ensures { InStore machine.old store.old (GlobalSet global) result machine.new store.new }
+{
+    store.globals[global as usize] = machine.words.pop();
+    advance(machine);
+    Turn::Charged
+}
+
+/// `memory.size`, in pages of 65536 bytes
+#[inline(always)]
+pub fn turn_memory_size<M: LinearMem>(machine: &mut Machine, memory: &M) -> Turn
+    requires { IsNextInMemory machine.old (M.bytes memory.now) (M.limit memory.now) MemorySize }
+    ensures { InMemory (M.ready memory.now) machine.old (M.bytes memory.now) (M.limit memory.now) MemorySize result machine.new (M.bytes memory.now) }
+{
+    machine.words.push(u64::from(memory.size()));
+    advance(machine);
+    Turn::Charged
+}
+
+/// The word that `memory.grow` pushes: how many pages there were, or 4294967295 where it was refused.
+#[inline(always)]
+fn answer_word(grown: Grown) -> u64
+    ensures done { (count : ℕ) → grown ≡ Done count → result ≡ count }
+    ensures refused { grown ≡ Refused → result ≡ 4294967295 }
+    ensures fits { result < 2 ^ 32 }
+{
+    match grown {
+        Grown::Done(count) => u64::from(count),
+        Grown::Refused => 0xFFFF_FFFF,
+    }
+}
+
+/// `memory.grow`, which answers how many pages there were, or 4294967295 where that many more would pass the limit.
+#[inline(always)]
+pub fn turn_memory_grow<M: LinearMem>(machine: &mut Machine, memory: &mut M) -> Turn
+    requires { IsNextInMemory machine.old (M.bytes memory.old) (M.limit memory.old) MemoryGrow }
+    ensures turned { InMemory (M.ready memory.old) machine.old (M.bytes memory.old) (M.limit memory.old) MemoryGrow result machine.new (M.bytes memory.new) }
+    ensures limit { M.limit memory.new ≡ M.limit memory.old }
+    ensures keeps { M.keeps memory.old memory.new }
+{
+    // So the bytes are known to be whole pages.
+    let _ = memory.size();
+    let count = machine.words.pop() as u32;
+    let answer = answer_word(memory.grow(count));
+    machine.words.push(answer);
+    advance(machine);
+    Turn::Charged
+}
+
+/// The word beneath the topmost one.
+#[inline(always)]
+fn second(words: &Words) -> u64
+    requires { 1 < length words.now }
+    ensures { (x y : ℕ) (rest : List ℕ) → words.now ≡ x ∷ y ∷ rest → result ≡ y }
+{
+    words.get(words.len() - 2)
+}
+
+/// A load by this operator, from the topmost word plus the offset, which isn't wrapped. It traps where the bytes aren't
+/// all in the memory; where they aren't at hand nothing changes.
+#[inline(always)]
+pub fn turn_load<M: LinearMem>(
+    machine: &mut Machine,
+    memory: &mut M,
+    op: LoadOp,
+    align: u32,
+    offset: u32,
+) -> Turn
+    requires { IsNextInMemory machine.old (M.bytes memory.old) (M.limit memory.old) (Load op align offset) }
+    ensures turned { InMemory (M.ready memory.old) machine.old (M.bytes memory.old) (M.limit memory.old) (Load op align offset) result machine.new (M.bytes memory.new) }
+    ensures limit { M.limit memory.new ≡ M.limit memory.old }
+    ensures keeps { M.keeps memory.old memory.new }
+{
+    let _ = align;
+    let address = machine.words.top() + u64::from(offset);
+    match read(memory, op, address) {
+        Loaded::Value(number) => {
+            let _ = machine.words.pop();
+            machine.words.push(number);
+            advance(machine);
+            Turn::Charged
+        }
+        Loaded::Trap => Turn::Trapped(Trap::OutOfBounds),
+        Loaded::NotReady(need) => Turn::NotReady(need),
+    }
+}
+
+/// A store of the topmost word by this operator, to the word beneath it plus the offset, which isn't wrapped. It traps
+/// where the bytes aren't all in the memory; where they aren't at hand nothing changes.
+#[inline(always)]
+pub fn turn_store<M: LinearMem>(
+    machine: &mut Machine,
+    memory: &mut M,
+    op: StoreOp,
+    align: u32,
+    offset: u32,
+) -> Turn
+    requires { IsNextInMemory machine.old (M.bytes memory.old) (M.limit memory.old) (StoreAt op align offset) }
+    ensures turned { InMemory (M.ready memory.old) machine.old (M.bytes memory.old) (M.limit memory.old) (StoreAt op align offset) result machine.new (M.bytes memory.new) }
+    ensures limit { M.limit memory.new ≡ M.limit memory.old }
+    ensures keeps { M.keeps memory.old memory.new }
+{
+    let _ = align;
+    let word = machine.words.top();
+    let address = second(&machine.words) + u64::from(offset);
+    match write(memory, op, address, word) {
+        Got::Value => {
+            let _ = machine.words.pop();
+            let _ = machine.words.pop();
+            advance(machine);
+            Turn::Charged
+        }
+        Got::Trap => Turn::Trapped(Trap::OutOfBounds),
+        Got::NotReady(need) => Turn::NotReady(need),
+    }
+}

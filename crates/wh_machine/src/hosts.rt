@@ -1,0 +1,117 @@
+//! The host's functions (4.4.7, "Invocation of host functions"), on words, store and memory.
+
+ghost use Rattle.std.specs.Prelude.{◌≡◌, ℕ, ◌+◌, ◌^◌, ◌<◌, ◌≤◌, List, ◌∷◌, ◌++◌, length, get_or};
+ghost use Rattle.std.specs.Vec.{vec_capacity};
+ghost use Rattle.wh_model.specs.Store.{output_room, bytes_of};
+ghost use Rattle.wh_machine.specs.Hosting.{Puts, EmitsOnto, OnlyOutput, HasOperands, HostTurn};
+
+use crate::bytes::{Emitted, emit, put};
+use crate::instructions::advance;
+use crate::machine::{Machine, Turn};
+use crate::memory::LinearMem;
+use crate::store::Store;
+use wh_control::Words;
+use wh_model::{HostFunc, Trap};
+
+const MOST_EMITTED: u64 = 4096;
+
+const OUTPUT_ROOM: usize = 65536;
+
+/// `input`: the word of that index, or 0.
+#[inline(always)]
+pub fn host_input(words: &mut Words, inputs: &[u64])
+    requires { (i : ℕ) × (rest : List ℕ) × (words.old ≡ i ∷ rest) }
+    ensures { (i : ℕ) (rest : List ℕ) → words.old ≡ i ∷ rest → (words.new ≡ get_or inputs.now i 0 ∷ rest) × (get_or inputs.now i 0 < 2 ^ 64) }
+{
+    let index = words.pop() as usize;
+    let word = if index < inputs.len() {
+        inputs[index]
+    } else {
+        0
+    };
+    words.push(word);
+}
+
+/// `put`: whether there was room for its 8 bytes.
+#[inline(always)]
+pub fn host_put(words: &mut Words, store: &mut Store) -> bool
+    requires operand { (x : ℕ) × (rest : List ℕ) × (words.old ≡ x ∷ rest) }
+    requires small { length store.old.output.items ≤ output_room }
+    requires capacity { output_room ≤ vec_capacity store.old.output }
+    ensures puts { (x : ℕ) (rest : List ℕ) → words.old ≡ x ∷ rest → Puts x rest store.old result words.new store.new }
+{
+    let word = words.pop();
+    if store.output.len() + 8 > OUTPUT_ROOM {
+        return false;
+    }
+    put(&mut store.output, word);
+    true
+}
+
+/// `emit`
+#[inline(never)]
+pub fn host_emit<M: LinearMem>(words: &mut Words, store: &mut Store, memory: &mut M) -> Emitted
+    requires operands { (count i : ℕ) × (rest : List ℕ) × (words.old ≡ count ∷ i ∷ rest) × (count < 2 ^ 32) × (i < 2 ^ 32) }
+    requires small { length store.old.output.items ≤ output_room }
+    requires capacity { output_room ≤ vec_capacity store.old.output }
+    ensures emits { (count i : ℕ) (rest : List ℕ) → words.old ≡ count ∷ i ∷ rest → EmitsOnto (M.ready memory.old) (M.bytes memory.old) i count rest words.old store.old result words.new store.new }
+    ensures bytes { M.bytes memory.new ≡ M.bytes memory.old }
+    ensures limit { M.limit memory.new ≡ M.limit memory.old }
+    ensures keeps { M.keeps memory.old memory.new }
+{
+    let count = words.pop();
+    let at = words.pop();
+    if count > MOST_EMITTED {
+        return Emitted::Trap(Trap::HostTooLong);
+    }
+    match emit(memory, &mut store.output, at, count as usize) {
+        Emitted::Done => Emitted::Done,
+        Emitted::Trap(trap) => Emitted::Trap(trap),
+        Emitted::NotReady(need) => {
+            words.push(at);
+            words.push(count);
+            Emitted::NotReady(need)
+        }
+    }
+}
+
+/// A call of a function of the host, whose arguments are the topmost words.
+#[inline(always)]
+pub fn call_host<M: LinearMem>(
+    func: HostFunc,
+    machine: &mut Machine,
+    store: &mut Store,
+    memory: &mut M,
+) -> Turn
+    requires operands { HasOperands func machine.old.words }
+    requires place { machine.old.frame.place + 1 < 2 ^ 64 }
+    requires small { length store.old.output.items ≤ output_room }
+    requires capacity { output_room ≤ vec_capacity store.old.output }
+    ensures turned { HostTurn func (M.ready memory.old) (M.bytes memory.old) machine.old store.old result machine.new store.new }
+    ensures bytes { M.bytes memory.new ≡ M.bytes memory.old }
+    ensures limit { M.limit memory.new ≡ M.limit memory.old }
+    ensures keeps { M.keeps memory.old memory.new }
+{
+    match func {
+        HostFunc::Input => {
+            host_input(&mut machine.words, &store.inputs);
+            advance(machine);
+            Turn::Charged
+        }
+        HostFunc::Put => {
+            if !host_put(&mut machine.words, store) {
+                return Turn::Trapped(Trap::HostFull);
+            }
+            advance(machine);
+            Turn::Charged
+        }
+        HostFunc::Emit => match host_emit(&mut machine.words, store, memory) {
+            Emitted::Done => {
+                advance(machine);
+                Turn::Charged
+            }
+            Emitted::Trap(trap) => Turn::Trapped(trap),
+            Emitted::NotReady(need) => Turn::NotReady(need),
+        },
+    }
+}

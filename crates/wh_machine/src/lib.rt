@@ -1,0 +1,23 @@
+//! The machine: configurations of sections 4.2.12 and 4.2.13 of the W3C WebAssembly Core Specification 1.0 on words and
+//! frames, over any linear memory.
+#![tactic(auto)]
+
+mod accesses;
+mod branching;
+mod bytes;
+mod calling;
+mod control;
+mod dispatch;
+mod hosts;
+mod instructions;
+mod machine;
+mod memory;
+mod operands;
+mod store;
+mod variables;
+
+pub use control::code_of;
+pub use dispatch::turn;
+pub use machine::{Code, Machine, Program, Turn};
+pub use memory::LinearMem;
+pub use store::Store;

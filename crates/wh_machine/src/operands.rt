@@ -1,0 +1,92 @@
+//! Instructions on operands alone (4.4.1, 4.4.2).
+
+ghost use Rattle.std.specs.Prelude.{◌≡◌, ◌≢◌, ℕ, ◌^◌, ◌<◌, ◌⊎◌, List, ◌∷◌, Ok, Err, IfOk, IfErr};
+ghost use Rattle.wh_model.specs.Numbers as numbers;
+ghost use Rattle.wh_model.specs.Numbers.{bits};
+
+use wh_control::Words;
+use wh_intops::{binop, convert, relop, testop, unop};
+use wh_model::{BinaryOp, CompareOp, ConvertOp, TestOp, Trap, UnaryOp, ValType};
+
+/// `drop`
+#[inline(always)]
+pub fn drop_top(words: &mut Words)
+    requires { (x : ℕ) × (rest : List ℕ) × (words.old ≡ x ∷ rest) }
+    ensures { (x : ℕ) (rest : List ℕ) → words.old ≡ x ∷ rest → words.new ≡ rest }
+{
+    let _ = words.pop();
+}
+
+/// `select`
+#[inline(always)]
+pub fn select(words: &mut Words)
+    requires { (i w v : ℕ) × (rest : List ℕ) × (words.old ≡ i ∷ w ∷ v ∷ rest) }
+    ensures { (i w v : ℕ) (rest : List ℕ) → words.old ≡ i ∷ w ∷ v ∷ rest → ((i ≢ 0) × (words.new ≡ v ∷ rest)) ⊎ ((i ≡ 0) × (words.new ≡ w ∷ rest)) }
+{
+    let condition = words.pop();
+    let second = words.pop();
+    let first = words.pop();
+    words.push(if condition == 0 { second } else { first });
+}
+
+/// A unary operator of this type.
+#[inline(always)]
+pub fn unary(words: &mut Words, width: ValType, op: UnaryOp)
+    requires { (x : ℕ) × (rest : List ℕ) × (words.old ≡ x ∷ rest) × (x < 2 ^ bits width) }
+    ensures { (x : ℕ) (rest : List ℕ) → words.old ≡ x ∷ rest → (r : ℕ) × (words.new ≡ r ∷ rest) × (r ≡ numbers.unary width op x) × (r < 2 ^ bits width) }
+{
+    let operand = words.pop();
+    words.push(unop(width, op, operand));
+}
+
+/// A test.
+#[inline(always)]
+pub fn test(words: &mut Words, op: TestOp)
+    requires { (x : ℕ) × (rest : List ℕ) × (words.old ≡ x ∷ rest) }
+    ensures { (x : ℕ) (rest : List ℕ) → words.old ≡ x ∷ rest → (r : ℕ) × (words.new ≡ r ∷ rest) × (r ≡ numbers.test op x) × (r < 2 ^ 32) }
+{
+    let operand = words.pop();
+    words.push(testop(op, operand));
+}
+
+/// A comparison of this type.
+#[inline(always)]
+pub fn compare(words: &mut Words, width: ValType, op: CompareOp)
+    requires { (y x : ℕ) × (rest : List ℕ) × (words.old ≡ y ∷ x ∷ rest) × (y < 2 ^ bits width) × (x < 2 ^ bits width) }
+    ensures { (y x : ℕ) (rest : List ℕ) → words.old ≡ y ∷ x ∷ rest → (r : ℕ) × (words.new ≡ r ∷ rest) × (r ≡ numbers.compare width op x y) × (r < 2 ^ 32) }
+{
+    let right = words.pop();
+    let left = words.pop();
+    words.push(relop(width, op, left, right));
+}
+
+/// A binary operator of this type.
+///
+/// # Errors
+/// Its trap.
+#[inline(always)]
+pub fn binary(words: &mut Words, width: ValType, op: BinaryOp) -> Result<(), Trap>
+    requires { (y x : ℕ) × (rest : List ℕ) × (words.old ≡ y ∷ x ∷ rest) × (y < 2 ^ bits width) × (x < 2 ^ bits width) }
+    ensures ok { IfOk result (λ _. (y x : ℕ) (rest : List ℕ) → words.old ≡ y ∷ x ∷ rest → (r : ℕ) × (words.new ≡ r ∷ rest) × (numbers.binary width op x y ≡ Ok r) × (r < 2 ^ bits width)) }
+    ensures err { IfErr result (λ trap. (y x : ℕ) (rest : List ℕ) → words.old ≡ y ∷ x ∷ rest → numbers.binary width op x y ≡ Err trap) }
+{
+    let right = words.pop();
+    let left = words.pop();
+    match binop(width, op, left, right) {
+        Ok(value) => {
+            words.push(value);
+            Ok(())
+        }
+        Err(trap) => Err(trap),
+    }
+}
+
+/// A conversion.
+#[inline(always)]
+pub fn conversion(words: &mut Words, op: ConvertOp)
+    requires { (x : ℕ) × (rest : List ℕ) × (words.old ≡ x ∷ rest) × (x < 2 ^ bits (numbers.operand_type op)) }
+    ensures { (x : ℕ) (rest : List ℕ) → words.old ≡ x ∷ rest → (r : ℕ) × (words.new ≡ r ∷ rest) × (r ≡ numbers.convert op x) × (r < 2 ^ bits (numbers.result_type op)) }
+{
+    let operand = words.pop();
+    words.push(convert(op, operand));
+}
