@@ -1,3 +1,4 @@
 pub mod Refusing
 pub mod Resolving
+pub mod Joined
 pub mod Typed

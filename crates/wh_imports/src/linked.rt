@@ -6,24 +6,35 @@ ghost use Rattle.wh_syntax.specs.View.{view_module};
 ghost use Rattle.wh_bodies.specs.Views.{view_side};
 ghost use Rattle.wh_validate.specs.Soundness.{IsSound};
 ghost use Rattle.wh_imports.specs.Resolving.{IsResolved, Adds};
+ghost use Rattle.wh_imports.specs.Joined.{Joined, stored_joined};
 ghost use Rattle.wh_imports.specs.Refusing.{Refuses};
 
 use crate::error::LinkError;
 use crate::items::item_of;
 use std::alloc::Global;
+use std::marker::Model;
 use wh_bodies::SideTable;
 use wh_host_model::{HostGlobal, HostItem};
 use wh_model::HostFunc;
 use wh_syntax::Module;
 use wh_validate::ValidModule;
 
-/// A valid module, with what its imports are.
+/// A valid module, with what its imports are. Contracts see these; `module` says what is known of them.
 #[derive(Drop)]
 pub struct Linked {
     valid: ValidModule,
     funcs: Vec<HostFunc>,
     globals: Vec<HostGlobal>,
-    ghost resolved: { ∥ IsResolved (view_module valid.decoded) funcs.items globals.items ∥₁ },
+}
+
+impl Model for Linked {
+    ghost Value = { Joined };
+
+    ghost coded = { stored_joined };
+
+    ghost view = { λ l. record { valid = l.valid; funcs = l.funcs.items; globals = l.globals.items } };
+
+    ghost invariant = { λ l. IsSound (view_module l.valid.decoded) (map view_side l.valid.tables) × IsResolved (view_module l.valid.decoded) l.funcs.items l.globals.items };
 }
 
 impl Linked {
@@ -31,30 +42,30 @@ impl Linked {
     pub fn module(&self) -> &Module
         ensures same { result.now ≡ self.now.valid.decoded }
         // It is valid, it fits, and its bodies have their tables.
-        ensures sound { ∥ IsSound (view_module result.now) (map view_side self.now.valid.tables.items) ∥₁ }
+        ensures sound { IsSound (view_module result.now) (map view_side self.now.valid.tables) }
         // Its imports are what they are linked to.
-        ensures resolved { ∥ IsResolved (view_module result.now) self.now.funcs.items self.now.globals.items ∥₁ }
+        ensures resolved { IsResolved (view_module result.now) self.now.funcs self.now.globals }
     {
         self.valid.module()
     }
 
     /// The branch targets of each body, in the order of the functions that the module defines.
     pub fn tables(&self) -> &[SideTable]
-        ensures { result.now ≡ self.now.valid.tables.items }
+        ensures { result.now ≡ self.now.valid.tables }
     {
         self.valid.tables()
     }
 
     /// The functions that are imported, in order: what the first indices of functions name.
     pub fn funcs(&self) -> &[HostFunc]
-        ensures { result.now ≡ self.now.funcs.items }
+        ensures { result.now ≡ self.now.funcs }
     {
         &self.funcs
     }
 
     /// The globals that are imported, in order: what the first indices of globals name.
     pub fn globals(&self) -> &[HostGlobal]
-        ensures { result.now ≡ self.now.globals.items }
+        ensures { result.now ≡ self.now.globals }
     {
         &self.globals
     }

@@ -33,7 +33,7 @@ global_same p i v w x y =
     (λ g. ⊎_elim (λ h. let a = g.1 in let b = h.1 in absurd (cc (a, b))) (λ h. g.2 ∙ sym h.2) y.1)
     x.1
 
-imported_same : (types : List FuncType) (p : Parameters) (is : List Import) (fs gs : List FuncInst) (vs ws : List Value) → Imported types p is fs vs → Imported types p is gs ws → (fs ≡ gs) × (vs ≡ ws)
+pub imported_same : (types : List FuncType) (p : Parameters) (is : List Import) (fs gs : List FuncInst) (vs ws : List Value) → Imported types p is fs vs → Imported types p is gs ws → (fs ≡ gs) × (vs ≡ ws)
 imported_same types p [] fs gs vs ws x y = (x.0 ∙ sym y.0, x.1 ∙ sym y.1)
 imported_same types p (i ∷ is) fs gs vs ws x y =
     ⊎_elim

@@ -14,3 +14,4 @@ pub mod Instance
 pub mod Worked
 pub mod WorkedDepth
 pub mod Fragments
+pub mod Asked

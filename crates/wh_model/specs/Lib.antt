@@ -25,3 +25,4 @@ pub mod Replay
 pub mod ReplayLaws
 pub mod Worked
 pub mod Memory
+pub mod Asking

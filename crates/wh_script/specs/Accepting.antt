@@ -12,7 +12,7 @@ use Rattle.wh_host_model.specs.Replies.{IsModule}
 use Rattle.wh_syntax.specs.View.{view_module}
 use Rattle.wh_bodies.specs.declared.fault.ValidKind.TheVariants.{Memory as NoRoomToCheck}
 use Rattle.wh_bodies.specs.Faults.{kind_number}
-use Rattle.wh_imports.specs.declared.linked.Linked.{Linked}
+use Rattle.wh_imports.specs.Joined.{Joined}
 use Rattle.wh_imports.specs.declared.error.LinkError.{LinkError}
 use Rattle.wh_imports.specs.declared.error.LinkError.TheVariants.{UnknownImport, ImportType, Memory}
 use Rattle.wh_imports.specs.Refusing as linking
@@ -20,7 +20,7 @@ use Rattle.wh_script.specs.declared.module.ModuleError.{ModuleError}
 use Rattle.wh_script.specs.declared.module.ModuleError.TheVariants.{Decode, Valid as Invalid, Link}
 
 -- the module that was linked
-abbrev pub view_linked : Linked → Module
+abbrev pub view_linked : Joined → Module
 view_linked linked = view_module linked.valid.decoded
 
 -- the bytes spell the module, it is valid, it fits, and each import has its item

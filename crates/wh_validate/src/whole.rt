@@ -8,6 +8,7 @@ ghost use Rattle.wh_syntax.specs.View.{view_module, view_import, view_type, view
 ghost use Rattle.wh_bodies.specs.Views.{view_context, view_side};
 ghost use Rattle.wh_validate.specs.Blaming.{BlamesRightly};
 ghost use Rattle.wh_validate.specs.Soundness.{IsSound};
+ghost use Rattle.wh_validate.specs.Validated.{Validated, stored_valid};
 ghost use Rattle.wh_validate.specs.Gathering.{HasValidOutline, IsGathered, IsAround};
 ghost use Rattle.wh_validate.specs.Deciding.{Decides};
 
@@ -19,28 +20,41 @@ use crate::segments::{check_elements, check_globals, check_segments, check_start
 use crate::sizes::{check_memories, check_tables};
 use crate::types::check_types;
 use std::alloc::Global;
+use std::marker::Model;
 use wh_bodies::{Context, SideTable, ValidKind};
 use wh_syntax::Module;
 
-/// A module that is valid and passes no limit, with the places that branches of its bodies lead to.
+/// A module that is valid and passes no limit, with the places that branches of its bodies lead to. Contracts see these
+/// two; `module` says what is known of them.
 #[derive(Drop)]
 pub struct ValidModule {
     decoded: Module,
     tables: Vec<SideTable>,
-    ghost sound: { ∥ IsSound (view_module decoded) (map view_side tables.items) ∥₁ },
+}
+
+impl Model for ValidModule {
+    ghost Value = { Validated };
+
+    ghost coded = { stored_valid };
+
+    ghost view = { λ v. record { decoded = v.decoded; tables = v.tables.items } };
+
+    ghost invariant = { λ v. IsSound (view_module v.decoded) (map view_side v.tables.items) };
 }
 
 impl ValidModule {
     /// The module.
     pub fn module(&self) -> &Module
-        ensures { result.now ≡ self.now.decoded }
+        ensures same { result.now ≡ self.now.decoded }
+        // It is valid, it fits, and its bodies have their tables.
+        ensures sound { IsSound (view_module result.now) (map view_side self.now.tables) }
     {
         &self.decoded
     }
 
     /// The branch targets of each body, in the order of the functions that the module defines.
     pub fn tables(&self) -> &[SideTable]
-        ensures { result.now ≡ self.now.tables.items }
+        ensures { result.now ≡ self.now.tables }
     {
         &self.tables
     }
