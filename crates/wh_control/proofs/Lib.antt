@@ -11,3 +11,4 @@ pub mod Calling
 pub mod Standing
 pub mod Room
 pub mod Cuts
+pub mod Resting

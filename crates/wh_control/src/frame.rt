@@ -62,6 +62,14 @@ impl Frames {
         self.items.len()
     }
 
+    /// Leaves none.
+    #[inline(always)]
+    pub fn clear(&mut self)
+        ensures { self.new ≡ [] }
+    {
+        self.items.truncate(0);
+    }
+
     /// One more call waits.
     #[inline(always)]
     pub fn push(&mut self, frame: Frame)

@@ -111,6 +111,24 @@ impl Words {
         }
     }
 
+    /// Leaves none.
+    #[inline(always)]
+    pub fn clear(&mut self)
+        ensures { self.new ≡ [] }
+    {
+        self.items.truncate(0);
+    }
+
+    /// Puts words on top, the last one topmost.
+    pub fn push_all(&mut self, given: &[u64])
+        requires { length given.now + length self.old ≤ most_words }
+        ensures { self.new ≡ reverse given.now ++ self.old }
+    {
+        for word in given {
+            self.items.push_reserved(*word);
+        }
+    }
+
     /// Puts so many zeros on top.
     #[inline(always)]
     pub fn push_zeros(&mut self, count: usize)

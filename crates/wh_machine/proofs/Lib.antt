@@ -9,3 +9,7 @@ pub mod Hosted
 pub mod OwnCalls
 pub mod Accessing
 pub mod SameTypes
+pub mod Reaching
+pub mod Running
+pub mod Opened
+pub mod Instances

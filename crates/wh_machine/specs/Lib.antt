@@ -5,3 +5,5 @@ pub mod Turns
 pub mod Alone
 pub mod Hosting
 pub mod Entering
+pub mod Runs
+pub mod Opening

@@ -7,7 +7,7 @@ ghost use Rattle.wh_machine.specs.Alone.{IsNextInStore, InStore, IsNextInMemory,
 
 use crate::bytes::{Loaded, read, write};
 use crate::instructions::advance;
-use crate::machine::{Machine, Turn};
+use crate::machine::{Stack, Turn};
 use crate::memory::LinearMem;
 use crate::store::Store;
 use wh_control::Words;
@@ -15,34 +15,34 @@ use wh_model::{Got, Grown, LoadOp, StoreOp, Trap};
 
 /// `global.get`
 #[inline(always)]
-pub fn turn_global_get(machine: &mut Machine, store: &Store, global: u32) -> Turn
-    requires { IsNextInStore machine.old store.now (GlobalGet global) }
-    ensures { InStore machine.old store.now (GlobalGet global) result machine.new store.now }
+pub fn turn_global_get(stack: &mut Stack, store: &Store, global: u32) -> Turn
+    requires { IsNextInStore stack.old store.now (GlobalGet global) }
+    ensures { InStore stack.old store.now (GlobalGet global) result stack.new store.now }
 {
-    machine.words.push(store.globals[global as usize]);
-    advance(machine);
+    stack.words.push(store.globals[global as usize]);
+    advance(stack);
     Turn::Charged
 }
 
 /// `global.set`
 #[inline(always)]
-pub fn turn_global_set(machine: &mut Machine, store: &mut Store, global: u32) -> Turn
-    requires { IsNextInStore machine.old store.old (GlobalSet global) }
-    ensures { InStore machine.old store.old (GlobalSet global) result machine.new store.new }
+pub fn turn_global_set(stack: &mut Stack, store: &mut Store, global: u32) -> Turn
+    requires { IsNextInStore stack.old store.old (GlobalSet global) }
+    ensures { InStore stack.old store.old (GlobalSet global) result stack.new store.new }
 {
-    store.globals[global as usize] = machine.words.pop();
-    advance(machine);
+    store.globals[global as usize] = stack.words.pop();
+    advance(stack);
     Turn::Charged
 }
 
 /// `memory.size`, in pages of 65536 bytes
 #[inline(always)]
-pub fn turn_memory_size<M: LinearMem>(machine: &mut Machine, memory: &M) -> Turn
-    requires { IsNextInMemory machine.old (M.bytes memory.now) (M.limit memory.now) MemorySize }
-    ensures { InMemory (M.ready memory.now) machine.old (M.bytes memory.now) (M.limit memory.now) MemorySize result machine.new (M.bytes memory.now) }
+pub fn turn_memory_size<M: LinearMem>(stack: &mut Stack, memory: &M) -> Turn
+    requires { IsNextInMemory stack.old (M.bytes memory.now) (M.limit memory.now) MemorySize }
+    ensures { InMemory (M.ready memory.now) stack.old (M.bytes memory.now) (M.limit memory.now) MemorySize result stack.new (M.bytes memory.now) }
 {
-    machine.words.push(u64::from(memory.size()));
-    advance(machine);
+    stack.words.push(u64::from(memory.size()));
+    advance(stack);
     Turn::Charged
 }
 
@@ -61,18 +61,18 @@ fn answer_word(grown: Grown) -> u64
 
 /// `memory.grow`, which answers how many pages there were, or 4294967295 where that many more would pass the limit.
 #[inline(always)]
-pub fn turn_memory_grow<M: LinearMem>(machine: &mut Machine, memory: &mut M) -> Turn
-    requires { IsNextInMemory machine.old (M.bytes memory.old) (M.limit memory.old) MemoryGrow }
-    ensures turned { InMemory (M.ready memory.old) machine.old (M.bytes memory.old) (M.limit memory.old) MemoryGrow result machine.new (M.bytes memory.new) }
+pub fn turn_memory_grow<M: LinearMem>(stack: &mut Stack, memory: &mut M) -> Turn
+    requires { IsNextInMemory stack.old (M.bytes memory.old) (M.limit memory.old) MemoryGrow }
+    ensures turned { InMemory (M.ready memory.old) stack.old (M.bytes memory.old) (M.limit memory.old) MemoryGrow result stack.new (M.bytes memory.new) }
     ensures limit { M.limit memory.new ≡ M.limit memory.old }
     ensures keeps { M.keeps memory.old memory.new }
 {
     // So the bytes are known to be whole pages.
     let _ = memory.size();
-    let count = machine.words.pop() as u32;
+    let count = stack.words.pop() as u32;
     let answer = answer_word(memory.grow(count));
-    machine.words.push(answer);
-    advance(machine);
+    stack.words.push(answer);
+    advance(stack);
     Turn::Charged
 }
 
@@ -89,24 +89,24 @@ fn second(words: &Words) -> u64
 /// all in the memory; where they aren't at hand nothing changes.
 #[inline(always)]
 pub fn turn_load<M: LinearMem>(
-    machine: &mut Machine,
+    stack: &mut Stack,
     memory: &mut M,
     op: LoadOp,
     align: u32,
     offset: u32,
 ) -> Turn
-    requires { IsNextInMemory machine.old (M.bytes memory.old) (M.limit memory.old) (Load op align offset) }
-    ensures turned { InMemory (M.ready memory.old) machine.old (M.bytes memory.old) (M.limit memory.old) (Load op align offset) result machine.new (M.bytes memory.new) }
+    requires { IsNextInMemory stack.old (M.bytes memory.old) (M.limit memory.old) (Load op align offset) }
+    ensures turned { InMemory (M.ready memory.old) stack.old (M.bytes memory.old) (M.limit memory.old) (Load op align offset) result stack.new (M.bytes memory.new) }
     ensures limit { M.limit memory.new ≡ M.limit memory.old }
     ensures keeps { M.keeps memory.old memory.new }
 {
     let _ = align;
-    let address = machine.words.top() + u64::from(offset);
+    let address = stack.words.top() + u64::from(offset);
     match read(memory, op, address) {
         Loaded::Value(number) => {
-            let _ = machine.words.pop();
-            machine.words.push(number);
-            advance(machine);
+            let _ = stack.words.pop();
+            stack.words.push(number);
+            advance(stack);
             Turn::Charged
         }
         Loaded::Trap => Turn::Trapped(Trap::OutOfBounds),
@@ -118,25 +118,25 @@ pub fn turn_load<M: LinearMem>(
 /// where the bytes aren't all in the memory; where they aren't at hand nothing changes.
 #[inline(always)]
 pub fn turn_store<M: LinearMem>(
-    machine: &mut Machine,
+    stack: &mut Stack,
     memory: &mut M,
     op: StoreOp,
     align: u32,
     offset: u32,
 ) -> Turn
-    requires { IsNextInMemory machine.old (M.bytes memory.old) (M.limit memory.old) (StoreAt op align offset) }
-    ensures turned { InMemory (M.ready memory.old) machine.old (M.bytes memory.old) (M.limit memory.old) (StoreAt op align offset) result machine.new (M.bytes memory.new) }
+    requires { IsNextInMemory stack.old (M.bytes memory.old) (M.limit memory.old) (StoreAt op align offset) }
+    ensures turned { InMemory (M.ready memory.old) stack.old (M.bytes memory.old) (M.limit memory.old) (StoreAt op align offset) result stack.new (M.bytes memory.new) }
     ensures limit { M.limit memory.new ≡ M.limit memory.old }
     ensures keeps { M.keeps memory.old memory.new }
 {
     let _ = align;
-    let word = machine.words.top();
-    let address = second(&machine.words) + u64::from(offset);
+    let word = stack.words.top();
+    let address = second(&stack.words) + u64::from(offset);
     match write(memory, op, address, word) {
         Got::Value => {
-            let _ = machine.words.pop();
-            let _ = machine.words.pop();
-            advance(machine);
+            let _ = stack.words.pop();
+            let _ = stack.words.pop();
+            advance(stack);
             Turn::Charged
         }
         Got::Trap => Turn::Trapped(Trap::OutOfBounds),

@@ -7,7 +7,7 @@ ghost use Rattle.wh_machine.specs.Hosting.{Puts, EmitsOnto, OnlyOutput, HasOpera
 
 use crate::bytes::{Emitted, emit, put};
 use crate::instructions::advance;
-use crate::machine::{Machine, Turn};
+use crate::machine::{Stack, Turn};
 use crate::memory::LinearMem;
 use crate::store::Store;
 use wh_control::Words;
@@ -79,35 +79,35 @@ pub fn host_emit<M: LinearMem>(words: &mut Words, store: &mut Store, memory: &mu
 #[inline(always)]
 pub fn call_host<M: LinearMem>(
     func: HostFunc,
-    machine: &mut Machine,
+    stack: &mut Stack,
     store: &mut Store,
     memory: &mut M,
 ) -> Turn
-    requires operands { HasOperands func machine.old.words }
-    requires place { machine.old.frame.place + 1 < 2 ^ 64 }
+    requires operands { HasOperands func stack.old.words }
+    requires place { stack.old.frame.place + 1 < 2 ^ 64 }
     requires small { length store.old.output.items ≤ output_room }
     requires capacity { output_room ≤ vec_capacity store.old.output }
-    ensures turned { HostTurn func (M.ready memory.old) (M.bytes memory.old) machine.old store.old result machine.new store.new }
+    ensures turned { HostTurn func (M.ready memory.old) (M.bytes memory.old) stack.old store.old result stack.new store.new }
     ensures bytes { M.bytes memory.new ≡ M.bytes memory.old }
     ensures limit { M.limit memory.new ≡ M.limit memory.old }
     ensures keeps { M.keeps memory.old memory.new }
 {
     match func {
         HostFunc::Input => {
-            host_input(&mut machine.words, &store.inputs);
-            advance(machine);
+            host_input(&mut stack.words, &store.inputs);
+            advance(stack);
             Turn::Charged
         }
         HostFunc::Put => {
-            if !host_put(&mut machine.words, store) {
+            if !host_put(&mut stack.words, store) {
                 return Turn::Trapped(Trap::HostFull);
             }
-            advance(machine);
+            advance(stack);
             Turn::Charged
         }
-        HostFunc::Emit => match host_emit(&mut machine.words, store, memory) {
+        HostFunc::Emit => match host_emit(&mut stack.words, store, memory) {
             Emitted::Done => {
-                advance(machine);
+                advance(stack);
                 Turn::Charged
             }
             Emitted::Trap(trap) => Turn::Trapped(trap),

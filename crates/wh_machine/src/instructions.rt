@@ -4,88 +4,89 @@ ghost use Rattle.std.specs.Prelude.{◌≡◌, ◌+◌, ◌^◌, ◌<◌};
 ghost use Rattle.wh_control.specs.Moves.{moved};
 ghost use Rattle.wh_model.specs.Numbers.{unsigned};
 ghost use Rattle.wh_syntax.specs.declared.instr.Instr.TheVariants.{Nop, Block, Loop, Drop, Select, LocalGet, LocalSet, LocalTee, I32Const, I64Const, Test, Compare, Unary, Binary, Convert, Unreachable, End, Else, If, Br, BrIf, BrTable};
+ghost use Rattle.wh_machine.specs.declared.machine.Turn.TheVariants.{Free};
 ghost use Rattle.wh_machine.specs.Alone.{IsNext, Alone, IsNextAnywhere, AloneAnywhere};
 
 use crate::bytes::{word_of, word_of_i32};
-use crate::machine::{Machine, Turn};
+use crate::machine::{Stack, Turn};
 use crate::operands::{binary, compare, conversion, drop_top, select, test, unary};
 use crate::variables::{local_get, local_set, local_tee};
 use wh_model::{BinaryOp, CompareOp, ConvertOp, TestOp, UnaryOp, ValType};
 
 /// On to the next place.
 #[inline(always)]
-pub fn advance(machine: &mut Machine)
-    requires { machine.old.frame.place + 1 < 2 ^ 64 }
-    ensures { machine.new ≡ record machine.old { frame = moved machine.old.frame (machine.old.frame.place + 1) } }
+pub fn advance(stack: &mut Stack)
+    requires { stack.old.frame.place + 1 < 2 ^ 64 }
+    ensures { stack.new ≡ record stack.old { frame = moved stack.old.frame (stack.old.frame.place + 1) } }
 {
-    machine.frame.place += 1;
+    stack.frame.place += 1;
 }
 
 /// `drop`
 #[inline(always)]
-pub fn turn_drop(machine: &mut Machine) -> Turn
-    requires { IsNextAnywhere machine.old Drop }
-    ensures { AloneAnywhere machine.old Drop result machine.new }
+pub fn turn_drop(stack: &mut Stack) -> Turn
+    requires { IsNextAnywhere stack.old Drop }
+    ensures { AloneAnywhere stack.old Drop result stack.new }
 {
-    drop_top(&mut machine.words);
-    advance(machine);
+    drop_top(&mut stack.words);
+    advance(stack);
     Turn::Charged
 }
 
 /// `select`
 #[inline(always)]
-pub fn turn_select(machine: &mut Machine) -> Turn
-    requires { IsNextAnywhere machine.old Select }
-    ensures { AloneAnywhere machine.old Select result machine.new }
+pub fn turn_select(stack: &mut Stack) -> Turn
+    requires { IsNextAnywhere stack.old Select }
+    ensures { AloneAnywhere stack.old Select result stack.new }
 {
-    select(&mut machine.words);
-    advance(machine);
+    select(&mut stack.words);
+    advance(stack);
     Turn::Charged
 }
 
 /// A test of this type.
 #[inline(always)]
-pub fn turn_test(machine: &mut Machine, width: ValType, op: TestOp) -> Turn
-    requires { IsNextAnywhere machine.old (Test width op) }
-    ensures { AloneAnywhere machine.old (Test width op) result machine.new }
+pub fn turn_test(stack: &mut Stack, width: ValType, op: TestOp) -> Turn
+    requires { IsNextAnywhere stack.old (Test width op) }
+    ensures { AloneAnywhere stack.old (Test width op) result stack.new }
 {
     let _ = width;
-    test(&mut machine.words, op);
-    advance(machine);
+    test(&mut stack.words, op);
+    advance(stack);
     Turn::Charged
 }
 
 /// A comparison of this type.
 #[inline(always)]
-pub fn turn_compare(machine: &mut Machine, width: ValType, op: CompareOp) -> Turn
-    requires { IsNextAnywhere machine.old (Compare width op) }
-    ensures { AloneAnywhere machine.old (Compare width op) result machine.new }
+pub fn turn_compare(stack: &mut Stack, width: ValType, op: CompareOp) -> Turn
+    requires { IsNextAnywhere stack.old (Compare width op) }
+    ensures { AloneAnywhere stack.old (Compare width op) result stack.new }
 {
-    compare(&mut machine.words, width, op);
-    advance(machine);
+    compare(&mut stack.words, width, op);
+    advance(stack);
     Turn::Charged
 }
 
 /// A unary operator of this type.
 #[inline(always)]
-pub fn turn_unary(machine: &mut Machine, width: ValType, op: UnaryOp) -> Turn
-    requires { IsNextAnywhere machine.old (Unary width op) }
-    ensures { AloneAnywhere machine.old (Unary width op) result machine.new }
+pub fn turn_unary(stack: &mut Stack, width: ValType, op: UnaryOp) -> Turn
+    requires { IsNextAnywhere stack.old (Unary width op) }
+    ensures { AloneAnywhere stack.old (Unary width op) result stack.new }
 {
-    unary(&mut machine.words, width, op);
-    advance(machine);
+    unary(&mut stack.words, width, op);
+    advance(stack);
     Turn::Charged
 }
 
 /// A binary operator of this type.
 #[inline(always)]
-pub fn turn_binary(machine: &mut Machine, width: ValType, op: BinaryOp) -> Turn
-    requires { IsNextAnywhere machine.old (Binary width op) }
-    ensures { AloneAnywhere machine.old (Binary width op) result machine.new }
+pub fn turn_binary(stack: &mut Stack, width: ValType, op: BinaryOp) -> Turn
+    requires { IsNextAnywhere stack.old (Binary width op) }
+    ensures { AloneAnywhere stack.old (Binary width op) result stack.new }
 {
-    match binary(&mut machine.words, width, op) {
+    match binary(&mut stack.words, width, op) {
         Ok(()) => {
-            advance(machine);
+            advance(stack);
             Turn::Charged
         }
         Err(trap) => Turn::Trapped(trap),
@@ -94,111 +95,108 @@ pub fn turn_binary(machine: &mut Machine, width: ValType, op: BinaryOp) -> Turn
 
 /// A conversion.
 #[inline(always)]
-pub fn turn_convert(machine: &mut Machine, op: ConvertOp) -> Turn
-    requires { IsNextAnywhere machine.old (Convert op) }
-    ensures { AloneAnywhere machine.old (Convert op) result machine.new }
+pub fn turn_convert(stack: &mut Stack, op: ConvertOp) -> Turn
+    requires { IsNextAnywhere stack.old (Convert op) }
+    ensures { AloneAnywhere stack.old (Convert op) result stack.new }
 {
-    conversion(&mut machine.words, op);
-    advance(machine);
+    conversion(&mut stack.words, op);
+    advance(stack);
     Turn::Charged
 }
 
 /// `local.get`
 #[inline(always)]
-pub fn turn_local_get(machine: &mut Machine, local: u32) -> Turn
-    requires { IsNextAnywhere machine.old (LocalGet local) }
-    ensures { AloneAnywhere machine.old (LocalGet local) result machine.new }
+pub fn turn_local_get(stack: &mut Stack, local: u32) -> Turn
+    requires { IsNextAnywhere stack.old (LocalGet local) }
+    ensures { AloneAnywhere stack.old (LocalGet local) result stack.new }
 {
-    let place = machine.frame.base + local as usize;
-    local_get(&mut machine.words, place);
-    advance(machine);
+    let place = stack.frame.base + local as usize;
+    local_get(&mut stack.words, place);
+    advance(stack);
     Turn::Charged
 }
 
 /// `local.set`
 #[inline(always)]
-pub fn turn_local_set(machine: &mut Machine, local: u32) -> Turn
-    requires { IsNextAnywhere machine.old (LocalSet local) }
-    ensures { AloneAnywhere machine.old (LocalSet local) result machine.new }
+pub fn turn_local_set(stack: &mut Stack, local: u32) -> Turn
+    requires { IsNextAnywhere stack.old (LocalSet local) }
+    ensures { AloneAnywhere stack.old (LocalSet local) result stack.new }
 {
-    let place = machine.frame.base + local as usize;
-    local_set(&mut machine.words, place);
-    advance(machine);
+    let place = stack.frame.base + local as usize;
+    local_set(&mut stack.words, place);
+    advance(stack);
     Turn::Charged
 }
 
 /// `local.tee`
 #[inline(always)]
-pub fn turn_local_tee(machine: &mut Machine, local: u32) -> Turn
-    requires { IsNextAnywhere machine.old (LocalTee local) }
-    ensures { AloneAnywhere machine.old (LocalTee local) result machine.new }
+pub fn turn_local_tee(stack: &mut Stack, local: u32) -> Turn
+    requires { IsNextAnywhere stack.old (LocalTee local) }
+    ensures { AloneAnywhere stack.old (LocalTee local) result stack.new }
 {
-    let place = machine.frame.base + local as usize;
-    local_tee(&mut machine.words, place);
-    advance(machine);
+    let place = stack.frame.base + local as usize;
+    local_tee(&mut stack.words, place);
+    advance(stack);
     Turn::Charged
 }
 
 /// `nop`
 #[inline(always)]
-pub fn turn_nop(machine: &mut Machine) -> Turn
-    requires { IsNextAnywhere machine.old Nop }
-    ensures { AloneAnywhere machine.old Nop result machine.new }
+pub fn turn_nop(stack: &mut Stack) -> Turn
+    requires { IsNextAnywhere stack.old Nop }
+    ensures { AloneAnywhere stack.old Nop result stack.new }
 {
-    advance(machine);
+    advance(stack);
     Turn::Charged
 }
 
 /// `block`
 #[inline(always)]
-pub fn turn_block(machine: &mut Machine, result_type: Option<ValType>) -> Turn
-    requires { IsNextAnywhere machine.old (Block result_type) }
-    ensures { AloneAnywhere machine.old (Block result_type) result machine.new }
+pub fn turn_block(stack: &mut Stack, result_type: Option<ValType>) -> Turn
+    requires { IsNextAnywhere stack.old (Block result_type) }
+    ensures { AloneAnywhere stack.old (Block result_type) result stack.new }
 {
     let _ = result_type;
-    advance(machine);
+    advance(stack);
     Turn::Charged
 }
 
 /// `loop`
 #[inline(always)]
-pub fn turn_loop(machine: &mut Machine, result_type: Option<ValType>) -> Turn
-    requires { IsNextAnywhere machine.old (Loop result_type) }
-    ensures { AloneAnywhere machine.old (Loop result_type) result machine.new }
+pub fn turn_loop(stack: &mut Stack, result_type: Option<ValType>) -> Turn
+    requires { IsNextAnywhere stack.old (Loop result_type) }
+    ensures { AloneAnywhere stack.old (Loop result_type) result stack.new }
 {
     let _ = result_type;
-    advance(machine);
+    advance(stack);
     Turn::Charged
 }
 
 /// `end`
 #[inline(always)]
-pub fn turn_end(machine: &mut Machine) -> Turn
-    requires { IsNextAnywhere machine.old End }
-    ensures { AloneAnywhere machine.old End result machine.new }
+pub fn turn_end(stack: &mut Stack)
+    requires { IsNextAnywhere stack.old End }
+    ensures { AloneAnywhere stack.old End Free stack.new }
 {
-    advance(machine);
-    Turn::Free
+    advance(stack);
 }
 
 /// `i32.const`
 #[inline(always)]
-pub fn turn_i32_const(machine: &mut Machine, number: i32) -> Turn
-    requires { IsNextAnywhere machine.old (I32Const number) }
-    ensures { AloneAnywhere machine.old (I32Const number) result machine.new }
+pub fn turn_i32_const(stack: &mut Stack, number: i32)
+    requires { IsNextAnywhere stack.old (I32Const number) }
+    ensures { AloneAnywhere stack.old (I32Const number) Free stack.new }
 {
-    machine.words.push(word_of_i32(number));
-    advance(machine);
-    Turn::Free
+    stack.words.push(word_of_i32(number));
+    advance(stack);
 }
 
 /// `i64.const`
 #[inline(always)]
-pub fn turn_i64_const(machine: &mut Machine, number: i64) -> Turn
-    requires { IsNextAnywhere machine.old (I64Const number) }
-    ensures { AloneAnywhere machine.old (I64Const number) result machine.new }
+pub fn turn_i64_const(stack: &mut Stack, number: i64)
+    requires { IsNextAnywhere stack.old (I64Const number) }
+    ensures { AloneAnywhere stack.old (I64Const number) Free stack.new }
 {
-    machine.words.push(word_of(ValType::I64, number));
-    advance(machine);
-    Turn::Free
+    stack.words.push(word_of(ValType::I64, number));
+    advance(stack);
 }

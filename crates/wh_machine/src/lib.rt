@@ -12,12 +12,16 @@ mod hosts;
 mod instructions;
 mod machine;
 mod memory;
+mod opening;
 mod operands;
+mod stepping;
 mod store;
 mod variables;
 
 pub use control::code_of;
 pub use dispatch::turn;
-pub use machine::{Code, Machine, Program, Turn};
+pub use machine::{Code, Machine, Program, Stack, Stepped, Turn};
 pub use memory::LinearMem;
+pub use opening::begin;
+pub use stepping::{run, step};
 pub use store::Store;

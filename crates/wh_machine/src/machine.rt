@@ -29,15 +29,37 @@ pub struct Code<'a> {
     pub pool: &'a [Entry],
 }
 
-/// The calls that run.
+/// The words and the frames of calls.
 #[derive(Drop)]
-pub struct Machine {
+pub struct Stack {
     /// Their words.
     pub words: Words,
-    /// The innermost one.
+    /// The frame of the innermost one.
     pub frame: Frame,
     /// Those that wait for it.
     pub waiting: Frames,
+}
+
+/// A call that runs, or has ended.
+#[derive(Drop)]
+pub struct Machine {
+    /// Its words and frames.
+    pub stack: Stack,
+    /// Whether it runs.
+    pub running: bool,
+}
+
+/// What a step came to, or a run of steps.
+#[derive(Clone, Copy, Debug, PartialEq, Eq)]
+pub enum Stepped {
+    /// One charged reduction, and all uncharged ones after it; of a run, all its fuel was taken and the call runs on.
+    Charged,
+    /// The call has ended.
+    Done,
+    /// The reduction ended in a trap.
+    Trapped(Trap),
+    /// The reduction wants bytes that aren't at hand.
+    NotReady(Need),
 }
 
 /// What one instruction came to.

@@ -18,5 +18,5 @@ pub returns : goal.returns
 returns c p code flat most r =
     let v = c.args.store.now.globals in
     let word = slice_get_read v.items v.len c.args.global c.index.result.now v.ok.0 (subst (λ n. c.args.global < n) (sym v.ok.0) (global_get_needs c.args.global c.requires.4).0) c.index.ensures in
-    charged_turn r always c.advance.new.machine c.push.new.self c.args.store.now flat c.advance.ensures
+    charged_turn r always c.advance.new.stack c.push.new.self c.args.store.now flat c.advance.ensures
     (subst (λ words. StepsTo r words c.args.store.now flat) (sym c.push.ensures) (global_get_steps c.args.global r c.index.result.now word))

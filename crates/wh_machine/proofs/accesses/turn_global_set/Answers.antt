@@ -19,5 +19,5 @@ pub returns : goal.returns
 returns c p code flat most r =
     let k = c.args.store.now in
     let k2 : kept.Store = record k { globals = with_item k.globals c.args.global c.pop.result } in
-    charged_turn r always c.advance.new.machine c.pop.new.self k2 flat c.advance.ensures
+    charged_turn r always c.advance.new.stack c.pop.new.self k2 flat c.advance.ensures
     (global_set_steps c.args.global r k2 c.pop.result c.pop.new.self c.pop.ensures.taken refl refl refl refl)

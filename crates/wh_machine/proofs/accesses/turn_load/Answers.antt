@@ -1,6 +1,6 @@
 use Rattle.std.proofs.Common.{◌+◌, ap, sym, subst, length, arith}
 use Rattle.wh_machine.proofs.Turning.{place_fits}
-use Rattle.wh_machine.proofs.Accessing.{StepsTo, charged_turn, load_index, load_steps, load_stops}
+use Rattle.wh_machine.proofs.Accessing.{StepsTo, charged_turn, load_index, load_steps, load_stops, load_waits}
 use Rattle.wh_machine.proofs.accesses.turn_load.Goals as goal
 
 pub top-requires : goal.top-requires
@@ -27,11 +27,16 @@ returns-in-Value-clause-turned g c p code k r =
     let flat2 = g.M.LinearMem.bytes c.read.new.memory in
     let e = c.top.ensures c.pop.result c.pop.new.self c.pop.ensures.taken in
     let f = c.from.ensures in
-    charged_turn r ready c.advance.new.machine c.push.new.self k flat2 c.advance.ensures
+    charged_turn r ready c.advance.new.stack c.push.new.self k flat2 c.advance.ensures
     (subst (λ words. StepsTo r words k flat2) (sym c.push.ensures)
     (load_steps c.args.op c.args.align c.args.offset r ready c.pop.result (c.top.result + c.from.result) c.in-Value.number c.pop.new.self flat2 c.pop.ensures.taken (omega (arith, e, f)) c.in-Value.ensures.reads c.in-Value.ensures.bytes))
 
 pub returns-in-Trap-clause-turned : goal.returns-in-Trap-clause-turned
 returns-in-Trap-clause-turned g c p code k r =
     let f = c.from.ensures in
-    load_stops c.args.op c.args.align c.args.offset r (g.M.LinearMem.ready c.args.memory.now) c.top.result (c.top.result + c.from.result) c.args.machine.now (g.M.LinearMem.bytes c.read.new.memory) c.top.ensures (omega (arith, f)) c.in-Trap.ensures.reads c.in-Trap.ensures.bytes
+    load_stops c.args.op c.args.align c.args.offset r (g.M.LinearMem.ready c.args.memory.now) c.top.result (c.top.result + c.from.result) c.args.stack.now (g.M.LinearMem.bytes c.read.new.memory) c.top.ensures (omega (arith, f)) c.in-Trap.ensures.reads c.in-Trap.ensures.bytes
+
+pub returns-in-NotReady-clause-turned : goal.returns-in-NotReady-clause-turned
+returns-in-NotReady-clause-turned g c p code k r =
+    let f = c.from.ensures in
+    load_waits c.args.op c.args.align c.args.offset r (g.M.LinearMem.ready c.args.memory.now) c.top.result (c.top.result + c.from.result) c.in-NotReady.need (g.M.LinearMem.bytes c.read.new.memory) c.top.ensures (omega (arith, f)) c.in-NotReady.ensures.reads c.in-NotReady.ensures.bytes

@@ -20,7 +20,7 @@ advance-requires g c = place_fits c.requires.3
 pub returns-clause-turned : goal.returns-clause-turned
 returns-clause-turned g c p code k r =
     let flat2 = g.M.LinearMem.bytes c.grow.new.self in
-    charged_turn r (g.M.LinearMem.ready c.args.memory.now) c.advance.new.machine c.push.new.self k flat2 c.advance.ensures
+    charged_turn r (g.M.LinearMem.ready c.args.memory.now) c.advance.new.stack c.push.new.self k flat2 c.advance.ensures
     (subst (λ words. StepsTo r words k flat2) (sym c.push.ensures)
     (grow_steps r c.pop-count.result c.answer_word-answer.result c.size.result c.pop-count.new.self flat2 c.grow.result c.pop-count.ensures.taken c.size.ensures c.grow.ensures.grows
     (answered c.grow.result c.answer_word-answer.result c.answer_word-answer.ensures.done c.answer_word-answer.ensures.refused) c.answer_word-answer.ensures.fits))

@@ -12,5 +12,5 @@ advance-requires g c = place_fits c.requires.3
 pub returns : goal.returns
 returns g c p code k r =
     let flat = g.M.LinearMem.bytes c.args.memory.now in
-    charged_turn r (g.M.LinearMem.ready c.args.memory.now) c.advance.new.machine c.push.new.self k flat c.advance.ensures
-    (subst (λ words. StepsTo r words k flat) (sym (c.push.ensures ∙ ap (λ n. n ∷ c.args.machine.now.words) c.from.ensures)) (size_steps r c.size.result c.size.ensures c.size.type_inv))
+    charged_turn r (g.M.LinearMem.ready c.args.memory.now) c.advance.new.stack c.push.new.self k flat c.advance.ensures
+    (subst (λ words. StepsTo r words k flat) (sym (c.push.ensures ∙ ap (λ n. n ∷ c.args.stack.now.words) c.from.ensures)) (size_steps r c.size.result c.size.ensures c.size.type_inv))

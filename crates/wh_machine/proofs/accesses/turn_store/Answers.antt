@@ -1,6 +1,6 @@
 use Rattle.std.proofs.Common.{◌+◌, ◌∷◌, ap, subst, ◌∙◌, length, arith}
 use Rattle.wh_machine.proofs.Turning.{place_fits}
-use Rattle.wh_machine.proofs.Accessing.{charged_turn, store_index, store_steps, store_stops}
+use Rattle.wh_machine.proofs.Accessing.{charged_turn, store_index, store_steps, store_stops, store_waits}
 use Rattle.wh_model.specs.Memory.{Stores}
 use Rattle.wh_model.specs.Store.{bytes_of}
 use Rattle.wh_model.specs.Typing.{store_type}
@@ -46,11 +46,16 @@ returns-in-Value-clause-turned g c p code k r =
     let e = c.second.ensures x i c.pop-in-Value.new.self both in
     let f = c.from.ensures in
     let top = c.top-word.ensures x c.pop.new.self c.pop.ensures.taken in
-    charged_turn r ready c.advance.new.machine c.pop-in-Value.new.self k flat2 c.advance.ensures
+    charged_turn r ready c.advance.new.stack c.pop-in-Value.new.self k flat2 c.advance.ensures
     (store_steps c.args.op c.args.align c.args.offset r ready x i at c.pop-in-Value.new.self flat2 both (omega (arith, e, f))
     (subst (λ w. Stores ready flat at (bytes_of (store_type c.args.op).1 w) Value flat2) top c.in-Value.ensures.stores))
 
 pub returns-in-Trap-clause-turned : goal.returns-in-Trap-clause-turned
 returns-in-Trap-clause-turned g c p code k r =
     let f = c.from.ensures in
-    store_stops c.args.op c.args.align c.args.offset r (g.M.LinearMem.ready c.args.memory.now) c.top-word.result c.second.result (c.second.result + c.from.result) c.args.machine.now (g.M.LinearMem.bytes c.write.new.memory) c.second.ensures (omega (arith, f)) c.in-Trap.ensures.stores
+    store_stops c.args.op c.args.align c.args.offset r (g.M.LinearMem.ready c.args.memory.now) c.top-word.result c.second.result (c.second.result + c.from.result) c.args.stack.now (g.M.LinearMem.bytes c.write.new.memory) c.second.ensures (omega (arith, f)) c.in-Trap.ensures.stores
+
+pub returns-in-NotReady-clause-turned : goal.returns-in-NotReady-clause-turned
+returns-in-NotReady-clause-turned g c p code k r =
+    let f = c.from.ensures in
+    store_waits c.args.op c.args.align c.args.offset r (g.M.LinearMem.ready c.args.memory.now) c.top-word.result c.second.result (c.second.result + c.from.result) c.in-NotReady.need (g.M.LinearMem.bytes c.write.new.memory) c.second.ensures (omega (arith, f)) c.in-NotReady.ensures.stores

@@ -17,6 +17,6 @@ enter-requires-clause-room c =
     let e = size.1 in
     let n = c.len.ensures in
     let t = c.if-len-ge-CALL_DEPTH.false in
-    let shallow : length c.args.machine.now.waiting + 1 < call_depth = omega (arith, n, t) in
+    let shallow : length c.args.stack.now.waiting + 1 < call_depth = omega (arith, n, t) in
     let low = c.requires.room g c.requires.there.1 shallow in
     omega (arith, low, e)

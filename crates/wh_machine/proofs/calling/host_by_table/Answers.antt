@@ -1,4 +1,4 @@
-use Rattle.std.proofs.Common.{◌≡◌, ℕ, List, sym, ap, subst, ◌∙◌, arith, length, map, slice_get, Some, refl}
+use Rattle.std.proofs.Common.{◌≡◌, ◌∷◌, ℕ, List, sym, ap, subst, ◌∙◌, arith, length, map, slice_get, Some, refl}
 use Rattle.wh_model.specs.Syntax.{call_indirect}
 use Rattle.wh_model.specs.declared.HostFunc.{HostFunc}
 use Rattle.wh_model.specs.Store.{host, signature}
@@ -6,29 +6,32 @@ use Rattle.wh_syntax.specs.declared.instr.Instr.TheVariants.{CallIndirect}
 use Rattle.wh_syntax.specs.View.{view_type}
 use Rattle.wh_control.proofs.Constructs.{at_now}
 use Rattle.wh_control.proofs.Calling.{host_at, indirect_stops}
-use Rattle.wh_machine.specs.declared.machine.Program.{Program}
-use Rattle.wh_machine.specs.declared.machine.Machine.{Machine}
+use Rattle.wh_machine.specs.Program.{Parts, funcs_in, parts_in}
+use Rattle.wh_machine.specs.declared.machine.Stack.{Stack}
 use Rattle.wh_machine.specs.declared.machine.Code.{Code}
 use Rattle.wh_machine.specs.declared.store.Store as kept
-use Rattle.wh_machine.specs.Program.{funcs_in}
 use Rattle.wh_machine.specs.Entering.{pushed}
 use Rattle.wh_machine.specs.Turns.{calls_of, IsReady, Turned}
 use Rattle.wh_machine.proofs.HostSteps.{host_indirect}
-use Rattle.wh_machine.proofs.Hosted.{BeforeHost, has_operands, host_turned, host_waits}
+use Rattle.wh_machine.proofs.Hosted.{BeforeHost, has_operands, host_turned, host_waits, host_wants}
 use Rattle.wh_machine.proofs.OwnCalls.{table_named, wanted_there}
 use Rattle.wh_machine.proofs.Turning.{here, place_fits, words_fit}
 use Rattle.wh_machine.proofs.calling.host_by_table.Goals as goal
 
-before : (p : Program) (m : Machine) (code : Code) (k : kept.Store) (flat : List ℕ) (most w x y : ℕ) (h : HostFunc) → IsReady p code (pushed m w) k flat most (CallIndirect y) → slice_get k.table.items w ≡ Some (Some x) → slice_get p.hosts.now x ≡ Some h
-    → slice_get (map view_type p.module.now.types.items) y ≡ Some (signature (host h)) → BeforeHost p (pushed m w) k flat most (call_indirect y) h m.words
+before : (p : Parts) (m : Stack) (code : Code) (k : kept.Store) (flat : List ℕ) (most w x y : ℕ) (h : HostFunc) → IsReady p code (pushed m w) k flat most (CallIndirect y) → slice_get k.table.items w ≡ Some (Some x) → slice_get p.hosts x ≡ Some h
+    → slice_get (map view_type p.decoded.types.items) y ≡ Some (signature (host h)) → BeforeHost p (pushed m w) k flat most (call_indirect y) h m.words
 before p m code k flat most w x y h r entry at type c inst out s a ws st =
     let now = at_now st.running (call_indirect y) (here r) in
-    (now, host_indirect inst c p.hosts.now (funcs_in p) out (calls_of (pushed m w)) s m.frame a ws st.instance.program st.running y x h at now w m.words refl (table_named st w x entry) (ap (λ ts. slice_get ts y) st.instance.types ∙ type))
+    (now, host_indirect inst c p.hosts (funcs_in p) out (calls_of (pushed m w)) s m.frame a ws st.instance.program st.running y x h at now w m.words refl (table_named st w x entry) (ap (λ ts. slice_get ts y) st.instance.types ∙ type))
+
+-- the index is put back on the words that it was taken from
+put_back : (m m2 : Stack) (w : ℕ) (words : List ℕ) → m2 ≡ m → words ≡ w ∷ m2.words → ◌≡◌ {A = Stack} (record m2 { words = words }) (pushed m w)
+put_back m m2 w words e is = ap (λ ws. let x : Stack = record m2 { words = ws } in x) is ∙ ap (λ z. pushed z w) e
 
 pub host_has_type-requires : goal.host_has_type-requires
 host_has_type-requires g c =
-    let p = c.args.program.now in
-    let m = c.args.machine.now in
+    let p = parts_in c.args.program.now in
+    let m = c.args.stack.now in
     let y = c.args.type_index in
     let w = c.args.index in
     let r = c.requires.2 in
@@ -40,14 +43,14 @@ host_has_type-requires g c =
 
 pub returns-then-not-host_has_type-clause-turned : goal.returns-then-not-host_has_type-clause-turned
 returns-then-not-host_has_type-clause-turned g c code x r entry at =
-    let p = c.args.program.now in
-    let m = c.args.machine.now in
+    let p = parts_in c.args.program.now in
+    let m = c.args.stack.now in
     let y = c.args.type_index in
     let w = c.args.index in
     let pm = pushed m w in (
       (λ cx inst out s a ws st.
           (indirect_stops inst cx (funcs_in p) out (calls_of pm) s m.frame a ws st.running y (here r) w m.words refl).2 x (host c.args.func) (table_named st w x entry)
-          (host_at cx inst p.hosts.now (funcs_in p) x c.args.func st.instance.program at)
+          (host_at cx inst p.hosts (funcs_in p) x c.args.func st.instance.program at)
           (λ e. c.if-not-host_has_type.ensures (ap (λ ts. slice_get ts y) (sym st.instance.types) ∙ e))),
       refl,
       refl,
@@ -55,8 +58,8 @@ returns-then-not-host_has_type-clause-turned g c code x r entry at =
 
 pub call_host-requires-clause-operands : goal.call_host-requires-clause-operands
 call_host-requires-clause-operands g c =
-    let p = c.args.program.now in
-    let m = c.args.machine.now in
+    let p = parts_in c.args.program.now in
+    let m = c.args.stack.now in
     let y = c.args.type_index in
     let w = c.args.index in
     let r = c.requires.2 in
@@ -70,31 +73,50 @@ call_host-requires-clause-place g c = place_fits c.requires.2
 
 pub push-requires : goal.push-requires
 push-requires g c =
-    let p = c.args.program.now in
-    let m = c.args.machine.now in
+    let p = parts_in c.args.program.now in
+    let m = c.args.stack.now in
     let y = c.args.type_index in
     let w = c.args.index in
     let r = c.requires.2 in
     let u = r.sound in
     let st = u.stands in
     let pm = pushed m w in
-    let same = host_waits c.args.func c.in-NotReady.need _ _ m c.args.store.now c.call_host.new.machine c.call_host.new.store c.in-NotReady.ensures.turned in
+    let same = host_waits c.args.func c.in-NotReady.need _ _ m c.args.store.now c.call_host.new.stack c.call_host.new.store c.in-NotReady.ensures.turned in
     let k = words_fit st in
-    let n = ap (λ (z : Machine). length z.words) same.0 in
+    let n = ap (λ (z : Stack). length z.words) same.0 in
     omega (arith, k, n)
+
+pub returns-in-NotReady-clause-turned : goal.returns-in-NotReady-clause-turned
+returns-in-NotReady-clause-turned g c code x r entry at =
+    let p = parts_in c.args.program.now in
+    let m = c.args.stack.now in
+    let k = c.args.store.now in
+    let w = c.args.index in
+    let y = c.args.type_index in
+    let flat = g.M.LinearMem.bytes c.args.memory.now in
+    let most = g.M.LinearMem.limit c.args.memory.now in
+    let need = c.in-NotReady.need in
+    let h = c.in-NotReady.ensures.turned in
+    let same = host_waits c.args.func need (g.M.LinearMem.ready c.args.memory.now) flat m k c.call_host.new.stack c.call_host.new.store h in (
+      put_back m c.call_host.new.stack w c.push.new.self same.0 c.push.ensures,
+      same.1,
+      c.call_host.ensures.bytes,
+      host_wants c.args.func p (g.M.LinearMem.ready c.args.memory.now) (pushed m w) k flat most (call_indirect y) m.words c.call_host.new.stack c.call_host.new.store need (before p m code k flat most w x y c.args.func r entry at c.if-not-host_has_type.ensures) h,
+      same.2,
+    )
 
 pub returns-in_default : goal.returns-in_default
 returns-in_default g c = record {
   turned = λ code x r entry at.
-      let p = c.args.program.now in
-      let m = c.args.machine.now in
+      let p = parts_in c.args.program.now in
+      let m = c.args.stack.now in
       let k = c.args.store.now in
       let w = c.args.index in
       let y = c.args.type_index in
       let flat = g.M.LinearMem.bytes c.args.memory.now in
       let most = g.M.LinearMem.limit c.args.memory.now in
-      subst (λ b. Turned p (g.M.LinearMem.ready c.args.memory.now) (pushed m w) k flat most c.call_host.result c.call_host.new.machine c.call_host.new.store b) (sym c.call_host.ensures.bytes)
-      (host_turned c.args.func c.call_host.result p (g.M.LinearMem.ready c.args.memory.now) (pushed m w) k flat most (call_indirect y) m.words c.call_host.new.machine c.call_host.new.store r.sound
+      subst (λ b. Turned p (g.M.LinearMem.ready c.args.memory.now) (pushed m w) k flat most c.call_host.result c.call_host.new.stack c.call_host.new.store b) (sym c.call_host.ensures.bytes)
+      (host_turned c.args.func c.call_host.result p (g.M.LinearMem.ready c.args.memory.now) (pushed m w) k flat most (call_indirect y) m.words c.call_host.new.stack c.call_host.new.store r.sound
       (before p m code k flat most w x y c.args.func r entry at c.if-not-host_has_type.ensures) c.call_host.ensures.turned c.in_default.not-NotReady);
   limit = c.call_host.ensures.limit;
   keeps = c.call_host.ensures.keeps;

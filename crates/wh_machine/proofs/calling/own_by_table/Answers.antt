@@ -5,7 +5,7 @@ use Rattle.wh_control.specs.Represents.{Represents}
 use Rattle.wh_control.specs.Moves.{entered}
 use Rattle.wh_control.proofs.Constructs.{at_now}
 use Rattle.wh_control.proofs.Calling.{own_at, indirect_stops, indirect_next, indirect_room}
-use Rattle.wh_machine.specs.Program.{funcs_in}
+use Rattle.wh_machine.specs.Program.{funcs_in, parts_in}
 use Rattle.wh_machine.specs.Entering.{pushed}
 use Rattle.wh_machine.specs.Turns.{calls_of}
 use Rattle.wh_machine.proofs.OwnCalls.{entered_room, table_named, table_own, wanted_there}
@@ -14,8 +14,8 @@ use Rattle.wh_machine.proofs.calling.own_by_table.Goals as goal
 
 pub own_has_type-requires-clause-wanted : goal.own_has_type-requires-clause-wanted
 own_has_type-requires-clause-wanted c =
-    let p = c.args.program.now in
-    let m = c.args.machine.now in
+    let p = parts_in c.args.program.now in
+    let m = c.args.stack.now in
     let y = c.args.type_index in
     let w = c.requires.4 in
     let r = c.requires.5 in
@@ -30,15 +30,15 @@ own_has_type-requires-clause-there c = table_own c.requires.5.sound.stands c.req
 
 pub returns-then-not-own_has_type : goal.returns-then-not-own_has_type
 returns-then-not-own_has_type c code k flat most w r entry =
-    let p = c.args.program.now in
-    let m = c.args.machine.now in
+    let p = parts_in c.args.program.now in
+    let m = c.args.stack.now in
     let y = c.args.type_index in
     let pm = pushed m w in
-    let x : ℕ = length p.hosts.now + c.args.func in
+    let x : ℕ = length p.hosts + c.args.func in
     let g = table_own r.sound.stands w c.args.func entry in (
       (λ cx inst out s a ws st.
           (indirect_stops inst cx (funcs_in p) out (calls_of pm) s m.frame a ws st.running y (here r) w m.words refl).2 x (own g.0.type g.0.body) (table_named st w x entry)
-          (own_at cx inst p.hosts.now (funcs_in p) x c.args.func g.0 st.instance.program g.1 refl)
+          (own_at cx inst p.hosts (funcs_in p) x c.args.func g.0 st.instance.program g.1 refl)
           (λ e. c.if-not-own_has_type.ensures g.0 g.1 (ap (λ ts. slice_get ts y) (sym st.instance.types) ∙ e))),
       refl,
       refl,
@@ -49,8 +49,8 @@ enter_own-requires-clause-there c = table_own c.requires.5.sound.stands c.requir
 
 pub enter_own-requires-clause-params : goal.enter_own-requires-clause-params
 enter_own-requires-clause-params c g at =
-    let p = c.args.program.now in
-    let m = c.args.machine.now in
+    let p = parts_in c.args.program.now in
+    let m = c.args.stack.now in
     let y = c.args.type_index in
     let w = c.requires.4 in
     let r = c.requires.5 in
@@ -61,16 +61,16 @@ enter_own-requires-clause-params c g at =
 
 pub enter_own-requires-clause-room : goal.enter_own-requires-clause-room
 enter_own-requires-clause-room c g at shallow =
-    let p = c.args.program.now in
-    let m = c.args.machine.now in
+    let p = parts_in c.args.program.now in
+    let m = c.args.stack.now in
     let y = c.args.type_index in
     let w = c.requires.4 in
     let r = c.requires.5 in
     let u = r.sound in
     let st = u.stands in
     let pm = pushed m w in
-    let x : ℕ = length p.hosts.now + c.args.func in
-    let next = (indirect_next u.context u.inst p.hosts.now (funcs_in p) u.out (calls_of pm) u.s m.frame u.a u.ws st.instance.program st.running y x c.args.func g (here r) w m.words refl (table_named st w x c.requires.6) refl at
+    let x : ℕ = length p.hosts + c.args.func in
+    let next = (indirect_next u.context u.inst p.hosts (funcs_in p) u.out (calls_of pm) u.s m.frame u.a u.ws st.instance.program st.running y x c.args.func g (here r) w m.words refl (table_named st w x c.requires.6) refl at
     (ap (λ ts. slice_get ts y) st.instance.types ∙ c.if-not-own_has_type.ensures g at)).0 shallow in
     entered_room (calls_of pm) m.frame m.words c.args.func (length g.type.params) (length g.body.locals) (room_after (entered (calls_of pm) m.frame m.words c.args.func (length g.type.params) (length g.body.locals)) st next)
 
@@ -79,15 +79,15 @@ enter_own-requires-clause-place c = place_fits c.requires.5
 
 pub returns-then-enter_own : goal.returns-then-enter_own
 returns-then-enter_own c code k flat most w r entry =
-    let p = c.args.program.now in
-    let m = c.args.machine.now in
+    let p = parts_in c.args.program.now in
+    let m = c.args.stack.now in
     let y = c.args.type_index in
     let pm = pushed m w in
-    let x : ℕ = length p.hosts.now + c.args.func in
+    let x : ℕ = length p.hosts + c.args.func in
     let g = table_own r.sound.stands w c.args.func entry in
     let e = c.if-enter_own.ensures in (
       (λ cx inst out s a ws st.
-          let next = (indirect_next cx inst p.hosts.now (funcs_in p) out (calls_of pm) s m.frame a ws st.instance.program st.running y x c.args.func g.0 (here r) w m.words refl (table_named st w x entry) refl g.1
+          let next = (indirect_next cx inst p.hosts (funcs_in p) out (calls_of pm) s m.frame a ws st.instance.program st.running y x c.args.func g.0 (here r) w m.words refl (table_named st w x entry) refl g.1
           (ap (λ ts. slice_get ts y) st.instance.types ∙ c.if-not-own_has_type.ensures g.0 g.1)).0 e.0 in
           (s, next.0, one_step 1 next.1, subst (λ z. Represents cx (funcs_in p) out z s next.0) (sym (e.1 g.0 g.1)) next.2, st.store)),
       λ z. cc,
@@ -95,15 +95,15 @@ returns-then-enter_own c code k flat most w r entry =
 
 pub returns : goal.returns
 returns c code k flat most w r entry =
-    let p = c.args.program.now in
-    let m = c.args.machine.now in
+    let p = parts_in c.args.program.now in
+    let m = c.args.stack.now in
     let y = c.args.type_index in
     let pm = pushed m w in
-    let x : ℕ = length p.hosts.now + c.args.func in
+    let x : ℕ = length p.hosts + c.args.func in
     let g = table_own r.sound.stands w c.args.func entry in
     let e = c.if-enter_own.ensures in (
       (λ cx inst out s a ws st.
-          (indirect_next cx inst p.hosts.now (funcs_in p) out (calls_of pm) s m.frame a ws st.instance.program st.running y x c.args.func g.0 (here r) w m.words refl (table_named st w x entry) refl g.1
+          (indirect_next cx inst p.hosts (funcs_in p) out (calls_of pm) s m.frame a ws st.instance.program st.running y x c.args.func g.0 (here r) w m.words refl (table_named st w x entry) refl g.1
           (ap (λ ts. slice_get ts y) st.instance.types ∙ c.if-not-own_has_type.ensures g.0 g.1)).1 e.0),
       refl,
       refl,

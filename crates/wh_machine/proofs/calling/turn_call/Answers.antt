@@ -5,10 +5,9 @@ use Rattle.wh_control.specs.Represents.{Represents}
 use Rattle.wh_control.specs.Moves.{entered}
 use Rattle.wh_control.proofs.Constructs.{at_now}
 use Rattle.wh_control.proofs.Calling.{call_next, call_traps, call_room}
-use Rattle.wh_machine.specs.Program.{funcs_in}
+use Rattle.wh_machine.specs.Program.{Parts, funcs_in, parts_in}
 use Rattle.wh_machine.specs.Turns.{calls_of, IsReady, Turned}
-use Rattle.wh_machine.specs.declared.machine.Program.{Program}
-use Rattle.wh_machine.specs.declared.machine.Machine.{Machine}
+use Rattle.wh_machine.specs.declared.machine.Stack.{Stack}
 use Rattle.wh_machine.specs.declared.machine.Code.{Code}
 use Rattle.wh_machine.specs.declared.store.Store as kept
 use Rattle.wh_syntax.specs.declared.instr.Instr.TheVariants.{Call}
@@ -18,10 +17,10 @@ use Rattle.wh_machine.proofs.OwnCalls.{own_named, entered_room}
 use Rattle.wh_machine.proofs.Turning.{here, place_fits, one_step, room_after}
 use Rattle.wh_machine.proofs.calling.turn_call.Goals as goal
 
-before : (p : Program) (m : Machine) (code : Code) (k : kept.Store) (flat : List ℕ) (most : ℕ) (x : ℕ) (h : HostFunc) → IsReady p code m k flat most (Call x) → slice_get p.hosts.now x ≡ Some h → BeforeHost p m k flat most (call x) h m.words
+before : (p : Parts) (m : Stack) (code : Code) (k : kept.Store) (flat : List ℕ) (most : ℕ) (x : ℕ) (h : HostFunc) → IsReady p code m k flat most (Call x) → slice_get p.hosts x ≡ Some h → BeforeHost p m k flat most (call x) h m.words
 before p m code k flat most x h r at c inst out s a ws st =
     let now = at_now st.running (call x) (here r) in
-    (now, host_call inst c p.hosts.now (funcs_in p) out (calls_of m) s m.frame a ws st.instance.program st.running x h at now)
+    (now, host_call inst c p.hosts (funcs_in p) out (calls_of m) s m.frame a ws st.instance.program st.running x h at now)
 
 pub host_at-requires : goal.host_at-requires
 host_at-requires g c = c.if-index-imported.true
@@ -30,20 +29,20 @@ pub call_host-requires-clause-operands : goal.call_host-requires-clause-operands
 call_host-requires-clause-operands g c =
     let r = c.requires.1 in
     let u = r.sound in
-    has_operands c.host_at.result (before c.args.program.now c.args.machine.now c.requires.0 c.args.store.now (g.M.LinearMem.bytes c.args.memory.now) (g.M.LinearMem.limit c.args.memory.now) c.args.func c.host_at.result r c.host_at.ensures u.context u.inst u.out u.s u.a u.ws u.stands).1
+    has_operands c.host_at.result (before (parts_in c.args.program.now) c.args.stack.now c.requires.0 c.args.store.now (g.M.LinearMem.bytes c.args.memory.now) (g.M.LinearMem.limit c.args.memory.now) c.args.func c.host_at.result r c.host_at.ensures u.context u.inst u.out u.s u.a u.ws u.stands).1
 
 pub call_host-requires-clause-place : goal.call_host-requires-clause-place
 call_host-requires-clause-place g c = place_fits c.requires.1
 
 pub returns-then-index-imported-clause-turned : goal.returns-then-index-imported-clause-turned
 returns-then-index-imported-clause-turned g c code r =
-    let p = c.args.program.now in
-    let m = c.args.machine.now in
+    let p = parts_in c.args.program.now in
+    let m = c.args.stack.now in
     let k = c.args.store.now in
     let flat = g.M.LinearMem.bytes c.args.memory.now in
     let most = g.M.LinearMem.limit c.args.memory.now in
-    subst (λ b. Turned p (g.M.LinearMem.ready c.args.memory.now) m k flat most c.call_host.result c.call_host.new.machine c.call_host.new.store b) (sym c.call_host.ensures.bytes)
-    (call_turned c.host_at.result c.call_host.result p (g.M.LinearMem.ready c.args.memory.now) m k flat most (call c.args.func) c.call_host.new.machine c.call_host.new.store r.sound
+    subst (λ b. Turned p (g.M.LinearMem.ready c.args.memory.now) m k flat most c.call_host.result c.call_host.new.stack c.call_host.new.store b) (sym c.call_host.ensures.bytes)
+    (call_turned c.host_at.result c.call_host.result p (g.M.LinearMem.ready c.args.memory.now) m k flat most (call c.args.func) c.call_host.new.stack c.call_host.new.store r.sound
     (before p m code k flat most c.args.func c.host_at.result r c.host_at.ensures) c.call_host.ensures.turned)
 
 pub enter_own-requires-clause-there : goal.enter_own-requires-clause-there
@@ -63,13 +62,13 @@ enter_own-requires-clause-params g c h at =
 
 pub enter_own-requires-clause-room : goal.enter_own-requires-clause-room
 enter_own-requires-clause-room g c h at shallow =
-    let m = c.args.machine.now in
+    let m = c.args.stack.now in
     let r = c.requires.1 in
     let u = r.sound in
     let st = u.stands in
     let low = c.if-index-imported.false in
     let y : ℕ = c.args.func - length c.args.program.now.hosts.now in
-    let next = call_next u.context u.inst c.args.program.now.hosts.now (funcs_in c.args.program.now) u.out (calls_of m) u.s m.frame u.a u.ws st.instance.program st.running c.args.func y h (here r) at (omega (arith, low)) shallow in
+    let next = call_next u.context u.inst c.args.program.now.hosts.now (funcs_in (parts_in c.args.program.now)) u.out (calls_of m) u.s m.frame u.a u.ws st.instance.program st.running c.args.func y h (here r) at (omega (arith, low)) shallow in
     entered_room (calls_of m) m.frame m.words y (length h.type.params) (length h.body.locals) (room_after (entered (calls_of m) m.frame m.words y (length h.type.params) (length h.body.locals)) st next)
 
 pub enter_own-requires-clause-place : goal.enter_own-requires-clause-place
@@ -77,24 +76,24 @@ enter_own-requires-clause-place g c = place_fits c.requires.1
 
 pub returns-then-enter_own-clause-turned : goal.returns-then-enter_own-clause-turned
 returns-then-enter_own-clause-turned g c code r =
-    let p = c.args.program.now in
-    let m = c.args.machine.now in
+    let p = parts_in c.args.program.now in
+    let m = c.args.stack.now in
     let low = c.if-index-imported.false in
-    let y : ℕ = c.args.func - length p.hosts.now in
+    let y : ℕ = c.args.func - length p.hosts in
     let e = c.if-enter_own.ensures in
     let own = own_named r.sound.stands.instance.program c.args.func (at_now r.sound.stands.running (call c.args.func) (here r)).op_type.0 (at_now r.sound.stands.running (call c.args.func) (here r)).op_type.1 (omega (arith, low)) in (
       (λ cx inst out s a ws st.
-          let next = call_next cx inst p.hosts.now (funcs_in p) out (calls_of m) s m.frame a ws st.instance.program st.running c.args.func y own.0 (here r) own.1 (omega (arith, low)) e.0 in
+          let next = call_next cx inst p.hosts (funcs_in p) out (calls_of m) s m.frame a ws st.instance.program st.running c.args.func y own.0 (here r) own.1 (omega (arith, low)) e.0 in
           (s, next.0, one_step 1 next.1, subst (λ x. Represents cx (funcs_in p) out x s next.0) (sym (e.1 own.0 own.1)) next.2, st.store)),
       λ z. cc,
     )
 
 pub returns-clause-turned : goal.returns-clause-turned
 returns-clause-turned g c code r =
-    let p = c.args.program.now in
-    let m = c.args.machine.now in
+    let p = parts_in c.args.program.now in
+    let m = c.args.stack.now in
     let low = c.if-index-imported.false in
-    let y : ℕ = c.args.func - length p.hosts.now in
+    let y : ℕ = c.args.func - length p.hosts in
     let e = c.if-enter_own.ensures in
     let own = own_named r.sound.stands.instance.program c.args.func (at_now r.sound.stands.running (call c.args.func) (here r)).op_type.0 (at_now r.sound.stands.running (call c.args.func) (here r)).op_type.1 (omega (arith, low)) in
-    ((λ cx inst out s a ws st. call_traps cx inst p.hosts.now (funcs_in p) out (calls_of m) s m.frame a ws st.instance.program st.running c.args.func y own.0 (here r) own.1 (omega (arith, low)) e.0), refl, refl)
+    ((λ cx inst out s a ws st. call_traps cx inst p.hosts (funcs_in p) out (calls_of m) s m.frame a ws st.instance.program st.running c.args.func y own.0 (here r) own.1 (omega (arith, low)) e.0), refl, refl)

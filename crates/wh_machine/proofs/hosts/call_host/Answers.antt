@@ -3,8 +3,8 @@ use Rattle.wh_machine.proofs.hosts.call_host.Goals as goal
 
 pub returns-else-not-host_put-clause-turned : goal.returns-else-not-host_put-clause-turned
 returns-else-not-host_put-clause-turned g c =
-    put_turn c.args.func c.in-Put.is (g.M.LinearMem.ready c.args.memory.now) (g.M.LinearMem.bytes c.args.memory.now) c.host_put.new.words c.args.machine.now c.advance-in-Put.new.machine c.args.store.now c.host_put.new.store c.if-not-host_put.ensures.puts c.advance-in-Put.ensures
+    put_turn c.args.func c.in-Put.is (g.M.LinearMem.ready c.args.memory.now) (g.M.LinearMem.bytes c.args.memory.now) c.host_put.new.words c.args.stack.now c.advance-in-Put.new.stack c.args.store.now c.host_put.new.store c.if-not-host_put.ensures.puts c.advance-in-Put.ensures
 
 pub returns-in-Done-clause-turned : goal.returns-in-Done-clause-turned
 returns-in-Done-clause-turned g c =
-    emit_turn c.args.func c.in-Emit.is (g.M.LinearMem.ready c.args.memory.now) (g.M.LinearMem.bytes c.args.memory.now) c.host_emit.new.words c.args.machine.now c.advance-in-Done.new.machine c.args.store.now c.host_emit.new.store c.in-Done.ensures.emits c.advance-in-Done.ensures
+    emit_turn c.args.func c.in-Emit.is (g.M.LinearMem.ready c.args.memory.now) (g.M.LinearMem.bytes c.args.memory.now) c.host_emit.new.words c.args.stack.now c.advance-in-Done.new.stack c.args.store.now c.host_emit.new.store c.in-Done.ensures.emits c.advance-in-Done.ensures

@@ -23,8 +23,8 @@ advance-requires c = place_fits c.requires.1.ready
 
 pub returns-in-Ok : goal.returns-in-Ok
 returns-in-Ok c code =
-    let m = c.args.machine.now in
-    charged_words code m c.advance.new.machine c.binary.new.words (Binary c.args.width c.args.op) c.advance.ensures (λ p k flat most r cx inst out s a ws st.
+    let m = c.args.stack.now in
+    charged_words code m c.advance.new.stack c.binary.new.words (Binary c.args.width c.args.op) c.advance.ensures (λ p k flat most r cx inst out s a ws st.
     let n = st.running in
     let o = binary_needs n c.args.width c.args.op (at_now n (binary_op c.args.width c.args.op) (here r)) in
     let u = c.in-Ok.ensures.ok o.y o.x _ o.words in
@@ -33,7 +33,7 @@ returns-in-Ok c code =
 
 pub returns-in-Err : goal.returns-in-Err
 returns-in-Err c code =
-    let m = c.args.machine.now in
+    let m = c.args.stack.now in
     stops_alone code m m (Binary c.args.width c.args.op) c.in-Err.trap (λ p k flat most r cx inst out s a ws st.
     let n = st.running in
     let o = binary_needs n c.args.width c.args.op (at_now n (binary_op c.args.width c.args.op) (here r)) in

@@ -10,6 +10,6 @@ advance-requires c = place_fits c.requires.1.ready
 
 pub returns : goal.returns
 returns c code =
-    let m = c.args.machine.now in
-    charged_words code m c.advance.new.machine m.words (Block c.args.result_type) c.advance.ensures (λ p k flat most r cx inst out s a ws st.
+    let m = c.args.stack.now in
+    charged_words code m c.advance.new.stack m.words (Block c.args.result_type) c.advance.ensures (λ p k flat most r cx inst out s a ws st.
     block_next inst cx (funcs_in p) out (calls_of m) s m.frame a ws st.running c.args.result_type (here r))

@@ -23,8 +23,8 @@ advance-requires c = place_fits c.requires.1.ready
 
 pub returns : goal.returns
 returns c code =
-    let m = c.args.machine.now in
-    charged_words code m c.advance.new.machine c.conversion.new.words (Convert c.args.op) c.advance.ensures (λ p k flat most r cx inst out s a ws st.
+    let m = c.args.stack.now in
+    charged_words code m c.advance.new.stack c.conversion.new.words (Convert c.args.op) c.advance.ensures (λ p k flat most r cx inst out s a ws st.
     let n = st.running in
     let o = convert_needs n c.args.op (at_now n (convert_op c.args.op) (here r)) in
     let u = c.conversion.ensures o.x _ o.words in

@@ -20,8 +20,8 @@ advance-requires c = place_fits c.requires.1.ready
 
 pub returns : goal.returns
 returns c code =
-    let m = c.args.machine.now in
-    charged_words code m c.advance.new.machine c.drop_top.new.words Drop c.advance.ensures (λ p k flat most r cx inst out s a ws st.
+    let m = c.args.stack.now in
+    charged_words code m c.advance.new.stack c.drop_top.new.words Drop c.advance.ensures (λ p k flat most r cx inst out s a ws st.
     let n = st.running in
     let o = drop_needs n (at_now n drop_operand (here r)) in
     drop_next inst cx (funcs_in p) out (calls_of m) s m.frame a ws n (here r) o.x c.drop_top.new.words (o.words ∙ ap (λ w. o.x ∷ w) (sym (c.drop_top.ensures o.x _ o.words))))

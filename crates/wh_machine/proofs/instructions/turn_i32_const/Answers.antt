@@ -12,7 +12,7 @@ use Rattle.wh_machine.proofs.instructions.turn_i32_const.Goals as goal
 
 pub push-requires : goal.push-requires
 push-requires c =
-    let m = c.args.machine.now in
+    let m = c.args.stack.now in
     let r = c.requires.1.ready in
     let u = r.sound in
     let st = u.stands in
@@ -25,7 +25,7 @@ advance-requires c = place_fits c.requires.1.ready
 
 pub returns : goal.returns
 returns c code =
-    let m = c.args.machine.now in
-    free_words code m c.advance.new.machine c.push.new.self (I32Const c.args.number) c.advance.ensures (λ p k flat most r cx inst out s a ws st.
+    let m = c.args.stack.now in
+    free_words code m c.advance.new.stack c.push.new.self (I32Const c.args.number) c.advance.ensures (λ labels h. h) (λ p k flat most r cx inst out s a ws st.
     subst (λ words. Next inst cx (funcs_in p) out (running s a ws) 0 (goes_to (calls_of m) m.frame words (m.frame.place + 1)) s) (sym c.push.ensures)
     (i32_const_next inst cx (funcs_in p) out (calls_of m) s m.frame a ws st.running c.args.number (here r) c.word_of_i32.result (handed_32 c.args.number c.word_of_i32.result c.ranges.number c.word_of_i32.ensures.value) c.word_of_i32.ensures.fits))

@@ -15,19 +15,19 @@ use Rattle.wh_machine.proofs.instructions.turn_local_get.Goals as goal
 
 pub overflow_add-place : goal.overflow_add-place
 overflow_add-place c =
-    let m = c.args.machine.now in
+    let m = c.args.stack.now in
     let r = c.requires.1.ready in
     let u = r.sound in
     let n = u.stands.running in
     let at = at_now n (local_get c.args.local) (here r) in
     let k = local_needs n c.args.local at.op_type.0 at.op_type.1 in
     let low = low_words n u.a.operands m.words n.words in
-    let room = in_room u.inst u.context c.requires.1.program.hosts.now (funcs_in c.requires.1.program) u.out (calls_of m) u.s (running u.s u.a u.ws) u.stands.instance.program (refl, m.frame, n) in
+    let room = in_room u.inst u.context c.requires.1.program.hosts (funcs_in c.requires.1.program) u.out (calls_of m) u.s (running u.s u.a u.ws) u.stands.instance.program (refl, m.frame, n) in
     omega (arith, k, low, room)
 
 pub local_get-requires-clause-there : goal.local_get-requires-clause-there
 local_get-requires-clause-there c =
-    let m = c.args.machine.now in
+    let m = c.args.stack.now in
     let r = c.requires.1.ready in
     let u = r.sound in
     let n = u.stands.running in
@@ -38,7 +38,7 @@ local_get-requires-clause-there c =
 
 pub local_get-requires-clause-room : goal.local_get-requires-clause-room
 local_get-requires-clause-room c =
-    let m = c.args.machine.now in
+    let m = c.args.stack.now in
     let r = c.requires.1.ready in
     let u = r.sound in
     let n = u.stands.running in
@@ -53,8 +53,8 @@ advance-requires c = place_fits c.requires.1.ready
 
 pub returns : goal.returns
 returns c code =
-    let m = c.args.machine.now in
+    let m = c.args.stack.now in
     let got = c.local_get.ensures in
-    charged_words code m c.advance.new.machine c.local_get.new.words (LocalGet c.args.local) c.advance.ensures (λ p k flat most r cx inst out s a ws st.
+    charged_words code m c.advance.new.stack c.local_get.new.words (LocalGet c.args.local) c.advance.ensures (λ p k flat most r cx inst out s a ws st.
     subst (λ words. Next inst cx (funcs_in p) out (running s a ws) 1 (goes_to (calls_of m) m.frame words (m.frame.place + 1)) s) (sym got.2)
     (local_get_next inst cx (funcs_in p) out (calls_of m) s m.frame a ws st.running c.args.local (here r) got.0 got.1))

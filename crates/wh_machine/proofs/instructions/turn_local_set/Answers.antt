@@ -17,19 +17,19 @@ use Rattle.wh_machine.proofs.instructions.turn_local_set.Goals as goal
 
 pub overflow_add-place : goal.overflow_add-place
 overflow_add-place c =
-    let m = c.args.machine.now in
+    let m = c.args.stack.now in
     let r = c.requires.1.ready in
     let u = r.sound in
     let n = u.stands.running in
     let at = at_now n (local_set c.args.local) (here r) in
     let k = local_needs n c.args.local at.op_type.0 at.op_type.1 in
     let low = low_words n u.a.operands m.words n.words in
-    let room = in_room u.inst u.context c.requires.1.program.hosts.now (funcs_in c.requires.1.program) u.out (calls_of m) u.s (running u.s u.a u.ws) u.stands.instance.program (refl, m.frame, n) in
+    let room = in_room u.inst u.context c.requires.1.program.hosts (funcs_in c.requires.1.program) u.out (calls_of m) u.s (running u.s u.a u.ws) u.stands.instance.program (refl, m.frame, n) in
     omega (arith, k, low, room)
 
 pub local_set-requires : goal.local_set-requires
 local_set-requires c =
-    let m = c.args.machine.now in
+    let m = c.args.stack.now in
     let r = c.requires.1.ready in
     let u = r.sound in
     let n = u.stands.running in
@@ -44,8 +44,8 @@ advance-requires c = place_fits c.requires.1.ready
 
 pub returns : goal.returns
 returns c code =
-    let m = c.args.machine.now in
-    charged_words code m c.advance.new.machine c.local_set.new.words (LocalSet c.args.local) c.advance.ensures (λ p k flat most r cx inst out s a ws st.
+    let m = c.args.stack.now in
+    charged_words code m c.advance.new.stack c.local_set.new.words (LocalSet c.args.local) c.advance.ensures (λ p k flat most r cx inst out s a ws st.
     let n = st.running in
     let at = at_now n (local_set c.args.local) (here r) in
     let o = one n at.op_type.0 at.below (at.types ∙ ap (λ xs. xs ++ at.below) at.op_type.2) in

@@ -23,8 +23,8 @@ advance-requires c = place_fits c.requires.1.ready
 
 pub returns : goal.returns
 returns c code =
-    let m = c.args.machine.now in
-    charged_words code m c.advance.new.machine c.select.new.words Select c.advance.ensures (λ p k flat most r cx inst out s a ws st.
+    let m = c.args.stack.now in
+    charged_words code m c.advance.new.stack c.select.new.words Select c.advance.ensures (λ p k flat most r cx inst out s a ws st.
     let n = st.running in
     let o = select_needs n (at_now n select (here r)) in
     let next = select_next inst cx (funcs_in p) out (calls_of m) s m.frame a ws n (here r) o.z o.y o.x _ o.words in

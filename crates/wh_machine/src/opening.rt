@@ -1,0 +1,90 @@
+//! Machines, and the calls that they begin with (4.5.5).
+
+ghost use Rattle.std.specs.Prelude.{◌≡◌, ℕ, ◌+◌, ◌<◌, ◌≤◌, List, [], ◌++◌, None, Some, false, length, replicate, reverse, slice_get, IfOk};
+ghost use Rattle.std.specs.List.{AllByRecursion};
+ghost use Rattle.wh_control.specs.Represents.{Func, most_words};
+ghost use Rattle.wh_control.specs.Moves.{begun};
+ghost use Rattle.wh_machine.specs.Opening.{CanBegin, Begins};
+ghost use Rattle.wh_machine.specs.Program.{funcs_in, parts_in};
+ghost use Rattle.wh_machine.specs.Runs.{linked_parts, IsSettledIn};
+ghost use Rattle.wh_machine.specs.Turns.{calls_of};
+
+use crate::control::{code_of, frame_size};
+use crate::machine::{Machine, Program, Stack};
+use crate::stepping::{program_of, settle};
+use std::alloc::{AllocError, Global};
+use wh_control::{Frame, Frames, Words};
+use wh_imports::Linked;
+
+impl Machine {
+    /// A machine that runs no call. Room for all words and frames of any call is reserved; later no memory is taken.
+    ///
+    /// # Errors
+    /// Where memory was refused.
+    pub fn new(alloc: Global) -> Result<Machine, AllocError>
+        ensures { IfOk result (λ m. m.running ≡ false) }
+    {
+        let words = Words::reserve(alloc)?;
+        let waiting = Frames::reserve(alloc)?;
+        let frame = Frame {
+            func: 0,
+            base: 0,
+            operands: 0,
+            place: 0,
+        };
+        Ok(Machine {
+            stack: Stack {
+                words,
+                frame,
+                waiting,
+            },
+            running: false,
+        })
+    }
+
+    /// The result of a call that has ended, if it has one; an i32 in the low 32 bits.
+    #[inline(always)]
+    pub fn result(&self) -> Option<u64>
+        ensures { result ≡ slice_get self.now.stack.words 0 }
+    {
+        if self.stack.words.len() == 0 {
+            return None;
+        }
+        Some(self.stack.words.top())
+    }
+}
+
+/// The first frame of a call, and its words.
+fn open(program: &Program<'_>, stack: &mut Stack, func: usize, args: &[u64])
+    requires there { (g : Func) × (slice_get (funcs_in (parts_in program.now)) func ≡ Some g) }
+    requires named { AllByRecursion (λ x. x < length program.now.module.now.types.items) program.now.module.now.funcs.items }
+    requires params { (g : Func) → slice_get (funcs_in (parts_in program.now)) func ≡ Some g → length g.type.params ≡ length args.now }
+    requires few { (g : Func) → slice_get (funcs_in (parts_in program.now)) func ≡ Some g → length g.type.params + length g.body.locals ≤ 256 }
+    ensures { (g : Func) → slice_get (funcs_in (parts_in program.now)) func ≡ Some g → calls_of stack.new ≡ record { words = replicate (length g.body.locals) 0 ++ reverse args.now; now = Some (begun func 0 (length g.type.params + length g.body.locals)); waiting = [] } }
+{
+    let (params, locals) = frame_size(program, func);
+    stack.words.clear();
+    stack.words.push_all(args);
+    stack.words.push_zeros(locals);
+    stack.waiting.clear();
+    stack.frame = Frame {
+        func,
+        base: 0,
+        operands: params + locals,
+        place: 0,
+    };
+}
+
+/// Begins a call of one of the module's own functions: what its invocation is, and all uncharged reductions after it
+/// (4.4.7, 4.5.5). The arguments are numbers of the bits of their types. Whatever the machine did before is given up.
+pub fn begin(linked: &Linked, machine: &mut Machine, func: u32, args: &[u64])
+    requires { CanBegin (linked_parts linked.now) func args.now }
+    ensures begun { Begins (linked_parts linked.now) func args.now machine.new }
+    ensures settled { IsSettledIn (linked_parts linked.now) machine.new }
+{
+    let program = program_of(linked);
+    let own = func as usize - program.hosts.len();
+    open(&program, &mut machine.stack, own, args);
+    let code = code_of(&program, machine.stack.frame);
+    machine.running = settle(&program, code, &mut machine.stack);
+}
