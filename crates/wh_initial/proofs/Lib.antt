@@ -1,0 +1,7 @@
+pub mod WordLemmas
+pub mod TableLemmas
+pub mod InWordsLemmas
+pub mod ValueLemmas
+pub mod FuncLemmas
+pub mod SegmentLemmas
+pub mod Preparing

@@ -1,0 +1,4 @@
+pub mod Given
+pub mod Words
+pub mod InWords
+pub mod Begins
