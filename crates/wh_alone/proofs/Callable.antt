@@ -1,0 +1,127 @@
+-- Which functions can be called.
+use Rattle.std.proofs.Common.{◌≡◌, Bool, true, false, ℕ, ◌+◌, ◌-◌, ◌<◌, ◌≤◌, List, [], ◌∷◌, zero, suc, length, map, Some, slice_get, unwrap_or, refl, sym, ap, subst, ◌∙◌, arith}
+use Rattle.std.specs.Bool.{MatchBool}
+use Rattle.std.specs.List.{AllByRecursion}
+use Rattle.std.proofs.lemmas.Option.{slice_get_within}
+use Rattle.std.proofs.lemmas.List.{length-map}
+use Rattle.wh_model.specs.Syntax as model
+use Rattle.wh_model.specs.Syntax.{Body}
+use Rattle.wh_model.specs.Typing.{Context}
+use Rattle.wh_model.specs.Heights.{no_type}
+use Rattle.wh_model.specs.Store.{own, Instance}
+use Rattle.wh_syntax.specs.declared.module.FuncType.{FuncType}
+use Rattle.wh_syntax.specs.View.{view_module, view_type}
+use Rattle.wh_bodies.specs.Table.{Table}
+use Rattle.wh_bodies.specs.Views.{view_side, type_at}
+use Rattle.wh_validate.specs.Soundness.{Checked, IsSound}
+use Rattle.wh_imports.specs.Joined.{Joined}
+use Rattle.wh_control.specs.Represents.{Func}
+use Rattle.wh_control.proofs.Calling.{own_at}
+use Rattle.wh_control.proofs.Entries.{Callee, of_host, of_module, callee}
+use Rattle.wh_control.proofs.Places.{same_at}
+use Rattle.wh_machine.specs.Program.{Parts, funcs_of, funcs_in, IsInstance}
+use Rattle.wh_machine.specs.Runs.{linked_parts}
+use Rattle.wh_machine.proofs.Lookups.{parts_of, all_of}
+use Rattle.wh_alone.specs.Alone.{Arguments, HasCall}
+use Rattle.wh_alone.proofs.Lists.{values_of, arguments_of, mapped_to}
+
+-- ---- the functions that a module defines
+
+own_type : {t u : model.FuncType} {b d : Body} → own t b ≡ own u d → t ≡ u
+own_type e = cc
+
+-- where a function is the module's own, it stands behind those of the host
+pub record OwnIndex (p : Parts) (func : ℕ) (type : model.FuncType) : Type 0 where
+  pub g : Func
+  pub y : ℕ
+  pub index : func ≡ length p.hosts + y
+  pub at : slice_get (funcs_in p) y ≡ Some g
+  pub is_type : type ≡ g.type
+
+own_index_by : (p : Parts) (func : ℕ) (type : model.FuncType) (body : Body) → Callee p.hosts (funcs_in p) func (own type body) → OwnIndex p func type
+own_index_by p func type body (of_host k at is) = absurd (cc is)
+own_index_by p func type body (of_module g y index at is) = record { g = g; y = y; index = index; at = at; is_type = own_type is }
+
+own_index : (p : Parts) (c : Context) (inst : Instance) (func : ℕ) (type : model.FuncType) (body : Body) → IsInstance p c inst → slice_get inst.funcs func ≡ Some (own type body) → OwnIndex p func type
+own_index p c inst func type body is at = own_index_by p func type body (callee p.hosts (funcs_in p) func (own type body) (ap (λ fs. slice_get fs func) (sym is.program.funcs_are) ∙ at))
+
+-- no function of the host is one
+pub no_call_low : (p : Parts) (c : Context) (inst : Instance) (func : ℕ) (args : List ℕ) → IsInstance p c inst → func < length p.hosts → HasCall inst func args → ⊥
+no_call_low p c inst func args is low (type, body, vs, u) = let o = own_index p c inst func type body is u.is_own in let index = o.index in absurd (omega (arith, low, index))
+
+-- and none behind the last one
+pub no_call_high : (p : Parts) (c : Context) (inst : Instance) (func : ℕ) (args : List ℕ) → IsInstance p c inst → length p.decoded.funcs.items ≤ func - length p.hosts → HasCall inst func args → ⊥
+no_call_high p c inst func args is high (type, body, vs, u) =
+    let o = own_index p c inst func type body is u.is_own in
+    let index = o.index in
+    let parts = parts_of _ _ _ _ o.y o.g o.at in
+    let within = slice_get_within p.decoded.funcs.items o.y parts.x parts.x_at in
+    absurd (omega (arith, high, index, within))
+
+-- ---- what is known of checked functions
+
+pub checked_named : (c : Context) (xs : List ℕ) (bs : List Body) (ts : List Table) → Checked c xs bs ts → AllByRecursion (λ x. x < length c.types) xs
+checked_named c [] bs ts h = tt
+checked_named c (x ∷ xs) bs ts (b, rest, f, more, eb, et, at, valid, fits, later) = (slice_get_within c.types x f at, checked_named c xs rest more later)
+
+checked_at : (c : Context) (types : List model.FuncType) (xs : List ℕ) (bs : List Body) (ts : List Table) (y x : ℕ) → Checked c xs bs ts → slice_get xs y ≡ Some x → (g : Func) × (slice_get (funcs_of types xs bs ts) y ≡ Some g) × (g.type ≡ type_at types x)
+checked_at c types [] bs ts y x h e = cc
+checked_at c types (z ∷ xs) bs ts zero x (b, rest, f, more, eb, et, at, valid, fits, later) e =
+    let same : z ≡ x = cc in
+    subst (λ w. (g : Func) × (slice_get (funcs_of types (z ∷ xs) w ts) 0 ≡ Some g) × (g.type ≡ type_at types x)) (sym eb)
+    (subst (λ w. (g : Func) × (slice_get (funcs_of types (z ∷ xs) (b ∷ rest) w) 0 ≡ Some g) × (g.type ≡ type_at types x)) (sym et) (_, refl, ap (type_at types) same))
+checked_at c types (z ∷ xs) bs ts (suc y) x (b, rest, f, more, eb, et, at, valid, fits, later) e =
+    subst (λ w. (g : Func) × (slice_get (funcs_of types (z ∷ xs) w ts) (suc y) ≡ Some g) × (g.type ≡ type_at types x)) (sym eb)
+    (subst (λ w. (g : Func) × (slice_get (funcs_of types (z ∷ xs) (b ∷ rest) w) (suc y) ≡ Some g) × (g.type ≡ type_at types x)) (sym et) (checked_at c types xs rest more y x later e))
+
+-- ---- calls
+
+-- the function of a place is called with arguments of its parameters
+pub calls_at : (l : Joined) (sound : IsSound (view_module l.valid.decoded) (map view_side l.valid.tables)) (func place x : ℕ) (ft : FuncType) (args : List ℕ) → func ≡ length l.funcs + place
+    → slice_get l.valid.decoded.funcs.items place ≡ Some x → slice_get l.valid.decoded.types.items x ≡ Some ft → (b : Bool) → MatchBool b (Arguments ft.params.items args) (¬ (Arguments ft.params.items args))
+    → (c : Context) (inst : Instance) → IsInstance (linked_parts l) c inst → MatchBool b (HasCall inst func args) (¬ (HasCall inst func args))
+calls_at l sound func place x ft args index at_x at_type b decided c inst is = by_case b decided
+  where
+    types : List model.FuncType
+    types = map view_type l.valid.decoded.types.items
+
+    found : (g : Func) × (slice_get (funcs_in (linked_parts l)) place ≡ Some g) × (g.type ≡ type_at types x)
+    found = checked_at sound.context types l.valid.decoded.funcs.items _ _ place x sound.checked at_x
+
+    is_type : found.0.type ≡ view_type ft
+    is_type = found.2 ∙ ap (λ o. unwrap_or o no_type) (mapped_to view_type l.valid.decoded.types.items x ft at_type)
+
+    by_case : (b : Bool) → MatchBool b (Arguments ft.params.items args) (¬ (Arguments ft.params.items args)) → MatchBool b (HasCall inst func args) (¬ (HasCall inst func args))
+    by_case true h =
+        let v = values_of ft.params.items args h in (
+          found.0.type,
+          found.0.body,
+          v.0,
+          record {
+            is_own = own_at c inst l.funcs (funcs_in (linked_parts l)) func place found.0 is.program found.1 index;
+            types = v.1 ∙ ap (λ (t : model.FuncType). t.params) (sym is_type);
+            fit = v.2;
+            words = v.3;
+          },
+        )
+    by_case false h = λ (type, body, vs, u).
+        let o = own_index (linked_parts l) c inst func type body is u.is_own in
+        let there = o.index in
+        let same_place : o.y ≡ place = omega (arith, there, index) in
+        let same : o.g ≡ found.0 = same_at o.at (subst (λ z. slice_get (funcs_in (linked_parts l)) z ≡ Some found.0) (sym same_place) found.1) in
+        h (arguments_of vs ft.params.items args (u.types ∙ ap (λ (t : model.FuncType). t.params) (o.is_type ∙ ap (λ (g : Func). g.type) same ∙ is_type)) u.fit u.words)
+
+-- ---- of a linked module, by the clauses of its parts
+
+pub refused_low : (l : Joined) (func : ℕ) (args : List ℕ) → func < length l.funcs → (c : Context) (inst : Instance) → IsInstance (linked_parts l) c inst → HasCall inst func args → ⊥
+refused_low l func args low c inst is h = no_call_low (linked_parts l) c inst func args is low h
+
+pub refused_high : (l : Joined) (func : ℕ) (args : List ℕ) → length l.valid.decoded.funcs.items ≤ func - length l.funcs → (c : Context) (inst : Instance) → IsInstance (linked_parts l) c inst → HasCall inst func args → ⊥
+refused_high l func args high c inst is h = no_call_high (linked_parts l) c inst func args is high h
+
+pub type_there : (l : Joined) (sound : IsSound (view_module l.valid.decoded) (map view_side l.valid.tables)) (place x : ℕ) → slice_get l.valid.decoded.funcs.items place ≡ Some x → x < length l.valid.decoded.types.items
+type_there l sound place x at =
+    let low = all_of (λ y. y < length sound.context.types) l.valid.decoded.funcs.items place x (checked_named sound.context l.valid.decoded.funcs.items _ _ sound.checked) at in
+    let same = ap length sound.valid.context.types in
+    let mapped = length-map l.valid.decoded.types.items view_type in
+    omega (arith, low, same, mapped)

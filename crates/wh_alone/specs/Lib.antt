@@ -1,0 +1,4 @@
+pub mod Alone
+pub mod Stored
+pub mod Exports
+pub mod Runs

@@ -1,0 +1,58 @@
+//! What a call comes to, and why there is no instance.
+
+use thiserror::Error;
+use wh_imports::LinkError;
+use wh_initial::InitialError;
+use wh_leb::DecodeError;
+use wh_model::Trap;
+use wh_validate::ValidError;
+
+/// How a call has ended, or that it hasn't.
+#[derive(Clone, Copy, Debug, PartialEq, Eq)]
+pub enum Outcome {
+    /// It has returned, with a result where its type has one; an i32 in the low 32 bits.
+    Returned(Option<u64>),
+    /// It has trapped.
+    Trapped(Trap),
+    /// All its fuel was taken, and it runs on.
+    OutOfFuel,
+}
+
+/// What came of one call of a module.
+#[derive(Clone, Copy, Debug, PartialEq, Eq)]
+pub enum Alone {
+    /// The start function hasn't returned: how it has ended, and its charges. Nothing else was called.
+    Start(Outcome, u64),
+    /// The start function, if there is one, has returned after so many charges; the module has no function of its own
+    /// with this index, or these words aren't arguments of it.
+    NoCall(u64),
+    /// The start function, if there is one, has returned, and the call has come to this.
+    Call {
+        /// The charges of the start function, 0 where there is none.
+        started: u64,
+        /// How the call has ended.
+        outcome: Outcome,
+        /// Its charges, that of a trap included.
+        charges: u64,
+    },
+}
+
+/// Why bytes have no instance.
+#[derive(Clone, Copy, Debug, PartialEq, Eq, Error)]
+pub enum CallError {
+    /// The bytes aren't a module, or pass a limit of the format.
+    #[error("the bytes aren't accepted as a module")]
+    Decode(DecodeError),
+    /// The module isn't valid, or passes a limit.
+    #[error("the module isn't valid")]
+    Valid(ValidError),
+    /// The module imports what the host doesn't offer.
+    #[error("an import isn't offered")]
+    Link(LinkError),
+    /// The module has no instance with these parameters.
+    #[error("there is no such instance")]
+    Initial(InitialError),
+    /// A growth of memory was refused.
+    #[error("a growth of memory was refused")]
+    Memory,
+}
