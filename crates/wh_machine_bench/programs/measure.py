@@ -1,12 +1,12 @@
 #!/usr/bin/env python3
-"""Times `wasm-interp`, and our own machine once there is one, on the modules of table.txt, and prints million charges a
-second. A time is the processor's, of the best of three runs, less that of loading the module alone. README.md says more."""
+"""Times `wasm-interp` and our own machine on the modules of table.txt, and prints million charges a second. A time is the
+processor's, of the best of three runs, less that of loading the module alone. README.md says more."""
 import math, os, re, resource, subprocess, sys, tempfile
 
 HERE = os.path.dirname(os.path.abspath(__file__))
 CRATE = os.path.join(HERE, "..")
 # Our own program, run in CRATE with the table on standard input: it prints `NAME CHARGES SECONDS` for each module.
-OURS = ["rt", "run"]
+OURS = ["rt", "run", "--", "-"]
 LATER = ["--disable-sign-extension", "--disable-bulk-memory", "--disable-reference-types", "--disable-multi-value"]
 
 
@@ -44,9 +44,7 @@ def interpreted(data, wanted):
 
 
 def ours():
-    """Seconds by name, and the charges that our own program counted; nothing where it isn't there yet."""
-    if not os.path.isdir(os.path.join(CRATE, "src")):
-        return {}
+    """Seconds by name, and the charges that our own program counted."""
     with open(os.path.join(HERE, "table.txt")) as table:
         out = subprocess.run(OURS, cwd=CRATE, stdin=table, check=True, capture_output=True, text=True).stdout
     found = re.findall(r"^(\w+) (\d+) (\d+(?:\.\d+)?)$", out, re.M)

@@ -1,5 +1,5 @@
 #!/usr/bin/env python3
-"""Builds the programs and writes table.txt, charges.txt and rows.txt. README.md says how, and with which tools."""
+"""Builds the programs and writes table.txt, charges.txt, rows.txt in ../data and ../stdout. README.md says how, and with which tools."""
 import glob, os, re, subprocess, sys, tempfile
 
 from wasm import *
@@ -134,6 +134,25 @@ def write(path, lines):
         file.write("".join(line + "\n" for line in lines))
 
 
+def agreed(paths):
+    """What our own program prints about tables when it agrees with them: how many expectations each module has, and sums."""
+    lines, modules, total = [], set(), 0
+    for path in paths:
+        lines.append(f"{path}:")
+        counts = {}
+        for words in map(str.split, open("../data/" + path)):
+            if not words or words[0].startswith("#"):
+                continue
+            if words[0] == "module":
+                name = words[1]
+                modules.add(name)
+                counts[name] = 0
+            counts[name] += "->" in words or words[0] == "output"
+        lines += [f"{name}: {count} agree, 0 differ" for name, count in counts.items()]
+        total += sum(counts.values())
+    return [*lines, f"{len(paths)} tables, {len(modules)} modules: {total} agree, 0 differ"]
+
+
 def main():
     os.chdir(os.path.dirname(os.path.abspath(__file__)))
     table, charges = [], []
@@ -144,9 +163,10 @@ def main():
             charges += two
             print("\n".join([f"{source}: {(len(one[0]) - len(source) - 5) // 2} bytes", *("  " + line for line in two[1:])]))
         if len(sys.argv) == 1:
-            write("table.txt", table)
-            write("charges.txt", charges)
-            write("rows.txt", rows(folder))
+            write("../data/table.txt", table)
+            write("../data/charges.txt", charges)
+            write("../data/rows.txt", rows(folder))
+            write("../stdout", agreed(["table.txt", "charges.txt", "rows.txt"]))
 
 
 if __name__ == "__main__":

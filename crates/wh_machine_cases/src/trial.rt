@@ -1,0 +1,249 @@
+//! What is done with the lines on one module.
+
+use crate::found::Found;
+use crate::line::Line;
+use anyhow::{Context, Result, bail, ensure};
+use std::alloc::Global;
+use std::fmt;
+use wh_alone::{CallError, Instance, Outcome};
+use wh_initial::Parameters;
+
+/// As many pages as a memory of the standard may have.
+const MOST_PAGES: u32 = 65536;
+
+/// How many expectations agree with what came, and how many differ from it.
+#[derive(Clone, Copy)]
+pub struct Tally {
+    /// Those that agree.
+    pub agreed: usize,
+    /// Those that differ.
+    pub wrong: usize,
+}
+
+impl Tally {
+    /// There are none yet.
+    pub const NONE: Tally = Tally {
+        agreed: 0,
+        wrong: 0,
+    };
+}
+
+/// A module, and how it fares.
+#[derive(Drop)]
+pub struct Trial {
+    /// Its name.
+    pub name: String,
+    /// What the call has taken that stands for fuel.
+    taken: Option<u64>,
+    /// How many lines agree.
+    pub tally: Tally,
+}
+
+/// What the host gives an instance, by the lines before its first call.
+fn parameters_of(alloc: Global, lines: &[String]) -> Result<Parameters> {
+    let mut base = 0;
+    let mut salt = 0;
+    let mut inputs = Vec::new(alloc);
+    let mut page_limit = MOST_PAGES;
+    let mut called = false;
+    for text in lines {
+        match Line::parse(alloc, text).context(format_args!("{text}"))? {
+            Line::Host {
+                base: new_base,
+                salt: new_salt,
+                inputs: new_inputs,
+            } => {
+                ensure!(!called, "parameters behind a call");
+                base = new_base;
+                salt = new_salt;
+                inputs = new_inputs;
+            }
+            Line::Pages(pages) => {
+                ensure!(!called, "pages behind a call");
+                page_limit = pages;
+            }
+            Line::Module { .. } => {}
+            Line::Call { .. } | Line::More { .. } | Line::Output(_) => called = true,
+        }
+    }
+    Ok(Parameters {
+        base,
+        salt,
+        inputs,
+        page_limit,
+    })
+}
+
+/// Calls the start function, if there is one.
+fn start(instance: &mut Instance) -> Result<()> {
+    let Some(func) = instance.start() else {
+        return Ok(());
+    };
+    match instance.call(func, &[], u64::MAX) {
+        Some((Outcome::Returned(_), _)) => Ok(()),
+        _ => bail!("the start function doesn't return"),
+    }
+}
+
+impl Trial {
+    /// Nothing is known of the module of this name yet.
+    pub fn new(name: String) -> Trial {
+        Trial {
+            name,
+            taken: None,
+            tally: Tally::NONE,
+        }
+    }
+
+    /// Counts an expectation, and prints what is wrong with it.
+    fn judge(
+        &mut self,
+        rt: &impl Print,
+        line: &str,
+        agrees: bool,
+        found: &impl fmt::Display,
+    ) -> Result<()> {
+        if agrees {
+            self.tally.agreed = self.tally.agreed.saturating_add(1);
+        } else {
+            self.tally.wrong = self.tally.wrong.saturating_add(1);
+            println!(rt; "{}: wanted {line}; came {found}", self.name)?;
+        }
+        Ok(())
+    }
+
+    /// Keeps what a call has taken, as long as it stands.
+    fn note(&mut self, outcome: Outcome, charges: u64) -> Found {
+        self.taken = match outcome {
+            Outcome::OutOfFuel => Some(charges),
+            Outcome::Returned(_) | Outcome::Trapped(_) => None,
+        };
+        Found::Ended(outcome, charges)
+    }
+
+    /// Calls an exported function with this fuel.
+    fn call(
+        &mut self,
+        instance: &mut Instance,
+        export: &str,
+        arguments: &[u64],
+        fuel: u64,
+    ) -> Found {
+        let Some(func) = instance.func(export) else {
+            return Found::NoCall;
+        };
+        match instance.call(func, arguments, fuel) {
+            Some((outcome, charges)) => self.note(outcome, charges),
+            None => Found::NoCall,
+        }
+    }
+
+    /// The call that stands goes on with this fuel.
+    fn more(&mut self, instance: &mut Instance, fuel: u64) -> Found {
+        let Some(taken) = self.taken else {
+            return Found::NotStanding;
+        };
+        match instance.more(fuel) {
+            Some((outcome, charges)) => self.note(outcome, taken.saturating_add(charges)),
+            None => Found::NotStanding,
+        }
+    }
+
+    /// Looks whether these bytes have been put out.
+    fn judge_output(
+        &mut self,
+        rt: &(impl Print + AllocGlobal),
+        line: &str,
+        output: &[u8],
+        digits: &str,
+    ) -> Result<()> {
+        let output = hex::encode(rt.alloc(), output)?;
+        let found = if output.is_empty() {
+            "-"
+        } else {
+            output.as_str()
+        };
+        self.judge(rt, line, found == digits, &found)
+    }
+
+    /// Does what a line says of the instance.
+    fn obey(
+        &mut self,
+        rt: &(impl Print + AllocGlobal),
+        instance: &mut Instance,
+        text: &str,
+    ) -> Result<()> {
+        match Line::parse(rt.alloc(), text)? {
+            Line::Module {
+                refusal: Some(_),
+                ..
+            } => self.judge(rt, text, false, &"an instance"),
+            Line::Module { .. } | Line::Host { .. } | Line::Pages(_) => Ok(()),
+            Line::Call {
+                export,
+                arguments,
+                fuel,
+                expected,
+            } => {
+                let found = self.call(instance, export, &arguments, fuel);
+                self.judge(rt, text, expected.agrees(found), &found)
+            }
+            Line::More { fuel, expected } => {
+                let found = self.more(instance, fuel);
+                self.judge(rt, text, expected.agrees(found), &found)
+            }
+            Line::Output(digits) => self.judge_output(rt, text, instance.output(), digits),
+        }
+    }
+
+    /// Does what the lines say of the instance.
+    fn obey_all(
+        &mut self,
+        rt: &(impl Print + AllocGlobal),
+        instance: &mut Instance,
+        lines: &[String],
+    ) -> Result<()> {
+        start(instance)?;
+        for text in lines {
+            self.obey(rt, instance, text)?;
+        }
+        Ok(())
+    }
+
+    /// Looks at each line whether it wants the refusal that came.
+    fn refuse(
+        &mut self,
+        rt: &(impl Print + AllocGlobal),
+        error: CallError,
+        lines: &[String],
+    ) -> Result<()> {
+        let found = format!(in rt.alloc(); "{}", Found::Refused(error))?;
+        for text in lines {
+            match Line::parse(rt.alloc(), text)? {
+                Line::Module { refusal, .. } => {
+                    let agrees = refusal.is_some_and(|refusal| refusal == found.as_str());
+                    self.judge(rt, text, agrees, &found)?;
+                }
+                Line::Host { .. } | Line::Pages(_) => {}
+                Line::Call { .. } | Line::More { .. } | Line::Output(_) => {
+                    self.judge(rt, text, false, &found)?;
+                }
+            }
+        }
+        Ok(())
+    }
+
+    /// Makes an instance of the module with these bytes, and does what the lines say.
+    pub fn run(
+        &mut self,
+        rt: &(impl Print + AllocGlobal),
+        bytes: &[u8],
+        lines: &[String],
+    ) -> Result<()> {
+        let parameters = parameters_of(rt.alloc(), lines)?;
+        match Instance::new(rt.alloc(), bytes, parameters) {
+            Ok(mut instance) => self.obey_all(rt, &mut instance, lines),
+            Err(error) => self.refuse(rt, error, lines),
+        }
+    }
+}
