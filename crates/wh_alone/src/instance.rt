@@ -98,7 +98,7 @@ impl Instance {
         ensures some { IfSome result (λ r. Goes (linked_parts self.old.linked) self.old.machine self.old.store self.old.memory.bytes self.old.memory.limit fuel r.0 r.1 self.new.store self.new.memory.bytes) }
         ensures none { IfNone result ((self.old.machine.running ≡ false) × (self.new ≡ self.old)) }
     {
-        if !self.machine.running {
+        if !self.machine.is_running() {
             return None;
         }
         Some(run_on(

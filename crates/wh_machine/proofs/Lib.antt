@@ -1,3 +1,4 @@
+pub mod Holding
 pub mod Straight
 pub mod Locals
 pub mod Memories
@@ -13,3 +14,5 @@ pub mod Reaching
 pub mod Running
 pub mod Opened
 pub mod Instances
+pub mod Finding
+pub mod Finds

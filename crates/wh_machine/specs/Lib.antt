@@ -1,3 +1,4 @@
+pub mod Held
 pub mod Keeps
 pub mod Program
 pub mod Reading

@@ -3,7 +3,7 @@
 ghost use Rattle.std.specs.Prelude.{◌≡◌, ℕ, ◌^◌, ◌<◌, List, ◌∷◌, length};
 ghost use Rattle.wh_model.specs.declared.memory.Grown.TheVariants.{Done, Refused};
 ghost use Rattle.wh_syntax.specs.declared.instr.Instr.TheVariants.{GlobalGet, GlobalSet, Load, Store as StoreAt, MemorySize, MemoryGrow};
-ghost use Rattle.wh_machine.specs.Alone.{IsNextInStore, InStore, IsNextInMemory, InMemory};
+ghost use Rattle.wh_machine.specs.Alone.{IsNextInStore, InStore, IsNextInMemory, InMemory, FoundInMemory};
 
 use crate::bytes::{Loaded, read, write};
 use crate::instructions::advance;
@@ -97,6 +97,7 @@ pub fn turn_load<M: LinearMem>(
 ) -> Turn
     requires { IsNextInMemory stack.old (M.bytes memory.old) (M.limit memory.old) (Load op align offset) }
     ensures turned { InMemory (M.ready memory.old) stack.old (M.bytes memory.old) (M.limit memory.old) (Load op align offset) result stack.new (M.bytes memory.new) }
+    ensures found { FoundInMemory (M.ready memory.old) stack.old (M.bytes memory.old) (M.limit memory.old) (Load op align offset) result }
     ensures limit { M.limit memory.new ≡ M.limit memory.old }
     ensures keeps { M.keeps memory.old memory.new }
 {
@@ -126,6 +127,7 @@ pub fn turn_store<M: LinearMem>(
 ) -> Turn
     requires { IsNextInMemory stack.old (M.bytes memory.old) (M.limit memory.old) (StoreAt op align offset) }
     ensures turned { InMemory (M.ready memory.old) stack.old (M.bytes memory.old) (M.limit memory.old) (StoreAt op align offset) result stack.new (M.bytes memory.new) }
+    ensures found { FoundInMemory (M.ready memory.old) stack.old (M.bytes memory.old) (M.limit memory.old) (StoreAt op align offset) result }
     ensures limit { M.limit memory.new ≡ M.limit memory.old }
     ensures keeps { M.keeps memory.old memory.new }
 {

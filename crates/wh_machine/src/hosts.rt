@@ -48,8 +48,8 @@ pub fn host_put(words: &mut Words, store: &mut Store) -> bool
     true
 }
 
-/// `emit`
-#[inline(never)]
+/// `emit`: whether its bytes were appended to the output. Where they are awaited the operands are put back.
+#[inline(always)]
 pub fn host_emit<M: LinearMem>(words: &mut Words, store: &mut Store, memory: &mut M) -> Emitted
     requires operands { (count i : ℕ) × (rest : List ℕ) × (words.old ≡ count ∷ i ∷ rest) × (count < 2 ^ 32) × (i < 2 ^ 32) }
     requires small { length store.old.output.items ≤ output_room }

@@ -1,5 +1,9 @@
 //! What a machine is made of.
 
+ghost use Rattle.std.specs.Prelude.{IsSome};
+ghost use Rattle.wh_machine.specs.Held.{Held, stack_in};
+
+use std::marker::Model;
 use wh_bodies::{Entry, SideTable};
 use wh_control::{Frame, Frames, Words};
 use wh_model::{HostFunc, Need, Trap};
@@ -40,13 +44,21 @@ pub struct Stack {
     pub waiting: Frames,
 }
 
-/// A call that runs, or has ended.
+/// A call that runs, or has ended: its words and frames, and whether it runs.
+///
+/// A run takes the stack out, so that it is a local variable of the loop, and puts it back.
 #[derive(Drop)]
 pub struct Machine {
-    /// Its words and frames.
-    pub stack: Stack,
-    /// Whether it runs.
-    pub running: bool,
+    pub(crate) stack: Option<Stack>,
+    pub(crate) running: bool,
+}
+
+impl Model for Machine {
+    ghost Value = { Held };
+
+    ghost view = { λ m. record { stack = stack_in m.stack; running = m.running } };
+
+    ghost invariant = { λ m. IsSome m.stack };
 }
 
 /// What a step came to, or a run of steps.

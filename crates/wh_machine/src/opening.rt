@@ -33,11 +33,11 @@ impl Machine {
             place: 0,
         };
         Ok(Machine {
-            stack: Stack {
+            stack: Some(Stack {
                 words,
                 frame,
                 waiting,
-            },
+            }),
             running: false,
         })
     }
@@ -47,10 +47,21 @@ impl Machine {
     pub fn result(&self) -> Option<u64>
         ensures { result ≡ slice_get self.now.stack.words 0 }
     {
-        if self.stack.words.len() == 0 {
+        let Some(stack) = &self.stack else {
+            return None;
+        };
+        if stack.words.len() == 0 {
             return None;
         }
-        Some(self.stack.words.top())
+        Some(stack.words.top())
+    }
+
+    /// Whether the call runs.
+    #[inline(always)]
+    pub fn is_running(&self) -> bool
+        ensures { result ≡ self.now.running }
+    {
+        self.running
     }
 }
 
@@ -84,7 +95,10 @@ pub fn begin(linked: &Linked, machine: &mut Machine, func: u32, args: &[u64])
 {
     let program = program_of(linked);
     let own = func as usize - program.hosts.len();
-    open(&program, &mut machine.stack, own, args);
-    let code = code_of(&program, machine.stack.frame);
-    machine.running = settle(&program, code, &mut machine.stack);
+    let Some(stack) = &mut machine.stack else {
+        unreachable!();
+    };
+    open(&program, stack, own, args);
+    let code = code_of(&program, stack.frame);
+    machine.running = settle(&program, code, stack);
 }

@@ -4,6 +4,8 @@ use Rattle.wh_model.specs.Syntax.{Code, nothing, plain, block, loop, if_then, if
 use Rattle.wh_model.specs.Store.{Instance}
 use Rattle.wh_model.specs.Configuration.{Term, code, label, frame, Config, config, trapped}
 use Rattle.wh_model.specs.Reduction.{Reduces, After}
+use Rattle.wh_model.specs.declared.memory.Need.{Need}
+use Rattle.wh_model.specs.Asking.{Asks}
 
 -- at most one charge and one configuration follow
 abbrev pub OneReduction : Type 0
@@ -51,3 +53,7 @@ AfterJoins = (inst : Instance) (m n : ℕ) (a b c : Config) → After inst a m b
 -- and m + n charges are m and then n
 abbrev pub AfterSplits : Type 0
 AfterSplits = (inst : Instance) (m n : ℕ) (a c : Config) → After inst a (m + n) c → (b : Config) × After inst a m b × After inst b n c
+
+-- a configuration asks for one run of bytes at most
+abbrev pub OneNeed : Type 0
+OneNeed = (inst : Instance) (c : Config) (x y : Need) → Asks inst c x → Asks inst c y → x ≡ y

@@ -1,6 +1,7 @@
 use Rattle.std.proofs.Common.{◌+◌, ap, sym, subst, length, arith}
 use Rattle.wh_machine.proofs.Turning.{place_fits}
 use Rattle.wh_machine.proofs.Accessing.{StepsTo, charged_turn, load_index, load_steps, load_stops, load_waits}
+use Rattle.wh_machine.proofs.Finding.{rests_here, load_had}
 use Rattle.wh_machine.proofs.accesses.turn_load.Goals as goal
 
 pub top-requires : goal.top-requires
@@ -40,3 +41,8 @@ pub returns-in-NotReady-clause-turned : goal.returns-in-NotReady-clause-turned
 returns-in-NotReady-clause-turned g c p code k r =
     let f = c.from.ensures in
     load_waits c.args.op c.args.align c.args.offset r (g.M.LinearMem.ready c.args.memory.now) c.top.result (c.top.result + c.from.result) c.in-NotReady.need (g.M.LinearMem.bytes c.read.new.memory) c.top.ensures (omega (arith, f)) c.in-NotReady.ensures.reads c.in-NotReady.ensures.bytes
+
+pub returns-in-Value-clause-found : goal.returns-in-Value-clause-found
+returns-in-Value-clause-found g c p code k r =
+    let f = c.from.ensures in
+    (rests_here r tt, load_had c.args.op c.args.align c.args.offset r (g.M.LinearMem.ready c.args.memory.now) c.top.result (c.top.result + c.from.result) c.top.ensures (omega (arith, f)) c.in-Value.ensures.reads.3)

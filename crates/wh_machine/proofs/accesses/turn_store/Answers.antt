@@ -1,6 +1,8 @@
 use Rattle.std.proofs.Common.{◌+◌, ◌∷◌, ap, subst, ◌∙◌, length, arith}
 use Rattle.wh_machine.proofs.Turning.{place_fits}
 use Rattle.wh_machine.proofs.Accessing.{charged_turn, store_index, store_steps, store_stops, store_waits}
+use Rattle.wh_machine.proofs.Finding.{rests_here, store_had}
+use Rattle.wh_machine.proofs.Numerals.{length_bytes_of}
 use Rattle.wh_model.specs.Memory.{Stores}
 use Rattle.wh_model.specs.Store.{bytes_of}
 use Rattle.wh_model.specs.Typing.{store_type}
@@ -59,3 +61,12 @@ pub returns-in-NotReady-clause-turned : goal.returns-in-NotReady-clause-turned
 returns-in-NotReady-clause-turned g c p code k r =
     let f = c.from.ensures in
     store_waits c.args.op c.args.align c.args.offset r (g.M.LinearMem.ready c.args.memory.now) c.top-word.result c.second.result (c.second.result + c.from.result) c.in-NotReady.need (g.M.LinearMem.bytes c.write.new.memory) c.second.ensures (omega (arith, f)) c.in-NotReady.ensures.stores
+
+pub returns-in-Value-clause-found : goal.returns-in-Value-clause-found
+returns-in-Value-clause-found g c p code k r =
+    let f = c.from.ensures in
+    let x = c.top-word.result in
+    let width = (store_type c.args.op).1 in (
+      rests_here r tt,
+      store_had c.args.op c.args.align c.args.offset r (g.M.LinearMem.ready c.args.memory.now) c.second.result (c.second.result + c.from.result) (length (bytes_of width x)) c.second.ensures (omega (arith, f)) (length_bytes_of width x) c.in-Value.ensures.stores.2,
+    )

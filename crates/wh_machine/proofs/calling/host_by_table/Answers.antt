@@ -12,6 +12,7 @@ use Rattle.wh_machine.specs.declared.machine.Code.{Code}
 use Rattle.wh_machine.specs.declared.store.Store as kept
 use Rattle.wh_machine.specs.Entering.{pushed}
 use Rattle.wh_machine.specs.Turns.{calls_of, IsReady, Turned}
+use Rattle.wh_machine.proofs.Finding.{rests_here, host_found}
 use Rattle.wh_machine.proofs.HostSteps.{host_indirect}
 use Rattle.wh_machine.proofs.Hosted.{BeforeHost, has_operands, host_turned, host_waits, host_wants}
 use Rattle.wh_machine.proofs.OwnCalls.{table_named, wanted_there}
@@ -118,6 +119,16 @@ returns-in_default g c = record {
       subst (λ b. Turned p (g.M.LinearMem.ready c.args.memory.now) (pushed m w) k flat most c.call_host.result c.call_host.new.stack c.call_host.new.store b) (sym c.call_host.ensures.bytes)
       (host_turned c.args.func c.call_host.result p (g.M.LinearMem.ready c.args.memory.now) (pushed m w) k flat most (call_indirect y) m.words c.call_host.new.stack c.call_host.new.store r.sound
       (before p m code k flat most w x y c.args.func r entry at c.if-not-host_has_type.ensures) c.call_host.ensures.turned c.in_default.not-NotReady);
+  found = λ code x r entry at.
+      let p = parts_in c.args.program.now in
+      let m = c.args.stack.now in
+      let k = c.args.store.now in
+      let w = c.args.index in
+      let y = c.args.type_index in
+      let flat = g.M.LinearMem.bytes c.args.memory.now in
+      let most = g.M.LinearMem.limit c.args.memory.now in
+      host_found c.args.func c.call_host.result p (g.M.LinearMem.ready c.args.memory.now) (pushed m w) k flat most (call_indirect y) m.words c.call_host.new.stack c.call_host.new.store (rests_here r tt)
+      (before p m code k flat most w x y c.args.func r entry at c.if-not-host_has_type.ensures) c.call_host.ensures.turned;
   limit = c.call_host.ensures.limit;
   keeps = c.call_host.ensures.keeps;
 }

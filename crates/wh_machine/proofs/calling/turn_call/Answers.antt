@@ -11,6 +11,7 @@ use Rattle.wh_machine.specs.declared.machine.Stack.{Stack}
 use Rattle.wh_machine.specs.declared.machine.Code.{Code}
 use Rattle.wh_machine.specs.declared.store.Store as kept
 use Rattle.wh_syntax.specs.declared.instr.Instr.TheVariants.{Call}
+use Rattle.wh_machine.proofs.Finding.{rests_here, own_asks_nothing, host_found}
 use Rattle.wh_machine.proofs.HostSteps.{host_call}
 use Rattle.wh_machine.proofs.Hosted.{BeforeHost, has_operands, call_turned}
 use Rattle.wh_machine.proofs.OwnCalls.{own_named, entered_room}
@@ -97,3 +98,20 @@ returns-clause-turned g c code r =
     let e = c.if-enter_own.ensures in
     let own = own_named r.sound.stands.instance.program c.args.func (at_now r.sound.stands.running (call c.args.func) (here r)).op_type.0 (at_now r.sound.stands.running (call c.args.func) (here r)).op_type.1 (omega (arith, low)) in
     ((λ cx inst out s a ws st. call_traps cx inst p.hosts (funcs_in p) out (calls_of m) s m.frame a ws st.instance.program st.running c.args.func y own.0 (here r) own.1 (omega (arith, low)) e.0), refl, refl)
+
+pub returns-then-index-imported-clause-found : goal.returns-then-index-imported-clause-found
+returns-then-index-imported-clause-found g c code r =
+    let p = parts_in c.args.program.now in
+    let m = c.args.stack.now in
+    let k = c.args.store.now in
+    let flat = g.M.LinearMem.bytes c.args.memory.now in
+    let most = g.M.LinearMem.limit c.args.memory.now in
+    host_found c.host_at.result c.call_host.result p (g.M.LinearMem.ready c.args.memory.now) m k flat most (call c.args.func) m.words c.call_host.new.stack c.call_host.new.store (rests_here r tt) (before p m code k flat most c.args.func c.host_at.result r c.host_at.ensures) c.call_host.ensures.turned
+
+pub returns-then-enter_own-clause-found : goal.returns-then-enter_own-clause-found
+returns-then-enter_own-clause-found g c code r =
+    let p = parts_in c.args.program.now in
+    let low = c.if-index-imported.false in
+    let y : ℕ = c.args.func - length p.hosts in
+    let own = own_named r.sound.stands.instance.program c.args.func (at_now r.sound.stands.running (call c.args.func) (here r)).op_type.0 (at_now r.sound.stands.running (call c.args.func) (here r)).op_type.1 (omega (arith, low)) in
+    (rests_here r tt, own_asks_nothing (g.M.LinearMem.ready c.args.memory.now) c.args.func y own.0 r own.1 (omega (arith, low)))

@@ -6,7 +6,9 @@ use Rattle.wh_control.proofs.Calling.{at_table, indirect_stops}
 use Rattle.wh_machine.specs.declared.machine.Stack.{Stack}
 use Rattle.wh_machine.specs.Program.{funcs_in, parts_in}
 use Rattle.wh_machine.specs.Entering.{pushed}
-use Rattle.wh_machine.specs.Turns.{calls_of, IsReady, Turned}
+use Rattle.wh_machine.specs.Turns.{calls_of, IsReady, Turned, Found}
+use Rattle.wh_machine.proofs.Finding.{found, rests_here, own_by_table_asks_nothing}
+use Rattle.wh_machine.proofs.OwnCalls.{table_own}
 use Rattle.wh_machine.proofs.Turning.{here, any_ready}
 use Rattle.wh_machine.proofs.calling.turn_call_indirect.Goals as goal
 
@@ -80,3 +82,34 @@ returns-else-func-program-clause-turned g c code r =
     subst (λ z. Turned p (g.M.LinearMem.ready c.args.memory.now) z k flat most c.own_by_table.result c.own_by_table.new.stack k flat) (sym e)
     (any_ready p (g.M.LinearMem.ready c.args.memory.now) (pushed (record m { words = c.pop-index.new.self }) c.pop-index.result) k flat most c.own_by_table.result c.own_by_table.new.stack k flat
     (c.own_by_table.ensures c.requires.0 k flat most c.pop-index.result (subst (λ z. IsReady p c.requires.0 z k flat most (CallIndirect c.args.type_index)) e c.requires.1) (entry ∙ ap (λ x. Some (Some x)) same)))
+
+pub returns-then-func-program-clause-found : goal.returns-then-func-program-clause-found
+returns-then-func-program-clause-found g c code r =
+    let p = parts_in c.args.program.now in
+    let m = c.args.stack.now in
+    let k = c.args.store.now in
+    let flat = g.M.LinearMem.bytes c.args.memory.now in
+    let most = g.M.LinearMem.limit c.args.memory.now in
+    let e = back m c.pop-index.new.self c.pop-index.result c.pop-index.ensures.taken in
+    let entry = ap (λ t. slice_get t c.pop-index.result) (sym c.deref.ensures.value) ∙ c.in-Func.ensures in
+    subst (λ z. Found p (g.M.LinearMem.ready c.args.memory.now) z k flat most c.host_by_table.result) (sym e)
+    (c.host_by_table.ensures.found code c.in-Func.func (subst (λ z. IsReady p code z k flat most (CallIndirect c.args.type_index)) e r) entry c.host_at-host.ensures)
+
+pub returns-else-func-program-clause-found : goal.returns-else-func-program-clause-found
+returns-else-func-program-clause-found g c code r =
+    let p = parts_in c.args.program.now in
+    let m = c.args.stack.now in
+    let k = c.args.store.now in
+    let flat = g.M.LinearMem.bytes c.args.memory.now in
+    let most = g.M.LinearMem.limit c.args.memory.now in
+    let ready = g.M.LinearMem.ready c.args.memory.now in
+    let w = c.pop-index.result in
+    let e = back m c.pop-index.new.self w c.pop-index.ensures.taken in
+    let entry = ap (λ t. slice_get t w) (sym c.deref.ensures.value) ∙ c.in-Func.ensures in
+    let low = c.if-func-program.false in
+    let y : ℕ = c.in-Func.func - length p.hosts in
+    let same : c.in-Func.func ≡ length p.hosts + y = omega (arith, low) in
+    let r2 = subst (λ z. IsReady p code z k flat most (CallIndirect c.args.type_index)) e r in
+    let own = table_own r2.sound.stands w y (entry ∙ ap (λ x. Some (Some x)) same) in
+    subst (λ z. Found p ready z k flat most c.own_by_table.result) (sym e)
+    (found p ready (pushed (record m { words = c.pop-index.new.self }) w) k flat most c.own_by_table.result (rests_here r2 tt) (own_by_table_asks_nothing ready c.args.type_index w y own.0 r2 (entry ∙ ap (λ x. Some (Some x)) same) own.1))

@@ -40,8 +40,8 @@ code_of-code-requires c =
     let opens = opens_with q c.args.func c.args.args.now c.open.new.stack (c.args.func - length q.hosts) refl c.open.ensures in
     record { there = func_now (open_sound q c.args.func c.args.args.now c.open.new.stack opens can) }
 
-pub settle-machine-requires-clause-sound : goal.settle-machine-requires-clause-sound
-settle-machine-requires-clause-sound c =
+pub settle-machine-inside-requires-clause-sound : goal.settle-machine-inside-requires-clause-sound
+settle-machine-inside-requires-clause-sound c =
     let q = parts_in c.program_of-program.result in
     let can = subst (λ z. CanBegin z c.args.func c.args.args.now) (sym c.program_of-program.ensures.parts) c.requires in
     let opens = opens_with q c.args.func c.args.args.now c.open.new.stack (c.args.func - length q.hosts) refl c.open.ensures in
@@ -50,10 +50,10 @@ settle-machine-requires-clause-sound c =
 pub returns-clause-begun : goal.returns-clause-begun
 returns-clause-begun c =
     let q = parts_in c.program_of-program.result in
-    let m = running_with c.settle-machine.new.stack c.settle-machine.result in
+    let m = running_with c.settle-machine-inside.new.stack c.settle-machine-inside.result in
     let opens = opens_with q c.args.func c.args.args.now c.open.new.stack (c.args.func - length q.hosts) refl c.open.ensures in
     subst (λ z. Begins z c.args.func c.args.args.now m) c.program_of-program.ensures.parts
-    (begins_so q c.args.func c.args.args.now c.open.new.stack c.settle-machine.new.stack c.settle-machine.result opens c.settle-machine.ensures)
+    (begins_so q c.args.func c.args.args.now c.open.new.stack c.settle-machine-inside.new.stack c.settle-machine-inside.result opens c.settle-machine-inside.ensures)
 
 pub returns-clause-settled : goal.returns-clause-settled
 returns-clause-settled c =
@@ -61,5 +61,5 @@ returns-clause-settled c =
     let can = subst (λ z. CanBegin z c.args.func c.args.args.now) (sym c.program_of-program.ensures.parts) c.requires in
     let opens = opens_with q c.args.func c.args.args.now c.open.new.stack (c.args.func - length q.hosts) refl c.open.ensures in
     let sound = open_sound q c.args.func c.args.args.now c.open.new.stack opens can in
-    subst (λ z. IsSettledIn z (running_with c.settle-machine.new.stack c.settle-machine.result)) c.program_of-program.ensures.parts
-    (settled_with q c.open.new.stack c.settle-machine.new.stack c.settle-machine.result can.kept can.flat can.most (c.settle-machine.ensures can.kept can.flat can.most sound))
+    subst (λ z. IsSettledIn z (running_with c.settle-machine-inside.new.stack c.settle-machine-inside.result)) c.program_of-program.ensures.parts
+    (settled_with q c.open.new.stack c.settle-machine-inside.new.stack c.settle-machine-inside.result can.kept can.flat can.most (c.settle-machine-inside.ensures can.kept can.flat can.most sound))

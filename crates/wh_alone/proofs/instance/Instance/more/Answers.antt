@@ -1,4 +1,4 @@
-use Rattle.std.proofs.Common.{sym, subst}
+use Rattle.std.proofs.Common.{sym, subst, ◌∙◌}
 use Rattle.wh_machine.specs.Runs.{linked_parts, StoreStands, IsStanding}
 use Rattle.wh_alone.specs.Alone.{Plain, Goes}
 use Rattle.wh_alone.proofs.instance.Instance.more.Goals as goal
@@ -6,7 +6,7 @@ use Rattle.wh_alone.proofs.instance.Instance.more.Goals as goal
 pub invariant_of-self : goal.invariant_of-self
 invariant_of-self c =
     let a = c.self.invariant in
-    let st = a.standing c.if-not-self.false in
+    let st = a.standing (sym c.is_running.ensures ∙ c.if-not-is_running.false) in
     let x = c.run_on.ensures.went st.out st.inst st.cfg st.stands in
     let p = linked_parts c.self.inside.linked in
     record {
