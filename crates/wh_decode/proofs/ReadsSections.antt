@@ -8,7 +8,8 @@ use Rattle.wh_model.specs.declared.FaultKind.TheVariants.{UnknownByte, CountMism
 use Rattle.wh_model.specs.Grammar.{Grammar, ◌>>=◌ as ◌then◌, this_byte, exact_byte, Each, exactly, exactly_from}
 use Rattle.wh_model.specs.Leb.{u32}
 use Rattle.wh_model.specs.Syntax.{Module}
-use Rattle.wh_model.specs.Modules.{name, BeginsWith, custom, customs_then, section, section_or, part, EndBreaks, ends_with}
+use Rattle.wh_model.specs.Modules.{BeginsWith, custom, customs_then, section, section_or, part, EndBreaks, ends_with}
+use Rattle.wh_model.specs.Parts.{name}
 use Rattle.wh_leb.specs.declared.DecodeError.{DecodeError}
 use Rattle.wh_leb.specs.Reading.{◌>>=◌, fail, Reads, Reader, Anything}
 use Rattle.wh_leb.proofs.Combinators.{bind_ok, bind_err, ok_is, err_is, succeed, fails_at, chosen, after, inside, reads_then}

@@ -13,7 +13,8 @@ use Rattle.wh_model.specs.Syntax.{Op, unreachable, nop, br, br_if, br_table, ret
 use Rattle.wh_model.specs.Opcodes.{opcode, export_kind}
 use Rattle.wh_model.specs.Limits.{most_params, most_locals, most_labels, most_instructions, SmallInstr, SmallCode, SmallBody}
 use Rattle.wh_model.specs.Instructions.{blocktype, with_index, with_address, opening, operands, instr, expr}
-use Rattle.wh_model.specs.Modules.{valtype, functype, limits_by, limits, tabletype, globaltype, name, constant, importdesc_by, importdesc, «import», global, export, element, byte_vector, segment, runs, locals, func, code, codes, custom, section}
+use Rattle.wh_model.specs.Modules.{custom, section}
+use Rattle.wh_model.specs.Parts.{valtype, functype, limits_by, limits, tabletype, globaltype, name, constant, importdesc_by, importdesc, «import», global, export, element, byte_vector, segment, runs, locals, func, code, codes}
 
 pub record IsLimited {A : Type 0} (g : Grammar A) (S : A → Type 0) : Type 0 where
   pub loose : (x : A) (b : List ℕ) → g.within x b → g.spells x b × S x

@@ -18,9 +18,7 @@ mod stepping;
 mod store;
 mod variables;
 
-pub use control::code_of;
-pub use dispatch::turn;
-pub use machine::{Code, Machine, Program, Stack, Stepped, Turn};
+pub use machine::{Machine, Stepped};
 pub use memory::LinearMem;
 pub use opening::begin;
 pub use stepping::{run, step};

@@ -5,6 +5,7 @@ pub mod Syntax
 pub mod Opcodes
 pub mod Limits
 pub mod Instructions
+pub mod Parts
 pub mod Modules
 pub mod Spelling
 pub mod Nested
