@@ -5,6 +5,7 @@ pub mod Memories
 pub mod HostSteps
 pub mod Lookups
 pub mod Turning
+pub mod Dispatching
 pub mod Numerals
 pub mod Hosted
 pub mod OwnCalls
