@@ -1,5 +1,5 @@
 #!/usr/bin/env python3
-"""Builds the programs and writes table.txt, charges.txt, rows.txt in ../data and ../stdout. README.md says how, and with which tools."""
+"""Builds the programs and writes the tables in ../data and ../stdout. README.md says how, and with which tools."""
 import glob, os, re, subprocess, sys, tempfile
 
 from wasm import *
@@ -166,7 +166,8 @@ def main():
             write("../data/table.txt", table)
             write("../data/charges.txt", charges)
             write("../data/rows.txt", rows(folder))
-            write("../stdout", agreed(["table.txt", "charges.txt", "rows.txt"]))
+            write("../data/random.txt", run(sys.executable, "generate.py", "300", "64").splitlines())
+            write("../stdout", agreed(["table.txt", "charges.txt", "rows.txt", "random.txt"]))
 
 
 if __name__ == "__main__":
