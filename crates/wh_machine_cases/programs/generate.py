@@ -1,12 +1,12 @@
 #!/usr/bin/env python3
 """Random modules, and what calls of them give. `python3 generate.py SEED COUNT` prints a table (its form is in README.md) with
 so many modules. Outcomes are those of wasm-interp, and reference.py must come to them too; charges are reference.py's."""
-import os, random, re, subprocess, sys, tempfile
+import random, re, subprocess, sys, tempfile
 
 from make import LATER, run
 from reference import BOUNDS, EMPTY, OVERFLOW, TABLE_BOUNDS, TYPES, UNREACHABLE_TRAP, ZERO, Instance, outcome
 
-BUDGET, CALL_COST = 2000, 50
+BUDGET, CALL_COST, CALLS = 2000, 50, 8
 KINDS, GLOBALS = ["i32", "i64"], {"i32": "a", "i64": "b"}
 MESSAGES = {
     "unreachable executed": UNREACHABLE_TRAP,
@@ -40,8 +40,8 @@ DIGEST = """(func (export "digest") (result i64) (local $at i32) (local $sum i64
 
 
 class Function:
-    """The body of one function, in the text format. A method gives instructions that leave a word of the type `kind`, or none where
-    it is None; or it gives None, where the function has nothing to make them of."""
+    """The body of one function, in the text format. A method gives instructions that leave a word of the type `kind`, or none
+    where it is None; or it gives None, where the function has nothing to make them of."""
 
     def __init__(self, chance, types, functions, own):
         self.chance, self.types, self.functions = chance, types, functions
@@ -237,7 +237,7 @@ def module_text(chance):
         f'(data (i32.const {chance.choice([0, 100, 65536 - 64])}) "{written}")',
     ]
     lines += [Function(chance, types, functions, own).text(name, own) for name, own in functions.items()]
-    for place in range(8):
+    for place in range(CALLS):
         name = chance.choice([*functions])
         params, result = types[functions[name]]
         maker = Function(chance, types, functions, functions[name])
@@ -273,8 +273,9 @@ def lines_of(name, chance, folder):
     with open(binary, "rb") as file:
         data = file.read()
     yield f"module {name} {data.hex()}"
-    instance = Instance(data)
-    for export, said in interpreted(binary):
+    instance, answers = Instance(data), interpreted(binary)
+    assert len(answers) == CALLS + 1, (name, answers)
+    for export, said in answers:
         index = instance.module.exported(export)
         instance.begin(index, [])
         found = outcome(instance, instance.module.type_of(index)[1], instance.run(None))
