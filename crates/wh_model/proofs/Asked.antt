@@ -142,11 +142,12 @@ op_stops inst s (call_indirect t) a is ws need x (i, f, h, rest, e, entry, at, t
     let func : g ≡ f = cc (entry, entry2, index) in
     let same : k ≡ h = cc (at, at2, func) in
     call_stops s h a rest is ws need x asks (subst (λ z. CallStep z s a rest is ws (stopped s x)) same (subst (λ z. CallStep k s a z is ws (stopped s x)) args step))
-op_stops inst s (call_indirect t) a is ws need x (i, f, h, rest, e, entry, at, type, asks) (j, others, d, inr (inr (g, k, entry2, at2, inr (other, to)))) =
+op_stops inst s (call_indirect t) a is ws need x (i, f, h, rest, e, entry, at, type, asks) (j, others, d, inr (inr (g, k, entry2, at2, inr (type2, there, other, to)))) =
     let index : j ≡ i = cc (e, d) in
     let func : g ≡ f = cc (entry, entry2, index) in
     let same : h ≡ k = cc (at, at2, func) in
-    other (subst (λ z. slice_get inst.types t ≡ Some (signature z)) same type)
+    let named = subst (λ z. slice_get inst.types t ≡ Some (signature z)) same type in
+    other (cc (there, named))
 op_stops inst s unreachable a is ws need x asks step = asks
 op_stops inst s nop a is ws need x asks step = asks
 op_stops inst s (br l) a is ws need x asks step = asks

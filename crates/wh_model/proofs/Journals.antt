@@ -3,10 +3,10 @@ use Rattle.std.proofs.Common.{◌≡◌, ℕ, List, [], ◌∷◌, ◌++◌, ref
 use Rattle.std.specs.List.{AllByRecursion}
 use Rattle.wh_model.specs.Syntax.{FuncType, Body}
 use Rattle.wh_model.specs.Store.{own, Instance, Store}
-use Rattle.wh_model.specs.Configuration.{Config}
+use Rattle.wh_model.specs.Configuration.{Config, store_of}
 use Rattle.wh_model.specs.Reduction.{After}
 use Rattle.wh_model.specs.Instance.{Piece}
-use Rattle.wh_model.specs.Replay.{Call, store_of, Invocation, with_pieces, Ends, has_returned, has_trapped, has_written, was_cancelled, was_cancelled_writing, never_began, Standing, idle, pending, Stands, has_pieces, is_invoked, is_under_way, Replays, at_rest, ended, at_work}
+use Rattle.wh_model.specs.Replay.{Call, Invocation, with_pieces, Ends, has_returned, has_trapped, has_written, was_cancelled, was_cancelled_writing, never_began, Standing, idle, pending, Stands, has_pieces, is_invoked, is_under_way, Replays, at_rest, ended, at_work}
 use Rattle.wh_model.specs.ReplayLaws.{OneEnd, HistoryBefore, HistorySplits}
 use Rattle.wh_model.proofs.Chains.{one_after}
 

@@ -63,13 +63,13 @@ traps_same (load_beyond p) (load_beyond q) = refl
 traps_same (store_beyond e p) (store_beyond u q) = refl
 traps_same (no_entry p) (no_entry q) = refl
 traps_same (no_entry p) (empty_entry q) = absurd (cc (p, q))
-traps_same (no_entry p) (other_type q x y) = absurd (cc (p, q))
+traps_same (no_entry p) (other_type q x y z) = absurd (cc (p, q))
 traps_same (empty_entry p) (no_entry q) = absurd (cc (p, q))
 traps_same (empty_entry p) (empty_entry q) = refl
-traps_same (empty_entry p) (other_type q x y) = absurd (cc (p, q))
-traps_same (other_type p x y) (no_entry q) = absurd (cc (p, q))
-traps_same (other_type p x y) (empty_entry q) = absurd (cc (p, q))
-traps_same (other_type p x y) (other_type q u v) = refl
+traps_same (empty_entry p) (other_type q x y z) = absurd (cc (p, q))
+traps_same (other_type p x y z) (no_entry q) = absurd (cc (p, q))
+traps_same (other_type p x y z) (empty_entry q) = absurd (cc (p, q))
+traps_same (other_type p x y z) (other_type q u v w) = refl
 
 entry_same : (inst : Instance) (s : Store) (i : ℕ) {x y : ℕ} {h k : FuncInst} → slice_get s.table i ≡ Some (Some x) → slice_get s.table i ≡ Some (Some y) → slice_get inst.funcs x ≡ Some h → slice_get inst.funcs y ≡ Some k → h ≡ k
 entry_same inst s i p q u v = cc
@@ -82,7 +82,10 @@ calls_or_traps : {inst : Instance} {s : Store} {vs us : List Value} {js is : Cod
 calls_or_traps (by_call p) y = elim y [ ]
 calls_or_traps (by_indirect p u a) (no_entry q) = absurd (cc (p, q))
 calls_or_traps (by_indirect p u a) (empty_entry q) = absurd (cc (p, q))
-calls_or_traps {inst = inst} {s = s} (by_indirect {i = i} p u a) (other_type q v b) = b (a ∙ ap (λ k. Some (signature k)) (entry_same inst s i p q u v))
+calls_or_traps {inst = inst} {s = s} (by_indirect {i = i} p u a) (other_type q v b e) =
+    let same = entry_same inst s i p q u v in
+    let there = sym b ∙ a in
+    e (cc (there, same))
 
 calls_or_rewrites : {inst : Instance} {k : ℕ} {s : Store} {vs us : List Value} {js is : Code} {h : FuncInst} {t : Term} → Calls inst s vs js h us is → Rewrites vs js k t → ⊥
 calls_or_rewrites (by_call p) y = elim y [ ]
@@ -148,12 +151,12 @@ base_same x (pure y) = elim y [ ]
 base_same {s = s} {f = f} (get_local {v = v} {vs = vs} {is = is} p) (get_local {v = w} q) =
     let e : v ≡ w = cc in
     (refl, ap (λ u. config s f (code (u ∷ vs) is)) e)
-base_same set_local set_local = (refl, refl)
-base_same tee_local tee_local = (refl, refl)
+base_same (set_local p) (set_local q) = (refl, refl)
+base_same (tee_local p) (tee_local q) = (refl, refl)
 base_same {s = s} {f = f} (get_global {v = v} {vs = vs} {is = is} p) (get_global {v = w} q) =
     let e : v ≡ w = cc in
     (refl, ap (λ u. config s f (code (u ∷ vs) is)) e)
-base_same set_global set_global = (refl, refl)
+base_same (set_global p) (set_global q) = (refl, refl)
 base_same (load_bytes p) (load_bytes q) = (refl, refl)
 base_same (store_bytes {n = n} e p) (store_bytes {n = n2} u q) = let h : n ≡ n2 = cc in rw h (refl, refl)
 base_same size_pages size_pages = (refl, refl)

@@ -86,7 +86,7 @@ module _ (inst : Instance) where
   traps_down n f ls ws (store_beyond {i = i} {n = m} {vs = vs} e p) = (refl, (i, m, vs, cc e, inr (p, refl)))
   traps_down n f ls ws (no_entry {i = i} {vs = vs} p) = (refl, (i, vs, refl, inl (p, refl)))
   traps_down n f ls ws (empty_entry {i = i} {vs = vs} p) = (refl, (i, vs, refl, inr (inl (p, refl))))
-  traps_down n f ls ws (other_type {i = i} {x = x} {h = h} {vs = vs} p q t) = (refl, (i, vs, refl, inr (inr (x, h, p, q, inr (t, refl)))))
+  traps_down n f ls ws (other_type {i = i} {x = x} {h = h} {type = type} {vs = vs} p q t u) = (refl, (i, vs, refl, inr (inr (x, h, p, q, inr (type, t, u, refl)))))
 
   invokes_down : (n : ℕ) (ls : List Label) (ws : List Activation) (vs : List Value) (js : Code) {d : ℕ} {s : Store} {f rest : List Value} {is : Code} {h : FuncInst} {r : Config} → d ≡ suc (length ws) → Invokes d s f h rest is r
       → CallStep h s (record { operands = vs; code = js; labels = ls; locals = f; results = n }) rest is ws (focus r n ls ws)
@@ -112,10 +112,10 @@ module _ (inst : Instance) where
   base_down n {s = s} {f = f} ls ws e (pure x) = pure_down n s f ls ws x
   base_down n {f = f} ls ws e (traps x) = traps_down n f ls ws x
   base_down n ls ws e (get_local {v = v} p) = (refl, (v, p, refl))
-  base_down n ls ws e (set_local {v = v} {vs = vs}) = (refl, (v, vs, refl, refl))
-  base_down n ls ws e (tee_local {v = v} {vs = vs}) = (refl, (v, vs, refl, refl))
+  base_down n ls ws e (set_local {v = v} {vs = vs} p) = (refl, (v, vs, refl, p, refl))
+  base_down n ls ws e (tee_local {v = v} {vs = vs} p) = (refl, (v, vs, refl, p, refl))
   base_down n ls ws e (get_global {v = v} p) = (refl, (v, p, refl))
-  base_down n ls ws e (set_global {v = v} {vs = vs}) = (refl, (v, vs, refl, refl))
+  base_down n ls ws e (set_global {v = v} {vs = vs} p) = (refl, (v, vs, refl, p, refl))
   base_down n ls ws e (load_bytes {i = i} {vs = vs} p) = (refl, (i, vs, refl, inl (p, refl)))
   base_down n ls ws e (store_bytes {i = i} {n = m} {vs = vs} q p) = (refl, (i, m, vs, cc q, inl (p, refl)))
   base_down n ls ws e size_pages = (refl, refl)

@@ -88,14 +88,14 @@ module _ (inst : Instance) (s : Store) (f : List Value) (n : ℕ) (ls : List Lab
   op_up (call_indirect y) vs is c (i, us, e, w) =
       ⊎_elim (λ u. rw (e, u.1) (trap_up (traps (no_entry u.0))))
       (λ v. ⊎_elim (λ u. rw (e, u.1) (trap_up (traps (empty_entry u.0))))
-      (λ u. ⊎_elim (λ w. rw e (call_up u.1 vs (value I32 i ∷ us) us (plain (call_indirect y) is) is c (by_indirect u.2 u.3 w.0) w.1)) (λ w. rw (e, w.1) (trap_up (traps (other_type u.2 u.3 w.0)))) u.4) v) w
+      (λ u. ⊎_elim (λ w. rw e (call_up u.1 vs (value I32 i ∷ us) us (plain (call_indirect y) is) is c (by_indirect u.2 u.3 w.0) w.1)) (λ w. rw (e, w.3) (trap_up (traps (other_type u.2 u.3 w.1 w.2)))) u.4) v) w
   op_up drop_operand vs is c (v, us, e, q) = rw (e, q) (base_up (pure drop_top))
   op_up select vs is c (i, v, w, us, e, x) = ⊎_elim (λ u. rw (e, u.1) (base_up (pure (select_first u.0)))) (λ u. rw (e, u.1) (base_up (pure (select_second u.0)))) x
   op_up (local_get x) vs is c (v, e, q) = rw q (base_up (get_local e))
-  op_up (local_set x) vs is c (v, us, e, q) = rw (e, q) (base_up set_local)
-  op_up (local_tee x) vs is c (v, us, e, q) = rw (e, q) (base_up tee_local)
+  op_up (local_set x) vs is c (v, us, e, low, q) = rw (e, q) (base_up (set_local low))
+  op_up (local_tee x) vs is c (v, us, e, low, q) = rw (e, q) (base_up (tee_local low))
   op_up (global_get x) vs is c (v, e, q) = rw q (base_up (get_global e))
-  op_up (global_set x) vs is c (v, us, e, q) = rw (e, q) (base_up set_global)
+  op_up (global_set x) vs is c (v, us, e, low, q) = rw (e, q) (base_up (set_global low))
   op_up (load op align offset) vs is c (i, us, e, w) = ⊎_elim (λ u. rw (e, u.1) (base_up (load_bytes u.0))) (λ u. rw (e, u.1) (trap_up (traps (load_beyond u.0)))) w
   op_up (store op align offset) vs is c (i, m, us, e, w) = ⊎_elim (λ u. rw (e, u.1) (base_up (store_bytes refl u.0))) (λ u. rw (e, u.1) (trap_up (traps (store_beyond refl u.0)))) w
   op_up memory_size vs is c q = rw q (base_up size_pages)

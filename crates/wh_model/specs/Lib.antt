@@ -27,3 +27,4 @@ pub mod ReplayLaws
 pub mod Worked
 pub mod Memory
 pub mod Asking
+pub mod Taking

@@ -4,7 +4,7 @@ use Rattle.std.specs.List.{AllByRecursion}
 use Rattle.wh_model.specs.declared.Trap.{Trap}
 use Rattle.wh_model.specs.Syntax.{nothing, FuncType, Body, Module}
 use Rattle.wh_model.specs.Store.{Value, type_of, own, Instance, Store, written}
-use Rattle.wh_model.specs.Configuration.{code, called, Config, config, trapped}
+use Rattle.wh_model.specs.Configuration.{code, called, Config, config, trapped, store_of}
 use Rattle.wh_model.specs.Reduction.{Reduces, After}
 use Rattle.wh_model.specs.Instance.{Parameters, Piece, begins, IsInitial}
 
@@ -38,10 +38,6 @@ with_pieces s (p ∷ ps) = with_pieces (record s { bytes = written s.bytes p.at 
 abbrev pub Invocation : Instance → Store → Call → Config → Type 0
 Invocation inst s call c = (x : ℕ) × (type : FuncType) × (body : Body) × (call.func ≡ Some x) × (slice_get inst.funcs x ≡ Some (own type body))
     × (map type_of call.args ≡ type.params) × (c ≡ config s [] (called type body (reverse call.args) [] nothing))
-
-abbrev pub store_of : Config → Store
-store_of (config s f t) = s
-store_of (trapped s x) = s
 
 -- a call that has ended leads from one store to another; these pieces are what it has to write first
 pub data Ends (inst : Instance) : Store → List Piece → Call → Store → Type 0 where
