@@ -1,5 +1,5 @@
 -- What holds of instantiation and of journals.
-use Rattle.std.specs.Prelude.{◌≡◌, ◌+◌, ◌%◌, ◌<◌, ◌≤◌, length, List, [], ◌∷◌, ◌++◌}
+use Rattle.std.specs.Prelude.{◌≡◌, ℕ, ◌+◌, ◌%◌, ◌<◌, ◌≤◌, length, List, [], ◌∷◌, ◌++◌}
 use Rattle.std.specs.List.{AllByRecursion}
 use Rattle.wh_model.specs.Syntax.{Module}
 use Rattle.wh_model.specs.Store.{Instance, Store}
@@ -32,6 +32,10 @@ InOnePage p = (0 < length p.items) × (p.at % 4096 + length p.items ≤ 4096)
 
 abbrev pub FragmentsInPages : Type 0
 FragmentsInPages = (ps : List Piece) → AllByRecursion InOnePage (fragments ps)
+
+-- they end where the segments may
+abbrev pub FragmentsWithin : Type 0
+FragmentsWithin = (n : ℕ) (ps : List Piece) → Within n ps → Within n (fragments ps)
 
 -- written one after the other, the fragments are the segments
 abbrev pub FragmentsWrite : Type 0
