@@ -9,7 +9,7 @@ use Rattle.wh_model.specs.Replay.{with_pieces}
 use Rattle.wh_model.specs.Instance.{begins, first_size, IsInitial, needs_more, out_of_bounds, in_bounds, Parameters, Beginning}
 use Rattle.wh_model.specs.Syntax.{Module}
 use Rattle.wh_model.specs.Store.{Instance}
-use Rattle.wh_model.specs.ReplayLaws.{InOnePage, FragmentsInPages, FragmentsWrite, LaterAtMultiples, CutAtMultiples, CutOfThree, BeginningWrites}
+use Rattle.wh_model.specs.ReplayLaws.{InOnePage, FragmentsInPages, FragmentsWithin, FragmentsWrite, LaterAtMultiples, CutAtMultiples, CutOfThree, BeginningWrites}
 
 -- ---- writing
 
@@ -84,13 +84,32 @@ cut_in_pages : (at : ℕ) (items : List ℕ) → AllByRecursion InOnePage (cut_u
 cut_in_pages at [] = tt
 cut_in_pages at (b ∷ bs) = onto_in_page at b (length bs) (cut_up (at + 1) bs) (cut_begins (at + 1) bs) (cut_in_pages (at + 1) bs)
 
-all_append : (ps qs : List Piece) → AllByRecursion InOnePage ps → AllByRecursion InOnePage qs → AllByRecursion InOnePage (ps ++ qs)
-all_append [] qs x y = y
-all_append (p ∷ ps) qs x y = (x.0, all_append ps qs x.1 y)
+all_append : (P : Piece → Type 0) (ps qs : List Piece) → AllByRecursion P ps → AllByRecursion P qs → AllByRecursion P (ps ++ qs)
+all_append P [] qs x y = y
+all_append P (p ∷ ps) qs x y = (x.0, all_append P ps qs x.1 y)
 
 pub fragments_in_pages : FragmentsInPages
 fragments_in_pages [] = tt
-fragments_in_pages (p ∷ ps) = all_append (cut_up p.at p.items) (fragments ps) (cut_in_pages p.at p.items) (fragments_in_pages ps)
+fragments_in_pages (p ∷ ps) = all_append InOnePage (cut_up p.at p.items) (fragments ps) (cut_in_pages p.at p.items) (fragments_in_pages ps)
+
+-- ---- where they end
+
+onto_within : (n at b most : ℕ) (ps : List Piece) → Begins (at + 1) most ps → at + 1 ≤ n → Within n ps → Within n (onto_piece at b ps)
+onto_within n at b most [] h low w = (low, tt)
+onto_within n at b most (p ∷ ps) h low w = by_case (p.at % 4096 == 0)
+  where
+    by_case : (c : Bool) → Within n (either c at b p ps)
+    by_case true = (low, w)
+    by_case false = (let begins = h.0 in let ends = w.0 in omega (arith, begins, ends), w.1)
+
+cut_within : (n at : ℕ) (items : List ℕ) → at + length items ≤ n → Within n (cut_up at items)
+cut_within n at [] low = tt
+cut_within n at (b ∷ bs) low =
+    onto_within n at b (length bs) (cut_up (at + 1) bs) (cut_begins (at + 1) bs) (omega (arith, low)) (cut_within n (at + 1) bs (omega (arith, low)))
+
+pub fragments_within : FragmentsWithin
+fragments_within n [] h = tt
+fragments_within n (p ∷ ps) h = all_append (λ q. q.at + length q.items ≤ n) (cut_up p.at p.items) (fragments ps) (cut_within n p.at p.items h.0) (fragments_within n ps h.1)
 
 -- ---- what is written
 

@@ -1,11 +1,10 @@
 -- Histories put before calls, and taken away.
-use Rattle.std.proofs.Common.{◌≡◌, ℕ, Bool, true, false, List, [], ◌∷◌, ◌++◌, refl, sym, ap, subst, ◌∙◌}
+use Rattle.std.proofs.Common.{◌≡◌, List, [], ◌∷◌, ◌++◌, refl, sym, subst}
 use Rattle.std.specs.Bool.{MatchBool}
 use Rattle.std.specs.List.{AllByRecursion}
-use Rattle.wh_model.specs.Syntax.{Module}
 use Rattle.wh_model.specs.Store.{Instance, Store}
-use Rattle.wh_model.specs.Instance.{Parameters, Piece, begins, IsInitial}
-use Rattle.wh_model.specs.Replay.{Call, pending, fails, Ends, Standing, idle, Stands, has_pieces, is_invoked, is_under_way, Replays, at_rest, ended, at_work, NamesFunction, IsDead, IsNotDead, IsJournal, Replay}
+use Rattle.wh_model.specs.Instance.{Piece}
+use Rattle.wh_model.specs.Replay.{Call, pending, Ends, Standing, idle, Stands, has_pieces, is_invoked, is_under_way, Replays, at_rest, ended, at_work, NamesFunction, IsDead, IsNotDead}
 use Rattle.wh_model.specs.ReplayLaws.{HistoryBefore, HistorySplits, JournalGrows}
 use Rattle.wh_model.proofs.Journals.{from_beginning}
 

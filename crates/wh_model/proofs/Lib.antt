@@ -17,3 +17,4 @@ pub mod Worked
 pub mod WorkedDepth
 pub mod Fragments
 pub mod Asked
+pub mod Taken

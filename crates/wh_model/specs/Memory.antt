@@ -14,6 +14,11 @@ reading at length = record { at = at; length = length; writes = false }
 abbrev pub writing : ℕ → ℕ → Need
 writing at length = record { at = at; length = length; writes = true }
 
+-- the bytes couldn't be had
+abbrev pub IsWaiting : Got → Type 0
+IsWaiting (NotReady need) = Unit {0}
+IsWaiting _ = ⊥
+
 -- A read into so many bytes: they are those of the memory, and were ready; or the memory ends before; or they weren't ready.
 abbrev pub Loads : (Need → Type 0) → List ℕ → ℕ → List ℕ → Got → List ℕ → Type 0
 Loads ready bytes at old Value new = (at + length old ≤ length bytes) × (new ≡ bytes_at bytes at (length old)) × ready (reading at (length old))

@@ -1,5 +1,5 @@
 -- What holds of instantiation and of journals.
-use Rattle.std.specs.Prelude.{◌≡◌, ◌+◌, ◌*◌, ◌%◌, ◌<◌, ◌≤◌, ◌⊎◌, ℕ, false, length, List, [], ◌∷◌, ◌++◌, map, take, drop, slice_get, Some, None}
+use Rattle.std.specs.Prelude.{◌≡◌, ◌+◌, ◌%◌, ◌<◌, ◌≤◌, ◌⊎◌, ℕ, false, length, List, [], ◌∷◌, ◌++◌, map, take, slice_get, Some}
 use Rattle.std.specs.List.{AllByRecursion}
 use Rattle.wh_model.specs.declared.Trap.{Trap}
 use Rattle.wh_model.specs.declared.ValType.{ValType}
@@ -154,6 +154,10 @@ CutAtMultiples = (at : ℕ) (items : List ℕ) → LaterAtMultiples (cut_up at i
 -- three bytes from 4094 on are two fragments
 abbrev pub CutOfThree : Type 0
 CutOfThree = (x y z : ℕ) → cut_up 4094 (x ∷ y ∷ z ∷ []) ≡ record { at = 4094; items = x ∷ y ∷ [] } ∷ record { at = 4096; items = z ∷ [] } ∷ []
+
+-- they end where the segments may
+abbrev pub FragmentsWithin : Type 0
+FragmentsWithin = (n : ℕ) (ps : List Piece) → Within n ps → Within n (fragments ps)
 
 -- written one after the other, the fragments are the segments
 abbrev pub FragmentsWrite : Type 0

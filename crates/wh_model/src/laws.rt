@@ -2,7 +2,7 @@
 
 ghost use Rattle.wh_model.specs.Laws.{OneReduction, SmallCharges, UnchargedEnd, Settles, OneAfter, AfterJoins, AfterSplits, OneNeed};
 ghost use Rattle.wh_model.specs.FocusLaws.{Agrees, AfterAgrees, ChargedSettles};
-ghost use Rattle.wh_model.specs.ReplayLaws.{OneBeginning, OneEnd, OneStanding, HistoryBefore, HistorySplits, JournalGrows, StartIsCalled, FuelSuffices, ArgumentsFit, RunningGoesOn, OthersWait, DeadDoNothing, ReturnedHasWritten, PiecesInOrder, CancelledStays, DoneReplays, TrappedReplays, FuelReplays, FragmentsInPages, CutAtMultiples, CutOfThree, FragmentsWrite, BeginningWrites};
+ghost use Rattle.wh_model.specs.ReplayLaws.{OneBeginning, OneEnd, OneStanding, HistoryBefore, HistorySplits, JournalGrows, StartIsCalled, FuelSuffices, ArgumentsFit, RunningGoesOn, OthersWait, DeadDoNothing, ReturnedHasWritten, PiecesInOrder, CancelledStays, DoneReplays, TrappedReplays, FuelReplays, FragmentsInPages, FragmentsWithin, CutAtMultiples, CutOfThree, FragmentsWrite, BeginningWrites};
 
 /// What holds of reduction. The function does nothing; what it ensures are the laws.
 pub fn execution_holds()
@@ -45,6 +45,7 @@ pub fn journals_hold()
     ensures trapped_replays { TrappedReplays }
     ensures fuel_replays { FuelReplays }
     ensures fragments_in_pages { FragmentsInPages }
+    ensures fragments_within { FragmentsWithin }
     ensures cut_at_multiples { CutAtMultiples }
     ensures cut_of_three { CutOfThree }
     ensures fragments_write { FragmentsWrite }

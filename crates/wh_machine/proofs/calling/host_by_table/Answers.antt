@@ -50,7 +50,7 @@ returns-then-not-host_has_type-clause-turned g c code x r entry at =
     let w = c.args.index in
     let pm = pushed m w in (
       (λ cx inst out s a ws st.
-          (indirect_stops inst cx (funcs_in p) out (calls_of pm) s m.frame a ws st.running y (here r) w m.words refl).2 x (host c.args.func) (table_named st w x entry)
+          (indirect_stops inst cx (funcs_in p) out (calls_of pm) s m.frame a ws st.running y (here r) st.instance.program.types w m.words refl).2 x (host c.args.func) (table_named st w x entry)
           (host_at cx inst p.hosts (funcs_in p) x c.args.func st.instance.program at)
           (λ e. c.if-not-host_has_type.ensures (ap (λ ts. slice_get ts y) (sym st.instance.types) ∙ e))),
       refl,

@@ -37,7 +37,7 @@ returns-then-not-own_has_type c code k flat most w r entry =
     let x : ℕ = length p.hosts + c.args.func in
     let g = table_own r.sound.stands w c.args.func entry in (
       (λ cx inst out s a ws st.
-          (indirect_stops inst cx (funcs_in p) out (calls_of pm) s m.frame a ws st.running y (here r) w m.words refl).2 x (own g.0.type g.0.body) (table_named st w x entry)
+          (indirect_stops inst cx (funcs_in p) out (calls_of pm) s m.frame a ws st.running y (here r) st.instance.program.types w m.words refl).2 x (own g.0.type g.0.body) (table_named st w x entry)
           (own_at cx inst p.hosts (funcs_in p) x c.args.func g.0 st.instance.program g.1 refl)
           (λ e. c.if-not-own_has_type.ensures g.0 g.1 (ap (λ ts. slice_get ts y) (sym st.instance.types) ∙ e))),
       refl,

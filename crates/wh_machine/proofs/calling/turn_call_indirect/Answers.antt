@@ -29,7 +29,7 @@ pub returns-in-Outside-clause-turned : goal.returns-in-Outside-clause-turned
 returns-in-Outside-clause-turned g c code r =
     let m = c.args.stack.now in (
       (λ cx inst out s a ws st.
-          (indirect_stops inst cx (funcs_in (parts_in c.args.program.now)) out (calls_of m) s m.frame a ws st.running c.args.type_index (here r) c.pop-index.result c.pop-index.new.self c.pop-index.ensures.taken).0 (ap (λ t. slice_get t c.pop-index.result) st.store.table ∙ ap (λ t. slice_get t c.pop-index.result) (sym c.deref.ensures.value) ∙ c.in-Outside.ensures)),
+          (indirect_stops inst cx (funcs_in (parts_in c.args.program.now)) out (calls_of m) s m.frame a ws st.running c.args.type_index (here r) st.instance.program.types c.pop-index.result c.pop-index.new.self c.pop-index.ensures.taken).0 (ap (λ t. slice_get t c.pop-index.result) st.store.table ∙ ap (λ t. slice_get t c.pop-index.result) (sym c.deref.ensures.value) ∙ c.in-Outside.ensures)),
       refl,
       refl,
     )
@@ -38,7 +38,7 @@ pub returns-in-Empty-clause-turned : goal.returns-in-Empty-clause-turned
 returns-in-Empty-clause-turned g c code r =
     let m = c.args.stack.now in (
       (λ cx inst out s a ws st.
-          (indirect_stops inst cx (funcs_in (parts_in c.args.program.now)) out (calls_of m) s m.frame a ws st.running c.args.type_index (here r) c.pop-index.result c.pop-index.new.self c.pop-index.ensures.taken).1 (ap (λ t. slice_get t c.pop-index.result) st.store.table ∙ ap (λ t. slice_get t c.pop-index.result) (sym c.deref.ensures.value) ∙ c.in-Empty.ensures)),
+          (indirect_stops inst cx (funcs_in (parts_in c.args.program.now)) out (calls_of m) s m.frame a ws st.running c.args.type_index (here r) st.instance.program.types c.pop-index.result c.pop-index.new.self c.pop-index.ensures.taken).1 (ap (λ t. slice_get t c.pop-index.result) st.store.table ∙ ap (λ t. slice_get t c.pop-index.result) (sym c.deref.ensures.value) ∙ c.in-Empty.ensures)),
       refl,
       refl,
     )

@@ -1,7 +1,7 @@
 use Rattle.wh_model.proofs.Instance.{one_beginning}
 use Rattle.wh_model.proofs.Journals.{one_end, one_standing, start_is_called, fuel_suffices, arguments_fit, running_goes_on, others_wait, dead_do_nothing, returned_has_written, pieces_in_order, cancelled_stays, done_replays, trapped_replays, fuel_replays}
 use Rattle.wh_model.proofs.Histories.{history_before, history_splits, journal_grows}
-use Rattle.wh_model.proofs.Fragments.{fragments_in_pages, cut_at_multiples, cut_of_three, fragments_write, beginning_writes}
+use Rattle.wh_model.proofs.Fragments.{fragments_in_pages, fragments_within, cut_at_multiples, cut_of_three, fragments_write, beginning_writes}
 use Rattle.wh_model.proofs.laws.journals_hold.Goals as goal
 
 pub returns-clause-one_beginning : goal.returns-clause-one_beginning
@@ -72,3 +72,6 @@ returns-clause-fragments_write c = fragments_write
 
 pub returns-clause-beginning_writes : goal.returns-clause-beginning_writes
 returns-clause-beginning_writes c = beginning_writes
+
+pub returns-clause-fragments_within : goal.returns-clause-fragments_within
+returns-clause-fragments_within c = fragments_within
