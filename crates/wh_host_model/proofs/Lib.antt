@@ -1,3 +1,4 @@
+pub mod Beginnings
 pub mod FrameLemmas
 pub mod LinkingLemmas
 pub mod PageLemmas

@@ -5,6 +5,9 @@
 
 ghost use Rattle.std.specs.Prelude.{◌≤◌, ◌<◌};
 
+mod laws;
+
+pub use laws::linking_holds;
 use wh_model::HostFunc;
 
 /// A global that the host offers for import, in its module `host`. It is never written; the owner of an instance gives its
