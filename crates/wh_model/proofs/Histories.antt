@@ -5,6 +5,7 @@ use Rattle.std.specs.List.{AllByRecursion}
 use Rattle.wh_model.specs.Store.{Instance, Store}
 use Rattle.wh_model.specs.Instance.{Piece}
 use Rattle.wh_model.specs.Replay.{Call, pending, Ends, Standing, idle, Stands, has_pieces, is_invoked, is_under_way, Replays, at_rest, ended, at_work, NamesFunction, IsDead, IsNotDead}
+use Rattle.wh_model.specs.Histories.{Past, none_yet, one_more}
 use Rattle.wh_model.specs.ReplayLaws.{HistoryBefore, HistorySplits, JournalGrows}
 use Rattle.wh_model.proofs.Journals.{from_beginning}
 
@@ -54,3 +55,13 @@ journal_grows m p inst s s2 ps start xs calls z initial lives names alive (given
       },
       (inst, s, ps, initial, history_before inst s s2 ps start xs calls z r2 y),
     )
+
+-- ---- calls that have ended, and those behind them
+
+pub past_then : {inst : Instance} {s s2 s3 : Store} {ps ps2 ps3 : List Piece} {xs ys : List Call} → Past inst s ps xs s2 ps2 → Past inst s2 ps2 ys s3 ps3 → Past inst s ps (xs ++ ys) s3 ps3
+past_then none_yet q = q
+past_then (one_more e r) q = one_more e (past_then r q)
+
+pub replays_then : {inst : Instance} {s s2 : Store} {ps ps2 : List Piece} {xs ys : List Call} {z : Standing} → Past inst s ps xs s2 ps2 → Replays inst s2 ps2 ys z → Replays inst s ps (xs ++ ys) z
+replays_then none_yet q = q
+replays_then (one_more e r) q = ended e (replays_then r q)

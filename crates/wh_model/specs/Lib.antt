@@ -23,6 +23,7 @@ pub mod FocusSteps
 pub mod FocusLaws
 pub mod Instance
 pub mod Replay
+pub mod Histories
 pub mod ReplayLaws
 pub mod Worked
 pub mod Memory
