@@ -8,3 +8,4 @@ pub mod Hosting
 pub mod Entering
 pub mod Runs
 pub mod Opening
+pub mod Waiting
