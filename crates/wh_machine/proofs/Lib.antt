@@ -17,3 +17,6 @@ pub mod Opened
 pub mod Instances
 pub mod Finding
 pub mod Finds
+pub mod ProgressOperands
+pub mod ProgressCalls
+pub mod Progress

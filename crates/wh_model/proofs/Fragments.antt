@@ -1,10 +1,15 @@
 -- Fragments lie in one page each, and together they are the segments.
-use Rattle.std.proofs.Common.{◌≡◌, ℕ, zero, suc, ◌+◌, ◌%◌, ◌==◌, ◌<◌, ◌≤◌, Bool, true, false, List, [], ◌∷◌, ◌++◌, length, refl, sym, ap, subst, arith, ◌∙◌, if◌then◌else◌, take-append-drop, length-append, length-take, length-drop}
+use Rattle.std.proofs.Common.{◌≡◌, ℕ, zero, suc, ◌+◌, ◌*◌, ◌%◌, ◌==◌, ◌<◌, ◌≤◌, map, Bool, true, false, List, [], ◌∷◌, ◌++◌, length, refl, sym, ap, subst, arith, ◌∙◌, if◌then◌else◌, take-append-drop, length-append, length-take, length-drop}
 use Rattle.std.specs.List.{AllByRecursion}
 use Rattle.wh_model.specs.Store.{Store, written}
-use Rattle.wh_model.specs.Instance.{Piece, onto_piece, cut_up, fragments, Within}
+use Rattle.std.proofs.lemmas.Bool.{eqb-true}
+use Rattle.std.proofs.lemmas.List.{length-replicate}
+use Rattle.wh_model.specs.Instance.{Piece, Placed, onto_piece, cut_up, fragments, Within}
 use Rattle.wh_model.specs.Replay.{with_pieces}
-use Rattle.wh_model.specs.ReplayLaws.{InOnePage, FragmentsInPages, FragmentsWithin, FragmentsWrite}
+use Rattle.wh_model.specs.Instance.{begins, first_size, IsInitial, needs_more, out_of_bounds, in_bounds, Parameters, Beginning}
+use Rattle.wh_model.specs.Syntax.{Module}
+use Rattle.wh_model.specs.Store.{Instance}
+use Rattle.wh_model.specs.ReplayLaws.{InOnePage, FragmentsInPages, FragmentsWithin, FragmentsWrite, LaterAtMultiples, CutAtMultiples, CutOfThree, BeginningWrites}
 
 -- ---- writing
 
@@ -135,3 +140,41 @@ fragments_write s (p ∷ ps) h =
     let same = length-written s.bytes p.items p.at h.0 in
     with_append s (cut_up p.at p.items) (fragments ps) ∙ ap (λ (w : Store). with_pieces w (fragments ps)) (cut_writes s p.at p.items h.0)
     ∙ fragments_write (over s p.at p.items) ps (subst (λ n. Within n ps) (sym same) h.1)
+
+-- ---- where a segment is cut
+
+onto_later : (at b : ℕ) (ps : List Piece) → LaterAtMultiples ps → LaterAtMultiples (onto_piece at b ps)
+onto_later at b [] h = tt
+onto_later at b (p ∷ ps) h = by_case (p.at % 4096 == 0) refl
+  where
+    by_case : (c : Bool) → (p.at % 4096 == 0) ≡ c → LaterAtMultiples (either c at b p ps)
+    by_case true e = (eqb-true (p.at % 4096) 0 e, h)
+    by_case false e = h
+
+pub cut_at_multiples : CutAtMultiples
+cut_at_multiples at [] = tt
+cut_at_multiples at (b ∷ bs) = onto_later at b (cut_up (at + 1) bs) (cut_at_multiples (at + 1) bs)
+
+pub cut_of_three : CutOfThree
+cut_of_three x y z = refl
+
+-- ---- what an instance has to write
+
+writes_segments : {m : Module} {p : Parameters} {b : Beginning} → IsInitial m p b → (inst : Instance) (s : Store) (ps : List Piece) → b ≡ begins inst s ps
+    → (segments : List Piece) × Placed s.globals (map (λ d. (d.offset, d.init)) m.segments) segments × (with_pieces s ps ≡ with_pieces s segments)
+writes_segments (needs_more x) inst s ps e = absurd (cc e)
+writes_segments (out_of_bounds q r t) inst s ps e = absurd (cc e)
+writes_segments {m = m} (in_bounds {globals = gs} {segments = ds} q r t u) inst s ps e =
+    let store = stored e in
+    let pieces : fragments ds ≡ ps = cc e in
+    let size : length s.bytes ≡ first_size m.memories * 65536 = ap (λ (w : Store). length w.bytes) (sym store) ∙ length-replicate {A = ℕ} (first_size m.memories * 65536) 0 in (
+      ds,
+      subst (λ (w : Store). Placed w.globals (map (λ d. (d.offset, d.init)) m.segments) ds) store r.segments_at,
+      ap (with_pieces s) (sym pieces) ∙ fragments_write s ds (subst (λ n. Within n ds) (sym size) u),
+    )
+  where
+    stored : {inst inst2 : Instance} {s s2 : Store} {ps ps2 : List Piece} → begins inst s ps ≡ begins inst2 s2 ps2 → s ≡ s2
+    stored e = cc e
+
+pub beginning_writes : BeginningWrites
+beginning_writes m p inst s ps x = writes_segments x inst s ps refl

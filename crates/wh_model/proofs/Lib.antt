@@ -9,7 +9,9 @@ pub mod Chains
 pub mod StepsReduce
 pub mod ReductionsStep
 pub mod Agrees
+pub mod Opened
 pub mod Journals
+pub mod Histories
 pub mod Instance
 pub mod Worked
 pub mod WorkedDepth

@@ -1,5 +1,5 @@
 -- Instantiation, sections 4.5.3 and 4.5.4 of the standard: what the host's module offers, and what an instance begins with.
-use Rattle.std.specs.Prelude.{◌≡◌, ℕ, ◌+◌, ◌*◌, ◌%◌, ◌==◌, ◌<◌, ◌≤◌, ◌⊎◌, if◌then◌else◌, List, [], ◌∷◌, ◌++◌, length, map, replicate, slice_get, min, Option, Some, None, unwrap_or, codes, ℤ}
+use Rattle.std.specs.Prelude.{◌≡◌, ℕ, ◌+◌, ◌*◌, ◌%◌, ◌^◌, ◌==◌, ◌<◌, ◌≤◌, ◌⊎◌, if◌then◌else◌, List, [], ◌∷◌, ◌++◌, length, map, replicate, slice_get, min, Option, Some, None, unwrap_or, codes, ℤ}
 use Rattle.std.specs.List.{AllByRecursion}
 use Rattle.wh_model.specs.declared.ValType.TheVariants.{I32, I64}
 use Rattle.wh_model.specs.declared.HostFunc.{HostFunc}
@@ -15,6 +15,12 @@ pub record Parameters : Type 0 where
   pub salt : ℕ
   pub inputs : List ℕ
   pub page_limit : ℕ
+
+-- they are values of their types: an i32, an i64, and words of 64 bits
+pub record AreGiven (p : Parameters) : Type 0 where
+  pub base : p.base < 2 ^ 32
+  pub salt : p.salt < 2 ^ 64
+  pub inputs : AllByRecursion (λ n. n < 2 ^ 64) p.inputs
 
 -- ---- imports (4.5.3): the host has one module, `host`
 

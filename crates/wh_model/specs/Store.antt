@@ -1,6 +1,6 @@
 -- Runtime structure, section 4.2 of the standard: values, function instances, the module instance and the store; and how
 -- numbers lie in memory (4.3.1).
-use Rattle.std.specs.Prelude.{ℕ, zero, suc, ◌+◌, ◌*◌, ◌/◌, ◌%◌, List, [], ◌∷◌, ◌++◌, Option, length, slice_range, take, drop}
+use Rattle.std.specs.Prelude.{ℕ, zero, suc, ◌+◌, ◌*◌, ◌/◌, ◌%◌, ◌^◌, ◌<◌, List, [], ◌∷◌, ◌++◌, Option, length, slice_range, take, drop}
 use Rattle.wh_model.specs.declared.ValType.{ValType}
 use Rattle.wh_model.specs.declared.ValType.TheVariants.{I32, I64}
 use Rattle.wh_model.specs.declared.LoadOp.{LoadOp}
@@ -8,7 +8,7 @@ use Rattle.wh_model.specs.declared.LoadOp.TheVariants.{I32Load, I64Load, I32Load
 use Rattle.wh_model.specs.declared.HostFunc.{HostFunc}
 use Rattle.wh_model.specs.declared.HostFunc.TheVariants.{Input, Put, Emit}
 use Rattle.wh_model.specs.Syntax.{FuncType, Body}
-use Rattle.wh_model.specs.Numbers.{extend_s, extend_u}
+use Rattle.wh_model.specs.Numbers.{bits, extend_s, extend_u}
 
 -- ---- values (4.2.1)
 
@@ -21,6 +21,10 @@ type_of (value t n) = t
 
 abbrev pub zero_of : ValType → Value
 zero_of t = value t 0
+
+-- a value is a number of its type's bits
+abbrev pub InRange : Value → Type 0
+InRange (value t n) = n < 2 ^ bits t
 
 -- ---- functions and the module instance (4.2.5, 4.2.6)
 

@@ -7,8 +7,10 @@
 ghost use Rattle.std.specs.Prelude.{◌≡◌};
 ghost use Rattle.wh_model.specs.Numbering.{fault_number, trap_number};
 
+mod laws;
 mod memory;
 
+pub use laws::{execution_holds, focus_holds, journals_hold};
 pub use memory::{Got, Grown, Need};
 use thiserror::Error;
 

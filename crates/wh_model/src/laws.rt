@@ -1,0 +1,53 @@
+//! Laws of the definitions alone.
+
+ghost use Rattle.wh_model.specs.Laws.{OneReduction, SmallCharges, UnchargedEnd, Settles, OneAfter, AfterJoins, AfterSplits, OneNeed};
+ghost use Rattle.wh_model.specs.FocusLaws.{Agrees, AfterAgrees, ChargedSettles};
+ghost use Rattle.wh_model.specs.ReplayLaws.{OneBeginning, OneEnd, OneStanding, HistoryBefore, HistorySplits, JournalGrows, StartIsCalled, FuelSuffices, ArgumentsFit, RunningGoesOn, OthersWait, DeadDoNothing, ReturnedHasWritten, PiecesInOrder, CancelledStays, DoneReplays, TrappedReplays, FuelReplays, FragmentsInPages, FragmentsWithin, CutAtMultiples, CutOfThree, FragmentsWrite, BeginningWrites};
+
+/// What holds of reduction. The function does nothing; what it ensures are the laws.
+pub fn execution_holds()
+    ensures one_reduction { OneReduction }
+    ensures small_charges { SmallCharges }
+    ensures uncharged_end { UnchargedEnd }
+    ensures settles { Settles }
+    ensures one_after { OneAfter }
+    ensures after_joins { AfterJoins }
+    ensures after_splits { AfterSplits }
+    ensures one_need { OneNeed }
+{}
+
+/// Configurations read from their innermost instruction take the same steps as nested terms. The function does nothing;
+/// what it ensures are the laws.
+pub fn focus_holds()
+    ensures agrees { Agrees }
+    ensures after_agrees { AfterAgrees }
+    ensures charged_settles { ChargedSettles }
+{}
+
+/// What holds of instantiation, of journals and of data segments. The function does nothing; what it ensures are the laws.
+pub fn journals_hold()
+    ensures one_beginning { OneBeginning }
+    ensures one_end { OneEnd }
+    ensures one_standing { OneStanding }
+    ensures history_before { HistoryBefore }
+    ensures history_splits { HistorySplits }
+    ensures journal_grows { JournalGrows }
+    ensures start_is_called { StartIsCalled }
+    ensures fuel_suffices { FuelSuffices }
+    ensures arguments_fit { ArgumentsFit }
+    ensures running_goes_on { RunningGoesOn }
+    ensures others_wait { OthersWait }
+    ensures dead_do_nothing { DeadDoNothing }
+    ensures returned_has_written { ReturnedHasWritten }
+    ensures pieces_in_order { PiecesInOrder }
+    ensures cancelled_stays { CancelledStays }
+    ensures done_replays { DoneReplays }
+    ensures trapped_replays { TrappedReplays }
+    ensures fuel_replays { FuelReplays }
+    ensures fragments_in_pages { FragmentsInPages }
+    ensures fragments_within { FragmentsWithin }
+    ensures cut_at_multiples { CutAtMultiples }
+    ensures cut_of_three { CutOfThree }
+    ensures fragments_write { FragmentsWrite }
+    ensures beginning_writes { BeginningWrites }
+{}
