@@ -9,3 +9,4 @@ pub mod Entering
 pub mod Runs
 pub mod Opening
 pub mod Waiting
+pub mod Went
