@@ -7,9 +7,10 @@ use Rattle.wh_model.specs.Syntax.{nothing}
 use Rattle.wh_model.specs.Typing.{Context}
 use Rattle.wh_model.specs.Store.{Value, Instance, Store}
 use Rattle.wh_model.specs.Configuration.{Term, code, frame, Config, config}
-use Rattle.wh_model.specs.Reduction.{After}
+use Rattle.wh_model.specs.Reduction.{IsSettled, After}
 use Rattle.wh_model.specs.Focus.{Activation, Focused, running, finished, stopped, inside, awaited, plug}
 use Rattle.wh_model.proofs.Chains.{after_joins}
+use Rattle.wh_model.proofs.Taken.{takes_after}
 use Rattle.wh_control.specs.Represents.{Func, Represents, bits_of}
 use Rattle.wh_machine.specs.declared.machine.Machine.{Machine}
 use Rattle.wh_machine.specs.declared.machine.Stack.{Stack}
@@ -18,7 +19,9 @@ use Rattle.wh_machine.specs.declared.machine.Stepped.TheVariants as steps
 use Rattle.wh_machine.specs.declared.store.Store as kept
 use Rattle.wh_machine.specs.Program.{Parts, funcs_in}
 use Rattle.wh_machine.specs.Turns.{calls_of, ended_calls}
-use Rattle.wh_machine.specs.Runs.{calls_in, StoreStands, Stands, IsStanding, Comes, Falls, Ran, Awaits}
+use Rattle.wh_machine.specs.Runs.{calls_in, StoreStands, Stands, IsStanding}
+use Rattle.wh_machine.specs.Went.{Comes, Falls, Went, GoesOn, IsDone}
+use Rattle.wh_machine.proofs.Coming.{standing_settled}
 use Rattle.wh_flatmem.specs.Flat.{Flat}
 use Rattle.wh_alone.specs.declared.outcome.Outcome.{Outcome}
 use Rattle.wh_alone.specs.declared.outcome.Outcome.TheVariants.{Returned, Trapped, OutOfFuel}
@@ -51,28 +54,41 @@ stands_done {p} {m} {out = out} st e =
 
 -- ---- what a run comes to
 
-came_done : {p : Parts} {m m2 : Machine} {k k2 : kept.Store} {flat flat2 : List ℕ} {most n fuel : ℕ} {out : Option ValType} {inst : Instance} {cfg : Config} (result : Option ℕ) → n ≤ fuel → Comes p m k flat most n m2 k2 flat2 → m2.running ≡ false → result ≡ slice_get m2.stack.words 0
-    → Stands p m k flat most out inst cfg → (c2 : Context) × (s2 : Store) × EndsAs inst cfg fuel (Returned result) n s2 × StoreStands p k2 flat2 most c2 inst s2
-came_done {n = n} {out = out} {inst = inst} {cfg = cfg} result within comes ended top st =
+-- a flat memory has its bytes, all of them ready, and nothing else
+abbrev pub flat_bytes : Flat → List ℕ
+flat_bytes m = m.bytes
+
+abbrev pub flat_ready : Flat → Need → Type 0
+flat_ready m need = Unit {0}
+
+abbrev pub flat_keeps : Flat → Flat → Type 0
+flat_keeps a b = Unit {0}
+
+abbrev FlatWent : Parts → Machine → kept.Store → Flat → ℕ → ℕ → Stepped → ℕ → Machine → kept.Store → Flat → Type 0
+FlatWent p m k mem most fuel stepped n m2 k2 mem2 = Went p flat_bytes flat_ready flat_keeps m k mem most fuel stepped n m2 k2 mem2
+
+-- this comes of the configuration, and a store that the machine stands for is left
+abbrev Left : Parts → Instance → Config → ℕ → ℕ → Outcome → ℕ → kept.Store → List ℕ → Type 0
+Left p inst cfg most fuel outcome n k2 flat2 = (c2 : Context) × (s2 : Store) × EndsAs inst cfg fuel outcome n s2 × StoreStands p k2 flat2 most c2 inst s2
+
+came_done : {p : Parts} {m m2 : Machine} {k k2 : kept.Store} {mem mem2 : Flat} {most n fuel : ℕ} {out : Option ValType} {inst : Instance} {cfg : Config} (result : Option ℕ) → n ≤ fuel → Comes p flat_bytes flat_ready flat_keeps m k mem most n m2 k2 mem2 (IsDone m2) → m2.running ≡ false → result ≡ slice_get m2.stack.words 0
+    → Stands p m k mem.bytes most out inst cfg → IsSettled inst cfg → Left p inst cfg most fuel (Returned result) n k2 mem2.bytes
+came_done {n = n} {out = out} {inst = inst} {cfg = cfg} result within comes ended top st settled =
     let x = comes out inst cfg st in
     let d = stands_done x.2 ended in
-    (x.2.context, x.2.s, (within, d.0, top ∙ ap (λ ws. slice_get ws 0) d.1, subst (λ z. After inst cfg n z) d.2 x.1), x.2.around)
+    (x.2.context, x.2.s, (within, d.0, top ∙ ap (λ ws. slice_get ws 0) d.1, subst (λ z. After inst cfg n z) d.2 (takes_after x.1 settled)), x.2.around)
 
-came_trapped : {p : Parts} {m : Machine} {k k2 : kept.Store} {flat flat2 : List ℕ} {most n fuel : ℕ} {out : Option ValType} {inst : Instance} {cfg : Config} (trap : Trap) → n ≤ fuel → Falls p m k flat most n trap k2 flat2
-    → Stands p m k flat most out inst cfg → (c2 : Context) × (s2 : Store) × EndsAs inst cfg fuel (Trapped trap) n s2 × StoreStands p k2 flat2 most c2 inst s2
-came_trapped {out = out} {inst = inst} {cfg = cfg} trap within falls st =
+came_trapped : {p : Parts} {m : Machine} {k k2 : kept.Store} {mem mem2 : Flat} {most n fuel : ℕ} {out : Option ValType} {inst : Instance} {cfg : Config} (trap : Trap) → n ≤ fuel → Falls p flat_bytes flat_ready flat_keeps m k mem most n trap k2 mem2
+    → Stands p m k mem.bytes most out inst cfg → IsSettled inst cfg → Left p inst cfg most fuel (Trapped trap) n k2 mem2.bytes
+came_trapped {out = out} {inst = inst} {cfg = cfg} trap within falls st settled =
     let x = falls out inst cfg st in
-    (x.0, x.1, (within, x.2), x.3)
+    (x.0, x.1, (within, takes_after x.2 settled), x.3)
 
-came_no_further : {p : Parts} {m m2 : Machine} {k k2 : kept.Store} {flat flat2 : List ℕ} {most n fuel : ℕ} {out : Option ValType} {inst : Instance} {cfg : Config} → n ≡ fuel → Comes p m k flat most n m2 k2 flat2 → m2.running ≡ true
-    → Stands p m k flat most out inst cfg → (c2 : Context) × (s2 : Store) × EndsAs inst cfg fuel OutOfFuel n s2 × StoreStands p k2 flat2 most c2 inst s2
-came_no_further {out = out} {inst = inst} {cfg = cfg} all comes runs st =
+came_no_further : {p : Parts} {m m2 : Machine} {k k2 : kept.Store} {mem mem2 : Flat} {most n fuel : ℕ} {out : Option ValType} {inst : Instance} {cfg : Config} → n ≡ fuel → Comes p flat_bytes flat_ready flat_keeps m k mem most n m2 k2 mem2 GoesOn → m2.running ≡ true
+    → Stands p m k mem.bytes most out inst cfg → IsSettled inst cfg → Left p inst cfg most fuel OutOfFuel n k2 mem2.bytes
+came_no_further {out = out} {inst = inst} {cfg = cfg} all comes runs st settled =
     let x = comes out inst cfg st in
-    (x.2.context, x.2.s, (all, x.0, x.1, stands_under_way x.2 runs), x.2.around)
-
--- what a run over a flat memory waits for: nothing
-abbrev pub flat_awaits : Flat → Flat → Need → Type 0
-flat_awaits old new = Awaits (λ (m : Flat). m.bytes) (λ m need. Unit {0}) (λ a b. Unit {0}) old new
+    (x.2.context, x.2.s, (all, x.0, takes_after x.1 settled, stands_under_way x.2 runs), x.2.around)
 
 -- what is answered to what a run comes to
 abbrev pub Answers : Machine → Stepped → Outcome → Type 0
@@ -81,18 +97,23 @@ Answers m2 (steps.Trapped trap) outcome = outcome ≡ Trapped trap
 Answers m2 steps.Charged outcome = outcome ≡ OutOfFuel
 Answers m2 (steps.NotReady need) outcome = outcome ≡ OutOfFuel
 
-pub goes_by : (p : Parts) (m : Machine) (k : kept.Store) (flat : List ℕ) (most fuel : ℕ) (old new : Flat) (stepped : Stepped) (n : ℕ) (m2 : Machine) (k2 : kept.Store) (flat2 : List ℕ) (outcome : Outcome) → Ran p m k flat most fuel (flat_awaits old new) stepped n m2 k2 flat2 → Answers m2 stepped outcome
-    → Goes p m k flat most fuel outcome n k2 flat2
-goes_by p m k flat most fuel old new steps.Done n m2 k2 flat2 outcome ran a out inst cfg st = subst (λ o. (c2 : Context) × (s2 : Store) × EndsAs inst cfg fuel o n s2 × StoreStands p k2 flat2 most c2 inst s2) (sym a.2) (came_done a.0 ran.0 ran.1 ran.2 a.1 st)
-goes_by p m k flat most fuel old new (steps.Trapped trap) n m2 k2 flat2 outcome ran a out inst cfg st = subst (λ o. (c2 : Context) × (s2 : Store) × EndsAs inst cfg fuel o n s2 × StoreStands p k2 flat2 most c2 inst s2) (sym a) (came_trapped trap ran.0 ran.1 st)
-goes_by p m k flat most fuel old new steps.Charged n m2 k2 flat2 outcome ran a out inst cfg st = subst (λ o. (c2 : Context) × (s2 : Store) × EndsAs inst cfg fuel o n s2 × StoreStands p k2 flat2 most c2 inst s2) (sym a) (came_no_further ran.0 ran.1 ran.2 st)
-goes_by p m k flat most fuel old new (steps.NotReady need) n m2 k2 flat2 outcome ran a out inst cfg st = absurd (ran.5.4 tt)
+left_by : (p : Parts) (m : Machine) (k : kept.Store) (mem : Flat) (most fuel : ℕ) (stepped : Stepped) (n : ℕ) (m2 : Machine) (k2 : kept.Store) (mem2 : Flat) (outcome : Outcome) (out : Option ValType) (inst : Instance) (cfg : Config)
+    → FlatWent p m k mem most fuel stepped n m2 k2 mem2 → Answers m2 stepped outcome → Stands p m k mem.bytes most out inst cfg → IsSettled inst cfg → Left p inst cfg most fuel outcome n k2 mem2.bytes
+left_by p m k mem most fuel steps.Done n m2 k2 mem2 outcome out inst cfg went a st settled = subst (λ o. Left p inst cfg most fuel o n k2 mem2.bytes) (sym a.2) (came_done a.0 went.0 went.1 went.2 a.1 st settled)
+left_by p m k mem most fuel (steps.Trapped trap) n m2 k2 mem2 outcome out inst cfg went a st settled = subst (λ o. Left p inst cfg most fuel o n k2 mem2.bytes) (sym a) (came_trapped trap went.0 went.1 st settled)
+left_by p m k mem most fuel steps.Charged n m2 k2 mem2 outcome out inst cfg went a st settled = subst (λ o. Left p inst cfg most fuel o n k2 mem2.bytes) (sym a) (came_no_further went.0 went.1 went.2 st settled)
+left_by p m k mem most fuel (steps.NotReady need) n m2 k2 mem2 outcome out inst cfg went a st settled = absurd (went.4 tt)
 
-pub stands_on : (p : Parts) (m : Machine) (k : kept.Store) (flat : List ℕ) (most fuel : ℕ) (awaits : Need → Type 0) (stepped : Stepped) (n : ℕ) (m2 : Machine) (k2 : kept.Store) (flat2 : List ℕ) → Ran p m k flat most fuel awaits stepped n m2 k2 flat2 → IsStanding p m k flat most → m2.running ≡ true → IsStanding p m2 k2 flat2 most
-stands_on p m k flat most fuel awaits steps.Done n m2 k2 flat2 ran st e = let no = ran.2 in cc
-stands_on p m k flat most fuel awaits (steps.Trapped trap) n m2 k2 flat2 ran st e = let no = ran.2 in cc
-stands_on p m k flat most fuel awaits steps.Charged n m2 k2 flat2 ran st e = let x = ran.1 st.out st.inst st.cfg st.stands in record { out = st.out; inst = st.inst; cfg = x.0; stands = x.2; settled = ran.3 }
-stands_on p m k flat most fuel awaits (steps.NotReady need) n m2 k2 flat2 ran st e = let x = ran.1 st.out st.inst st.cfg st.stands in record { out = st.out; inst = st.inst; cfg = x.0; stands = x.2; settled = ran.3 }
+pub goes_by : (p : Parts) (m : Machine) (k : kept.Store) (mem : Flat) (most fuel : ℕ) (stepped : Stepped) (n : ℕ) (m2 : Machine) (k2 : kept.Store) (mem2 : Flat) (outcome : Outcome)
+    → FlatWent p m k mem most fuel stepped n m2 k2 mem2 → Answers m2 stepped outcome → IsStanding p m k mem.bytes most → Goes p m k mem.bytes most fuel outcome n k2 mem2.bytes
+goes_by p m k mem most fuel stepped n m2 k2 mem2 outcome went a is out inst cfg st = left_by p m k mem most fuel stepped n m2 k2 mem2 outcome out inst cfg went a st (standing_settled p m k mem.bytes most out inst cfg st is.settled)
+
+pub stands_on : (p : Parts) (m : Machine) (k : kept.Store) (mem : Flat) (most fuel : ℕ) (stepped : Stepped) (n : ℕ) (m2 : Machine) (k2 : kept.Store) (mem2 : Flat)
+    → FlatWent p m k mem most fuel stepped n m2 k2 mem2 → IsStanding p m k mem.bytes most → m2.running ≡ true → IsStanding p m2 k2 mem2.bytes most
+stands_on p m k mem most fuel steps.Done n m2 k2 mem2 went st e = let no = went.2 in cc
+stands_on p m k mem most fuel (steps.Trapped trap) n m2 k2 mem2 went st e = let no = went.2 in cc
+stands_on p m k mem most fuel steps.Charged n m2 k2 mem2 went st e = let x = went.1 st.out st.inst st.cfg st.stands in record { out = st.out; inst = st.inst; cfg = x.0; stands = x.2; settled = went.3 }
+stands_on p m k mem most fuel (steps.NotReady need) n m2 k2 mem2 went st e = let x = went.1 st.out st.inst st.cfg st.stands in record { out = st.out; inst = st.inst; cfg = x.0; stands = x.2; settled = went.3 }
 
 -- ---- from the invocation
 

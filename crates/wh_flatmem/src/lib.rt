@@ -16,7 +16,7 @@ ghost use Rattle.wh_model.specs.Store.{written};
 use std::alloc::{AllocError, Global};
 use std::marker::Model;
 use wh_machine::LinearMem;
-use wh_model::{Got, Grown};
+use wh_model::{Got, Grown, Need};
 
 // The bytes of a page.
 const PAGE: usize = 65536;
@@ -130,6 +130,11 @@ impl LinearMem for FlatMemory {
     ghost ready = { λ _ _. Unit {0} };
 
     ghost keeps = { λ _ _. Unit {0} };
+
+    #[inline(always)]
+    fn is_ready(&self, _: Need) -> bool {
+        true
+    }
 
     #[inline(always)]
     fn load(&mut self, at: u64, into: &mut [u8]) -> Got {

@@ -16,7 +16,8 @@ pub mod Running
 pub mod Opened
 pub mod Instances
 pub mod Finding
-pub mod Finds
 pub mod ProgressOperands
 pub mod ProgressCalls
 pub mod Progress
+pub mod Takings
+pub mod Coming

@@ -8,3 +8,5 @@ pub mod Hosting
 pub mod Entering
 pub mod Runs
 pub mod Opening
+pub mod Waiting
+pub mod Went

@@ -4,6 +4,7 @@ ghost use Rattle.std.specs.Prelude.{◌≡◌, ℕ, ◌^◌, ◌<◌, List, ◌�
 ghost use Rattle.wh_model.specs.declared.memory.Grown.TheVariants.{Done, Refused};
 ghost use Rattle.wh_syntax.specs.declared.instr.Instr.TheVariants.{GlobalGet, GlobalSet, Load, Store as StoreAt, MemorySize, MemoryGrow};
 ghost use Rattle.wh_machine.specs.Alone.{IsNextInStore, InStore, IsNextInMemory, InMemory, FoundInMemory};
+ghost use Rattle.wh_machine.specs.Waiting.{IsUncharged};
 
 use crate::bytes::{Loaded, read, write};
 use crate::instructions::advance;
@@ -66,6 +67,7 @@ pub fn turn_memory_grow<M: LinearMem>(stack: &mut Stack, memory: &mut M) -> Turn
     ensures turned { InMemory (M.ready memory.old) stack.old (M.bytes memory.old) (M.limit memory.old) MemoryGrow result stack.new (M.bytes memory.new) }
     ensures limit { M.limit memory.new ≡ M.limit memory.old }
     ensures keeps { M.keeps memory.old memory.new }
+    ensures waits { IsUncharged result → memory.new ≡ memory.old }
 {
     // So the bytes are known to be whole pages.
     let _ = memory.size();
@@ -100,6 +102,7 @@ pub fn turn_load<M: LinearMem>(
     ensures found { FoundInMemory (M.ready memory.old) stack.old (M.bytes memory.old) (M.limit memory.old) (Load op align offset) result }
     ensures limit { M.limit memory.new ≡ M.limit memory.old }
     ensures keeps { M.keeps memory.old memory.new }
+    ensures waits { IsUncharged result → memory.new ≡ memory.old }
 {
     let _ = align;
     let address = stack.words.top() + u64::from(offset);
@@ -130,6 +133,7 @@ pub fn turn_store<M: LinearMem>(
     ensures found { FoundInMemory (M.ready memory.old) stack.old (M.bytes memory.old) (M.limit memory.old) (StoreAt op align offset) result }
     ensures limit { M.limit memory.new ≡ M.limit memory.old }
     ensures keeps { M.keeps memory.old memory.new }
+    ensures waits { IsUncharged result → memory.new ≡ memory.old }
 {
     let _ = align;
     let word = stack.words.top();

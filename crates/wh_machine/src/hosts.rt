@@ -4,6 +4,7 @@ ghost use Rattle.std.specs.Prelude.{◌≡◌, ℕ, ◌+◌, ◌^◌, ◌<◌, �
 ghost use Rattle.std.specs.Vec.{vec_capacity};
 ghost use Rattle.wh_model.specs.Store.{output_room, bytes_of};
 ghost use Rattle.wh_machine.specs.Hosting.{Puts, EmitsOnto, OnlyOutput, HasOperands, HostTurn};
+ghost use Rattle.wh_machine.specs.Waiting.{EmitWaits, IsUncharged};
 
 use crate::bytes::{Emitted, emit, put};
 use crate::instructions::advance;
@@ -58,6 +59,7 @@ pub fn host_emit<M: LinearMem>(words: &mut Words, store: &mut Store, memory: &mu
     ensures bytes { M.bytes memory.new ≡ M.bytes memory.old }
     ensures limit { M.limit memory.new ≡ M.limit memory.old }
     ensures keeps { M.keeps memory.old memory.new }
+    ensures waits { EmitWaits result → memory.new ≡ memory.old }
 {
     let count = words.pop();
     let at = words.pop();
@@ -91,6 +93,7 @@ pub fn call_host<M: LinearMem>(
     ensures bytes { M.bytes memory.new ≡ M.bytes memory.old }
     ensures limit { M.limit memory.new ≡ M.limit memory.old }
     ensures keeps { M.keeps memory.old memory.new }
+    ensures waits { IsUncharged result → memory.new ≡ memory.old }
 {
     match func {
         HostFunc::Input => {

@@ -131,4 +131,5 @@ returns-in_default g c = record {
       (before p m code k flat most w x y c.args.func r entry at c.if-not-host_has_type.ensures) c.call_host.ensures.turned;
   limit = c.call_host.ensures.limit;
   keeps = c.call_host.ensures.keeps;
+  waits = c.call_host.ensures.waits;
 }
