@@ -1,6 +1,11 @@
-pub mod Ending
-pub mod Lists
-pub mod Pieces
-pub mod Callable
-pub mod Beginning
-pub mod Starting
+mod Replaying
+mod Beginning
+mod Callable
+mod Ending
+mod Fresh
+mod Journals
+mod Lists
+mod Moving
+mod Pieces
+mod Present
+mod Starting

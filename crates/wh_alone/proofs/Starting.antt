@@ -1,17 +1,12 @@
--- The start function can be called, and what a call leaves.
+-- The start function can be called.
 use Rattle.std.proofs.Common.{◌≡◌, ℕ, [], Option, Some, slice_get, refl, sym, ap, subst, ◌∙◌}
 use Rattle.wh_model.specs.declared.HostFunc.TheVariants.{Input, Put, Emit}
 use Rattle.wh_model.specs.Syntax.{FuncType, Body, Module}
 use Rattle.wh_model.specs.Typing.{Context}
 use Rattle.wh_model.specs.Validity.{IsValidIn, ValidStart}
-use Rattle.wh_model.specs.Store.{FuncInst, own, host, signature, Instance, Store}
+use Rattle.wh_model.specs.Store.{FuncInst, own, host, signature, Instance}
 use Rattle.wh_machine.specs.Program.{Parts, IsInstance}
 use Rattle.wh_machine.specs.Opening.{Suits}
-use Rattle.wh_machine.specs.Runs.{linked_parts, StoreStands}
-use Rattle.wh_alone.specs.declared.outcome.Outcome.{Outcome}
-use Rattle.wh_alone.specs.declared.outcome.Outcome.TheVariants.{Returned, Trapped, OutOfFuel}
-use Rattle.wh_alone.specs.Alone.{Plain}
-use Rattle.wh_alone.specs.Runs.{HasStore, IsStopped}
 use Rattle.wh_alone.proofs.Lists.{mapped_from}
 
 abbrev no_type : FuncType
@@ -29,12 +24,3 @@ start_called m p c inst x valid is e =
     let start : slice_get c.funcs x ≡ Some no_type = subst (ValidStart c) e valid.start in
     let h = mapped_from signature inst.funcs x no_type (ap (λ fs. slice_get fs x) (sym is.program.signatures) ∙ start) in
     own_start inst x h.0 h.1 h.2
-
--- what a call leaves is of the same instance
-pub left_with : (i i2 : Plain) (c : Context) (inst : Instance) (s : Store) → i2.linked ≡ i.linked → i2.memory.limit ≡ i.memory.limit → StoreStands (linked_parts i.linked) i2.store i2.memory.bytes i.memory.limit c inst s → HasStore i2 inst s
-left_with i i2 c inst s linked limit st = (c, subst (λ n. StoreStands (linked_parts i2.linked) i2.store i2.memory.bytes n c inst s) (sym limit) (subst (λ l. StoreStands (linked_parts l) i2.store i2.memory.bytes i.memory.limit c inst s) (sym linked) st))
-
-pub stopped_by : (o : Outcome) → ((result : Option ℕ) → o ≡ Returned result → ⊥) → IsStopped o
-stopped_by (Returned result) never = never result refl
-stopped_by (Trapped x) never = tt
-stopped_by OutOfFuel never = tt

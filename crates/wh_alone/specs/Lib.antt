@@ -1,4 +1,8 @@
 pub mod Alone
 pub mod Stored
 pub mod Exports
+pub mod Kept
+pub mod Journal
+pub mod Stages
+pub mod Beginnings
 pub mod Runs

@@ -1,10 +1,10 @@
 //! Calls over a flat memory.
 
-ghost use Rattle.std.specs.Prelude.{◌≡◌, true};
-ghost use Rattle.wh_machine.specs.Runs.{linked_parts, IsStanding};
-ghost use Rattle.wh_alone.specs.Alone.{CanCall, Comes, Goes};
+ghost use Rattle.std.specs.Prelude.{◌≡◌};
+ghost use Rattle.wh_alone.specs.Kept.{StandsSomewhere, CanCall, Goes, Comes};
+ghost use Rattle.wh_alone.specs.Stages.{stage_at_first, after_start, after_call};
 
-use crate::outcome::Outcome;
+use crate::outcome::{Outcome, Stage};
 use wh_flatmem::FlatMemory;
 use wh_imports::Linked;
 use wh_machine::{Machine, Stepped, Store, begin, run};
@@ -17,10 +17,9 @@ pub fn run_on(
     memory: &mut FlatMemory,
     fuel: u64,
 ) -> (Outcome, u64)
-    requires { IsStanding (linked_parts linked.now) machine.old store.old memory.old.bytes memory.old.limit }
-    ensures went { Goes (linked_parts linked.now) machine.old store.old memory.old.bytes memory.old.limit fuel result.0 result.1 store.new memory.new.bytes }
-    ensures limit { memory.new.limit ≡ memory.old.limit }
-    ensures standing { machine.new.running ≡ true → IsStanding (linked_parts linked.now) machine.new store.new memory.new.bytes memory.old.limit }
+    requires { StandsSomewhere (record { linked = linked.now; store = store.old; memory = memory.old; machine = machine.old }) }
+    ensures { Goes (record { linked = linked.now; store = store.old; memory = memory.old; machine = machine.old }) fuel result.0 result.1
+        (record { linked = linked.now; store = store.new; memory = memory.new; machine = machine.new }) }
 {
     let (stepped, charges) = run(linked, store, machine, memory, fuel);
     let outcome = match stepped {
@@ -41,11 +40,41 @@ pub fn call(
     args: &[u64],
     fuel: u64,
 ) -> (Outcome, u64)
-    requires { CanCall (linked_parts linked.now) store.old memory.old.bytes memory.old.limit func args.now }
-    ensures came { Comes (linked_parts linked.now) store.old memory.old.bytes memory.old.limit func args.now fuel result.0 result.1 store.new memory.new.bytes }
-    ensures limit { memory.new.limit ≡ memory.old.limit }
-    ensures standing { machine.new.running ≡ true → IsStanding (linked_parts linked.now) machine.new store.new memory.new.bytes memory.old.limit }
+    requires { CanCall (record { linked = linked.now; store = store.old; memory = memory.old; machine = machine.old }) func args.now }
+    ensures { Comes (record { linked = linked.now; store = store.old; memory = memory.old; machine = machine.old }) func args.now fuel result.0 result.1
+        (record { linked = linked.now; store = store.new; memory = memory.new; machine = machine.new }) }
 {
     begin(linked, machine, func, args);
     run_on(linked, store, machine, memory, fuel)
+}
+
+/// Where an instance is first, with this start function or none.
+pub fn first_stage(start: Option<u32>) -> Stage
+    ensures { result ≡ stage_at_first start }
+{
+    match start {
+        Some(_) => Stage::Fresh,
+        None => Stage::Idle,
+    }
+}
+
+/// Where an instance is once its start function came to this.
+pub fn stage_after_start(outcome: Outcome) -> Stage
+    ensures { result ≡ after_start outcome }
+{
+    match outcome {
+        Outcome::Returned(_) => Stage::Idle,
+        Outcome::Trapped(_) => Stage::Dead,
+        Outcome::OutOfFuel => Stage::Starting,
+    }
+}
+
+/// Where an instance is once a call came to this.
+pub fn stage_after_call(outcome: Outcome) -> Stage
+    ensures { result ≡ after_call outcome }
+{
+    match outcome {
+        Outcome::Returned(_) | Outcome::Trapped(_) => Stage::Idle,
+        Outcome::OutOfFuel => Stage::Calling,
+    }
 }

@@ -1,17 +1,19 @@
 //! Instances over a flat memory.
 
-ghost use Rattle.std.specs.Prelude.{◌≡◌, false, IfOk, IfErr, IfSome, IfNone};
+ghost use Rattle.std.specs.Prelude.{◌≡◌, true, false, IfOk, IfErr, IfSome, IfNone};
 ghost use Rattle.wh_initial.specs.Given.{view_parameters};
-ghost use Rattle.wh_machine.specs.Runs.{linked_parts};
 ghost use Rattle.wh_alone.specs.Exports.{Exports, LacksFunc};
 ghost use Rattle.wh_alone.specs.Stored.{stored_plain};
-ghost use Rattle.wh_alone.specs.Alone.{Plain, IsAlive, BeginsAlone, RefusesAlone, Called, IsNoCall, Goes};
+ghost use Rattle.wh_alone.specs.Alone.{RefusesAlone};
+ghost use Rattle.wh_alone.specs.Journal.{Plain, IsSomewhere, GoesOn, Called, GivenUp};
+ghost use Rattle.wh_alone.specs.Stages.{IsOpen, RefusesCall};
+ghost use Rattle.wh_alone.specs.Beginnings.{BeginsAlone};
 
 use crate::accepting::accept;
-use crate::arguments::can_call;
-use crate::calling::{call, run_on};
+use crate::arguments::{are_words, can_call};
+use crate::calling::{call, first_stage, run_on, stage_after_call, stage_after_start};
 use crate::exports::exported;
-use crate::outcome::{CallError, Outcome};
+use crate::outcome::{CallError, Outcome, Refused, Stage};
 use crate::segments::write_segments;
 use std::alloc::Global;
 use std::marker::Model;
@@ -20,15 +22,16 @@ use wh_imports::Linked;
 use wh_initial::{Parameters, initial};
 use wh_machine::{Machine, Store};
 
-/// An instance of a module, with a memory of its own, and the call that it runs, if it does.
+/// An instance of a module, with a memory of its own, and its call that hasn't ended, if there is one.
 ///
-/// Contracts see its parts; that they belong to one instance is known of each.
+/// Contracts see its parts. Of each instance it is known that it is where a journal of its calls leads.
 #[derive(Drop)]
 pub struct Instance {
     linked: Linked,
     store: Store,
     memory: FlatMemory,
     machine: Machine,
+    stage: Stage,
 }
 
 impl Model for Instance {
@@ -36,14 +39,15 @@ impl Model for Instance {
 
     ghost coded = { stored_plain };
 
-    ghost view = { λ i. record { linked = i.linked; store = i.store; memory = i.memory; machine = i.machine } };
+    ghost view = { λ i. record { kept = record { linked = i.linked; store = i.store; memory = i.memory; machine = i.machine }; stage = i.stage } };
 
-    ghost invariant = { λ i. IsAlive (record { linked = i.linked; store = i.store; memory = i.memory; machine = i.machine }) };
+    ghost invariant = { λ i. IsSomewhere (record { kept = record { linked = i.linked; store = i.store; memory = i.memory; machine = i.machine }; stage = i.stage }) };
 }
 
 impl Instance {
     /// Decodes, validates and links a module, and makes an instance of it (4.5.4): its globals are set, its elements and
-    /// its data segments are written. The start function isn't called yet.
+    /// its data segments are written. If the module has a start function, that is to be run next, and nothing else is
+    /// called before it has returned.
     ///
     /// # Errors
     /// Why the bytes aren't accepted, or the module has no instance with these parameters.
@@ -51,6 +55,7 @@ impl Instance {
         ensures ok { IfOk result (BeginsAlone bytes.now (view_parameters parameters)) }
         ensures err { IfErr result (RefusesAlone bytes.now (view_parameters parameters)) }
     {
+        are_words(&parameters.inputs);
         let linked = accept(alloc, bytes)?;
         let begun = match initial(alloc, &linked, parameters) {
             Ok(begun) => begun,
@@ -63,25 +68,36 @@ impl Instance {
             return Err(CallError::Memory);
         };
         write_segments(&linked.module().segments, &begun.places, &mut memory);
+        let stage = first_stage(linked.module().start);
         Ok(Instance {
             linked,
             store: begun.store,
             memory,
             machine,
+            stage,
         })
     }
 
     /// Calls the function of this index, and lets it run with this fuel: how it has ended, and how many charges were
-    /// taken. `None` where it isn't one of the module's own functions, or these words aren't arguments of it: one for
-    /// each parameter, below 2^32 for an i32. A call that was under way is given up.
-    pub fn call(&mut self, func: u32, args: &[u64], fuel: u64) -> Option<(Outcome, u64)>
-        ensures some { IfSome result (λ r. Called self.old func args.now fuel r.0 r.1 self.new) }
-        ensures none { IfNone result (IsNoCall self.old func args.now × (self.new ≡ self.old)) }
+    /// taken.
+    ///
+    /// # Errors
+    /// `Busy` while the start function or another call hasn't ended; `Dead` where the start function has failed; `NoCall`
+    /// where this isn't the index of one of the module's own functions, or these words aren't arguments of it: one for
+    /// each parameter, below 2^32 for an i32.
+    pub fn call(&mut self, func: u32, args: &[u64], fuel: u64) -> Result<(Outcome, u64), Refused>
+        ensures ok { IfOk result (λ r. Called self.old func args.now fuel r.0 r.1 self.new) }
+        ensures err { IfErr result (λ e. RefusesCall self.old func args.now e × (self.new ≡ self.old)) }
     {
-        if !can_call(&self.linked, func, args) {
-            return None;
+        match self.stage {
+            Stage::Fresh | Stage::Starting | Stage::Calling => return Err(Refused::Busy),
+            Stage::Dead => return Err(Refused::Dead),
+            Stage::Idle => {}
         }
-        Some(call(
+        if !can_call(&self.linked, func, args) {
+            return Err(Refused::NoCall);
+        }
+        let (outcome, charges) = call(
             &self.linked,
             &mut self.store,
             &mut self.machine,
@@ -89,52 +105,104 @@ impl Instance {
             func,
             args,
             fuel,
-        ))
+        );
+        self.stage = stage_after_call(outcome);
+        Ok((outcome, charges))
     }
 
-    /// Lets the call that ran out of fuel go on with this fuel: how it has ended, and how many charges were taken now.
-    /// `None` where no call is under way.
-    pub fn more(&mut self, fuel: u64) -> Option<(Outcome, u64)>
-        ensures some { IfSome result (λ r. Goes (linked_parts self.old.linked) self.old.machine self.old.store self.old.memory.bytes self.old.memory.limit fuel r.0 r.1 self.new.store self.new.memory.bytes) }
-        ensures none { IfNone result ((self.old.machine.running ≡ false) × (self.new ≡ self.old)) }
+    /// Lets the start function begin, or the call that ran out of fuel go on, with so much more fuel: how it has ended,
+    /// and how many charges were taken now. `None` where no call is open.
+    pub fn run(&mut self, fuel: u64) -> Option<(Outcome, u64)>
+        ensures some { IfSome result (λ r. IsOpen self.old.stage × GoesOn self.old fuel r.0 r.1 self.new) }
+        ensures none { IfNone result ((¬ (IsOpen self.old.stage)) × (self.new ≡ self.old)) }
     {
-        if !self.machine.is_running() {
-            return None;
+        match self.stage {
+            Stage::Idle | Stage::Dead => None,
+            Stage::Fresh => {
+                let Some(func) = self.linked.module().start else {
+                    unreachable!();
+                };
+                let (outcome, charges) = call(
+                    &self.linked,
+                    &mut self.store,
+                    &mut self.machine,
+                    &mut self.memory,
+                    func,
+                    &[],
+                    fuel,
+                );
+                self.stage = stage_after_start(outcome);
+                Some((outcome, charges))
+            }
+            Stage::Starting => {
+                let (outcome, charges) = run_on(
+                    &self.linked,
+                    &mut self.store,
+                    &mut self.machine,
+                    &mut self.memory,
+                    fuel,
+                );
+                self.stage = stage_after_start(outcome);
+                Some((outcome, charges))
+            }
+            Stage::Calling => {
+                let (outcome, charges) = run_on(
+                    &self.linked,
+                    &mut self.store,
+                    &mut self.machine,
+                    &mut self.memory,
+                    fuel,
+                );
+                self.stage = stage_after_call(outcome);
+                Some((outcome, charges))
+            }
         }
-        Some(run_on(
-            &self.linked,
-            &mut self.store,
-            &mut self.machine,
-            &mut self.memory,
-            fuel,
-        ))
     }
 
-    /// The index of the start function, if there is one.
-    pub fn start(&self) -> Option<u32>
-        ensures { result ≡ self.now.linked.valid.decoded.start }
+    /// Gives up the call that is open, if there is one; whether there was. What it has written stays. An instance whose
+    /// start function is given up is dead.
+    pub fn cancel(&mut self) -> bool
+        ensures some { result ≡ true → IsOpen self.old.stage × GivenUp self.old self.new }
+        ensures none { result ≡ false → (¬ (IsOpen self.old.stage)) × (self.new ≡ self.old) }
     {
-        self.linked.module().start
+        match self.stage {
+            Stage::Idle | Stage::Dead => false,
+            Stage::Fresh | Stage::Starting => {
+                self.stage = Stage::Dead;
+                true
+            }
+            Stage::Calling => {
+                self.stage = Stage::Idle;
+                true
+            }
+        }
+    }
+
+    /// Where it is.
+    pub fn stage(&self) -> Stage
+        ensures { result ≡ self.now.stage }
+    {
+        self.stage
     }
 
     /// The index of the function that is exported by this name.
     pub fn func(&self, name: &str) -> Option<u32>
-        ensures some { IfSome result (Exports self.now.linked.valid.decoded.exports.items name.now) }
-        ensures none { IfNone result (LacksFunc self.now.linked.valid.decoded.exports.items name.now) }
+        ensures some { IfSome result (Exports self.now.kept.linked.valid.decoded.exports.items name.now) }
+        ensures none { IfNone result (LacksFunc self.now.kept.linked.valid.decoded.exports.items name.now) }
     {
         exported(&self.linked.module().exports, name)
     }
 
     /// The bytes that the host functions `put` and `emit` have written.
     pub fn output(&self) -> &[u8]
-        ensures { result.now ≡ self.now.store.output.items }
+        ensures { result.now ≡ self.now.kept.store.output.items }
     {
         self.store.output.as_slice()
     }
 
     /// The bytes of its memory.
     pub fn bytes(&self) -> &[u8]
-        ensures { result.now ≡ self.now.memory.bytes }
+        ensures { result.now ≡ self.now.kept.memory.bytes }
     {
         self.memory.bytes()
     }

@@ -16,4 +16,4 @@ mod segments;
 
 pub use alone::call_alone;
 pub use instance::Instance;
-pub use outcome::{Alone, CallError, Outcome};
+pub use outcome::{Alone, CallError, Outcome, Refused, Stage};

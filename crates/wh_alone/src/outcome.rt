@@ -18,6 +18,35 @@ pub enum Outcome {
     OutOfFuel,
 }
 
+/// Where an instance is.
+#[derive(Clone, Copy, Debug, PartialEq, Eq)]
+pub enum Stage {
+    /// Its start function is to be called.
+    Fresh,
+    /// Its start function is under way.
+    Starting,
+    /// It has started, and no call is under way.
+    Idle,
+    /// A call is under way.
+    Calling,
+    /// Its start function has trapped, or was given up: nothing is called any more.
+    Dead,
+}
+
+/// Why a function isn't called. Nothing has changed.
+#[derive(Clone, Copy, Debug, PartialEq, Eq, Error)]
+pub enum Refused {
+    /// The start function, or another call, hasn't ended.
+    #[error("a call hasn't ended")]
+    Busy,
+    /// The start function has trapped, or was given up.
+    #[error("the start function has failed")]
+    Dead,
+    /// The module has no function of its own with this index, or these words aren't arguments of it.
+    #[error("there is no such function with such arguments")]
+    NoCall,
+}
+
 /// What came of one call of a module.
 #[derive(Clone, Copy, Debug, PartialEq, Eq)]
 pub enum Alone {

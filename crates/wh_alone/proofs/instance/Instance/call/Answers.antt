@@ -1,33 +1,42 @@
-use Rattle.std.proofs.Common.{refl, sym, subst}
-use Rattle.wh_machine.specs.Runs.{linked_parts, StoreStands, IsStanding}
-use Rattle.wh_alone.specs.Alone.{Plain, Called, IsNoCall}
+use Rattle.std.proofs.Common.{refl, sym, ap, subst, ◌∙◌}
+use Rattle.wh_syntax.specs.View.{view_module}
+use Rattle.wh_syntax.specs.declared.module.Module.{Module}
+use Rattle.wh_alone.specs.declared.outcome.Stage.{Stage}
+use Rattle.wh_alone.specs.declared.outcome.Stage.TheVariants.{Fresh, Starting, Idle, Calling, Dead}
+use Rattle.wh_alone.specs.Kept.{Kept}
+use Rattle.wh_alone.specs.Journal.{Plain, IsSomewhere, GoesOn, Called, GivenUp}
+use Rattle.wh_alone.specs.Stages.{IsOpen, IsNoCall}
+use Rattle.wh_model.specs.Replay.{store_at}
+use Rattle.wh_alone.specs.Stages.{after_call}
+use Rattle.wh_alone.proofs.Moving.{call_comes, somewhere_called}
+use Rattle.wh_alone.proofs.Present.{record_of, at_stage}
 use Rattle.wh_alone.proofs.instance.Instance.call.Goals as goal
 
-pub returns-then-not-can_call-clause-none : goal.returns-then-not-can_call-clause-none
-returns-then-not-can_call-clause-none c = (subst (λ (z : Plain). IsNoCall z c.args.func c.args.args.now) c.self.view_is (λ cx inst is h. c.if-not-can_call.ensures cx inst is h), refl)
+pub returns-then-not-can_call-clause-err : goal.returns-then-not-can_call-clause-err
+returns-then-not-can_call-clause-err c =
+    let k : Kept = record { linked = c.self.inside.linked; store = c.self.inside.store; memory = c.self.inside.memory; machine = c.self.inside.machine } in
+    ((ap (λ (i : Plain). i.stage) (sym c.self.view_is) ∙ c.in-Idle.is, subst (λ (i : Plain). IsNoCall i.kept c.args.func c.args.args.now) c.self.view_is (λ cx inst is h. c.if-not-can_call.ensures cx inst is h)), refl)
 
-pub call-requires : goal.call-requires
-call-requires c =
-    let a = c.self.invariant in
-    let h = c.if-not-can_call.ensures a.context a.inst a.around.instance in
-    record { context = a.context; inst = a.inst; s = a.s; around = a.around; type = h.0; body = h.1; vs = h.2; suits = h.3 }
+pub call-outcome-requires : goal.call-outcome-requires
+call-outcome-requires c =
+    let at = c.self.invariant.is_at in
+    let h = c.if-not-can_call.ensures at.store.0 at.inst at.store.1.instance in
+    record { context = at.store.0; inst = at.inst; s = store_at c.self.invariant.z; around = at.store.1; type = h.0; body = h.1; vs = h.2; suits = h.3 }
 
 pub invariant_of-self : goal.invariant_of-self
 invariant_of-self c =
-    let a = c.self.invariant in
-    let h = c.if-not-can_call.ensures a.context a.inst a.around.instance in
-    let x = c.call.ensures.came a.context a.inst a.s h.0 h.1 h.2 a.around h.3 in
-    let p = linked_parts c.self.inside.linked in
-    record {
-      context = x.0;
-      inst = a.inst;
-      s = x.1;
-      around = subst (λ n. StoreStands p c.call.new.store c.call.new.memory.bytes n x.0 a.inst x.1) (sym c.call.ensures.limit) x.3;
-      standing = λ e. subst (λ n. IsStanding p c.call.new.machine c.call.new.store c.call.new.memory.bytes n) (sym c.call.ensures.limit) (c.call.ensures.standing e);
-    }
+    let k : Kept = record { linked = c.self.inside.linked; store = c.self.inside.store; memory = c.self.inside.memory; machine = c.self.inside.machine } in
+    let k2 : Kept = record { linked = c.self.inside.linked; store = c.call-outcome.new.store; memory = c.call-outcome.new.memory; machine = c.call-outcome.new.machine } in
+    let r = c.call-outcome.result in
+    let called = call_comes k k2 c.args.func c.args.args.now c.args.fuel r.1 r.0 refl (λ cx inst is. c.if-not-can_call.ensures cx inst is) c.call-outcome.ensures in
+    subst (λ s. IsSomewhere (record_of k2 s)) (sym c.stage_after_call-self-inside.ensures)
+    (somewhere_called (record_of k Idle) (record_of k2 (after_call r.0)) c.args.func c.args.args.now c.args.fuel r.1 r.0 refl called (subst (λ s. IsSomewhere (record_of k s)) c.in-Idle.is c.self.invariant))
 
-pub returns-clause-some : goal.returns-clause-some
-returns-clause-some c =
-    let after : Plain = record { linked = c.self.inside.linked; store = c.call.new.store; memory = c.call.new.memory; machine = c.call.new.machine } in
-    subst (λ (z : Plain). Called z c.args.func c.args.args.now c.args.fuel c.call.result.0 c.call.result.1 after) c.self.view_is
-    ((λ cx inst is. c.if-not-can_call.ensures cx inst is), c.call.ensures.came, refl, c.call.ensures.limit)
+pub returns-clause-ok : goal.returns-clause-ok
+returns-clause-ok c =
+    let k : Kept = record { linked = c.self.inside.linked; store = c.self.inside.store; memory = c.self.inside.memory; machine = c.self.inside.machine } in
+    let k2 : Kept = record { linked = c.self.inside.linked; store = c.call-outcome.new.store; memory = c.call-outcome.new.memory; machine = c.call-outcome.new.machine } in
+    let r = c.call-outcome.result in
+    let called = call_comes k k2 c.args.func c.args.args.now c.args.fuel r.1 r.0 refl (λ cx inst is. c.if-not-can_call.ensures cx inst is) c.call-outcome.ensures in
+    subst (λ (i : Plain). Called i c.args.func c.args.args.now c.args.fuel r.0 r.1 (record_of k2 c.stage_after_call-self-inside.result)) (at_stage k c.self.inside.stage Idle c.args.self.now c.in-Idle.is c.self.view_is)
+    (subst (λ s. Called (record_of k Idle) c.args.func c.args.args.now c.args.fuel r.0 r.1 (record_of k2 s)) (sym c.stage_after_call-self-inside.ensures) called)
