@@ -21,3 +21,4 @@ pub mod ProgressCalls
 pub mod Progress
 pub mod Takings
 pub mod Coming
+pub mod Seeing

@@ -10,3 +10,4 @@ pub mod Runs
 pub mod Opening
 pub mod Waiting
 pub mod Went
+pub mod Looking

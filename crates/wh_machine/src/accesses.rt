@@ -80,7 +80,7 @@ pub fn turn_memory_grow<M: LinearMem>(stack: &mut Stack, memory: &mut M) -> Turn
 
 /// The word beneath the topmost one.
 #[inline(always)]
-fn second(words: &Words) -> u64
+pub fn second(words: &Words) -> u64
     requires { 1 < length words.now }
     ensures { (x y : ℕ) (rest : List ℕ) → words.now ≡ x ∷ y ∷ rest → result ≡ y }
 {

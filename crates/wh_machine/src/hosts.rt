@@ -14,9 +14,11 @@ use crate::store::Store;
 use wh_control::Words;
 use wh_model::{HostFunc, Trap};
 
-const MOST_EMITTED: u64 = 4096;
+/// How many bytes one `emit` may append.
+pub const MOST_EMITTED: u64 = 4096;
 
-const OUTPUT_ROOM: usize = 65536;
+/// How many bytes the host keeps as output.
+pub const OUTPUT_ROOM: usize = 65536;
 
 /// `input`: the word of that index, or 0.
 #[inline(always)]

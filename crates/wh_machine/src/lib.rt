@@ -3,6 +3,7 @@
 #![tactic(auto)]
 
 mod accesses;
+mod asking;
 mod branching;
 mod bytes;
 mod calling;
@@ -18,6 +19,7 @@ mod stepping;
 mod store;
 mod variables;
 
+pub use asking::asks;
 pub use machine::{Machine, Stepped};
 pub use memory::LinearMem;
 pub use opening::begin;

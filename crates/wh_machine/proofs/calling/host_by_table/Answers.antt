@@ -1,29 +1,17 @@
-use Rattle.std.proofs.Common.{◌≡◌, ◌∷◌, ℕ, List, sym, ap, subst, ◌∙◌, arith, length, map, slice_get, Some, refl}
+use Rattle.std.proofs.Common.{◌≡◌, ◌∷◌, ℕ, List, sym, ap, subst, ◌∙◌, arith, length, slice_get, refl}
 use Rattle.wh_model.specs.Syntax.{call_indirect}
-use Rattle.wh_model.specs.declared.HostFunc.{HostFunc}
-use Rattle.wh_model.specs.Store.{host, signature}
-use Rattle.wh_syntax.specs.declared.instr.Instr.TheVariants.{CallIndirect}
-use Rattle.wh_syntax.specs.View.{view_type}
+use Rattle.wh_model.specs.Store.{host}
 use Rattle.wh_control.proofs.Constructs.{at_now}
 use Rattle.wh_control.proofs.Calling.{host_at, indirect_stops}
-use Rattle.wh_machine.specs.Program.{Parts, funcs_in, parts_in}
+use Rattle.wh_machine.specs.Program.{funcs_in, parts_in}
 use Rattle.wh_machine.specs.declared.machine.Stack.{Stack}
-use Rattle.wh_machine.specs.declared.machine.Code.{Code}
-use Rattle.wh_machine.specs.declared.store.Store as kept
 use Rattle.wh_machine.specs.Entering.{pushed}
-use Rattle.wh_machine.specs.Turns.{calls_of, IsReady, Turned}
-use Rattle.wh_machine.proofs.Finding.{rests_here, host_found}
-use Rattle.wh_machine.proofs.HostSteps.{host_indirect}
-use Rattle.wh_machine.proofs.Hosted.{BeforeHost, has_operands, host_turned, host_waits, host_wants}
+use Rattle.wh_machine.specs.Turns.{calls_of, Turned}
+use Rattle.wh_machine.proofs.Finding.{rests_here, before_indirect, host_found}
+use Rattle.wh_machine.proofs.Hosted.{has_operands, host_turned, host_waits, host_wants}
 use Rattle.wh_machine.proofs.OwnCalls.{table_named, wanted_there}
 use Rattle.wh_machine.proofs.Turning.{here, place_fits, words_fit}
 use Rattle.wh_machine.proofs.calling.host_by_table.Goals as goal
-
-before : (p : Parts) (m : Stack) (code : Code) (k : kept.Store) (flat : List ℕ) (most w x y : ℕ) (h : HostFunc) → IsReady p code (pushed m w) k flat most (CallIndirect y) → slice_get k.table.items w ≡ Some (Some x) → slice_get p.hosts x ≡ Some h
-    → slice_get (map view_type p.decoded.types.items) y ≡ Some (signature (host h)) → BeforeHost p (pushed m w) k flat most (call_indirect y) h m.words
-before p m code k flat most w x y h r entry at type c inst out s a ws st =
-    let now = at_now st.running (call_indirect y) (here r) in
-    (now, host_indirect inst c p.hosts (funcs_in p) out (calls_of (pushed m w)) s m.frame a ws st.instance.program st.running y x h at now w m.words refl (table_named st w x entry) (ap (λ ts. slice_get ts y) st.instance.types ∙ type))
 
 -- the index is put back on the words that it was taken from
 put_back : (m m2 : Stack) (w : ℕ) (words : List ℕ) → m2 ≡ m → words ≡ w ∷ m2.words → ◌≡◌ {A = Stack} (record m2 { words = words }) (pushed m w)
@@ -67,7 +55,7 @@ call_host-requires-clause-operands g c =
     let u = r.sound in
     let st = u.stands in
     let pm = pushed m w in
-    has_operands c.args.func (before p m c.requires.0 c.args.store.now (g.M.LinearMem.bytes c.args.memory.now) (g.M.LinearMem.limit c.args.memory.now) w c.requires.1 y c.args.func r c.requires.3 c.requires.4 c.if-not-host_has_type.ensures u.context u.inst u.out u.s u.a u.ws st).1
+    has_operands c.args.func (before_indirect p m c.requires.0 c.args.store.now (g.M.LinearMem.bytes c.args.memory.now) (g.M.LinearMem.limit c.args.memory.now) w c.requires.1 y c.args.func r c.requires.3 c.requires.4 c.if-not-host_has_type.ensures u.context u.inst u.out u.s u.a u.ws st).1
 
 pub call_host-requires-clause-place : goal.call_host-requires-clause-place
 call_host-requires-clause-place g c = place_fits c.requires.2
@@ -102,7 +90,7 @@ returns-in-NotReady-clause-turned g c code x r entry at =
       put_back m c.call_host.new.stack w c.push.new.self same.0 c.push.ensures,
       same.1,
       c.call_host.ensures.bytes,
-      host_wants c.args.func p (g.M.LinearMem.ready c.args.memory.now) (pushed m w) k flat most (call_indirect y) m.words c.call_host.new.stack c.call_host.new.store need (before p m code k flat most w x y c.args.func r entry at c.if-not-host_has_type.ensures) h,
+      host_wants c.args.func p (g.M.LinearMem.ready c.args.memory.now) (pushed m w) k flat most (call_indirect y) m.words c.call_host.new.stack c.call_host.new.store need (before_indirect p m code k flat most w x y c.args.func r entry at c.if-not-host_has_type.ensures) h,
       same.2,
     )
 
@@ -118,7 +106,7 @@ returns-in_default g c = record {
       let most = g.M.LinearMem.limit c.args.memory.now in
       subst (λ b. Turned p (g.M.LinearMem.ready c.args.memory.now) (pushed m w) k flat most c.call_host.result c.call_host.new.stack c.call_host.new.store b) (sym c.call_host.ensures.bytes)
       (host_turned c.args.func c.call_host.result p (g.M.LinearMem.ready c.args.memory.now) (pushed m w) k flat most (call_indirect y) m.words c.call_host.new.stack c.call_host.new.store r.sound
-      (before p m code k flat most w x y c.args.func r entry at c.if-not-host_has_type.ensures) c.call_host.ensures.turned c.in_default.not-NotReady);
+      (before_indirect p m code k flat most w x y c.args.func r entry at c.if-not-host_has_type.ensures) c.call_host.ensures.turned c.in_default.not-NotReady);
   found = λ code x r entry at.
       let p = parts_in c.args.program.now in
       let m = c.args.stack.now in
@@ -128,7 +116,7 @@ returns-in_default g c = record {
       let flat = g.M.LinearMem.bytes c.args.memory.now in
       let most = g.M.LinearMem.limit c.args.memory.now in
       host_found c.args.func c.call_host.result p (g.M.LinearMem.ready c.args.memory.now) (pushed m w) k flat most (call_indirect y) m.words c.call_host.new.stack c.call_host.new.store (rests_here r tt)
-      (before p m code k flat most w x y c.args.func r entry at c.if-not-host_has_type.ensures) c.call_host.ensures.turned;
+      (before_indirect p m code k flat most w x y c.args.func r entry at c.if-not-host_has_type.ensures) c.call_host.ensures.turned;
   limit = c.call_host.ensures.limit;
   keeps = c.call_host.ensures.keeps;
   waits = c.call_host.ensures.waits;

@@ -1,27 +1,16 @@
-use Rattle.std.proofs.Common.{◌≡◌, ◌-◌, ℕ, List, sym, subst, arith, length, slice_get, Some, refl}
+use Rattle.std.proofs.Common.{◌-◌, ℕ, sym, subst, arith, length, refl}
 use Rattle.wh_model.specs.Syntax.{call}
-use Rattle.wh_model.specs.declared.HostFunc.{HostFunc}
 use Rattle.wh_control.specs.Represents.{Represents}
 use Rattle.wh_control.specs.Moves.{entered}
 use Rattle.wh_control.proofs.Constructs.{at_now}
 use Rattle.wh_control.proofs.Calling.{call_next, call_traps, call_room}
-use Rattle.wh_machine.specs.Program.{Parts, funcs_in, parts_in}
-use Rattle.wh_machine.specs.Turns.{calls_of, IsReady, Turned}
-use Rattle.wh_machine.specs.declared.machine.Stack.{Stack}
-use Rattle.wh_machine.specs.declared.machine.Code.{Code}
-use Rattle.wh_machine.specs.declared.store.Store as kept
-use Rattle.wh_syntax.specs.declared.instr.Instr.TheVariants.{Call}
-use Rattle.wh_machine.proofs.Finding.{rests_here, own_asks_nothing, host_found}
-use Rattle.wh_machine.proofs.HostSteps.{host_call}
-use Rattle.wh_machine.proofs.Hosted.{BeforeHost, has_operands, call_turned}
+use Rattle.wh_machine.specs.Program.{funcs_in, parts_in}
+use Rattle.wh_machine.specs.Turns.{calls_of, Turned}
+use Rattle.wh_machine.proofs.Finding.{rests_here, own_asks_nothing, before_call, host_found}
+use Rattle.wh_machine.proofs.Hosted.{has_operands, call_turned}
 use Rattle.wh_machine.proofs.OwnCalls.{own_named, entered_room}
 use Rattle.wh_machine.proofs.Turning.{here, place_fits, one_step, room_after}
 use Rattle.wh_machine.proofs.calling.turn_call.Goals as goal
-
-before : (p : Parts) (m : Stack) (code : Code) (k : kept.Store) (flat : List ℕ) (most : ℕ) (x : ℕ) (h : HostFunc) → IsReady p code m k flat most (Call x) → slice_get p.hosts x ≡ Some h → BeforeHost p m k flat most (call x) h m.words
-before p m code k flat most x h r at c inst out s a ws st =
-    let now = at_now st.running (call x) (here r) in
-    (now, host_call inst c p.hosts (funcs_in p) out (calls_of m) s m.frame a ws st.instance.program st.running x h at now)
 
 pub host_at-requires : goal.host_at-requires
 host_at-requires g c = c.if-index-imported.true
@@ -30,7 +19,7 @@ pub call_host-requires-clause-operands : goal.call_host-requires-clause-operands
 call_host-requires-clause-operands g c =
     let r = c.requires.1 in
     let u = r.sound in
-    has_operands c.host_at.result (before (parts_in c.args.program.now) c.args.stack.now c.requires.0 c.args.store.now (g.M.LinearMem.bytes c.args.memory.now) (g.M.LinearMem.limit c.args.memory.now) c.args.func c.host_at.result r c.host_at.ensures u.context u.inst u.out u.s u.a u.ws u.stands).1
+    has_operands c.host_at.result (before_call (parts_in c.args.program.now) c.args.stack.now c.requires.0 c.args.store.now (g.M.LinearMem.bytes c.args.memory.now) (g.M.LinearMem.limit c.args.memory.now) c.args.func c.host_at.result r c.host_at.ensures u.context u.inst u.out u.s u.a u.ws u.stands).1
 
 pub call_host-requires-clause-place : goal.call_host-requires-clause-place
 call_host-requires-clause-place g c = place_fits c.requires.1
@@ -44,7 +33,7 @@ returns-then-index-imported-clause-turned g c code r =
     let most = g.M.LinearMem.limit c.args.memory.now in
     subst (λ b. Turned p (g.M.LinearMem.ready c.args.memory.now) m k flat most c.call_host.result c.call_host.new.stack c.call_host.new.store b) (sym c.call_host.ensures.bytes)
     (call_turned c.host_at.result c.call_host.result p (g.M.LinearMem.ready c.args.memory.now) m k flat most (call c.args.func) c.call_host.new.stack c.call_host.new.store r.sound
-    (before p m code k flat most c.args.func c.host_at.result r c.host_at.ensures) c.call_host.ensures.turned)
+    (before_call p m code k flat most c.args.func c.host_at.result r c.host_at.ensures) c.call_host.ensures.turned)
 
 pub enter_own-requires-clause-there : goal.enter_own-requires-clause-there
 enter_own-requires-clause-there g c =
@@ -106,7 +95,7 @@ returns-then-index-imported-clause-found g c code r =
     let k = c.args.store.now in
     let flat = g.M.LinearMem.bytes c.args.memory.now in
     let most = g.M.LinearMem.limit c.args.memory.now in
-    host_found c.host_at.result c.call_host.result p (g.M.LinearMem.ready c.args.memory.now) m k flat most (call c.args.func) m.words c.call_host.new.stack c.call_host.new.store (rests_here r tt) (before p m code k flat most c.args.func c.host_at.result r c.host_at.ensures) c.call_host.ensures.turned
+    host_found c.host_at.result c.call_host.result p (g.M.LinearMem.ready c.args.memory.now) m k flat most (call c.args.func) m.words c.call_host.new.stack c.call_host.new.store (rests_here r tt) (before_call p m code k flat most c.args.func c.host_at.result r c.host_at.ensures) c.call_host.ensures.turned
 
 pub returns-then-enter_own-clause-found : goal.returns-then-enter_own-clause-found
 returns-then-enter_own-clause-found g c code r =

@@ -1,20 +1,15 @@
-use Rattle.std.proofs.Common.{◌≡◌, ◌+◌, ◌-◌, ◌∷◌, ℕ, List, sym, ap, subst, ◌∙◌, arith, length, slice_get, Some, refl}
+use Rattle.std.proofs.Common.{◌≡◌, ◌+◌, ◌-◌, ℕ, sym, ap, subst, ◌∙◌, arith, length, slice_get, Some, refl}
 use Rattle.wh_model.specs.Syntax.{call_indirect}
 use Rattle.wh_syntax.specs.declared.instr.Instr.TheVariants.{CallIndirect}
 use Rattle.wh_control.proofs.Constructs.{at_now}
 use Rattle.wh_control.proofs.Calling.{at_table, indirect_stops}
-use Rattle.wh_machine.specs.declared.machine.Stack.{Stack}
 use Rattle.wh_machine.specs.Program.{funcs_in, parts_in}
 use Rattle.wh_machine.specs.Entering.{pushed}
 use Rattle.wh_machine.specs.Turns.{calls_of, IsReady, Turned, Found}
-use Rattle.wh_machine.proofs.Finding.{found, rests_here, own_by_table_asks_nothing}
+use Rattle.wh_machine.proofs.Finding.{found, rests_here, own_by_table_asks_nothing, back}
 use Rattle.wh_machine.proofs.OwnCalls.{table_own}
 use Rattle.wh_machine.proofs.Turning.{here, any_ready}
 use Rattle.wh_machine.proofs.calling.turn_call_indirect.Goals as goal
-
--- the machine is the one behind the pop with its index put back
-back : (m : Stack) (words : List ℕ) (w : ℕ) → m.words ≡ w ∷ words → ◌≡◌ {A = Stack} m (pushed (record m { words = words }) w)
-back m words w e = ap (λ ws. let x : Stack = record m { words = ws } in x) e
 
 pub pop-index-requires : goal.pop-index-requires
 pop-index-requires g c =
