@@ -1,6 +1,7 @@
 //! The program: words, a script, replies and a status.
 
 ghost use Rattle.std.specs.Prelude.{◌≤◌};
+ghost use Rattle.wasmhost_program.specs.Written.{WritesReplies};
 
 use crate::arguments::{Refused, read_args};
 use std::fs::File;
@@ -25,11 +26,13 @@ fn words(rt: &(impl Env + AllocGlobal)) -> io::Result<Vec<String>> {
 }
 
 /// Runs the script of this file.
-fn run_file(
+fn run_file<W: Write>(
     rt: &(impl Files + AllocGlobal),
     path: &str,
-    output: &mut impl Write,
-) -> Result<(), ScriptFault> {
+    output: &mut W,
+) -> Result<(), ScriptFault>
+    ensures { WritesReplies (W.contents output.old) (W.contents output.new) }
+{
     let Ok(mut file) = File::open(rt, path) else {
         return Err(ScriptFault::Script);
     };
@@ -37,11 +40,13 @@ fn run_file(
 }
 
 /// Runs the script of this file, or of standard input.
-fn run_given(
+fn run_given<W: Write>(
     rt: &(impl Files + Input + AllocGlobal),
     script: Option<&str>,
-    output: &mut impl Write,
-) -> Result<(), ScriptFault> {
+    output: &mut W,
+) -> Result<(), ScriptFault>
+    ensures { WritesReplies (W.contents output.old) (W.contents output.new) }
+{
     match script {
         Some(path) => run_file(rt, path, output),
         None => run_script(rt.alloc(), &mut rt.reader(), output),
@@ -58,13 +63,15 @@ fn stop(errors: &mut impl Write, fault: ScriptFault) -> u8
 
 /// Answers the script that the words of a command line name, the first of them being the program's: the replies go to
 /// `output`, and why it stops or isn't begun to `errors`. The result is the status.
-pub fn answer(
+pub fn answer<W: Write>(
     rt: &(impl Files + Input + AllocGlobal),
     words: &[String],
-    output: &mut impl Write,
+    output: &mut W,
     errors: &mut impl Write,
 ) -> u8
-    ensures { result ≤ 2 }
+    ensures status { result ≤ 2 }
+    // Nothing but replies is written to the output.
+    ensures replies { WritesReplies (W.contents output.old) (W.contents output.new) }
 {
     let outcome = match read_args(rt.alloc(), words) {
         Ok(script) => run_given(rt, script, output),
