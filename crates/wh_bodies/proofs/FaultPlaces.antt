@@ -1,5 +1,5 @@
 -- The instruction at which a fault lies.
-use Rattle.std.proofs.Common.{◌≡◌, ℕ, suc, ◌+◌, ◌<◌, List, [], ◌∷◌, ◌++◌, length, Result, Ok, Err, ap, subst, arith}
+use Rattle.std.proofs.Common.{◌≡◌, ℕ, suc, ◌+◌, ◌<◌, List, [], ◌∷◌, length, Result, Ok, Err, ap, subst, arith}
 use Rattle.wh_model.specs.Syntax.{Instr, expression, Body}
 use Rattle.wh_model.specs.Typing.{Context}
 use Rattle.wh_bodies.specs.declared.fault.ValidKind.{ValidKind}

@@ -1,6 +1,6 @@
 -- No script lacks a text of replies, where no memory is wanted. The text isn't constructed: whether a module is valid is decided
 -- by the validator's code, and by no definition.
-use Rattle.std.proofs.Common.{◌≡◌, ◌⊎◌, inl, inr, ℕ, zero, suc, ◌+◌, ◌*◌, ◌<◌, ◌≤◌, List, [], ◌∷◌, ◌++◌, length, take, get_or, Option, None, Some, slice_get, Bool, true, false, refl, arith}
+use Rattle.std.proofs.Common.{◌≡◌, ◌⊎◌, inl, inr, ℕ, zero, suc, ◌+◌, ◌<◌, ◌≤◌, List, [], ◌∷◌, ◌++◌, length, take, get_or, Option, None, Some, slice_get, Bool, true, false, refl, arith}
 use Rattle.std.specs.List.{AllByRecursion}
 use Rattle.wh_model.specs.declared.FaultKind.{FaultKind}
 use Rattle.wh_model.specs.Numbering.{fault_number}

@@ -1,5 +1,5 @@
 -- One body more is checked; and what is known of checked bodies.
-use Rattle.std.proofs.Common.{◌≡◌, ℕ, zero, suc, ◌+◌, ◌<◌, List, [], ◌∷◌, ◌++◌, length, map, drop, get_or, Some, slice_get, refl, sym, ap, subst, arith, ◌∙◌, append_assoc, append-nil, ◌≤◌, Option, min, ◌-◌, ◌^◌}
+use Rattle.std.proofs.Common.{◌≡◌, ℕ, zero, suc, ◌+◌, ◌<◌, List, [], ◌∷◌, ◌++◌, length, map, drop, get_or, Some, slice_get, refl, sym, ap, subst, arith, ◌∙◌, append_assoc, append-nil, ◌≤◌, min, ◌-◌, ◌^◌}
 use Rattle.std.proofs.Math.ListN.{drop_of_length-le}
 use Rattle.wh_model.specs.Syntax.{FuncType, Body}
 use Rattle.wh_model.specs.Typing.{Context}
