@@ -16,3 +16,4 @@ pub mod ConstructsForward
 pub mod Complete
 pub mod Refused
 pub mod BodyKinds
+pub mod FaultPlaces

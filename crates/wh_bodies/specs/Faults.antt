@@ -1,5 +1,6 @@
--- Faults of modules that were decoded: their numbers, which are this project's own, and how a check answers.
-use Rattle.std.specs.Prelude.{◌≡◌, ◌≢◌, ℕ, Result, Ok, Err}
+-- Faults of modules that were decoded: their numbers, which are this project's own, where they lie, and how a check answers.
+use Rattle.std.specs.Prelude.{◌≡◌, ◌≢◌, ℕ, ◌<◌, length, Result, Ok, Err}
+use Rattle.wh_model.specs.Syntax.{expression, Body}
 use Rattle.wh_bodies.specs.declared.fault.ValidKind.{ValidKind}
 use Rattle.wh_bodies.specs.declared.fault.ValidKind.TheVariants.{BadType, Index, Align, Arity, Const, DuplicateExport, Start, Limits, Height, ConstImmutable, Memory}
 
@@ -30,6 +31,10 @@ IsOfBody Limits = Unit {0}
 IsOfBody Height = Unit {0}
 IsOfBody ConstImmutable = Unit {0}
 IsOfBody Memory = Unit {0}
+
+-- the body has this instruction, where opcodes count from 0, `else` and `end` included
+abbrev pub HasInstr : Body → ℕ → Type 0
+HasInstr b n = n < length (expression b.code)
 
 -- one step, and another one from what it leaves
 abbrev pub follow : {A B E : Type 0} → Result A E → (A → Result B E) → Result B E

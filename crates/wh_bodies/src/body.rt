@@ -6,7 +6,7 @@ ghost use Rattle.wh_syntax.specs.Shown.{instr_of, InPool};
 ghost use Rattle.wh_bodies.specs.Stepping.{run};
 ghost use Rattle.wh_bodies.specs.Starting.{started, whole_run, RunsTo, RunsFrom};
 ghost use Rattle.wh_bodies.specs.Marks.{all_marks};
-ghost use Rattle.wh_bodies.specs.Faults.{IsOfBody};
+ghost use Rattle.wh_bodies.specs.Faults.{IsOfBody, HasInstr};
 ghost use Rattle.wh_bodies.specs.Table.{table_of};
 ghost use Rattle.wh_bodies.specs.Views.{view_around, view_context, view_side, state_of};
 ghost use Rattle.wh_model.specs.Validity.{ValidBody};
@@ -164,6 +164,8 @@ pub fn check_body(
     ensures complete { IfErr result (λ e. e.kind ≢ ValidKind.Memory → ValidBody (view_context context.now) (view_type func_type.now) (view_body body.now) → FitsBody (view_context context.now) (view_type func_type.now) (view_body body.now) → ⊥) }
     // Another fault than want of memory is one of those that a body can have.
     ensures kinds { IfErr result (λ e. e.kind ≢ ValidKind.Memory → IsOfBody e.kind) }
+    // It names an instruction of the body.
+    ensures place { IfErr result (λ e. e.kind ≢ ValidKind.Memory → HasInstr (view_body body.now) e.instr) }
     // The table is that of the body.
     ensures table { IfOk result (λ found. view_side found ≡ table_of (view_context context.now) (view_type func_type.now) (view_body body.now)) }
 {

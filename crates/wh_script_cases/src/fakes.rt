@@ -1,4 +1,4 @@
-//! A reader that gives a byte at a time, or fails; a writer that fails.
+//! A reader that gives a byte at a time, or fails; a writer that fails; a reader and a writer that are interrupted.
 
 use std::io::{Error, ErrorKind, Read, Result, Write};
 
@@ -52,6 +52,65 @@ impl Write for Tired {
 
     fn flush(&mut self) -> Result<()> {
         self.flushes = self.flushes.saturating_add(1);
+        Ok(())
+    }
+}
+
+/// A reader of three bytes at a time that is interrupted, so many times, before it gives more.
+#[derive(Drop)]
+pub struct Disturbed<'a> {
+    /// What it gives.
+    pub bytes: &'a [u8],
+    /// How many bytes it gives before it is interrupted.
+    pub undisturbed: usize,
+    /// How often it is interrupted then.
+    pub interruptions: usize,
+}
+
+impl Read for Disturbed<'_> {
+    fn read(&mut self, buf: &mut [u8]) -> Result<usize> {
+        if self.undisturbed == 0 && self.interruptions > 0 {
+            self.interruptions -= 1;
+            return Err(Error::from(ErrorKind::Interrupted));
+        }
+        let count = self.bytes.len().min(buf.len()).min(3);
+        let count = if self.interruptions > 0 {
+            count.min(self.undisturbed)
+        } else {
+            count
+        };
+        let (first, rest) = self.bytes.split_at(count);
+        buf[..count].copy_from_slice(first);
+        self.bytes = rest;
+        self.undisturbed = self.undisturbed.saturating_sub(count);
+        Ok(count)
+    }
+}
+
+/// A writer that keeps what it is given, three bytes at a time, and at one write is interrupted.
+#[derive(Drop)]
+pub struct Halting {
+    /// What was written.
+    pub written: Vec<u8>,
+    /// How many writes there are before one is interrupted; none is where there are fewer.
+    pub undisturbed: usize,
+    /// Whether a write was interrupted.
+    pub is_over: bool,
+}
+
+impl Write for Halting {
+    fn write(&mut self, buf: &[u8]) -> Result<usize> {
+        if self.undisturbed == 0 && !self.is_over {
+            self.is_over = true;
+            return Err(Error::from(ErrorKind::Interrupted));
+        }
+        let count = buf.len().min(3);
+        self.written.extend_from_slice(&buf[..count])?;
+        self.undisturbed = self.undisturbed.saturating_sub(1);
+        Ok(count)
+    }
+
+    fn flush(&mut self) -> Result<()> {
         Ok(())
     }
 }

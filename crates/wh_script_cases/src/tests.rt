@@ -1,4 +1,4 @@
-use crate::fakes::{Tired, Trickle};
+use crate::fakes::{Disturbed, Halting, Tired, Trickle};
 use std::alloc::AllocError;
 use std::io::Read;
 use std::test::Fail;
@@ -251,6 +251,44 @@ fn a_failed_read_ends_a_script(rt: HostRuntime) -> Result<(), Fail> {
         assert_eq!(rt; result, Err(ScriptFault::Script), "after {fails_after}");
         assert_eq!(rt; written.len(), kept, "after {fails_after}");
         assert!(rt; THREE_REPLIES.starts_with(written.as_slice()));
+    }
+    Ok(())
+}
+
+#[test]
+fn an_interrupted_read_is_made_again(rt: HostRuntime) -> Result<(), Fail> {
+    for undisturbed in 0..THREE.len() + 1 {
+        for interruptions in 1..4 {
+            let reader = Disturbed {
+                bytes: THREE,
+                undisturbed,
+                interruptions,
+            };
+            let (result, written) = outcome(&rt, reader)?;
+            assert_eq!(rt; result, Ok(()), "after {undisturbed}");
+            assert!(rt; written.as_slice() == THREE_REPLIES, "after {undisturbed}");
+        }
+    }
+    Ok(())
+}
+
+#[test]
+fn an_interrupted_write_is_made_again(rt: HostRuntime) -> Result<(), Fail> {
+    for undisturbed in 0..THREE_REPLIES.len() {
+        let mut writer = Halting {
+            written: Vec::new(rt.alloc()),
+            undisturbed,
+            is_over: false,
+        };
+        let mut reader = THREE;
+        let result = run_script(rt.alloc(), &mut reader, &mut writer);
+        assert_eq!(rt; result, Ok(()), "after {undisturbed}");
+        assert!(rt;
+            writer.written.as_slice() == THREE_REPLIES,
+            "after {undisturbed}"
+        );
+        // 25 bytes, 12 and 16 are 9, 4 and 6 writes of three bytes.
+        assert_eq!(rt; writer.is_over, undisturbed < 19, "after {undisturbed}");
     }
     Ok(())
 }

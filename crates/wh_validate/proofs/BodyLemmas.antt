@@ -1,5 +1,5 @@
 -- One body more is checked; and what is known of checked bodies.
-use Rattle.std.proofs.Common.{◌≡◌, ℕ, zero, suc, ◌+◌, ◌<◌, List, [], ◌∷◌, ◌++◌, length, map, drop, get_or, Some, slice_get, refl, sym, ap, subst, arith, ◌∙◌, append_assoc, append-nil, ◌≤◌, Option, min, ◌-◌, ◌^◌}
+use Rattle.std.proofs.Common.{◌≡◌, ℕ, zero, suc, ◌+◌, ◌<◌, List, [], ◌∷◌, ◌++◌, length, map, drop, get_or, Some, slice_get, refl, sym, ap, subst, arith, ◌∙◌, append_assoc, append-nil, ◌≤◌, min, ◌-◌, ◌^◌}
 use Rattle.std.proofs.Math.ListN.{drop_of_length-le}
 use Rattle.wh_model.specs.Syntax.{FuncType, Body}
 use Rattle.wh_model.specs.Typing.{Context}
@@ -9,6 +9,9 @@ use Rattle.wh_syntax.specs.View.{view_body}
 use Rattle.wh_syntax.specs.declared.module.Body.{Body as Given}
 use Rattle.wh_bodies.specs.Table.{Table, table_of}
 use Rattle.wh_validate.specs.Soundness.{Checked}
+use Rattle.wh_bodies.specs.declared.fault.ValidKind.{ValidKind}
+use Rattle.wh_bodies.specs.Faults.{IsOfBody, HasInstr}
+use Rattle.wh_validate.specs.declared.error.ValidError.{ValidError}
 use Rattle.wh_validate.specs.Blaming.{IsBadBody, Blames}
 use Rattle.wh_validate.proofs.Lists.{get_there, get_mapped}
 
@@ -73,9 +76,9 @@ body_right c fs bs k d b f lt at type all =
 
 -- ---- a body that was refused
 
-pub bad_body : (c : Context) (fs : List ℕ) (bs : List Given) (k d : ℕ) (b : Given) (f : FuncType) → k < length fs → k < length bs → b ≡ get_or bs k b → slice_get c.types (get_or fs k d) ≡ Some f
-    → ¬ (ValidBody c f (view_body b) × FitsBody c f (view_body b)) → IsBadBody c fs (map view_body bs) k
-bad_body c fs bs k d b f lf lb at type refused = record {
+pub bad_body : (c : Context) (fs : List ℕ) (bs : List Given) (k d : ℕ) (b : Given) (f : FuncType) (instr : ℕ) → k < length fs → k < length bs → b ≡ get_or bs k b → slice_get c.types (get_or fs k d) ≡ Some f
+    → ¬ (ValidBody c f (view_body b) × FitsBody c f (view_body b)) → HasInstr (view_body b) instr → IsBadBody c fs (map view_body bs) k instr
+bad_body c fs bs k d b f instr lf lb at type refused place = record {
   index = get_or fs k d;
   type = f;
   body = view_body b;
@@ -83,7 +86,10 @@ bad_body c fs bs k d b f lf lb at type refused = record {
   typed = type;
   there = get_mapped view_body bs k b lb ∙ ap (λ (w : Given). Some (view_body w)) (sym at);
   refused = refused;
+  has_instr = place;
 }
 
-pub blamed : (c : Context) (imported : ℕ) (fs : List ℕ) (bs : List Body) (k : ℕ) (func : Option ℕ) → func ≡ Some (min (imported + k) (2 ^ 32 - 1)) → IsBadBody c fs bs k → Blames c imported fs bs func
-blamed c imported fs bs k func e bad = subst (λ w. Blames c imported fs bs w) (sym e) (k, refl, bad)
+-- a fault of the body at k
+pub blamed : (c : Context) (imported : ℕ) (fs : List ℕ) (bs : List Body) (k instr : ℕ) (kind : ValidKind) (e : ValidError) → e ≡ record { func = Some (min (imported + k) (2 ^ 32 - 1)); instr = instr; kind = kind } → IsOfBody kind → IsBadBody c fs bs k instr
+    → Blames c imported fs bs e.func e.instr e.kind
+blamed c imported fs bs k instr kind e is listed bad = subst (λ (w : ValidError). Blames c imported fs bs w.func w.instr w.kind) (sym is) (listed, k, refl, bad)

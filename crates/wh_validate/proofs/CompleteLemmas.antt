@@ -11,6 +11,7 @@ use Rattle.wh_syntax.specs.declared.module.Import.{Import}
 use Rattle.wh_syntax.specs.declared.module.ImportDesc.{ImportDesc}
 use Rattle.wh_syntax.specs.declared.module.ImportDesc.TheVariants.{Func, Global as GlobalOf}
 use Rattle.wh_syntax.specs.View.{view_module, view_import, view_desc, view_type, view_table, view_limits, view_global, view_element, view_data, view_export, view_body}
+use Rattle.wh_validate.specs.Blaming.{with_bodies}
 use Rattle.wh_validate.specs.Gathering.{HasValidOutline, IsAround}
 use Rattle.wh_validate.specs.Sizing.{IsTable}
 use Rattle.wh_validate.specs.Naming.{NamesTypeOf, NamesType}
@@ -91,9 +92,17 @@ imports_name n (i ∷ is) a = let h = first i.desc a in (h.0, imports_name n is 
 
 -- ---- parts
 
-pub outline_of : (m : Module) → Valid (view_module m) × Fits (view_module m) → HasValidOutline m
-outline_of m both =
-    let (c, (valid, fits)) = right_in (view_module m) both in
+-- bodies are no part of the context
+context_with : (m : model.Module) (bs : List model.Body) (c : Context) → IsContext m c → IsContext (with_bodies m bs) c
+context_with m bs c h = record { types = h.types; funcs = h.funcs; tables = h.tables; memories = h.memories; globals = h.globals; no_locals = h.no_locals }
+
+-- with these bodies in place of its own, the module is valid and fits
+abbrev pub IsRightWith : Module → List model.Body → Type 0
+IsRightWith m bs = Valid (with_bodies (view_module m) bs) × Fits (with_bodies (view_module m) bs)
+
+pub outline_of : (m : Module) (bs : List model.Body) → IsRightWith m bs → HasValidOutline m
+outline_of m bs both =
+    let (c, (valid, fits)) = right_in (with_bodies (view_module m) bs) both in
     let context = valid.context in
     let below = split_below (λ x. x < length m.types.items) (imported_funcs (map view_import m.imports.items)) m.funcs.items
     (subst (λ n. AllByRecursion (λ x. x < n) (imported_funcs (map view_import m.imports.items) ++ m.funcs.items)) (length-map m.types.items view_type)
@@ -108,9 +117,9 @@ outline_of m both =
       memories = from_mapped (λ l. WithinBound most_pages (view_limits l)) (WithinBound most_pages) view_limits (λ l p. p) m.memories.items valid.memories;
     }
 
-around_of : (m : Module) (c : Context) → IsValidIn (view_module m) c → IsAround m c (imported_globals (map view_import m.imports.items))
+around_of : (m : Module) (bs : List model.Body) (c : Context) → IsValidIn (with_bodies (view_module m) bs) c → IsAround m c (imported_globals (map view_import m.imports.items))
 unfolding IsGlobal IsElement IsSegment IsExport
-around_of m c valid =
+around_of m bs c valid =
     let seen = imported_globals (map view_import m.imports.items) in
     record {
       globals = from_mapped (IsGlobal seen) (ValidGlobal (map view_import m.imports.items)) view_global (λ x p. p) m.globals.items valid.globals;
@@ -122,10 +131,11 @@ around_of m c valid =
     }
 
 -- in a context of the module
-pub around_in : (m : Module) (c : Context) (seen : List model.GlobalType) → IsContext (view_module m) c → seen ≡ imported_globals (map view_import m.imports.items) → Valid (view_module m) × Fits (view_module m) → IsAround m c seen
-around_in m c seen context same both =
-    let (d, (valid, fits)) = right_in (view_module m) both in
-    subst (λ w. IsAround m c w) (sym same) (around_of m c (subst (λ w. IsValidIn (view_module m) w) (one_context (view_module m) d c valid.context context) valid))
+pub around_in : (m : Module) (bs : List model.Body) (c : Context) (seen : List model.GlobalType) → IsContext (view_module m) c → seen ≡ imported_globals (map view_import m.imports.items) → IsRightWith m bs → IsAround m c seen
+around_in m bs c seen context same both =
+    let n = with_bodies (view_module m) bs in
+    let (d, (valid, fits)) = right_in n both in
+    subst (λ w. IsAround m c w) (sym same) (around_of m bs c (subst (λ w. IsValidIn n w) (one_context n d c valid.context (context_with (view_module m) bs c context)) valid))
 
 pub bodies_in : (m : Module) (c : Context) → IsContext (view_module m) c → Valid (view_module m) × Fits (view_module m) → ValidBodies c m.funcs.items (map view_body m.bodies.items) × FitBodies c m.funcs.items (map view_body m.bodies.items)
 bodies_in m c context both =
@@ -139,7 +149,7 @@ same_count : (c : Context) (fs : List ℕ) (bs : List model.Body) → ValidBodie
 same_count c [] bs e = ap length e
 same_count c (x ∷ fs) bs (b, rest, e, f, at, valid, more) = ap length e ∙ ap suc (same_count c fs rest more)
 
-pub count_of : (m : Module) → Valid (view_module m) × Fits (view_module m) → length m.bodies.items ≡ length m.funcs.items
-count_of m both =
-    let (c, (valid, fits)) = right_in (view_module m) both in
-    sym (length-map m.bodies.items view_body) ∙ same_count c m.funcs.items (map view_body m.bodies.items) valid.bodies
+pub count_of : (m : Module) (bs : List model.Body) → length bs ≡ length (map view_body m.bodies.items) → IsRightWith m bs → length m.bodies.items ≡ length m.funcs.items
+count_of m bs many both =
+    let (c, (valid, fits)) = right_in (with_bodies (view_module m) bs) both in
+    sym (many ∙ length-map m.bodies.items view_body) ∙ same_count c m.funcs.items bs valid.bodies

@@ -25,8 +25,9 @@ use Rattle.wh_validate.specs.Soundness.{Checked, IsSound}
 use Rattle.wh_validate.proofs.Lists.{each_recursion}
 use Rattle.wh_validate.specs.declared.error.ValidError.{ValidError}
 use Rattle.wh_bodies.specs.declared.fault.ValidKind.TheVariants.{Memory}
-use Rattle.wh_validate.specs.Blaming.{Blames, BlamesRightly}
-use Rattle.wh_validate.proofs.CompleteLemmas.{around_in, bodies_in}
+use Rattle.wh_bodies.specs.declared.fault.ValidKind.{ValidKind}
+use Rattle.wh_validate.specs.Blaming.{Blames, HasRightBodies, BlamesRightly}
+use Rattle.wh_validate.proofs.CompleteLemmas.{IsRightWith, around_in, bodies_in}
 use Rattle.wh_validate.proofs.BodyLemmas.{valid_checked, fit_checked}
 
 -- ---- lists
@@ -148,21 +149,25 @@ module _ {V : Type 0} (tables_of : V → List Table) (m : Module) (g : Gathered)
       (subst (λ w. ValidBodies (view_context c) w (map view_body m.bodies.items) × FitBodies (view_context c) w (map view_body m.bodies.items)) (sym ef)
       (bodies_in m (view_context c) (is_context m g c outline gathered types funcs tables memories globals) both)))
 
-  pub blame_turned : (r : Result V ValidError) → IfErr r (λ e. e.kind ≢ Memory → Blames (view_context c) g.imported_funcs fs (map view_body bs) e.func) → IfErr r (λ e. e.kind ≢ Memory → BlamesRightly (view_module m) e.func)
+  pub blame_turned : (r : Result V ValidError) → IfErr r (λ e. e.kind ≢ Memory → Blames (view_context c) g.imported_funcs fs (map view_body bs) e.func e.instr e.kind) → IfErr r (λ e. e.kind ≢ Memory → BlamesRightly (view_module m) e.func e.instr e.kind)
   blame_turned (Ok v) blames = tt
   blame_turned (Err e) blames = λ other. named e.func (blames other)
     where
-      named : (func : Option ℕ) → Blames (view_context c) g.imported_funcs fs (map view_body bs) func → BlamesRightly (view_module m) func
+      named : (func : Option ℕ) → Blames (view_context c) g.imported_funcs fs (map view_body bs) func e.instr e.kind → BlamesRightly (view_module m) func e.instr e.kind
       named None h = absurd h
       named (Some func) h = (
         view_context c,
         is_context m g c outline gathered types funcs tables memories globals,
-        subst (λ n. Blames (view_context c) n m.funcs.items (map view_body m.bodies.items) (Some func)) gathered.count
-            (subst (λ w. Blames (view_context c) g.imported_funcs m.funcs.items (map view_body w) (Some func)) eb (subst (λ w. Blames (view_context c) g.imported_funcs w (map view_body bs) (Some func)) ef h)),
+        subst (λ n. Blames (view_context c) n m.funcs.items (map view_body m.bodies.items) (Some func) e.instr e.kind) gathered.count
+            (subst (λ w. Blames (view_context c) g.imported_funcs m.funcs.items (map view_body w) (Some func) e.instr e.kind) eb (subst (λ w. Blames (view_context c) g.imported_funcs w (map view_body bs) (Some func) e.instr e.kind) ef h)),
       )
 
--- what is valid and fits is so around its bodies
+-- a fault that names no function
+pub no_function : (m : model.Module) (kind : ValidKind) (e : ValidError) → e ≡ record { func = None; instr = 0; kind = kind } → ¬ (HasRightBodies m) → BlamesRightly m e.func e.instr e.kind
+no_function m kind e is none = subst (λ (w : ValidError). BlamesRightly m w.func w.instr w.kind) (sym is) none
+
+-- what is valid and fits, with these bodies in place of its own, is so around its bodies
 pub around_given : (m : Module) (g : Gathered) (c : Given) → HasValidOutline m → IsGathered m g → c.types.now ≡ m.types.items → c.funcs.now ≡ g.indices.funcs.items → c.tables.now ≡ m.tables.items → c.memories.now ≡ m.memories.items → c.globals.now ≡ g.indices.globals.items
-    → Valid (view_module m) × Fits (view_module m) → IsAround m (view_context c) (map view_global_type (take g.imported_globals c.globals.now))
-around_given m g c outline gathered types funcs tables memories globals both =
-    around_in m (view_context c) (map view_global_type (take g.imported_globals c.globals.now)) (is_context m g c outline gathered types funcs tables memories globals) (seen_imported m g c outline gathered types funcs tables memories globals) both
+    → (bs : List model.Body) → IsRightWith m bs → IsAround m (view_context c) (map view_global_type (take g.imported_globals c.globals.now))
+around_given m g c outline gathered types funcs tables memories globals bs both =
+    around_in m bs (view_context c) (map view_global_type (take g.imported_globals c.globals.now)) (is_context m g c outline gathered types funcs tables memories globals) (seen_imported m g c outline gathered types funcs tables memories globals) both

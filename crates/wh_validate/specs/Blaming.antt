@@ -1,13 +1,18 @@
--- Which function a fault names: one of the module's own, whose body isn't valid or doesn't fit (3.4.1). Imported functions
--- count first, and a number past those of 32 bits is named as the greatest.
+-- What a fault names. In a function: one of the module's own, whose body isn't valid or doesn't fit (3.4.1), and an instruction
+-- of it. Imported functions count first, and a number past those of 32 bits is named as the greatest. In no function: what is
+-- wrong isn't in the bodies.
 use Rattle.std.specs.Prelude.{◌≡◌, ℕ, ◌+◌, ◌-◌, ◌^◌, min, List, length, Option, Some, None, slice_get}
 use Rattle.wh_model.specs.Syntax.{FuncType, Body, Module}
 use Rattle.wh_model.specs.Typing.{Context}
-use Rattle.wh_model.specs.Validity.{ValidBody, IsContext, imported_funcs}
-use Rattle.wh_model.specs.Heights.{FitsBody}
+use Rattle.wh_model.specs.Validity.{ValidBody, IsContext, imported_funcs, Valid}
+use Rattle.wh_model.specs.Heights.{FitsBody, Fits}
+use Rattle.wh_bodies.specs.declared.fault.ValidKind.{ValidKind}
+use Rattle.wh_bodies.specs.Faults.{IsOfBody, HasInstr}
 
--- the body of the function that stands there among the module's own
-pub record IsBadBody (c : Context) (funcs : List ℕ) (bodies : List Body) (at : ℕ) : Type 0 where
+-- ---- in a function
+
+-- the body of the function that stands there among the module's own, which has this instruction
+pub record IsBadBody (c : Context) (funcs : List ℕ) (bodies : List Body) (at instr : ℕ) : Type 0 where
   pub index : ℕ
   pub type : FuncType
   pub body : Body
@@ -15,13 +20,28 @@ pub record IsBadBody (c : Context) (funcs : List ℕ) (bodies : List Body) (at :
   pub typed : slice_get c.types index ≡ Some type
   pub there : slice_get bodies at ≡ Some body
   pub refused : ¬ (ValidBody c type body × FitsBody c type body)
+  pub has_instr : HasInstr body instr
 
--- behind so many imported functions
-abbrev pub Blames : Context → ℕ → List ℕ → List Body → Option ℕ → Type 0
-Blames c imported funcs bodies None = ⊥
-Blames c imported funcs bodies (Some func) = (at : ℕ) × (func ≡ min (imported + at) (2 ^ 32 - 1)) × IsBadBody c funcs bodies at
+-- behind so many imported functions, with a fault that bodies have
+abbrev pub Blames : Context → ℕ → List ℕ → List Body → Option ℕ → ℕ → ValidKind → Type 0
+Blames c imported funcs bodies None instr kind = ⊥
+Blames c imported funcs bodies (Some func) instr kind =
+    IsOfBody kind × (at : ℕ) × (func ≡ min (imported + at) (2 ^ 32 - 1)) × IsBadBody c funcs bodies at instr
 
--- in the context of the module, where a function is named
-abbrev pub BlamesRightly : Module → Option ℕ → Type 0
-BlamesRightly m None = Unit {0}
-BlamesRightly m (Some func) = (c : Context) × IsContext m c × Blames c (length (imported_funcs m.imports)) m.funcs m.bodies (Some func)
+-- ---- in no function
+
+-- the module with these bodies in place of its own
+abbrev pub with_bodies : Module → List Body → Module
+with_bodies m bodies = record m { bodies = bodies }
+
+-- with some bodies in place of its own, as many, the module is valid and fits
+abbrev pub HasRightBodies : Module → Type 0
+HasRightBodies m = (bodies : List Body) × (length bodies ≡ length m.bodies) × Valid (with_bodies m bodies) × Fits (with_bodies m bodies)
+
+-- ---- in a module
+
+-- in the context of the module, where a function is named; where none is, no bodies would make the module right
+abbrev pub BlamesRightly : Module → Option ℕ → ℕ → ValidKind → Type 0
+BlamesRightly m None instr kind = ¬ (HasRightBodies m)
+BlamesRightly m (Some func) instr kind =
+    (c : Context) × IsContext m c × Blames c (length (imported_funcs m.imports)) m.funcs m.bodies (Some func) instr kind

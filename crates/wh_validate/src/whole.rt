@@ -110,7 +110,7 @@ fn check_around(
 fn check_whole(alloc: Global, decoded: &Module) -> Result<Vec<SideTable>, ValidError>
     ensures sound { IfOk result (λ tables. IsSound (view_module decoded.now) (map view_side tables.items)) }
     ensures complete { IfErr result (λ e. e.kind ≢ ValidKind.Memory → ¬ (Valid (view_module decoded.now) × Fits (view_module decoded.now))) }
-    ensures blames { IfErr result (λ e. e.kind ≢ ValidKind.Memory → BlamesRightly (view_module decoded.now) e.func) }
+    ensures blames { IfErr result (λ e. e.kind ≢ ValidKind.Memory → BlamesRightly (view_module decoded.now) e.func e.instr e.kind) }
 {
     let gathered = match gather(alloc, decoded) {
         Ok(gathered) => gathered,
@@ -151,8 +151,9 @@ pub fn validate(alloc: Global, decoded: Module) -> Result<ValidModule, ValidErro
     ensures fits { OnOk result (Fits (view_module decoded)) }
     // Unless memory was refused, a module that is refused isn't valid, or passes a limit.
     ensures complete { IfErr result (λ e. e.kind ≢ ValidKind.Memory → ¬ (Valid (view_module decoded) × Fits (view_module decoded))) }
-    // A fault that names a function names one whose body isn't valid or passes a limit.
-    ensures blames { IfErr result (λ e. e.kind ≢ ValidKind.Memory → BlamesRightly (view_module decoded) e.func) }
+    // A fault that names a function names one whose body isn't valid or passes a limit, and one of its instructions, and is
+    // one that bodies have. Where a fault names no function, no bodies would make the module valid and within the limits.
+    ensures blames { IfErr result (λ e. e.kind ≢ ValidKind.Memory → BlamesRightly (view_module decoded) e.func e.instr e.kind) }
     // It is the module that was given.
     ensures same { IfOk result (λ v. v.decoded ≡ decoded) }
 {

@@ -1,7 +1,8 @@
-use Rattle.std.proofs.Common.{◌∷◌, [], map, get_or, refl, sym, ap, subst, arith, ◌∙◌, ◌+◌}
+use Rattle.std.proofs.Common.{◌∷◌, [], map, get_or, refl, sym, ap, subst, arith, ◌∙◌, ◌+◌, ◌≢◌}
 use Rattle.std.proofs.lemmas.List.{map-append}
 use Rattle.wh_syntax.specs.View.{view_type, view_body}
 use Rattle.wh_bodies.specs.Views.{view_context, view_side}
+use Rattle.wh_bodies.specs.declared.fault.ValidKind.TheVariants.{Memory}
 use Rattle.wh_validate.specs.declared.error.ValidError.{ValidError}
 use Rattle.wh_validate.proofs.Lists.{get_mapped}
 use Rattle.wh_validate.proofs.BodyLemmas.{Rests, one_more_checked, all_checked, body_right, bad_body, blamed}
@@ -46,6 +47,7 @@ returns-in-Err-clause-blames c = λ other.
     let given = c.index-context-funcs.result in
     let type = get_mapped view_type types x given (c.requires.own k 0 c.loop-at-test.true) in
     let same = c.requires.same_count in
-    blamed (view_context c.args.context.now) c.args.imported c.args.funcs.now (map view_body c.args.bodies.now) k c.in_body.result.func (ap (λ (v : ValidError). v.func) c.in_body.ensures)
-    (bad_body (view_context c.args.context.now) c.args.funcs.now c.args.bodies.now k 0 c.index-bodies-at.result (view_type (get_or types x given)) c.loop-at-test.true (omega (arith, c.loop-at-test.true, same)) c.index-bodies-at.is type
-    (λ h. c.in-Err.ensures.complete (λ e. other (ap (λ (v : ValidError). v.kind) c.in_body.ensures ∙ e)) h.0 h.1))
+    let other_kind : c.in-Err.fault.kind ≢ Memory = λ e. other (ap (λ (v : ValidError). v.kind) c.in_body.ensures ∙ e) in
+    blamed (view_context c.args.context.now) c.args.imported c.args.funcs.now (map view_body c.args.bodies.now) k c.in-Err.fault.instr c.in-Err.fault.kind c.in_body.result c.in_body.ensures (c.in-Err.ensures.kinds other_kind)
+    (bad_body (view_context c.args.context.now) c.args.funcs.now c.args.bodies.now k 0 c.index-bodies-at.result (view_type (get_or types x given)) c.in-Err.fault.instr c.loop-at-test.true (omega (arith, c.loop-at-test.true, same)) c.index-bodies-at.is type
+    (λ h. c.in-Err.ensures.complete other_kind h.0 h.1) (c.in-Err.ensures.place other_kind))
