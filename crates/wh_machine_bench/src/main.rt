@@ -13,7 +13,7 @@ use std::io::Read;
 use std::rt::{Env, Files};
 use std::time::{CpuClock, Duration};
 use std::{env, fs};
-use wh_alone::{Instance, Outcome};
+use wh_alone::{Instance, Outcome, Stage};
 use wh_initial::Parameters;
 
 const ROUNDS: u32 = 3;
@@ -49,7 +49,7 @@ fn parse_call(alloc: Global, line: &str) -> Result<Call<'_>> {
 /// Makes the call on an instance, and gives the processor time of it.
 fn time(rt: &impl CpuClock, instance: &mut Instance, call: &Call<'_>) -> Result<Duration> {
     ensure!(
-        instance.start().is_none(),
+        instance.stage() == Stage::Idle,
         "the start function isn't called"
     );
     let func = instance
@@ -58,7 +58,9 @@ fn time(rt: &impl CpuClock, instance: &mut Instance, call: &Call<'_>) -> Result<
     let before = rt.thread_cpu_time()?;
     let ended = instance.call(func, &[], u64::MAX);
     let after = rt.thread_cpu_time()?;
-    let (outcome, charges) = ended.context("the function can't be called without arguments")?;
+    let Ok((outcome, charges)) = ended else {
+        bail!("the function can't be called without arguments");
+    };
     let wanted = Outcome::Returned(Some(call.word));
     ensure!(outcome == wanted, "it came to {outcome:?}");
     ensure!(charges == call.charges, "it took {charges} charges");

@@ -3,10 +3,11 @@
 //! `wh_machine_cases TABLE ..` reads tables one behind the other; `programs/README.md` says what their lines mean and
 //! where the expectations come from. For each module a line says how many of them agree with what came and how many differ,
 //! and before it there is a line for each that differs, with what was wanted and what came. The status is 1 where one
-//! differs, or a line isn't understood. The depth of calls and the type of a result are read and not compared: the machine
+//! differs, or a line isn't understood. Last it makes calls from a module's bytes to what they come to, in one function. The depth of calls and the type of a result are read and not compared: the machine
 //! doesn't show them.
 #![tactic(auto)]
 
+mod alone;
 mod expected;
 mod found;
 mod line;
@@ -43,6 +44,7 @@ fn run(rt: &(impl Env + Files + Print + AllocGlobal)) -> Result<()> {
         tables = tables.saturating_add(1);
     }
     ensure!(tables > 0, "no table is named");
+    alone::try_calls(rt)?;
     let sums = session.sums();
     println!(rt;
         "{tables} tables, {} modules: {} agree, {} differ",

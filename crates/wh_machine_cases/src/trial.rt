@@ -74,14 +74,11 @@ fn parameters_of(alloc: Global, lines: &[String]) -> Result<Parameters> {
     })
 }
 
-/// Calls the start function, if there is one.
+/// Runs the start function, if there is one.
 fn start(instance: &mut Instance) -> Result<()> {
-    let Some(func) = instance.start() else {
-        return Ok(());
-    };
-    match instance.call(func, &[], u64::MAX) {
-        Some((Outcome::Returned(_), _)) => Ok(()),
-        _ => bail!("the start function doesn't return"),
+    match instance.run(u64::MAX) {
+        None | Some((Outcome::Returned(_), _)) => Ok(()),
+        Some(_) => bail!("the start function doesn't return"),
     }
 }
 
@@ -121,7 +118,7 @@ impl Trial {
         Found::Ended(outcome, charges)
     }
 
-    /// Calls an exported function with this fuel.
+    /// Calls an exported function with this fuel; a call that stands for fuel is given up.
     fn call(
         &mut self,
         instance: &mut Instance,
@@ -132,9 +129,10 @@ impl Trial {
         let Some(func) = instance.func(export) else {
             return Found::NoCall;
         };
+        instance.cancel();
         match instance.call(func, arguments, fuel) {
-            Some((outcome, charges)) => self.note(outcome, charges),
-            None => Found::NoCall,
+            Ok((outcome, charges)) => self.note(outcome, charges),
+            Err(_) => Found::NoCall,
         }
     }
 
@@ -143,7 +141,7 @@ impl Trial {
         let Some(taken) = self.taken else {
             return Found::NotStanding;
         };
-        match instance.more(fuel) {
+        match instance.run(fuel) {
             Some((outcome, charges)) => self.note(outcome, taken.saturating_add(charges)),
             None => Found::NotStanding,
         }
