@@ -1,0 +1,14 @@
+pub mod Sums
+pub mod Putting
+pub mod Slotting
+pub mod Contents
+pub mod Counting
+pub mod Rooms
+pub mod Wanting
+pub mod Taking
+pub mod Serving
+pub mod Evicted
+pub mod Living
+pub mod Transit
+pub mod Fetched
+pub mod Begun
