@@ -12,3 +12,4 @@ pub mod Living
 pub mod Transit
 pub mod Fetched
 pub mod Begun
+pub mod Deciding

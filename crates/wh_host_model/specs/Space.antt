@@ -12,3 +12,4 @@ pub mod Stores
 pub mod Places
 pub mod Provide
 pub mod Scanning
+pub mod Laws

@@ -1,10 +1,23 @@
 //! Laws of the definitions alone.
 
 ghost use Rattle.wh_host_model.specs.LinkingLaws.{OneFirstFault, LinksWithoutFault, SomeBeginning};
+ghost use Rattle.wh_host_model.specs.Space.Laws.{ReadyIsDecided, NoBytesAreReady, OneUseOfAFrame, SomePageCanBeTaken, SomeSlotIsVacant, EvictionKeepsAll, FetchKeepsSound, FetchKeepsBytes};
 
 /// What holds of linking and of what an instance begins with. The function does nothing; what it ensures are the laws.
 pub fn linking_holds()
     ensures one_first_fault { OneFirstFault }
     ensures links_without_fault { LinksWithoutFault }
     ensures some_beginning { SomeBeginning }
+{}
+
+/// What holds of the memory on which all instances lie. The function does nothing; what it ensures are the laws.
+pub fn space_holds()
+    ensures ready_is_decided { ReadyIsDecided }
+    ensures no_bytes_are_ready { NoBytesAreReady }
+    ensures one_use_of_a_frame { OneUseOfAFrame }
+    ensures some_page_can_be_taken { SomePageCanBeTaken }
+    ensures some_slot_is_vacant { SomeSlotIsVacant }
+    ensures eviction_keeps_all { EvictionKeepsAll }
+    ensures fetch_keeps_sound { FetchKeepsSound }
+    ensures fetch_keeps_bytes { FetchKeepsBytes }
 {}

@@ -8,7 +8,7 @@ ghost use Rattle.std.specs.Prelude.{◌≤◌, ◌<◌};
 mod laws;
 mod states;
 
-pub use laws::linking_holds;
+pub use laws::{linking_holds, space_holds};
 pub use states::{EvictEnd, FetchEnd, Mark, Offer, Page, Slot};
 use wh_model::HostFunc;
 

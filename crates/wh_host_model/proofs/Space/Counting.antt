@@ -96,7 +96,7 @@ shares_by f (LeavingShared g) = refl
 shares_by f (Coming k) = refl
 shares_by f (Swapped k) = refl
 
-no_copies : (sharing : ℕ) → copies 0 sharing ≡ 0
+pub no_copies : (sharing : ℕ) → copies 0 sharing ≡ 0
 no_copies sharing = grind (arith, nat_tests)
 
 -- for one page

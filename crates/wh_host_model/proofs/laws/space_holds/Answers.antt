@@ -1,0 +1,26 @@
+use Rattle.wh_host_model.proofs.Space.Deciding.{ready_decided, no_bytes_are_ready, one_use_of_a_frame, page_to_take, slot_to_take, eviction_keeps, fetch_keeps_sound, fetch_keeps_bytes}
+use Rattle.wh_host_model.proofs.laws.space_holds.Goals as goal
+
+pub returns-clause-ready_is_decided : goal.returns-clause-ready_is_decided
+returns-clause-ready_is_decided c = ready_decided
+
+pub returns-clause-no_bytes_are_ready : goal.returns-clause-no_bytes_are_ready
+returns-clause-no_bytes_are_ready c = no_bytes_are_ready
+
+pub returns-clause-one_use_of_a_frame : goal.returns-clause-one_use_of_a_frame
+returns-clause-one_use_of_a_frame c = one_use_of_a_frame
+
+pub returns-clause-some_page_can_be_taken : goal.returns-clause-some_page_can_be_taken
+returns-clause-some_page_can_be_taken c = page_to_take
+
+pub returns-clause-some_slot_is_vacant : goal.returns-clause-some_slot_is_vacant
+returns-clause-some_slot_is_vacant c = slot_to_take
+
+pub returns-clause-eviction_keeps_all : goal.returns-clause-eviction_keeps_all
+returns-clause-eviction_keeps_all c = eviction_keeps
+
+pub returns-clause-fetch_keeps_sound : goal.returns-clause-fetch_keeps_sound
+returns-clause-fetch_keeps_sound c = fetch_keeps_sound
+
+pub returns-clause-fetch_keeps_bytes : goal.returns-clause-fetch_keeps_bytes
+returns-clause-fetch_keeps_bytes c = fetch_keeps_bytes
