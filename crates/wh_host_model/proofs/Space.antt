@@ -13,3 +13,4 @@ pub mod Transit
 pub mod Fetched
 pub mod Begun
 pub mod Deciding
+pub mod Reserved

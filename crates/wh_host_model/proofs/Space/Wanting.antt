@@ -27,6 +27,13 @@ few_from first (suc more) = one_or_two (nat_lt 4096 (first % 4096 + suc more)) (
 pub few_pages : (need : Need) → OneOrTwo (pages_of_need need)
 few_pages need = few_from need.at need.length
 
+-- a step has two pages at most
+pub two_at_most : (ps : List ℕ) → OneOrTwo ps → length ps ≤ 2
+unfolding OneOrTwo
+two_at_most ps (inl e) = rw e (omega arith)
+two_at_most ps (inr (inl (p, e))) = rw e (omega arith)
+two_at_most ps (inr (inr (p, e))) = rw e (omega arith)
+
 at_tally : (w : Page → ℕ) (xs : List Page) (p : ℕ) → at w (slice_get xs p) ≤ tally w xs
 at_tally w [] p = omega arith
 at_tally w (x ∷ xs) zero = omega arith
