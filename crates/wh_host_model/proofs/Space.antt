@@ -14,3 +14,4 @@ pub mod Fetched
 pub mod Begun
 pub mod Deciding
 pub mod Reserved
+pub mod Provided

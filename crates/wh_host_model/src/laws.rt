@@ -1,7 +1,7 @@
 //! Laws of the definitions alone.
 
 ghost use Rattle.wh_host_model.specs.LinkingLaws.{OneFirstFault, LinksWithoutFault, SomeBeginning};
-ghost use Rattle.wh_host_model.specs.Space.Laws.{ReadyIsDecided, NoBytesAreReady, OneUseOfAFrame, SomePageCanBeTaken, SomeSlotIsVacant, EvictionKeepsAll, FetchKeepsSound, FetchKeepsBytes};
+ghost use Rattle.wh_host_model.specs.Space.Laws.{ReadyIsDecided, NoBytesAreReady, OneUseOfAFrame, SomePageCanBeTaken, SomeSlotIsVacant, EvictionKeepsAll, FetchKeepsSound, FetchKeepsBytes, MovesAreFew, ProvisionIsRight, BeginsEvictSoundly, BeginsEvictQuietly, BeginsFetchQuietly, CommitsEvictQuietly, CommitsFetchQuietly};
 
 /// What holds of linking and of what an instance begins with. The function does nothing; what it ensures are the laws.
 pub fn linking_holds()
@@ -20,4 +20,11 @@ pub fn space_holds()
     ensures eviction_keeps_all { EvictionKeepsAll }
     ensures fetch_keeps_sound { FetchKeepsSound }
     ensures fetch_keeps_bytes { FetchKeepsBytes }
+    ensures moves_are_few { MovesAreFew }
+    ensures provision_is_right { ProvisionIsRight }
+    ensures begins_evict_soundly { BeginsEvictSoundly }
+    ensures begins_evict_quietly { BeginsEvictQuietly }
+    ensures begins_fetch_quietly { BeginsFetchQuietly }
+    ensures commits_evict_quietly { CommitsEvictQuietly }
+    ensures commits_fetch_quietly { CommitsFetchQuietly }
 {}

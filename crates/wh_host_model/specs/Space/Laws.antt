@@ -1,16 +1,19 @@
 -- What holds of the memory on which all instances lie.
-use Rattle.std.specs.Prelude.{ℕ, ◌≡◌, ◌<◌, ◌≤◌, ◌⊎◌, List, [], Some, length, get_or}
+use Rattle.std.specs.Prelude.{ℕ, ◌≡◌, ◌+◌, ◌<◌, ◌≤◌, ◌⊎◌, Bool, true, List, [], Option, Some, length, get_or}
+use Rattle.wh_host_model.specs.declared.states.EvictEnd.{EvictEnd}
+use Rattle.wh_host_model.specs.declared.states.FetchEnd.{FetchEnd}
 use Rattle.wh_model.specs.declared.memory.Need.{Need}
 use Rattle.wh_host_model.specs.Frames.{tally, one_if}
 use Rattle.wh_host_model.specs.declared.states.Page.TheVariants.{Swapped}
-use Rattle.wh_host_model.specs.Space.States.{page_at, count, owns}
+use Rattle.wh_host_model.specs.Space.States.{page_at, count, owns, resident}
 use Rattle.wh_host_model.specs.Space.Parts.{Space, Occupant, occupant_at, all_bytes, sharers, kept}
 use Rattle.wh_host_model.specs.Space.Errands.{fetches_into, tickets}
 use Rattle.wh_host_model.specs.Space.Sound.{IsSound}
 use Rattle.wh_host_model.specs.Space.Ready.{Ready}
 use Rattle.wh_host_model.specs.Space.Claims.{CanLeave, NoneMustLeave}
 use Rattle.wh_host_model.specs.Space.Moves.{Evicts, Fetches}
-use Rattle.wh_host_model.specs.Space.Provide.{IsServing, LacksFree}
+use Rattle.wh_host_model.specs.Space.Provide.{IsServing, LacksFree, HasPinned, Move, OthersKeepMinimum, Provides, Serves, leaves}
+use Rattle.wh_host_model.specs.Space.Tickets.{BeginsEvict, BeginsFetch, CommitsEvict, CommitsFetch, StandsAt}
 
 -- whether a step is ready can be told
 abbrev pub ReadyIsDecided : Type 0
@@ -65,3 +68,45 @@ abbrev pub FetchKeepsBytes : Type 0
 FetchKeepsBytes =
     (s : Space) (i p k : ℕ) (bytes : List ℕ) (s2 : Space) → IsSound s → page_at s.tables i p ≡ Some (Swapped k) → get_or s.slots.held k [] ≡ bytes
     → Fetches s i p bytes s2 → all_bytes s2 ≡ all_bytes s
+
+-- however a provision goes on, as many pages leave at most as were resident at first, and two more
+abbrev pub MovesAreFew : Type 0
+MovesAreFew =
+    (s : Space) (i : ℕ) (need : Need) (moves : List Move) (mid : Space) → IsSound s → tickets s ≡ 0 → StandsAt s i need
+    → Serves s i need moves mid → tally leaves moves ≤ count resident s.tables + 2
+
+-- After a provision all is sound, the step ready and pinned, so many pages have left at most, and no other instance is below its
+-- minimum that wasn't.
+pub record IsProvided (s : Space) (i : ℕ) (need : Need) (n : ℕ) (s2 : Space) : Type 0 where
+  pub sound : IsSound s2
+  pub ready : Ready s2 i need
+  pub pinned : HasPinned s2 i need
+  pub bounded : n ≤ count resident s.tables + 2
+  pub others : OthersKeepMinimum s i s2
+
+abbrev pub ProvisionIsRight : Type 0
+ProvisionIsRight =
+    (s : Space) (i : ℕ) (need : Need) (n : ℕ) (s2 : Space) → IsSound s → tickets s ≡ 0 → StandsAt s i need → Provides s i need n s2
+    → IsProvided s i need n s2
+
+-- an eviction that begins, or doesn't, leaves all sound
+abbrev pub BeginsEvictSoundly : Type 0
+BeginsEvictSoundly = (s s2 : Space) (i : ℕ) (slot : Option ℕ) (bytes : List ℕ) → IsSound s → BeginsEvict s i slot bytes s2 → IsSound s2
+
+-- what begins changes no bytes
+abbrev pub BeginsEvictQuietly : Type 0
+BeginsEvictQuietly = (s s2 : Space) (i k : ℕ) (bytes : List ℕ) → BeginsEvict s i (Some k) bytes s2 → all_bytes s2 ≡ all_bytes s
+
+abbrev pub BeginsFetchQuietly : Type 0
+BeginsFetchQuietly = (s s2 : Space) (i k : ℕ) → BeginsFetch s i (Some k) s2 → all_bytes s2 ≡ all_bytes s
+
+-- nor does what ends, where the slot holds what was written or read
+abbrev pub CommitsEvictQuietly : Type 0
+CommitsEvictQuietly =
+    (s s2 : Space) (k : ℕ) (wrote : Bool) (bytes : List ℕ) (end : EvictEnd) → (wrote ≡ true → get_or s.slots.held k [] ≡ bytes)
+    → CommitsEvict s k wrote bytes end s2 → all_bytes s2 ≡ all_bytes s
+
+abbrev pub CommitsFetchQuietly : Type 0
+CommitsFetchQuietly =
+    (s s2 : Space) (k : ℕ) (read : Bool) (bytes : List ℕ) (end : FetchEnd) → IsSound s → (read ≡ true → get_or s.slots.held k [] ≡ bytes)
+    → CommitsFetch s k read bytes end s2 → all_bytes s2 ≡ all_bytes s

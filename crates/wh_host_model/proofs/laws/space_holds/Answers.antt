@@ -1,4 +1,7 @@
 use Rattle.wh_host_model.proofs.Space.Deciding.{ready_decided, no_bytes_are_ready, one_use_of_a_frame, page_to_take, slot_to_take, eviction_keeps, fetch_keeps_sound, fetch_keeps_bytes}
+use Rattle.wh_host_model.proofs.Space.Provided.{moves_nearer, provision_is_right}
+use Rattle.wh_host_model.proofs.Space.Reserved.{begin_evict_sound}
+use Rattle.wh_host_model.proofs.Space.Transit.{begin_evict_bytes, begin_fetch_bytes, commit_evict_bytes, commit_fetch_bytes}
 use Rattle.wh_host_model.proofs.laws.space_holds.Goals as goal
 
 pub returns-clause-ready_is_decided : goal.returns-clause-ready_is_decided
@@ -24,3 +27,24 @@ returns-clause-fetch_keeps_sound c = fetch_keeps_sound
 
 pub returns-clause-fetch_keeps_bytes : goal.returns-clause-fetch_keeps_bytes
 returns-clause-fetch_keeps_bytes c = fetch_keeps_bytes
+
+pub returns-clause-moves_are_few : goal.returns-clause-moves_are_few
+returns-clause-moves_are_few c = moves_nearer
+
+pub returns-clause-provision_is_right : goal.returns-clause-provision_is_right
+returns-clause-provision_is_right c = provision_is_right
+
+pub returns-clause-begins_evict_soundly : goal.returns-clause-begins_evict_soundly
+returns-clause-begins_evict_soundly c = begin_evict_sound
+
+pub returns-clause-begins_evict_quietly : goal.returns-clause-begins_evict_quietly
+returns-clause-begins_evict_quietly c = begin_evict_bytes
+
+pub returns-clause-begins_fetch_quietly : goal.returns-clause-begins_fetch_quietly
+returns-clause-begins_fetch_quietly c = begin_fetch_bytes
+
+pub returns-clause-commits_evict_quietly : goal.returns-clause-commits_evict_quietly
+returns-clause-commits_evict_quietly c = commit_evict_bytes
+
+pub returns-clause-commits_fetch_quietly : goal.returns-clause-commits_fetch_quietly
+returns-clause-commits_fetch_quietly c = commit_fetch_bytes
