@@ -15,3 +15,4 @@ pub mod Begun
 pub mod Deciding
 pub mod Reserved
 pub mod Provided
+pub mod Quiet

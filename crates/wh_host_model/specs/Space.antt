@@ -13,3 +13,4 @@ pub mod Places
 pub mod Provide
 pub mod Scanning
 pub mod Laws
+pub mod Sight

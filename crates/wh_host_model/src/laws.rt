@@ -2,6 +2,7 @@
 
 ghost use Rattle.wh_host_model.specs.LinkingLaws.{OneFirstFault, LinksWithoutFault, SomeBeginning};
 ghost use Rattle.wh_host_model.specs.Space.Laws.{ReadyIsDecided, NoBytesAreReady, OneUseOfAFrame, SomePageCanBeTaken, SomeSlotIsVacant, EvictionKeepsAll, FetchKeepsSound, FetchKeepsBytes, MovesAreFew, ProvisionIsRight, BeginsEvictSoundly, BeginsEvictQuietly, BeginsFetchQuietly, CommitsEvictQuietly, CommitsFetchQuietly};
+ghost use Rattle.wh_host_model.specs.Space.Sight.{OffersQuietly, WritesQuietly, StepsQuietly, GrowsAlone, EntersAlone, ExitsAlone, PinsEnd, GoneIsSkipped};
 
 /// What holds of linking and of what an instance begins with. The function does nothing; what it ensures are the laws.
 pub fn linking_holds()
@@ -27,4 +28,12 @@ pub fn space_holds()
     ensures begins_fetch_quietly { BeginsFetchQuietly }
     ensures commits_evict_quietly { CommitsEvictQuietly }
     ensures commits_fetch_quietly { CommitsFetchQuietly }
+    ensures offers_quietly { OffersQuietly }
+    ensures writes_quietly { WritesQuietly }
+    ensures steps_quietly { StepsQuietly }
+    ensures grows_alone { GrowsAlone }
+    ensures enters_alone { EntersAlone }
+    ensures exits_alone { ExitsAlone }
+    ensures pins_end { PinsEnd }
+    ensures gone_is_skipped { GoneIsSkipped }
 {}

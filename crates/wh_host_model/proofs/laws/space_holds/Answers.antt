@@ -2,6 +2,7 @@ use Rattle.wh_host_model.proofs.Space.Deciding.{ready_decided, no_bytes_are_read
 use Rattle.wh_host_model.proofs.Space.Provided.{moves_nearer, provision_is_right}
 use Rattle.wh_host_model.proofs.Space.Reserved.{begin_evict_sound}
 use Rattle.wh_host_model.proofs.Space.Transit.{begin_evict_bytes, begin_fetch_bytes, commit_evict_bytes, commit_fetch_bytes}
+use Rattle.wh_host_model.proofs.Space.Quiet.{offers_quiet, written_quiet, steps_quiet, grew_own, enters_own, exits_own, pins_end, gone_is_skipped}
 use Rattle.wh_host_model.proofs.laws.space_holds.Goals as goal
 
 pub returns-clause-ready_is_decided : goal.returns-clause-ready_is_decided
@@ -48,3 +49,27 @@ returns-clause-commits_evict_quietly c = commit_evict_bytes
 
 pub returns-clause-commits_fetch_quietly : goal.returns-clause-commits_fetch_quietly
 returns-clause-commits_fetch_quietly c = commit_fetch_bytes
+
+pub returns-clause-offers_quietly : goal.returns-clause-offers_quietly
+returns-clause-offers_quietly c = offers_quiet
+
+pub returns-clause-writes_quietly : goal.returns-clause-writes_quietly
+returns-clause-writes_quietly c = written_quiet
+
+pub returns-clause-steps_quietly : goal.returns-clause-steps_quietly
+returns-clause-steps_quietly c = steps_quiet
+
+pub returns-clause-grows_alone : goal.returns-clause-grows_alone
+returns-clause-grows_alone c = grew_own
+
+pub returns-clause-enters_alone : goal.returns-clause-enters_alone
+returns-clause-enters_alone c = enters_own
+
+pub returns-clause-exits_alone : goal.returns-clause-exits_alone
+returns-clause-exits_alone c = exits_own
+
+pub returns-clause-pins_end : goal.returns-clause-pins_end
+returns-clause-pins_end c = pins_end
+
+pub returns-clause-gone_is_skipped : goal.returns-clause-gone_is_skipped
+returns-clause-gone_is_skipped c = gone_is_skipped
