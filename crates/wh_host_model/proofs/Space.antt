@@ -16,3 +16,5 @@ pub mod Deciding
 pub mod Reserved
 pub mod Provided
 pub mod Quiet
+pub mod Worked
+pub mod WorkedTransit
