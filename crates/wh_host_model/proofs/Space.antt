@@ -18,3 +18,5 @@ pub mod Provided
 pub mod Quiet
 pub mod Worked
 pub mod WorkedTransit
+pub mod WorkedClaims
+pub mod Voiding

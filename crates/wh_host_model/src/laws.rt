@@ -2,7 +2,7 @@
 
 ghost use Rattle.wh_host_model.specs.LinkingLaws.{OneFirstFault, LinksWithoutFault, SomeBeginning};
 ghost use Rattle.wh_host_model.specs.Space.Laws.{ReadyIsDecided, NoBytesAreReady, OneUseOfAFrame, SomePageCanBeTaken, SomeSlotIsVacant, EvictionKeepsAll, FetchKeepsSound, FetchKeepsBytes, MovesAreFew, ProvisionIsRight, BeginsEvictSoundly, BeginsEvictQuietly, BeginsFetchQuietly, CommitsEvictQuietly, CommitsFetchQuietly};
-ghost use Rattle.wh_host_model.specs.Space.Sight.{OffersQuietly, WritesQuietly, StepsQuietly, GrowsAlone, EntersAlone, ExitsAlone, PinsEnd, GoneIsSkipped};
+ghost use Rattle.wh_host_model.specs.Space.Sight.{OffersQuietly, WritesQuietly, StepsQuietly, GrowsAlone, EntersAlone, ExitsAlone, PinsEnd, GoneIsSkipped, WrittenIsVoid, ReleasedIsVoid, NothingNeedless};
 
 /// What holds of linking and of what an instance begins with. The function does nothing; what it ensures are the laws.
 pub fn linking_holds()
@@ -36,4 +36,7 @@ pub fn space_holds()
     ensures exits_alone { ExitsAlone }
     ensures pins_end { PinsEnd }
     ensures gone_is_skipped { GoneIsSkipped }
+    ensures written_is_void { WrittenIsVoid }
+    ensures released_is_void { ReleasedIsVoid }
+    ensures nothing_needless { NothingNeedless }
 {}

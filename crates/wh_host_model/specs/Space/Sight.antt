@@ -1,14 +1,23 @@
 -- What changes nobody's bytes, and what changes only one's own.
-use Rattle.std.specs.Prelude.{ℕ, ◌≡◌, ◌≢◌, false, Bool, List, [], Option, None, get_or}
+use Rattle.std.specs.Prelude.{ℕ, ◌≡◌, ◌≢◌, ◌≤◌, false, Bool, List, [], Option, None, Some, length, get_or, slice_get}
+use Rattle.wh_model.specs.Memory.{writing}
+use Rattle.wh_host_model.specs.Frames.{tally, one_if}
+use Rattle.wh_host_model.specs.declared.states.Slot.TheVariants.{Evicting}
+use Rattle.wh_host_model.specs.declared.states.EvictEnd.{EvictEnd}
+use Rattle.wh_host_model.specs.declared.states.EvictEnd.TheVariants.{Void}
 use Rattle.wh_model.specs.declared.memory.Need.{Need}
 use Rattle.wh_host_model.specs.declared.states.Offer.{Offer}
 use Rattle.wh_host_model.specs.declared.states.Offer.TheVariants.{Skipped}
 use Rattle.wh_host_model.specs.Space.Parts.{Claimed, Space, all_bytes, has_number, kept_by, pinned_by, view}
 use Rattle.wh_host_model.specs.Space.Places.{Enters, Exits}
-use Rattle.wh_host_model.specs.Space.Stores.{Epochs, Grew, Touches, ended, stood}
+use Rattle.wh_host_model.specs.Space.Stores.{Epochs, Grew, Touches, ended, stood, Overwrites}
 use Rattle.wh_host_model.specs.Space.Sound.{IsSound}
-use Rattle.wh_host_model.specs.Space.Tickets.{IsWritten}
+use Rattle.wh_host_model.specs.Space.Tickets.{IsWritten, CommitsEvict}
 use Rattle.wh_host_model.specs.Space.Offers.{Offers, OffersOf}
+use Rattle.wh_host_model.specs.Space.Provide.{IsServed, Provides}
+use Rattle.wh_host_model.specs.Space.States.{at}
+use Rattle.wh_host_model.specs.Space.Ready.{pages_of_need}
+use Rattle.wh_host_model.specs.Space.Moves.{pinned}
 
 -- no offer changes a byte, for any hash that is handed in
 abbrev pub OffersQuietly : Type 0
@@ -51,3 +60,21 @@ abbrev pub GoneIsSkipped : Type 0
 GoneIsSkipped =
     (hashes : List ℕ → ℕ) (s : Space) (place number p hash : ℕ) (answer : Offer) (s2 : Space) → IsSound s
     → has_number (get_or s.occupants place None) number ≡ false → OffersOf hashes s place number p hash answer s2 → (answer ≡ Skipped) × (s2 ≡ s)
+
+-- an eviction whose page was written meanwhile is void, whatever the device says
+abbrev pub WrittenIsVoid : Type 0
+WrittenIsVoid =
+    (s : Space) (i p at : ℕ) (given : List ℕ) (s2 : Space) (k : ℕ) (wrote : Bool) (bytes : List ℕ) (end : EvictEnd) (s3 : Space)
+    → slice_get s.slots.uses k ≡ Some (Evicting i p) → Overwrites s i at given s2 → 1 ≤ tally (one_if p) (pages_of_need (writing at (length given)))
+    → CommitsEvict s2 k wrote bytes end s3 → end ≡ Void
+
+-- and so is one whose instance was released
+abbrev pub ReleasedIsVoid : Type 0
+ReleasedIsVoid =
+    (s : Space) (i p : ℕ) (s2 : Space) (k : ℕ) (wrote : Bool) (bytes : List ℕ) (end : EvictEnd) (s3 : Space)
+    → slice_get s.slots.uses k ≡ Some (Evicting i p) → Exits s i s2 → CommitsEvict s2 k wrote bytes end s3 → end ≡ Void
+
+-- no page leaves for a step that has all pages and frames that it wants
+abbrev pub NothingNeedless : Type 0
+NothingNeedless =
+    (s : Space) (i : ℕ) (need : Need) (n : ℕ) (s2 : Space) → IsServed (pinned s i need) i need → Provides s i need n s2 → n ≡ 0

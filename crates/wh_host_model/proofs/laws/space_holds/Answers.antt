@@ -3,6 +3,7 @@ use Rattle.wh_host_model.proofs.Space.Provided.{moves_nearer, provision_is_right
 use Rattle.wh_host_model.proofs.Space.Reserved.{begin_evict_sound}
 use Rattle.wh_host_model.proofs.Space.Transit.{begin_evict_bytes, begin_fetch_bytes, commit_evict_bytes, commit_fetch_bytes}
 use Rattle.wh_host_model.proofs.Space.Quiet.{offers_quiet, written_quiet, steps_quiet, grew_own, enters_own, exits_own, pins_end, gone_is_skipped}
+use Rattle.wh_host_model.proofs.Space.Voiding.{written_is_void, released_is_void, nothing_needless}
 use Rattle.wh_host_model.proofs.laws.space_holds.Goals as goal
 
 pub returns-clause-ready_is_decided : goal.returns-clause-ready_is_decided
@@ -73,3 +74,12 @@ returns-clause-pins_end c = pins_end
 
 pub returns-clause-gone_is_skipped : goal.returns-clause-gone_is_skipped
 returns-clause-gone_is_skipped c = gone_is_skipped
+
+pub returns-clause-written_is_void : goal.returns-clause-written_is_void
+returns-clause-written_is_void c = written_is_void
+
+pub returns-clause-released_is_void : goal.returns-clause-released_is_void
+returns-clause-released_is_void c = released_is_void
+
+pub returns-clause-nothing_needless : goal.returns-clause-nothing_needless
+returns-clause-nothing_needless c = nothing_needless
