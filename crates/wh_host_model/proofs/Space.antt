@@ -20,3 +20,4 @@ pub mod Worked
 pub mod WorkedTransit
 pub mod WorkedClaims
 pub mod Voiding
+pub mod Steady

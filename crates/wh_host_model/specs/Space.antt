@@ -14,3 +14,4 @@ pub mod Provide
 pub mod Scanning
 pub mod Laws
 pub mod Sight
+pub mod Kept

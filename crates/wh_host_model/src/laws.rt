@@ -3,6 +3,7 @@
 ghost use Rattle.wh_host_model.specs.LinkingLaws.{OneFirstFault, LinksWithoutFault, SomeBeginning};
 ghost use Rattle.wh_host_model.specs.Space.Laws.{ReadyIsDecided, NoBytesAreReady, OneUseOfAFrame, SomePageCanBeTaken, SomeSlotIsVacant, EvictionKeepsAll, FetchKeepsSound, FetchKeepsBytes, MovesAreFew, ProvisionIsRight, BeginsEvictSoundly, BeginsEvictQuietly, BeginsFetchQuietly, CommitsEvictQuietly, CommitsFetchQuietly};
 ghost use Rattle.wh_host_model.specs.Space.Sight.{OffersQuietly, WritesQuietly, StepsQuietly, GrowsAlone, EntersAlone, ExitsAlone, PinsEnd, GoneIsSkipped, WrittenIsVoid, ReleasedIsVoid, NothingNeedless};
+ghost use Rattle.wh_host_model.specs.Space.Kept.{TouchesSoundly, EpochsSoundly, WritesSoundly, StandsSoundly, EndsSoundly};
 
 /// What holds of linking and of what an instance begins with. The function does nothing; what it ensures are the laws.
 pub fn linking_holds()
@@ -39,4 +40,9 @@ pub fn space_holds()
     ensures written_is_void { WrittenIsVoid }
     ensures released_is_void { ReleasedIsVoid }
     ensures nothing_needless { NothingNeedless }
+    ensures touches_soundly { TouchesSoundly }
+    ensures epochs_soundly { EpochsSoundly }
+    ensures writes_soundly { WritesSoundly }
+    ensures stands_soundly { StandsSoundly }
+    ensures ends_soundly { EndsSoundly }
 {}

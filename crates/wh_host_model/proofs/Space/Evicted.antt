@@ -336,7 +336,7 @@ row_length (xs ∷ t) zero p y (suc i) = refl
 row_length (xs ∷ t) (suc j) p y zero = refl
 row_length (xs ∷ t) (suc j) p y (suc i) = row_length t j p y i
 
-mark_length : (t : List (List Bool)) (j p : ℕ) (y : Bool) (i : ℕ) → length (get_or (put t j p y) i []) ≡ length (get_or t i [])
+pub mark_length : (t : List (List Bool)) (j p : ℕ) (y : Bool) (i : ℕ) → length (get_or (put t j p y) i []) ≡ length (get_or t i [])
 mark_length [] j p y i = refl
 mark_length (xs ∷ t) zero p y zero = length-set xs p y
 mark_length (xs ∷ t) zero p y (suc i) = refl

@@ -1,0 +1,30 @@
+-- What keeps the memory sound.
+use Rattle.std.specs.Prelude.{ℕ, ◌≡◌, ◌+◌, ◌*◌, ◌≤◌, true, Bool, List, [], Option, Some, length, get_or}
+use Rattle.wh_model.specs.declared.memory.Need.{Need}
+use Rattle.wh_host_model.specs.Space.Stores.{Epochs, Touches, ended, stood}
+use Rattle.wh_host_model.specs.Space.Sound.{IsSound}
+use Rattle.wh_host_model.specs.Space.Tickets.{IsWritten}
+use Rattle.wh_host_model.specs.Space.Parts.{Occupant, Space, occupant_at}
+
+-- a load
+abbrev pub TouchesSoundly : Type 0
+TouchesSoundly = (s : Space) (i first n : ℕ) (s2 : Space) → IsSound s → Touches s i first n s2 → IsSound s2
+
+-- a new epoch
+abbrev pub EpochsSoundly : Type 0
+EpochsSoundly = (s s2 : Space) → IsSound s → Epochs s s2 → IsSound s2
+
+-- a device call for an eviction
+abbrev pub WritesSoundly : Type 0
+WritesSoundly = (s : Space) (k : ℕ) (bytes : List ℕ) (wrote : Bool) (s2 : Space) → IsSound s → IsWritten s k bytes wrote s2 → IsSound s2
+
+-- to stand for a frame at bytes that are in the table of a live instance, or for none
+abbrev pub StandsSoundly : Type 0
+StandsSoundly =
+    (s : Space) (i : ℕ) (t : Occupant) (need : Option Need) → IsSound s → occupant_at s i t
+    → ((want : Need) → need ≡ Some want → (t.live ≡ true) × (want.at + want.length ≤ 4096 * length (get_or s.tables i [])) × (want.length ≤ 4096))
+    → IsSound (stood s i need)
+
+-- the end of a step
+abbrev pub EndsSoundly : Type 0
+EndsSoundly = (s : Space) (i : ℕ) (t : Occupant) → IsSound s → occupant_at s i t → IsSound (ended s i)
