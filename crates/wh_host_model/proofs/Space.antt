@@ -21,3 +21,5 @@ pub mod WorkedTransit
 pub mod WorkedClaims
 pub mod Voiding
 pub mod Steady
+pub mod Returned
+pub mod Sent

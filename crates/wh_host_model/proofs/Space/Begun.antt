@@ -26,7 +26,7 @@ kinds (LeavingShared f) new n e = absurd e
 kinds (Coming k) new n e = absurd e
 kinds (Swapped k) new n e = absurd e
 
-at_put : (w : Page → ℕ) (t : List (List Page)) (j p i q : ℕ) (x y : Page) → page_at t j p ≡ Some x
+pub at_put : (w : Page → ℕ) (t : List (List Page)) (j p i q : ℕ) (x y : Page) → page_at t j p ≡ Some x
     → (((i ≡ j) × (q ≡ p) × (at w (page_at (put t j p y) i q) ≡ w y)) ⊎ (page_at (put t j p y) i q ≡ page_at t i q))
 at_put w t j p i q x y there =
     elim (here_or j i) [
@@ -38,7 +38,7 @@ at_put w t j p i q x y there =
           ]
     ]
 
-at_same : (w : Page → ℕ) (t : List (List Page)) (j p i q : ℕ) (x y : Page) → page_at t j p ≡ Some x → w y ≡ w x → at w (page_at (put t j p y) i q) ≡ at w (page_at t i q)
+pub at_same : (w : Page → ℕ) (t : List (List Page)) (j p i q : ℕ) (x y : Page) → page_at t j p ≡ Some x → w y ≡ w x → at w (page_at (put t j p y) i q) ≡ at w (page_at t i q)
 at_same w t j p i q x y there same =
     elim (at_put w t j p i q x y there) [
       | inr e ↦ ap (at w) e

@@ -19,7 +19,7 @@ use Rattle.wh_host_model.proofs.Space.Begun.{is_sound_begun}
 use Rattle.wh_host_model.proofs.Space.Evicted.{names_other, used_other}
 
 -- other pins, and other free frames
-pub repinned : Space → Option Pins → List ℕ → Space
+unfoldable pub repinned : Space → Option Pins → List ℕ → Space
 repinned s pins others = record s { pins = pins; pool = record s.pool { free = others } }
 
 pub is_sound_repinned : (s : Space) (pins : Option Pins) (others : List ℕ) → IsSound s

@@ -1,9 +1,11 @@
 -- What keeps the memory sound.
-use Rattle.std.specs.Prelude.{ℕ, ◌≡◌, ◌+◌, ◌*◌, ◌≤◌, true, Bool, List, [], Option, Some, length, get_or}
+use Rattle.std.specs.Prelude.{ℕ, ◌≡◌, ◌+◌, ◌*◌, ◌≤◌, true, Bool, List, [], Option, Some, length, get_or, slice_get}
+use Rattle.wh_host_model.specs.declared.states.Slot.TheVariants.{Evicting}
+use Rattle.wh_host_model.specs.declared.states.EvictEnd.{EvictEnd}
 use Rattle.wh_model.specs.declared.memory.Need.{Need}
 use Rattle.wh_host_model.specs.Space.Stores.{Epochs, Touches, ended, stood}
 use Rattle.wh_host_model.specs.Space.Sound.{IsSound}
-use Rattle.wh_host_model.specs.Space.Tickets.{IsWritten}
+use Rattle.wh_host_model.specs.Space.Tickets.{IsWritten, CommitsEvict}
 use Rattle.wh_host_model.specs.Space.Parts.{Occupant, Space, occupant_at}
 
 -- a load
@@ -28,3 +30,9 @@ StandsSoundly =
 -- the end of a step
 abbrev pub EndsSoundly : Type 0
 EndsSoundly = (s : Space) (i : ℕ) (t : Occupant) → IsSound s → occupant_at s i t → IsSound (ended s i)
+
+-- the ticket of a page that is leaving, when it comes back: where the device wrote it the slot holds what was written
+abbrev pub CommitsEvictSoundly : Type 0
+CommitsEvictSoundly =
+    (s : Space) (k j p : ℕ) (wrote : Bool) (bytes : List ℕ) (end : EvictEnd) (s2 : Space) → IsSound s → slice_get s.slots.uses k ≡ Some (Evicting j p)
+    → (wrote ≡ true → get_or s.slots.held k [] ≡ bytes) → CommitsEvict s k wrote bytes end s2 → IsSound s2

@@ -5,6 +5,7 @@ use Rattle.wh_host_model.proofs.Space.Transit.{begin_evict_bytes, begin_fetch_by
 use Rattle.wh_host_model.proofs.Space.Quiet.{offers_quiet, written_quiet, steps_quiet, grew_own, enters_own, exits_own, pins_end, gone_is_skipped}
 use Rattle.wh_host_model.proofs.Space.Voiding.{written_is_void, released_is_void, nothing_needless}
 use Rattle.wh_host_model.proofs.Space.Steady.{touches_soundly, epochs_soundly, writes_soundly, stands_soundly, ends_soundly}
+use Rattle.wh_host_model.proofs.Space.Sent.{commits_soundly}
 use Rattle.wh_host_model.proofs.laws.space_holds.Goals as goal
 
 pub returns-clause-ready_is_decided : goal.returns-clause-ready_is_decided
@@ -99,3 +100,6 @@ returns-clause-stands_soundly c = stands_soundly
 
 pub returns-clause-ends_soundly : goal.returns-clause-ends_soundly
 returns-clause-ends_soundly c = ends_soundly
+
+pub returns-clause-commits_evict_soundly : goal.returns-clause-commits_evict_soundly
+returns-clause-commits_evict_soundly c = commits_soundly
