@@ -23,3 +23,5 @@ pub mod Voiding
 pub mod Steady
 pub mod Returned
 pub mod Sent
+pub mod Offered
+pub mod Merging

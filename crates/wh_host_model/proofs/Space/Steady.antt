@@ -9,7 +9,7 @@ use Rattle.wh_host_model.specs.Space.Kept.{EndsSoundly, EpochsSoundly, StandsSou
 use Rattle.wh_host_model.specs.Space.Sound.{HasTable, IsSound, IsUsed}
 use Rattle.wh_host_model.specs.Space.Tickets.{IsEvicting}
 use Rattle.wh_host_model.specs.Space.Parts.{Occupant, Space, occupant_at, of_occupant}
-use Rattle.wh_host_model.specs.Space.States.{comes_from, count, leaving, lies_in}
+use Rattle.wh_host_model.specs.Space.States.{comes_from, count, leaving, lies_in, put}
 use Rattle.wh_host_model.proofs.Space.Putting.{get_or_is, here_or, set_other, set_same, there_of}
 use Rattle.wh_host_model.specs.Space.Moves.{has_pins, unpinned}
 use Rattle.wh_host_model.proofs.Space.Reserved.{is_sound_unpinned}
@@ -195,3 +195,9 @@ ends_soundly s i mine sound was = go (has_pins s.pins i) where
   go : (b : Bool) → IsSound (cond b (unpinned (stood s i None)) (stood s i None))
   go true = is_sound_unpinned (stood s i None) now
   go false = now
+
+-- one page isn't touched any more
+pub untouched_soundly : (s : Space) (i p : ℕ) → IsSound s → IsSound (record s { touched = put s.touched i p false })
+unfolding retouched
+untouched_soundly s i p sound =
+    is_sound_retouched s (put s.touched i p false) s.slots.held sound (length-set s.touched i _) (λ j. mark_length s.touched i p false j) refl (λ k some. refl)

@@ -2,11 +2,13 @@
 use Rattle.std.specs.Prelude.{ℕ, ◌≡◌, ◌+◌, ◌*◌, ◌≤◌, true, Bool, List, [], Option, Some, length, get_or, slice_get}
 use Rattle.wh_host_model.specs.declared.states.Slot.TheVariants.{Evicting}
 use Rattle.wh_host_model.specs.declared.states.EvictEnd.{EvictEnd}
+use Rattle.wh_host_model.specs.declared.states.Offer.{Offer}
 use Rattle.wh_model.specs.declared.memory.Need.{Need}
 use Rattle.wh_host_model.specs.Space.Stores.{Epochs, Touches, ended, stood}
 use Rattle.wh_host_model.specs.Space.Sound.{IsSound}
 use Rattle.wh_host_model.specs.Space.Tickets.{IsWritten, CommitsEvict}
 use Rattle.wh_host_model.specs.Space.Parts.{Occupant, Space, occupant_at}
+use Rattle.wh_host_model.specs.Space.Offers.{Offers}
 
 -- a load
 abbrev pub TouchesSoundly : Type 0
@@ -36,3 +38,8 @@ abbrev pub CommitsEvictSoundly : Type 0
 CommitsEvictSoundly =
     (s : Space) (k j p : ℕ) (wrote : Bool) (bytes : List ℕ) (end : EvictEnd) (s2 : Space) → IsSound s → slice_get s.slots.uses k ≡ Some (Evicting j p)
     → (wrote ≡ true → get_or s.slots.held k [] ≡ bytes) → CommitsEvict s k wrote bytes end s2 → IsSound s2
+
+-- an offer, for any hash that is handed in
+abbrev pub OffersSoundly : Type 0
+OffersSoundly =
+    (hashes : List ℕ → ℕ) (s : Space) (i p hash : ℕ) (answer : Offer) (s2 : Space) → IsSound s → Offers hashes s i p hash answer s2 → IsSound s2

@@ -6,6 +6,7 @@ use Rattle.wh_host_model.proofs.Space.Quiet.{offers_quiet, written_quiet, steps_
 use Rattle.wh_host_model.proofs.Space.Voiding.{written_is_void, released_is_void, nothing_needless}
 use Rattle.wh_host_model.proofs.Space.Steady.{touches_soundly, epochs_soundly, writes_soundly, stands_soundly, ends_soundly}
 use Rattle.wh_host_model.proofs.Space.Sent.{commits_soundly}
+use Rattle.wh_host_model.proofs.Space.Merging.{offers_soundly}
 use Rattle.wh_host_model.proofs.laws.space_holds.Goals as goal
 
 pub returns-clause-ready_is_decided : goal.returns-clause-ready_is_decided
@@ -103,3 +104,6 @@ returns-clause-ends_soundly c = ends_soundly
 
 pub returns-clause-commits_evict_soundly : goal.returns-clause-commits_evict_soundly
 returns-clause-commits_evict_soundly c = commits_soundly
+
+pub returns-clause-offers_soundly : goal.returns-clause-offers_soundly
+returns-clause-offers_soundly c = offers_soundly
