@@ -25,3 +25,4 @@ pub mod Returned
 pub mod Sent
 pub mod Offered
 pub mod Merging
+pub mod WorkedStores
