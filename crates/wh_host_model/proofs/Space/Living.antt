@@ -1,5 +1,5 @@
 -- Who has a page lives.
-use Rattle.std.proofs.Common.{◌≡◌, ℕ, ◌<◌, true, false, Bool, List, [], ◌∷◌, Option, Some, None, slice_get, get_or, refl, ap, ◌∙◌, arith}
+use Rattle.std.proofs.Common.{◌≡◌, ℕ, true, false, Bool, List, [], ◌∷◌, Option, Some, None, slice_get, get_or, refl, ap, ◌∙◌, arith}
 use Rattle.wh_host_model.specs.declared.states.Page.{Page}
 use Rattle.wh_host_model.specs.Space.Parts.{Occupant, Space, occupant_at}
 use Rattle.wh_host_model.specs.Space.Sound.{OccupantsAreSound}

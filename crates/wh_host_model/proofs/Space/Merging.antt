@@ -1,5 +1,5 @@
 -- A merge leaves everything sound, and so does every offer.
-use Rattle.std.proofs.Common.{◌≡◌, ◌≢◌, ℕ, ◌+◌, ◌<◌, ◌≤◌, ◌++◌, ◌⊎◌, inl, inr, min, List, [], ◌∷◌, Some, length, slice_get, slice_set, refl, sym, ◌∙◌, subst, arith, length-set}
+use Rattle.std.proofs.Common.{◌≡◌, ◌≢◌, ℕ, ◌+◌, ◌<◌, ◌≤◌, ◌++◌, inl, inr, min, List, [], ◌∷◌, Some, length, slice_get, slice_set, refl, sym, ◌∙◌, subst, arith, length-set}
 use Rattle.wh_host_model.specs.Pages.{zero_page}
 use Rattle.wh_host_model.specs.Frames.{tally, one_if}
 use Rattle.wh_host_model.proofs.Tally.{one_same, one_other, tally-append}
@@ -17,7 +17,6 @@ use Rattle.wh_host_model.specs.Space.States.{at, comes_from, count, leaving, lie
 use Rattle.wh_host_model.proofs.Space.Begun.{at_same}
 use Rattle.wh_host_model.proofs.Space.Putting.{here_or, set_other, set_same, there_of}
 use Rattle.wh_host_model.proofs.Space.Evicted.{other_kind, other_value, row_length}
-use Rattle.wh_host_model.specs.Space.Moves.{pinned}
 use Rattle.wh_host_model.proofs.Space.Sums.{put_tally}
 use Rattle.wh_host_model.proofs.Space.Steady.{untouched_soundly}
 

@@ -1,5 +1,5 @@
 -- A provision makes the step ready, within its bound, and takes nobody else below the minimum.
-use Rattle.std.proofs.Common.{◌≡◌, ◌≢◌, ℕ, ◌+◌, ◌*◌, ◌/◌, ◌%◌, ◌<◌, ◌≤◌, ◌⊎◌, inl, inr, cond, nat_lt, true, false, Bool, List, [], ◌∷◌, Option, Some, None, length, ◌++◌, slice_get, get_or, zero, suc, refl, sym, ap, ◌∙◌, subst, arith}
+use Rattle.std.proofs.Common.{◌≡◌, ℕ, ◌+◌, ◌*◌, ◌/◌, ◌%◌, ◌<◌, ◌≤◌, ◌⊎◌, inl, inr, cond, nat_lt, true, false, Bool, List, [], ◌∷◌, Option, Some, None, length, ◌++◌, slice_get, get_or, zero, suc, refl, sym, ap, ◌∙◌, subst, arith}
 use Rattle.std.proofs.lemmas.Bool.Decides.{nat_tests}
 use Rattle.wh_model.specs.declared.memory.Need.{Need}
 use Rattle.wh_host_model.specs.Frames.{tally, one_if}
@@ -8,12 +8,12 @@ use Rattle.wh_host_model.specs.declared.states.Page.{Page}
 use Rattle.wh_host_model.specs.declared.states.Page.TheVariants.{Untouched, Private, Shared, Leaving, LeavingShared, Coming, Swapped}
 use Rattle.wh_host_model.specs.declared.states.Slot.{Slot}
 use Rattle.wh_host_model.specs.declared.states.Slot.TheVariants.{Vacant, Taken, Evicting, EvictVoid, Fetching, FetchVoid}
-use Rattle.wh_host_model.specs.Space.Provide.{HasPages, IsOnTheWay, Move, Serves, comes, far, goes, leaves}
+use Rattle.wh_host_model.specs.Space.Provide.{HasPages, IsOnTheWay, Move, Serves, comes, goes, leaves}
 use Rattle.wh_host_model.specs.Space.Sound.{IsSound, IsUsed, SlotsAreSound}
 use Rattle.wh_host_model.specs.Space.Laws.{MovesAreFew, ProvisionIsRight}
 use Rattle.wh_host_model.specs.Space.Parts.{Occupant, Space, kept, occupant_at, pages_of, pinned_by}
 use Rattle.wh_host_model.specs.Space.Tickets.{StandsAt}
-use Rattle.wh_host_model.specs.Space.States.{at, comes_from, count, count_of, page_at, resident, swapped, untouched}
+use Rattle.wh_host_model.specs.Space.States.{comes_from, count, count_of, page_at, resident, swapped, untouched}
 use Rattle.wh_host_model.proofs.Space.Serving.{bounded, ends_ready, evict_on, fetch_on, started}
 use Rattle.wh_host_model.proofs.Space.Putting.{cond_here, get_pages, here_or}
 use Rattle.wh_host_model.proofs.Space.Reserved.{frames_in_all_few, is_sound_earmarked, is_sound_pinned}
@@ -23,7 +23,6 @@ use Rattle.wh_host_model.proofs.Space.Rooms.{get_there}
 use Rattle.wh_host_model.proofs.Space.Evicted.{is_sound_evicted, stood_on}
 use Rattle.wh_host_model.proofs.Space.Fetched.{is_sound_fetched}
 use Rattle.wh_host_model.specs.Space.Errands.{is_ticket, tickets}
-use Rattle.wh_host_model.specs.Space.Moves.{pinned}
 use Rattle.wh_host_model.proofs.Space.Slotting.{slot_taken, vacant_there}
 
 -- the pages of bytes that are there are there

@@ -1,5 +1,5 @@
 -- Pins and earmarks that change leave everything sound.
-use Rattle.std.proofs.Common.{◌≡◌, ◌≢◌, ℕ, ◌+◌, ◌<◌, ◌≤◌, ◌++◌, ◌⊎◌, inl, inr, cond, nat_eq, true, false, Bool, List, [], ◌∷◌, Option, Some, None, length, min, slice_get, refl, sym, ap, ◌∙◌, subst, arith, length-append}
+use Rattle.std.proofs.Common.{◌≡◌, ℕ, ◌+◌, ◌≤◌, ◌++◌, inl, inr, cond, nat_eq, true, false, Bool, List, [], ◌∷◌, Option, Some, None, length, min, slice_get, refl, sym, ap, subst, arith, length-append}
 use Rattle.std.proofs.lemmas.Bool.Decides.{nat_tests}
 use Rattle.wh_model.specs.declared.memory.Need.{Need}
 use Rattle.wh_host_model.specs.Frames.{tally, one_if}
@@ -12,7 +12,7 @@ use Rattle.wh_host_model.specs.Space.Sound.{IsSound, PinsAreSound}
 use Rattle.wh_host_model.specs.Space.Parts.{Occupant, Pins, Space, kept, occupant_at, pinned_by, sharers}
 use Rattle.wh_host_model.proofs.Space.Wanting.{few_pages, two_at_most}
 use Rattle.wh_host_model.specs.Space.Ready.{among, below, copies, frames_for, frames_in_all, pages_of_need}
-use Rattle.wh_host_model.specs.Space.States.{at, leaving, page_at, resident, shares, swapped, untouched}
+use Rattle.wh_host_model.specs.Space.States.{at, page_at, resident, shares, swapped, untouched}
 use Rattle.wh_host_model.proofs.Space.Sums.{below_le, below_one, below_tally, below_zero, tally_le, tally_ones, tally_plus}
 use Rattle.wh_host_model.proofs.Space.Putting.{here_or, pinned_here, pinned_other}
 use Rattle.wh_host_model.proofs.Space.Begun.{is_sound_begun}

@@ -1,5 +1,5 @@
 -- A ticket that comes back while its page is leaving leaves everything sound.
-use Rattle.std.proofs.Common.{◌≡◌, ◌≢◌, ℕ, ◌+◌, ◌*◌, ◌-◌, ◌<◌, ◌≤◌, ◌++◌, ◌==◌, ◌⊎◌, inl, inr, true, false, [], ◌∷◌, Option, Some, None, slice_get, get_or, refl, sym, ap, ◌∙◌, subst, arith, length-set}
+use Rattle.std.proofs.Common.{◌≡◌, ◌≢◌, ℕ, ◌+◌, ◌-◌, ◌⊎◌, inl, inr, true, false, [], ◌∷◌, Option, Some, None, slice_get, get_or, refl, sym, ap, ◌∙◌, subst, arith, length-set}
 use Rattle.wh_host_model.specs.Frames.{tally, one_if}
 use Rattle.wh_host_model.proofs.Tally.{one_same, one_other, tally-append}
 use Rattle.wh_host_model.specs.declared.states.Page.{Page}

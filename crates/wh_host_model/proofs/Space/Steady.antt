@@ -1,5 +1,5 @@
 -- Moves that change marks of touch, who stands, or what a slot holds leave everything sound.
-use Rattle.std.proofs.Common.{◌≡◌, ◌≢◌, ℕ, ◌+◌, ◌*◌, ◌-◌, ◌<◌, ◌≤◌, ◌++◌, ◌⊎◌, inl, inr, cond, map, true, false, Bool, List, [], ◌∷◌, Option, Some, None, length, slice_get, slice_set, get_or, zero, suc, refl, sym, ap, ◌∙◌, subst, arith, length-set}
+use Rattle.std.proofs.Common.{◌≡◌, ◌≢◌, ℕ, ◌+◌, ◌*◌, ◌-◌, ◌≤◌, ◌⊎◌, inl, inr, cond, map, true, false, Bool, List, [], ◌∷◌, Option, Some, None, length, slice_get, slice_set, get_or, zero, suc, refl, sym, ap, ◌∙◌, subst, arith, length-set}
 use Rattle.std.proofs.lemmas.List.{get_or-set_other}
 use Rattle.wh_model.specs.declared.memory.Need.{Need}
 use Rattle.wh_model.specs.Memory.{reading}
@@ -9,7 +9,7 @@ use Rattle.wh_host_model.specs.Space.Kept.{EndsSoundly, EpochsSoundly, StandsSou
 use Rattle.wh_host_model.specs.Space.Sound.{HasTable, IsSound, IsUsed}
 use Rattle.wh_host_model.specs.Space.Tickets.{IsEvicting}
 use Rattle.wh_host_model.specs.Space.Parts.{Occupant, Space, occupant_at, of_occupant}
-use Rattle.wh_host_model.specs.Space.States.{comes_from, count, leaving, lies_in, put}
+use Rattle.wh_host_model.specs.Space.States.{comes_from, count, lies_in, put}
 use Rattle.wh_host_model.proofs.Space.Putting.{get_or_is, here_or, set_other, set_same, there_of}
 use Rattle.wh_host_model.specs.Space.Moves.{has_pins, unpinned}
 use Rattle.wh_host_model.proofs.Space.Reserved.{is_sound_unpinned}

@@ -1,5 +1,5 @@
 -- The definitions on small spaces, by hand.
-use Rattle.std.proofs.Common.{◌≡◌, ◌≢◌, ℕ, ◌+◌, ◌<◌, ◌≤◌, ◌++◌, ◌⊎◌, inl, inr, List, Option, [], ◌∷◌, Some, None, true, length, slice_get, zero, suc, refl, arith}
+use Rattle.std.proofs.Common.{◌≡◌, ◌≢◌, ℕ, ◌+◌, ◌≤◌, inl, inr, List, Option, [], ◌∷◌, Some, None, true, length, slice_get, zero, suc, refl, arith}
 use Rattle.wh_model.specs.declared.memory.Need.{Need}
 use Rattle.wh_host_model.specs.Pages.{zero_page}
 use Rattle.wh_host_model.specs.declared.Tax.{Tax}
@@ -12,7 +12,6 @@ use Rattle.wh_host_model.specs.declared.states.Offer.TheVariants.{Hinted, Merged
 use Rattle.wh_host_model.specs.Space.Sound.{HasHash}
 use Rattle.wh_host_model.specs.Space.Parts.{Occupant, Space, sharers}
 use Rattle.wh_host_model.specs.Space.Offers.{Offers, hinted, joined_to, paired_with}
-use Rattle.wh_host_model.specs.Space.States.{at, shares}
 use Rattle.wh_host_model.specs.Space.Stores.{fewer_sharers}
 use Rattle.wh_host_model.specs.Space.Ready.{frames_in_all, frames_to_write, pages_of_need}
 

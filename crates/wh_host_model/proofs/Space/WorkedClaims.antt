@@ -1,5 +1,5 @@
 -- Who pays where claims are equal, and who may come, by hand.
-use Rattle.std.proofs.Common.{◌≡◌, ◌≢◌, ℕ, ◌+◌, ◌*◌, ◌-◌, ◌<◌, ◌≤◌, ◌⊎◌, List, Option, [], ◌∷◌, Some, None, true, zero, suc, refl, ◌∙◌, arith}
+use Rattle.std.proofs.Common.{ℕ, ◌<◌, ◌≤◌, List, Option, [], ◌∷◌, Some, None, true, zero, suc, refl, arith}
 use Rattle.wh_host_model.specs.declared.Tax.{Tax}
 use Rattle.wh_host_model.specs.declared.states.Page.TheVariants.{Private}
 use Rattle.wh_host_model.specs.declared.states.Slot.{Slot}
@@ -8,8 +8,6 @@ use Rattle.wh_host_model.specs.Space.Parts.{Claimed, Occupant, Space}
 use Rattle.wh_host_model.specs.Space.Claims.{HasLess, IsEarlier, IsPayer, MayPay}
 use Rattle.wh_host_model.specs.Space.Places.{HasRoomFor}
 use Rattle.wh_host_model.specs.Space.Sound.{IsAdmissible}
-use Rattle.wh_host_model.specs.Space.Provide.{leaves}
-use Rattle.wh_host_model.specs.Space.States.{shares}
 
 -- an instance with shares 100
 abbrev rich : ℕ → ℕ → Occupant

@@ -1,5 +1,5 @@
 -- A store to a shared page, by hand.
-use Rattle.std.proofs.Common.{◌≡◌, ◌≢◌, ℕ, ◌+◌, ◌<◌, ◌≤◌, ◌++◌, List, Option, [], ◌∷◌, Some, None, true, false, length, slice_get, get_or, zero, suc, refl, ap, ◌∙◌, arith}
+use Rattle.std.proofs.Common.{◌≡◌, ◌≢◌, ℕ, ◌≤◌, List, Option, [], ◌∷◌, Some, None, true, false, length, slice_get, get_or, zero, suc, refl, ap, arith}
 use Rattle.wh_host_model.specs.Frames.{tally, one_if}
 use Rattle.wh_host_model.proofs.Tally.{one_other}
 use Rattle.wh_host_model.specs.declared.Tax.{Tax}
@@ -7,11 +7,10 @@ use Rattle.wh_host_model.specs.declared.states.Page.TheVariants.{Private, Shared
 use Rattle.wh_host_model.specs.declared.states.Mark.{Mark}
 use Rattle.wh_host_model.specs.declared.states.Mark.TheVariants.{Plain, Sharers}
 use Rattle.wh_host_model.specs.declared.states.Slot.TheVariants.{Vacant}
-use Rattle.wh_host_model.specs.Space.Parts.{Occupant, Space, kept, sharers, view}
+use Rattle.wh_host_model.specs.Space.Parts.{Occupant, Space, sharers, view}
 use Rattle.wh_host_model.specs.Space.Stores.{Overwrites, fewer_sharers}
 use Rattle.wh_host_model.specs.Space.Ready.{among}
 use Rattle.wh_host_model.specs.Space.States.{page_at, shares}
-use Rattle.wh_host_model.specs.Space.Moves.{pinned}
 
 abbrev sharer : ℕ → Option Occupant
 sharer n = Some (record { number = n; live = true; shares = 100; min = 2; max = 16; stands = None; leaves = None })

@@ -1,5 +1,5 @@
 -- Provision, tickets and claims on small spaces, by hand.
-use Rattle.std.proofs.Common.{◌≡◌, ◌≢◌, ℕ, ◌+◌, ◌<◌, ◌≤◌, ◌++◌, ◌⊎◌, inl, inr, List, Option, [], ◌∷◌, Some, None, true, false, Bool, length, slice_get, zero, suc, refl, sym, ap, ◌∙◌, subst, arith}
+use Rattle.std.proofs.Common.{◌≡◌, ℕ, ◌<◌, ◌≤◌, ◌++◌, inl, inr, List, Option, [], ◌∷◌, Some, None, true, false, Bool, length, slice_get, zero, suc, refl, sym, ap, ◌∙◌, subst, arith}
 use Rattle.wh_model.specs.declared.memory.Need.{Need}
 use Rattle.wh_host_model.specs.Frames.{tally, one_if}
 use Rattle.wh_host_model.proofs.Tally.{one_same}
@@ -20,7 +20,7 @@ use Rattle.wh_host_model.specs.Space.Provide.{LacksFree, Provides, goes}
 use Rattle.wh_host_model.specs.Space.Parts.{Occupant, Space, kept_by, pages_of}
 use Rattle.wh_host_model.specs.Space.Stores.{Overwrites}
 use Rattle.wh_host_model.specs.Space.Ready.{Ready}
-use Rattle.wh_host_model.specs.Space.States.{at, count_of, lies_in, page_at, shares}
+use Rattle.wh_host_model.specs.Space.States.{count_of, lies_in, page_at, shares}
 
 -- where one alone may have to pay, it does
 only_payer : (s : Space) (i : ℕ) → MayPay s i → ((j : ℕ) → MayPay s j → j ≡ i) → IsPayer s i

@@ -1,5 +1,5 @@
 -- What one move leaves: a page that goes to a slot, one that comes from a slot, and frames and pages that are kept for a step.
-use Rattle.std.specs.Prelude.{ℕ, ◌≡◌, ◌-◌, ◌<◌, ◌≤◌, ◌++◌, ◌⊎◌, ◌==◌, cond, nat_lt, nat_eq, Bool, false, List, [], ◌∷◌, Option, Some, None, length, get_or, slice_get, slice_set}
+use Rattle.std.specs.Prelude.{ℕ, ◌≡◌, ◌-◌, ◌<◌, ◌≤◌, ◌++◌, ◌⊎◌, ◌==◌, cond, nat_lt, nat_eq, Bool, false, List, [], ◌∷◌, Option, Some, None, length, slice_get, slice_set}
 use Rattle.wh_model.specs.declared.memory.Need.{Need}
 use Rattle.wh_host_model.specs.Frames.{tally, one_if}
 use Rattle.wh_host_model.specs.declared.states.Page.{Page}

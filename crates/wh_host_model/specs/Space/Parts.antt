@@ -1,8 +1,8 @@
 -- The memory of all instances: their pages on one pool of frames, and the slots of one swap device.
-use Rattle.std.specs.Prelude.{ℕ, ◌≡◌, ◌+◌, ◌-◌, ◌==◌, ◌&&◌, cond, Bool, true, false, List, [], ◌∷◌, Option, Some, None, length, replicate, get_or, slice_get, zero, suc}
+use Rattle.std.specs.Prelude.{ℕ, ◌≡◌, ◌+◌, ◌-◌, ◌==◌, ◌&&◌, cond, Bool, false, List, [], ◌∷◌, Option, Some, None, length, replicate, get_or, slice_get, zero, suc}
 use Rattle.wh_model.specs.declared.memory.Need.{Need}
 use Rattle.wh_host_model.specs.Pages.{zero_page}
-use Rattle.wh_host_model.specs.Frames.{Pool, tally, one_if}
+use Rattle.wh_host_model.specs.Frames.{Pool, tally}
 use Rattle.wh_host_model.specs.declared.Tax.{Tax}
 use Rattle.wh_host_model.specs.declared.states.Page.{Page}
 use Rattle.wh_host_model.specs.declared.states.Mark.{Mark}

@@ -5,7 +5,7 @@ use Rattle.wh_host_model.specs.Frames.{tally, one_if}
 use Rattle.wh_host_model.specs.declared.states.Page.TheVariants.{Swapped}
 use Rattle.wh_host_model.specs.declared.states.Slot.TheVariants.{Vacant}
 use Rattle.wh_host_model.specs.Space.States.{at, page_at, resident, swapped, untouched, count}
-use Rattle.wh_host_model.specs.Space.Parts.{Space, Occupant, occupant_at, all_bytes, kept, pinned_by, pages_of}
+use Rattle.wh_host_model.specs.Space.Parts.{Space, Occupant, occupant_at, kept, pinned_by, pages_of}
 use Rattle.wh_host_model.specs.Space.Errands.{tickets}
 use Rattle.wh_host_model.specs.Space.Claims.{MustLeave}
 use Rattle.wh_host_model.specs.Space.Moves.{IsFirstSwapped, Evicts, Fetches, Earmarks, pinned, unpinned}

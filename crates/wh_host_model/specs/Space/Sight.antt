@@ -15,7 +15,6 @@ use Rattle.wh_host_model.specs.Space.Sound.{IsSound}
 use Rattle.wh_host_model.specs.Space.Tickets.{IsWritten, CommitsEvict}
 use Rattle.wh_host_model.specs.Space.Offers.{Offers, OffersOf}
 use Rattle.wh_host_model.specs.Space.Provide.{IsServed, Provides}
-use Rattle.wh_host_model.specs.Space.States.{at}
 use Rattle.wh_host_model.specs.Space.Ready.{pages_of_need}
 use Rattle.wh_host_model.specs.Space.Moves.{pinned}
 

@@ -1,7 +1,7 @@
 -- Pages in transit: what begins, and what ends, with a device call between that nobody waits for.
 use Rattle.std.specs.Prelude.{ℕ, ◌≡◌, ◌≢◌, ◌==◌, ◌<◌, ◌≤◌, ◌++◌, ◌⊎◌, cond, min, Bool, true, false, List, [], ◌∷◌, Option, Some, None, length, get_or, slice_get, slice_set}
 use Rattle.wh_model.specs.declared.memory.Need.{Need}
-use Rattle.wh_host_model.specs.Frames.{tally, one_if}
+use Rattle.wh_host_model.specs.Frames.{tally}
 use Rattle.wh_host_model.specs.declared.states.Page.{Page}
 use Rattle.wh_host_model.specs.declared.states.Page.TheVariants.{Private, Shared, Leaving, LeavingShared, Coming, Swapped}
 use Rattle.wh_host_model.specs.declared.states.Slot.{Slot}
@@ -11,7 +11,7 @@ use Rattle.wh_host_model.specs.declared.states.EvictEnd.TheVariants.{Evicted, Vo
 use Rattle.wh_host_model.specs.declared.states.FetchEnd.{FetchEnd}
 use Rattle.wh_host_model.specs.declared.states.FetchEnd.TheVariants.{Fetched, Void as FetchIsVoid, Failed as FetchHasFailed}
 use Rattle.wh_host_model.specs.Space.States.{page_at, put}
-use Rattle.wh_host_model.specs.Space.Parts.{Space, Occupant, Pins, occupant_at, wants, kept_by, pinned_by, frame_bytes}
+use Rattle.wh_host_model.specs.Space.Parts.{Space, Occupant, Pins, occupant_at, kept_by, pinned_by, frame_bytes}
 use Rattle.wh_host_model.specs.Space.Errands.{ticket_of}
 use Rattle.wh_host_model.specs.Space.Ready.{frames_in_all, may_take}
 use Rattle.wh_host_model.specs.Space.Claims.{MustLeave, NoneMustLeave}
