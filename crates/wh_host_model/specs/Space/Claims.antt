@@ -46,7 +46,8 @@ MayPay s i = ((t : Occupant) × occupant_at s i t × (t.min < pages_of s i)) × 
 
 -- for its shares the first has less left to claim than the second: S_i * w_j < S_j * w_i
 abbrev pub HasLess : Space → ℕ → ℕ → Type 0
-HasLess s i j = (t u : Occupant) → occupant_at s i t → occupant_at s j u → t.shares * weight_of s j < u.shares * weight_of s i
+HasLess s i j =
+    (t u : Occupant) → occupant_at s i t → occupant_at s j u → t.shares * weight_of s j < u.shares * weight_of s i
 
 -- the first was admitted before the second. Places are used again, numbers aren't
 abbrev pub IsEarlier : Space → ℕ → ℕ → Type 0
@@ -69,8 +70,8 @@ IsGiven s i p =
 abbrev pub NobodyPays : Space → Type 0
 NobodyPays s = (k : ℕ) → ¬ MayPay s k
 
--- The page that is taken for this step of the instance at place i: that of the one that pays, or where nobody may have to pay
--- one of its own. The step is named, though nothing depends on it.
+-- The page that is taken for this step of the instance at place i: that of the one that pays, or where nobody may have
+-- to pay one of its own. The step is named, though nothing depends on it.
 abbrev pub MustLeave : Space → ℕ → Need → ℕ → ℕ → Type 0
 MustLeave s i need j p = IsGiven s j p × (IsPayer s j ⊎ ((j ≡ i) × NobodyPays s))
 

@@ -50,8 +50,8 @@ errand_for (EvictVoid i) = Some to_write
 errand_for (Fetching i p f) = Some to_read
 errand_for (FetchVoid i f) = Some to_read
 
--- What the memory and whoever holds the device agree on, by slot: what it holds, and the ticket that is out for it. A ticket
--- becomes void without the device, so that isn't a part of it.
+-- What the memory and whoever holds the device agree on, by slot: what it holds, and the ticket that is out for it. A
+-- ticket becomes void without the device, so that isn't a part of it.
 pub record Pass : Type 0 where
   pub held : List (List ℕ)
   pub out : List (Option Errand)

@@ -20,7 +20,9 @@ EpochsSoundly = (s s2 : Space) → IsSound s → Epochs s s2 → IsSound s2
 
 -- a device call for an eviction
 abbrev pub WritesSoundly : Type 0
-WritesSoundly = (s : Space) (k : ℕ) (bytes : List ℕ) (wrote : Bool) (s2 : Space) → IsSound s → IsWritten s k bytes wrote s2 → IsSound s2
+WritesSoundly =
+    (s : Space) (k : ℕ) (bytes : List ℕ) (wrote : Bool) (s2 : Space) → IsSound s → IsWritten s k bytes wrote s2
+    → IsSound s2
 
 -- to stand for a frame at bytes that are in the table of a live instance, or for none
 abbrev pub StandsSoundly : Type 0
@@ -36,10 +38,12 @@ EndsSoundly = (s : Space) (i : ℕ) (t : Occupant) → IsSound s → occupant_at
 -- the ticket of a page that is leaving, when it comes back: where the device wrote it the slot holds what was written
 abbrev pub CommitsEvictSoundly : Type 0
 CommitsEvictSoundly =
-    (s : Space) (k j p : ℕ) (wrote : Bool) (bytes : List ℕ) (end : EvictEnd) (s2 : Space) → IsSound s → slice_get s.slots.uses k ≡ Some (Evicting j p)
+    (s : Space) (k j p : ℕ) (wrote : Bool) (bytes : List ℕ) (end : EvictEnd) (s2 : Space) → IsSound s
+    → slice_get s.slots.uses k ≡ Some (Evicting j p)
     → (wrote ≡ true → get_or s.slots.held k [] ≡ bytes) → CommitsEvict s k wrote bytes end s2 → IsSound s2
 
 -- an offer, for any hash that is handed in
 abbrev pub OffersSoundly : Type 0
 OffersSoundly =
-    (hashes : List ℕ → ℕ) (s : Space) (i p hash : ℕ) (answer : Offer) (s2 : Space) → IsSound s → Offers hashes s i p hash answer s2 → IsSound s2
+    (hashes : List ℕ → ℕ) (s : Space) (i p hash : ℕ) (answer : Offer) (s2 : Space) → IsSound s
+    → Offers hashes s i p hash answer s2 → IsSound s2

@@ -47,18 +47,22 @@ OneUseOfAFrame =
 -- where a step lacks a frame there is a page to take, for whoever has the step's pages pinned while no ticket is out
 abbrev pub SomePageCanBeTaken : Type 0
 SomePageCanBeTaken =
-    (s : Space) (i : ℕ) (need : Need) (t : Occupant) → IsSound s → tickets s ≡ 0 → IsServing s i need → occupant_at s i t
+    (s : Space) (i : ℕ) (need : Need) (t : Occupant) → IsSound s → tickets s ≡ 0 → IsServing s i need
+    → occupant_at s i t
     → LacksFree s i need → ¬ NoneMustLeave s i need
 
 -- and a slot for it
 abbrev pub SomeSlotIsVacant : Type 0
 SomeSlotIsVacant =
-    (s : Space) (i : ℕ) (need : Need) (t : Occupant) → IsSound s → tickets s ≡ 0 → IsServing s i need → occupant_at s i t
+    (s : Space) (i : ℕ) (need : Need) (t : Occupant) → IsSound s → tickets s ≡ 0 → IsServing s i need
+    → occupant_at s i t
     → LacksFree s i need → 1 ≤ length s.slots.vacant
 
 -- a page that goes to a slot in one go leaves all sound, and all bytes as they were
 abbrev pub EvictionKeepsAll : Type 0
-EvictionKeepsAll = (s : Space) (j p : ℕ) (s2 : Space) → IsSound s → CanLeave s j p → Evicts s j p s2 → IsSound s2 × (all_bytes s2 ≡ all_bytes s)
+EvictionKeepsAll =
+    (s : Space) (j p : ℕ) (s2 : Space) → IsSound s → CanLeave s j p → Evicts s j p s2 → IsSound s2
+    × (all_bytes s2 ≡ all_bytes s)
 
 -- one that comes from a slot does so too, its bytes where what was read is what the slot held
 abbrev pub FetchKeepsSound : Type 0
@@ -66,7 +70,8 @@ FetchKeepsSound = (s : Space) (i p : ℕ) (bytes : List ℕ) (s2 : Space) → Is
 
 abbrev pub FetchKeepsBytes : Type 0
 FetchKeepsBytes =
-    (s : Space) (i p k : ℕ) (bytes : List ℕ) (s2 : Space) → IsSound s → page_at s.tables i p ≡ Some (Swapped k) → get_or s.slots.held k [] ≡ bytes
+    (s : Space) (i p k : ℕ) (bytes : List ℕ) (s2 : Space) → IsSound s → page_at s.tables i p ≡ Some (Swapped k)
+    → get_or s.slots.held k [] ≡ bytes
     → Fetches s i p bytes s2 → all_bytes s2 ≡ all_bytes s
 
 -- however a provision goes on, as many pages leave at most as were resident at first, and two more
@@ -75,8 +80,8 @@ MovesAreFew =
     (s : Space) (i : ℕ) (need : Need) (moves : List Move) (mid : Space) → IsSound s → tickets s ≡ 0 → StandsAt s i need
     → Serves s i need moves mid → tally leaves moves ≤ count resident s.tables + 2
 
--- After a provision all is sound, the step ready and pinned, so many pages have left at most, and no other instance is below its
--- minimum that wasn't.
+-- After a provision all is sound, the step ready and pinned, so many pages have left at most, and no other instance is
+-- below its minimum that wasn't.
 pub record IsProvided (s : Space) (i : ℕ) (need : Need) (n : ℕ) (s2 : Space) : Type 0 where
   pub sound : IsSound s2
   pub ready : Ready s2 i need
@@ -86,16 +91,19 @@ pub record IsProvided (s : Space) (i : ℕ) (need : Need) (n : ℕ) (s2 : Space)
 
 abbrev pub ProvisionIsRight : Type 0
 ProvisionIsRight =
-    (s : Space) (i : ℕ) (need : Need) (n : ℕ) (s2 : Space) → IsSound s → tickets s ≡ 0 → StandsAt s i need → Provides s i need n s2
+    (s : Space) (i : ℕ) (need : Need) (n : ℕ) (s2 : Space) → IsSound s → tickets s ≡ 0 → StandsAt s i need
+    → Provides s i need n s2
     → IsProvided s i need n s2
 
 -- an eviction that begins, or doesn't, leaves all sound
 abbrev pub BeginsEvictSoundly : Type 0
-BeginsEvictSoundly = (s s2 : Space) (i : ℕ) (slot : Option ℕ) (bytes : List ℕ) → IsSound s → BeginsEvict s i slot bytes s2 → IsSound s2
+BeginsEvictSoundly =
+    (s s2 : Space) (i : ℕ) (slot : Option ℕ) (bytes : List ℕ) → IsSound s → BeginsEvict s i slot bytes s2 → IsSound s2
 
 -- what begins changes no bytes
 abbrev pub BeginsEvictQuietly : Type 0
-BeginsEvictQuietly = (s s2 : Space) (i k : ℕ) (bytes : List ℕ) → BeginsEvict s i (Some k) bytes s2 → all_bytes s2 ≡ all_bytes s
+BeginsEvictQuietly =
+    (s s2 : Space) (i k : ℕ) (bytes : List ℕ) → BeginsEvict s i (Some k) bytes s2 → all_bytes s2 ≡ all_bytes s
 
 abbrev pub BeginsFetchQuietly : Type 0
 BeginsFetchQuietly = (s s2 : Space) (i k : ℕ) → BeginsFetch s i (Some k) s2 → all_bytes s2 ≡ all_bytes s
@@ -103,10 +111,12 @@ BeginsFetchQuietly = (s s2 : Space) (i k : ℕ) → BeginsFetch s i (Some k) s2 
 -- nor does what ends, where the slot holds what was written or read
 abbrev pub CommitsEvictQuietly : Type 0
 CommitsEvictQuietly =
-    (s s2 : Space) (k : ℕ) (wrote : Bool) (bytes : List ℕ) (end : EvictEnd) → (wrote ≡ true → get_or s.slots.held k [] ≡ bytes)
+    (s s2 : Space) (k : ℕ) (wrote : Bool) (bytes : List ℕ) (end : EvictEnd)
+    → (wrote ≡ true → get_or s.slots.held k [] ≡ bytes)
     → CommitsEvict s k wrote bytes end s2 → all_bytes s2 ≡ all_bytes s
 
 abbrev pub CommitsFetchQuietly : Type 0
 CommitsFetchQuietly =
-    (s s2 : Space) (k : ℕ) (read : Bool) (bytes : List ℕ) (end : FetchEnd) → IsSound s → (read ≡ true → get_or s.slots.held k [] ≡ bytes)
+    (s s2 : Space) (k : ℕ) (read : Bool) (bytes : List ℕ) (end : FetchEnd) → IsSound s
+    → (read ≡ true → get_or s.slots.held k [] ≡ bytes)
     → CommitsFetch s k read bytes end s2 → all_bytes s2 ≡ all_bytes s

@@ -1,4 +1,5 @@
--- What one move leaves: a page that goes to a slot, one that comes from a slot, and frames and pages that are kept for a step.
+-- What one move leaves: a page that goes to a slot, one that comes from a slot, and frames and pages that are kept for
+-- a step.
 use Rattle.std.specs.Prelude.{ℕ, ◌≡◌, ◌-◌, ◌<◌, ◌≤◌, ◌++◌, ◌⊎◌, ◌==◌, cond, nat_lt, nat_eq, Bool, false, List, [], ◌∷◌, Option, Some, None, length, slice_get, slice_set}
 use Rattle.wh_model.specs.declared.memory.Need.{Need}
 use Rattle.wh_host_model.specs.Frames.{tally, one_if}
@@ -35,7 +36,8 @@ frame_of (LeavingShared f) = Some f
 frame_of (Coming k) = None
 frame_of (Swapped k) = None
 
--- Page p of the instance at place j, on frame f, lies in slot k now, which holds its bytes. It is not touched any more.
+-- Page p of the instance at place j, on frame f, lies in slot k now, which holds its bytes. It is not touched any
+-- more.
 abbrev pub evicted : Space → ℕ → ℕ → ℕ → ℕ → List ℕ → Space
 evicted s j p f k vacant = record (departed s f) {
   tables = put s.tables j p (Swapped k);
@@ -61,8 +63,8 @@ fetched s i p f k others bytes = record s {
   pins = Some (record { place = i; pages = p ∷ pinned_by s.pins i; frames = kept s.pins });
 }
 
--- A page that lay in a slot has a frame of its own, which was free and has the bytes that were read. What is read is what the
--- slot holds, where the device keeps what is written to it: nothing here says so.
+-- A page that lay in a slot has a frame of its own, which was free and has the bytes that were read. What is read is
+-- what the slot holds, where the device keeps what is written to it: nothing here says so.
 pub record Fetches (s : Space) (i p : ℕ) (bytes : List ℕ) (s2 : Space) : Type 0 where
   pub frame : ℕ
   pub slot : ℕ

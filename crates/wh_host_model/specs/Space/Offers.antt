@@ -28,7 +28,8 @@ FindsHint s hash f j q = slice_get s.marks f ≡ Some (Hint hash j q)
 abbrev pub FindsShared : Space → ℕ → ℕ → ℕ → Type 0
 FindsShared s hash f n = slice_get s.marks f ≡ Some (Sharers hash n)
 
--- a hint with which another page may be merged: its page is on the frame still, alone, may be merged, and its bytes have the hash
+-- a hint with which another page may be merged: its page is on the frame still, alone, may be merged, and its bytes
+-- have the hash
 abbrev pub IsHinted : (List ℕ → ℕ) → Space → ℕ → ℕ → ℕ → ℕ → Type 0
 IsHinted hashes s hash f j q = FindsHint s hash f j q × IsOffered s j q f × (hashes (frame_bytes s f) ≡ hash)
 
@@ -55,9 +56,9 @@ paired_with s i p g f hash j q = let s2 : Space = joined_to s i p g f hash 1 in 
 abbrev pub MayNotMerge : Space → ℕ → ℕ → Type 0
 MayNotMerge s i p = (g : ℕ) → ¬ IsOffered s i p g
 
--- The answers, of the page p of the instance at place i and any hash at all. In this order: the page may not be merged; its
--- bytes are zero; nothing is found; its own hint is; a hint of a page that may not be merged; a hint whose page has another
--- hash by now; equal bytes; other bytes.
+-- The answers, of the page p of the instance at place i and any hash at all. In this order: the page may not be
+-- merged; its bytes are zero; nothing is found; its own hint is; a hint of a page that may not be merged; a hint whose
+-- page has another hash by now; equal bytes; other bytes.
 abbrev pub Offers : (List ℕ → ℕ) → Space → ℕ → ℕ → ℕ → Offer → Space → Type 0
 Offers hashes s i p hash Skipped s2 =
     (s2 ≡ s)
@@ -82,7 +83,7 @@ Offers hashes s i p hash FalseMatch s2 =
     × ((g f : ℕ) × IsOffered s i p g × (frame_bytes s g ≢ zero_page) × (frame_bytes s g ≢ frame_bytes s f)
     × (((n : ℕ) × FindsShared s hash f n) ⊎ ((j q : ℕ) × (f ≢ g) × IsHinted hashes s hash f j q)))
 
--- The offer of a page of an instance by its number: where the instance is gone, though its place is another's by now, it is one
--- of a place that nobody has.
+-- The offer of a page of an instance by its number: where the instance is gone, though its place is another's by now,
+-- it is one of a place that nobody has.
 abbrev pub OffersOf : (List ℕ → ℕ) → Space → ℕ → ℕ → ℕ → ℕ → Offer → Space → Type 0
 OffersOf hashes s place number p hash answer s2 = Offers hashes s (found_at s place number) p hash answer s2

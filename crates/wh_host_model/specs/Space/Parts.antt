@@ -18,7 +18,8 @@ pub record Slots : Type 0 where
   pub vacant : List ℕ
   pub held : List (List ℕ)
 
--- Who has a place. An instance that is released keeps the place, its minimum and its maximum while a ticket of it is out.
+-- Who has a place. An instance that is released keeps the place, its minimum and its maximum while a ticket of it is
+-- out.
 pub record Occupant : Type 0 where
   pub number : ℕ
   pub live : Bool
@@ -36,8 +37,8 @@ pub record Pins : Type 0 where
   pub pages : List ℕ
   pub frames : List ℕ
 
--- By place: the occupants (none where the place is free), their page tables, and which pages were touched in this epoch.
--- By frame: the bytes, and what the content table has. By slot: what it is used for, and what it holds.
+-- By place: the occupants (none where the place is free), their page tables, and which pages were touched in this
+-- epoch. By frame: the bytes, and what the content table has. By slot: what it is used for, and what it holds.
 pub record Space : Type 0 where
   pub occupants : List (Option Occupant)
   pub tables : List (List Page)

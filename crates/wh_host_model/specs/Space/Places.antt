@@ -29,8 +29,8 @@ newcomer c = record { number = c.number; live = true; shares = c.shares; min = c
 abbrev pub HasRoomFor : Space → Claimed → Type 0
 HasRoomFor s c = (minima s + c.min ≤ length s.pool.frames) × (spreads s + ((c.max - c.min) + 1) ≤ length s.slots.uses)
 
--- An instance comes to a free place, with a claim that there is room for, a number that nobody there has, and so many pages of
--- WebAssembly, all untouched. All else is as it was.
+-- An instance comes to a free place, with a claim that there is room for, a number that nobody there has, and so many
+-- pages of WebAssembly, all untouched. All else is as it was.
 pub record Enters (s : Space) (i : ℕ) (c : Claimed) (size : ℕ) (s2 : Space) : Type 0 where
   pub free : IsFreePlace s i
   pub room : HasRoomFor s c
@@ -59,18 +59,20 @@ released_mark i pages Plain = Plain
 released_mark i pages (Hint hash j p) = cond (i == j) Plain (Hint hash j p)
 released_mark i pages (Sharers hash n) = fewer_sharers pages (Sharers hash n)
 
--- The instance at place i goes. It has no page any more, its pins and earmarks end, and its tickets are void; the place is kept
--- while one is out. Which frames and slots are free follows from soundness. All else is as it was.
+-- The instance at place i goes. It has no page any more, its pins and earmarks end, and its tickets are void; the
+-- place is kept while one is out. Which frames and slots are free follows from soundness. All else is as it was.
 pub record Exits (s : Space) (i : ℕ) (s2 : Space) : Type 0 where
   pub occupant : Occupant
   pub was : occupant_at s i occupant × (occupant.live ≡ true)
   pub tables : s2.tables ≡ slice_set s.tables i []
   pub touched : s2.touched ≡ slice_set s.touched i []
   pub bytes : s2.pool.frames ≡ s.pool.frames
-  pub marks : (f : ℕ) (m : Mark) → slice_get s.marks f ≡ Some m → slice_get s2.marks f ≡ Some (released_mark i (count_of (shares f) s.tables i) m)
+  pub marks : (f : ℕ) (m : Mark) → slice_get s.marks f ≡ Some m
+      → slice_get s2.marks f ≡ Some (released_mark i (count_of (shares f) s.tables i) m)
   pub held : s2.slots.held ≡ s.slots.held
   pub slots : length s2.slots.uses ≡ length s.slots.uses
-  pub uses : (k : ℕ) (x : Slot) → slice_get s.slots.uses k ≡ Some x → slice_get s2.slots.uses k ≡ Some (released_use i (count_of (lies_in k) s.tables i) x)
+  pub uses : (k : ℕ) (x : Slot) → slice_get s.slots.uses k ≡ Some x
+      → slice_get s2.slots.uses k ≡ Some (released_use i (count_of (lies_in k) s.tables i) x)
   pub occupants : s2.occupants ≡ slice_set s.occupants i (stays_occupant (Some (record occupant { live = false; stands = None })) (tally (ticket_of i) s.slots.uses))
   pub pins : s2.pins ≡ (unpinned_of s i).pins
   pub tax : s2.tax ≡ s.tax

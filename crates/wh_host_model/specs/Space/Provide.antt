@@ -14,7 +14,8 @@ use Rattle.wh_host_model.specs.Space.Tickets.{with_held}
 
 -- the step's resident pages are pinned, and no others, of its instance or another; no frame is earmarked
 pub record IsServing (s : Space) (i : ℕ) (need : Need) : Type 0 where
-  pub pinned : (p : ℕ) → 1 ≤ tally (one_if p) (pages_of_need need) → at resident (page_at s.tables i p) ≡ 1 → 1 ≤ tally (one_if p) (pinned_by s.pins i)
+  pub pinned : (p : ℕ) → 1 ≤ tally (one_if p) (pages_of_need need) → at resident (page_at s.tables i p) ≡ 1
+      → 1 ≤ tally (one_if p) (pinned_by s.pins i)
   pub only : (p : ℕ) → 1 ≤ tally (one_if p) (pinned_by s.pins i) → 1 ≤ tally (one_if p) (pages_of_need need)
   pub others : (j p : ℕ) → j ≢ i → tally (one_if p) (pinned_by s.pins j) ≡ 0
   pub kept : length (kept s.pins) ≡ 0
@@ -22,7 +23,8 @@ pub record IsServing (s : Space) (i : ℕ) (need : Need) : Type 0 where
 -- the step's resident pages are pinned
 abbrev pub HasPinned : Space → ℕ → Need → Type 0
 HasPinned s i need =
-    (p : ℕ) → 1 ≤ tally (one_if p) (pages_of_need need) → at resident (page_at s.tables i p) ≡ 1 → 1 ≤ tally (one_if p) (pinned_by s.pins i)
+    (p : ℕ) → 1 ≤ tally (one_if p) (pages_of_need need) → at resident (page_at s.tables i p) ≡ 1
+    → 1 ≤ tally (one_if p) (pinned_by s.pins i)
 
 -- the step's pages are there, and none of them is coming
 abbrev pub HasPages : Space → ℕ → Need → Type 0
@@ -57,7 +59,8 @@ leaves goes = 1
 
 -- what was read is what the slot held
 abbrev pub IsTrueTo : Space → ℕ → Need → Move → Type 0
-IsTrueTo s i need (comes bytes) = (p k : ℕ) → IsFirstSwapped s i need p → page_at s.tables i p ≡ Some (Swapped k) → get_or s.slots.held k [] ≡ bytes
+IsTrueTo s i need (comes bytes) =
+    (p k : ℕ) → IsFirstSwapped s i need p → page_at s.tables i p ≡ Some (Swapped k) → get_or s.slots.held k [] ≡ bytes
 IsTrueTo s i need goes = Unit {0}
 
 -- the step is pinned, and then these moves, the last one first, lead from s to s2
@@ -65,14 +68,15 @@ abbrev pub Serves : Space → ℕ → Need → List Move → Space → Type 0
 Serves s i need [] s2 = s2 ≡ pinned s i need
 Serves s i need (move ∷ moves) s2 = (mid : Space) × Serves s i need moves mid × MovesOn mid i need move s2
 
--- The step is made ready: after moves of which so many were pages that left, as many frames are earmarked as its writes want.
+-- The step is made ready: after moves of which so many were pages that left, as many frames are earmarked as its
+-- writes want.
 abbrev pub Provides : Space → ℕ → Need → ℕ → Space → Type 0
 Provides s i need n s2 =
     (moves : List Move) × (mid : Space) × Serves s i need moves mid × (tally leaves moves ≡ n)
     × IsServed mid i need × Earmarks mid i (frames_to_write mid i need) s2
 
--- The device failed: the moves so far stay, and nothing is pinned or earmarked. A slot to which a write failed is vacant and
--- holds nothing that is known.
+-- The device failed: the moves so far stay, and nothing is pinned or earmarked. A slot to which a write failed is
+-- vacant and holds nothing that is known.
 abbrev pub FailsToProvide : Space → ℕ → Need → Space → Type 0
 FailsToProvide s i need s2 =
     (moves : List Move) × (mid : Space) × Serves s i need moves mid
@@ -82,8 +86,8 @@ FailsToProvide s i need s2 =
 abbrev pub OthersKeepMinimum : Space → ℕ → Space → Type 0
 OthersKeepMinimum s i s2 = (j : ℕ) (t : Occupant) → j ≢ i → occupant_at s j t → min t.min (pages_of s j) ≤ pages_of s2 j
 
--- On the way, after n pages have left: each of them, and each that came, has brought the step nearer, and none was taken below
--- another's minimum.
+-- On the way, after n pages have left: each of them, and each that came, has brought the step nearer, and none was
+-- taken below another's minimum.
 pub record IsOnTheWay (s : Space) (i : ℕ) (need : Need) (n : ℕ) (s2 : Space) : Type 0 where
   pub serving : IsServing s2 i need
   pub has_pages : HasPages s2 i need

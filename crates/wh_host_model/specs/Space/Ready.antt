@@ -12,7 +12,8 @@ abbrev pub below : ℕ → (ℕ → ℕ) → ℕ
 below zero w = 0
 below (suc n) w = below n w + w n
 
--- the pages on which so many bytes from a place on lie: none for no bytes, and at most two, since a step has at most 4096
+-- the pages on which so many bytes from a place on lie: none for no bytes, and at most two, since a step has at most
+-- 4096
 abbrev pub pages_from : ℕ → ℕ → List ℕ
 pages_from first zero = []
 pages_from first (suc more) =
@@ -25,8 +26,8 @@ pages_of_need need = pages_from need.at need.length
 abbrev pub among : (Page → ℕ) → Space → ℕ → List ℕ → ℕ
 among kind s i pages = tally (λ p. at kind (page_at s.tables i p)) pages
 
--- How many frames the writes want of a frame with so many sharers, of which so many are written: one for each of these, but
--- that the last sharer keeps the frame.
+-- How many frames the writes want of a frame with so many sharers, of which so many are written: one for each of
+-- these, but that the last sharer keeps the frame.
 abbrev pub copies : ℕ → ℕ → ℕ
 copies written sharing = cond (nat_lt written sharing) written (written - 1)
 

@@ -13,7 +13,9 @@ use Rattle.wh_host_model.specs.Space.Offers.{Offers}
 
 -- a resident page has these bytes
 abbrev pub IsContent : Space → List ℕ → Type 0
-IsContent s bytes = (i p f : ℕ) × (page : Page) × (page_at s.tables i p ≡ Some page) × (frame_of page ≡ Some f) × (frame_bytes s f ≡ bytes)
+IsContent s bytes =
+    (i p f : ℕ) × (page : Page) × (page_at s.tables i p ≡ Some page) × (frame_of page ≡ Some f)
+    × (frame_bytes s f ≡ bytes)
 
 -- the contents of resident pages that aren't all zero, each once
 pub record IsDistinct (s : Space) (all : List (List ℕ)) : Type 0 where
@@ -35,8 +37,9 @@ Scans hashes s (page ∷ pages) s2 =
     (hash : ℕ) × (answer : Offer) × (mid : Space)
     × IsHashOf hashes s page.0 page.1 hash × Offers hashes s page.0 page.1 hash answer mid × Scans hashes mid pages s2
 
--- A full pass, after which as many frames are in use as there are distinct contents: every resident page is offered, no ticket
--- is out, nothing is pinned or earmarked, entries were made under this hash, and no two contents have one hash.
+-- A full pass, after which as many frames are in use as there are distinct contents: every resident page is offered,
+-- no ticket is out, nothing is pinned or earmarked, entries were made under this hash, and no two contents have one
+-- hash.
 pub record IsFullPass (hashes : List ℕ → ℕ) (s : Space) (pages : List (ℕ × ℕ)) (s2 : Space) : Type 0 where
   pub all : (i p : ℕ) → at resident (page_at s.tables i p) ≡ 1 → (k : ℕ) × (slice_get pages k ≡ Some (i, p))
   pub none_out : tickets s ≡ 0

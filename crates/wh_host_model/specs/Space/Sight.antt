@@ -21,11 +21,14 @@ use Rattle.wh_host_model.specs.Space.Moves.{pinned}
 -- no offer changes a byte, for any hash that is handed in
 abbrev pub OffersQuietly : Type 0
 OffersQuietly =
-    (hashes : List ℕ → ℕ) (s : Space) (i p hash : ℕ) (answer : Offer) (s2 : Space) → Offers hashes s i p hash answer s2 → all_bytes s2 ≡ all_bytes s
+    (hashes : List ℕ → ℕ) (s : Space) (i p hash : ℕ) (answer : Offer) (s2 : Space)
+    → Offers hashes s i p hash answer s2 → all_bytes s2 ≡ all_bytes s
 
 -- nor does a device call for an eviction
 abbrev pub WritesQuietly : Type 0
-WritesQuietly = (s : Space) (k : ℕ) (bytes : List ℕ) (wrote : Bool) (s2 : Space) → IsSound s → IsWritten s k bytes wrote s2 → all_bytes s2 ≡ all_bytes s
+WritesQuietly =
+    (s : Space) (k : ℕ) (bytes : List ℕ) (wrote : Bool) (s2 : Space) → IsSound s → IsWritten s k bytes wrote s2
+    → all_bytes s2 ≡ all_bytes s
 
 -- nor does a load, a new epoch, or whether an instance stands for a frame
 pub record KeepsBytes (s : Space) (i : ℕ) : Type 0 where
@@ -42,10 +45,13 @@ abbrev pub GrowsAlone : Type 0
 GrowsAlone = (s : Space) (i n : ℕ) (s2 : Space) → Grew s i n s2 → (j : ℕ) → j ≢ i → view s2 j ≡ view s j
 
 abbrev pub EntersAlone : Type 0
-EntersAlone = (s : Space) (i : ℕ) (c : Claimed) (size : ℕ) (s2 : Space) → IsSound s → Enters s i c size s2 → (j : ℕ) → j ≢ i → view s2 j ≡ view s j
+EntersAlone =
+    (s : Space) (i : ℕ) (c : Claimed) (size : ℕ) (s2 : Space) → IsSound s → Enters s i c size s2 → (j : ℕ)
+    → j ≢ i → view s2 j ≡ view s j
 
 abbrev pub ExitsAlone : Type 0
-ExitsAlone = (s : Space) (i : ℕ) (s2 : Space) → Exits s i s2 → (view s2 i ≡ []) × ((j : ℕ) → j ≢ i → view s2 j ≡ view s j)
+ExitsAlone =
+    (s : Space) (i : ℕ) (s2 : Space) → Exits s i s2 → (view s2 i ≡ []) × ((j : ℕ) → j ≢ i → view s2 j ≡ view s j)
 
 -- with the step that was taken, the call that was cancelled and the instance that goes, pins and earmarks end
 abbrev pub HasNoPins : Space → ℕ → Type 0
@@ -58,13 +64,15 @@ PinsEnd = (s : Space) (i : ℕ) → HasNoPins (ended s i) i × ((s2 : Space) →
 abbrev pub GoneIsSkipped : Type 0
 GoneIsSkipped =
     (hashes : List ℕ → ℕ) (s : Space) (place number p hash : ℕ) (answer : Offer) (s2 : Space) → IsSound s
-    → has_number (get_or s.occupants place None) number ≡ false → OffersOf hashes s place number p hash answer s2 → (answer ≡ Skipped) × (s2 ≡ s)
+    → has_number (get_or s.occupants place None) number ≡ false
+    → OffersOf hashes s place number p hash answer s2 → (answer ≡ Skipped) × (s2 ≡ s)
 
 -- an eviction whose page was written meanwhile is void, whatever the device says
 abbrev pub WrittenIsVoid : Type 0
 WrittenIsVoid =
     (s : Space) (i p at : ℕ) (given : List ℕ) (s2 : Space) (k : ℕ) (wrote : Bool) (bytes : List ℕ) (end : EvictEnd) (s3 : Space)
-    → slice_get s.slots.uses k ≡ Some (Evicting i p) → Overwrites s i at given s2 → 1 ≤ tally (one_if p) (pages_of_need (writing at (length given)))
+    → slice_get s.slots.uses k ≡ Some (Evicting i p) → Overwrites s i at given s2
+    → 1 ≤ tally (one_if p) (pages_of_need (writing at (length given)))
     → CommitsEvict s2 k wrote bytes end s3 → end ≡ Void
 
 -- and so is one whose instance was released
@@ -76,4 +84,5 @@ ReleasedIsVoid =
 -- no page leaves for a step that has all pages and frames that it wants
 abbrev pub NothingNeedless : Type 0
 NothingNeedless =
-    (s : Space) (i : ℕ) (need : Need) (n : ℕ) (s2 : Space) → IsServed (pinned s i need) i need → Provides s i need n s2 → n ≡ 0
+    (s : Space) (i : ℕ) (need : Need) (n : ℕ) (s2 : Space) → IsServed (pinned s i need) i need
+    → Provides s i need n s2 → n ≡ 0

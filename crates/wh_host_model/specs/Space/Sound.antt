@@ -15,10 +15,11 @@ use Rattle.wh_host_model.specs.Space.Errands.{fetches_into, ticket_of}
 
 -- how often frame f is free, earmarked, held by a fetch ticket, or a page's own
 abbrev pub holders : Space → ℕ → ℕ
-holders s f = ((tally (one_if f) s.pool.free + tally (one_if f) (kept s.pins)) + tally (fetches_into f) s.slots.uses) + count (owns f) s.tables
+holders s f =
+    ((tally (one_if f) s.pool.free + tally (one_if f) (kept s.pins)) + tally (fetches_into f) s.slots.uses) + count (owns f) s.tables
 
--- What the content table has of frame f is so: a hint names the page whose frame it is, a count is the number of pages that
--- share the frame, and their bytes aren't all zero.
+-- What the content table has of frame f is so: a hint names the page whose frame it is, a count is the number of pages
+-- that share the frame, and their bytes aren't all zero.
 abbrev pub Names : Space → ℕ → Option Mark → Type 0
 Names s f None = Unit {0}
 Names s f (Some Plain) = sharers s f ≡ 0
@@ -32,8 +33,8 @@ HasHash (Some Plain) hash = ⊥
 HasHash (Some (Hint h i p)) hash = h ≡ hash
 HasHash (Some (Sharers h n)) hash = h ≡ hash
 
--- Each frame is exactly one of free, earmarked, held by one fetch ticket, one page's own, or shared. No two entries have one
--- hash.
+-- Each frame is exactly one of free, earmarked, held by one fetch ticket, one page's own, or shared. No two entries
+-- have one hash.
 pub record FramesAreSound (s : Space) : Type 0 where
   pub one : (f : ℕ) → f < length s.pool.frames → holders s f + min 1 (sharers s f) ≡ 1
   pub none : (f : ℕ) → length s.pool.frames ≤ f → holders s f + sharers s f ≡ 0
@@ -44,15 +45,22 @@ pub record FramesAreSound (s : Space) : Type 0 where
 
 -- what slot k is used for is so
 abbrev pub IsUsed : Space → ℕ → Option Slot → Type 0
-IsUsed s k None = (count (lies_in k) s.tables ≡ 0) × (count (comes_from k) s.tables ≡ 0) × (tally (one_if k) s.slots.vacant ≡ 0)
-IsUsed s k (Some Vacant) = (count (lies_in k) s.tables ≡ 0) × (count (comes_from k) s.tables ≡ 0) × (tally (one_if k) s.slots.vacant ≡ 1)
-IsUsed s k (Some Taken) = (count (lies_in k) s.tables ≡ 1) × (count (comes_from k) s.tables ≡ 0) × (tally (one_if k) s.slots.vacant ≡ 0)
-IsUsed s k (Some (Evicting i p)) = (count (lies_in k) s.tables ≡ 0) × (count (comes_from k) s.tables ≡ 0) × (tally (one_if k) s.slots.vacant ≡ 0)
+IsUsed s k None =
+    (count (lies_in k) s.tables ≡ 0) × (count (comes_from k) s.tables ≡ 0) × (tally (one_if k) s.slots.vacant ≡ 0)
+IsUsed s k (Some Vacant) =
+    (count (lies_in k) s.tables ≡ 0) × (count (comes_from k) s.tables ≡ 0) × (tally (one_if k) s.slots.vacant ≡ 1)
+IsUsed s k (Some Taken) =
+    (count (lies_in k) s.tables ≡ 1) × (count (comes_from k) s.tables ≡ 0) × (tally (one_if k) s.slots.vacant ≡ 0)
+IsUsed s k (Some (Evicting i p)) =
+    (count (lies_in k) s.tables ≡ 0) × (count (comes_from k) s.tables ≡ 0) × (tally (one_if k) s.slots.vacant ≡ 0)
     × (at leaving (page_at s.tables i p) ≡ 1)
-IsUsed s k (Some (EvictVoid i)) = (count (lies_in k) s.tables ≡ 0) × (count (comes_from k) s.tables ≡ 0) × (tally (one_if k) s.slots.vacant ≡ 0)
-IsUsed s k (Some (Fetching i p f)) = (count (lies_in k) s.tables ≡ 0) × (count (comes_from k) s.tables ≡ 1) × (tally (one_if k) s.slots.vacant ≡ 0)
+IsUsed s k (Some (EvictVoid i)) =
+    (count (lies_in k) s.tables ≡ 0) × (count (comes_from k) s.tables ≡ 0) × (tally (one_if k) s.slots.vacant ≡ 0)
+IsUsed s k (Some (Fetching i p f)) =
+    (count (lies_in k) s.tables ≡ 0) × (count (comes_from k) s.tables ≡ 1) × (tally (one_if k) s.slots.vacant ≡ 0)
     × (page_at s.tables i p ≡ Some (Coming k))
-IsUsed s k (Some (FetchVoid i f)) = (count (lies_in k) s.tables ≡ 0) × (count (comes_from k) s.tables ≡ 0) × (tally (one_if k) s.slots.vacant ≡ 0)
+IsUsed s k (Some (FetchVoid i f)) =
+    (count (lies_in k) s.tables ≡ 0) × (count (comes_from k) s.tables ≡ 0) × (tally (one_if k) s.slots.vacant ≡ 0)
 
 -- the slot is that of a ticket with which a page of the instance at this place leaves
 abbrev pub LeavesBy : ℕ → Option Slot → Type 0
@@ -64,19 +72,24 @@ LeavesBy i (Some (EvictVoid j)) = j ≡ i
 LeavesBy i (Some (Fetching j p f)) = ⊥
 LeavesBy i (Some (FetchVoid j f)) = ⊥
 
--- Each slot is vacant or used once, by a page or a ticket. At most one page of an instance leaves, void tickets included. A
--- fetch is void only where its instance was released. Where a page has its bytes in a slot, that holds a page's bytes.
+-- Each slot is vacant or used once, by a page or a ticket. At most one page of an instance leaves, void tickets
+-- included. A fetch is void only where its instance was released. Where a page has its bytes in a slot, that holds a
+-- page's bytes.
 pub record SlotsAreSound (s : Space) : Type 0 where
   pub used : (k : ℕ) → IsUsed s k (slice_get s.slots.uses k)
-  pub by_one : (i k : ℕ) → LeavesBy i (slice_get s.slots.uses k) → (t : Occupant) × occupant_at s i t × (t.leaves ≡ Some k)
+  pub by_one : (i k : ℕ) → LeavesBy i (slice_get s.slots.uses k) → (t : Occupant) × occupant_at s i t
+      × (t.leaves ≡ Some k)
   pub by_this : (i k : ℕ) (t : Occupant) → occupant_at s i t → t.leaves ≡ Some k → LeavesBy i (slice_get s.slots.uses k)
-  pub leaving : (i p : ℕ) → at leaving (page_at s.tables i p) ≡ 1 → (k : ℕ) × (slice_get s.slots.uses k ≡ Some (Evicting i p))
-  pub voids : (i k f : ℕ) → slice_get s.slots.uses k ≡ Some (FetchVoid i f) → (t : Occupant) × occupant_at s i t × (t.live ≡ false)
+  pub leaving : (i p : ℕ) → at leaving (page_at s.tables i p) ≡ 1 → (k : ℕ)
+      × (slice_get s.slots.uses k ≡ Some (Evicting i p))
+  pub voids : (i k f : ℕ) → slice_get s.slots.uses k ≡ Some (FetchVoid i f) → (t : Occupant) × occupant_at s i t
+      × (t.live ≡ false)
   pub held : length s.slots.held ≡ length s.slots.uses
-  pub whole : (k : ℕ) → 1 ≤ count (lies_in k) s.tables + count (comes_from k) s.tables → length (get_or s.slots.held k []) ≡ 4096
+  pub whole : (k : ℕ) → 1 ≤ count (lies_in k) s.tables + count (comes_from k) s.tables
+      → length (get_or s.slots.held k []) ≡ 4096
 
--- An instance has a page table within its maximum, of whole pages of WebAssembly, and an empty one once it is released. A free
--- place has an empty one.
+-- An instance has a page table within its maximum, of whole pages of WebAssembly, and an empty one once it is
+-- released. A free place has an empty one.
 abbrev pub HasTable : Option Occupant → List Page → Type 0
 HasTable None table = table ≡ []
 HasTable (Some t) table =

@@ -1,5 +1,5 @@
--- What the steps of an instance leave: loads, stores and growth, and where it stands and no longer stands for a frame. And what
--- a new epoch leaves.
+-- What the steps of an instance leave: loads, stores and growth, and where it stands and no longer stands for a frame.
+-- And what a new epoch leaves.
 use Rattle.std.specs.Prelude.{ℕ, ◌≡◌, ◌≢◌, ◌-◌, ◌*◌, ◌≤◌, ◌++◌, cond, nat_lt, map, replicate, Bool, true, false, List, [], ◌∷◌, Option, Some, None, length, get_or, slice_get, slice_set}
 use Rattle.wh_model.specs.declared.memory.Need.{Need}
 use Rattle.wh_model.specs.Store.{written}
@@ -40,14 +40,16 @@ fewer_sharers t Plain = Plain
 fewer_sharers t (Hint hash i p) = Hint hash i p
 fewer_sharers t (Sharers hash n) = cond (nat_lt t n) (Sharers hash (n - t)) Plain
 
--- The instance at place i wrote these bytes: only it sees them. The pages that were written have frames of their own, and are
--- touched; a ticket with which one of them was leaving is void. All other pages stand where they stood. Frames were taken from
--- the free ones and from those that were earmarked for the instance, and none was given back.
+-- The instance at place i wrote these bytes: only it sees them. The pages that were written have frames of their own,
+-- and are touched; a ticket with which one of them was leaving is void. All other pages stand where they stood. Frames
+-- were taken from the free ones and from those that were earmarked for the instance, and none was given back.
 pub record Overwrites (s : Space) (i at : ℕ) (given : List ℕ) (s2 : Space) : Type 0 where
   pub sees : view s2 i ≡ written (view s i) at given
   pub others : (j : ℕ) → j ≢ i → view s2 j ≡ view s j
-  pub own : (p : ℕ) → 1 ≤ tally (one_if p) (pages_of_need (writing at (length given))) → (f : ℕ) × (page_at s2.tables i p ≡ Some (Private f))
-  pub rest : (p : ℕ) → tally (one_if p) (pages_of_need (writing at (length given))) ≡ 0 → page_at s2.tables i p ≡ page_at s.tables i p
+  pub own : (p : ℕ) → 1 ≤ tally (one_if p) (pages_of_need (writing at (length given))) → (f : ℕ)
+      × (page_at s2.tables i p ≡ Some (Private f))
+  pub rest : (p : ℕ) → tally (one_if p) (pages_of_need (writing at (length given))) ≡ 0
+      → page_at s2.tables i p ≡ page_at s.tables i p
   pub tables : length s2.tables ≡ length s.tables
   pub table : length (get_or s2.tables i []) ≡ length (get_or s.tables i [])
   pub other_tables : (j : ℕ) → j ≢ i → get_or s2.tables j [] ≡ get_or s.tables j []
@@ -63,8 +65,8 @@ pub record Overwrites (s : Space) (i at : ℕ) (given : List ℕ) (s2 : Space) :
   pub kept : (j : ℕ) → j ≢ i → kept_by s2.pins j ≡ kept_by s.pins j
   pub fewer : (f : ℕ) → tally (one_if f) (kept_by s2.pins i) ≤ tally (one_if f) (kept_by s.pins i)
 
--- The instance at place i grew by so many pages of WebAssembly, sixteen of these pages each: they are untouched, also in this
--- epoch.
+-- The instance at place i grew by so many pages of WebAssembly, sixteen of these pages each: they are untouched, also
+-- in this epoch.
 abbrev pub Grew : Space → ℕ → ℕ → Space → Type 0
 Grew s i n s2 = s2 ≡ record s {
   tables = slice_set s.tables i (get_or s.tables i [] ++ replicate (16 * n) Untouched);

@@ -21,10 +21,11 @@ use Rattle.wh_host_model.specs.Space.Moves.{pinned, Earmarks, IsFirstSwapped, de
 abbrev pub StandsAt : Space → ℕ → Need → Type 0
 StandsAt s i need = (t : Occupant) × occupant_at s i t × (t.live ≡ true) × (t.stands ≡ Some need)
 
--- The step's resident pages are pinned for the instance, and frames earmarked: as many as it wants, or all that are free.
--- Another's pins and earmarks, and its own earlier ones, have ended.
+-- The step's resident pages are pinned for the instance, and frames earmarked: as many as it wants, or all that are
+-- free. Another's pins and earmarks, and its own earlier ones, have ended.
 abbrev pub Reserves : Space → ℕ → Need → Space → Type 0
-Reserves s i need s2 = Earmarks (pinned s i need) i (min (length (pinned s i need).pool.free) (frames_in_all s i need)) s2
+Reserves s i need s2 =
+    Earmarks (pinned s i need) i (min (length (pinned s i need).pool.free) (frames_in_all s i need)) s2
 
 -- a slot is used for this; it is vacant
 abbrev pub with_slot : Space → ℕ → Slot → Space
@@ -54,8 +55,8 @@ departing s j p k others page = record (with_leaving (with_slot s k (Evicting j 
   slots = record s.slots { uses = slice_set s.slots.uses k (Evicting j p); vacant = others };
 }
 
--- An eviction begins for the instance at place i: a ticket for a slot, with the bytes that are to be written; or none, where it
--- doesn't stand for a frame, lacks none, no slot is vacant, or there is no page to take.
+-- An eviction begins for the instance at place i: a ticket for a slot, with the bytes that are to be written; or none,
+-- where it doesn't stand for a frame, lacks none, no slot is vacant, or there is no page to take.
 abbrev pub BeginsEvict : Space → ℕ → Option ℕ → List ℕ → Space → Type 0
 BeginsEvict s i None bytes s2 =
     (((need : Need) → ¬ StandsAt s i need) × (s2 ≡ s))
@@ -63,19 +64,21 @@ BeginsEvict s i None bytes s2 =
     × ((frames_in_all s2 i need ≤ may_take s2 i) ⊎ ((s2.slots.vacant ≡ []) ⊎ NoneMustLeave s2 i need)))
 BeginsEvict s i (Some k) bytes s2 =
     (need : Need) × StandsAt s i need × (s1 : Space) × Reserves s i need s1 × (may_take s1 i < frames_in_all s1 i need)
-    × (j p f : ℕ) × MustLeave s1 i need j p × (old new : Page) × (page_at s1.tables j p ≡ Some old) × (frame_of old ≡ Some f)
+    × (j p f : ℕ) × MustLeave s1 i need j p × (old new : Page) × (page_at s1.tables j p ≡ Some old)
+    × (frame_of old ≡ Some f)
     × as_leaving old new × (bytes ≡ frame_bytes s1 f)
     × (others : List ℕ) × (s1.slots.vacant ≡ others ++ k ∷ [])
     × (s2 ≡ departing s1 j p k others new)
 
--- The device has been called for an eviction's slot. It holds what was written now, or nothing that is known where that failed.
--- Nothing else changes what a slot holds.
+-- The device has been called for an eviction's slot. It holds what was written now, or nothing that is known where
+-- that failed. Nothing else changes what a slot holds.
 abbrev pub with_held : Space → ℕ → List ℕ → Space
 with_held s k bytes = record s { slots = record s.slots { held = slice_set s.slots.held k bytes } }
 
 abbrev pub IsEvicting : Space → ℕ → Type 0
 IsEvicting s k =
-    ((j p : ℕ) × (slice_get s.slots.uses k ≡ Some (Evicting j p))) ⊎ ((j : ℕ) × (slice_get s.slots.uses k ≡ Some (EvictVoid j)))
+    ((j p : ℕ) × (slice_get s.slots.uses k ≡ Some (Evicting j p)))
+    ⊎ ((j : ℕ) × (slice_get s.slots.uses k ≡ Some (EvictVoid j)))
 
 abbrev pub IsWritten : Space → ℕ → List ℕ → Bool → Space → Type 0
 IsWritten s k bytes wrote s2 = IsEvicting s k × (s2 ≡ with_held s k (cond wrote bytes []))
@@ -115,9 +118,9 @@ sent_off s j p f k = let a : Space = with_leaving (with_slot (departed s f) k Ta
 abbrev pub not_sent : Space → ℕ → ℕ → ℕ → Page → Space
 not_sent s j p k old = let a : Space = with_leaving (without_slot s k) j None in record a { tables = put a.tables j p old }
 
--- The ticket of slot k comes back, with whether the device wrote it and with the bytes that it was given to write. It is void
--- where the page was written or its instance released. Else the page is in the slot where the device wrote it and its frame has
--- these bytes still; and else it is as before.
+-- The ticket of slot k comes back, with whether the device wrote it and with the bytes that it was given to write. It
+-- is void where the page was written or its instance released. Else the page is in the slot where the device wrote it
+-- and its frame has these bytes still; and else it is as before.
 abbrev pub CommitsEvict : Space → ℕ → Bool → List ℕ → EvictEnd → Space → Type 0
 CommitsEvict s k wrote bytes end s2 =
     ((j : ℕ) × (slice_get s.slots.uses k ≡ Some (EvictVoid j)) × (end ≡ Void) × (s2 ≡ settled (with_leaving (without_slot s k) j None) j))
@@ -133,8 +136,8 @@ sent_for s i p f k others = let a : Space = with_slot s k (Fetching i p f) in re
   pins = Some (record { place = i; pages = pinned_by s.pins i; frames = others });
 }
 
--- A fetch begins for the instance at place i: a ticket for the slot of its step's first swapped page; or none, where it doesn't
--- stand for a frame, has no such page, or has no frame to take.
+-- A fetch begins for the instance at place i: a ticket for the slot of its step's first swapped page; or none, where
+-- it doesn't stand for a frame, has no such page, or has no frame to take.
 abbrev pub BeginsFetch : Space → ℕ → Option ℕ → Space → Type 0
 BeginsFetch s i None s2 =
     (((need : Need) → ¬ StandsAt s i need) × (s2 ≡ s))
@@ -159,8 +162,8 @@ has_come s i p f k bytes = let a : Space = without_slot s k in record a {
 abbrev pub not_come : Space → ℕ → ℕ → ℕ → ℕ → Space
 not_come s i p f k = let a : Space = with_slot (with_free s f) k Taken in record a { tables = put a.tables i p (Swapped k) }
 
--- The ticket of slot k comes back, with whether the device read it and with the bytes that were read. It is void where the
--- instance was released.
+-- The ticket of slot k comes back, with whether the device read it and with the bytes that were read. It is void where
+-- the instance was released.
 abbrev pub CommitsFetch : Space → ℕ → Bool → List ℕ → FetchEnd → Space → Type 0
 CommitsFetch s k read bytes end s2 =
     ((i f : ℕ) × (slice_get s.slots.uses k ≡ Some (FetchVoid i f)) × (end ≡ FetchIsVoid) × (s2 ≡ settled (with_free (without_slot s k) f) i))
