@@ -26,3 +26,4 @@ pub mod Sent
 pub mod Offered
 pub mod Merging
 pub mod WorkedStores
+pub mod Awaited

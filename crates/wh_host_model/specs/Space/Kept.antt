@@ -6,7 +6,7 @@ use Rattle.wh_host_model.specs.declared.states.Offer.{Offer}
 use Rattle.wh_model.specs.declared.memory.Need.{Need}
 use Rattle.wh_host_model.specs.Space.Stores.{Epochs, Touches, ended, stood}
 use Rattle.wh_host_model.specs.Space.Sound.{IsSound}
-use Rattle.wh_host_model.specs.Space.Tickets.{IsWritten, CommitsEvict}
+use Rattle.wh_host_model.specs.Space.Tickets.{IsWritten, CommitsEvict, BeginsFetch}
 use Rattle.wh_host_model.specs.Space.Parts.{Occupant, Space, occupant_at}
 use Rattle.wh_host_model.specs.Space.Offers.{Offers}
 
@@ -47,3 +47,7 @@ abbrev pub OffersSoundly : Type 0
 OffersSoundly =
     (hashes : List ℕ → ℕ) (s : Space) (i p hash : ℕ) (answer : Offer) (s2 : Space) → IsSound s
     → Offers hashes s i p hash answer s2 → IsSound s2
+
+-- a fetch that begins, or doesn't
+abbrev pub BeginsFetchSoundly : Type 0
+BeginsFetchSoundly = (s s2 : Space) (i : ℕ) (slot : Option ℕ) → IsSound s → BeginsFetch s i slot s2 → IsSound s2
