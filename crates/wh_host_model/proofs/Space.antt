@@ -27,3 +27,4 @@ pub mod Offered
 pub mod Merging
 pub mod WorkedStores
 pub mod Awaited
+pub mod Come

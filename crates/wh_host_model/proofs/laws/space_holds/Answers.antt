@@ -8,6 +8,7 @@ use Rattle.wh_host_model.proofs.Space.Steady.{touches_soundly, epochs_soundly, w
 use Rattle.wh_host_model.proofs.Space.Sent.{commits_soundly}
 use Rattle.wh_host_model.proofs.Space.Merging.{offers_soundly}
 use Rattle.wh_host_model.proofs.Space.Awaited.{begin_fetch_sound}
+use Rattle.wh_host_model.proofs.Space.Come.{commits_fetch_soundly}
 use Rattle.wh_host_model.proofs.laws.space_holds.Goals as goal
 
 pub returns-clause-ready_is_decided : goal.returns-clause-ready_is_decided
@@ -111,3 +112,6 @@ returns-clause-offers_soundly c = offers_soundly
 
 pub returns-clause-begins_fetch_soundly : goal.returns-clause-begins_fetch_soundly
 returns-clause-begins_fetch_soundly c = begin_fetch_sound
+
+pub returns-clause-commits_fetch_soundly : goal.returns-clause-commits_fetch_soundly
+returns-clause-commits_fetch_soundly c = commits_fetch_soundly
