@@ -26,3 +26,5 @@ pub mod Sent
 pub mod Offered
 pub mod Merging
 pub mod WorkedStores
+pub mod Awaited
+pub mod Come

@@ -31,7 +31,7 @@ free_alone s f others sound list =
     ]
 
 -- a free frame has no entry
-names_free : (s s2 : Space) (f : ℕ) (m : Option Mark) → count (owns f) s.tables ≡ 0 → sharers s f ≡ 0 → sharers s2 f ≡ 0 → Names s f m → Names s2 f m
+pub names_free : (s s2 : Space) (f : ℕ) (m : Option Mark) → count (owns f) s.tables ≡ 0 → sharers s f ≡ 0 → sharers s2 f ≡ 0 → Names s f m → Names s2 f m
 names_free s s2 f None o h h2 names = tt
 names_free s s2 f (Some Plain) o h h2 names = h2
 names_free s s2 f (Some (Hint x i q)) o h h2 names = absurd (let k = at_count (owns f) s.tables i q in let n = names.0 in omega arith) where

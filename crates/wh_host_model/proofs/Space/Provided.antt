@@ -12,7 +12,7 @@ use Rattle.wh_host_model.specs.Space.Provide.{HasPages, IsOnTheWay, Move, Serves
 use Rattle.wh_host_model.specs.Space.Sound.{IsSound, IsUsed, SlotsAreSound}
 use Rattle.wh_host_model.specs.Space.Laws.{MovesAreFew, ProvisionIsRight}
 use Rattle.wh_host_model.specs.Space.Parts.{Occupant, Space, kept, occupant_at, pages_of, pinned_by}
-use Rattle.wh_host_model.specs.Space.Tickets.{StandsAt}
+use Rattle.wh_host_model.specs.Space.Tickets.{StandsForFrame}
 use Rattle.wh_host_model.specs.Space.States.{comes_from, count, count_of, page_at, resident, swapped, untouched}
 use Rattle.wh_host_model.proofs.Space.Serving.{bounded, ends_ready, evict_on, fetch_on, started}
 use Rattle.wh_host_model.proofs.Space.Putting.{cond_here, get_pages, here_or}
@@ -70,7 +70,7 @@ page_kind s i p (Coming k) sound none there =
     let out = fetch_out s k (slice_get s.slots.uses k) refl (sound.used k) (omega arith) in
     absurd (omega arith)
 
-pub has_pages : (s : Space) (i : ℕ) (need : Need) → IsSound s → tickets s ≡ 0 → StandsAt s i need → HasPages s i need
+pub has_pages : (s : Space) (i : ℕ) (need : Need) → IsSound s → tickets s ≡ 0 → StandsForFrame s i need → HasPages s i need
 has_pages s i need sound none stands p some =
     let fits = sound.occupants.needs i stands.0 need stands.1 stands.3 in
     let there = get_there (get_or s.tables i []) p (within need.length refl fits.1 some) in
@@ -80,7 +80,7 @@ has_pages s i need sound none stands p some =
       within (suc more) e fits some = pages_within p need.at more (length (get_or s.tables i [])) (rw e at fits) (rw e at some)
 
 -- on the way through all moves
-pub serves_way : (s : Space) (i : ℕ) (need : Need) (moves : List Move) (mid : Space) → IsSound s → tickets s ≡ 0 → StandsAt s i need → Serves s i need moves mid
+pub serves_way : (s : Space) (i : ℕ) (need : Need) (moves : List Move) (mid : Space) → IsSound s → tickets s ≡ 0 → StandsForFrame s i need → Serves s i need moves mid
     → IsSound mid × IsOnTheWay s i need (tally leaves moves) mid
 serves_way s i need [] mid sound none stands is = (
   subst IsSound (sym is) (is_sound_pinned s i need sound (stands.0, stands.1, stands.2)),

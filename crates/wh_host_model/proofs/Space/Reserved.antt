@@ -85,7 +85,7 @@ place_of : Option Pins → ℕ
 place_of None = 0
 place_of (Some pins) = pins.place
 
-mine_live : (s : Space) (i : ℕ) (pages frames : List ℕ) → (t : Occupant) × occupant_at s i t × (t.live ≡ true)
+pub mine_live : (s : Space) (i : ℕ) (pages frames : List ℕ) → (t : Occupant) × occupant_at s i t × (t.live ≡ true)
     → (pins : Pins) → Some (record { place = i; pages = pages; frames = frames }) ≡ Some pins → (t : Occupant) × occupant_at s pins.place t × (t.live ≡ true)
 unfolding place_of
 mine_live s i pages frames t pins is = (let e : i ≡ pins.place = ap place_of is in (t.0, subst (λ z. occupant_at s z t.0) e t.1, t.2))

@@ -89,7 +89,7 @@ begin_fetch_bytes s s2 i k (need, stands, s1, prepares, p, f, first, there, othe
     rw moves (same_contents (backing s1) s1.tables i p (Swapped k) (Coming k) there refl) ∙ prepared_bytes s s1 i need prepares
 
 -- the frame that a ticket holds has no page
-held_alone : (s : Space) (k i p f : ℕ) → FramesAreSound s → slice_get s.slots.uses k ≡ Some (Fetching i p f) → (f < length s.pool.frames) × (count (owns f) s.tables ≡ 0) × (sharers s f ≡ 0)
+pub held_alone : (s : Space) (k i p f : ℕ) → FramesAreSound s → slice_get s.slots.uses k ≡ Some (Fetching i p f) → (f < length s.pool.frames) × (count (owns f) s.tables ≡ 0) × (sharers s f ≡ 0)
 held_alone s k i p f sound was =
     let one = get_tally (fetches_into f) s.slots.uses k (Fetching i p f) was in
     let o = one_same f f refl in

@@ -1,12 +1,13 @@
 -- What keeps the memory sound.
 use Rattle.std.specs.Prelude.{ℕ, ◌≡◌, ◌+◌, ◌*◌, ◌≤◌, true, Bool, List, [], Option, Some, length, get_or, slice_get}
-use Rattle.wh_host_model.specs.declared.states.Slot.TheVariants.{Evicting}
+use Rattle.wh_host_model.specs.declared.states.Slot.TheVariants.{Evicting, Fetching}
 use Rattle.wh_host_model.specs.declared.states.EvictEnd.{EvictEnd}
+use Rattle.wh_host_model.specs.declared.states.FetchEnd.{FetchEnd}
 use Rattle.wh_host_model.specs.declared.states.Offer.{Offer}
 use Rattle.wh_model.specs.declared.memory.Need.{Need}
 use Rattle.wh_host_model.specs.Space.Stores.{Epochs, Touches, ended, stood}
 use Rattle.wh_host_model.specs.Space.Sound.{IsSound}
-use Rattle.wh_host_model.specs.Space.Tickets.{IsWritten, CommitsEvict}
+use Rattle.wh_host_model.specs.Space.Tickets.{IsWritten, CommitsEvict, BeginsFetch, CommitsFetch}
 use Rattle.wh_host_model.specs.Space.Parts.{Occupant, Space, occupant_at}
 use Rattle.wh_host_model.specs.Space.Offers.{Offers}
 
@@ -47,3 +48,13 @@ abbrev pub OffersSoundly : Type 0
 OffersSoundly =
     (hashes : List ℕ → ℕ) (s : Space) (i p hash : ℕ) (answer : Offer) (s2 : Space) → IsSound s
     → Offers hashes s i p hash answer s2 → IsSound s2
+
+-- a fetch that begins, or doesn't
+abbrev pub BeginsFetchSoundly : Type 0
+BeginsFetchSoundly = (s s2 : Space) (i : ℕ) (slot : Option ℕ) → IsSound s → BeginsFetch s i slot s2 → IsSound s2
+
+-- the ticket of a page that is coming, when it comes back
+abbrev pub CommitsFetchSoundly : Type 0
+CommitsFetchSoundly =
+    (s : Space) (k i p f : ℕ) (read : Bool) (bytes : List ℕ) (end : FetchEnd) (s2 : Space) → IsSound s
+    → slice_get s.slots.uses k ≡ Some (Fetching i p f) → CommitsFetch s k read bytes end s2 → IsSound s2

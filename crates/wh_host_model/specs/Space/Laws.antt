@@ -13,7 +13,7 @@ use Rattle.wh_host_model.specs.Space.Ready.{Ready}
 use Rattle.wh_host_model.specs.Space.Claims.{CanLeave, NoneMustLeave}
 use Rattle.wh_host_model.specs.Space.Moves.{Evicts, Fetches}
 use Rattle.wh_host_model.specs.Space.Provide.{IsServing, LacksFree, HasPinned, Move, OthersKeepMinimum, Provides, Serves, leaves}
-use Rattle.wh_host_model.specs.Space.Tickets.{BeginsEvict, BeginsFetch, CommitsEvict, CommitsFetch, StandsAt}
+use Rattle.wh_host_model.specs.Space.Tickets.{BeginsEvict, BeginsFetch, CommitsEvict, CommitsFetch, StandsForFrame}
 
 -- whether a step is ready can be told
 abbrev pub ReadyIsDecided : Type 0
@@ -77,7 +77,8 @@ FetchKeepsBytes =
 -- however a provision goes on, as many pages leave at most as were resident at first, and two more
 abbrev pub MovesAreFew : Type 0
 MovesAreFew =
-    (s : Space) (i : ℕ) (need : Need) (moves : List Move) (mid : Space) → IsSound s → tickets s ≡ 0 → StandsAt s i need
+    (s : Space) (i : ℕ) (need : Need) (moves : List Move) (mid : Space) → IsSound s → tickets s ≡ 0
+    → StandsForFrame s i need
     → Serves s i need moves mid → tally leaves moves ≤ count resident s.tables + 2
 
 -- After a provision all is sound, the step ready and pinned, so many pages have left at most, and no other instance is
@@ -91,7 +92,7 @@ pub record IsProvided (s : Space) (i : ℕ) (need : Need) (n : ℕ) (s2 : Space)
 
 abbrev pub ProvisionIsRight : Type 0
 ProvisionIsRight =
-    (s : Space) (i : ℕ) (need : Need) (n : ℕ) (s2 : Space) → IsSound s → tickets s ≡ 0 → StandsAt s i need
+    (s : Space) (i : ℕ) (need : Need) (n : ℕ) (s2 : Space) → IsSound s → tickets s ≡ 0 → StandsForFrame s i need
     → Provides s i need n s2
     → IsProvided s i need n s2
 

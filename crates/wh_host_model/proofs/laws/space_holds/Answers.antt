@@ -7,6 +7,8 @@ use Rattle.wh_host_model.proofs.Space.Voiding.{written_is_void, released_is_void
 use Rattle.wh_host_model.proofs.Space.Steady.{touches_soundly, epochs_soundly, writes_soundly, stands_soundly, ends_soundly}
 use Rattle.wh_host_model.proofs.Space.Sent.{commits_soundly}
 use Rattle.wh_host_model.proofs.Space.Merging.{offers_soundly}
+use Rattle.wh_host_model.proofs.Space.Awaited.{begin_fetch_sound}
+use Rattle.wh_host_model.proofs.Space.Come.{commits_fetch_soundly}
 use Rattle.wh_host_model.proofs.laws.space_holds.Goals as goal
 
 pub returns-clause-ready_is_decided : goal.returns-clause-ready_is_decided
@@ -107,3 +109,9 @@ returns-clause-commits_evict_soundly c = commits_soundly
 
 pub returns-clause-offers_soundly : goal.returns-clause-offers_soundly
 returns-clause-offers_soundly c = offers_soundly
+
+pub returns-clause-begins_fetch_soundly : goal.returns-clause-begins_fetch_soundly
+returns-clause-begins_fetch_soundly c = begin_fetch_sound
+
+pub returns-clause-commits_fetch_soundly : goal.returns-clause-commits_fetch_soundly
+returns-clause-commits_fetch_soundly c = commits_fetch_soundly
