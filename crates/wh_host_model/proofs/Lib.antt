@@ -2,4 +2,5 @@ pub mod Beginnings
 pub mod FrameLemmas
 pub mod LinkingLemmas
 pub mod PageLemmas
+pub mod Space
 pub mod Tally

@@ -6,4 +6,5 @@ pub mod Pages
 pub mod Replies
 pub mod Requests
 pub mod Script
+pub mod Space
 pub mod Tax

@@ -1,10 +1,50 @@
 //! Laws of the definitions alone.
 
 ghost use Rattle.wh_host_model.specs.LinkingLaws.{OneFirstFault, LinksWithoutFault, SomeBeginning};
+ghost use Rattle.wh_host_model.specs.Space.Laws.{ReadyIsDecided, NoBytesAreReady, OneUseOfAFrame, SomePageCanBeTaken, SomeSlotIsVacant, EvictionKeepsAll, FetchKeepsSound, FetchKeepsBytes, MovesAreFew, ProvisionIsRight, BeginsEvictSoundly, BeginsEvictQuietly, BeginsFetchQuietly, CommitsEvictQuietly, CommitsFetchQuietly};
+ghost use Rattle.wh_host_model.specs.Space.Sight.{OffersQuietly, WritesQuietly, StepsQuietly, GrowsAlone, EntersAlone, ExitsAlone, PinsEnd, GoneIsSkipped, WrittenIsVoid, ReleasedIsVoid, NothingNeedless};
+ghost use Rattle.wh_host_model.specs.Space.Kept.{TouchesSoundly, EpochsSoundly, WritesSoundly, StandsSoundly, EndsSoundly, CommitsEvictSoundly, OffersSoundly};
 
 /// What holds of linking and of what an instance begins with. The function does nothing; what it ensures are the laws.
 pub fn linking_holds()
     ensures one_first_fault { OneFirstFault }
     ensures links_without_fault { LinksWithoutFault }
     ensures some_beginning { SomeBeginning }
+{}
+
+/// What holds of the memory on which all instances lie. The function does nothing; what it ensures are the laws.
+pub fn space_holds()
+    ensures ready_is_decided { ReadyIsDecided }
+    ensures no_bytes_are_ready { NoBytesAreReady }
+    ensures one_use_of_a_frame { OneUseOfAFrame }
+    ensures some_page_can_be_taken { SomePageCanBeTaken }
+    ensures some_slot_is_vacant { SomeSlotIsVacant }
+    ensures eviction_keeps_all { EvictionKeepsAll }
+    ensures fetch_keeps_sound { FetchKeepsSound }
+    ensures fetch_keeps_bytes { FetchKeepsBytes }
+    ensures moves_are_few { MovesAreFew }
+    ensures provision_is_right { ProvisionIsRight }
+    ensures begins_evict_soundly { BeginsEvictSoundly }
+    ensures begins_evict_quietly { BeginsEvictQuietly }
+    ensures begins_fetch_quietly { BeginsFetchQuietly }
+    ensures commits_evict_quietly { CommitsEvictQuietly }
+    ensures commits_fetch_quietly { CommitsFetchQuietly }
+    ensures offers_quietly { OffersQuietly }
+    ensures writes_quietly { WritesQuietly }
+    ensures steps_quietly { StepsQuietly }
+    ensures grows_alone { GrowsAlone }
+    ensures enters_alone { EntersAlone }
+    ensures exits_alone { ExitsAlone }
+    ensures pins_end { PinsEnd }
+    ensures gone_is_skipped { GoneIsSkipped }
+    ensures written_is_void { WrittenIsVoid }
+    ensures released_is_void { ReleasedIsVoid }
+    ensures nothing_needless { NothingNeedless }
+    ensures touches_soundly { TouchesSoundly }
+    ensures epochs_soundly { EpochsSoundly }
+    ensures writes_soundly { WritesSoundly }
+    ensures stands_soundly { StandsSoundly }
+    ensures ends_soundly { EndsSoundly }
+    ensures commits_evict_soundly { CommitsEvictSoundly }
+    ensures offers_soundly { OffersSoundly }
 {}

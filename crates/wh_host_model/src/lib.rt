@@ -6,8 +6,10 @@
 ghost use Rattle.std.specs.Prelude.{◌≤◌, ◌<◌};
 
 mod laws;
+mod states;
 
-pub use laws::linking_holds;
+pub use laws::{linking_holds, space_holds};
+pub use states::{EvictEnd, FetchEnd, Mark, Offer, Page, Slot};
 use wh_model::HostFunc;
 
 /// A global that the host offers for import, in its module `host`. It is never written; the owner of an instance gives its

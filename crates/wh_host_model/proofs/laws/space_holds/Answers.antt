@@ -1,0 +1,109 @@
+use Rattle.wh_host_model.proofs.Space.Deciding.{ready_decided, no_bytes_are_ready, one_use_of_a_frame, page_to_take, slot_to_take, eviction_keeps, fetch_keeps_sound, fetch_keeps_bytes}
+use Rattle.wh_host_model.proofs.Space.Provided.{moves_nearer, provision_is_right}
+use Rattle.wh_host_model.proofs.Space.Reserved.{begin_evict_sound}
+use Rattle.wh_host_model.proofs.Space.Transit.{begin_evict_bytes, begin_fetch_bytes, commit_evict_bytes, commit_fetch_bytes}
+use Rattle.wh_host_model.proofs.Space.Quiet.{offers_quiet, written_quiet, steps_quiet, grew_own, enters_own, exits_own, pins_end, gone_is_skipped}
+use Rattle.wh_host_model.proofs.Space.Voiding.{written_is_void, released_is_void, nothing_needless}
+use Rattle.wh_host_model.proofs.Space.Steady.{touches_soundly, epochs_soundly, writes_soundly, stands_soundly, ends_soundly}
+use Rattle.wh_host_model.proofs.Space.Sent.{commits_soundly}
+use Rattle.wh_host_model.proofs.Space.Merging.{offers_soundly}
+use Rattle.wh_host_model.proofs.laws.space_holds.Goals as goal
+
+pub returns-clause-ready_is_decided : goal.returns-clause-ready_is_decided
+returns-clause-ready_is_decided c = ready_decided
+
+pub returns-clause-no_bytes_are_ready : goal.returns-clause-no_bytes_are_ready
+returns-clause-no_bytes_are_ready c = no_bytes_are_ready
+
+pub returns-clause-one_use_of_a_frame : goal.returns-clause-one_use_of_a_frame
+returns-clause-one_use_of_a_frame c = one_use_of_a_frame
+
+pub returns-clause-some_page_can_be_taken : goal.returns-clause-some_page_can_be_taken
+returns-clause-some_page_can_be_taken c = page_to_take
+
+pub returns-clause-some_slot_is_vacant : goal.returns-clause-some_slot_is_vacant
+returns-clause-some_slot_is_vacant c = slot_to_take
+
+pub returns-clause-eviction_keeps_all : goal.returns-clause-eviction_keeps_all
+returns-clause-eviction_keeps_all c = eviction_keeps
+
+pub returns-clause-fetch_keeps_sound : goal.returns-clause-fetch_keeps_sound
+returns-clause-fetch_keeps_sound c = fetch_keeps_sound
+
+pub returns-clause-fetch_keeps_bytes : goal.returns-clause-fetch_keeps_bytes
+returns-clause-fetch_keeps_bytes c = fetch_keeps_bytes
+
+pub returns-clause-moves_are_few : goal.returns-clause-moves_are_few
+returns-clause-moves_are_few c = moves_nearer
+
+pub returns-clause-provision_is_right : goal.returns-clause-provision_is_right
+returns-clause-provision_is_right c = provision_is_right
+
+pub returns-clause-begins_evict_soundly : goal.returns-clause-begins_evict_soundly
+returns-clause-begins_evict_soundly c = begin_evict_sound
+
+pub returns-clause-begins_evict_quietly : goal.returns-clause-begins_evict_quietly
+returns-clause-begins_evict_quietly c = begin_evict_bytes
+
+pub returns-clause-begins_fetch_quietly : goal.returns-clause-begins_fetch_quietly
+returns-clause-begins_fetch_quietly c = begin_fetch_bytes
+
+pub returns-clause-commits_evict_quietly : goal.returns-clause-commits_evict_quietly
+returns-clause-commits_evict_quietly c = commit_evict_bytes
+
+pub returns-clause-commits_fetch_quietly : goal.returns-clause-commits_fetch_quietly
+returns-clause-commits_fetch_quietly c = commit_fetch_bytes
+
+pub returns-clause-offers_quietly : goal.returns-clause-offers_quietly
+returns-clause-offers_quietly c = offers_quiet
+
+pub returns-clause-writes_quietly : goal.returns-clause-writes_quietly
+returns-clause-writes_quietly c = written_quiet
+
+pub returns-clause-steps_quietly : goal.returns-clause-steps_quietly
+returns-clause-steps_quietly c = steps_quiet
+
+pub returns-clause-grows_alone : goal.returns-clause-grows_alone
+returns-clause-grows_alone c = grew_own
+
+pub returns-clause-enters_alone : goal.returns-clause-enters_alone
+returns-clause-enters_alone c = enters_own
+
+pub returns-clause-exits_alone : goal.returns-clause-exits_alone
+returns-clause-exits_alone c = exits_own
+
+pub returns-clause-pins_end : goal.returns-clause-pins_end
+returns-clause-pins_end c = pins_end
+
+pub returns-clause-gone_is_skipped : goal.returns-clause-gone_is_skipped
+returns-clause-gone_is_skipped c = gone_is_skipped
+
+pub returns-clause-written_is_void : goal.returns-clause-written_is_void
+returns-clause-written_is_void c = written_is_void
+
+pub returns-clause-released_is_void : goal.returns-clause-released_is_void
+returns-clause-released_is_void c = released_is_void
+
+pub returns-clause-nothing_needless : goal.returns-clause-nothing_needless
+returns-clause-nothing_needless c = nothing_needless
+
+pub returns-clause-touches_soundly : goal.returns-clause-touches_soundly
+returns-clause-touches_soundly c = touches_soundly
+
+pub returns-clause-epochs_soundly : goal.returns-clause-epochs_soundly
+returns-clause-epochs_soundly c = epochs_soundly
+
+pub returns-clause-writes_soundly : goal.returns-clause-writes_soundly
+returns-clause-writes_soundly c = writes_soundly
+
+pub returns-clause-stands_soundly : goal.returns-clause-stands_soundly
+returns-clause-stands_soundly c = stands_soundly
+
+pub returns-clause-ends_soundly : goal.returns-clause-ends_soundly
+returns-clause-ends_soundly c = ends_soundly
+
+pub returns-clause-commits_evict_soundly : goal.returns-clause-commits_evict_soundly
+returns-clause-commits_evict_soundly c = commits_soundly
+
+pub returns-clause-offers_soundly : goal.returns-clause-offers_soundly
+returns-clause-offers_soundly c = offers_soundly

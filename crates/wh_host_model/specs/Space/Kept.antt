@@ -1,0 +1,49 @@
+-- What keeps the memory sound.
+use Rattle.std.specs.Prelude.{ℕ, ◌≡◌, ◌+◌, ◌*◌, ◌≤◌, true, Bool, List, [], Option, Some, length, get_or, slice_get}
+use Rattle.wh_host_model.specs.declared.states.Slot.TheVariants.{Evicting}
+use Rattle.wh_host_model.specs.declared.states.EvictEnd.{EvictEnd}
+use Rattle.wh_host_model.specs.declared.states.Offer.{Offer}
+use Rattle.wh_model.specs.declared.memory.Need.{Need}
+use Rattle.wh_host_model.specs.Space.Stores.{Epochs, Touches, ended, stood}
+use Rattle.wh_host_model.specs.Space.Sound.{IsSound}
+use Rattle.wh_host_model.specs.Space.Tickets.{IsWritten, CommitsEvict}
+use Rattle.wh_host_model.specs.Space.Parts.{Occupant, Space, occupant_at}
+use Rattle.wh_host_model.specs.Space.Offers.{Offers}
+
+-- a load
+abbrev pub TouchesSoundly : Type 0
+TouchesSoundly = (s : Space) (i first n : ℕ) (s2 : Space) → IsSound s → Touches s i first n s2 → IsSound s2
+
+-- a new epoch
+abbrev pub EpochsSoundly : Type 0
+EpochsSoundly = (s s2 : Space) → IsSound s → Epochs s s2 → IsSound s2
+
+-- a device call for an eviction
+abbrev pub WritesSoundly : Type 0
+WritesSoundly =
+    (s : Space) (k : ℕ) (bytes : List ℕ) (wrote : Bool) (s2 : Space) → IsSound s → IsWritten s k bytes wrote s2
+    → IsSound s2
+
+-- to stand for a frame at bytes that are in the table of a live instance, or for none
+abbrev pub StandsSoundly : Type 0
+StandsSoundly =
+    (s : Space) (i : ℕ) (t : Occupant) (need : Option Need) → IsSound s → occupant_at s i t
+    → ((want : Need) → need ≡ Some want → (t.live ≡ true) × (want.at + want.length ≤ 4096 * length (get_or s.tables i [])) × (want.length ≤ 4096))
+    → IsSound (stood s i need)
+
+-- the end of a step
+abbrev pub EndsSoundly : Type 0
+EndsSoundly = (s : Space) (i : ℕ) (t : Occupant) → IsSound s → occupant_at s i t → IsSound (ended s i)
+
+-- the ticket of a page that is leaving, when it comes back: where the device wrote it the slot holds what was written
+abbrev pub CommitsEvictSoundly : Type 0
+CommitsEvictSoundly =
+    (s : Space) (k j p : ℕ) (wrote : Bool) (bytes : List ℕ) (end : EvictEnd) (s2 : Space) → IsSound s
+    → slice_get s.slots.uses k ≡ Some (Evicting j p)
+    → (wrote ≡ true → get_or s.slots.held k [] ≡ bytes) → CommitsEvict s k wrote bytes end s2 → IsSound s2
+
+-- an offer, for any hash that is handed in
+abbrev pub OffersSoundly : Type 0
+OffersSoundly =
+    (hashes : List ℕ → ℕ) (s : Space) (i p hash : ℕ) (answer : Offer) (s2 : Space) → IsSound s
+    → Offers hashes s i p hash answer s2 → IsSound s2
