@@ -9,7 +9,8 @@ use wh_model::Trap;
 /// A module that imports the host's `base`, has 42 at 4 in its memory by a data segment, and whose start function puts that
 /// into a global, in 2 charges. Function 1 takes an address and adds the number there, the global and `base`, in 6 charges,
 /// the second of which is the load.
-const MODULE: &str = "0061736d0100000001090260000060017f017f020e0104686f73740462617365037f00030302000105030100010606017f0141000b0801000a19020900410428020024010b0d00200028020023016a23006a0b0b0a010041040b042a000000";
+const MODULE: &str =
+    "0061736d0100000001090260000060017f017f020e0104686f73740462617365037f00030302000105030100010606017f0141000b0801000a19020900410428020024010b0d00200028020023016a23006a0b0b0a010041040b042a000000";
 
 /// A call, and what it is to come to.
 struct Case {
