@@ -28,3 +28,5 @@ pub mod Merging
 pub mod WorkedStores
 pub mod Awaited
 pub mod Come
+pub mod Rows
+pub mod Enlarged

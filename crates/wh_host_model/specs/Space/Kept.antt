@@ -5,7 +5,7 @@ use Rattle.wh_host_model.specs.declared.states.EvictEnd.{EvictEnd}
 use Rattle.wh_host_model.specs.declared.states.FetchEnd.{FetchEnd}
 use Rattle.wh_host_model.specs.declared.states.Offer.{Offer}
 use Rattle.wh_model.specs.declared.memory.Need.{Need}
-use Rattle.wh_host_model.specs.Space.Stores.{Epochs, Touches, ended, stood}
+use Rattle.wh_host_model.specs.Space.Stores.{Epochs, Grew, Touches, ended, stood}
 use Rattle.wh_host_model.specs.Space.Sound.{IsSound}
 use Rattle.wh_host_model.specs.Space.Tickets.{IsWritten, CommitsEvict, BeginsFetch, CommitsFetch}
 use Rattle.wh_host_model.specs.Space.Parts.{Occupant, Space, occupant_at}
@@ -58,3 +58,9 @@ abbrev pub CommitsFetchSoundly : Type 0
 CommitsFetchSoundly =
     (s : Space) (k i p f : ℕ) (read : Bool) (bytes : List ℕ) (end : FetchEnd) (s2 : Space) → IsSound s
     → slice_get s.slots.uses k ≡ Some (Fetching i p f) → CommitsFetch s k read bytes end s2 → IsSound s2
+
+-- a live instance that grows within its maximum
+abbrev pub GrowsSoundly : Type 0
+GrowsSoundly =
+    (s : Space) (i n : ℕ) (t : Occupant) (s2 : Space) → IsSound s → occupant_at s i t → t.live ≡ true
+    → length (get_or s.tables i []) + 16 * n ≤ t.max → Grew s i n s2 → IsSound s2

@@ -9,6 +9,7 @@ use Rattle.wh_host_model.proofs.Space.Sent.{commits_soundly}
 use Rattle.wh_host_model.proofs.Space.Merging.{offers_soundly}
 use Rattle.wh_host_model.proofs.Space.Awaited.{begin_fetch_sound}
 use Rattle.wh_host_model.proofs.Space.Come.{commits_fetch_soundly}
+use Rattle.wh_host_model.proofs.Space.Enlarged.{grows_soundly, grows_by_zeros}
 use Rattle.wh_host_model.proofs.laws.space_holds.Goals as goal
 
 pub returns-clause-ready_is_decided : goal.returns-clause-ready_is_decided
@@ -115,3 +116,9 @@ returns-clause-begins_fetch_soundly c = begin_fetch_sound
 
 pub returns-clause-commits_fetch_soundly : goal.returns-clause-commits_fetch_soundly
 returns-clause-commits_fetch_soundly c = commits_fetch_soundly
+
+pub returns-clause-grows_soundly : goal.returns-clause-grows_soundly
+returns-clause-grows_soundly c = grows_soundly
+
+pub returns-clause-grows_by_zeros : goal.returns-clause-grows_by_zeros
+returns-clause-grows_by_zeros c = grows_by_zeros
