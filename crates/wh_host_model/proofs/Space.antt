@@ -30,3 +30,5 @@ pub mod Awaited
 pub mod Come
 pub mod Rows
 pub mod Enlarged
+pub mod Settled
+pub mod Voided

@@ -1,18 +1,16 @@
 -- Pages and instances that are new leave everything sound.
-use Rattle.std.proofs.Common.{◌≡◌, ◌≢◌, ℕ, ◌+◌, ◌*◌, ◌<◌, ◌≤◌, ◌++◌, ◌⊎◌, inl, inr, map, replicate, true, false, Bool, List, [], ◌∷◌, Option, Some, None, length, slice_get, slice_set, get_or, refl, sym, ap, ◌∙◌, subst, arith, length-set, length-append}
+use Rattle.std.proofs.Common.{◌≡◌, ◌≢◌, ℕ, ◌+◌, ◌*◌, ◌<◌, ◌≤◌, ◌++◌, ◌⊎◌, inl, inr, map, replicate, true, false, Bool, List, [], Option, Some, None, length, slice_get, slice_set, get_or, refl, sym, ap, ◌∙◌, subst, arith, length-set, length-append}
 use Rattle.std.proofs.lemmas.List.{get_or-set_same, get_or-set_other, length-replicate}
-use Rattle.wh_host_model.specs.Frames.{tally}
 use Rattle.wh_host_model.proofs.Tally.{tally-append}
 use Rattle.wh_host_model.specs.declared.states.Page.{Page}
 use Rattle.wh_host_model.specs.declared.states.Page.TheVariants.{Untouched, Coming}
 use Rattle.wh_host_model.specs.Space.Kept.{GrowsSoundly}
 use Rattle.wh_host_model.specs.Space.Sight.{GrowsByZeros}
-use Rattle.wh_host_model.specs.Space.Sound.{HasTable, IsAdmissible, IsSound, LeavesBy, OccupantsAreSound}
+use Rattle.wh_host_model.specs.Space.Sound.{HasTable, IsAdmissible, IsSound, OccupantsAreSound}
 use Rattle.wh_host_model.specs.Space.Parts.{Occupant, Space, backing, occupant_at, sharers, view}
 use Rattle.wh_host_model.specs.Space.States.{at, comes_from, count, joined, leaving, lies_in, owns, page_at, page_bytes, resident, shares}
 use Rattle.wh_host_model.proofs.Space.Evicted.{names_other, used_other}
 use Rattle.wh_host_model.proofs.Space.Putting.{here_or, there_of}
-use Rattle.wh_host_model.proofs.Space.Returned.{one_at}
 use Rattle.wh_host_model.proofs.Space.Rows.{bytes_at, bytes_grown, bytes_new, grown_at, none_of, rows_sum}
 
 -- all pages are what they were, but that untouched ones are new
