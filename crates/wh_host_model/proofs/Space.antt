@@ -32,3 +32,4 @@ pub mod Rows
 pub mod Enlarged
 pub mod Settled
 pub mod Voided
+pub mod Entered

@@ -49,6 +49,11 @@ found (x ∷ xs) (suc j) none = found xs j none
 pub same_there : {X : Type 0} (xs ys : List X) (j : ℕ) (none : X) → slice_get xs j ≡ slice_get ys j → get_or xs j none ≡ get_or ys j none
 same_there xs ys j none e = found xs j none ∙ (ap (or_else none) e ∙ sym (found ys j none))
 
+pub past_there : {X : Type 0} (xs : List (List X)) (i : ℕ) → length xs ≤ i → get_or xs i [] ≡ []
+past_there [] i past = refl
+past_there (x ∷ xs) zero past = absurd (omega arith)
+past_there (x ∷ xs) (suc i) past = past_there xs i (omega arith)
+
 -- a row that is put at a place, which may be the next one
 row_is : {X : Type 0} (xs : List X) (i : ℕ) (x : X) → i ≤ length xs
     → ((i < length xs) × (with_row xs i x ≡ slice_set xs i x)) ⊎ ((i ≡ length xs) × (with_row xs i x ≡ xs ++ x ∷ []))

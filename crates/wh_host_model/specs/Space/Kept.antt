@@ -7,7 +7,8 @@ use Rattle.wh_model.specs.declared.memory.Need.{Need}
 use Rattle.wh_host_model.specs.Space.Stores.{Epochs, Grew, Touches, ended, stood}
 use Rattle.wh_host_model.specs.Space.Sound.{IsSound}
 use Rattle.wh_host_model.specs.Space.Tickets.{IsWritten, CommitsEvict, BeginsFetch, CommitsFetch}
-use Rattle.wh_host_model.specs.Space.Parts.{Occupant, Space, occupant_at}
+use Rattle.wh_host_model.specs.Space.Parts.{Claimed, Occupant, Space, occupant_at}
+use Rattle.wh_host_model.specs.Space.Places.{Enters}
 use Rattle.wh_host_model.specs.Space.Offers.{Offers}
 
 -- a load
@@ -62,3 +63,8 @@ abbrev pub GrowsSoundly : Type 0
 GrowsSoundly =
     (s : Space) (i n : ℕ) (t : Occupant) (s2 : Space) → IsSound s → occupant_at s i t → t.live ≡ true
     → length (get_or s.tables i []) + 16 * n ≤ t.max → Grew s i n s2 → IsSound s2
+
+-- an instance that comes
+abbrev pub EntersSoundly : Type 0
+EntersSoundly =
+    (s : Space) (i : ℕ) (c : Claimed) (size : ℕ) (s2 : Space) → IsSound s → Enters s i c size s2 → IsSound s2

@@ -10,6 +10,7 @@ use Rattle.wh_host_model.proofs.Space.Merging.{offers_soundly}
 use Rattle.wh_host_model.proofs.Space.Awaited.{begin_fetch_sound}
 use Rattle.wh_host_model.proofs.Space.Come.{commits_fetch_soundly}
 use Rattle.wh_host_model.proofs.Space.Enlarged.{grows_soundly, grows_by_zeros}
+use Rattle.wh_host_model.proofs.Space.Entered.{enters_soundly, enters_at_zeros}
 use Rattle.wh_host_model.proofs.laws.space_holds.Goals as goal
 
 pub returns-clause-ready_is_decided : goal.returns-clause-ready_is_decided
@@ -122,3 +123,9 @@ returns-clause-grows_soundly c = grows_soundly
 
 pub returns-clause-grows_by_zeros : goal.returns-clause-grows_by_zeros
 returns-clause-grows_by_zeros c = grows_by_zeros
+
+pub returns-clause-enters_soundly : goal.returns-clause-enters_soundly
+returns-clause-enters_soundly c = enters_soundly
+
+pub returns-clause-enters_at_zeros : goal.returns-clause-enters_at_zeros
+returns-clause-enters_at_zeros c = enters_at_zeros
