@@ -33,3 +33,4 @@ pub mod Enlarged
 pub mod Settled
 pub mod Voided
 pub mod Entered
+pub mod Exited

@@ -74,7 +74,7 @@ is_sound_unpinned_page s j p sound =
       of = λ pins is. place_still s j p s.pins sound.pins refl pins is;
     })
 
-set_set : {X : Type 0} (xs : List X) (p : ℕ) (x y : X) → slice_set (slice_set xs p x) p y ≡ slice_set xs p y
+pub set_set : {X : Type 0} (xs : List X) (p : ℕ) (x y : X) → slice_set (slice_set xs p x) p y ≡ slice_set xs p y
 set_set [] p x y = refl
 set_set (z ∷ xs) zero x y = refl
 set_set (z ∷ xs) (suc p) x y = ap (λ a. z ∷ a) (set_set xs p x y)

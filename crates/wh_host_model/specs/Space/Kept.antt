@@ -8,7 +8,7 @@ use Rattle.wh_host_model.specs.Space.Stores.{Epochs, Grew, Touches, ended, stood
 use Rattle.wh_host_model.specs.Space.Sound.{IsSound}
 use Rattle.wh_host_model.specs.Space.Tickets.{IsWritten, CommitsEvict, BeginsFetch, CommitsFetch}
 use Rattle.wh_host_model.specs.Space.Parts.{Claimed, Occupant, Space, occupant_at}
-use Rattle.wh_host_model.specs.Space.Places.{Enters}
+use Rattle.wh_host_model.specs.Space.Places.{Enters, Exits}
 use Rattle.wh_host_model.specs.Space.Offers.{Offers}
 
 -- a load
@@ -68,3 +68,7 @@ GrowsSoundly =
 abbrev pub EntersSoundly : Type 0
 EntersSoundly =
     (s : Space) (i : ℕ) (c : Claimed) (size : ℕ) (s2 : Space) → IsSound s → Enters s i c size s2 → IsSound s2
+
+-- one that goes
+abbrev pub ExitsSoundly : Type 0
+ExitsSoundly = (s : Space) (i : ℕ) (s2 : Space) → IsSound s → Exits s i s2 → IsSound s2

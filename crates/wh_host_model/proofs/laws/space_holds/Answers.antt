@@ -11,6 +11,7 @@ use Rattle.wh_host_model.proofs.Space.Awaited.{begin_fetch_sound}
 use Rattle.wh_host_model.proofs.Space.Come.{commits_fetch_soundly}
 use Rattle.wh_host_model.proofs.Space.Enlarged.{grows_soundly, grows_by_zeros}
 use Rattle.wh_host_model.proofs.Space.Entered.{enters_soundly, enters_at_zeros}
+use Rattle.wh_host_model.proofs.Space.Exited.{exits_soundly}
 use Rattle.wh_host_model.proofs.laws.space_holds.Goals as goal
 
 pub returns-clause-ready_is_decided : goal.returns-clause-ready_is_decided
@@ -129,3 +130,6 @@ returns-clause-enters_soundly c = enters_soundly
 
 pub returns-clause-enters_at_zeros : goal.returns-clause-enters_at_zeros
 returns-clause-enters_at_zeros c = enters_at_zeros
+
+pub returns-clause-exits_soundly : goal.returns-clause-exits_soundly
+returns-clause-exits_soundly c = exits_soundly
