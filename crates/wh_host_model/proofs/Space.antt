@@ -34,3 +34,4 @@ pub mod Settled
 pub mod Voided
 pub mod Entered
 pub mod Exited
+pub mod Chained
