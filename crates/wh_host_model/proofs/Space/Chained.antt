@@ -1,5 +1,5 @@
 -- Whatever befalls a memory in which nobody was leaves it sound.
-use Rattle.std.proofs.Common.{◌≡◌, ℕ, ◌<◌, ◌≤◌, inl, inr, replicate, List, [], Option, Some, None, length, slice_get, zero, suc, refl, sym, ap, ◌∙◌, subst, arith}
+use Rattle.std.proofs.Common.{◌≡◌, ℕ, ◌<◌, ◌≤◌, inl, inr, replicate, List, [], ◌∷◌, Option, Some, None, length, slice_get, zero, suc, refl, sym, ap, ◌∙◌, subst, arith}
 use Rattle.std.proofs.lemmas.Bool.{cases_lt}
 use Rattle.std.proofs.lemmas.List.{get_or-replicate, length-replicate}
 use Rattle.wh_host_model.specs.Pages.{zero_page}
@@ -8,10 +8,10 @@ use Rattle.wh_host_model.proofs.Tally.{one_same, one_other}
 use Rattle.wh_host_model.proofs.PageLemmas.{length-zero_page}
 use Rattle.wh_host_model.specs.declared.states.Mark.TheVariants.{Plain}
 use Rattle.wh_host_model.specs.declared.states.Slot.TheVariants.{Vacant, FetchVoid}
-use Rattle.wh_host_model.specs.Space.Chain.{Befalls, EmptyIsSound, FailsSoundly, Follows, StaysSound, loads, new_epoch, stands, ends, offered, begins_evict, written, commits_evict, begins_fetch, commits_fetch, provides, fails, grows, enters, exits}
+use Rattle.wh_host_model.specs.Space.Chain.{Befalls, EmptyIsSound, FailsSoundly, Follows, ScansSoundly, StaysSound, loads, new_epoch, stands, ends, offered, begins_evict, written, commits_evict, begins_fetch, commits_fetch, provides, fails, grows, enters, exits}
 use Rattle.wh_host_model.specs.Space.Errands.{fetches_into}
 use Rattle.wh_host_model.specs.Space.Sound.{HasHash, IsSound, IsUsed, LeavesBy, Names}
-use Rattle.wh_host_model.specs.Space.Parts.{Space, empty_space, numbers_below}
+use Rattle.wh_host_model.specs.Space.Parts.{all_bytes, Space, empty_space, numbers_below}
 use Rattle.wh_host_model.specs.Space.Tickets.{with_held}
 use Rattle.wh_host_model.proofs.Space.Awaited.{begin_fetch_sound}
 use Rattle.wh_host_model.proofs.Space.Come.{commits_fetch_soundly}
@@ -19,6 +19,7 @@ use Rattle.wh_host_model.proofs.Space.Enlarged.{grows_soundly}
 use Rattle.wh_host_model.proofs.Space.Entered.{enters_soundly}
 use Rattle.wh_host_model.proofs.Space.Exited.{exits_soundly}
 use Rattle.wh_host_model.proofs.Space.Merging.{offers_soundly}
+use Rattle.wh_host_model.proofs.Space.Quiet.{offers_quiet}
 use Rattle.wh_host_model.proofs.Space.Provided.{provision_is_right, serves_way}
 use Rattle.wh_host_model.proofs.Space.Reserved.{begin_evict_sound, is_sound_unpinned}
 use Rattle.wh_host_model.proofs.Space.Sent.{commits_soundly}
@@ -119,3 +120,9 @@ follows_soundly hashes s (suc n) s2 sound (mid, before, last) = befalls_soundly 
 
 pub stays_sound : StaysSound
 stays_sound hashes frames slots tax n s follows = follows_soundly hashes (empty_space frames slots tax) n s (empty_sound frames slots tax) follows
+
+pub scans_soundly : ScansSoundly
+scans_soundly hashes s [] s2 sound is = (subst IsSound (sym is) sound, ap (λ a. all_bytes a) is)
+scans_soundly hashes s (page ∷ pages) s2 sound (hash, answer, mid, its, offer, rest) =
+    let next = scans_soundly hashes mid pages s2 (offers_soundly hashes s page.0 page.1 hash answer mid sound offer) rest in
+    (next.0, next.1 ∙ offers_quiet hashes s page.0 page.1 hash answer mid offer)

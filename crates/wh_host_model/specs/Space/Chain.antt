@@ -5,10 +5,11 @@ use Rattle.wh_host_model.specs.declared.Tax.{Tax}
 use Rattle.wh_host_model.specs.declared.states.EvictEnd.{EvictEnd}
 use Rattle.wh_host_model.specs.declared.states.FetchEnd.{FetchEnd}
 use Rattle.wh_host_model.specs.declared.states.Offer.{Offer}
-use Rattle.wh_host_model.specs.Space.Parts.{Claimed, Occupant, Space, empty_space, occupant_at}
+use Rattle.wh_host_model.specs.Space.Parts.{Claimed, Occupant, Space, all_bytes, empty_space, occupant_at}
 use Rattle.wh_host_model.specs.Space.Errands.{tickets}
 use Rattle.wh_host_model.specs.Space.Sound.{IsSound}
 use Rattle.wh_host_model.specs.Space.Offers.{Offers}
+use Rattle.wh_host_model.specs.Space.Scanning.{Scans}
 use Rattle.wh_host_model.specs.Space.Tickets.{BeginsEvict, BeginsFetch, CommitsEvict, CommitsFetch, IsWritten, StandsForFrame}
 use Rattle.wh_host_model.specs.Space.Stores.{Epochs, Grew, Touches, ended, stood}
 use Rattle.wh_host_model.specs.Space.Places.{Enters, Exits}
@@ -63,3 +64,9 @@ abbrev pub StaysSound : Type 0
 StaysSound =
     (hashes : List ℕ → ℕ) (frames slots : ℕ) (tax : Tax) (n : ℕ) (s : Space)
     → Follows hashes (empty_space frames slots tax) n s → IsSound s
+
+-- pages that are offered one after the other, a full pass among them, leave all sound, and change nobody's bytes
+abbrev pub ScansSoundly : Type 0
+ScansSoundly =
+    (hashes : List ℕ → ℕ) (s : Space) (pages : List (ℕ × ℕ)) (s2 : Space) → IsSound s → Scans hashes s pages s2
+    → IsSound s2 × (all_bytes s2 ≡ all_bytes s)

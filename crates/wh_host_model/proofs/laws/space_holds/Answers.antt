@@ -12,7 +12,7 @@ use Rattle.wh_host_model.proofs.Space.Come.{commits_fetch_soundly}
 use Rattle.wh_host_model.proofs.Space.Enlarged.{grows_soundly, grows_by_zeros}
 use Rattle.wh_host_model.proofs.Space.Entered.{enters_soundly, enters_at_zeros}
 use Rattle.wh_host_model.proofs.Space.Exited.{exits_soundly}
-use Rattle.wh_host_model.proofs.Space.Chained.{empty_sound, fails_soundly, stays_sound}
+use Rattle.wh_host_model.proofs.Space.Chained.{empty_sound, fails_soundly, stays_sound, scans_soundly}
 use Rattle.wh_host_model.proofs.laws.space_holds.Goals as goal
 
 pub returns-clause-ready_is_decided : goal.returns-clause-ready_is_decided
@@ -143,3 +143,6 @@ returns-clause-empty_is_sound c = empty_sound
 
 pub returns-clause-stays_sound : goal.returns-clause-stays_sound
 returns-clause-stays_sound c = stays_sound
+
+pub returns-clause-scans_soundly : goal.returns-clause-scans_soundly
+returns-clause-scans_soundly c = scans_soundly
