@@ -1,5 +1,5 @@
 -- Every valid module that links begins.
-use Rattle.std.proofs.Common.{◌≡◌, ◌⊎◌, inl, inr, ⊎_elim, ℕ, ◌+◌, ◌*◌, ◌<◌, ◌≤◌, List, [], ◌∷◌, ◌++◌, length, map, Option, Some, None, option_map, slice_get, refl, sym, ap, subst, ◌∙◌, arith}
+use Rattle.std.proofs.Common.{◌≡◌, ◌⊎◌, inl, inr, ⊎_elim, ℕ, ◌+◌, ◌*◌, List, [], ◌∷◌, ◌++◌, length, map, Option, Some, None, option_map, slice_get, refl, sym, ap, subst, ◌∙◌, arith}
 use Rattle.std.proofs.lemmas.Bool.{cases_lt}
 use Rattle.std.proofs.lemmas.List.{map-append}
 use Rattle.std.proofs.lemmas.Option.{slice_get-map}
@@ -7,16 +7,14 @@ use Rattle.std.specs.List.{AllByRecursion}
 use Rattle.wh_model.specs.declared.ValType.{ValType}
 use Rattle.wh_model.specs.declared.ValType.TheVariants.{I32, I64}
 use Rattle.wh_model.specs.declared.Mutability.TheVariants.{Const}
-use Rattle.wh_model.specs.Syntax.{Code, FuncType, GlobalType, Limits, Import, ImportDesc, of_func, of_global, Global, Element, Data, Body, Module}
+use Rattle.wh_model.specs.Syntax.{Code, FuncType, GlobalType, Import, of_global, Global, Element, Data, Body}
 use Rattle.wh_model.specs.Numbers.{unsigned}
 use Rattle.wh_model.specs.Typing.{Context}
-use Rattle.wh_model.specs.Validity.{Valid, IsValidIn, ConstantOf, ValidGlobal, ValidElement, ValidData, ValidBodies, global_first, imported_globals}
+use Rattle.wh_model.specs.Validity.{Valid, ConstantOf, ValidGlobal, ValidElement, ValidData, ValidBodies, global_first, imported_globals}
 use Rattle.wh_model.specs.Store.{Value, value, type_of, FuncInst, own, host, Instance}
-use Rattle.wh_model.specs.Instance.{Parameters, ImportsGlobal, Imported, Defined, Evaluates, Begun, Piece, Placed, Within, first_size, last_size, Prepares, Beginning, begins, memory_min, segment_bounds, IsInitial, needs_more, out_of_bounds, in_bounds}
-use Rattle.wh_host_model.specs.declared.HostGlobal.{HostGlobal}
-use Rattle.wh_host_model.specs.declared.HostGlobal.TheVariants.{Base, Salt}
+use Rattle.wh_model.specs.Instance.{Parameters, ImportsGlobal, Imported, Defined, Evaluates, Begun, Piece, Placed, Within, first_size, last_size, Prepares, memory_min, segment_bounds, needs_more, out_of_bounds, in_bounds}
 use Rattle.wh_host_model.specs.declared.HostItem.TheVariants.{Func, Global as GlobalItem}
-use Rattle.wh_host_model.specs.Linking.{value_of, ImportsItem, HasItem, Links}
+use Rattle.wh_host_model.specs.Linking.{value_of, HasItem}
 use Rattle.wh_host_model.specs.LinkingLaws.{SomeBeginning}
 
 -- ---- imports

@@ -28,3 +28,10 @@ pub mod Merging
 pub mod WorkedStores
 pub mod Awaited
 pub mod Come
+pub mod Rows
+pub mod Enlarged
+pub mod Settled
+pub mod Voided
+pub mod Entered
+pub mod Exited
+pub mod Chained

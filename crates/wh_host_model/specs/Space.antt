@@ -15,3 +15,4 @@ pub mod Scanning
 pub mod Laws
 pub mod Sight
 pub mod Kept
+pub mod Chain

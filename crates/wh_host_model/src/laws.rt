@@ -2,8 +2,9 @@
 
 ghost use Rattle.wh_host_model.specs.LinkingLaws.{OneFirstFault, LinksWithoutFault, SomeBeginning};
 ghost use Rattle.wh_host_model.specs.Space.Laws.{ReadyIsDecided, NoBytesAreReady, OneUseOfAFrame, SomePageCanBeTaken, SomeSlotIsVacant, EvictionKeepsAll, FetchKeepsSound, FetchKeepsBytes, MovesAreFew, ProvisionIsRight, BeginsEvictSoundly, BeginsEvictQuietly, BeginsFetchQuietly, CommitsEvictQuietly, CommitsFetchQuietly};
-ghost use Rattle.wh_host_model.specs.Space.Sight.{OffersQuietly, WritesQuietly, StepsQuietly, GrowsAlone, EntersAlone, ExitsAlone, PinsEnd, GoneIsSkipped, WrittenIsVoid, ReleasedIsVoid, NothingNeedless};
-ghost use Rattle.wh_host_model.specs.Space.Kept.{TouchesSoundly, EpochsSoundly, WritesSoundly, StandsSoundly, EndsSoundly, CommitsEvictSoundly, OffersSoundly, BeginsFetchSoundly, CommitsFetchSoundly};
+ghost use Rattle.wh_host_model.specs.Space.Sight.{OffersQuietly, WritesQuietly, StepsQuietly, GrowsAlone, GrowsByZeros, EntersAlone, EntersAtZeros, ExitsAlone, PinsEnd, GoneIsSkipped, WrittenIsVoid, ReleasedIsVoid, NothingNeedless};
+ghost use Rattle.wh_host_model.specs.Space.Kept.{TouchesSoundly, EpochsSoundly, WritesSoundly, StandsSoundly, EndsSoundly, CommitsEvictSoundly, OffersSoundly, BeginsFetchSoundly, CommitsFetchSoundly, GrowsSoundly, EntersSoundly, ExitsSoundly};
+ghost use Rattle.wh_host_model.specs.Space.Chain.{FailsSoundly, EmptyIsSound, StaysSound, ScansSoundly};
 
 /// What holds of linking and of what an instance begins with. The function does nothing; what it ensures are the laws.
 pub fn linking_holds()
@@ -33,7 +34,9 @@ pub fn space_holds()
     ensures writes_quietly { WritesQuietly }
     ensures steps_quietly { StepsQuietly }
     ensures grows_alone { GrowsAlone }
+    ensures grows_by_zeros { GrowsByZeros }
     ensures enters_alone { EntersAlone }
+    ensures enters_at_zeros { EntersAtZeros }
     ensures exits_alone { ExitsAlone }
     ensures pins_end { PinsEnd }
     ensures gone_is_skipped { GoneIsSkipped }
@@ -49,4 +52,11 @@ pub fn space_holds()
     ensures offers_soundly { OffersSoundly }
     ensures begins_fetch_soundly { BeginsFetchSoundly }
     ensures commits_fetch_soundly { CommitsFetchSoundly }
+    ensures grows_soundly { GrowsSoundly }
+    ensures enters_soundly { EntersSoundly }
+    ensures exits_soundly { ExitsSoundly }
+    ensures fails_soundly { FailsSoundly }
+    ensures empty_is_sound { EmptyIsSound }
+    ensures stays_sound { StaysSound }
+    ensures scans_soundly { ScansSoundly }
 {}

@@ -1,5 +1,5 @@
 -- A fetch that ends leaves everything sound.
-use Rattle.std.proofs.Common.{◌≡◌, ◌≢◌, ℕ, ◌+◌, ◌<◌, ◌≤◌, ◌++◌, ◌==◌, ◌⊎◌, inl, inr, true, false, List, [], ◌∷◌, Some, length, slice_get, get_or, refl, sym, ap, ◌∙◌, subst, arith, length-set}
+use Rattle.std.proofs.Common.{◌≡◌, ◌≢◌, ℕ, ◌+◌, inl, inr, true, false, List, [], ◌∷◌, Some, length, slice_get, get_or, refl, sym, ap, ◌∙◌, subst, arith, length-set}
 use Rattle.std.proofs.lemmas.List.{get_or-set_same, get_or-set_other}
 use Rattle.wh_host_model.specs.Frames.{tally, one_if}
 use Rattle.wh_host_model.proofs.Tally.{one_same, one_other, tally-append}
@@ -18,6 +18,7 @@ use Rattle.wh_host_model.proofs.Space.Putting.{here_or, set_other, set_same, the
 use Rattle.wh_host_model.proofs.Space.Fetched.{names_free}
 use Rattle.wh_host_model.proofs.Space.Returned.{one_at}
 use Rattle.wh_host_model.proofs.Space.Living.{page_is_live}
+use Rattle.wh_host_model.proofs.Space.Voided.{is_sound_fetch_void}
 use Rattle.wh_host_model.proofs.Space.Sums.{put_tally, set_tally}
 
 -- the page has come
@@ -189,8 +190,8 @@ is_sound_not_come s i p f k sound was =
       admissible = (sound.admissible.0, (let e = length-set s.slots.uses k Taken in let b = sound.admissible.1 in omega arith));
     }
 
--- The ticket of a page that is coming comes back, and all is sound.
+-- The ticket of a fetch comes back, and all is sound.
 pub commits_fetch_soundly : CommitsFetchSoundly
-commits_fetch_soundly s k i p f read bytes end s2 sound was (inl (j, g, at_it, ends, is)) = absurd (let bad : Some (Fetching i p f) ≡ Some (FetchVoid j g) = sym was ∙ at_it in cc)
-commits_fetch_soundly s k i p f read bytes end s2 sound was (inr (j, q, g, at_it, inl (ok, long, ends, is))) = subst IsSound (sym is) (is_sound_come s j q g k bytes sound at_it long)
-commits_fetch_soundly s k i p f read bytes end s2 sound was (inr (j, q, g, at_it, inr (failed, ends, is))) = subst IsSound (sym is) (is_sound_not_come s j q g k sound at_it)
+commits_fetch_soundly s k read bytes end s2 sound (inl (j, g, at_it, ends, is)) = subst IsSound (sym is) (is_sound_fetch_void s k j g sound at_it)
+commits_fetch_soundly s k read bytes end s2 sound (inr (j, q, g, at_it, inl (ok, long, ends, is))) = subst IsSound (sym is) (is_sound_come s j q g k bytes sound at_it long)
+commits_fetch_soundly s k read bytes end s2 sound (inr (j, q, g, at_it, inr (failed, ends, is))) = subst IsSound (sym is) (is_sound_not_come s j q g k sound at_it)

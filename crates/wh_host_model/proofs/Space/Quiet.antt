@@ -106,7 +106,7 @@ none_kept : (pins : Option Pins) (i : ℕ) → has_pins pins i ≡ false → (ke
 none_kept None i e = (refl, refl)
 none_kept (Some pins) i e = (rw e refl, rw e refl)
 
-unpinned_ends : (s : Space) (i : ℕ) (b : Bool) → has_pins s.pins i ≡ b → (kept_by (cond b (unpinned s) s).pins i ≡ []) × (pinned_by (cond b (unpinned s) s).pins i ≡ [])
+pub unpinned_ends : (s : Space) (i : ℕ) (b : Bool) → has_pins s.pins i ≡ b → (kept_by (cond b (unpinned s) s).pins i ≡ []) × (pinned_by (cond b (unpinned s) s).pins i ≡ [])
 unpinned_ends s i true e = (refl, refl)
 unpinned_ends s i false e = none_kept s.pins i e
 

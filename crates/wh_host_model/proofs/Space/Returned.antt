@@ -33,10 +33,10 @@ kinds_back (Swapped k) old n e = absurd e
 pub back_now : (s : Space) (j : ℕ) (t : Occupant) → occupant_at s j t → occupant_at (with_leaving s j None) j (record t { leaves = None })
 back_now s j t is = rw (get_or_is s.occupants j (Some t) None is) (set_same s.occupants j (Some (record t { leaves = None })) (there_of s.occupants j (Some t) is))
 
-back_away : (s : Space) (j i : ℕ) → i ≢ j → slice_get (with_leaving s j None).occupants i ≡ slice_get s.occupants i
+pub back_away : (s : Space) (j i : ℕ) → i ≢ j → slice_get (with_leaving s j None).occupants i ≡ slice_get s.occupants i
 back_away s j i other = set_other s.occupants j i _ other
 
-back_before : (s : Space) (j : ℕ) (mine : Occupant) (i : ℕ) (t : Occupant) → occupant_at s j mine → occupant_at (with_leaving s j None) i t
+pub back_before : (s : Space) (j : ℕ) (mine : Occupant) (i : ℕ) (t : Occupant) → occupant_at s j mine → occupant_at (with_leaving s j None) i t
     → (u : Occupant) × occupant_at s i u × (u.number ≡ t.number) × (u.live ≡ t.live) × (u.stands ≡ t.stands) × (((i ≢ j) × (u.leaves ≡ t.leaves)) ⊎ ((i ≡ j) × (t.leaves ≡ None)))
 back_before s j mine i t was is =
     elim (here_or j i) [
@@ -48,7 +48,7 @@ back_before s j mine i t was is =
           (mine, subst (λ z. occupant_at s z mine) (sym same) was, ap (λ (a : Occupant). a.number) one, ap (λ (a : Occupant). a.live) one, ap (λ (a : Occupant). a.stands) one, inr (same, sym (ap (λ (a : Occupant). a.leaves) one))))
     ]
 
-back_after : (s : Space) (j i : ℕ) (u : Occupant) → occupant_at s i u → (t : Occupant) × occupant_at (with_leaving s j None) i t × (t.live ≡ u.live)
+pub back_after : (s : Space) (j i : ℕ) (u : Occupant) → occupant_at s i u → (t : Occupant) × occupant_at (with_leaving s j None) i t × (t.live ≡ u.live)
 back_after s j i u is =
     elim (here_or j i) [
       | inr apart ↦ (u, back_away s j i apart ∙ is, refl)

@@ -3,7 +3,7 @@ use Rattle.std.proofs.Common.{◌≡◌, ℕ, ◌+◌, ◌≤◌, ◌==◌, ◌�
 use Rattle.wh_host_model.specs.Frames.{tally, one_if}
 use Rattle.wh_host_model.specs.declared.states.Page.{Page}
 use Rattle.wh_host_model.specs.declared.states.Page.TheVariants.{Untouched, Private, Shared, Leaving, LeavingShared, Coming, Swapped}
-use Rattle.wh_host_model.specs.declared.states.Slot.TheVariants.{Vacant, Taken, Evicting, EvictVoid}
+use Rattle.wh_host_model.specs.declared.states.Slot.TheVariants.{Vacant, Taken, Evicting}
 use Rattle.wh_host_model.specs.Space.Claims.{CanLeave, stays}
 use Rattle.wh_host_model.specs.Space.Kept.{CommitsEvictSoundly}
 use Rattle.wh_host_model.specs.Space.Sound.{IsSound, IsUsed, LeavesBy, PinsAreSound}
@@ -14,6 +14,7 @@ use Rattle.wh_host_model.proofs.Space.Returned.{back_now, is_sound_returned, kin
 use Rattle.wh_host_model.specs.Space.Moves.{evicted, frame_of}
 use Rattle.wh_host_model.proofs.Space.Evicted.{is_sound_evicted, stood_on}
 use Rattle.wh_host_model.proofs.Space.Reserved.{is_sound_repinned, repinned}
+use Rattle.wh_host_model.proofs.Space.Voided.{is_sound_evict_void}
 use Rattle.wh_host_model.proofs.Space.Sums.{put_tally}
 use Rattle.wh_host_model.proofs.Space.Putting.{put_this, set_same, there_of}
 
@@ -73,7 +74,7 @@ is_sound_unpinned_page s j p sound =
       of = λ pins is. place_still s j p s.pins sound.pins refl pins is;
     })
 
-set_set : {X : Type 0} (xs : List X) (p : ℕ) (x y : X) → slice_set (slice_set xs p x) p y ≡ slice_set xs p y
+pub set_set : {X : Type 0} (xs : List X) (p : ℕ) (x y : X) → slice_set (slice_set xs p x) p y ≡ slice_set xs p y
 set_set [] p x y = refl
 set_set (z ∷ xs) zero x y = refl
 set_set (z ∷ xs) (suc p) x y = ap (λ a. z ∷ a) (set_set xs p x y)
@@ -136,10 +137,10 @@ is_sound_sent s j p f k page sound was there on held =
     let vacant : slice_get s1.slots.uses k ≡ Some Vacant = set_same s.slots.uses k Vacant (there_of s.slots.uses k (Evicting j p) was) in
     subst IsSound (sym (sent_is s j p f k page old.0 there old.1 held)) (is_sound_evicted s1 j p f k s.slots.vacant x.0 sound1 can x.1 x.2 vacant refl)
 
--- The ticket of a page that is leaving comes back, and all is sound.
+-- The ticket of an eviction comes back, and all is sound.
 pub commits_soundly : CommitsEvictSoundly
-commits_soundly s k j p wrote bytes end s2 sound was held (inl (i, at_it, ends, is)) = absurd (let bad : Some (Evicting j p) ≡ Some (EvictVoid i) = sym was ∙ at_it in cc)
-commits_soundly s k j p wrote bytes end s2 sound was held (inr (i, q, f, at_it, page, there, on, inl (ok, equal, ends, is))) =
+commits_soundly s k wrote bytes end s2 sound held (inl (i, at_it, ends, is)) = subst IsSound (sym is) (is_sound_evict_void s k i sound at_it)
+commits_soundly s k wrote bytes end s2 sound held (inr (i, q, f, at_it, page, there, on, inl (ok, equal, ends, is))) =
     subst IsSound (sym is) (is_sound_sent s i q f k page sound at_it there on (held ok ∙ equal))
-commits_soundly s k j p wrote bytes end s2 sound was held (inr (i, q, f, at_it, page, there, on, inr (why, old, as_it, is))) =
+commits_soundly s k wrote bytes end s2 sound held (inr (i, q, f, at_it, page, there, on, inr (why, old, as_it, is))) =
     subst IsSound (sym is) (is_sound_returned s i q k page old sound at_it there as_it)

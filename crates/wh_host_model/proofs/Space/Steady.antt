@@ -7,7 +7,7 @@ use Rattle.wh_host_model.specs.Frames.{tally}
 use Rattle.wh_host_model.specs.declared.states.Slot.TheVariants.{Evicting, EvictVoid}
 use Rattle.wh_host_model.specs.Space.Kept.{EndsSoundly, EpochsSoundly, StandsSoundly, TouchesSoundly, WritesSoundly}
 use Rattle.wh_host_model.specs.Space.Sound.{HasTable, IsSound, IsUsed}
-use Rattle.wh_host_model.specs.Space.Tickets.{IsEvicting}
+use Rattle.wh_host_model.specs.Space.Tickets.{IsEvicting, with_held}
 use Rattle.wh_host_model.specs.Space.Parts.{Occupant, Space, occupant_at, of_occupant}
 use Rattle.wh_host_model.specs.Space.States.{comes_from, count, lies_in, put}
 use Rattle.wh_host_model.proofs.Space.Putting.{get_or_is, here_or, set_other, set_same, there_of}
@@ -85,14 +85,20 @@ unfolding retouched
 epochs_soundly s s2 sound is =
     subst IsSound (sym is) (is_sound_retouched s (map (map (λ mark. false)) s.touched) s.slots.held sound (mapped_length (map (λ mark. false)) s.touched) (λ j. untouched_row s.touched j) refl (λ k some. refl))
 
-pub writes_soundly : WritesSoundly
+-- a slot in which no page lies may hold anything
+pub held_soundly : (s : Space) (k : ℕ) (bytes : List ℕ) → IsSound s → count (lies_in k) s.tables ≡ 0 → count (comes_from k) s.tables ≡ 0 → IsSound (with_held s k bytes)
 unfolding retouched
-writes_soundly s k bytes wrote s2 sound (evicting, is) =
-    subst IsSound (sym is) (is_sound_retouched s s.touched (slice_set s.slots.held k (cond wrote bytes [])) sound refl (λ j. refl) (length-set s.slots.held k _)
+held_soundly s k bytes sound lies comes =
+    is_sound_retouched s s.touched (slice_set s.slots.held k bytes) sound refl (λ j. refl) (length-set s.slots.held k _)
     (λ h some. elim (here_or k h) [
-      | inr other ↦ get_or-set_other s.slots.held k h (cond wrote bytes []) [] (λ e. other e)
-      | inl same ↦ absurd (let none = alone evicting in let more : 1 ≤ count (lies_in k) s.tables + count (comes_from k) s.tables = subst (λ z. 1 ≤ count (lies_in z) s.tables + count (comes_from z) s.tables) same some in omega (arith, none.0, none.1))
-    ])) where
+      | inr other ↦ get_or-set_other s.slots.held k h bytes [] (λ e. other e)
+      | inl same ↦ absurd (let more : 1 ≤ count (lies_in k) s.tables + count (comes_from k) s.tables = subst (λ z. 1 ≤ count (lies_in z) s.tables + count (comes_from z) s.tables) same some in omega (arith, lies, comes))
+    ])
+
+pub writes_soundly : WritesSoundly
+writes_soundly s k bytes wrote s2 sound (evicting, is) =
+    let none = alone evicting in
+    subst IsSound (sym is) (held_soundly s k (cond wrote bytes []) sound none.0 none.1) where
       alone : IsEvicting s k → (count (lies_in k) s.tables ≡ 0) × (count (comes_from k) s.tables ≡ 0)
       alone (inl (j, p, at_it)) = (let used : IsUsed s k (Some (Evicting j p)) = subst (IsUsed s k) at_it (sound.slots.used k) in (used.0, used.1))
       alone (inr (j, at_it)) = (let used : IsUsed s k (Some (EvictVoid j)) = subst (IsUsed s k) at_it (sound.slots.used k) in (used.0, used.1))

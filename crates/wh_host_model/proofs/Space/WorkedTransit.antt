@@ -1,5 +1,5 @@
 -- Provision, tickets and claims on small spaces, by hand.
-use Rattle.std.proofs.Common.{◌≡◌, ℕ, ◌<◌, ◌≤◌, ◌++◌, inl, inr, List, Option, [], ◌∷◌, Some, None, true, false, Bool, length, slice_get, zero, suc, refl, sym, ap, ◌∙◌, subst, arith}
+use Rattle.std.proofs.Common.{◌≡◌, ℕ, ◌+◌, ◌<◌, ◌≤◌, ◌++◌, inl, inr, List, Option, [], ◌∷◌, Some, None, true, false, Bool, length, slice_get, zero, suc, refl, sym, ap, ◌∙◌, subst, arith}
 use Rattle.wh_model.specs.declared.memory.Need.{Need}
 use Rattle.wh_host_model.specs.Frames.{tally, one_if}
 use Rattle.wh_host_model.proofs.Tally.{one_same}
@@ -14,13 +14,13 @@ use Rattle.wh_host_model.specs.declared.states.EvictEnd.TheVariants.{Evicted, Vo
 use Rattle.wh_host_model.specs.declared.states.FetchEnd.TheVariants.{Void as FetchIsVoid}
 use Rattle.wh_host_model.specs.Space.Tickets.{BeginsEvict, CommitsEvict, CommitsFetch, Reserves, departing, not_sent, sent_off, settled, with_free, without_slot}
 use Rattle.wh_host_model.specs.Space.Claims.{CanLeave, HasLess, IsEarlier, IsGiven, IsPayer, IsTouched, MayPay}
-use Rattle.wh_host_model.specs.Space.Moves.{Earmarks, Evicts, evicted, pinned}
-use Rattle.wh_host_model.specs.Space.Places.{Exits, released_mark, released_use}
+use Rattle.wh_host_model.specs.Space.Moves.{Earmarks, Evicts, evicted, pinned, unpinned_of}
+use Rattle.wh_host_model.specs.Space.Places.{Exits, freed_by, released_mark, released_use}
 use Rattle.wh_host_model.specs.Space.Provide.{LacksFree, Provides, goes}
-use Rattle.wh_host_model.specs.Space.Parts.{Occupant, Space, kept_by, pages_of}
+use Rattle.wh_host_model.specs.Space.Parts.{Occupant, Space, kept_by, pages_of, sharers}
 use Rattle.wh_host_model.specs.Space.Stores.{Overwrites}
 use Rattle.wh_host_model.specs.Space.Ready.{Ready}
-use Rattle.wh_host_model.specs.Space.States.{count_of, lies_in, page_at, shares}
+use Rattle.wh_host_model.specs.Space.States.{count_of, lies_in, owns, page_at, shares}
 
 -- where one alone may have to pay, it does
 only_payer : (s : Space) (i : ℕ) → MayPay s i → ((j : ℕ) → MayPay s j → j ≡ i) → IsPayer s i
@@ -183,6 +183,12 @@ use_after tax zero x e = (let k : Vacant ≡ x = cc in rw (← k) refl)
 use_after tax (suc zero) x e = (let k : Evicting 1 0 ≡ x = cc in rw (← k) refl)
 use_after tax (suc (suc k)) x e = cc
 
+free_after : (tax : Tax) (f : ℕ) → tally (one_if f) (full_released tax).pool.free ≡ tally (one_if f) (unpinned_of (full_begun tax) 1).pool.free + (count_of (owns f) (full_begun tax).tables 1 + freed_by (count_of (shares f) (full_begun tax).tables 1) (sharers (full_begun tax) f))
+free_after tax f = omega arith
+
+vacant_after : (tax : Tax) (k : ℕ) → tally (one_if k) (full_released tax).slots.vacant ≡ tally (one_if k) (full_begun tax).slots.vacant + count_of (lies_in k) (full_begun tax).tables 1
+vacant_after tax k = omega arith
+
 released_meanwhile : (tax : Tax)
     → Exits (full_begun tax) 1 (full_released tax)
     × ((wrote : Bool) (bytes : List ℕ) (end : _) (s3 : Space) → CommitsEvict (full_released tax) 1 wrote bytes end s3 → (end ≡ Void) × (length s3.pool.free ≡ 3) × (length s3.slots.vacant ≡ 2))
@@ -193,9 +199,12 @@ released_meanwhile tax = (
     tables = refl;
     touched = refl;
     bytes = refl;
+    free = free_after tax;
+    entries = refl;
     marks = plain_still tax;
     held = refl;
     slots = refl;
+    vacant = vacant_after tax;
     uses = use_after tax;
     occupants = refl;
     pins = refl;

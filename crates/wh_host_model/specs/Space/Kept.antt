@@ -1,14 +1,14 @@
 -- What keeps the memory sound.
-use Rattle.std.specs.Prelude.{ℕ, ◌≡◌, ◌+◌, ◌*◌, ◌≤◌, true, Bool, List, [], Option, Some, length, get_or, slice_get}
-use Rattle.wh_host_model.specs.declared.states.Slot.TheVariants.{Evicting, Fetching}
+use Rattle.std.specs.Prelude.{ℕ, ◌≡◌, ◌+◌, ◌*◌, ◌≤◌, true, Bool, List, [], Option, Some, length, get_or}
 use Rattle.wh_host_model.specs.declared.states.EvictEnd.{EvictEnd}
 use Rattle.wh_host_model.specs.declared.states.FetchEnd.{FetchEnd}
 use Rattle.wh_host_model.specs.declared.states.Offer.{Offer}
 use Rattle.wh_model.specs.declared.memory.Need.{Need}
-use Rattle.wh_host_model.specs.Space.Stores.{Epochs, Touches, ended, stood}
+use Rattle.wh_host_model.specs.Space.Stores.{Epochs, Grew, Touches, ended, stood}
 use Rattle.wh_host_model.specs.Space.Sound.{IsSound}
 use Rattle.wh_host_model.specs.Space.Tickets.{IsWritten, CommitsEvict, BeginsFetch, CommitsFetch}
-use Rattle.wh_host_model.specs.Space.Parts.{Occupant, Space, occupant_at}
+use Rattle.wh_host_model.specs.Space.Parts.{Claimed, Occupant, Space, occupant_at}
+use Rattle.wh_host_model.specs.Space.Places.{Enters, Exits}
 use Rattle.wh_host_model.specs.Space.Offers.{Offers}
 
 -- a load
@@ -36,11 +36,10 @@ StandsSoundly =
 abbrev pub EndsSoundly : Type 0
 EndsSoundly = (s : Space) (i : ℕ) (t : Occupant) → IsSound s → occupant_at s i t → IsSound (ended s i)
 
--- the ticket of a page that is leaving, when it comes back: where the device wrote it the slot holds what was written
+-- the ticket of an eviction, void or not, when it comes back: where the device wrote it the slot holds what was written
 abbrev pub CommitsEvictSoundly : Type 0
 CommitsEvictSoundly =
-    (s : Space) (k j p : ℕ) (wrote : Bool) (bytes : List ℕ) (end : EvictEnd) (s2 : Space) → IsSound s
-    → slice_get s.slots.uses k ≡ Some (Evicting j p)
+    (s : Space) (k : ℕ) (wrote : Bool) (bytes : List ℕ) (end : EvictEnd) (s2 : Space) → IsSound s
     → (wrote ≡ true → get_or s.slots.held k [] ≡ bytes) → CommitsEvict s k wrote bytes end s2 → IsSound s2
 
 -- an offer, for any hash that is handed in
@@ -53,8 +52,23 @@ OffersSoundly =
 abbrev pub BeginsFetchSoundly : Type 0
 BeginsFetchSoundly = (s s2 : Space) (i : ℕ) (slot : Option ℕ) → IsSound s → BeginsFetch s i slot s2 → IsSound s2
 
--- the ticket of a page that is coming, when it comes back
+-- the ticket of a fetch, void or not, when it comes back
 abbrev pub CommitsFetchSoundly : Type 0
 CommitsFetchSoundly =
-    (s : Space) (k i p f : ℕ) (read : Bool) (bytes : List ℕ) (end : FetchEnd) (s2 : Space) → IsSound s
-    → slice_get s.slots.uses k ≡ Some (Fetching i p f) → CommitsFetch s k read bytes end s2 → IsSound s2
+    (s : Space) (k : ℕ) (read : Bool) (bytes : List ℕ) (end : FetchEnd) (s2 : Space) → IsSound s
+    → CommitsFetch s k read bytes end s2 → IsSound s2
+
+-- a live instance that grows within its maximum
+abbrev pub GrowsSoundly : Type 0
+GrowsSoundly =
+    (s : Space) (i n : ℕ) (t : Occupant) (s2 : Space) → IsSound s → occupant_at s i t → t.live ≡ true
+    → length (get_or s.tables i []) + 16 * n ≤ t.max → Grew s i n s2 → IsSound s2
+
+-- an instance that comes
+abbrev pub EntersSoundly : Type 0
+EntersSoundly =
+    (s : Space) (i : ℕ) (c : Claimed) (size : ℕ) (s2 : Space) → IsSound s → Enters s i c size s2 → IsSound s2
+
+-- one that goes
+abbrev pub ExitsSoundly : Type 0
+ExitsSoundly = (s : Space) (i : ℕ) (s2 : Space) → IsSound s → Exits s i s2 → IsSound s2

@@ -1,13 +1,13 @@
 -- How an instance comes to a place and goes from it.
-use Rattle.std.specs.Prelude.{ℕ, ◌≡◌, ◌≢◌, ◌+◌, ◌-◌, ◌*◌, ◌==◌, ◌≤◌, ◌++◌, ◌⊎◌, cond, nat_lt, replicate, true, false, List, [], ◌∷◌, Some, None, length, slice_get, slice_set}
-use Rattle.wh_host_model.specs.Frames.{tally}
+use Rattle.std.specs.Prelude.{ℕ, ◌≡◌, ◌≢◌, ◌+◌, ◌-◌, ◌*◌, ◌==◌, ◌≤◌, ◌++◌, ◌⊎◌, cond, min, nat_lt, replicate, true, false, List, [], ◌∷◌, Some, None, length, slice_get, slice_set}
+use Rattle.wh_host_model.specs.Frames.{tally, one_if}
 use Rattle.wh_host_model.specs.declared.states.Page.TheVariants.{Untouched}
 use Rattle.wh_host_model.specs.declared.states.Mark.{Mark}
 use Rattle.wh_host_model.specs.declared.states.Mark.TheVariants.{Plain, Hint, Sharers}
 use Rattle.wh_host_model.specs.declared.states.Slot.{Slot}
 use Rattle.wh_host_model.specs.declared.states.Slot.TheVariants.{Vacant, Taken, Evicting, EvictVoid, Fetching, FetchVoid}
-use Rattle.wh_host_model.specs.Space.States.{lies_in, shares, count_of}
-use Rattle.wh_host_model.specs.Space.Parts.{Space, Occupant, Claimed, occupant_at, minima, spreads}
+use Rattle.wh_host_model.specs.Space.States.{lies_in, owns, shares, count_of}
+use Rattle.wh_host_model.specs.Space.Parts.{Space, Occupant, Claimed, occupant_at, sharers, minima, spreads}
 use Rattle.wh_host_model.specs.Space.Errands.{ticket_of}
 use Rattle.wh_host_model.specs.Space.Moves.{unpinned_of}
 use Rattle.wh_host_model.specs.Space.Stores.{fewer_sharers}
@@ -59,18 +59,28 @@ released_mark i pages Plain = Plain
 released_mark i pages (Hint hash j p) = cond (i == j) Plain (Hint hash j p)
 released_mark i pages (Sharers hash n) = fewer_sharers pages (Sharers hash n)
 
+-- 1 where a frame had so many sharers in all, and these were the last ones
+abbrev pub freed_by : ℕ → ℕ → ℕ
+freed_by pages sharing = cond (nat_lt pages sharing) 0 (min 1 pages)
+
 -- The instance at place i goes. It has no page any more, its pins and earmarks end, and its tickets are void; the
--- place is kept while one is out. Which frames and slots are free follows from soundness. All else is as it was.
+-- place is kept while one is out. Its own frames are free, the shared ones of which it had the last sharers, and the
+-- slots in which its pages lay. All else is as it was.
 pub record Exits (s : Space) (i : ℕ) (s2 : Space) : Type 0 where
   pub occupant : Occupant
   pub was : occupant_at s i occupant × (occupant.live ≡ true)
   pub tables : s2.tables ≡ slice_set s.tables i []
   pub touched : s2.touched ≡ slice_set s.touched i []
   pub bytes : s2.pool.frames ≡ s.pool.frames
+  pub free : (f : ℕ) → tally (one_if f) s2.pool.free ≡ tally (one_if f) (unpinned_of s i).pool.free
+      + (count_of (owns f) s.tables i + freed_by (count_of (shares f) s.tables i) (sharers s f))
+  pub entries : length s2.marks ≡ length s.marks
   pub marks : (f : ℕ) (m : Mark) → slice_get s.marks f ≡ Some m
       → slice_get s2.marks f ≡ Some (released_mark i (count_of (shares f) s.tables i) m)
   pub held : s2.slots.held ≡ s.slots.held
   pub slots : length s2.slots.uses ≡ length s.slots.uses
+  pub vacant : (k : ℕ)
+      → tally (one_if k) s2.slots.vacant ≡ tally (one_if k) s.slots.vacant + count_of (lies_in k) s.tables i
   pub uses : (k : ℕ) (x : Slot) → slice_get s.slots.uses k ≡ Some x
       → slice_get s2.slots.uses k ≡ Some (released_use i (count_of (lies_in k) s.tables i) x)
   pub occupants : s2.occupants ≡ slice_set s.occupants i (stays_occupant (Some (record occupant { live = false; stands = None })) (tally (ticket_of i) s.slots.uses))

@@ -1,5 +1,5 @@
 -- What changes nobody's bytes, and what changes only one's own.
-use Rattle.std.specs.Prelude.{ℕ, ◌≡◌, ◌≢◌, ◌≤◌, false, Bool, List, [], Option, None, Some, length, get_or, slice_get}
+use Rattle.std.specs.Prelude.{ℕ, ◌≡◌, ◌≢◌, ◌*◌, ◌≤◌, ◌++◌, replicate, false, Bool, List, [], Option, None, Some, length, get_or, slice_get}
 use Rattle.wh_model.specs.Memory.{writing}
 use Rattle.wh_host_model.specs.Frames.{tally, one_if}
 use Rattle.wh_host_model.specs.declared.states.Slot.TheVariants.{Evicting}
@@ -8,7 +8,7 @@ use Rattle.wh_host_model.specs.declared.states.EvictEnd.TheVariants.{Void}
 use Rattle.wh_model.specs.declared.memory.Need.{Need}
 use Rattle.wh_host_model.specs.declared.states.Offer.{Offer}
 use Rattle.wh_host_model.specs.declared.states.Offer.TheVariants.{Skipped}
-use Rattle.wh_host_model.specs.Space.Parts.{Claimed, Space, all_bytes, has_number, kept_by, pinned_by, view}
+use Rattle.wh_host_model.specs.Space.Parts.{Claimed, Occupant, Space, all_bytes, has_number, kept_by, occupant_at, pinned_by, view}
 use Rattle.wh_host_model.specs.Space.Places.{Enters, Exits}
 use Rattle.wh_host_model.specs.Space.Stores.{Epochs, Grew, Touches, ended, stood, Overwrites}
 use Rattle.wh_host_model.specs.Space.Sound.{IsSound}
@@ -43,6 +43,17 @@ StepsQuietly = (s : Space) (i : ℕ) → KeepsBytes s i
 -- an instance that grows or comes changes no other's bytes; of one that goes none are left
 abbrev pub GrowsAlone : Type 0
 GrowsAlone = (s : Space) (i n : ℕ) (s2 : Space) → Grew s i n s2 → (j : ℕ) → j ≢ i → view s2 j ≡ view s j
+
+-- and sees zeros behind what it saw, or nothing but zeros
+abbrev pub GrowsByZeros : Type 0
+GrowsByZeros =
+    (s : Space) (i n : ℕ) (t : Occupant) (s2 : Space) → IsSound s → occupant_at s i t → Grew s i n s2
+    → view s2 i ≡ view s i ++ replicate (65536 * n) 0
+
+abbrev pub EntersAtZeros : Type 0
+EntersAtZeros =
+    (s : Space) (i : ℕ) (c : Claimed) (size : ℕ) (s2 : Space) → IsSound s → Enters s i c size s2
+    → view s2 i ≡ replicate (65536 * size) 0
 
 abbrev pub EntersAlone : Type 0
 EntersAlone =

@@ -9,6 +9,10 @@ use Rattle.wh_host_model.proofs.Space.Sent.{commits_soundly}
 use Rattle.wh_host_model.proofs.Space.Merging.{offers_soundly}
 use Rattle.wh_host_model.proofs.Space.Awaited.{begin_fetch_sound}
 use Rattle.wh_host_model.proofs.Space.Come.{commits_fetch_soundly}
+use Rattle.wh_host_model.proofs.Space.Enlarged.{grows_soundly, grows_by_zeros}
+use Rattle.wh_host_model.proofs.Space.Entered.{enters_soundly, enters_at_zeros}
+use Rattle.wh_host_model.proofs.Space.Exited.{exits_soundly}
+use Rattle.wh_host_model.proofs.Space.Chained.{empty_sound, fails_soundly, stays_sound, scans_soundly}
 use Rattle.wh_host_model.proofs.laws.space_holds.Goals as goal
 
 pub returns-clause-ready_is_decided : goal.returns-clause-ready_is_decided
@@ -115,3 +119,30 @@ returns-clause-begins_fetch_soundly c = begin_fetch_sound
 
 pub returns-clause-commits_fetch_soundly : goal.returns-clause-commits_fetch_soundly
 returns-clause-commits_fetch_soundly c = commits_fetch_soundly
+
+pub returns-clause-grows_soundly : goal.returns-clause-grows_soundly
+returns-clause-grows_soundly c = grows_soundly
+
+pub returns-clause-grows_by_zeros : goal.returns-clause-grows_by_zeros
+returns-clause-grows_by_zeros c = grows_by_zeros
+
+pub returns-clause-enters_soundly : goal.returns-clause-enters_soundly
+returns-clause-enters_soundly c = enters_soundly
+
+pub returns-clause-enters_at_zeros : goal.returns-clause-enters_at_zeros
+returns-clause-enters_at_zeros c = enters_at_zeros
+
+pub returns-clause-exits_soundly : goal.returns-clause-exits_soundly
+returns-clause-exits_soundly c = exits_soundly
+
+pub returns-clause-fails_soundly : goal.returns-clause-fails_soundly
+returns-clause-fails_soundly c = fails_soundly
+
+pub returns-clause-empty_is_sound : goal.returns-clause-empty_is_sound
+returns-clause-empty_is_sound c = empty_sound
+
+pub returns-clause-stays_sound : goal.returns-clause-stays_sound
+returns-clause-stays_sound c = stays_sound
+
+pub returns-clause-scans_soundly : goal.returns-clause-scans_soundly
+returns-clause-scans_soundly c = scans_soundly
