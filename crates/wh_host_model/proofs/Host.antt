@@ -1,0 +1,10 @@
+pub mod Entries
+pub mod Ordered
+pub mod Opening
+pub mod Keeping
+pub mod Running
+pub mod Empty
+pub mod Holding
+pub mod Stopping
+pub mod Agreeing
+pub mod Leaving
