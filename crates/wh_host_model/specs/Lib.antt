@@ -6,5 +6,6 @@ pub mod Pages
 pub mod Replies
 pub mod Requests
 pub mod Script
+pub mod Host
 pub mod Space
 pub mod Tax

@@ -1,0 +1,169 @@
+-- How modules and instances come to a host, and how instances go.
+use Rattle.std.specs.Prelude.{◌≡◌, ◌≢◌, ℕ, ◌+◌, ◌-◌, ◌<◌, ◌≤◌, ◌⊎◌, false, List, [], ◌∷◌, ◌++◌, length, slice_get, Option, Some, None}
+use Rattle.wh_model.specs.declared.FaultKind.{FaultKind}
+use Rattle.wh_model.specs.Syntax.{Module}
+use Rattle.wh_model.specs.Spelling.{IsBroken}
+use Rattle.wh_model.specs.Validity.{Valid}
+use Rattle.wh_model.specs.Heights.{Fits}
+use Rattle.wh_model.specs.Store.{Instance, Store}
+use Rattle.wh_model.specs.Instance.{AreGiven, Piece, IsInitial, memory_min, segment_bounds, begins}
+use Rattle.wh_model.specs.Replay.{Outcome, returned, pending}
+use Rattle.wh_host_model.specs.Linking.{ImportFault, Links, IsFirstFault}
+use Rattle.wh_host_model.specs.Replies.{IsModule}
+use Rattle.wh_host_model.specs.Space.Parts.{Space, minima, spreads}
+use Rattle.wh_host_model.specs.Host.Spaces.{Arrives, Departs}
+use Rattle.wh_host_model.specs.Host.Worlds.{Params, Entry, Rest, Doing, resting, has_left, Tenant, Loaded, World, given_of, promised, with_tenant}
+use Rattle.wh_host_model.specs.Host.Answers.{Faces}
+use Rattle.wh_host_model.specs.Host.Calls.{most_fuel}
+
+-- ---- modules
+
+abbrev pub most_modules : ℕ
+most_modules = 1024
+
+-- the bytes spell the module, it is valid, it fits, and each import has its item
+pub record CanLoad (bytes : List ℕ) (m : Module) : Type 0 where
+  pub is_module : IsModule bytes m
+  pub valid : Valid m
+  pub fits : Fits m
+  pub links : Links m
+
+-- why a module isn't loaded
+pub data LoadFault : Type 0 where
+  broken : (kind : FaultKind) (offset : ℕ) → LoadFault
+  invalid : LoadFault
+  unlinked : (fault : ImportFault) (place : ℕ) → LoadFault
+  modules_full : LoadFault
+
+abbrev pub RefusesLoad : World → List ℕ → LoadFault → Type 0
+RefusesLoad w bytes (broken kind offset) = IsBroken bytes kind offset
+RefusesLoad w bytes invalid = (m : Module) × IsModule bytes m × ¬ (Valid m × Fits m)
+RefusesLoad w bytes (unlinked fault place) = (m : Module) × IsModule bytes m × Valid m × Fits m × IsFirstFault m fault place
+RefusesLoad w bytes modules_full = (m : Module) × CanLoad bytes m × (most_modules ≤ length w.modules)
+
+-- who may want memory, each where those before it are done: the decoder, the validator, the linker, and the host
+pub data LoadWant : Type 0 where
+  decoder_wants : LoadWant
+  validator_wants : LoadWant
+  linker_wants : LoadWant
+  host_wants : LoadWant
+
+abbrev pub MayWant : World → List ℕ → LoadWant → Type 0
+MayWant w bytes decoder_wants = Unit {0}
+MayWant w bytes validator_wants = (m : Module) × IsModule bytes m
+MayWant w bytes linker_wants = (m : Module) × IsModule bytes m × Valid m × Fits m
+MayWant w bytes host_wants = (m : Module) × CanLoad bytes m × (length w.modules < most_modules)
+
+-- it is loaded under the next number
+pub record LoadsModule (w : World) (bytes : List ℕ) (number : ℕ) (w2 : World) : Type 0 where
+  pub m : Module
+  pub accepted : CanLoad bytes m
+  pub few : length w.modules < most_modules
+  pub next : number ≡ length w.modules
+  pub after : w2 ≡ record w { modules = w.modules ++ record { bytes = bytes; m = m } ∷ [] }
+
+-- ---- admission
+
+abbrev pub most_instances : ℕ
+most_instances = 4096
+
+-- how many instances are live
+abbrev pub live_count : List (Option Tenant) → ℕ
+live_count [] = 0
+live_count (None ∷ ts) = live_count ts
+live_count (Some t ∷ ts) = 1 + live_count ts
+
+-- why an instance isn't admitted
+pub data AdmitFault : Type 0 where
+  no_module : AdmitFault
+  shares : AdmitFault
+  min_max : AdmitFault
+  frames : AdmitFault
+  swap : AdmitFault
+  instances : AdmitFault
+  memory : AdmitFault
+  segments : AdmitFault
+
+-- the fault is met, whatever of the other ones is
+abbrev pub MeetsFault : World → ℕ → Params → AdmitFault → Type 0
+MeetsFault w k p no_module = length w.modules ≤ k
+MeetsFault w k p shares = (p.shares < 1) ⊎ (1000000 < p.shares)
+MeetsFault w k p min_max = (p.min < 2) ⊎ (p.max < p.min) ⊎ (65536 < p.max)
+MeetsFault w k p frames = length w.space.pool.frames < minima w.space + p.min
+MeetsFault w k p swap = length w.space.slots.uses < spreads w.space + ((p.max - p.min) + 1)
+MeetsFault w k p instances = most_instances ≤ live_count w.tenants
+MeetsFault w k p memory = (l : Loaded) × (slice_get w.modules k ≡ Some l) × IsInitial l.m (given_of p) memory_min
+MeetsFault w k p segments = (l : Loaded) × (slice_get w.modules k ≡ Some l) × IsInitial l.m (given_of p) segment_bounds
+
+-- replies name it A and this number; they are looked at in this order
+abbrev pub admit_rank : AdmitFault → ℕ
+admit_rank no_module = 1
+admit_rank shares = 2
+admit_rank min_max = 3
+admit_rank frames = 4
+admit_rank swap = 5
+admit_rank instances = 6
+admit_rank memory = 7
+admit_rank segments = 8
+
+abbrev pub IsFirstMet : World → ℕ → Params → AdmitFault → Type 0
+IsFirstMet w k p fault =
+    MeetsFault w k p fault × ((other : AdmitFault) → admit_rank other < admit_rank fault → ¬ (MeetsFault w k p other))
+
+-- the start of an instance, as its journal has it
+abbrev pub start_entry : Option ℕ → ℕ → Outcome → Entry
+start_entry func fuel outcome =
+    record { call = record { func = func; args = []; fuel = fuel; fragments = 0; charges = 0; outcome = outcome }; given = [] }
+
+-- What an instance begins with: its start has pieces to write, or calls the start function, or has ended already.
+pub data BeginsWith (inst : Instance) (s : Store) (pieces : List Piece) (start : Option ℕ) (fuel : ℕ) : Doing → List Entry → List Entry → Type 0 where
+  writes : pieces ≢ [] → BeginsWith inst s pieces start fuel (has_left pieces) [] (start_entry start fuel pending ∷ [])
+  runs : {x : ℕ} {d : Doing} → pieces ≡ [] → start ≡ Some x → Faces inst s (start_entry start fuel pending ∷ []) d
+      → BeginsWith inst s pieces start fuel d [] (start_entry start fuel pending ∷ [])
+  ends : pieces ≡ [] → start ≡ None → BeginsWith inst s pieces start fuel resting (start_entry None fuel (returned []) ∷ []) []
+
+abbrev pub rest_of : Store → Rest
+rest_of s = record { globals = s.globals; table = s.table; inputs = s.inputs; output = s.output }
+
+-- An instance is admitted under the next number: it begins as instantiation says (4.5.4), at a free place.
+pub record LetsIn (w : World) (k : ℕ) (p : Params) (place number : ℕ) (w2 : World) : Type 0 where
+  pub no_fault : (fault : AdmitFault) → ¬ (MeetsFault w k p fault)
+  pub can_count : p.fuel ≤ most_fuel
+  pub given : AreGiven (given_of p)
+  pub loaded : Loaded
+  pub is_loaded : slice_get w.modules k ≡ Some loaded
+  pub inst : Instance
+  pub s : Store
+  pub pieces : List Piece
+  pub initial : IsInitial loaded.m (given_of p) (begins inst s pieces)
+  pub doing : Doing
+  pub ended : List Entry
+  pub open_calls : List Entry
+  pub starts : BeginsWith inst s pieces loaded.m.start p.fuel doing ended open_calls
+  pub space : Space
+  pub arrives : Arrives place (promised number p) (length s.bytes) w.space space
+  pub next : number ≡ length w.tenants
+  pub after : w2 ≡ record w {
+    tenants = w.tenants ++ Some (record {
+      place = place;
+      of = k;
+      params = p;
+      inst = inst;
+      rest = rest_of s;
+      doing = doing;
+      ended = ended;
+      open_calls = open_calls;
+      stands_for = None;
+      dead = false;
+    }) ∷ [];
+    space = space;
+  }
+
+-- ---- release
+
+-- the instance is gone, its number is not used again, and its output is handed out
+pub record LetsGo (w : World) (i : ℕ) (t : Tenant) (output : List ℕ) (w2 : World) : Type 0 where
+  pub space : Space
+  pub departs : Departs t.place w.space space
+  pub written : output ≡ t.rest.output
+  pub after : w2 ≡ with_tenant w i None space

@@ -1,0 +1,56 @@
+-- How the memory on which all instances lie may change under the instance at one place, and under the others. Frames, slots and
+-- tickets are any that are sound.
+use Rattle.std.specs.Prelude.{◌≡◌, ◌≢◌, ◌↔◌, ℕ, ◌≤◌, replicate, Option, Some, None}
+use Rattle.wh_model.specs.declared.memory.Need.{Need}
+use Rattle.wh_host_model.specs.Space.Parts.{Space, Claimed, view, claim, wants}
+use Rattle.wh_host_model.specs.Space.Sound.{IsSound}
+use Rattle.wh_host_model.specs.Space.Ready.{Ready}
+use Rattle.wh_host_model.specs.Space.Places.{IsFreePlace}
+use Rattle.wh_host_model.specs.Space.Sight.{HasNoPins}
+
+-- the instance at a place sees what it saw, stands where it stood, and has what it was promised
+pub record LeftAlone (i : ℕ) (s s2 : Space) : Type 0 where
+  pub view : view s2 i ≡ view s i
+  pub wants : wants s2 i ≡ wants s i
+  pub claim : claim s2 i ≡ claim s i
+
+abbrev pub OthersLeftAlone : ℕ → Space → Space → Type 0
+OthersLeftAlone i s s2 = (j : ℕ) → j ≢ i → LeftAlone j s s2
+
+abbrev pub AllLeftAlone : Space → Space → Type 0
+AllLeftAlone s s2 = ((j : ℕ) → LeftAlone j s s2) × IsSound s2
+
+-- what a step of the instance at a place may leave: all but what it sees and where it stands is as it was
+pub record StepsAlone (i : ℕ) (s s2 : Space) : Type 0 where
+  pub others : OthersLeftAlone i s s2
+  pub claim : claim s2 i ≡ claim s i
+  pub sound : IsSound s2
+
+-- A turn or a request leaves it, and it stands for these bytes, or for none: it sees what it saw, and what was ready is ready.
+pub record StandsAlone (i : ℕ) (stands : Option Need) (s s2 : Space) : Type 0 where
+  pub steps : StepsAlone i s s2
+  pub view : view s2 i ≡ view s i
+  pub wants : wants s2 i ≡ stands
+  pub ready : (need : Need) → Ready s2 i need ↔ Ready s i need
+
+-- where a step was taken, pins and earmarks have ended
+abbrev pub PinsEndAfter : ℕ → Space → ℕ → Type 0
+PinsEndAfter steps s i = 1 ≤ steps → HasNoPins s i
+
+-- an instance comes to a free place, with so many zeros and this claim
+pub record Arrives (i : ℕ) (c : Claimed) (size : ℕ) (s s2 : Space) : Type 0 where
+  pub free : IsFreePlace s i
+  pub others : OthersLeftAlone i s s2
+  pub view : view s2 i ≡ replicate size 0
+  pub wants : wants s2 i ≡ None
+  pub claim : claim s2 i ≡ Some c
+  pub unpinned : HasNoPins s2 i
+  pub sound : IsSound s2
+
+-- the instance at a place goes, and nothing of it stays
+pub record Departs (i : ℕ) (s s2 : Space) : Type 0 where
+  pub others : OthersLeftAlone i s s2
+  pub claim : claim s2 i ≡ None
+  pub wants : wants s2 i ≡ None
+  pub unpinned : HasNoPins s2 i
+  pub sound : IsSound s2
