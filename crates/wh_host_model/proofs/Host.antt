@@ -1,0 +1,5 @@
+pub mod Entries
+pub mod Ordered
+pub mod Opening
+pub mod Keeping
+pub mod Running
