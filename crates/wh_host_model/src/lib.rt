@@ -7,10 +7,12 @@ ghost use Rattle.std.specs.Prelude.{◌≤◌, ◌<◌};
 
 mod laws;
 mod plain;
+mod runs;
 mod states;
 
 pub use laws::{linking_holds, space_holds};
 pub use plain::{InstId, SwapError, TurnEnd};
+pub use runs::every_run;
 pub use states::{EvictEnd, FetchEnd, Mark, Offer, Page, Slot};
 use wh_model::HostFunc;
 

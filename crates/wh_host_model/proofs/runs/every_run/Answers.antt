@@ -1,0 +1,26 @@
+use Rattle.wh_host_model.proofs.Host.Holding.{memory_is_sound, places_are_right, instances_replay, charges_are_within, journals_are_in_order, suspensions_are_right, frame_is_lacking, again_is_ready}
+use Rattle.wh_host_model.proofs.runs.every_run.Goals as goal
+
+pub returns-clause-memory_is_sound : goal.returns-clause-memory_is_sound
+returns-clause-memory_is_sound c = memory_is_sound
+
+pub returns-clause-places_are_right : goal.returns-clause-places_are_right
+returns-clause-places_are_right c = places_are_right
+
+pub returns-clause-instances_replay : goal.returns-clause-instances_replay
+returns-clause-instances_replay c = instances_replay
+
+pub returns-clause-charges_are_within : goal.returns-clause-charges_are_within
+returns-clause-charges_are_within c = charges_are_within
+
+pub returns-clause-journals_are_in_order : goal.returns-clause-journals_are_in_order
+returns-clause-journals_are_in_order c = journals_are_in_order
+
+pub returns-clause-suspensions_are_right : goal.returns-clause-suspensions_are_right
+returns-clause-suspensions_are_right c = suspensions_are_right
+
+pub returns-clause-frame_is_lacking : goal.returns-clause-frame_is_lacking
+returns-clause-frame_is_lacking c = frame_is_lacking
+
+pub returns-clause-again_is_ready : goal.returns-clause-again_is_ready
+returns-clause-again_is_ready c = again_is_ready

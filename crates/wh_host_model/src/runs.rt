@@ -1,0 +1,16 @@
+//! The law over every run.
+
+ghost use Rattle.wh_host_model.specs.Host.Laws.{MemoryIsSound, PlacesAreRight, InstancesReplay, ChargesAreWithin, JournalsAreInOrder, SuspensionsAreRight, FrameIsLacking, AgainIsReady};
+
+/// What holds of a host after every list of events from an empty one, and of what a turn answers. The function does nothing; what
+/// it ensures are the laws.
+pub fn every_run()
+    ensures memory_is_sound { MemoryIsSound }
+    ensures places_are_right { PlacesAreRight }
+    ensures instances_replay { InstancesReplay }
+    ensures charges_are_within { ChargesAreWithin }
+    ensures journals_are_in_order { JournalsAreInOrder }
+    ensures suspensions_are_right { SuspensionsAreRight }
+    ensures frame_is_lacking { FrameIsLacking }
+    ensures again_is_ready { AgainIsReady }
+{}
