@@ -5,3 +5,5 @@ pub mod Keeping
 pub mod Running
 pub mod Empty
 pub mod Holding
+pub mod Stopping
+pub mod Agreeing

@@ -1,6 +1,6 @@
 //! The law over every run.
 
-ghost use Rattle.wh_host_model.specs.Host.Laws.{MemoryIsSound, PlacesAreRight, InstancesReplay, ChargesAreWithin, JournalsAreInOrder, SuspensionsAreRight, FrameIsLacking, AgainIsReady};
+ghost use Rattle.wh_host_model.specs.Host.Laws.{MemoryIsSound, PlacesAreRight, InstancesReplay, ChargesAreWithin, JournalsAreInOrder, SuspensionsAreRight, FrameIsLacking, AgainIsReady, OneTurn};
 
 /// What holds of a host after every list of events from an empty one, and of what a turn answers. The function does nothing; what
 /// it ensures are the laws.
@@ -13,4 +13,5 @@ pub fn every_run()
     ensures suspensions_are_right { SuspensionsAreRight }
     ensures frame_is_lacking { FrameIsLacking }
     ensures again_is_ready { AgainIsReady }
+    ensures one_turn { OneTurn }
 {}

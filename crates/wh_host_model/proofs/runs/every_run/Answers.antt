@@ -1,4 +1,5 @@
 use Rattle.wh_host_model.proofs.Host.Holding.{memory_is_sound, places_are_right, instances_replay, charges_are_within, journals_are_in_order, suspensions_are_right, frame_is_lacking, again_is_ready}
+use Rattle.wh_host_model.proofs.Host.Agreeing.{one_turn}
 use Rattle.wh_host_model.proofs.runs.every_run.Goals as goal
 
 pub returns-clause-memory_is_sound : goal.returns-clause-memory_is_sound
@@ -24,3 +25,6 @@ returns-clause-frame_is_lacking c = frame_is_lacking
 
 pub returns-clause-again_is_ready : goal.returns-clause-again_is_ready
 returns-clause-again_is_ready c = again_is_ready
+
+pub returns-clause-one_turn : goal.returns-clause-one_turn
+returns-clause-one_turn c = one_turn
