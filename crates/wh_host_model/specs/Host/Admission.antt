@@ -38,7 +38,8 @@ pub data LoadFault : Type 0 where
 abbrev pub RefusesLoad : World → List ℕ → LoadFault → Type 0
 RefusesLoad w bytes (broken kind offset) = IsBroken bytes kind offset
 RefusesLoad w bytes invalid = (m : Module) × IsModule bytes m × ¬ (Valid m × Fits m)
-RefusesLoad w bytes (unlinked fault place) = (m : Module) × IsModule bytes m × Valid m × Fits m × IsFirstFault m fault place
+RefusesLoad w bytes (unlinked fault place) =
+    (m : Module) × IsModule bytes m × Valid m × Fits m × IsFirstFault m fault place
 RefusesLoad w bytes modules_full = (m : Module) × CanLoad bytes m × (most_modules ≤ length w.modules)
 
 -- who may want memory, each where those before it are done: the decoder, the validator, the linker, and the host
@@ -113,14 +114,19 @@ IsFirstMet w k p fault =
 -- the start of an instance, as its journal has it
 abbrev pub start_entry : Option ℕ → ℕ → Outcome → Entry
 start_entry func fuel outcome =
-    record { call = record { func = func; args = []; fuel = fuel; fragments = 0; charges = 0; outcome = outcome }; given = [] }
+    record {
+      call = record { func = func; args = []; fuel = fuel; fragments = 0; charges = 0; outcome = outcome };
+      given = [];
+    }
 
 -- What an instance begins with: its start has pieces to write, or calls the start function, or has ended already.
-pub data BeginsWith (inst : Instance) (s : Store) (pieces : List Piece) (start : Option ℕ) (fuel : ℕ) : Doing → List Entry → List Entry → Type 0 where
+pub data BeginsWith (inst : Instance) (s : Store) (pieces : List Piece) (start : Option ℕ) (fuel : ℕ)
+    : Doing → List Entry → List Entry → Type 0 where
   writes : pieces ≢ [] → BeginsWith inst s pieces start fuel (has_left pieces) [] (start_entry start fuel pending ∷ [])
   runs : {x : ℕ} {d : Doing} → pieces ≡ [] → start ≡ Some x → Faces inst s (start_entry start fuel pending ∷ []) d
       → BeginsWith inst s pieces start fuel d [] (start_entry start fuel pending ∷ [])
-  ends : pieces ≡ [] → start ≡ None → BeginsWith inst s pieces start fuel resting (start_entry None fuel (returned []) ∷ []) []
+  ends : pieces ≡ [] → start ≡ None
+      → BeginsWith inst s pieces start fuel resting (start_entry None fuel (returned []) ∷ []) []
 
 abbrev pub rest_of : Store → Rest
 rest_of s = record { globals = s.globals; table = s.table; inputs = s.inputs; output = s.output }

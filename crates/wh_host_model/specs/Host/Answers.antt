@@ -19,7 +19,8 @@ use Rattle.wh_host_model.specs.Host.Turns.{Upshot, to_end, out_of_fuel, to_wait,
 
 -- the call has written so many more pieces and taken so many more charges
 abbrev pub further : Entry → ℕ → ℕ → Entry
-further e pieces charges = record e { call = record e.call { fragments = e.call.fragments + pieces; charges = e.call.charges + charges } }
+further e pieces charges =
+    record e { call = record e.call { fragments = e.call.fragments + pieces; charges = e.call.charges + charges } }
 
 abbrev pub ended_as : Entry → Outcome → Entry
 ended_as e o = record e { call = record e.call { outcome = o } }
@@ -38,12 +39,18 @@ abbrev pub dies : List Entry → Outcome → Bool
 dies [] o = fails o
 dies (e ∷ es) o = false
 
--- The present call has ended, and leaves this of the store: the next one is faced; or it is a start that has trapped or was
--- cancelled, and the waiting calls end as dead.
+-- The present call has ended, and leaves this of the store: the next one is faced; or it is a start that has trapped
+-- or was cancelled, and the waiting calls end as dead.
 pub data Closes (s : Space) (t : Tenant) (e : Entry) (waiting : List Entry) (r : Rest) : Tenant → Type 0 where
   faces_next : {d : Doing}
       → dies t.ended e.call.outcome ≡ false → Faces t.inst (store_with (view s t.place) r) waiting d
-      → Closes s t e waiting r (record t { rest = r; doing = d; ended = t.ended ++ e ∷ []; open_calls = waiting; stands_for = None })
+      → Closes s t e waiting r (record t {
+        rest = r;
+        doing = d;
+        ended = t.ended ++ e ∷ [];
+        open_calls = waiting;
+        stands_for = None;
+      })
   is_dead : dies t.ended e.call.outcome ≡ true
       → Closes s t e waiting r (record t {
         rest = r;
@@ -67,7 +74,8 @@ KeepsNoFault steps o = steps ≡ 0 → (fault : SwapError) → o ≢ Some (for_d
 
 -- the present call of an instance, over what it sees
 abbrev pub ProceedsIn : ℕ → Space → Tenant → Entry → Upshot → ℕ → ℕ → Space → Rest → Doing → Type 0
-ProceedsIn q s t e = Proceeds (λ x. view x t.place) (λ x. Ready x t.place) (StepsAlone t.place) t.inst q e.call s t.rest t.doing
+ProceedsIn q s t e =
+    Proceeds (λ x. view x t.place) (λ x. Ready x t.place) (StepsAlone t.place) t.inst q e.call s t.rest t.doing
 
 -- A turn of q charges of an instance: what it answers, the memory, and the instance.
 pub data Turn (q : ℕ) (s : Space) (t : Tenant) : TurnEnd → Space → Tenant → Type 0 where
@@ -88,7 +96,8 @@ pub data Turn (q : ℕ) (s : Space) (t : Tenant) : TurnEnd → Space → Tenant 
       → t.open_calls ≡ e ∷ es → ProceedsIn q s t e to_go_on k n s2 r d
       → StandsAlone t.place None s2 s3 → PinsEndAfter (k + n) s3 t.place → KeepsNoFault (k + n) t.stands_for
       → Turn q s t Again s3 (gone_on t (further e k n) es r d None)
-  -- a turn without charges of a call with a device fault, whose bytes are ready now: nothing was tried again, and nothing changes
+  -- a turn without charges of a call with a device fault, whose bytes are ready now: nothing was tried again, and
+  -- nothing changes
   keeps_its_fault : {e : Entry} {es : List Entry} {fault : SwapError} {term : Term}
       → t.open_calls ≡ e ∷ es → t.stands_for ≡ Some (for_device fault) → t.doing ≡ computing term → q ≡ 0
       → IsNext t.inst (config (store_in s t) [] term) → e.call.charges < e.call.fuel

@@ -31,17 +31,21 @@ most_fuel = 2 ^ 64 - 1
 
 -- a number that may be given for a parameter, signed or unsigned, and the value that it stands for
 abbrev pub IsArgument : ValType → ℤ → Value → Type 0
-IsArgument I32 n v = (negsuc 2147483647 ≤ℤ n) × (n ≤ℤ pos 4294967295) × (v ≡ value I32 (unsigned 32 n))
-IsArgument I64 n v = (negsuc 9223372036854775807 ≤ℤ n) × (n ≤ℤ pos 18446744073709551615) × (v ≡ value I64 (unsigned 64 n))
+IsArgument I32 n v =
+    (negsuc 2147483647 ≤ℤ n) × (n ≤ℤ pos 4294967295) × (v ≡ value I32 (unsigned 32 n))
+IsArgument I64 n v =
+    (negsuc 9223372036854775807 ≤ℤ n) × (n ≤ℤ pos 18446744073709551615) × (v ≡ value I64 (unsigned 64 n))
 
 -- one for each parameter
 abbrev pub AreArguments : List ValType → List ℤ → List Value → Type 0
 AreArguments [] [] vs = vs ≡ []
-AreArguments (t ∷ ts) (n ∷ ns) vs = (v : Value) × (rest : List Value) × IsArgument t n v × (vs ≡ v ∷ rest) × AreArguments ts ns rest
+AreArguments (t ∷ ts) (n ∷ ns) vs =
+    (v : Value) × (rest : List Value) × IsArgument t n v × (vs ≡ v ∷ rest) × AreArguments ts ns rest
 AreArguments ts ns vs = ⊥
 
 -- the module exports one of its own functions by this name
-pub record ExportsOwn (m : Module) (inst : Instance) (name : List ℕ) (x : ℕ) (type : FuncType) (body : Body) : Type 0 where
+pub record ExportsOwn (m : Module) (inst : Instance) (name : List ℕ) (x : ℕ) (type : FuncType) (body : Body)
+    : Type 0 where
   pub place : ℕ
   pub exported : slice_get m.exports place ≡ Some (record { name = name; kind = Func; index = x })
   pub is_own : slice_get inst.funcs x ≡ Some (own type body)
@@ -62,7 +66,8 @@ pub data InvokeFault : Type 0 where
 abbrev pub Meets : Module → Tenant → List ℕ → List ℤ → InvokeFault → Type 0
 Meets m t name given no_export = (x : ℕ) (type : FuncType) (body : Body) → ¬ (ExportsOwn m t.inst name x type body)
 Meets m t name given arguments =
-    (x : ℕ) (type : FuncType) (body : Body) (vs : List Value) → ExportsOwn m t.inst name x type body → ¬ (AreArguments type.params given vs)
+    (x : ℕ) (type : FuncType) (body : Body) (vs : List Value) → ExportsOwn m t.inst name x type body
+    → ¬ (AreArguments type.params given vs)
 Meets m t name given queue_full = most_open ≤ open_count t
 Meets m t name given instance_dead = t.dead ≡ true
 Meets m t name given journal_full = most_calls ≤ length (journal t)
@@ -82,10 +87,14 @@ IsFirst m t name given fault =
 -- the call as it is accepted
 abbrev pub new_entry : ℕ → List Value → List ℤ → ℕ → Entry
 new_entry x vs given fuel =
-    record { call = record { func = Some x; args = vs; fuel = fuel; fragments = 0; charges = 0; outcome = pending }; given = given }
+    record {
+      call = record { func = Some x; args = vs; fuel = fuel; fragments = 0; charges = 0; outcome = pending };
+      given = given;
+    }
 
 -- A call is accepted: it stands at the end of the journal, and is faced where no other is open.
-pub record TakesCall (m : Module) (s : Space) (t : Tenant) (name : List ℕ) (given : List ℤ) (fuel at : ℕ) (t2 : Tenant) : Type 0 where
+pub record TakesCall (m : Module) (s : Space) (t : Tenant) (name : List ℕ) (given : List ℤ) (fuel at : ℕ) (t2 : Tenant)
+    : Type 0 where
   pub func : ℕ
   pub type : FuncType
   pub body : Body
@@ -109,7 +118,8 @@ more_fuel e n = record e { call = record e.call { fuel = min (e.call.fuel + n) m
 
 -- with this fuel it stands for none, where it stood for it
 abbrev pub StandsAfter : Call → Option Suspension → Option Suspension → Type 0
-StandsAfter call (Some for_fuel) o = ((call.charges < call.fuel) × (o ≡ None)) ⊎ ((call.fuel ≤ call.charges) × (o ≡ Some for_fuel))
+StandsAfter call (Some for_fuel) o =
+    ((call.charges < call.fuel) × (o ≡ None)) ⊎ ((call.fuel ≤ call.charges) × (o ≡ Some for_fuel))
 StandsAfter call old o = o ≡ old
 
 -- the present call has so much more fuel
@@ -127,4 +137,5 @@ pub data Cancels (s : Space) (t : Tenant) : Space → Tenant → Type 0 where
 -- the present call stands for a device fault, and may be tried again
 pub data Retries (t : Tenant) : Tenant → Type 0 where
   may_try : {e : Entry} {es : List Entry} {fault : SwapError}
-      → t.open_calls ≡ e ∷ es → t.stands_for ≡ Some (for_device fault) → Retries t (record t { stands_for = Some for_frame })
+      → t.open_calls ≡ e ∷ es → t.stands_for ≡ Some (for_device fault)
+      → Retries t (record t { stands_for = Some for_frame })

@@ -54,7 +54,8 @@ pub data InvokeAnswer : Type 0 where
   invoke_refused : InvokeFault → InvokeAnswer
   invoke_wants_memory : InvokeAnswer
 
-pub data IsInvoke (w : World) (id : InstId) (name : List ℕ) (given : List ℤ) (fuel : ℕ) : InvokeAnswer → World → Type 0 where
+pub data IsInvoke (w : World) (id : InstId) (name : List ℕ) (given : List ℤ) (fuel : ℕ)
+    : InvokeAnswer → World → Type 0 where
   is_invoked : {t t2 : Tenant} {l : Loaded} {at : ℕ}
       → IsLive w id t → slice_get w.modules t.of ≡ Some l → TakesCall l.m w.space t name given fuel at t2
       → IsInvoke w id name given fuel (invoke_ok at) (with_tenant w id.number (Some t2) w.space)
@@ -73,7 +74,8 @@ pub data CallAnswer : Type 0 where
   call_no_call : CallAnswer
 
 pub data IsRefuel (w : World) (id : InstId) (n : ℕ) : CallAnswer → World → Type 0 where
-  is_refueled : {t t2 : Tenant} → IsLive w id t → Refuels t n t2 → IsRefuel w id n call_ok (with_tenant w id.number (Some t2) w.space)
+  is_refueled : {t t2 : Tenant} → IsLive w id t → Refuels t n t2
+      → IsRefuel w id n call_ok (with_tenant w id.number (Some t2) w.space)
   no_one_to_refuel : NoInstance w id → IsRefuel w id n call_no_instance w
   no_call_to_refuel : {t : Tenant} → IsLive w id t → t.open_calls ≡ [] → IsRefuel w id n call_no_call w
 
@@ -84,7 +86,8 @@ pub data IsCancel (w : World) (id : InstId) : CallAnswer → World → Type 0 wh
   no_call_to_cancel : {t : Tenant} → IsLive w id t → t.open_calls ≡ [] → IsCancel w id call_no_call w
 
 pub data IsRetry (w : World) (id : InstId) : CallAnswer → World → Type 0 where
-  is_retried : {t t2 : Tenant} → IsLive w id t → Retries t t2 → IsRetry w id call_ok (with_tenant w id.number (Some t2) w.space)
+  is_retried : {t t2 : Tenant} → IsLive w id t → Retries t t2
+      → IsRetry w id call_ok (with_tenant w id.number (Some t2) w.space)
   no_one_to_retry : NoInstance w id → IsRetry w id call_no_instance w
   no_fault_to_retry : {t : Tenant} → IsLive w id t → ((t2 : Tenant) → ¬ (Retries t t2)) → IsRetry w id call_no_call w
 
@@ -103,9 +106,11 @@ AwaitsFrame t = t.stands_for ≡ Some for_frame
 abbrev pub AwaitsFrameFor : ℕ → Tenant → Type 0
 AwaitsFrameFor call t = AwaitsFrame t × (length t.ended ≡ call)
 
--- Pages are moved or merged: every journal, store, configuration and view stays, frames, slots and tickets being any that are
--- sound. A device fault is kept with the call for which the device was called, while that is there and waits for a frame.
-pub data MovesPages (w : World) (id : InstId) (awaits : Tenant → Type 0) (fault : Option SwapError) : World → Type 0 where
+-- Pages are moved or merged: every journal, store, configuration and view stays, frames, slots and tickets being any
+-- that are sound. A device fault is kept with the call for which the device was called, while that is there and waits
+-- for a frame.
+pub data MovesPages (w : World) (id : InstId) (awaits : Tenant → Type 0) (fault : Option SwapError)
+    : World → Type 0 where
   moved : {s2 : Space} → AllLeftAlone w.space s2 → (fault ≡ None) ⊎ ((t : Tenant) → IsLive w id t → ¬ (awaits t))
       → MovesPages w id awaits fault (record w { space = s2 })
   has_failed : {t : Tenant} {e : SwapError} {s2 : Space}

@@ -27,7 +27,8 @@ pub record IsStart (m : Module) (e : Entry) : Type 0 where
 
 -- what it returned, if it did, has the types that its function declares; a start without a function returns nothing
 abbrev pub ReturnsTyped : Instance → Call → Outcome → Type 0
-ReturnsTyped inst call (returned results) = (call.func ≡ None → results ≡ []) × (¬ (call.func ≡ None) → HaveTypes inst call results)
+ReturnsTyped inst call (returned results) =
+    (call.func ≡ None → results ≡ []) × (¬ (call.func ≡ None) → HaveTypes inst call results)
 ReturnsTyped inst call other = Unit {0}
 
 -- it has ended by itself, or was cancelled
@@ -52,9 +53,9 @@ pub record IsDeadCall (inst : Instance) (e : Entry) : Type 0 where
   pub asked : IsAsked inst e
   pub is_dead : e.call.outcome ≡ dead
 
--- The calls of an instance, whether it is dead, those that have ended, and those that are open. The first is its start: it is
--- open, and so are all others; or it has ended well, and then calls may have ended, and others be open; or it has trapped or was
--- cancelled, and then the instance is dead, and so are all others.
+-- The calls of an instance, whether it is dead, those that have ended, and those that are open. The first is its
+-- start: it is open, and so are all others; or it has ended well, and then calls may have ended, and others be open;
+-- or it has trapped or was cancelled, and then the instance is dead, and so are all others.
 pub data InOrder (m : Module) (inst : Instance) : Bool → List Entry → List Entry → Type 0 where
   is_starting : {e : Entry} {es : List Entry}
       → IsStart m e → e.call.outcome ≡ pending → AllByRecursion (IsOpen inst) es → InOrder m inst false [] (e ∷ es)

@@ -25,7 +25,8 @@ use Rattle.wh_host_model.specs.Host.Standing.{StandsRightly}
 -- it holds after every list of events from an empty host
 abbrev pub AfterEvents : (World → Type 0) → Type 0
 AfterEvents P =
-    (frames slots : ℕ) (tax : Tax) (events : List Event) (w : World) → AllHappen (empty_world frames slots tax) events w → P w
+    (frames slots : ℕ) (tax : Tax) (events : List Event) (w : World)
+    → AllHappen (empty_world frames slots tax) events w → P w
 
 -- ---- the memory
 
@@ -36,7 +37,8 @@ MemoryIsSound = AfterEvents (λ w. IsSound w.space)
 pub record PlacesAreTenants (w : World) : Type 0 where
   pub claimed : (i : ℕ) (t : Tenant) → tenant w i ≡ Some t → claim w.space t.place ≡ Some (promised i t.params)
   pub apart : (i j : ℕ) (t u : Tenant) → tenant w i ≡ Some t → tenant w j ≡ Some u → t.place ≡ u.place → i ≡ j
-  pub all : (place : ℕ) (c : Claimed) → claim w.space place ≡ Some c → (i : ℕ) × (t : Tenant) × (tenant w i ≡ Some t) × (t.place ≡ place)
+  pub all : (place : ℕ) (c : Claimed) → claim w.space place ≡ Some c
+      → (i : ℕ) × (t : Tenant) × (tenant w i ≡ Some t) × (t.place ≡ place)
 
 abbrev pub PlacesAreRight : Type 0
 PlacesAreRight = AfterEvents PlacesAreTenants
@@ -47,9 +49,9 @@ PlacesAreRight = AfterEvents PlacesAreTenants
 abbrev pub EachHas : (World → Tenant → Type 0) → World → Type 0
 EachHas P w = (i : ℕ) (t : Tenant) → tenant w i ≡ Some t → P w t
 
--- An instance is what its journal comes to, from the beginning of the module that its bytes spell, with what it was given:
--- globals, table, output and configuration are those that its calls lead to, and so is its memory, which is what it sees. No
--- other instance is named.
+-- An instance is what its journal comes to, from the beginning of the module that its bytes spell, with what it was
+-- given: globals, table, output and configuration are those that its calls lead to, and so is its memory, which is
+-- what it sees. No other instance is named.
 pub record IsReplayed (w : World) (t : Tenant) : Type 0 where
   pub loaded : Loaded
   pub is_loaded : slice_get w.modules t.of ≡ Some loaded
@@ -92,7 +94,8 @@ FrameIsLacking =
 abbrev pub AgainIsReady : Type 0
 AgainIsReady =
     (q : ℕ) (s s2 : Space) (t t2 : Tenant) → Turn q s t Again s2 t2
-    → (term : Term) × (t2.doing ≡ computing term) × ((need : Need) → Asks t2.inst (config (store_in s2 t2) [] term) need → Ready s2 t2.place need)
+    → (term : Term) × (t2.doing ≡ computing term)
+    × ((need : Need) → Asks t2.inst (config (store_in s2 t2) [] term) need → Ready s2 t2.place need)
 
 -- which bytes are ready decides between Frame and another answer, and nothing else
 pub record SameTurn (a b : TurnEnd) (t t2 : Tenant) (s s2 : Space) : Type 0 where
@@ -102,5 +105,6 @@ pub record SameTurn (a b : TurnEnd) (t t2 : Tenant) (s s2 : Space) : Type 0 wher
 
 abbrev pub OneTurn : Type 0
 OneTurn =
-    (q : ℕ) (s s2 s3 : Space) (t t2 t3 : Tenant) (a b : TurnEnd) → Turn q s t a s2 t2 → Turn q s t b s3 t3 → a ≢ Frame → b ≢ Frame
+    (q : ℕ) (s s2 s3 : Space) (t t2 t3 : Tenant) (a b : TurnEnd)
+    → Turn q s t a s2 t2 → Turn q s t b s3 t3 → a ≢ Frame → b ≢ Frame
     → SameTurn a b t2 t3 s2 s3

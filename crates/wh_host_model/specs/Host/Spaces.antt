@@ -1,5 +1,5 @@
--- How the memory on which all instances lie may change under the instance at one place, and under the others. Frames, slots and
--- tickets are any that are sound.
+-- How the memory on which all instances lie may change under the instance at one place, and under the others. Frames,
+-- slots and tickets are any that are sound.
 use Rattle.std.specs.Prelude.{◌≡◌, ◌≢◌, ◌↔◌, ℕ, ◌≤◌, replicate, Option, Some, None}
 use Rattle.wh_model.specs.declared.memory.Need.{Need}
 use Rattle.wh_host_model.specs.Space.Parts.{Space, Claimed, view, claim, wants}
@@ -26,7 +26,8 @@ pub record StepsAlone (i : ℕ) (s s2 : Space) : Type 0 where
   pub claim : claim s2 i ≡ claim s i
   pub sound : IsSound s2
 
--- A turn or a request leaves it, and it stands for these bytes, or for none: it sees what it saw, and what was ready is ready.
+-- A turn or a request leaves it, and it stands for these bytes, or for none: it sees what it saw, and what was ready
+-- is ready.
 pub record StandsAlone (i : ℕ) (stands : Option Need) (s s2 : Space) : Type 0 where
   pub steps : StepsAlone i s s2
   pub view : view s2 i ≡ view s i

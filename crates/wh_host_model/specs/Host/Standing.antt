@@ -11,20 +11,21 @@ use Rattle.wh_model.specs.Replay.{Call}
 use Rattle.wh_host_model.specs.Space.Parts.{Space, wants}
 use Rattle.wh_host_model.specs.Host.Worlds.{Entry, Doing, has_left, computing, Suspension, for_fuel, for_frame, Tenant, store_in}
 
--- The next step over this store reads or writes these bytes: it writes the next piece; or fuel is left, and it is a charged
--- reduction that asks for them.
+-- The next step over this store reads or writes these bytes: it writes the next piece; or fuel is left, and it is a
+-- charged reduction that asks for them.
 pub data NextAsks (inst : Instance) (s : Store) (call : Call) : Doing → Need → Type 0 where
   a_piece : {p : Piece} {ps : List Piece} → NextAsks inst s call (has_left (p ∷ ps)) (writing p.at (length p.items))
   a_step : {term : Term} {need : Need}
       → call.charges < call.fuel → IsNext inst (config s [] term) → Asks inst (config s [] term) need
       → NextAsks inst s call (computing term) need
 
--- Where the call stands for fuel, all is used, and a charged reduction is next. Where it stands for a frame, or for a device
--- fault, the bytes that are wanted in memory are those of its next step. Else none are.
+-- Where the call stands for fuel, all is used, and a charged reduction is next. Where it stands for a frame, or for a
+-- device fault, the bytes that are wanted in memory are those of its next step. Else none are.
 abbrev pub StandsDuly : Instance → Store → Doing → Call → Option Need → Option Suspension → Type 0
 StandsDuly inst s d call wanted None = wanted ≡ None
 StandsDuly inst s d call wanted (Some for_fuel) =
-    (wanted ≡ None) × (call.charges ≡ call.fuel) × ((term : Term) × (d ≡ computing term) × IsNext inst (config s [] term))
+    (wanted ≡ None) × (call.charges ≡ call.fuel)
+    × ((term : Term) × (d ≡ computing term) × IsNext inst (config s [] term))
 StandsDuly inst s d call wanted (Some other) = (need : Need) × (wanted ≡ Some need) × NextAsks inst s call d need
 
 -- the first open call does so; without one the instance stands for nothing

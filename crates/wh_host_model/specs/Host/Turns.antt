@@ -14,8 +14,8 @@ use Rattle.wh_model.specs.Replay.{Outcome, returned, stopped, Call, Invocation}
 use Rattle.wh_model.specs.Taking.{Writes, Takes}
 use Rattle.wh_host_model.specs.Host.Worlds.{Rest, Doing, resting, has_left, computing, store_with}
 
--- The call is opened: all pieces that it has left are written, so many of them; and it is at its invocation with the uncharged
--- reductions after it, or where it was.
+-- The call is opened: all pieces that it has left are written, so many of them; and it is at its invocation with the
+-- uncharged reductions after it, or where it was.
 pub data Opens {M : Type 0} (bytes : M → List ℕ) (ready : M → Need → Type 0) (keeps : M → M → Type 0)
     (inst : Instance) (call : Call) (m : M) (r : Rest) : Doing → ℕ → M → Config → Type 0 where
   by_invocation : {ps : List Piece} {m1 : M} {c c1 : Config}
@@ -27,7 +27,8 @@ pub data Opens {M : Type 0} (bytes : M → List ℕ) (ready : M → Need → Typ
 
 -- In a turn of q charges the call is opened, and takes so many charges within its fuel.
 pub record Computes {M : Type 0} (bytes : M → List ℕ) (ready : M → Need → Type 0) (keeps : M → M → Type 0)
-    (inst : Instance) (q : ℕ) (call : Call) (m : M) (r : Rest) (d : Doing) (pieces charges : ℕ) (m2 : M) (c2 : Config) : Type 0 where
+    (inst : Instance) (q : ℕ) (call : Call) (m : M) (r : Rest) (d : Doing)
+    (pieces charges : ℕ) (m2 : M) (c2 : Config) : Type 0 where
   pub between : M
   pub opened : Config
   pub opens : Opens bytes ready keeps inst call m r d pieces between opened
@@ -52,13 +53,15 @@ pub data Upshot : Type 0 where
   to_wait : (need : Need) → Upshot
   to_go_on : Upshot
 
--- In a turn of q charges the call comes so far, with so many pieces and charges more; the memory, the rest of the store and where
--- it is then. Fuel is looked at before what is ready, and both before q.
+-- In a turn of q charges the call comes so far, with so many pieces and charges more; the memory, the rest of the
+-- store and where it is then. Fuel is looked at before what is ready, and both before q.
 pub data Proceeds {M : Type 0} (bytes : M → List ℕ) (ready : M → Need → Type 0) (keeps : M → M → Type 0)
-    (inst : Instance) (q : ℕ) (call : Call) (m : M) (r : Rest) (d : Doing) : Upshot → ℕ → ℕ → M → Rest → Doing → Type 0 where
+    (inst : Instance) (q : ℕ) (call : Call) (m : M) (r : Rest) (d : Doing)
+    : Upshot → ℕ → ℕ → M → Rest → Doing → Type 0 where
   -- it returns values of its result types, its charges with it
   returns : {k n : ℕ} {m2 : M} {r2 : Rest} {vs : List Value}
-      → Computes bytes ready keeps inst q call m r d k n m2 (config (store_with (bytes m2) r2) [] (code (reverse vs) nothing))
+      → Computes bytes ready keeps inst q call m r d k n m2
+        (config (store_with (bytes m2) r2) [] (code (reverse vs) nothing))
       → HaveTypes inst call vs
       → Proceeds bytes ready keeps inst q call m r d (to_end (returned vs)) k n m2 r2 resting
   -- or its last charge traps
@@ -83,7 +86,8 @@ pub data Proceeds {M : Type 0} (bytes : M → List ℕ) (ready : M → Need → 
   -- or the next piece isn't ready
   waits_to_write : {ps more : List Piece} {p : Piece} {m2 : M}
       → d ≡ has_left (ps ++ p ∷ more) → Writes bytes ready keeps m ps m2 → ¬ (ready m2 (writing p.at (length p.items)))
-      → Proceeds bytes ready keeps inst q call m r d (to_wait (writing p.at (length p.items))) (length ps) 0 m2 r (has_left (p ∷ more))
+      → Proceeds bytes ready keeps inst q call m r d (to_wait (writing p.at (length p.items)))
+        (length ps) 0 m2 r (has_left (p ∷ more))
   -- the turn's charges are taken, fuel is left, and what comes next is ready
   has_had_its_turn : {k n : ℕ} {m2 : M} {r2 : Rest} {term : Term}
       → Computes bytes ready keeps inst q call m r d k n m2 (config (store_with (bytes m2) r2) [] term)

@@ -11,8 +11,8 @@ use Rattle.wh_host_model.specs.Space.Parts.{Space, Claimed, view, empty_space}
 
 -- ---- what is known of an instance
 
--- What the owner of an instance gives it: its shares of memory, the least and the greatest number of frames, the fuel of its
--- start, and what the host's module is to offer it.
+-- What the owner of an instance gives it: its shares of memory, the least and the greatest number of frames, the fuel
+-- of its start, and what the host's module is to offer it.
 pub record Params : Type 0 where
   pub shares : ℕ
   pub min : ℕ
@@ -34,23 +34,23 @@ pub record Rest : Type 0 where
   pub inputs : List ℕ
   pub output : List ℕ
 
--- where the present call of an instance is: there is none; it has these pieces left to write; or it computes, and this is its
--- term (4.2.12), no frame being around
+-- where the present call of an instance is: there is none; it has these pieces left to write; or it computes, and
+-- this is its term (4.2.12), no frame being around
 pub data Doing : Type 0 where
   resting : Doing
   has_left : (pieces : List Piece) → Doing
   computing : (t : Term) → Doing
 
--- for what the present call stands: all its fuel is used; bytes of its next step aren't ready; or, such bytes being wanted, a
--- device call failed
+-- for what the present call stands: all its fuel is used; bytes of its next step aren't ready; or, such bytes being
+-- wanted, a device call failed
 pub data Suspension : Type 0 where
   for_fuel : Suspension
   for_frame : Suspension
   for_device : (fault : SwapError) → Suspension
 
--- An instance: its place in memory, which module it is of, what it was given, its module instance (4.2.5), its store but for
--- the memory, and where its present call is. Its journal is the calls that have ended, and then the open ones, the first of
--- which is the present one. It is dead where its start has trapped or was cancelled.
+-- An instance: its place in memory, which module it is of, what it was given, its module instance (4.2.5), its store
+-- but for the memory, and where its present call is. Its journal is the calls that have ended, and then the open
+-- ones, the first of which is the present one. It is dead where its start has trapped or was cancelled.
 pub record Tenant : Type 0 where
   pub place : ℕ
   pub of : ℕ
@@ -68,8 +68,8 @@ pub record Loaded : Type 0 where
   pub bytes : List ℕ
   pub m : Module
 
--- A host: the modules that were loaded, by their numbers; the instances that were admitted, by their numbers, each of them gone
--- or live; and the memory on which theirs lie. No number is used twice, since the lists only grow.
+-- A host: the modules that were loaded, by their numbers; the instances that were admitted, by their numbers, each of
+-- them gone or live; and the memory on which theirs lie. No number is used twice, since the lists only grow.
 pub record World : Type 0 where
   pub modules : List Loaded
   pub tenants : List (Option Tenant)
@@ -93,7 +93,8 @@ calls_of es = map (λ e. e.call) es
 
 -- the whole store of an instance whose memory has these bytes
 abbrev pub store_with : List ℕ → Rest → Store
-store_with bytes r = record { bytes = bytes; globals = r.globals; table = r.table; inputs = r.inputs; output = r.output }
+store_with bytes r =
+    record { bytes = bytes; globals = r.globals; table = r.table; inputs = r.inputs; output = r.output }
 
 -- what its first open call stands at
 abbrev pub standing_with : List ℕ → Rest → Doing → Standing
