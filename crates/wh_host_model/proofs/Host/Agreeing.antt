@@ -1,14 +1,14 @@
 -- A turn that isn't answered Frame is determined.
-use Rattle.std.proofs.Common.{◌≡◌, ◌≢◌, ℕ, ◌+◌, ◌<◌, ◌≤◌, true, false, List, [], ◌∷◌, ◌++◌, map, Option, Some, None, refl, sym, ap, subst, ◌∙◌, arith}
+use Rattle.std.proofs.Common.{◌≡◌, ◌≢◌, ℕ, ◌+◌, ◌<◌, true, false, List, [], ◌∷◌, ◌++◌, Option, Some, None, refl, sym, ap, subst, ◌∙◌, arith}
 use Rattle.wh_model.specs.Store.{Instance, Store}
 use Rattle.wh_model.specs.Configuration.{Term, config}
 use Rattle.wh_model.specs.Reduction.{stays, IsNext}
-use Rattle.wh_model.specs.Replay.{Outcome, dead, Call}
+use Rattle.wh_model.specs.Replay.{Outcome}
 use Rattle.wh_model.proofs.Journals.{invocation_same}
 use Rattle.wh_host_model.specs.declared.plain.TurnEnd.{TurnEnd}
-use Rattle.wh_host_model.specs.declared.plain.TurnEnd.TheVariants.{Idle, Again, Fuel, Frame, Ended}
+use Rattle.wh_host_model.specs.declared.plain.TurnEnd.TheVariants.{Again, Fuel, Frame, Ended}
 use Rattle.wh_host_model.specs.Space.Parts.{Space, view}
-use Rattle.wh_host_model.specs.Host.Worlds.{Entry, Rest, Doing, resting, computing, Suspension, for_fuel, Tenant, store_with, store_in}
+use Rattle.wh_host_model.specs.Host.Worlds.{Entry, Rest, Doing, computing, Suspension, for_fuel, Tenant, store_with, store_in}
 use Rattle.wh_host_model.specs.Host.Turns.{Upshot, to_end, out_of_fuel, to_go_on}
 use Rattle.wh_host_model.specs.Host.Answers.{further, ended_as, gone_on, Faces, Closes, faces_next, is_dead, Turn, is_idle, has_ended, has_no_fuel, has_no_frame, can_go_on, keeps_its_fault}
 use Rattle.wh_host_model.specs.Host.Admission.{rest_of}

@@ -1,16 +1,14 @@
 -- A host in which nothing was loaded or admitted.
-use Rattle.std.proofs.Common.{◌≡◌, ◌≢◌, ℕ, zero, suc, ◌+◌, ◌<◌, ◌≤◌, ◌⊎◌, ⊎_elim, inl, inr, min, Option, Some, None, List, [], ◌∷◌, length, get_or, slice_get, replicate, refl, sym, ap, subst, ◌∙◌, arith}
+use Rattle.std.proofs.Common.{◌≡◌, ℕ, zero, suc, ◌<◌, ◌≤◌, ◌⊎◌, ⊎_elim, inl, inr, Some, None, [], length, get_or, slice_get, replicate, refl, sym, ap, subst, ◌∙◌, arith}
 use Rattle.std.proofs.lemmas.List.{length-replicate}
 use Rattle.wh_host_model.specs.declared.Tax.{Tax}
-use Rattle.wh_host_model.specs.declared.states.Mark.{Mark}
 use Rattle.wh_host_model.specs.declared.states.Mark.TheVariants.{Plain}
-use Rattle.wh_host_model.specs.declared.states.Slot.{Slot}
 use Rattle.wh_host_model.specs.declared.states.Slot.TheVariants.{Vacant}
 use Rattle.wh_host_model.specs.Pages.{zero_page}
 use Rattle.wh_host_model.specs.Frames.{tally, one_if}
-use Rattle.wh_host_model.specs.Space.Parts.{Space, numbers_below, empty_space}
+use Rattle.wh_host_model.specs.Space.Parts.{numbers_below, empty_space}
 use Rattle.wh_host_model.specs.Space.Errands.{fetches_into}
-use Rattle.wh_host_model.specs.Space.Sound.{Names, HasHash, IsUsed, LeavesBy, FramesAreSound, SlotsAreSound, OccupantsAreSound, PinsAreSound, IsSound}
+use Rattle.wh_host_model.specs.Space.Sound.{Names, HasHash, IsUsed, LeavesBy, FramesAreSound, SlotsAreSound, OccupantsAreSound, IsSound}
 use Rattle.wh_host_model.specs.Host.Worlds.{empty_world}
 use Rattle.wh_host_model.proofs.Tally.{one_same, one_other}
 use Rattle.wh_host_model.proofs.PageLemmas.{length-zero_page}

@@ -1,29 +1,24 @@
 -- What is known of a host after every list of events.
-use Rattle.std.proofs.Common.{◌≡◌, ◌≢◌, ℕ, zero, suc, ◌+◌, ◌≤◌, Option, Some, None, List, [], ◌∷◌, ◌++◌, length, refl, sym, ap, subst, ◌∙◌, arith, length-append}
+use Rattle.std.proofs.Common.{◌≡◌, ℕ, ◌≤◌, Option, List, [], ◌∷◌, refl, sym, subst, arith, length-append}
 use Rattle.std.specs.List.{AllByRecursion}
 use Rattle.wh_model.specs.declared.memory.Need.{Need}
 use Rattle.wh_model.specs.Syntax.{Module}
-use Rattle.wh_model.specs.Store.{Instance, Store}
-use Rattle.wh_model.specs.Configuration.{Term, Config, config}
+use Rattle.wh_model.specs.Store.{Instance}
+use Rattle.wh_model.specs.Configuration.{Term, config}
 use Rattle.wh_model.specs.Asking.{Asks}
 use Rattle.wh_model.specs.Instance.{Parameters}
-use Rattle.wh_model.specs.Replay.{Call, Standing, Replays, Replay}
+use Rattle.wh_model.specs.Replay.{Call, Replays, Replay}
 use Rattle.wh_model.specs.ReplayLaws as laws
 use Rattle.wh_model.proofs.Histories.{replays_then}
 use Rattle.wh_model.proofs.Journals.{fuel_suffices}
-use Rattle.wh_host_model.specs.declared.plain.TurnEnd.{TurnEnd}
-use Rattle.wh_host_model.specs.declared.plain.TurnEnd.TheVariants.{Idle, Again, Fuel, Frame, Ended}
-use Rattle.wh_host_model.specs.Space.Parts.{Space, view, wants}
-use Rattle.wh_host_model.specs.Space.Ready.{Ready}
-use Rattle.wh_host_model.specs.Host.Worlds.{Entry, Rest, Doing, Tenant, World, computing, given_of, journal, calls_of, store_with, store_in, standing_with, standing_in, tenant, empty_world}
-use Rattle.wh_host_model.specs.Host.Turns.{Upshot, to_wait, to_go_on, Proceeds, waits, waits_to_write, has_had_its_turn}
-use Rattle.wh_host_model.specs.Host.Answers.{Turn, has_no_frame, can_go_on, keeps_its_fault, ProceedsIn}
-use Rattle.wh_host_model.specs.Host.Journals.{InOrder}
-use Rattle.wh_host_model.specs.Host.Laws.{MemoryIsSound, PlacesAreRight, IsReplayed, InstancesReplay, ChargesAreWithin, HasJournal, JournalsAreInOrder, SuspensionsAreRight, FrameIsLacking, AgainIsReady}
+use Rattle.wh_host_model.specs.Host.Worlds.{Entry, Rest, Doing, Tenant, computing, journal, calls_of, store_with, standing_with, standing_in, empty_world}
+use Rattle.wh_host_model.specs.Host.Turns.{to_wait, to_go_on, Proceeds, waits, waits_to_write, has_had_its_turn}
+use Rattle.wh_host_model.specs.Host.Answers.{has_no_frame, can_go_on, keeps_its_fault}
+use Rattle.wh_host_model.specs.Host.Laws.{MemoryIsSound, PlacesAreRight, InstancesReplay, ChargesAreWithin, JournalsAreInOrder, SuspensionsAreRight, FrameIsLacking, AgainIsReady}
 use Rattle.wh_host_model.proofs.Host.Entries.{now_replays, calls_join}
 use Rattle.wh_host_model.proofs.Host.Ordered.{order_journal}
 use Rattle.wh_host_model.proofs.Host.Keeping.{Kept}
-use Rattle.wh_host_model.proofs.Host.Running.{IsGood, good_run}
+use Rattle.wh_host_model.proofs.Host.Running.{good_run}
 use Rattle.wh_host_model.proofs.Host.Empty.{good_empty}
 
 -- ---- each law from what is kept

@@ -1,10 +1,9 @@
 -- Each event that touches an instance keeps it what its journal comes to.
-use Rattle.std.proofs.Common.{◌≡◌, ◌≢◌, ℕ, suc, zero, ◌+◌, ◌<◌, ◌≤◌, ◌⊎◌, ⊎_elim, false, Option, Some, None, List, [], ◌∷◌, ◌++◌, length, map, take, drop, min, refl, sym, ap, subst, ◌∙◌, arith, ℤ, append_assoc, length-append}
+use Rattle.std.proofs.Common.{◌≡◌, ◌≢◌, ℕ, suc, zero, ◌+◌, ◌<◌, ◌≤◌, ⊎_elim, false, Option, Some, None, List, [], ◌∷◌, ◌++◌, length, map, take, drop, min, refl, sym, ap, subst, ◌∙◌, arith, ℤ, append_assoc, length-append}
 use Rattle.std.specs.List.{AllByRecursion}
 use Rattle.wh_model.specs.declared.memory.Need.{Need}
 use Rattle.wh_model.specs.Syntax.{Module}
 use Rattle.wh_model.specs.Store.{Value, Instance, Store}
-use Rattle.wh_model.specs.Configuration.{Term, config}
 use Rattle.wh_model.specs.Instance.{Piece, Parameters, AreGiven, IsInitial, begins}
 use Rattle.wh_model.specs.Replay as replays
 use Rattle.wh_model.specs.Replay.{Outcome, returned, stopped, cancelled, dead, pending, Call, with_pieces, Ends, Standing, idle, writing, running, store_at, Stands, has_pieces, is_invoked, is_under_way, Waits}
@@ -18,11 +17,11 @@ use Rattle.wh_host_model.specs.Space.Parts.{Space, view, wants}
 use Rattle.wh_host_model.specs.Host.Spaces.{StandsAlone}
 use Rattle.wh_host_model.specs.Host.Worlds.{Params, Rest, Doing, resting, has_left, computing, Suspension, for_fuel, for_frame, for_device, Tenant, Entry, calls_of, store_with, store_in, standing_with}
 use Rattle.wh_host_model.specs.Host.Turns.{HaveTypes, Upshot, to_end, out_of_fuel, to_wait, to_go_on, Proceeds, returns, traps, writes_all, uses_fuel, waits, waits_to_write, has_had_its_turn}
-use Rattle.wh_host_model.specs.Host.Answers.{further, ended_as, gone_on, Faces, dies, Closes, faces_next, is_dead, at_frame, Turn, is_idle, has_ended, has_no_fuel, has_no_frame, can_go_on, keeps_its_fault}
+use Rattle.wh_host_model.specs.Host.Answers.{further, ended_as, gone_on, Faces, Closes, faces_next, is_dead, at_frame, Turn, is_idle, has_ended, has_no_fuel, has_no_frame, can_go_on, keeps_its_fault}
 use Rattle.wh_host_model.specs.Host.Calls as requests
 use Rattle.wh_host_model.specs.Host.Calls.{most_fuel, most_calls, new_entry, TakesCall, more_fuel, StandsAfter, Refuels, has_more, Cancels, Retries, may_try}
 use Rattle.wh_host_model.specs.Host.Admission.{start_entry, BeginsWith, writes, runs, ends, rest_of}
-use Rattle.wh_host_model.specs.Host.Journals.{IsAsked, IsOpen, ReturnsTyped, HasEnded, InOrder, is_starting, has_started}
+use Rattle.wh_host_model.specs.Host.Journals.{IsOpen, ReturnsTyped, HasEnded, InOrder, is_starting, has_started}
 use Rattle.wh_host_model.specs.Host.Standing.{NextAsks, a_piece, a_step, StandsDuly, FirstStandsDuly}
 use Rattle.wh_host_model.proofs.Host.Entries.{Now, faces_now, past_dead, calls_join, all_join, joined, invoked_alike}
 use Rattle.wh_host_model.proofs.Host.Ordered.{SameCall, order_on, order_ends, order_dies, order_comes, order_fuel}

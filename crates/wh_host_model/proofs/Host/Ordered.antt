@@ -1,5 +1,5 @@
 -- What turns and requests make of the order of an instance's calls.
-use Rattle.std.proofs.Common.{◌≡◌, ℕ, ◌≤◌, Bool, true, false, List, [], ◌∷◌, ◌++◌, map, refl, sym, ap, subst, None, Some, append_assoc}
+use Rattle.std.proofs.Common.{◌≡◌, ◌≤◌, Bool, true, false, List, [], ◌∷◌, ◌++◌, map, refl, sym, subst}
 use Rattle.std.specs.Bool.{MatchBool}
 use Rattle.std.specs.List.{AllByRecursion}
 use Rattle.wh_model.specs.Syntax.{Module}
@@ -7,7 +7,7 @@ use Rattle.wh_model.specs.Store.{Instance}
 use Rattle.wh_model.specs.Replay.{Outcome, returned, stopped, cancelled, dead, pending, Call, fails, NamesFunction, IsDead, IsNotDead, IsJournal}
 use Rattle.wh_host_model.specs.Host.Worlds.{Entry, calls_of}
 use Rattle.wh_host_model.specs.Host.Answers.{ended_as, dies}
-use Rattle.wh_host_model.specs.Host.Calls.{most_fuel, AreArguments}
+use Rattle.wh_host_model.specs.Host.Calls.{most_fuel}
 use Rattle.wh_host_model.specs.Host.Journals.{IsAsked, IsStart, ReturnsTyped, HasEnded, IsEnded, IsOpen, IsDeadCall, InOrder, is_starting, has_started, has_died}
 use Rattle.wh_host_model.proofs.Host.Entries.{all_join}
 

@@ -1,7 +1,6 @@
 -- Every event keeps every instance what its journal comes to.
-use Rattle.std.proofs.Common.{◌≡◌, ◌≢◌, ℕ, ℤ, false, zero, suc, ◌*◌, ◌<◌, ◌≤◌, ◌⊎◌, ⊎_elim, inl, inr, Option, Some, None, List, [], ◌∷◌, ◌++◌, length, get_or, slice_get, slice_set, replicate, refl, sym, ap, subst, ◌∙◌, arith}
+use Rattle.std.proofs.Common.{◌≡◌, ◌≢◌, ℕ, ℤ, zero, suc, ◌*◌, ◌<◌, ◌⊎◌, ⊎_elim, inl, inr, Option, Some, None, List, [], ◌∷◌, ◌++◌, length, get_or, slice_get, slice_set, replicate, refl, sym, ap, subst, ◌∙◌, arith}
 use Rattle.std.proofs.lemmas.List.{get_or-set_same, get_or-set_other, length-replicate}
-use Rattle.wh_model.specs.declared.memory.Need.{Need}
 use Rattle.wh_model.specs.Syntax.{Module}
 use Rattle.wh_model.specs.Store.{Instance, Store}
 use Rattle.wh_model.specs.Instance.{Parameters, Piece, Beginning, IsInitial, needs_more, out_of_bounds, in_bounds, begins, first_size}
@@ -12,7 +11,7 @@ use Rattle.wh_host_model.specs.Space.Parts.{Space, Claimed, Occupant, view, clai
 use Rattle.wh_host_model.specs.Space.Sound.{IsSound}
 use Rattle.wh_host_model.specs.Space.Places.{IsFreePlace}
 use Rattle.wh_host_model.specs.Host.Spaces.{LeftAlone, AllLeftAlone}
-use Rattle.wh_host_model.specs.Host.Worlds.{Entry, Params, Rest, Tenant, Loaded, World, Suspension, for_fuel, for_frame, for_device, given_of, promised, tenant, with_tenant}
+use Rattle.wh_host_model.specs.Host.Worlds.{Entry, Params, Rest, Tenant, Loaded, World, for_device, given_of, promised, tenant, with_tenant}
 use Rattle.wh_host_model.specs.Host.Answers.{Closes, faces_next, is_dead, Turn, is_idle, has_ended, has_no_fuel, has_no_frame, can_go_on, keeps_its_fault}
 use Rattle.wh_host_model.specs.Host.Calls.{TakesCall, Refuels, has_more, Cancels, Retries, may_try}
 use Rattle.wh_host_model.specs.Host.Calls as requests
