@@ -7,3 +7,4 @@ pub mod Empty
 pub mod Holding
 pub mod Stopping
 pub mod Agreeing
+pub mod Leaving
