@@ -1,19 +1,24 @@
 -- The memory's own relations lead to those that the host's definitions use.
-use Rattle.std.proofs.Common.{◌≡◌, ◌≢◌, ℕ, ◌+◌, ◌*◌, ◌<◌, ◌≤◌, ◌++◌, ◌⊎◌, ⊎_elim, inl, inr, cond, Bool, true, false, List, [], ◌∷◌, Option, Some, None, zero, suc, length, get_or, slice_get, slice_set, replicate, refl, sym, ap, subst, ◌∙◌, arith, length-append}
+use Rattle.std.proofs.Common.{◌≡◌, ℕ, ◌+◌, ◌*◌, ◌<◌, ◌≤◌, inl, inr, ◌==◌, cond, Bool, true, false, List, [], ◌∷◌, Option, Some, None, zero, suc, length, get_or, slice_get, refl, sym, ap, subst, ◌∙◌, arith, length-append}
 use Rattle.std.proofs.lemmas.List.{get_or-set_same, get_or-set_other}
 use Rattle.wh_model.specs.declared.memory.Need.{Need}
-use Rattle.wh_host_model.specs.declared.states.Offer.{Offer}
 use Rattle.wh_host_model.specs.Space.States.{joined}
-use Rattle.wh_host_model.specs.Space.Parts.{Space, Occupant, Pins, Claimed, occupant_at, all_bytes, view, claim, claim_of, wants, need_of, kept, kept_by, pinned_by}
+use Rattle.wh_host_model.specs.Space.Parts.{Space, Occupant, Pins, Claimed, occupant_at, all_bytes, claim_of, need_of, kept, kept_by, pinned_by}
 use Rattle.wh_host_model.specs.Space.Sound.{IsSound}
 use Rattle.wh_host_model.specs.Space.Ready.{Ready, may_take}
-use Rattle.wh_host_model.specs.Space.Moves.{has_pins, unpinned, unpinned_of}
-use Rattle.wh_host_model.specs.Space.Places.{IsFreePlace, newcomer, Enters, with_row}
+use Rattle.wh_host_model.specs.Space.Moves.{has_pins, unpinned}
+use Rattle.wh_host_model.specs.Space.Places.{IsFreePlace, newcomer, Enters, Exits, with_row}
+use Rattle.wh_host_model.specs.Space.Errands.{ticket_of}
+use Rattle.wh_host_model.specs.Space.Tickets.{stays_occupant}
+use Rattle.wh_host_model.specs.Frames.{tally}
+use Rattle.wh_host_model.proofs.Space.Entered.{enters_soundly, enters_at_zeros}
+use Rattle.wh_host_model.proofs.Space.Rows.{same_there, row_same, row_other}
+use Rattle.std.proofs.lemmas.Bool.Decides.{nat_tests}
 use Rattle.wh_host_model.specs.Space.Stores.{Epochs, Touches, standing_for, stood, ended}
 use Rattle.wh_host_model.specs.Space.Sight.{HasNoPins}
-use Rattle.wh_host_model.proofs.Space.Quiet.{steps_quiet, enters_own, pins_end}
+use Rattle.wh_host_model.proofs.Space.Quiet.{steps_quiet, enters_own, exits_own, pins_end}
 use Rattle.wh_host_model.proofs.Space.Steady.{touches_soundly, epochs_soundly, stands_soundly, ends_soundly}
-use Rattle.wh_host_model.specs.Host.Spaces.{LeftAlone, OthersLeftAlone, AllLeftAlone, StepsAlone, StandsAlone, Arrives}
+use Rattle.wh_host_model.specs.Host.Spaces.{AllLeftAlone, StepsAlone, StandsAlone, Arrives, Departs}
 
 -- ---- nothing, and what changes nobody's bytes
 
@@ -57,12 +62,12 @@ stood_alone s i t need sound is live fits =
     let quiet = steps_quiet s i in
     let bytes : all_bytes (stood s i need) ≡ all_bytes s = quiet.stands need in
     let now : get_or (stood s i need).occupants i None ≡ Some (record t { stands = need }) =
-        get_or-set_same s.occupants i (standing_for (get_or s.occupants i None) need) None there.0 ∙ ap (λ o. standing_for o need) there.1 in
+    get_or-set_same s.occupants i (standing_for (get_or s.occupants i None) need) None there.0 ∙ ap (λ o. standing_for o need) there.1 in
     record {
       steps = record {
         others = λ j other.
-        let same = get_or-set_other s.occupants i j (standing_for (get_or s.occupants i None) need) None other in
-        record { view = ap (λ (b : List (List (List ℕ))). joined (get_or b j [])) bytes; wants = ap need_of same; claim = ap claim_of same };
+            let same = get_or-set_other s.occupants i j (standing_for (get_or s.occupants i None) need) None other in
+            record { view = ap (λ (b : List (List (List ℕ))). joined (get_or b j [])) bytes; wants = ap need_of same; claim = ap claim_of same };
         claim = ap claim_of now ∙ sym (ap claim_of there.1);
         sound = stands_soundly s i t need sound is (λ want e. let f = fits want e in (live, f.0, f.1));
       };
@@ -120,3 +125,74 @@ ended_alone s i t sound is live =
       },
       both.0,
     )
+
+-- ---- arrivals and departures
+
+free_within : (s : Space) (i : ℕ) → IsFreePlace s i → i ≤ length s.occupants
+free_within s i (inl e) = go s.occupants i e where
+  go : (xs : List (Option Occupant)) (i : ℕ) → slice_get xs i ≡ Some None → i ≤ length xs
+  go [] i e = absurd (cc e)
+  go (x ∷ xs) zero e = omega arith
+  go (x ∷ xs) (suc i) e = let h = go xs i e in omega (arith, h)
+free_within s i (inr e) = omega (arith, e)
+
+nobody_there : (s : Space) (i : ℕ) (t : Occupant) → IsFreePlace s i → occupant_at s i t → ⊥
+nobody_there s i t (inl e) is = let no : Some None ≡ Some (Some t) = sym e ∙ is in cc no
+nobody_there s i t (inr e) is = let h = within s.occupants i t is in let lt = h.0 in omega (arith, lt, e)
+
+free_unpinned : (s : Space) (i : ℕ) → IsSound s → IsFreePlace s i → (pins : Option Pins) → s.pins ≡ pins → (b : Bool) → has_pins pins i ≡ b → (kept_by pins i ≡ []) × (pinned_by pins i ≡ [])
+free_unpinned s i sound free None e b test = (refl, refl)
+free_unpinned s i sound free (Some pins) e false test = (rw test refl, rw test refl)
+free_unpinned s i sound free (Some pins) e true test =
+    let found = sound.pins.of pins e in
+    let here : pins.place ≡ i = same_place pins.place i test in
+    absurd (nobody_there s i found.0 free (subst (λ n. occupant_at s n found.0) here found.1)) where
+      same_place : (m n : ℕ) → (m == n) ≡ true → m ≡ n
+      same_place m n h = grind (arith, nat_tests)
+
+pub enters_alone : (s : Space) (i : ℕ) (c : Claimed) (size : ℕ) (s2 : Space) → IsSound s → Enters s i c size s2 → Arrives i c (65536 * size) s s2
+enters_alone s i c size s2 sound e =
+    let low = free_within s i e.free in
+    let rows : s2.occupants ≡ with_row s.occupants i (Some (newcomer c)) = ap (λ (z : Space). z.occupants) e.leaves in
+    let pins : s2.pins ≡ s.pins = ap (λ (z : Space). z.pins) e.leaves in
+    let now : get_or s2.occupants i None ≡ Some (newcomer c) = (let h = within s2.occupants i (newcomer c) (ap (λ (xs : List (Option Occupant)). slice_get xs i) rows ∙ row_same s.occupants i (Some (newcomer c)) low) in h.1) in
+    let none = free_unpinned s i sound e.free s.pins refl (has_pins s.pins i) refl in
+    record {
+      free = e.free;
+      others = λ j other.
+          let same : get_or s2.occupants j None ≡ get_or s.occupants j None =
+          ap (λ (xs : List (Option Occupant)). get_or xs j None) rows ∙ same_there (with_row s.occupants i (Some (newcomer c))) s.occupants j None (row_other s.occupants i j (Some (newcomer c)) low other) in
+          record { view = enters_own s i c size s2 sound e j other; wants = ap need_of same; claim = ap claim_of same };
+      view = enters_at_zeros s i c size s2 sound e;
+      wants = ap need_of now;
+      claim = ap claim_of now;
+      unpinned = (ap (λ p. kept_by p i) pins ∙ none.0, ap (λ p. pinned_by p i) pins ∙ none.1);
+      sound = enters_soundly s i c size s2 sound e;
+    }
+
+gone_claims : (t : Occupant) (n : ℕ) → (claim_of (stays_occupant (Some (record t { live = false; stands = None })) n) ≡ None) × (need_of (stays_occupant (Some (record t { live = false; stands = None })) n) ≡ None)
+gone_claims t n = go (n == 0) refl where
+  go : (b : Bool) → (n == 0) ≡ b → (claim_of (cond b None (Some (record t { live = false; stands = None }))) ≡ None) × (need_of (cond b None (Some (record t { live = false; stands = None }))) ≡ None)
+  go true e = (refl, refl)
+  go false e = (refl, refl)
+
+-- that a release leaves the memory sound is taken as given
+pub exits_alone : (s : Space) (i : ℕ) (s2 : Space) → Exits s i s2 → IsSound s2 → Departs i s s2
+exits_alone s i s2 e sound =
+    let t : Occupant = e.occupant in
+    let n : ℕ = tally (ticket_of i) s.slots.uses in
+    let new : Option Occupant = stays_occupant (Some (record t { live = false; stands = None })) n in
+    let there = within s.occupants i t (let was = e.was in was.0) in
+    let now : get_or s2.occupants i None ≡ new = ap (λ (xs : List (Option Occupant)). get_or xs i None) e.occupants ∙ get_or-set_same s.occupants i new None there.0 in
+    let gone = gone_claims t n in
+    let views = exits_own s i s2 e in
+    let ends = pins_end s i in
+    record {
+      others = λ j other.
+          let same : get_or s2.occupants j None ≡ get_or s.occupants j None = ap (λ (xs : List (Option Occupant)). get_or xs j None) e.occupants ∙ get_or-set_other s.occupants i j new None other in
+          record { view = views.1 j other; wants = ap need_of same; claim = ap claim_of same };
+      claim = ap claim_of now ∙ gone.0;
+      wants = ap need_of now ∙ gone.1;
+      unpinned = ends.1 s2 e;
+      sound = sound;
+    }

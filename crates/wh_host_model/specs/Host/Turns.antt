@@ -61,7 +61,7 @@ pub data Proceeds {M : Type 0} (bytes : M → List ℕ) (ready : M → Need → 
   -- it returns values of its result types, its charges with it
   returns : {k n : ℕ} {m2 : M} {r2 : Rest} {vs : List Value}
       → Computes bytes ready keeps inst q call m r d k n m2
-        (config (store_with (bytes m2) r2) [] (code (reverse vs) nothing))
+      (config (store_with (bytes m2) r2) [] (code (reverse vs) nothing))
       → HaveTypes inst call vs
       → Proceeds bytes ready keeps inst q call m r d (to_end (returned vs)) k n m2 r2 resting
   -- or its last charge traps
@@ -87,7 +87,7 @@ pub data Proceeds {M : Type 0} (bytes : M → List ℕ) (ready : M → Need → 
   waits_to_write : {ps more : List Piece} {p : Piece} {m2 : M}
       → d ≡ has_left (ps ++ p ∷ more) → Writes bytes ready keeps m ps m2 → ¬ (ready m2 (writing p.at (length p.items)))
       → Proceeds bytes ready keeps inst q call m r d (to_wait (writing p.at (length p.items)))
-        (length ps) 0 m2 r (has_left (p ∷ more))
+      (length ps) 0 m2 r (has_left (p ∷ more))
   -- the turn's charges are taken, fuel is left, and what comes next is ready
   has_had_its_turn : {k n : ℕ} {m2 : M} {r2 : Rest} {term : Term}
       → Computes bytes ready keeps inst q call m r d k n m2 (config (store_with (bytes m2) r2) [] term)
