@@ -11,6 +11,7 @@ use Rattle.wh_host_model.specs.Space.Places.{IsFreePlace, newcomer, Enters, Exit
 use Rattle.wh_host_model.specs.Space.Errands.{ticket_of}
 use Rattle.wh_host_model.specs.Space.Tickets.{stays_occupant}
 use Rattle.wh_host_model.specs.Frames.{tally}
+use Rattle.wh_host_model.proofs.Space.Exited.{exits_soundly}
 use Rattle.wh_host_model.proofs.Space.Entered.{enters_soundly, enters_at_zeros}
 use Rattle.wh_host_model.proofs.Space.Rows.{same_there, row_same, row_other}
 use Rattle.std.proofs.lemmas.Bool.Decides.{nat_tests}
@@ -176,9 +177,8 @@ gone_claims t n = go (n == 0) refl where
   go true e = (refl, refl)
   go false e = (refl, refl)
 
--- that a release leaves the memory sound is taken as given
-pub exits_alone : (s : Space) (i : ℕ) (s2 : Space) → Exits s i s2 → IsSound s2 → Departs i s s2
-exits_alone s i s2 e sound =
+pub exits_alone : (s : Space) (i : ℕ) (s2 : Space) → IsSound s → Exits s i s2 → Departs i s s2
+exits_alone s i s2 sound e =
     let t : Occupant = e.occupant in
     let n : ℕ = tally (ticket_of i) s.slots.uses in
     let new : Option Occupant = stays_occupant (Some (record t { live = false; stands = None })) n in
@@ -194,5 +194,5 @@ exits_alone s i s2 e sound =
       claim = ap claim_of now ∙ gone.0;
       wants = ap need_of now ∙ gone.1;
       unpinned = ends.1 s2 e;
-      sound = sound;
+      sound = exits_soundly s i s2 sound e;
     }
