@@ -8,3 +8,4 @@ pub mod Holding
 pub mod Stopping
 pub mod Agreeing
 pub mod Leaving
+pub mod Moving

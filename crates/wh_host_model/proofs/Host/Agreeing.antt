@@ -10,7 +10,7 @@ use Rattle.wh_host_model.specs.declared.plain.TurnEnd.TheVariants.{Again, Fuel, 
 use Rattle.wh_host_model.specs.Space.Parts.{Space, view}
 use Rattle.wh_host_model.specs.Host.Worlds.{Entry, Rest, Doing, computing, Suspension, for_fuel, Tenant, store_with, store_in}
 use Rattle.wh_host_model.specs.Host.Turns.{Upshot, to_end, out_of_fuel, to_go_on}
-use Rattle.wh_host_model.specs.Host.Answers.{further, ended_as, gone_on, Faces, Closes, faces_next, is_dead, Turn, is_idle, has_ended, has_no_fuel, has_no_frame, can_go_on, keeps_its_fault}
+use Rattle.wh_host_model.specs.Host.Answers.{gone_further, ended_by, gone_on, Faces, Closes, faces_next, is_dead, Turn, is_idle, has_ended, has_no_fuel, has_no_frame, can_go_on, keeps_its_fault}
 use Rattle.wh_host_model.specs.Host.Admission.{rest_of}
 use Rattle.wh_host_model.specs.Host.Laws.{SameTurn, OneTurn}
 use Rattle.wh_host_model.proofs.Host.Stopping.{Reached, by_steps, at_turn, is_settled, reached, SameReach, reach_same}
@@ -73,7 +73,7 @@ closes_place (is_dead d) = refl
 outcome_same : (o o2 : Outcome) → to_end o ≡ to_end o2 → o ≡ o2
 outcome_same o o2 e = cc e
 
-entry_same : {e e2 : Entry} {k k2 n n2 : ℕ} → e ≡ e2 → k ≡ k2 → n ≡ n2 → further e k n ≡ further e2 k2 n2
+entry_same : {e e2 : Entry} {k k2 n n2 : ℕ} → e ≡ e2 → k ≡ k2 → n ≡ n2 → gone_further e k n ≡ gone_further e2 k2 n2
 entry_same a b c = rw (a, b, c) refl
 
 gone_same : (t : Tenant) (o : Option Suspension) {e e2 : Entry} {es es2 : List Entry} {r r2 : Rest} {d d2 : Doing} → e ≡ e2 → es ≡ es2 → r ≡ r2 → d ≡ d2 → gone_on t e es r d o ≡ gone_on t e2 es2 r2 d2 o
@@ -83,19 +83,19 @@ gone_same t o a b c d = rw (a, b, c, d) refl
 ends_same : {q k k2 n n2 : ℕ} (s s2 s3 s4 s5 : Space) (t : Tenant) {t2 t3 : Tenant} {e e2 : Entry} {es es2 : List Entry} (o o2 : Outcome) {r r2 : Rest} {d d2 : Doing} → t.open_calls ≡ e ∷ es → t.open_calls ≡ e2 ∷ es2
     → Reached t.inst q e.call (store_in s t) t.doing (to_end o) k n (store_with (view s2 t.place) r) d → Reached t.inst q e2.call (store_in s t) t.doing (to_end o2) k2 n2 (store_with (view s3 t.place) r2) d2
     → view s4 t.place ≡ view s2 t.place → view s5 t.place ≡ view s3 t.place
-    → Closes s4 t (ended_as (further e k n) o) es r t2 → Closes s5 t (ended_as (further e2 k2 n2) o2) es2 r2 t3 → SameTurn Ended Ended t2 t3 s4 s5
+    → Closes s4 t (ended_by (gone_further e k n) o) es r t2 → Closes s5 t (ended_by (gone_further e2 k2 n2) o2) es2 r2 t3 → SameTurn Ended Ended t2 t3 s4 s5
 ends_same {k = k} {k2 = k2} {n = n} {n2 = n2} s s2 s3 s4 s5 t {t2 = t2} {t3 = t3} {e = e} {e2 = e2} {es = es} {es2 = es2} o o2 {r = r} {r2 = r2} x y g h v w c c2 =
     let both = reaches s t x y g h in
     let stop = both.stop in
     let eq = sym x ∙ y in
-    let entry : ended_as (further e k n) o ≡ ended_as (further e2 k2 n2) o2 =
-    ap (λ z. ended_as z o) (entry_same (head_same e e2 es es2 eq) both.pieces both.charges) ∙ ap (ended_as (further e2 k2 n2)) (outcome_same o o2 stop.upshots) in
+    let entry : ended_by (gone_further e k n) o ≡ ended_by (gone_further e2 k2 n2) o2 =
+    ap (λ z. ended_by z o) (entry_same (head_same e e2 es es2 eq) both.pieces both.charges) ∙ ap (ended_by (gone_further e2 k2 n2)) (outcome_same o o2 stop.upshots) in
     let rests : r ≡ r2 = rest_same (view s2 t.place) (view s3 t.place) r r2 stop.stores in
     let seen : view s4 t.place ≡ view s5 t.place = v ∙ bytes_same (view s2 t.place) (view s3 t.place) r r2 stop.stores ∙ sym w in
-    let c3 : Closes s5 t (ended_as (further e k n) o) es r t3 =
+    let c3 : Closes s5 t (ended_by (gone_further e k n) o) es r t3 =
     subst (λ z. Closes s5 t z es r t3) (sym entry)
-    (subst (λ z. Closes s5 t (ended_as (further e2 k2 n2) o2) z r t3) (sym (tail_same e e2 es es2 eq))
-    (subst (λ z. Closes s5 t (ended_as (further e2 k2 n2) o2) es2 z t3) (sym rests) c2)) in
+    (subst (λ z. Closes s5 t (ended_by (gone_further e2 k2 n2) o2) z r t3) (sym (tail_same e e2 es es2 eq))
+    (subst (λ z. Closes s5 t (ended_by (gone_further e2 k2 n2) o2) es2 z t3) (sym rests) c2)) in
     record {
       answers = refl;
       tenants = closes_same seen c c3;
@@ -106,7 +106,7 @@ ends_same {k = k} {k2 = k2} {n = n} {n2 = n2} s s2 s3 s4 s5 t {t2 = t2} {t3 = t3
 on_same : {q k k2 n n2 : ℕ} (a : TurnEnd) (s s2 s3 s4 s5 : Space) (t : Tenant) (to : Upshot) (stands : Option Suspension) {e e2 : Entry} {es es2 : List Entry} {r r2 : Rest} {d d2 : Doing} → t.open_calls ≡ e ∷ es → t.open_calls ≡ e2 ∷ es2
     → Reached t.inst q e.call (store_in s t) t.doing to k n (store_with (view s2 t.place) r) d → Reached t.inst q e2.call (store_in s t) t.doing to k2 n2 (store_with (view s3 t.place) r2) d2
     → view s4 t.place ≡ view s2 t.place → view s5 t.place ≡ view s3 t.place
-    → SameTurn a a (gone_on t (further e k n) es r d stands) (gone_on t (further e2 k2 n2) es2 r2 d2 stands) s4 s5
+    → SameTurn a a (gone_on t (gone_further e k n) es r d stands) (gone_on t (gone_further e2 k2 n2) es2 r2 d2 stands) s4 s5
 on_same a s s2 s3 s4 s5 t to stands {e = e} {e2 = e2} {es = es} {es2 = es2} {r = r} {r2 = r2} x y g h v w =
     let both = reaches s t x y g h in
     let stop = both.stop in

@@ -7,8 +7,8 @@ use Rattle.wh_model.specs.Instance.{Piece}
 use Rattle.wh_model.specs.Replay.{dead, pending, Call, Invocation, never_began, Standing, idle, Stands, is_invoked, Waits, Replays, at_rest, at_work}
 use Rattle.wh_model.specs.Histories.{Past, none_yet, one_more}
 use Rattle.wh_model.proofs.Histories.{past_then}
-use Rattle.wh_host_model.specs.Host.Worlds.{Entry, Rest, Doing, calls_of, store_with, standing_with}
-use Rattle.wh_host_model.specs.Host.Answers.{ended_as, Faces}
+use Rattle.wh_host_model.specs.Host.Worlds.{Entry, Rest, Doing, journal_calls, store_with, standing_with}
+use Rattle.wh_host_model.specs.Host.Answers.{ended_by, Faces}
 
 -- ---- calls that are open
 
@@ -22,7 +22,7 @@ now_replays (call ∷ cs) h = at_work h.0 h.1 h.2
 
 -- ---- lists of entries
 
-pub calls_join : (xs ys : List Entry) → calls_of (xs ++ ys) ≡ calls_of xs ++ calls_of ys
+pub calls_join : (xs ys : List Entry) → journal_calls (xs ++ ys) ≡ journal_calls xs ++ journal_calls ys
 calls_join [] ys = refl
 calls_join (x ∷ xs) ys = ap (λ zs. x.call ∷ zs) (calls_join xs ys)
 
@@ -30,7 +30,7 @@ pub all_join : {A : Type 0} (P : A → Type 0) (xs ys : List A) → AllByRecursi
 all_join P [] ys p q = q
 all_join P (x ∷ xs) ys p q = (p.0, all_join P xs ys p.1 q)
 
-pub joined : {inst : Instance} {s0 s1 s2 : Store} {ps0 ps1 ps2 : List Piece} (xs ys : List Entry) → Past inst s0 ps0 (calls_of xs) s1 ps1 → Past inst s1 ps1 (calls_of ys) s2 ps2 → Past inst s0 ps0 (calls_of (xs ++ ys)) s2 ps2
+pub joined : {inst : Instance} {s0 s1 s2 : Store} {ps0 ps1 ps2 : List Piece} (xs ys : List Entry) → Past inst s0 ps0 (journal_calls xs) s1 ps1 → Past inst s1 ps1 (journal_calls ys) s2 ps2 → Past inst s0 ps0 (journal_calls (xs ++ ys)) s2 ps2
 joined {inst} {s0} {s2 = s2} {ps0 = ps0} {ps2 = ps2} xs ys p q = subst (λ cs. Past inst s0 ps0 cs s2 ps2) (sym (calls_join xs ys)) (past_then p q)
 
 -- ---- one invocation, of a call of the same function with the same arguments
@@ -49,7 +49,7 @@ invoked_alike {inst = inst} {s = s} {call = call} {c = c} call2 i f a = record {
 
 -- ---- the next call, over the store that the ones before it have left
 
-pub faces_now : (inst : Instance) (bytes : List ℕ) (r : Rest) (es : List Entry) (d : Doing) → AllByRecursion Waits (calls_of es) → Faces inst (store_with bytes r) es d → Now inst (store_with bytes r) [] (calls_of es) (standing_with bytes r d)
+pub faces_now : (inst : Instance) (bytes : List ℕ) (r : Rest) (es : List Entry) (d : Doing) → AllByRecursion Waits (journal_calls es) → Faces inst (store_with bytes r) es d → Now inst (store_with bytes r) [] (journal_calls es) (standing_with bytes r d)
 faces_now inst bytes r [] d w f = (refl, ap (standing_with bytes r) f)
 faces_now inst bytes r (e ∷ es) d w f =
     let waits = w.0 in (
@@ -59,6 +59,6 @@ faces_now inst bytes r (e ∷ es) d w f =
     )
 
 -- the calls behind a start that has died
-pub past_dead : (inst : Instance) (s : Store) (es : List Entry) → AllByRecursion Waits (calls_of es) → Past inst s [] (calls_of (map (λ e. ended_as e dead) es)) s []
+pub past_dead : (inst : Instance) (s : Store) (es : List Entry) → AllByRecursion Waits (journal_calls es) → Past inst s [] (journal_calls (map (λ e. ended_by e dead) es)) s []
 past_dead inst s [] w = none_yet
 past_dead inst s (e ∷ es) w = let waits = w.0 in one_more (never_began refl waits.fragments waits.charges) (past_dead inst s es w.1)

@@ -11,7 +11,7 @@ use Rattle.wh_model.specs.Replay.{Call, Replays, Replay}
 use Rattle.wh_model.specs.ReplayLaws as laws
 use Rattle.wh_model.proofs.Histories.{replays_then}
 use Rattle.wh_model.proofs.Journals.{fuel_suffices}
-use Rattle.wh_host_model.specs.Host.Worlds.{Entry, Rest, Doing, Tenant, computing, journal, calls_of, store_with, standing_with, standing_in, empty_world}
+use Rattle.wh_host_model.specs.Host.Worlds.{Entry, Rest, Doing, Tenant, computing, journal, journal_calls, store_with, standing_with, standing_in, empty_world}
 use Rattle.wh_host_model.specs.Host.Turns.{to_wait, to_go_on, Proceeds, waits, waits_to_write, has_had_its_turn}
 use Rattle.wh_host_model.specs.Host.Answers.{has_no_frame, can_go_on, keeps_its_fault}
 use Rattle.wh_host_model.specs.Host.Laws.{MemoryIsSound, PlacesAreRight, InstancesReplay, ChargesAreWithin, JournalsAreInOrder, SuspensionsAreRight, FrameIsLacking, AgainIsReady}
@@ -31,11 +31,11 @@ places_are_right frames slots tax events w r =
     let good = good_run events (empty_world frames slots tax) w (good_empty frames slots tax) r in
     record { claimed = λ i t x. let f = good.each i t x in f.claimed; apart = good.apart; all = good.owned }
 
-kept_replays : {m : Module} {p : Parameters} {t : Tenant} {bytes : List ℕ} {want : Option Need} (k : Kept m p t bytes want) → Replays t.inst k.s0 k.ps0 (calls_of (journal t)) (standing_with bytes t.rest t.doing)
+kept_replays : {m : Module} {p : Parameters} {t : Tenant} {bytes : List ℕ} {want : Option Need} (k : Kept m p t bytes want) → Replays t.inst k.s0 k.ps0 (journal_calls (journal t)) (standing_with bytes t.rest t.doing)
 kept_replays {t = t} {bytes = bytes} k =
-    subst (λ cs. Replays t.inst k.s0 k.ps0 cs (standing_with bytes t.rest t.doing)) (sym (calls_join t.ended t.open_calls)) (replays_then k.past (now_replays (calls_of t.open_calls) k.now))
+    subst (λ cs. Replays t.inst k.s0 k.ps0 cs (standing_with bytes t.rest t.doing)) (sym (calls_join t.ended t.open_calls)) (replays_then k.past (now_replays (journal_calls t.open_calls) k.now))
 
-kept_replay : {m : Module} {p : Parameters} {t : Tenant} {bytes : List ℕ} {want : Option Need} → Kept m p t bytes want → Replay m p (calls_of (journal t)) (standing_with bytes t.rest t.doing)
+kept_replay : {m : Module} {p : Parameters} {t : Tenant} {bytes : List ℕ} {want : Option Need} → Kept m p t bytes want → Replay m p (journal_calls (journal t)) (standing_with bytes t.rest t.doing)
 kept_replay {m = m} {p = p} {t = t} {bytes = bytes} k =
     let z = standing_with bytes t.rest t.doing in
     let parted = order_journal k.order in
@@ -49,7 +49,7 @@ instances_replay frames slots tax events w r i t x =
     let k = f.kept in
     record { loaded = f.loaded; is_loaded = f.is_loaded; accepted = good.modules t.of f.loaded f.is_loaded; first = k.s0; pieces = k.ps0; initial = k.initial; replay = kept_replay k }
 
-entries_within : (es : List Entry) → AllByRecursion laws.WithinFuel (calls_of es) → AllByRecursion (λ e. e.call.charges ≤ e.call.fuel) es
+entries_within : (es : List Entry) → AllByRecursion laws.WithinFuel (journal_calls es) → AllByRecursion (λ e. e.call.charges ≤ e.call.fuel) es
 entries_within [] h = tt
 entries_within (e ∷ es) h = (h.0, entries_within es h.1)
 
@@ -58,7 +58,7 @@ charges_are_within frames slots tax events w r i t x =
     let good = good_run events (empty_world frames slots tax) w (good_empty frames slots tax) r in
     let f = good.each i t x in
     let k = f.kept in
-    entries_within (journal t) (fuel_suffices t.inst k.s0 k.ps0 (calls_of (journal t)) (standing_in w.space t) (kept_replays k))
+    entries_within (journal t) (fuel_suffices t.inst k.s0 k.ps0 (journal_calls (journal t)) (standing_in w.space t) (kept_replays k))
 
 pub journals_are_in_order : JournalsAreInOrder
 journals_are_in_order frames slots tax events w r i t x =

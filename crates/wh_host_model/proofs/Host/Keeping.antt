@@ -15,13 +15,13 @@ use Rattle.std.proofs.Math.Seq.{take-append_seam, drop-append_seam}
 use Rattle.wh_host_model.specs.declared.plain.TurnEnd.{TurnEnd}
 use Rattle.wh_host_model.specs.Space.Parts.{Space, view, wants}
 use Rattle.wh_host_model.specs.Host.Spaces.{StandsAlone}
-use Rattle.wh_host_model.specs.Host.Worlds.{Params, Rest, Doing, resting, has_left, computing, Suspension, for_fuel, for_frame, for_device, Tenant, Entry, calls_of, store_with, store_in, standing_with}
+use Rattle.wh_host_model.specs.Host.Worlds.{Params, Rest, Doing, resting, has_left, computing, Suspension, for_fuel, for_frame, for_device, Tenant, Entry, journal_calls, store_with, store_in, standing_with}
 use Rattle.wh_host_model.specs.Host.Turns.{HaveTypes, Upshot, to_end, out_of_fuel, to_wait, to_go_on, Proceeds, returns, traps, writes_all, uses_fuel, waits, waits_to_write, has_had_its_turn}
-use Rattle.wh_host_model.specs.Host.Answers.{further, ended_as, gone_on, Faces, Closes, faces_next, is_dead, at_frame, Turn, is_idle, has_ended, has_no_fuel, has_no_frame, can_go_on, keeps_its_fault}
+use Rattle.wh_host_model.specs.Host.Answers.{gone_further, ended_by, gone_on, Faces, Closes, faces_next, is_dead, at_frame, Turn, is_idle, has_ended, has_no_fuel, has_no_frame, can_go_on, keeps_its_fault}
 use Rattle.wh_host_model.specs.Host.Calls as requests
 use Rattle.wh_host_model.specs.Host.Calls.{most_fuel, most_calls, new_entry, TakesCall, more_fuel, StandsAfter, Refuels, has_more, Cancels, Retries, may_try}
-use Rattle.wh_host_model.specs.Host.Admission.{start_entry, BeginsWith, writes, runs, ends, rest_of}
-use Rattle.wh_host_model.specs.Host.Journals.{IsOpen, ReturnsTyped, HasEnded, InOrder, is_starting, has_started}
+use Rattle.wh_host_model.specs.Host.Admission.{start_entry, StartsAs, writes, runs, ends, rest_of}
+use Rattle.wh_host_model.specs.Host.Journals.{IsOpenCall, ReturnsTyped, HasEnded, InOrder, is_starting, has_started}
 use Rattle.wh_host_model.specs.Host.Standing.{NextAsks, a_piece, a_step, StandsDuly, FirstStandsDuly}
 use Rattle.wh_host_model.proofs.Host.Entries.{Now, faces_now, past_dead, calls_join, all_join, joined, invoked_alike}
 use Rattle.wh_host_model.proofs.Host.Ordered.{SameCall, order_on, order_ends, order_dies, order_comes, order_fuel}
@@ -36,8 +36,8 @@ pub record Kept (m : Module) (p : Parameters) (t : Tenant) (bytes : List ℕ) (w
   pub initial : IsInitial m p (begins t.inst s0 ps0)
   pub s1 : Store
   pub ps1 : List Piece
-  pub past : Past t.inst s0 ps0 (calls_of t.ended) s1 ps1
-  pub now : Now t.inst s1 ps1 (calls_of t.open_calls) (standing_with bytes t.rest t.doing)
+  pub past : Past t.inst s0 ps0 (journal_calls t.ended) s1 ps1
+  pub now : Now t.inst s1 ps1 (journal_calls t.open_calls) (standing_with bytes t.rest t.doing)
   pub order : InOrder m t.inst t.dead t.ended t.open_calls
   pub few : length t.ended + length t.open_calls ≤ most_calls
   pub duly : FirstStandsDuly t.inst (store_with bytes t.rest) t.doing t.open_calls want t.stands_for
@@ -50,17 +50,17 @@ record Present (m : Module) (p : Parameters) (t : Tenant) (bytes : List ℕ) (wa
   initial : IsInitial m p (begins t.inst s0 ps0)
   s1 : Store
   ps1 : List Piece
-  past : Past t.inst s0 ps0 (calls_of t.ended) s1 ps1
+  past : Past t.inst s0 ps0 (journal_calls t.ended) s1 ps1
   pending : e.call.outcome ≡ pending
   stands : Stands t.inst s1 ps1 e.call (standing_with bytes t.rest t.doing)
-  waits : AllByRecursion Waits (calls_of es)
+  waits : AllByRecursion Waits (journal_calls es)
   order : InOrder m t.inst t.dead t.ended (e ∷ es)
   few : length t.ended + suc (length es) ≤ most_calls
   duly : StandsDuly t.inst (store_with bytes t.rest) t.doing e.call want t.stands_for
 
 present : {m : Module} {p : Parameters} {t : Tenant} {bytes : List ℕ} {want : Option Need} {e : Entry} {es : List Entry} → Kept m p t bytes want → t.open_calls ≡ e ∷ es → Present m p t bytes want e es
 present {m = m} {t = t} {bytes = bytes} {want = want} k same =
-    let now = subst (λ xs. Now t.inst k.s1 k.ps1 (calls_of xs) (standing_with bytes t.rest t.doing)) same k.now in
+    let now = subst (λ xs. Now t.inst k.s1 k.ps1 (journal_calls xs) (standing_with bytes t.rest t.doing)) same k.now in
     record {
       given = k.given;
       s0 = k.s0;
@@ -106,12 +106,12 @@ closes_kept {t = t} {es = es} pr e2 s3 r end same h typed none (is_dead died) = 
   initial = pr.initial;
   s1 = store_with (view s3 t.place) r;
   ps1 = [];
-  past = joined t.ended (e2 ∷ map (λ w. ended_as w dead) es) pr.past (one_more end (past_dead t.inst (store_with (view s3 t.place) r) es pr.waits));
+  past = joined t.ended (e2 ∷ map (λ w. ended_by w dead) es) pr.past (one_more end (past_dead t.inst (store_with (view s3 t.place) r) es pr.waits));
   now = (refl, refl);
   order = order_dies e2 same h died pr.order;
   few =
-      let n = length-append t.ended (e2 ∷ map (λ w. ended_as w dead) es) in
-      let l = length-map es (λ w. ended_as w dead) in
+      let n = length-append t.ended (e2 ∷ map (λ w. ended_by w dead) es) in
+      let l = length-map es (λ w. ended_by w dead) in
       let few = pr.few in
       omega (arith, n, l, few);
   duly = (none, refl);
@@ -165,10 +165,10 @@ all_written r m m2 ps (is_under_way p l i b z) e w func = absurd (cc e)
 
 -- what a turn makes of a call, in the journal's words
 abbrev Makes : {M : Type 0} (bytes : M → List ℕ) (inst : Instance) (s1 : Store) (ps1 : List Piece) (e : Entry) (k n : ℕ) (m2 : M) (r2 : Rest) (d2 : Doing) → Upshot → Type 0
-Makes bytes inst s1 ps1 e k n m2 r2 d2 (to_end o) = Ends inst s1 ps1 (ended_as (further e k n) o).call (store_with (bytes m2) r2) × HasEnded o × ReturnsTyped inst (ended_as (further e k n) o).call o
-Makes bytes inst s1 ps1 e k n m2 r2 d2 out_of_fuel = Stands inst s1 ps1 (further e k n).call (standing_with (bytes m2) r2 d2) × StandsDuly inst (store_with (bytes m2) r2) d2 (further e k n).call None (Some for_fuel)
-Makes bytes inst s1 ps1 e k n m2 r2 d2 (to_wait need) = Stands inst s1 ps1 (further e k n).call (standing_with (bytes m2) r2 d2) × NextAsks inst (store_with (bytes m2) r2) (further e k n).call d2 need
-Makes bytes inst s1 ps1 e k n m2 r2 d2 to_go_on = Stands inst s1 ps1 (further e k n).call (standing_with (bytes m2) r2 d2)
+Makes bytes inst s1 ps1 e k n m2 r2 d2 (to_end o) = Ends inst s1 ps1 (ended_by (gone_further e k n) o).call (store_with (bytes m2) r2) × HasEnded o × ReturnsTyped inst (ended_by (gone_further e k n) o).call o
+Makes bytes inst s1 ps1 e k n m2 r2 d2 out_of_fuel = Stands inst s1 ps1 (gone_further e k n).call (standing_with (bytes m2) r2 d2) × StandsDuly inst (store_with (bytes m2) r2) d2 (gone_further e k n).call None (Some for_fuel)
+Makes bytes inst s1 ps1 e k n m2 r2 d2 (to_wait need) = Stands inst s1 ps1 (gone_further e k n).call (standing_with (bytes m2) r2 d2) × NextAsks inst (store_with (bytes m2) r2) (gone_further e k n).call d2 need
+Makes bytes inst s1 ps1 e k n m2 r2 d2 to_go_on = Stands inst s1 ps1 (gone_further e k n).call (standing_with (bytes m2) r2 d2)
 
 types_alike : {inst : Instance} {call : Call} {vs : List Value} (call2 : Call) → call2.func ≡ call.func → HaveTypes inst call vs → HaveTypes inst call2 vs
 types_alike call2 f h = record { index = h.index; type = h.type; body = h.body; calls = let g = h.calls in cc (f, g); is_own = h.is_own; types = h.types; fit = h.fit }
@@ -180,28 +180,28 @@ makes : {M : Type 0} {bytes : M → List ℕ} {ready : M → Need → Type 0} {k
     → Stands inst s1 ps1 e.call (standing_with (bytes m) r d) → Proceeds bytes ready keeps inst q e.call m r d to k n m2 r2 d2 → Makes bytes inst s1 ps1 e k n m2 r2 d2 to
 makes e {k = k} {n = n} st (returns {vs = vs} x typed) =
     let o = computes_call st x in
-    let e2 : Entry = ended_as (further e k n) (returned vs) in (
+    let e2 : Entry = ended_by (gone_further e k n) (returned vs) in (
       replays.has_returned refl o.written x.in_fuel (invoked_alike e2.call o.invoked refl refl) o.after,
       tt,
       (λ none. some_func typed none, λ some. types_alike e2.call refl typed),
     )
 makes e {k = k} {n = n} st (traps {x = trap} x) =
     let o = computes_call st x in
-    let e2 : Entry = ended_as (further e k n) (stopped trap) in
+    let e2 : Entry = ended_by (gone_further e k n) (stopped trap) in
     (replays.has_trapped refl o.written x.in_fuel (invoked_alike e2.call o.invoked refl refl) o.after, tt, tt)
 makes {bytes = bytes} e {m = m} {m2 = m2} {r = r} st (writes_all {ps = ps} d f w) = (all_written r m m2 ps st (ap (standing_with (bytes m) r) d) w f, tt, (λ none. refl, λ some. absurd (some f)))
 makes e {k = k} {n = n} st (uses_fuel {term = term} x next u) =
-    let o = computes_call st x in (is_under_way o.written x.in_fuel (invoked_alike (further e k n).call o.invoked refl refl) o.after next, (refl, u, (term, refl, next)))
+    let o = computes_call st x in (is_under_way o.written x.in_fuel (invoked_alike (gone_further e k n).call o.invoked refl refl) o.after next, (refl, u, (term, refl, next)))
 makes e {k = k} {n = n} st (waits x next u a v) =
-    let o = computes_call st x in (is_under_way o.written x.in_fuel (invoked_alike (further e k n).call o.invoked refl refl) o.after next, a_step u next a)
+    let o = computes_call st x in (is_under_way o.written x.in_fuel (invoked_alike (gone_further e k n).call o.invoked refl refl) o.after next, a_step u next a)
 makes {bytes = bytes} e {m = m} {m2 = m2} {r = r} st (waits_to_write {ps = ps} {more = more} {p = p} d w v) = (more_written r m m2 ps (p ∷ more) st (ap (standing_with (bytes m) r) d) (never_none p more) w, a_piece)
 makes e {k = k} {n = n} st (has_had_its_turn x next u v y) =
-    let o = computes_call st x in is_under_way o.written x.in_fuel (invoked_alike (further e k n).call o.invoked refl refl) o.after next
+    let o = computes_call st x in is_under_way o.written x.in_fuel (invoked_alike (gone_further e k n).call o.invoked refl refl) o.after next
 
 on_kept : {m : Module} {p : Parameters} {bytes : List ℕ} {want : Option Need} {s2 s3 : Space} {t : Tenant} {e : Entry} {es : List Entry} (k n : ℕ) {r : Rest} {d : Doing} (o : Option Suspension) (stands : Option Need) (pr : Present m p t bytes want e es)
-    → Stands t.inst pr.s1 pr.ps1 (further e k n).call (standing_with (view s2 t.place) r d)
-    → StandsDuly t.inst (store_with (view s2 t.place) r) d (further e k n).call stands o → StandsAlone t.place stands s2 s3
-    → Kept m p (gone_on t (further e k n) es r d o) (view s3 t.place) (wants s3 t.place)
+    → Stands t.inst pr.s1 pr.ps1 (gone_further e k n).call (standing_with (view s2 t.place) r d)
+    → StandsDuly t.inst (store_with (view s2 t.place) r) d (gone_further e k n).call stands o → StandsAlone t.place stands s2 s3
+    → Kept m p (gone_on t (gone_further e k n) es r d o) (view s3 t.place) (wants s3 t.place)
 on_kept {s2 = s2} {s3 = s3} {t = t} {e = e} k n {r = r} {d = d} o stands pr at duly leaves = record {
   given = pr.given;
   s0 = pr.s0;
@@ -210,12 +210,12 @@ on_kept {s2 = s2} {s3 = s3} {t = t} {e = e} k n {r = r} {d = d} o stands pr at d
   s1 = pr.s1;
   ps1 = pr.ps1;
   past = pr.past;
-  now = (pr.pending, subst (λ b. Stands t.inst pr.s1 pr.ps1 (further e k n).call (standing_with b r d)) (sym leaves.view) at, pr.waits);
-  order = order_on (further e k n) (record { func = refl; args = refl; given = refl; fuel = λ h. h }) pr.pending pr.order;
+  now = (pr.pending, subst (λ b. Stands t.inst pr.s1 pr.ps1 (gone_further e k n).call (standing_with b r d)) (sym leaves.view) at, pr.waits);
+  order = order_on (gone_further e k n) (record { func = refl; args = refl; given = refl; fuel = λ h. h }) pr.pending pr.order;
   few = pr.few;
   duly =
-      subst (λ w. StandsDuly t.inst (store_with (view s3 t.place) r) d (further e k n).call w o) (sym leaves.wants)
-      (subst (λ b. StandsDuly t.inst (store_with b r) d (further e k n).call stands o) (sym leaves.view) duly);
+      subst (λ w. StandsDuly t.inst (store_with (view s3 t.place) r) d (gone_further e k n).call w o) (sym leaves.wants)
+      (subst (λ b. StandsDuly t.inst (store_with b r) d (gone_further e k n).call stands o) (sym leaves.view) duly);
 }
 
 frame_duly : {inst : Instance} {s : Store} {d : Doing} {call : Call} {need : Need} (j : ℕ) (o : Option Suspension) → NextAsks inst s call d need → StandsDuly inst s d call (Some need) (at_frame j o)
@@ -229,7 +229,7 @@ pub turn_kept : {m : Module} {p : Parameters} {q : ℕ} {s s2 : Space} {t t2 : T
 turn_kept k (is_idle none) = k
 turn_kept {t = t} k (has_ended {e = e} {es = es} {o = o} {k = pieces} {n = n} {s2 = s2} {s3 = s3} {r = r} there g leaves pins c) =
     let pr = present k there in
-    let e2 : Entry = ended_as (further e pieces n) o in
+    let e2 : Entry = ended_by (gone_further e pieces n) o in
     let made = makes e pr.stands g in
     closes_kept pr e2 s3 r (subst (λ b. Ends t.inst pr.s1 pr.ps1 e2.call (store_with b r)) (sym leaves.view) made.0) (record { func = refl; args = refl; given = refl; fuel = λ h. h }) made.1 made.2 leaves.wants c
 turn_kept {t = t} k (has_no_fuel {e = e} {k = pieces} {n = n} {r = r} {d = d} there g leaves pins) =
@@ -250,7 +250,7 @@ store_there b r (computing t) = refl
 pub cancel_kept : {m : Module} {p : Parameters} {s s2 : Space} {t t2 : Tenant} → Kept m p t (view s t.place) (wants s t.place) → Cancels s t s2 t2 → Kept m p t2 (view s2 t.place) (wants s2 t.place)
 cancel_kept {s = s} {s2 = s2} {t = t} k (requests.ends {e = e} there leaves pins c) =
     let pr = present k there in
-    let e2 : Entry = ended_as e cancelled in
+    let e2 : Entry = ended_by e cancelled in
     let b = view s t.place in
     let stays : Ends t.inst pr.s1 pr.ps1 e2.call (store_at (standing_with b t.rest t.doing)) = cancelled_stays t.inst pr.s1 pr.ps1 e.call (standing_with b t.rest t.doing) pr.stands in
     let end : Ends t.inst pr.s1 pr.ps1 e2.call (store_with b t.rest) = subst (λ x. Ends t.inst pr.s1 pr.ps1 e2.call x) (store_there b t.rest t.doing) stays in
@@ -335,7 +335,7 @@ retry_kept k (may_try there stands) = faulted_kept k stands (λ e. cc e) (λ e. 
 
 -- ---- a new call
 
-new_waits : (x : ℕ) (vs : List Value) (given : List ℤ) (fuel : ℕ) → AllByRecursion Waits (calls_of (new_entry x vs given fuel ∷ []))
+new_waits : (x : ℕ) (vs : List Value) (given : List ℤ) (fuel : ℕ) → AllByRecursion Waits (journal_calls (new_entry x vs given fuel ∷ []))
 new_waits x vs given fuel = (record { outcome = refl; fragments = refl; charges = refl }, tt)
 
 idle_store : (b : List ℕ) (r : Rest) (d : Doing) (s : Store) → standing_with b r d ≡ idle s → store_with b r ≡ s
@@ -344,11 +344,11 @@ idle_store b r (has_left ps) s e = absurd (cc e)
 idle_store b r (computing t) s e = absurd (cc e)
 
 accepted : {m : Module} {p : Parameters} {t : Tenant} (s : Space) (x : ℕ) (vs : List Value) (given : List ℤ) (fuel : ℕ) (d : Doing) → Kept m p t (view s t.place) (wants s t.place)
-    → IsOpen t.inst (new_entry x vs given fuel) → t.dead ≡ false → length t.ended + length t.open_calls < most_calls
+    → IsOpenCall t.inst (new_entry x vs given fuel) → t.dead ≡ false → length t.ended + length t.open_calls < most_calls
     → (t.open_calls ≡ [] → Faces t.inst (store_in s t) (new_entry x vs given fuel ∷ []) d) → (t.open_calls ≢ [] → d ≡ t.doing)
     → (os : List Entry) → t.open_calls ≡ os → Kept m p (record t { doing = d; open_calls = os ++ new_entry x vs given fuel ∷ [] }) (view s t.place) (wants s t.place)
 accepted {m = m} {t = t} s x vs given fuel d k asked alive few first later [] none =
-    let now = subst (λ xs. Now t.inst k.s1 k.ps1 (calls_of xs) (standing_with (view s t.place) t.rest t.doing)) none k.now in
+    let now = subst (λ xs. Now t.inst k.s1 k.ps1 (journal_calls xs) (standing_with (view s t.place) t.rest t.doing)) none k.now in
     let store : store_with (view s t.place) t.rest ≡ k.s1 = idle_store (view s t.place) t.rest t.doing k.s1 now.1 in
     let faced = faces_now t.inst (view s t.place) t.rest (new_entry x vs given fuel ∷ []) d (new_waits x vs given fuel) (first none) in
     let duly = subst (λ xs. FirstStandsDuly t.inst (store_in s t) t.doing xs (wants s t.place) t.stands_for) none k.duly in
@@ -359,8 +359,8 @@ accepted {m = m} {t = t} s x vs given fuel d k asked alive few first later [] no
       initial = k.initial;
       s1 = k.s1;
       ps1 = [];
-      past = subst (λ ps. Past t.inst k.s0 k.ps0 (calls_of t.ended) k.s1 ps) now.0 k.past;
-      now = subst (λ z. Now t.inst z [] (calls_of (new_entry x vs given fuel ∷ [])) (standing_with (view s t.place) t.rest d)) store faced;
+      past = subst (λ ps. Past t.inst k.s0 k.ps0 (journal_calls t.ended) k.s1 ps) now.0 k.past;
+      now = subst (λ z. Now t.inst z [] (journal_calls (new_entry x vs given fuel ∷ [])) (standing_with (view s t.place) t.rest d)) store faced;
       order = order_comes (new_entry x vs given fuel) alive asked (subst (λ xs. InOrder m t.inst t.dead t.ended xs) none k.order);
       few = omega (arith, few, ap length none);
       duly = subst (λ o. StandsDuly t.inst (store_in s t) d (new_entry x vs given fuel).call (wants s t.place) o) (sym duly.1) duly.0;
@@ -379,7 +379,7 @@ accepted {m = m} {t = t} s x vs given fuel d k asked alive few first later (e �
       now = (
         pr.pending,
         subst (λ z. Stands t.inst pr.s1 pr.ps1 e.call (standing_with (view s t.place) t.rest z)) (sym same) pr.stands,
-        subst (λ cs. AllByRecursion Waits cs) (sym (calls_join es (new_entry x vs given fuel ∷ []))) (all_join Waits (calls_of es) (calls_of (new_entry x vs given fuel ∷ [])) pr.waits (new_waits x vs given fuel)),
+        subst (λ cs. AllByRecursion Waits cs) (sym (calls_join es (new_entry x vs given fuel ∷ []))) (all_join Waits (journal_calls es) (journal_calls (new_entry x vs given fuel ∷ [])) pr.waits (new_waits x vs given fuel)),
       );
       order = order_comes (new_entry x vs given fuel) alive asked pr.order;
       few = let n = length-append es (new_entry x vs given fuel ∷ []) in let l = ap length there in omega (arith, few, n, l);
@@ -390,7 +390,7 @@ pub accept_kept : {m mm : Module} {p : Parameters} {t t2 : Tenant} {name : List 
 accept_kept {m} {p = p} {t = t} {given = given} {fuel = fuel} s k a =
     let few = a.few_calls in
     let n = length-append t.ended t.open_calls in
-    let asked : IsOpen t.inst (new_entry a.func a.vs given fuel) = record {
+    let asked : IsOpenCall t.inst (new_entry a.func a.vs given fuel) = record {
       asked = record { index = a.func; type = a.type; body = a.body; func = refl; is_own = let x = a.exports in x.is_own; arguments = a.fits; fuel = a.can_count };
       open_yet = refl;
     } in
@@ -407,7 +407,7 @@ beginner place of p inst s d es os =
     record { place = place; of = of; params = p; inst = inst; rest = rest_of s; doing = d; ended = es; open_calls = os; stands_for = None; dead = false }
 
 pub begins_kept : (m : Module) (place of : ℕ) (params : Params) (p : Parameters) (inst : Instance) (s : Store) (ps : List Piece) (fuel : ℕ) {d : Doing} {es os : List Entry} → AreGiven p → IsInitial m p (begins inst s ps) → fuel ≤ most_fuel
-    → BeginsWith inst s ps m.start fuel d es os → Kept m p (beginner place of params inst s d es os) s.bytes None
+    → StartsAs inst s ps m.start fuel d es os → Kept m p (beginner place of params inst s d es os) s.bytes None
 begins_kept m place of params p inst s ps fuel given initial low (writes some) = record {
   given = given;
   s0 = s;
@@ -441,7 +441,7 @@ begins_kept m place of params p inst s ps fuel given initial low (ends none star
   initial = initial;
   s1 = s;
   ps1 = [];
-  past = subst (λ qs. Past inst s qs (calls_of (start_entry None fuel (returned []) ∷ [])) s []) (sym none) (one_more (replays.has_written refl refl refl refl) none_yet);
+  past = subst (λ qs. Past inst s qs (journal_calls (start_entry None fuel (returned []) ∷ [])) s []) (sym none) (one_more (replays.has_written refl refl refl refl) none_yet);
   now = (refl, refl);
   order = has_started (record { func = sym start; args = refl; given = refl; fuel = low }) tt refl (λ none. refl, λ some. absurd (some refl)) tt tt;
   few = omega arith;

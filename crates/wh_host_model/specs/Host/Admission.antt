@@ -120,13 +120,13 @@ start_entry func fuel outcome =
     }
 
 -- What an instance begins with: its start has pieces to write, or calls the start function, or has ended already.
-pub data BeginsWith (inst : Instance) (s : Store) (pieces : List Piece) (start : Option ℕ) (fuel : ℕ)
+pub data StartsAs (inst : Instance) (s : Store) (pieces : List Piece) (start : Option ℕ) (fuel : ℕ)
     : Doing → List Entry → List Entry → Type 0 where
-  writes : pieces ≢ [] → BeginsWith inst s pieces start fuel (has_left pieces) [] (start_entry start fuel pending ∷ [])
+  writes : pieces ≢ [] → StartsAs inst s pieces start fuel (has_left pieces) [] (start_entry start fuel pending ∷ [])
   runs : {x : ℕ} {d : Doing} → pieces ≡ [] → start ≡ Some x → Faces inst s (start_entry start fuel pending ∷ []) d
-      → BeginsWith inst s pieces start fuel d [] (start_entry start fuel pending ∷ [])
+      → StartsAs inst s pieces start fuel d [] (start_entry start fuel pending ∷ [])
   ends : pieces ≡ [] → start ≡ None
-      → BeginsWith inst s pieces start fuel resting (start_entry None fuel (returned []) ∷ []) []
+      → StartsAs inst s pieces start fuel resting (start_entry None fuel (returned []) ∷ []) []
 
 abbrev pub rest_of : Store → Rest
 rest_of s = record { globals = s.globals; table = s.table; inputs = s.inputs; output = s.output }
@@ -145,7 +145,7 @@ pub record LetsIn (w : World) (k : ℕ) (p : Params) (place number : ℕ) (w2 : 
   pub doing : Doing
   pub ended : List Entry
   pub open_calls : List Entry
-  pub starts : BeginsWith inst s pieces loaded.m.start p.fuel doing ended open_calls
+  pub starts : StartsAs inst s pieces loaded.m.start p.fuel doing ended open_calls
   pub space : Space
   pub arrives : Arrives place (promised number p) (length s.bytes) w.space space
   pub next : number ≡ length w.tenants

@@ -18,12 +18,12 @@ use Rattle.wh_host_model.specs.Host.Turns.{Upshot, to_end, out_of_fuel, to_wait,
 -- ---- calls that go on, and that end
 
 -- the call has written so many more pieces and taken so many more charges
-abbrev pub further : Entry → ℕ → ℕ → Entry
-further e pieces charges =
+abbrev pub gone_further : Entry → ℕ → ℕ → Entry
+gone_further e pieces charges =
     record e { call = record e.call { fragments = e.call.fragments + pieces; charges = e.call.charges + charges } }
 
-abbrev pub ended_as : Entry → Outcome → Entry
-ended_as e o = record e { call = record e.call { outcome = o } }
+abbrev pub ended_by : Entry → Outcome → Entry
+ended_by e o = record e { call = record e.call { outcome = o } }
 
 -- it goes on, and is where the term says
 abbrev pub gone_on : Tenant → Entry → List Entry → Rest → Doing → Option Suspension → Tenant
@@ -55,7 +55,7 @@ pub data Closes (s : Space) (t : Tenant) (e : Entry) (waiting : List Entry) (r :
       → Closes s t e waiting r (record t {
         rest = r;
         doing = resting;
-        ended = t.ended ++ e ∷ map (λ w. ended_as w dead) waiting;
+        ended = t.ended ++ e ∷ map (λ w. ended_by w dead) waiting;
         open_calls = [];
         stands_for = None;
         dead = true;
@@ -83,19 +83,19 @@ pub data Turn (q : ℕ) (s : Space) (t : Tenant) : TurnEnd → Space → Tenant 
   has_ended : {e : Entry} {es : List Entry} {o : Outcome} {k n : ℕ} {s2 s3 : Space} {r : Rest} {d : Doing} {t2 : Tenant}
       → t.open_calls ≡ e ∷ es → ProceedsIn q s t e (to_end o) k n s2 r d
       → StandsAlone t.place None s2 s3 → PinsEndAfter (k + n) s3 t.place
-      → Closes s3 t (ended_as (further e k n) o) es r t2 → Turn q s t Ended s3 t2
+      → Closes s3 t (ended_by (gone_further e k n) o) es r t2 → Turn q s t Ended s3 t2
   has_no_fuel : {e : Entry} {es : List Entry} {k n : ℕ} {s2 s3 : Space} {r : Rest} {d : Doing}
       → t.open_calls ≡ e ∷ es → ProceedsIn q s t e out_of_fuel k n s2 r d
       → StandsAlone t.place None s2 s3 → PinsEndAfter (k + n) s3 t.place
-      → Turn q s t Fuel s3 (gone_on t (further e k n) es r d (Some for_fuel))
+      → Turn q s t Fuel s3 (gone_on t (gone_further e k n) es r d (Some for_fuel))
   has_no_frame : {e : Entry} {es : List Entry} {need : Need} {k n : ℕ} {s2 s3 : Space} {r : Rest} {d : Doing}
       → t.open_calls ≡ e ∷ es → ProceedsIn q s t e (to_wait need) k n s2 r d
       → StandsAlone t.place (Some need) s2 s3 → PinsEndAfter (k + n) s3 t.place
-      → Turn q s t Frame s3 (gone_on t (further e k n) es r d (at_frame (k + n) t.stands_for))
+      → Turn q s t Frame s3 (gone_on t (gone_further e k n) es r d (at_frame (k + n) t.stands_for))
   can_go_on : {e : Entry} {es : List Entry} {k n : ℕ} {s2 s3 : Space} {r : Rest} {d : Doing}
       → t.open_calls ≡ e ∷ es → ProceedsIn q s t e to_go_on k n s2 r d
       → StandsAlone t.place None s2 s3 → PinsEndAfter (k + n) s3 t.place → KeepsNoFault (k + n) t.stands_for
-      → Turn q s t Again s3 (gone_on t (further e k n) es r d None)
+      → Turn q s t Again s3 (gone_on t (gone_further e k n) es r d None)
   -- a turn without charges of a call with a device fault, whose bytes are ready now: nothing was tried again, and
   -- nothing changes
   keeps_its_fault : {e : Entry} {es : List Entry} {fault : SwapError} {term : Term}

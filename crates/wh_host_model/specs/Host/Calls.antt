@@ -12,7 +12,7 @@ use Rattle.wh_host_model.specs.Space.Parts.{Space}
 use Rattle.wh_host_model.specs.Space.Sight.{HasNoPins}
 use Rattle.wh_host_model.specs.Host.Spaces.{StandsAlone}
 use Rattle.wh_host_model.specs.Host.Worlds.{Entry, Doing, Suspension, for_fuel, for_frame, for_device, Tenant, journal, store_in}
-use Rattle.wh_host_model.specs.Host.Answers.{ended_as, Faces, Closes}
+use Rattle.wh_host_model.specs.Host.Answers.{ended_by, Faces, Closes}
 
 -- ---- limits
 
@@ -132,7 +132,7 @@ pub data Refuels (t : Tenant) (n : ℕ) : Tenant → Type 0 where
 pub data Cancels (s : Space) (t : Tenant) : Space → Tenant → Type 0 where
   ends : {e : Entry} {es : List Entry} {s2 : Space} {t2 : Tenant}
       → t.open_calls ≡ e ∷ es → StandsAlone t.place None s s2 → HasNoPins s2 t.place
-      → Closes s2 t (ended_as e cancelled) es t.rest t2 → Cancels s t s2 t2
+      → Closes s2 t (ended_by e cancelled) es t.rest t2 → Cancels s t s2 t2
 
 -- the present call stands for a device fault, and may be tried again
 pub data Retries (t : Tenant) : Tenant → Type 0 where

@@ -45,7 +45,7 @@ pub record IsEnded (inst : Instance) (e : Entry) : Type 0 where
   pub ended : HasEnded e.call.outcome
   pub typed : ReturnsTyped inst e.call e.call.outcome
 
-pub record IsOpen (inst : Instance) (e : Entry) : Type 0 where
+pub record IsOpenCall (inst : Instance) (e : Entry) : Type 0 where
   pub asked : IsAsked inst e
   pub open_yet : e.call.outcome ≡ pending
 
@@ -58,10 +58,10 @@ pub record IsDeadCall (inst : Instance) (e : Entry) : Type 0 where
 -- or it has trapped or was cancelled, and then the instance is dead, and so are all others.
 pub data InOrder (m : Module) (inst : Instance) : Bool → List Entry → List Entry → Type 0 where
   is_starting : {e : Entry} {es : List Entry}
-      → IsStart m e → e.call.outcome ≡ pending → AllByRecursion (IsOpen inst) es → InOrder m inst false [] (e ∷ es)
+      → IsStart m e → e.call.outcome ≡ pending → AllByRecursion (IsOpenCall inst) es → InOrder m inst false [] (e ∷ es)
   has_started : {e : Entry} {es os : List Entry}
       → IsStart m e → HasEnded e.call.outcome → fails e.call.outcome ≡ false → ReturnsTyped inst e.call e.call.outcome
-      → AllByRecursion (IsEnded inst) es → AllByRecursion (IsOpen inst) os → InOrder m inst false (e ∷ es) os
+      → AllByRecursion (IsEnded inst) es → AllByRecursion (IsOpenCall inst) os → InOrder m inst false (e ∷ es) os
   has_died : {e : Entry} {es : List Entry}
       → IsStart m e → HasEnded e.call.outcome → fails e.call.outcome ≡ true → AllByRecursion (IsDeadCall inst) es
       → InOrder m inst true (e ∷ es) []

@@ -13,7 +13,7 @@ use Rattle.wh_host_model.specs.declared.plain.TurnEnd.TheVariants.{Again, Frame}
 use Rattle.wh_host_model.specs.Space.Parts.{Space, Claimed, view, claim, wants}
 use Rattle.wh_host_model.specs.Space.Sound.{IsSound}
 use Rattle.wh_host_model.specs.Space.Ready.{Ready}
-use Rattle.wh_host_model.specs.Host.Worlds.{computing, Tenant, Loaded, World, given_of, promised, journal, calls_of, store_in, standing_in, tenant, empty_world}
+use Rattle.wh_host_model.specs.Host.Worlds.{computing, Tenant, Loaded, World, given_of, promised, journal, journal_calls, store_in, standing_in, tenant, empty_world}
 use Rattle.wh_host_model.specs.Host.Answers.{Turn}
 use Rattle.wh_host_model.specs.Host.Calls.{most_calls}
 use Rattle.wh_host_model.specs.Host.Admission.{CanLoad}
@@ -59,7 +59,7 @@ pub record IsReplayed (w : World) (t : Tenant) : Type 0 where
   pub first : Store
   pub pieces : List Piece
   pub initial : IsInitial loaded.m (given_of t.params) (begins t.inst first pieces)
-  pub replay : Replay loaded.m (given_of t.params) (calls_of (journal t)) (standing_in w.space t)
+  pub replay : Replay loaded.m (given_of t.params) (journal_calls (journal t)) (standing_in w.space t)
 
 abbrev pub InstancesReplay : Type 0
 InstancesReplay = AfterEvents (EachHas IsReplayed)

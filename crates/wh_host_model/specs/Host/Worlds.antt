@@ -88,8 +88,8 @@ promised number p = record { number = number; shares = p.shares; min = p.min; ma
 abbrev pub journal : Tenant → List Entry
 journal t = t.ended ++ t.open_calls
 
-abbrev pub calls_of : List Entry → List Call
-calls_of es = map (λ e. e.call) es
+abbrev pub journal_calls : List Entry → List Call
+journal_calls es = map (λ e. e.call) es
 
 -- the whole store of an instance whose memory has these bytes
 abbrev pub store_with : List ℕ → Rest → Store

@@ -1,0 +1,119 @@
+-- Offers, and pages in transit, leave all instances alone.
+use Rattle.std.proofs.Common.{◌≡◌, ℕ, zero, suc, inl, inr, ◌==◌, cond, Bool, true, false, List, [], ◌∷◌, Option, Some, None, get_or, slice_set, refl, ap, ◌∙◌}
+use Rattle.wh_model.specs.declared.memory.Need.{Need}
+use Rattle.wh_host_model.specs.declared.states.Offer.{Offer}
+use Rattle.wh_host_model.specs.declared.states.Offer.TheVariants.{Skipped, Zeroed, Hinted, Stale, Merged, FalseMatch}
+use Rattle.wh_host_model.specs.declared.states.EvictEnd.{EvictEnd}
+use Rattle.wh_host_model.specs.declared.states.FetchEnd.{FetchEnd}
+use Rattle.wh_host_model.specs.declared.states.Slot.TheVariants.{Vacant}
+use Rattle.wh_host_model.specs.Frames.{tally}
+use Rattle.wh_host_model.specs.Space.States.{joined}
+use Rattle.wh_host_model.specs.Space.Parts.{Space, Occupant, all_bytes, claim_of, need_of}
+use Rattle.wh_host_model.specs.Space.Errands.{ticket_of}
+use Rattle.wh_host_model.specs.Space.Sound.{IsSound}
+use Rattle.wh_host_model.specs.Space.Offers.{Offers}
+use Rattle.wh_host_model.specs.Space.Tickets.{Reserves, BeginsEvict, BeginsFetch, CommitsEvict, CommitsFetch, leaving_by, stays_occupant}
+use Rattle.wh_host_model.proofs.Space.Quiet.{offers_quiet}
+use Rattle.wh_host_model.proofs.Space.Merging.{offers_soundly}
+use Rattle.wh_host_model.proofs.Space.Reserved.{begin_evict_sound}
+use Rattle.wh_host_model.proofs.Space.Awaited.{begin_fetch_sound}
+use Rattle.wh_host_model.proofs.Space.Sent.{commits_soundly}
+use Rattle.wh_host_model.proofs.Space.Come.{commits_fetch_soundly}
+use Rattle.wh_host_model.proofs.Space.Transit.{begin_evict_bytes, begin_fetch_bytes, commit_evict_bytes, commit_fetch_bytes}
+use Rattle.wh_host_model.specs.Host.Spaces.{AllLeftAlone}
+use Rattle.wh_host_model.proofs.Host.Leaving.{alone_bytes}
+
+-- ---- offers
+
+offers_there : (hashes : List ℕ → ℕ) (s : Space) (i p hash : ℕ) (answer : Offer) (s2 : Space) → Offers hashes s i p hash answer s2 → s2.occupants ≡ s.occupants
+offers_there hashes s i p hash Skipped s2 (is, why) = ap (λ (a : Space). a.occupants) is
+offers_there hashes s i p hash FalseMatch s2 (is, why) = ap (λ (a : Space). a.occupants) is
+offers_there hashes s i p hash Hinted s2 (g, offered, some, none, is) = ap (λ (a : Space). a.occupants) is
+offers_there hashes s i p hash Stale s2 (g, f, j, q, offered, some, found, apart, other, changed, is) = ap (λ (a : Space). a.occupants) is
+offers_there hashes s i p hash Zeroed s2 (g, offered, zeros, is) = ap (λ (a : Space). a.occupants) is
+offers_there hashes s i p hash Merged s2 (g, f, offered, some, same, inl (n, found, is)) = ap (λ (a : Space). a.occupants) is
+offers_there hashes s i p hash Merged s2 (g, f, offered, some, same, inr (j, q, apart, hint, is)) = ap (λ (a : Space). a.occupants) is
+
+pub offers_alone : (hashes : List ℕ → ℕ) (s : Space) (i p hash : ℕ) (answer : Offer) (s2 : Space) → IsSound s → Offers hashes s i p hash answer s2 → AllLeftAlone s s2
+offers_alone hashes s i p hash answer s2 sound o =
+    alone_bytes s s2 (offers_quiet hashes s i p hash answer s2 o) (offers_there hashes s i p hash answer s2 o) (offers_soundly hashes s i p hash answer s2 sound o)
+
+-- ---- who has a place stands and claims as before
+
+pub record Claims (xs ys : List (Option Occupant)) : Type 0 where
+  pub each : (m : ℕ) → (need_of (get_or xs m None) ≡ need_of (get_or ys m None)) × (claim_of (get_or xs m None) ≡ claim_of (get_or ys m None))
+
+claims_then : {xs ys zs : List (Option Occupant)} → Claims xs ys → Claims ys zs → Claims xs zs
+claims_then f g = record { each = λ m. (let x = f.each m in let y = g.each m in (x.0 ∙ y.0, x.1 ∙ y.1)) }
+
+claims_of : {xs ys : List (Option Occupant)} → xs ≡ ys → Claims xs ys
+claims_of e = record { each = λ m. (ap (λ (zs : List (Option Occupant)). need_of (get_or zs m None)) e, ap (λ (zs : List (Option Occupant)). claim_of (get_or zs m None)) e) }
+
+pub alone_claims : (s s2 : Space) → all_bytes s2 ≡ all_bytes s → Claims s2.occupants s.occupants → IsSound s2 → AllLeftAlone s s2
+alone_claims s s2 bytes same sound = (
+  λ j. (let x = same.each j in record { view = ap (λ (b : List (List (List ℕ))). joined (get_or b j [])) bytes; wants = x.0; claim = x.1 }),
+  sound,
+)
+
+leaving_at : (xs : List (Option Occupant)) (j : ℕ) (slot : Option ℕ) (m : ℕ) → (need_of (get_or (slice_set xs j (leaving_by (get_or xs j None) slot)) m None) ≡ need_of (get_or xs m None)) × (claim_of (get_or (slice_set xs j (leaving_by (get_or xs j None) slot)) m None) ≡ claim_of (get_or xs m None))
+leaving_at [] j slot m = (refl, refl)
+leaving_at (None ∷ xs) zero slot zero = (refl, refl)
+leaving_at (Some t ∷ xs) zero slot zero = (refl, refl)
+leaving_at (x ∷ xs) zero slot (suc m) = (refl, refl)
+leaving_at (x ∷ xs) (suc j) slot zero = (refl, refl)
+leaving_at (x ∷ xs) (suc j) slot (suc m) = leaving_at xs j slot m
+
+stays_claims : (t : Occupant) (n : ℕ) (live gone : Bool) → t.live ≡ live → (n == 0) ≡ gone
+    → (need_of (cond live (Some t) (cond gone None (Some t))) ≡ need_of (Some t)) × (claim_of (cond live (Some t) (cond gone None (Some t))) ≡ claim_of (Some t))
+stays_claims t n true gone e h = (refl, refl)
+stays_claims t n false true e h = (rw e refl, rw e refl)
+stays_claims t n false false e h = (refl, refl)
+
+settled_at : (xs : List (Option Occupant)) (j n m : ℕ) → (need_of (get_or (slice_set xs j (stays_occupant (get_or xs j None) n)) m None) ≡ need_of (get_or xs m None)) × (claim_of (get_or (slice_set xs j (stays_occupant (get_or xs j None) n)) m None) ≡ claim_of (get_or xs m None))
+settled_at [] j n m = (refl, refl)
+settled_at (None ∷ xs) zero n zero = (refl, refl)
+settled_at (Some t ∷ xs) zero n zero = stays_claims t n t.live (n == 0) refl refl
+settled_at (x ∷ xs) zero n (suc m) = (refl, refl)
+settled_at (x ∷ xs) (suc j) n zero = (refl, refl)
+settled_at (x ∷ xs) (suc j) n (suc m) = settled_at xs j n m
+
+leaving_claims : (xs : List (Option Occupant)) (j : ℕ) (slot : Option ℕ) → Claims (slice_set xs j (leaving_by (get_or xs j None) slot)) xs
+leaving_claims xs j slot = record { each = leaving_at xs j slot }
+
+settled_claims : (xs : List (Option Occupant)) (j n : ℕ) → Claims (slice_set xs j (stays_occupant (get_or xs j None) n)) xs
+settled_claims xs j n = record { each = settled_at xs j n }
+
+-- ---- pages in transit
+
+reserves_there : (s : Space) (i : ℕ) (need : Need) (s2 : Space) → Reserves s i need s2 → s2.occupants ≡ s.occupants
+reserves_there s i need s2 r = ap (λ (a : Space). a.occupants) r.leaves
+
+pub begins_evict_alone : (s s2 : Space) (i k : ℕ) (bytes : List ℕ) → IsSound s → BeginsEvict s i (Some k) bytes s2 → AllLeftAlone s s2
+begins_evict_alone s s2 i k bytes sound e = alone_claims s s2 (begin_evict_bytes s s2 i k bytes e) (go e) (begin_evict_sound s s2 i (Some k) bytes sound e) where
+  go : BeginsEvict s i (Some k) bytes s2 → Claims s2.occupants s.occupants
+  go (need, stands, s1, prepares, lacks, j, p, f, taken, old, new, there, on, as_it, is, others, list, moves) =
+      claims_then (claims_of (ap (λ (a : Space). a.occupants) moves)) (claims_then (leaving_claims s1.occupants j (Some k)) (claims_of (reserves_there s i need s1 prepares)))
+
+pub begins_fetch_alone : (s s2 : Space) (i k : ℕ) → IsSound s → BeginsFetch s i (Some k) s2 → AllLeftAlone s s2
+begins_fetch_alone s s2 i k sound e = alone_claims s s2 (begin_fetch_bytes s s2 i k e) (go e) (begin_fetch_sound s s2 i (Some k) sound e) where
+  go : BeginsFetch s i (Some k) s2 → Claims s2.occupants s.occupants
+  go (need, stands, s1, prepares, p, f, first, there, others, list, moves) =
+      claims_then (claims_of (ap (λ (a : Space). a.occupants) moves)) (claims_of (reserves_there s i need s1 prepares))
+
+pub commits_fetch_alone : (s s2 : Space) (k : ℕ) (read : Bool) (bytes : List ℕ) (end : FetchEnd) → IsSound s → (read ≡ true → get_or s.slots.held k [] ≡ bytes) → CommitsFetch s k read bytes end s2 → AllLeftAlone s s2
+commits_fetch_alone s s2 k read bytes end sound device e =
+    alone_claims s s2 (commit_fetch_bytes s s2 k read bytes end sound device e) (go e) (commits_fetch_soundly s k read bytes end s2 sound e) where
+      go : CommitsFetch s k read bytes end s2 → Claims s2.occupants s.occupants
+      go (inl (i, f, was, ends, moves)) = claims_then (claims_of (ap (λ (a : Space). a.occupants) moves)) (settled_claims s.occupants i (tally (ticket_of i) (slice_set s.slots.uses k Vacant)))
+      go (inr (i, p, f, was, inl (ok, long, ends, moves))) = claims_of (ap (λ (a : Space). a.occupants) moves)
+      go (inr (i, p, f, was, inr (failed, ends, moves))) = claims_of (ap (λ (a : Space). a.occupants) moves)
+
+pub commits_evict_alone : (s s2 : Space) (k : ℕ) (wrote : Bool) (bytes : List ℕ) (end : EvictEnd) → IsSound s → (wrote ≡ true → get_or s.slots.held k [] ≡ bytes) → CommitsEvict s k wrote bytes end s2 → AllLeftAlone s s2
+commits_evict_alone s s2 k wrote bytes end sound device e =
+    alone_claims s s2 (commit_evict_bytes s s2 k wrote bytes end device e) (go e) (commits_soundly s k wrote bytes end s2 sound device e) where
+      go : CommitsEvict s k wrote bytes end s2 → Claims s2.occupants s.occupants
+      go (inl (j, was, ends, moves)) =
+          claims_then (claims_of (ap (λ (a : Space). a.occupants) moves))
+          (claims_then (settled_claims (slice_set s.occupants j (leaving_by (get_or s.occupants j None) None)) j (tally (ticket_of j) (slice_set s.slots.uses k Vacant))) (leaving_claims s.occupants j None))
+      go (inr (j, p, f, was, page, there, on, inl (ok, equal, ends, moves))) = claims_then (claims_of (ap (λ (a : Space). a.occupants) moves)) (leaving_claims s.occupants j None)
+      go (inr (j, p, f, was, page, there, on, inr (why, old, as_it, moves))) = claims_then (claims_of (ap (λ (a : Space). a.occupants) moves)) (leaving_claims s.occupants j None)
