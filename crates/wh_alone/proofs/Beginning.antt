@@ -13,10 +13,10 @@ use Rattle.wh_bodies.specs.Views.{view_side}
 use Rattle.wh_validate.specs.Soundness.{IsSound}
 use Rattle.wh_imports.specs.Joined.{Joined}
 use Rattle.wh_imports.specs.Resolving.{IsResolved}
-use Rattle.wh_machine.specs.declared.store.Store as kept
-use Rattle.wh_machine.specs.Keeps.{IsStore}
+use Rattle.wh_control.specs.declared.store.Store as kept
+use Rattle.wh_control.specs.Storage.{IsStore}
 use Rattle.wh_machine.specs.Runs.{linked_parts, StoreStands}
-use Rattle.wh_machine.proofs.Instances.{instance_of}
+use Rattle.wh_initial.proofs.Instances.{instance_of}
 use Rattle.wh_initial.specs.declared.outcome.Initial.{Initial}
 use Rattle.wh_initial.specs.Begins.{BeginsWith, first_store}
 use Rattle.wh_alone.specs.Alone.{ArePieces, written_over}

@@ -19,7 +19,7 @@ use Rattle.wh_control.specs.Represents.{Func}
 use Rattle.wh_control.proofs.Calling.{own_at}
 use Rattle.wh_control.proofs.Entries.{Callee, of_host, of_module, callee}
 use Rattle.wh_control.proofs.Places.{same_at}
-use Rattle.wh_machine.specs.Program.{Parts, funcs_of, funcs_in, IsInstance}
+use Rattle.wh_control.specs.Parts.{Parts, funcs_of, funcs_in, IsInstance}
 use Rattle.wh_machine.specs.Runs.{linked_parts}
 use Rattle.wh_machine.proofs.Lookups.{parts_of, all_of}
 use Rattle.wh_alone.specs.Alone.{Arguments, HasCall}

@@ -15,8 +15,8 @@ use Rattle.wh_control.specs.Represents.{Func, Calls, Represents, bits_of}
 use Rattle.wh_machine.specs.declared.machine.Machine.{Machine}
 use Rattle.wh_machine.specs.declared.machine.Stepped.{Stepped}
 use Rattle.wh_machine.specs.declared.machine.Stepped.TheVariants as steps
-use Rattle.wh_machine.specs.declared.store.Store as stored
-use Rattle.wh_machine.specs.Program.{Parts, funcs_in}
+use Rattle.wh_control.specs.declared.store.Store as stored
+use Rattle.wh_control.specs.Parts.{Parts, funcs_in}
 use Rattle.wh_machine.specs.Runs.{calls_in, linked_parts, StoreStands, Stands}
 use Rattle.wh_machine.specs.Went.{Went}
 use Rattle.wh_flatmem.specs.Flat.{Flat}
@@ -48,7 +48,7 @@ Answers m2 (steps.NotReady need) outcome = outcome ≡ OutOfFuel
 
 -- a run over a flat memory, all of whose bytes are always at hand
 abbrev pub WentFlat : Kept → ℕ → Stepped → ℕ → Kept → Type 0
-WentFlat k fuel stepped n k2 = Went (linked_parts k.linked) (λ (m : Flat). m.bytes) (λ m need. Unit {0}) (λ a b. Unit {0}) k.machine k.store k.memory k.memory.limit fuel stepped n k2.machine k2.store k2.memory
+WentFlat k fuel stepped n k2 = Went (linked_parts k.linked) (λ (m : Flat). m.bytes) (λ m need. Unit {0}) (λ (a b : Flat). b.limit ≡ a.limit) k.machine k.store k.memory k.memory.limit fuel stepped n k2.machine k2.store k2.memory
 
 abbrev Came : Kept → Option ValType → Instance → Config → ℕ → Outcome → ℕ → Type 0
 Came k2 out inst cfg fuel outcome n = (s : Store) × EndsAs k2 out inst cfg fuel outcome n s × HasStore k2 inst s

@@ -10,7 +10,7 @@ use Rattle.wh_model.specs.ReplayLaws.{WithinFuel}
 use Rattle.wh_model.proofs.Histories.{replays_then}
 use Rattle.wh_model.proofs.Journals.{fuel_suffices}
 use Rattle.wh_control.specs.Represents.{bits_of}
-use Rattle.wh_machine.specs.Program.{IsInstance}
+use Rattle.wh_control.specs.Parts.{IsInstance}
 use Rattle.wh_machine.specs.Runs.{linked_parts}
 use Rattle.wh_alone.specs.declared.outcome.Outcome.{Outcome}
 use Rattle.wh_alone.specs.declared.outcome.Outcome.TheVariants.{Returned, Trapped, OutOfFuel}

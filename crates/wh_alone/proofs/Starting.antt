@@ -5,7 +5,7 @@ use Rattle.wh_model.specs.Syntax.{FuncType, Body, Module}
 use Rattle.wh_model.specs.Typing.{Context}
 use Rattle.wh_model.specs.Validity.{IsValidIn, ValidStart}
 use Rattle.wh_model.specs.Store.{FuncInst, own, host, signature, Instance}
-use Rattle.wh_machine.specs.Program.{Parts, IsInstance}
+use Rattle.wh_control.specs.Parts.{Parts, IsInstance}
 use Rattle.wh_machine.specs.Opening.{Suits}
 use Rattle.wh_alone.proofs.Lists.{mapped_from}
 

@@ -21,8 +21,8 @@ use Rattle.wh_syntax.specs.View.{view_module}
 use Rattle.wh_imports.specs.Joined.{Joined}
 use Rattle.wh_imports.specs.Refusing as linking
 use Rattle.wh_control.specs.Represents.{bits_of}
-use Rattle.wh_machine.specs.declared.store.Store as kept
-use Rattle.wh_machine.specs.Program.{Parts, IsInstance}
+use Rattle.wh_control.specs.declared.store.Store as kept
+use Rattle.wh_control.specs.Parts.{Parts, IsInstance}
 use Rattle.wh_machine.specs.Opening.{Suits}
 use Rattle.wh_machine.specs.declared.machine.Machine.{Machine}
 use Rattle.wh_machine.specs.Runs.{linked_parts, StoreStands, Stands, IsStanding}

@@ -8,7 +8,7 @@ use Rattle.wh_model.specs.Configuration.{code, called, Config, config, trapped, 
 use Rattle.wh_model.specs.Reduction.{IsSettled, After, IsNext}
 use Rattle.wh_imports.specs.Joined.{Joined}
 use Rattle.wh_control.specs.Represents.{bits_of, result_of}
-use Rattle.wh_machine.specs.declared.store.Store as stored
+use Rattle.wh_control.specs.declared.store.Store as stored
 use Rattle.wh_machine.specs.declared.machine.Machine.{Machine}
 use Rattle.wh_machine.specs.Opening.{Suits}
 use Rattle.wh_machine.specs.Runs.{linked_parts, StoreStands, Stands, IsSettledIn, IsStanding}

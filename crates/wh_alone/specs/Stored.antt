@@ -2,8 +2,8 @@
 use Rattle.std.specs.Prelude.{ℕ, List, refl}
 use Rattle.std.specs.Coded.{Coded, code_by, coded_list, coded_ℕ, coded×}
 use Rattle.wh_imports.specs.Joined.{Joined, stored_joined}
-use Rattle.wh_machine.specs.declared.store.Store.{Store}
-use Rattle.wh_machine.specs.contracts.store.Store as store_type
+use Rattle.wh_control.specs.declared.store.Store.{Store}
+use Rattle.wh_control.specs.contracts.store.Store as store_type
 use Rattle.wh_machine.specs.declared.machine.Machine.{Machine}
 use Rattle.wh_machine.specs.contracts.machine.Machine as machine_type
 use Rattle.wh_flatmem.specs.Flat.{Flat}

@@ -6,7 +6,7 @@ ghost use Rattle.std.specs.List.{AllByRecursion};
 ghost use Rattle.wh_model.specs.Numbers.{bits};
 ghost use Rattle.wh_model.specs.Typing.{Context};
 ghost use Rattle.wh_model.specs.Store.{Instance};
-ghost use Rattle.wh_machine.specs.Program.{IsInstance};
+ghost use Rattle.wh_control.specs.Parts.{IsInstance};
 ghost use Rattle.wh_machine.specs.Runs.{linked_parts};
 ghost use Rattle.wh_alone.specs.Alone.{Arguments, HasCall};
 

@@ -3,3 +3,5 @@ pub mod Represents
 pub mod Moves
 pub mod Next
 pub mod Stored
+pub mod Storage
+pub mod Parts

@@ -4,7 +4,9 @@
 #![tactic(auto)]
 
 mod frame;
+mod store;
 mod words;
 
 pub use frame::{CALL_DEPTH, Frame, Frames};
+pub use store::Store;
 pub use words::{MOST_WORDS, Words};

@@ -1,21 +1,22 @@
 //! A linear memory as one list of bytes: the plain form of what section 4.2.8 of the W3C WebAssembly Core Specification
 //! 1.0 describes, for the plain program and for tests.
 //!
-//! [`FlatMemory`] is proved to be a `LinearMem` of `wh_machine` whose bytes are always at hand: a load reads exactly the
-//! bytes that it names, a store changes exactly those, each traps exactly where they aren't all in the memory, and a
-//! growth adds zeros exactly up to the limit. Only making it takes memory, so nothing else can be refused any.
+//! [`FlatMemory`] is proved to be a `LinearMem` whose bytes are always at hand: a load reads exactly the bytes that it
+//! names, a store changes exactly those, each traps exactly where they aren't all in the memory, and a growth adds zeros
+//! exactly up to the limit. Only making it takes memory, so nothing else can be refused any.
 //!
 //! Inlined where the count of bytes is known, as for numbers, a load or a store is one test of the bounds and one machine
 //! move.
 #![tactic(auto)]
 
-ghost use Rattle.std.specs.Prelude.{◌≡◌, ℕ, ◌+◌, ◌*◌, ◌≤◌, List, length, replicate, IfOk, IsTrue, IsFalse, vec_capacity};
+ghost use Rattle.std.specs.Prelude.{◌≡◌, ℕ, ◌+◌, ◌*◌, ◌<◌, ◌≤◌, List, length, replicate, IfOk, IsTrue, IsFalse, vec_capacity, refl};
+ghost use Rattle.std.proofs.Common.{◌∙◌};
 ghost use Rattle.wh_flatmem.specs.Flat.{Flat, Begins};
-ghost use Rattle.wh_model.specs.Store.{written};
+ghost use Rattle.wh_model.specs.Store.{bytes_at, written};
 
 use std::alloc::{AllocError, Global};
 use std::marker::Model;
-use wh_machine::LinearMem;
+use wh_linmem::LinearMem;
 use wh_model::{Got, Grown, Need};
 
 // The bytes of a page.
@@ -120,6 +121,37 @@ impl FlatMemory {
         }
         Some(at as usize)
     }
+
+    // Reads so many bytes, if all of them are in the memory, and says whether it did.
+    #[inline(always)]
+    fn read(&self, at: u64, into: &mut [u8]) -> bool
+        ensures within { IsTrue result → at + length into.old ≤ length self.now.bytes }
+        ensures read { IsTrue result → into.new ≡ bytes_at self.now.bytes at (length into.old) }
+        ensures beyond { IsFalse result → length self.now.bytes < at + length into.old }
+        ensures left { IsFalse result → into.new ≡ into.old }
+    {
+        let Some(start) = self.place(at, into.len()) else {
+            return false;
+        };
+        into.copy_from_slice(&self.bytes[start..start + into.len()]);
+        true
+    }
+
+    // Writes these bytes, if all that they replace are in the memory, and says whether it did.
+    #[inline(always)]
+    fn replace(&mut self, at: u64, given: &[u8]) -> bool
+        ensures within { IsTrue result → at + length given.now ≤ length self.old.bytes }
+        ensures written { IsTrue result
+            → self.new ≡ record self.old { bytes = written self.old.bytes at given.now } }
+        ensures beyond { IsFalse result → length self.old.bytes < at + length given.now }
+        ensures left { IsFalse result → self.new ≡ self.old }
+    {
+        let Some(start) = self.place(at, given.len()) else {
+            return false;
+        };
+        self.write(start, given);
+        true
+    }
 }
 
 impl LinearMem for FlatMemory {
@@ -129,7 +161,7 @@ impl LinearMem for FlatMemory {
 
     ghost ready = { λ _ _. Unit {0} };
 
-    ghost keeps = { λ _ _. Unit {0} };
+    ghost keeps = { λ m n. n.limit ≡ m.limit };
 
     #[inline(always)]
     fn is_ready(&self, _: Need) -> bool {
@@ -138,20 +170,30 @@ impl LinearMem for FlatMemory {
 
     #[inline(always)]
     fn load(&mut self, at: u64, into: &mut [u8]) -> Got {
-        let Some(start) = self.place(at, into.len()) else {
-            return Got::Trap;
-        };
-        into.copy_from_slice(&self.bytes[start..start + into.len()]);
-        Got::Value
+        if self.read(at, into) {
+            Got::Value
+        } else {
+            Got::Trap
+        }
     }
 
     #[inline(always)]
     fn store(&mut self, at: u64, given: &[u8]) -> Got {
-        let Some(start) = self.place(at, given.len()) else {
-            return Got::Trap;
-        };
-        self.write(start, given);
-        Got::Value
+        if self.replace(at, given) {
+            Got::Value
+        } else {
+            Got::Trap
+        }
+    }
+
+    #[inline(always)]
+    fn quick_load(&mut self, at: u64, into: &mut [u8]) -> bool {
+        self.read(at, into)
+    }
+
+    #[inline(always)]
+    fn quick_store(&mut self, at: u64, given: &[u8]) -> bool {
+        self.replace(at, given)
     }
 
     fn size(&self) -> u32 {
@@ -170,9 +212,11 @@ impl LinearMem for FlatMemory {
         Grown::Done(before)
     }
 
-    ghost keeps_same = { λ _. tt };
+    ghost keeps_same = { λ _. refl };
 
-    ghost keeps_more = { λ _ _ _ _ _. tt };
+    ghost keeps_more = { λ _ _ _ p q. q ∙ p };
+
+    ghost keeps_limit = { λ _ _ p. p };
 }
 
 #[cfg(test)]
@@ -196,6 +240,13 @@ mod tests {
         memory.store(at, &given)
     }
 
+    fn quickly<M: LinearMem>(memory: &mut M, at: u64, given: [u8; 4]) -> (bool, bool, [u8; 4]) {
+        let mut word = [9; 4];
+        let is_stored = memory.quick_store(at, &given);
+        let is_loaded = memory.quick_load(at, &mut word);
+        (is_stored, is_loaded, word)
+    }
+
     #[test]
     fn a_memory_is_written_read_and_grown(rt: HostRuntime) -> Result<(), Fail> {
         let mut memory = FlatMemory::new(rt.alloc(), 1, 2)?;
@@ -208,6 +259,12 @@ mod tests {
         assert_eq!(rt; sizes(&mut memory, 1), (1, Grown::Done(1), 2));
         assert_eq!(rt; stored(&mut memory, 65533, [2, 3, 4, 5]), Got::Value);
         assert_eq!(rt; loaded(&mut memory, 65534), (Got::Value, [3, 4, 5, 0]));
+        assert_eq!(rt; quickly(&mut memory, 131068, [6; 4]), (true, true, [6; 4]));
+        assert_eq!(rt;
+            quickly(&mut memory, 131069, [7; 4]),
+            (false, false, [9; 4])
+        );
+        assert_eq!(rt; loaded(&mut memory, 131068), (Got::Value, [6; 4]));
         assert_eq!(rt; memory.bytes().len(), 131072);
         assert_eq!(rt; sizes(&mut memory, 0), (2, Grown::Done(2), 2));
         Ok(())

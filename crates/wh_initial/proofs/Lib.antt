@@ -5,3 +5,4 @@ pub mod ValueLemmas
 pub mod FuncLemmas
 pub mod SegmentLemmas
 pub mod Preparing
+pub mod Instances

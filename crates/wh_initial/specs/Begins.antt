@@ -8,7 +8,7 @@ use Rattle.wh_model.specs.Validity.{IsContext}
 use Rattle.wh_model.specs.Store.{Value, Instance, Store, output_room}
 use Rattle.wh_model.specs.Instance.{Parameters, Piece, Within, filled, fragments, first_size, Prepares, IsInitial, memory_min, segment_bounds, begins}
 use Rattle.wh_control.specs.Represents.{bits_of, InRange}
-use Rattle.wh_machine.specs.Keeps.{IsStore}
+use Rattle.wh_control.specs.Storage.{IsStore}
 use Rattle.wh_initial.specs.declared.outcome.Initial.{Initial}
 use Rattle.wh_initial.specs.declared.error.InitialError.{InitialError}
 use Rattle.wh_initial.specs.declared.error.InitialError.TheVariants.{MemoryMin, SegmentBounds, Memory}

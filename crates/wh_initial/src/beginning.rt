@@ -16,9 +16,9 @@ use crate::segments::{elements_fit, segment_places, segments_fit};
 use crate::sizes::{first_entries, first_pages, last_pages};
 use crate::table::first_table;
 use std::alloc::Global;
+use wh_control::Store;
 use wh_host_model::HostGlobal;
 use wh_imports::Linked;
-use wh_machine::Store;
 use wh_syntax::Module;
 
 const PAGE: u64 = 65536;

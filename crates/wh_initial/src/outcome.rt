@@ -1,6 +1,6 @@
 //! What is handed out.
 
-use wh_machine::Store;
+use wh_control::Store;
 
 /// What an instance begins with.
 #[derive(Drop)]

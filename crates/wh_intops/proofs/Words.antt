@@ -14,7 +14,7 @@ use mir.Val.{sel}
 -- ---- signs
 
 -- a machine word of N bits, read as signed
-read-signed : (N i : ℕ) → i < 2 ^ N → sel (ltb i (2 ^ (N - 1))) (pos i) (negsuc (2 ^ N - suc i)) ≡ signed N i
+pub read-signed : (N i : ℕ) → i < 2 ^ N → sel (ltb i (2 ^ (N - 1))) (pos i) (negsuc (2 ^ N - suc i)) ≡ signed N i
 read-signed N i fits = ⊎_elim
     (λ low. rw (lt-ltb i (2 ^ (N - 1)) low) (sym (signed-low N i low)))
     (λ high. rw (le-ltb i (2 ^ (N - 1)) high) (sym (signed-high N i high fits)))

@@ -6,7 +6,6 @@ pub mod HostSteps
 pub mod Lookups
 pub mod Turning
 pub mod Dispatching
-pub mod Numerals
 pub mod Hosted
 pub mod OwnCalls
 pub mod Accessing
@@ -14,7 +13,6 @@ pub mod SameTypes
 pub mod Reaching
 pub mod Running
 pub mod Opened
-pub mod Instances
 pub mod Finding
 pub mod ProgressOperands
 pub mod ProgressCalls

@@ -1,5 +1,4 @@
 pub mod Held
-pub mod Keeps
 pub mod Program
 pub mod Reading
 pub mod Turns

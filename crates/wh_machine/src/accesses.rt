@@ -9,9 +9,8 @@ ghost use Rattle.wh_machine.specs.Waiting.{IsUncharged};
 use crate::bytes::{Loaded, read, write};
 use crate::instructions::advance;
 use crate::machine::{Stack, Turn};
-use crate::memory::LinearMem;
-use crate::store::Store;
-use wh_control::Words;
+use wh_control::{Store, Words};
+use wh_linmem::LinearMem;
 use wh_model::{Got, Grown, LoadOp, StoreOp, Trap};
 
 /// `global.get`
@@ -65,7 +64,6 @@ fn answer_word(grown: Grown) -> u64
 pub fn turn_memory_grow<M: LinearMem>(stack: &mut Stack, memory: &mut M) -> Turn
     requires { IsNextInMemory stack.old (M.bytes memory.old) (M.limit memory.old) MemoryGrow }
     ensures turned { InMemory (M.ready memory.old) stack.old (M.bytes memory.old) (M.limit memory.old) MemoryGrow result stack.new (M.bytes memory.new) }
-    ensures limit { M.limit memory.new ≡ M.limit memory.old }
     ensures keeps { M.keeps memory.old memory.new }
     ensures waits { IsUncharged result → memory.new ≡ memory.old }
 {
@@ -100,7 +98,6 @@ pub fn turn_load<M: LinearMem>(
     requires { IsNextInMemory stack.old (M.bytes memory.old) (M.limit memory.old) (Load op align offset) }
     ensures turned { InMemory (M.ready memory.old) stack.old (M.bytes memory.old) (M.limit memory.old) (Load op align offset) result stack.new (M.bytes memory.new) }
     ensures found { FoundInMemory (M.ready memory.old) stack.old (M.bytes memory.old) (M.limit memory.old) (Load op align offset) result }
-    ensures limit { M.limit memory.new ≡ M.limit memory.old }
     ensures keeps { M.keeps memory.old memory.new }
     ensures waits { IsUncharged result → memory.new ≡ memory.old }
 {
@@ -131,7 +128,6 @@ pub fn turn_store<M: LinearMem>(
     requires { IsNextInMemory stack.old (M.bytes memory.old) (M.limit memory.old) (StoreAt op align offset) }
     ensures turned { InMemory (M.ready memory.old) stack.old (M.bytes memory.old) (M.limit memory.old) (StoreAt op align offset) result stack.new (M.bytes memory.new) }
     ensures found { FoundInMemory (M.ready memory.old) stack.old (M.bytes memory.old) (M.limit memory.old) (StoreAt op align offset) result }
-    ensures limit { M.limit memory.new ≡ M.limit memory.old }
     ensures keeps { M.keeps memory.old memory.new }
     ensures waits { IsUncharged result → memory.new ≡ memory.old }
 {

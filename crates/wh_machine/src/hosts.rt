@@ -9,9 +9,8 @@ ghost use Rattle.wh_machine.specs.Waiting.{EmitWaits, IsUncharged};
 use crate::bytes::{Emitted, emit, put};
 use crate::instructions::advance;
 use crate::machine::{Stack, Turn};
-use crate::memory::LinearMem;
-use crate::store::Store;
-use wh_control::Words;
+use wh_control::{Store, Words};
+use wh_linmem::LinearMem;
 use wh_model::{HostFunc, Trap};
 
 /// How many bytes one `emit` may append.
@@ -59,7 +58,6 @@ pub fn host_emit<M: LinearMem>(words: &mut Words, store: &mut Store, memory: &mu
     requires capacity { output_room ≤ vec_capacity store.old.output }
     ensures emits { (count i : ℕ) (rest : List ℕ) → words.old ≡ count ∷ i ∷ rest → EmitsOnto (M.ready memory.old) (M.bytes memory.old) i count rest words.old store.old result words.new store.new }
     ensures bytes { M.bytes memory.new ≡ M.bytes memory.old }
-    ensures limit { M.limit memory.new ≡ M.limit memory.old }
     ensures keeps { M.keeps memory.old memory.new }
     ensures waits { EmitWaits result → memory.new ≡ memory.old }
 {
@@ -93,7 +91,6 @@ pub fn call_host<M: LinearMem>(
     requires capacity { output_room ≤ vec_capacity store.old.output }
     ensures turned { HostTurn func (M.ready memory.old) (M.bytes memory.old) stack.old store.old result stack.new store.new }
     ensures bytes { M.bytes memory.new ≡ M.bytes memory.old }
-    ensures limit { M.limit memory.new ≡ M.limit memory.old }
     ensures keeps { M.keeps memory.old memory.new }
     ensures waits { IsUncharged result → memory.new ≡ memory.old }
 {

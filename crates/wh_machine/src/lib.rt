@@ -12,16 +12,14 @@ mod dispatch;
 mod hosts;
 mod instructions;
 mod machine;
-mod memory;
 mod opening;
 mod operands;
 mod stepping;
-mod store;
 mod variables;
 
 pub use asking::asks;
 pub use machine::{Machine, Stepped};
-pub use memory::LinearMem;
 pub use opening::begin;
 pub use stepping::{run, step};
-pub use store::Store;
+pub use wh_control::Store;
+pub use wh_linmem::LinearMem;

@@ -5,7 +5,8 @@ ghost use Rattle.std.specs.List.{AllByRecursion};
 ghost use Rattle.wh_control.specs.Represents.{Func, most_words};
 ghost use Rattle.wh_control.specs.Moves.{begun};
 ghost use Rattle.wh_machine.specs.Opening.{CanBegin, Begins};
-ghost use Rattle.wh_machine.specs.Program.{funcs_in, parts_in};
+ghost use Rattle.wh_control.specs.Parts.{funcs_in};
+ghost use Rattle.wh_machine.specs.Program.{parts_in};
 ghost use Rattle.wh_machine.specs.Runs.{linked_parts, IsSettledIn};
 ghost use Rattle.wh_machine.specs.Turns.{calls_of};
 

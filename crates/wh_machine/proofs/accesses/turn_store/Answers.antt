@@ -2,7 +2,7 @@ use Rattle.std.proofs.Common.{◌+◌, ◌∷◌, ap, subst, ◌∙◌, length, 
 use Rattle.wh_machine.proofs.Turning.{place_fits}
 use Rattle.wh_machine.proofs.Accessing.{charged_turn, store_index, store_steps, store_stops, store_waits}
 use Rattle.wh_machine.proofs.Finding.{rests_here, store_had}
-use Rattle.wh_machine.proofs.Numerals.{length_bytes_of}
+use Rattle.wh_intops.proofs.Numerals.{length_bytes_of}
 use Rattle.wh_model.specs.Memory.{Stores}
 use Rattle.wh_model.specs.Store.{bytes_of}
 use Rattle.wh_model.specs.Typing.{store_type}

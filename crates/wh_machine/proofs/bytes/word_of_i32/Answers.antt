@@ -1,6 +1,6 @@
 use Rattle.std.proofs.Common.{◌∙◌, ap, w32, of_z}
 use Rattle.std.proofs.lemmas.Int.{to_z-of_z}
-use Rattle.wh_machine.proofs.Numerals.{narrow_32}
+use Rattle.wh_intops.proofs.Numerals.{narrow_32}
 use Rattle.wh_machine.proofs.bytes.word_of_i32.Goals as goal
 
 pub returns-clause-value : goal.returns-clause-value

@@ -3,7 +3,8 @@ use Rattle.wh_model.specs.Syntax.{call_indirect}
 use Rattle.wh_model.specs.Store.{host}
 use Rattle.wh_control.proofs.Constructs.{at_now}
 use Rattle.wh_control.proofs.Calling.{host_at, indirect_stops}
-use Rattle.wh_machine.specs.Program.{funcs_in, parts_in}
+use Rattle.wh_control.specs.Parts.{funcs_in}
+use Rattle.wh_machine.specs.Program.{parts_in}
 use Rattle.wh_machine.specs.declared.machine.Stack.{Stack}
 use Rattle.wh_machine.specs.Entering.{pushed}
 use Rattle.wh_machine.specs.Turns.{calls_of, Turned}
@@ -117,7 +118,6 @@ returns-in_default g c = record {
       let most = g.M.LinearMem.limit c.args.memory.now in
       host_found c.args.func c.call_host.result p (g.M.LinearMem.ready c.args.memory.now) (pushed m w) k flat most (call_indirect y) m.words c.call_host.new.stack c.call_host.new.store (rests_here r tt)
       (before_indirect p m code k flat most w x y c.args.func r entry at c.if-not-host_has_type.ensures) c.call_host.ensures.turned;
-  limit = c.call_host.ensures.limit;
   keeps = c.call_host.ensures.keeps;
   waits = c.call_host.ensures.waits;
 }

@@ -5,7 +5,8 @@ use Rattle.wh_control.specs.Represents.{Represents}
 use Rattle.wh_control.specs.Moves.{entered}
 use Rattle.wh_control.proofs.Constructs.{at_now}
 use Rattle.wh_control.proofs.Calling.{own_at, indirect_stops, indirect_next, indirect_room}
-use Rattle.wh_machine.specs.Program.{funcs_in, parts_in}
+use Rattle.wh_control.specs.Parts.{funcs_in}
+use Rattle.wh_machine.specs.Program.{parts_in}
 use Rattle.wh_machine.specs.Entering.{pushed}
 use Rattle.wh_machine.specs.Turns.{calls_of}
 use Rattle.wh_machine.proofs.OwnCalls.{entered_room, table_named, table_own, wanted_there}

@@ -4,7 +4,8 @@ use Rattle.wh_control.specs.Represents.{Represents}
 use Rattle.wh_control.specs.Moves.{entered}
 use Rattle.wh_control.proofs.Constructs.{at_now}
 use Rattle.wh_control.proofs.Calling.{call_next, call_traps, call_room}
-use Rattle.wh_machine.specs.Program.{funcs_in, parts_in}
+use Rattle.wh_control.specs.Parts.{funcs_in}
+use Rattle.wh_machine.specs.Program.{parts_in}
 use Rattle.wh_machine.specs.Turns.{calls_of, Turned}
 use Rattle.wh_machine.proofs.Finding.{rests_here, own_asks_nothing, before_call, host_found}
 use Rattle.wh_machine.proofs.Hosted.{has_operands, call_turned}

@@ -3,7 +3,8 @@ use Rattle.wh_model.specs.Syntax.{call_indirect}
 use Rattle.wh_syntax.specs.declared.instr.Instr.TheVariants.{CallIndirect}
 use Rattle.wh_control.proofs.Constructs.{at_now}
 use Rattle.wh_control.proofs.Calling.{at_table, indirect_stops}
-use Rattle.wh_machine.specs.Program.{funcs_in, parts_in}
+use Rattle.wh_control.specs.Parts.{funcs_in}
+use Rattle.wh_machine.specs.Program.{parts_in}
 use Rattle.wh_machine.specs.Entering.{pushed}
 use Rattle.wh_machine.specs.Turns.{calls_of, IsReady, Turned, Found}
 use Rattle.wh_machine.proofs.Finding.{found, rests_here, own_by_table_asks_nothing, back}

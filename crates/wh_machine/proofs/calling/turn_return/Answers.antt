@@ -2,7 +2,8 @@ use Rattle.std.proofs.Common.{◌≡◌, ◌≤◌, ◌+◌, is_some, sym, ap, s
 use Rattle.wh_control.specs.Represents.{Represents, result_of}
 use Rattle.wh_control.specs.Moves.{cut, one_if, left}
 use Rattle.wh_control.proofs.Jumps.{return_next, return_room}
-use Rattle.wh_machine.specs.Program.{funcs_in, parts_in}
+use Rattle.wh_control.specs.Parts.{funcs_in}
+use Rattle.wh_machine.specs.Program.{parts_in}
 use Rattle.wh_machine.specs.Turns.{calls_of, ended_calls}
 use Rattle.wh_machine.proofs.Turning.{here, one_step}
 use Rattle.wh_machine.proofs.calling.turn_return.Goals as goal

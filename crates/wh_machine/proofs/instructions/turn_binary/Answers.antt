@@ -3,7 +3,7 @@ use Rattle.wh_model.specs.Focus.{running}
 use Rattle.wh_control.specs.Moves.{goes_to}
 use Rattle.wh_control.specs.Next.{Next}
 use Rattle.wh_control.proofs.Constructs.{at_now}
-use Rattle.wh_machine.specs.Program.{funcs_in}
+use Rattle.wh_control.specs.Parts.{funcs_in}
 use Rattle.wh_machine.specs.Turns.{calls_of}
 use Rattle.wh_machine.proofs.Turning.{here, place_fits, charged_words, stops_alone}
 use Rattle.wh_syntax.specs.declared.instr.Instr.TheVariants.{Binary}

@@ -2,7 +2,7 @@ use Rattle.std.proofs.Common.{◌∷◌, sym, ap, ◌∙◌}
 use Rattle.wh_syntax.specs.declared.instr.Instr.TheVariants.{Drop}
 use Rattle.wh_model.specs.Syntax.{drop_operand}
 use Rattle.wh_control.proofs.Constructs.{at_now}
-use Rattle.wh_machine.specs.Program.{funcs_in}
+use Rattle.wh_control.specs.Parts.{funcs_in}
 use Rattle.wh_machine.specs.Turns.{calls_of}
 use Rattle.wh_machine.proofs.Straight.{drop_needs, drop_next}
 use Rattle.wh_machine.proofs.Turning.{here, place_fits, charged_words}

@@ -1,9 +1,9 @@
 use Rattle.std.proofs.Common.{◌∷◌, sym, subst, ◌+◌, arith}
-use Rattle.wh_machine.proofs.Numerals.{handed_64}
+use Rattle.wh_intops.proofs.Numerals.{handed_64}
 use Rattle.wh_model.specs.Focus.{running}
 use Rattle.wh_control.specs.Moves.{goes_to}
 use Rattle.wh_control.specs.Next.{Next}
-use Rattle.wh_machine.specs.Program.{funcs_in}
+use Rattle.wh_control.specs.Parts.{funcs_in}
 use Rattle.wh_machine.specs.Turns.{calls_of}
 use Rattle.wh_machine.proofs.Turning.{here, place_fits, free_words, room_after}
 use Rattle.wh_syntax.specs.declared.instr.Instr.TheVariants.{I64Const}

@@ -1,4 +1,4 @@
-use Rattle.wh_machine.specs.Program.{funcs_in}
+use Rattle.wh_control.specs.Parts.{funcs_in}
 use Rattle.wh_machine.specs.Turns.{calls_of}
 use Rattle.wh_machine.proofs.Turning.{here, place_fits, charged_words}
 use Rattle.wh_syntax.specs.declared.instr.Instr.TheVariants.{Loop}

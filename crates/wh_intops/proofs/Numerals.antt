@@ -1,28 +1,20 @@
 -- Signed numbers of 8, 16 and 32 bits, and the bytes of a number.
 use Rattle.std.proofs.lemmas.Int.{to_z-of_z}
-use Rattle.std.proofs.Common.{◌≡◌, ◌∙◌, ℕ, suc, ◌-◌, ◌^◌, ◌%◌, ◌/◌, ◌<◌, ltb, ℤ, pos, negsuc, w8, w16, w32, w64, to_z, of_z, sym, arith, ⊎_elim, le-ltb, lt-ltb, SFits, length, zero, refl, ap}
-use Rattle.std.proofs.lemmas.Bool.{cases_lt}
+use Rattle.std.proofs.Common.{◌≡◌, ◌∙◌, ℕ, suc, ◌^◌, ◌%◌, ◌/◌, ◌<◌, ℤ, pos, negsuc, w8, w16, w32, w64, to_z, of_z, arith, SFits, length, zero, refl, ap}
 use Rattle.std.proofs.lemmas.Int.{ints}
-use Rattle.wh_model.proofs.Numbers.{signed-low, signed-high}
 use Rattle.wh_model.specs.Numbers.{signed, unsigned}
 use Rattle.wh_model.specs.Store.{bytes_of}
-use mir.Val.{sel}
+use Rattle.wh_intops.proofs.Words.{read-signed}
 
--- a machine word of N bits, read as signed
-read_signed : (N i : ℕ) → i < 2 ^ N → sel (ltb i (2 ^ (N - 1))) (pos i) (negsuc (2 ^ N - suc i)) ≡ signed N i
-read_signed N i fits = ⊎_elim
-    (λ low. rw (lt-ltb i (2 ^ (N - 1)) low) (sym (signed-low N i low)))
-    (λ high. rw (le-ltb i (2 ^ (N - 1)) high) (sym (signed-high N i high fits)))
-    (cases_lt i (2 ^ (N - 1)))
-
+-- machine words, read as signed
 pub signed_8 : (i : ℕ) → i < 256 → to_z w8 i ≡ signed 8 i
-signed_8 i fits = read_signed 8 i fits
+signed_8 i fits = read-signed 8 i fits
 
 pub signed_16 : (i : ℕ) → i < 2 ^ 16 → to_z w16 i ≡ signed 16 i
-signed_16 i fits = read_signed 16 i fits
+signed_16 i fits = read-signed 16 i fits
 
 pub signed_32 : (i : ℕ) → i < 2 ^ 32 → to_z w32 i ≡ signed 32 i
-signed_32 i fits = read_signed 32 i fits
+signed_32 i fits = read-signed 32 i fits
 
 -- the machine word of a signed number, and its low half
 pub unsigned_32 : (z : ℤ) → SFits w64 z → of_z w64 z % 2 ^ 32 ≡ unsigned 32 z

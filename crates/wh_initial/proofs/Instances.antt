@@ -20,8 +20,7 @@ use Rattle.wh_imports.specs.Resolving.{IsResolved}
 use Rattle.wh_control.specs.Represents.{Func, func_of, IsFunc}
 use Rattle.wh_control.proofs.Places.{same_at}
 use Rattle.wh_control.proofs.Standing.{is_func}
-use Rattle.wh_machine.specs.Program.{funcs_of, IsInstance}
-use Rattle.wh_machine.specs.Runs.{linked_parts}
+use Rattle.wh_control.specs.Parts.{funcs_of, IsInstance}
 
 -- ---- signatures
 
@@ -82,7 +81,7 @@ own_funcs c types same (x ∷ xs) bs ts os (b, rest, f, more, eb, et, at, valid,
 -- ---- instances
 
 pub instance_of : (l : Joined) (sound : IsSound (view_module l.valid.decoded) (map view_side l.valid.tables)) → IsResolved (view_module l.valid.decoded) l.funcs l.globals
-    → (p : Parameters) (inst : Instance) (globals : List Value) (elements segments : List Piece) → Prepares (view_module l.valid.decoded) p inst globals elements segments → IsInstance (linked_parts l) sound.context inst
+    → (p : Parameters) (inst : Instance) (globals : List Value) (elements segments : List Piece) → Prepares (view_module l.valid.decoded) p inst globals elements segments → IsInstance (record { decoded = l.valid.decoded; tables = l.valid.tables; hosts = l.funcs }) sound.context inst
 instance_of l sound resolved p inst globals elements segments pre =
     let m = view_module l.valid.decoded in
     let c = sound.context in
