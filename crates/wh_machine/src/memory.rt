@@ -38,7 +38,8 @@ pub trait LinearMem {
     /// Writes these bytes.
     fn store(&mut self, at: u64, given: &[u8]) -> Got
         requires few { length given.now ≤ 4096 }
-        ensures stores { Stores (ready self.old) (bytes self.old) at given.now result (bytes self.new) }
+        ensures stores { Stores (ready self.old) (bytes self.old) at given.now result
+            (bytes self.new) }
         ensures limit { limit self.new ≡ limit self.old }
         ensures keeps { keeps self.old self.new }
         ensures waits { IsWaiting result → self.new ≡ self.old };
