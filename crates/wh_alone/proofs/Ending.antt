@@ -12,11 +12,11 @@ use Rattle.wh_model.proofs.Chains.{after_joins}
 use Rattle.wh_model.proofs.Taken.{takes_after}
 use Rattle.wh_imports.specs.Joined.{Joined}
 use Rattle.wh_control.specs.Represents.{Func, Calls, Represents, bits_of}
+use Rattle.wh_control.specs.declared.store.Store as stored
+use Rattle.wh_control.specs.Parts.{Parts, funcs_in}
 use Rattle.wh_machine.specs.declared.machine.Machine.{Machine}
 use Rattle.wh_machine.specs.declared.machine.Stepped.{Stepped}
 use Rattle.wh_machine.specs.declared.machine.Stepped.TheVariants as steps
-use Rattle.wh_control.specs.declared.store.Store as stored
-use Rattle.wh_control.specs.Parts.{Parts, funcs_in}
 use Rattle.wh_machine.specs.Runs.{calls_in, linked_parts, StoreStands, Stands}
 use Rattle.wh_machine.specs.Went.{Went}
 use Rattle.wh_flatmem.specs.Flat.{Flat}

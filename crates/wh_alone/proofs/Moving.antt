@@ -16,8 +16,8 @@ use Rattle.wh_model.proofs.Journals.{functions_same, cancelled_stays}
 use Rattle.wh_syntax.specs.View.{view_module}
 use Rattle.wh_control.specs.Represents.{bits_of, result_of, IsFunc}
 use Rattle.wh_control.proofs.Jumps.{all_at}
-use Rattle.wh_machine.specs.Opening.{Suits}
 use Rattle.wh_control.specs.Parts.{funcs_in, IsInstance}
+use Rattle.wh_machine.specs.Opening.{Suits}
 use Rattle.wh_machine.specs.Runs.{linked_parts, StoreStands}
 use Rattle.wh_machine.proofs.Opened.{own_of}
 use Rattle.wh_imports.specs.Joined.{Joined}

@@ -24,7 +24,8 @@ pub fn call_alone(
     args: &[u64],
     fuel: u64,
 ) -> Result<(Instance, Alone), CallError>
-    ensures ok { IfOk result (λ r. RunsAlone bytes.now (view_parameters parameters) func args.now fuel r.1 r.0) }
+    ensures ok { IfOk result
+        (λ r. RunsAlone bytes.now (view_parameters parameters) func args.now fuel r.1 r.0) }
     ensures err { IfErr result (RefusesAlone bytes.now (view_parameters parameters)) }
 {
     let mut instance = Instance::new(alloc, bytes, parameters)?;

@@ -74,7 +74,8 @@ fn func_type_at(types: &[FuncType], at: usize) -> &FuncType
 
 /// Whether the function of this index is one of the module's own, and these words are arguments of it.
 pub fn can_call(linked: &Linked, func: u32, args: &[u64]) -> bool
-    ensures { (c : Context) (inst : Instance) → IsInstance (linked_parts linked.now) c inst → MatchBool result (HasCall inst func args.now) (¬ (HasCall inst func args.now)) }
+    ensures { (c : Context) (inst : Instance) → IsInstance (linked_parts linked.now) c inst
+        → MatchBool result (HasCall inst func args.now) (¬ (HasCall inst func args.now)) }
 {
     let module = linked.module();
     let Some(place) = (func as usize).checked_sub(linked.funcs().len()) else {

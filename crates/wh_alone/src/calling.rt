@@ -17,9 +17,27 @@ pub fn run_on(
     memory: &mut FlatMemory,
     fuel: u64,
 ) -> (Outcome, u64)
-    requires { StandsSomewhere (record { linked = linked.now; store = store.old; memory = memory.old; machine = machine.old }) }
-    ensures { Goes (record { linked = linked.now; store = store.old; memory = memory.old; machine = machine.old }) fuel result.0 result.1
-        (record { linked = linked.now; store = store.new; memory = memory.new; machine = machine.new }) }
+    requires { StandsSomewhere
+        (record {
+          linked = linked.now;
+          store = store.old;
+          memory = memory.old;
+          machine = machine.old;
+        }) }
+    ensures { Goes
+        (record {
+          linked = linked.now;
+          store = store.old;
+          memory = memory.old;
+          machine = machine.old;
+        })
+        fuel result.0 result.1
+        (record {
+          linked = linked.now;
+          store = store.new;
+          memory = memory.new;
+          machine = machine.new;
+        }) }
 {
     let (stepped, charges) = run(linked, store, machine, memory, fuel);
     let outcome = match stepped {
@@ -40,9 +58,28 @@ pub fn call(
     args: &[u64],
     fuel: u64,
 ) -> (Outcome, u64)
-    requires { CanCall (record { linked = linked.now; store = store.old; memory = memory.old; machine = machine.old }) func args.now }
-    ensures { Comes (record { linked = linked.now; store = store.old; memory = memory.old; machine = machine.old }) func args.now fuel result.0 result.1
-        (record { linked = linked.now; store = store.new; memory = memory.new; machine = machine.new }) }
+    requires { CanCall
+        (record {
+          linked = linked.now;
+          store = store.old;
+          memory = memory.old;
+          machine = machine.old;
+        })
+        func args.now }
+    ensures { Comes
+        (record {
+          linked = linked.now;
+          store = store.old;
+          memory = memory.old;
+          machine = machine.old;
+        })
+        func args.now fuel result.0 result.1
+        (record {
+          linked = linked.now;
+          store = store.new;
+          memory = memory.new;
+          machine = machine.new;
+        }) }
 {
     begin(linked, machine, func, args);
     run_on(linked, store, machine, memory, fuel)

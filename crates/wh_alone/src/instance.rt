@@ -39,9 +39,18 @@ impl Model for Instance {
 
     ghost coded = { stored_plain };
 
-    ghost view = { λ i. record { kept = record { linked = i.linked; store = i.store; memory = i.memory; machine = i.machine }; stage = i.stage } };
+    ghost view = { λ i. record {
+      kept =
+          record { linked = i.linked; store = i.store; memory = i.memory; machine = i.machine };
+      stage = i.stage;
+    } };
 
-    ghost invariant = { λ i. IsSomewhere (record { kept = record { linked = i.linked; store = i.store; memory = i.memory; machine = i.machine }; stage = i.stage }) };
+    ghost invariant = { λ i. IsSomewhere
+        (record {
+          kept =
+              record { linked = i.linked; store = i.store; memory = i.memory; machine = i.machine };
+          stage = i.stage;
+        }) };
 }
 
 impl Instance {
@@ -87,7 +96,8 @@ impl Instance {
     /// each parameter, below 2^32 for an i32.
     pub fn call(&mut self, func: u32, args: &[u64], fuel: u64) -> Result<(Outcome, u64), Refused>
         ensures ok { IfOk result (λ r. Called self.old func args.now fuel r.0 r.1 self.new) }
-        ensures err { IfErr result (λ e. RefusesCall self.old func args.now e × (self.new ≡ self.old)) }
+        ensures err { IfErr result
+            (λ e. RefusesCall self.old func args.now e × (self.new ≡ self.old)) }
     {
         match self.stage {
             Stage::Fresh | Stage::Starting | Stage::Calling => return Err(Refused::Busy),
@@ -113,7 +123,8 @@ impl Instance {
     /// Lets the start function begin, or the call that ran out of fuel go on, with so much more fuel: how it has ended,
     /// and how many charges were taken now. `None` where no call is open.
     pub fn run(&mut self, fuel: u64) -> Option<(Outcome, u64)>
-        ensures some { IfSome result (λ r. IsOpen self.old.stage × GoesOn self.old fuel r.0 r.1 self.new) }
+        ensures some { IfSome result
+            (λ r. IsOpen self.old.stage × GoesOn self.old fuel r.0 r.1 self.new) }
         ensures none { IfNone result ((¬ (IsOpen self.old.stage)) × (self.new ≡ self.old)) }
     {
         match self.stage {
@@ -187,8 +198,10 @@ impl Instance {
 
     /// The index of the function that is exported by this name.
     pub fn func(&self, name: &str) -> Option<u32>
-        ensures some { IfSome result (Exports self.now.kept.linked.valid.decoded.exports.items name.now) }
-        ensures none { IfNone result (LacksFunc self.now.kept.linked.valid.decoded.exports.items name.now) }
+        ensures some { IfSome result
+            (Exports self.now.kept.linked.valid.decoded.exports.items name.now) }
+        ensures none { IfNone result
+            (LacksFunc self.now.kept.linked.valid.decoded.exports.items name.now) }
     {
         exported(&self.linked.module().exports, name)
     }

@@ -1,6 +1,6 @@
 //! Data segments, written to a memory.
 
-ghost use Rattle.std.specs.Prelude.{◌≡◌, ◌<◌, ℕ, List, length, slice_get, Some};
+ghost use Rattle.std.specs.Prelude.{◌≡◌, ◌<◌, List, length, slice_get, Some};
 ghost use Rattle.wh_model.specs.Instance.{Piece, Within};
 ghost use Rattle.wh_syntax.specs.declared.module.Data.{Data};
 ghost use Rattle.wh_alone.specs.Alone.{ArePieces, written_over};
@@ -24,8 +24,11 @@ fn segment_at(segments: &[Data], at: usize) -> &Data
 
 /// Writes data segments, in order, each from its place on. They end within the memory.
 pub fn write_segments(segments: &[Data], places: &[u32], memory: &mut FlatMemory)
-    requires { (ps : List Piece) × ArePieces ps places.now segments.now × Within (length memory.old.bytes) ps }
-    ensures bytes { (ps : List Piece) → ArePieces ps places.now segments.now → Within (length memory.old.bytes) ps → memory.new.bytes ≡ written_over memory.old.bytes ps }
+    requires { (ps : List Piece) × ArePieces ps places.now segments.now
+        × Within (length memory.old.bytes) ps }
+    ensures bytes { (ps : List Piece) → ArePieces ps places.now segments.now
+        → Within (length memory.old.bytes) ps
+        → memory.new.bytes ≡ written_over memory.old.bytes ps }
     ensures limit { memory.new.limit ≡ memory.old.limit }
 {
     for at in 0..segments.len() {

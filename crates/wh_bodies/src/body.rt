@@ -1,6 +1,6 @@
 //! The check of a whole body.
 
-ghost use Rattle.std.specs.Prelude.{◌≡◌, ◌≢◌, ◌+◌, ◌<◌, ◌≤◌, ◌^◌, ℕ, List, [], ◌∷◌, Option, Ok, Err, length, map, reverse, OnOk, IfOk, IfErr, IsTrue, ◌↔◌};
+ghost use Rattle.std.specs.Prelude.{◌≡◌, ◌≢◌, ◌+◌, ◌<◌, ◌≤◌, ◌^◌, ℕ, List, [], Option, Ok, Err, length, map, reverse, OnOk, IfOk, IfErr, IsTrue, ◌↔◌};
 ghost use Rattle.std.specs.List.{AllByRecursion};
 ghost use Rattle.wh_syntax.specs.Shown.{instr_of, InPool};
 ghost use Rattle.wh_bodies.specs.Stepping.{run};
@@ -78,10 +78,13 @@ fn check_all(
     targets: &[u32],
     checker: &mut Checker,
 ) -> Result<(), BodyFault>
-    requires named { AllByRecursion (λ x. x < length around.now.context.types.now) around.now.context.funcs.now }
+    requires named { AllByRecursion (λ x. x < length around.now.context.types.now)
+        around.now.context.funcs.now }
     requires in_pool { AllByRecursion (InPool targets.now) instrs.now }
     requires short { length instrs.now < 2 ^ 32 }
-    ensures { RunsTo result (state_of checker.new) (run (view_around around.now) 0 (map (instr_of targets.now) instrs.now) (state_of checker.old)) }
+    ensures { RunsTo result (state_of checker.new)
+        (run (view_around around.now) 0 (map (instr_of targets.now) instrs.now)
+            (state_of checker.old)) }
 {
     for at in 0..instrs.len() {
         match step(around, targets, checker, instrs[at]) {
@@ -99,7 +102,11 @@ fn check_all(
 
 /// What is known before the first instruction, with the marks of all constructs.
 fn prepare(alloc: Global, instrs: &[Instr], of: Option<ValType>) -> Result<Checker, ValidKind>
-    ensures ok { IfOk result (λ c. (labels : List ℕ) → state_of c ≡ started of (length instrs.now) (all_marks 0 (map (instr_of labels) instrs.now)).done) }
+    ensures ok { IfOk result
+        (λ c. (labels : List ℕ)
+            → state_of c
+                ≡ started of (length instrs.now)
+                    (all_marks 0 (map (instr_of labels) instrs.now)).done) }
     ensures short { OnOk result (length instrs.now < 2 ^ 32) }
     ensures err { IfErr result (λ k. k ≡ ValidKind.Memory) }
 {
@@ -115,9 +122,11 @@ fn run_body(
     instrs: &[Instr],
     targets: &[u32],
 ) -> Result<Checker, BodyFault>
-    requires named { AllByRecursion (λ x. x < length around.now.context.types.now) around.now.context.funcs.now }
+    requires named { AllByRecursion (λ x. x < length around.now.context.types.now)
+        around.now.context.funcs.now }
     requires in_pool { AllByRecursion (InPool targets.now) instrs.now }
-    ensures { RunsFrom state_of result (whole_run (view_around around.now) (map (instr_of targets.now) instrs.now)) }
+    ensures { RunsFrom state_of result
+        (whole_run (view_around around.now) (map (instr_of targets.now) instrs.now)) }
 {
     let mut checker = match prepare(alloc, instrs, around.result) {
         Ok(checker) => checker,
@@ -129,7 +138,8 @@ fn run_body(
 
 /// Whether parameters and locals are no more than there may be.
 fn few_locals(func_type: &FuncType, body: &Body) -> bool
-    ensures { IsTrue result ↔ (length func_type.now.params.items + length body.now.locals.items ≤ 256) }
+    ensures { IsTrue result
+        ↔ (length func_type.now.params.items + length body.now.locals.items ≤ 256) }
 {
     let params = func_type.params.len();
     params <= MOST_LOCALS && body.locals.len() <= MOST_LOCALS - params
@@ -157,17 +167,28 @@ pub fn check_body(
     requires named { AllByRecursion (λ x. x < length context.now.types.now) context.now.funcs.now }
     requires one_result { length func_type.now.results.items ≤ 1 }
     // The body is valid with this type (3.4.3).
-    ensures valid { OnOk result (ValidBody (view_context context.now) (view_type func_type.now) (view_body body.now)) }
+    ensures valid { OnOk result
+        (ValidBody (view_context context.now) (view_type func_type.now) (view_body body.now)) }
     // It has few locals, and no more operands at any place than there may be.
-    ensures fits { OnOk result (FitsBody (view_context context.now) (view_type func_type.now) (view_body body.now)) }
+    ensures fits { OnOk result
+        (FitsBody (view_context context.now) (view_type func_type.now) (view_body body.now)) }
     // Unless memory was refused, a body that is refused isn't valid, or doesn't fit.
-    ensures complete { IfErr result (λ e. e.kind ≢ ValidKind.Memory → ValidBody (view_context context.now) (view_type func_type.now) (view_body body.now) → FitsBody (view_context context.now) (view_type func_type.now) (view_body body.now) → ⊥) }
+    ensures complete { IfErr result
+        (λ e. e.kind ≢ ValidKind.Memory
+            → ValidBody (view_context context.now) (view_type func_type.now)
+                (view_body body.now)
+            → FitsBody (view_context context.now) (view_type func_type.now) (view_body body.now)
+            → ⊥) }
     // Another fault than want of memory is one of those that a body can have.
     ensures kinds { IfErr result (λ e. e.kind ≢ ValidKind.Memory → IsOfBody e.kind) }
     // It names an instruction of the body.
-    ensures place { IfErr result (λ e. e.kind ≢ ValidKind.Memory → HasInstr (view_body body.now) e.instr) }
+    ensures place { IfErr result
+        (λ e. e.kind ≢ ValidKind.Memory → HasInstr (view_body body.now) e.instr) }
     // The table is that of the body.
-    ensures table { IfOk result (λ found. view_side found ≡ table_of (view_context context.now) (view_type func_type.now) (view_body body.now)) }
+    ensures table { IfOk result
+        (λ found. view_side found
+            ≡ table_of (view_context context.now) (view_type func_type.now)
+                (view_body body.now)) }
 {
     if !few_locals(func_type, body) {
         return Err(before_all(ValidKind::Limits));

@@ -1,6 +1,6 @@
 //! The types of operands, as far as they are known.
 
-ghost use Rattle.std.specs.Prelude.{◌≡◌, ◌<◌, ◌≤◌, length, reverse, OnOk};
+ghost use Rattle.std.specs.Prelude.{◌≡◌, ◌<◌, reverse};
 ghost use Rattle.wh_bodies.specs.Known.{known, same_type, take_one, take_any, give_one, fall, take_all, give_all, pass, agreed, selected};
 ghost use Rattle.wh_bodies.specs.Faults.{Checks, Yields};
 
@@ -84,7 +84,8 @@ pub fn fall(operands: &mut Operands)
 
 /// Takes operands of these types, the last one topmost.
 pub fn take_all(operands: &mut Operands, wanted: &[ValType]) -> Result<(), ValidKind>
-    ensures { Checks result (known operands.new) (take_all (known operands.old) (reverse wanted.now)) }
+    ensures { Checks result (known operands.new)
+        (take_all (known operands.old) (reverse wanted.now)) }
 {
     let mut left = wanted.len();
     'left: while left > 0 {
@@ -114,7 +115,8 @@ pub fn pass(
     params: &[ValType],
     results: &[ValType],
 ) -> Result<(), ValidKind>
-    ensures { Checks result (known operands.new) (pass (known operands.old) params.now results.now) }
+    ensures { Checks result (known operands.new)
+        (pass (known operands.old) params.now results.now) }
 {
     take_all(operands, params)?;
     give_all(operands, results)

@@ -1,6 +1,6 @@
 //! Instructions that name no label (3.3.1 to 3.3.5), by class.
 
-ghost use Rattle.std.specs.Prelude.{◌≡◌, ◌+◌, ◌<◌, ◌≤◌, ◌++◌, ℕ, List, length, reverse, slice_get, OnOk, Ok, ◌∷◌, []};
+ghost use Rattle.std.specs.Prelude.{◌≡◌, ◌+◌, ◌<◌, ◌++◌, ℕ, List, length, slice_get, Ok, ◌∷◌, []};
 ghost use Rattle.std.specs.List.{AllByRecursion};
 ghost use Rattle.wh_model.specs.Typing.{load_type, store_type, conversion_type};
 ghost use Rattle.wh_model.specs.declared.ValType.TheVariants.{I32};
@@ -9,7 +9,7 @@ ghost use Rattle.wh_syntax.specs.Shown.{instr_of};
 ghost use Rattle.wh_bodies.specs.Known.{known, pass};
 ghost use Rattle.wh_bodies.specs.Stepping.{found, straight, control, memory, variable, numeric, load_exponent, store_exponent};
 ghost use Rattle.wh_bodies.specs.Views.{view_around};
-ghost use Rattle.wh_bodies.specs.Faults.{Checks, Yields};
+ghost use Rattle.wh_bodies.specs.Faults.{Checks};
 
 use crate::context::Around;
 use crate::fault::ValidKind;
@@ -31,8 +31,11 @@ fn conversion_type(op: ConvertOp) -> (ValType, ValType)
 
 /// Numeric instructions (3.3.1), and those of the other classes.
 pub fn numeric(around: &Around, operands: &mut Operands, instr: Instr) -> Result<(), ValidKind>
-    requires { AllByRecursion (λ x. x < length around.now.context.types.now) around.now.context.funcs.now }
-    ensures { (labels : List ℕ) → Checks result (known operands.new) (numeric (view_around around.now) (instr_of labels instr) (known operands.old)) }
+    requires { AllByRecursion (λ x. x < length around.now.context.types.now)
+        around.now.context.funcs.now }
+    ensures { (labels : List ℕ)
+        → Checks result (known operands.new)
+            (numeric (view_around around.now) (instr_of labels instr) (known operands.old)) }
 {
     match instr {
         Instr::I32Const(_) => pass(operands, &[], &[ValType::I32]),
@@ -51,7 +54,8 @@ pub fn numeric(around: &Around, operands: &mut Operands, instr: Instr) -> Result
 
 /// The type of a local.
 fn local_type(around: &Around, local: u32) -> Result<ValType, ValidKind>
-    ensures { result ≡ found (slice_get (around.now.params.now ++ around.now.locals.now) local) (λ t. Ok t) }
+    ensures { result
+        ≡ found (slice_get (around.now.params.now ++ around.now.locals.now) local) (λ t. Ok t) }
 {
     let local = local as usize;
     let found = if local < around.params.len() {
@@ -77,7 +81,8 @@ fn global_type(around: &Around, global: u32) -> Result<GlobalType, ValidKind>
 
 /// `global.set`
 fn set_global(around: &Around, operands: &mut Operands, global: u32) -> Result<(), ValidKind>
-    ensures { Checks result (known operands.new) (straight (view_around around.now) (global_set global) (known operands.old)) }
+    ensures { Checks result (known operands.new)
+        (straight (view_around around.now) (global_set global) (known operands.old)) }
 {
     let global = global_type(around, global)?;
     match global.mutability {
@@ -88,8 +93,11 @@ fn set_global(around: &Around, operands: &mut Operands, global: u32) -> Result<(
 
 /// Variable instructions (3.3.3), and those of the classes behind.
 fn variable(around: &Around, operands: &mut Operands, instr: Instr) -> Result<(), ValidKind>
-    requires { AllByRecursion (λ x. x < length around.now.context.types.now) around.now.context.funcs.now }
-    ensures { (labels : List ℕ) → Checks result (known operands.new) (variable (view_around around.now) (instr_of labels instr) (known operands.old)) }
+    requires { AllByRecursion (λ x. x < length around.now.context.types.now)
+        around.now.context.funcs.now }
+    ensures { (labels : List ℕ)
+        → Checks result (known operands.new)
+            (variable (view_around around.now) (instr_of labels instr) (known operands.old)) }
 {
     match instr {
         Instr::LocalGet(local) => {
@@ -145,7 +153,8 @@ fn store_access(op: StoreOp) -> (ValType, u32)
 
 /// `load`
 fn load(around: &Around, operands: &mut Operands, op: LoadOp, align: u32) -> Result<(), ValidKind>
-    ensures { Checks result (known operands.new) (straight (view_around around.now) (load op align 0) (known operands.old)) }
+    ensures { Checks result (known operands.new)
+        (straight (view_around around.now) (load op align 0) (known operands.old)) }
 {
     let (of, most) = load_access(op);
     if around.context.memories.is_empty() {
@@ -159,7 +168,8 @@ fn load(around: &Around, operands: &mut Operands, op: LoadOp, align: u32) -> Res
 
 /// `store`
 fn store(around: &Around, operands: &mut Operands, op: StoreOp, align: u32) -> Result<(), ValidKind>
-    ensures { Checks result (known operands.new) (straight (view_around around.now) (store op align 0) (known operands.old)) }
+    ensures { Checks result (known operands.new)
+        (straight (view_around around.now) (store op align 0) (known operands.old)) }
 {
     let (of, most) = store_access(op);
     if around.context.memories.is_empty() {
@@ -173,7 +183,9 @@ fn store(around: &Around, operands: &mut Operands, op: StoreOp, align: u32) -> R
 
 /// `memory.size` and `memory.grow`, which take this and give a size.
 fn pages(around: &Around, operands: &mut Operands, params: &[ValType]) -> Result<(), ValidKind>
-    ensures { Checks result (known operands.new) (found (slice_get (view_around around.now).memories 0) (λ _. pass (known operands.old) params.now (I32 ∷ []))) }
+    ensures { Checks result (known operands.new)
+        (found (slice_get (view_around around.now).memories 0)
+            (λ _. pass (known operands.old) params.now (I32 ∷ []))) }
 {
     if around.context.memories.is_empty() {
         return Err(ValidKind::Index);
@@ -183,8 +195,11 @@ fn pages(around: &Around, operands: &mut Operands, params: &[ValType]) -> Result
 
 /// Memory instructions (3.3.4), and those of the classes behind.
 fn memory(around: &Around, operands: &mut Operands, instr: Instr) -> Result<(), ValidKind>
-    requires { AllByRecursion (λ x. x < length around.now.context.types.now) around.now.context.funcs.now }
-    ensures { (labels : List ℕ) → Checks result (known operands.new) (memory (view_around around.now) (instr_of labels instr) (known operands.old)) }
+    requires { AllByRecursion (λ x. x < length around.now.context.types.now)
+        around.now.context.funcs.now }
+    ensures { (labels : List ℕ)
+        → Checks result (known operands.new)
+            (memory (view_around around.now) (instr_of labels instr) (known operands.old)) }
 {
     match instr {
         Instr::Load { op, align, .. } => load(around, operands, op, align),
@@ -197,8 +212,10 @@ fn memory(around: &Around, operands: &mut Operands, instr: Instr) -> Result<(), 
 
 /// `call`
 fn call(around: &Around, operands: &mut Operands, func: u32) -> Result<(), ValidKind>
-    requires { AllByRecursion (λ x. x < length around.now.context.types.now) around.now.context.funcs.now }
-    ensures { Checks result (known operands.new) (straight (view_around around.now) (call func) (known operands.old)) }
+    requires { AllByRecursion (λ x. x < length around.now.context.types.now)
+        around.now.context.funcs.now }
+    ensures { Checks result (known operands.new)
+        (straight (view_around around.now) (call func) (known operands.old)) }
 {
     let Some(&index) = around.context.funcs.get(func as usize) else {
         return Err(ValidKind::Index);
@@ -209,7 +226,8 @@ fn call(around: &Around, operands: &mut Operands, func: u32) -> Result<(), Valid
 
 /// `call_indirect`
 fn call_indirect(around: &Around, operands: &mut Operands, index: u32) -> Result<(), ValidKind>
-    ensures { Checks result (known operands.new) (straight (view_around around.now) (call_indirect index) (known operands.old)) }
+    ensures { Checks result (known operands.new)
+        (straight (view_around around.now) (call_indirect index) (known operands.old)) }
 {
     if around.context.tables.is_empty() {
         return Err(ValidKind::Index);
@@ -223,8 +241,11 @@ fn call_indirect(around: &Around, operands: &mut Operands, index: u32) -> Result
 
 /// Parametric and control instructions that name no label (3.3.2, 3.3.5).
 fn control(around: &Around, operands: &mut Operands, instr: Instr) -> Result<(), ValidKind>
-    requires { AllByRecursion (λ x. x < length around.now.context.types.now) around.now.context.funcs.now }
-    ensures { (labels : List ℕ) → Checks result (known operands.new) (control (view_around around.now) (instr_of labels instr) (known operands.old)) }
+    requires { AllByRecursion (λ x. x < length around.now.context.types.now)
+        around.now.context.funcs.now }
+    ensures { (labels : List ℕ)
+        → Checks result (known operands.new)
+            (control (view_around around.now) (instr_of labels instr) (known operands.old)) }
 {
     match instr {
         Instr::Unreachable => {

@@ -1,6 +1,6 @@
 //! Calls that have begun.
 
-ghost use Rattle.std.specs.Prelude.{◌≡◌, ℕ, ◌<◌, ◌≤◌, List, [], ◌∷◌, length, reverse, IfOk, IfSome, IfNone};
+ghost use Rattle.std.specs.Prelude.{◌≡◌, ◌<◌, ◌≤◌, List, [], ◌∷◌, length, reverse, IfOk, IfSome, IfNone};
 ghost use Rattle.std.specs.Vec.{vec_capacity};
 ghost use Rattle.wh_model.specs.Execution.{call_depth};
 ghost use Rattle.wh_control.specs.Stored.{stored_frames};

@@ -26,7 +26,8 @@ impl Model for Words {
 
     ghost view = { λ w. reverse w.items.items };
 
-    ghost invariant = { λ w. (most_words ≤ vec_capacity w.items) × (length w.items.items ≤ most_words) };
+    ghost invariant = { λ w. (most_words ≤ vec_capacity w.items)
+        × (length w.items.items ≤ most_words) };
 }
 
 impl Words {

@@ -1,6 +1,6 @@
 //! The code of functions (5.5.13): runs of locals, and instructions.
 
-ghost use Rattle.std.specs.Prelude.{◌≡◌, ◌≢◌, ℕ, ◌<◌, ◌≤◌, ◌^◌, ◌+◌, ◌-◌, ◌++◌, ◌∷◌, [], List, length, map, IfOk, IfErr, OnOk, nat_eq, Some};
+ghost use Rattle.std.specs.Prelude.{◌≡◌, ◌<◌, ◌≤◌, ◌^◌, ◌+◌, ◌-◌, ◌++◌, length, map, IfOk, IfErr, OnOk, nat_eq, Some};
 ghost use Rattle.std.proofs.Math.ListN.{replicate};
 ghost use Rattle.wh_leb.specs.Reading.{only_at, u32_at, times_at, Gives};
 ghost use Rattle.wh_syntax.specs.View.{view_body};
@@ -44,7 +44,8 @@ fn runs(
     at: usize,
 ) -> Result<(SmallVec<ValType, 8>, usize), DecodeError>
     requires { at ≤ length bytes.now }
-    ensures exact { Gives (λ found. (found.0.items, found.1)) result (runs_at count 0 bytes.now at) }
+    ensures exact { Gives (λ found. (found.0.items, found.1)) result
+        (runs_at count 0 bytes.now at) }
     ensures inside { IfOk result (λ found. found.1 ≤ length bytes.now) }
 {
     let mut locals = SmallVec::new(alloc);
@@ -110,7 +111,8 @@ impl Item for Body {
 /// The count of the bodies, which has to be that of the functions.
 fn body_count(bytes: &[u8], at: usize, functions: usize) -> Result<(u32, usize), DecodeError>
     requires { at ≤ length bytes.now }
-    ensures exact { result ≡ only_at (λ k. nat_eq k functions) FaultKind.CountMismatch u32_at bytes.now at }
+    ensures exact { result
+        ≡ only_at (λ k. nat_eq k functions) FaultKind.CountMismatch u32_at bytes.now at }
     ensures inside { IfOk result (λ found. found.1 ≤ length bytes.now) }
 {
     let (count, next) = read_u32(bytes, at)?;
@@ -129,7 +131,8 @@ fn body_list(
 ) -> Result<(Vec<Body>, usize), DecodeError>
     requires inside { at ≤ length bytes.now }
     requires short { length bytes.now < 2 ^ 32 }
-    ensures exact { Gives (λ found. (map view_body found.0.items, found.1)) result (times_at count body_at bytes.now at) }
+    ensures exact { Gives (λ found. (map view_body found.0.items, found.1)) result
+        (times_at count body_at bytes.now at) }
     ensures inside { IfOk result (λ found. found.1 ≤ length bytes.now) }
 {
     items(alloc, count, bytes, at)
@@ -145,7 +148,8 @@ pub fn bodies(
 ) -> Result<(Vec<Body>, usize), DecodeError>
     requires inside { at ≤ length bytes.now }
     requires short { length bytes.now < 2 ^ 32 }
-    ensures exact { Gives (λ found. (map view_body found.0.items, found.1)) result (bodies_at functions bytes.now at) }
+    ensures exact { Gives (λ found. (map view_body found.0.items, found.1)) result
+        (bodies_at functions bytes.now at) }
     ensures inside { IfOk result (λ found. found.1 ≤ length bytes.now) }
 {
     let (count, next) = body_count(bytes, at, functions)?;

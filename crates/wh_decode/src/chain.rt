@@ -1,7 +1,7 @@
 //! Modules (5.5.15), from each section on. What is read goes into one module that is handed on, so that no step knows of
 //! the sections before it.
 
-ghost use Rattle.std.specs.Prelude.{◌≡◌, ◌≢◌, ℕ, ◌<◌, ◌≤◌, ◌^◌, length, drop, IfOk, nat_eq};
+ghost use Rattle.std.specs.Prelude.{◌≡◌, ◌<◌, ◌≤◌, ◌^◌, length, drop, IfOk, nat_eq};
 ghost use Rattle.wh_model.specs.Syntax.{empty_module};
 ghost use Rattle.wh_leb.specs.Reading.{Gives};
 ghost use Rattle.wh_syntax.specs.View.{view_module};
@@ -59,7 +59,9 @@ pub fn empty(alloc: Global) -> Module
 /// The end of the bytes, where as many bodies as functions were read.
 fn ends(bytes: &[u8], at: usize, partial: Module) -> Result<(Module, usize), DecodeError>
     requires { at ≤ length bytes.now }
-    ensures exact { Gives (λ found. (view_module found.0, found.1)) result (end_of (nat_eq (length (view_module partial).bodies) (length (view_module partial).funcs)) (view_module partial) (drop at bytes.now) at) }
+    ensures exact { Gives (λ found. (view_module found.0, found.1)) result
+        (end_of (nat_eq (length (view_module partial).bodies) (length (view_module partial).funcs))
+            (view_module partial) (drop at bytes.now) at) }
 {
     if at < bytes.len() {
         let kind = if bytes[at] > GREATEST_ID {
@@ -85,7 +87,8 @@ fn from_end(
 ) -> Result<(Module, usize), DecodeError>
     requires inside { at ≤ length bytes.now }
     requires short { length bytes.now < 2 ^ 32 }
-    ensures exact { Gives (λ found. (view_module found.0, found.1)) result (end_at (view_module partial) bytes.now at) }
+    ensures exact { Gives (λ found. (view_module found.0, found.1)) result
+        (end_at (view_module partial) bytes.now at) }
 {
     let next = skip(bytes, at)?;
     ends(bytes, next, partial)
@@ -100,7 +103,8 @@ fn from_data(
 ) -> Result<(Module, usize), DecodeError>
     requires inside { at ≤ length bytes.now }
     requires short { length bytes.now < 2 ^ 32 }
-    ensures exact { Gives (λ found. (view_module found.0, found.1)) result (data_at (view_module partial) bytes.now at) }
+    ensures exact { Gives (λ found. (view_module found.0, found.1)) result
+        (data_at (view_module partial) bytes.now at) }
 {
     let (segments, next) = data_section(alloc, bytes, at)?;
     if let Some(segments) = segments {
@@ -118,7 +122,8 @@ fn from_code(
 ) -> Result<(Module, usize), DecodeError>
     requires inside { at ≤ length bytes.now }
     requires short { length bytes.now < 2 ^ 32 }
-    ensures exact { Gives (λ found. (view_module found.0, found.1)) result (code_section_at (view_module partial) bytes.now at) }
+    ensures exact { Gives (λ found. (view_module found.0, found.1)) result
+        (code_section_at (view_module partial) bytes.now at) }
 {
     let (bodies, next) = code_section(alloc, bytes, at, partial.funcs.len())?;
     if let Some(bodies) = bodies {
@@ -136,7 +141,8 @@ fn from_elements(
 ) -> Result<(Module, usize), DecodeError>
     requires inside { at ≤ length bytes.now }
     requires short { length bytes.now < 2 ^ 32 }
-    ensures exact { Gives (λ found. (view_module found.0, found.1)) result (elements_at (view_module partial) bytes.now at) }
+    ensures exact { Gives (λ found. (view_module found.0, found.1)) result
+        (elements_at (view_module partial) bytes.now at) }
 {
     let (elements, next) = element_section(alloc, bytes, at)?;
     if let Some(elements) = elements {
@@ -154,7 +160,8 @@ fn from_start(
 ) -> Result<(Module, usize), DecodeError>
     requires inside { at ≤ length bytes.now }
     requires short { length bytes.now < 2 ^ 32 }
-    ensures exact { Gives (λ found. (view_module found.0, found.1)) result (start_at (view_module partial) bytes.now at) }
+    ensures exact { Gives (λ found. (view_module found.0, found.1)) result
+        (start_at (view_module partial) bytes.now at) }
 {
     let (start, next) = start_section(bytes, at)?;
     if start.is_some() {
@@ -172,7 +179,8 @@ fn from_exports(
 ) -> Result<(Module, usize), DecodeError>
     requires inside { at ≤ length bytes.now }
     requires short { length bytes.now < 2 ^ 32 }
-    ensures exact { Gives (λ found. (view_module found.0, found.1)) result (exports_at (view_module partial) bytes.now at) }
+    ensures exact { Gives (λ found. (view_module found.0, found.1)) result
+        (exports_at (view_module partial) bytes.now at) }
 {
     let (exports, next) = export_section(alloc, bytes, at)?;
     if let Some(exports) = exports {
@@ -190,7 +198,8 @@ fn from_globals(
 ) -> Result<(Module, usize), DecodeError>
     requires inside { at ≤ length bytes.now }
     requires short { length bytes.now < 2 ^ 32 }
-    ensures exact { Gives (λ found. (view_module found.0, found.1)) result (globals_at (view_module partial) bytes.now at) }
+    ensures exact { Gives (λ found. (view_module found.0, found.1)) result
+        (globals_at (view_module partial) bytes.now at) }
 {
     let (globals, next) = global_section(alloc, bytes, at)?;
     if let Some(globals) = globals {
@@ -208,7 +217,8 @@ fn from_memories(
 ) -> Result<(Module, usize), DecodeError>
     requires inside { at ≤ length bytes.now }
     requires short { length bytes.now < 2 ^ 32 }
-    ensures exact { Gives (λ found. (view_module found.0, found.1)) result (memories_at (view_module partial) bytes.now at) }
+    ensures exact { Gives (λ found. (view_module found.0, found.1)) result
+        (memories_at (view_module partial) bytes.now at) }
 {
     let (memories, next) = memory_section(alloc, bytes, at)?;
     if let Some(memories) = memories {
@@ -226,7 +236,8 @@ fn from_tables(
 ) -> Result<(Module, usize), DecodeError>
     requires inside { at ≤ length bytes.now }
     requires short { length bytes.now < 2 ^ 32 }
-    ensures exact { Gives (λ found. (view_module found.0, found.1)) result (tables_at (view_module partial) bytes.now at) }
+    ensures exact { Gives (λ found. (view_module found.0, found.1)) result
+        (tables_at (view_module partial) bytes.now at) }
 {
     let (tables, next) = table_section(alloc, bytes, at)?;
     if let Some(tables) = tables {
@@ -244,7 +255,8 @@ fn from_functions(
 ) -> Result<(Module, usize), DecodeError>
     requires inside { at ≤ length bytes.now }
     requires short { length bytes.now < 2 ^ 32 }
-    ensures exact { Gives (λ found. (view_module found.0, found.1)) result (functions_at (view_module partial) bytes.now at) }
+    ensures exact { Gives (λ found. (view_module found.0, found.1)) result
+        (functions_at (view_module partial) bytes.now at) }
 {
     let (funcs, next) = function_section(alloc, bytes, at)?;
     if let Some(funcs) = funcs {
@@ -262,7 +274,8 @@ fn from_imports(
 ) -> Result<(Module, usize), DecodeError>
     requires inside { at ≤ length bytes.now }
     requires short { length bytes.now < 2 ^ 32 }
-    ensures exact { Gives (λ found. (view_module found.0, found.1)) result (imports_at (view_module partial) bytes.now at) }
+    ensures exact { Gives (λ found. (view_module found.0, found.1)) result
+        (imports_at (view_module partial) bytes.now at) }
 {
     let (imports, next) = import_section(alloc, bytes, at)?;
     if let Some(imports) = imports {
@@ -281,7 +294,8 @@ pub fn from_types(
 ) -> Result<(Module, usize), DecodeError>
     requires inside { at ≤ length bytes.now }
     requires short { length bytes.now < 2 ^ 32 }
-    ensures exact { Gives (λ found. (view_module found.0, found.1)) result (types_at (view_module partial) bytes.now at) }
+    ensures exact { Gives (λ found. (view_module found.0, found.1)) result
+        (types_at (view_module partial) bytes.now at) }
 {
     let (types, next) = type_section(alloc, bytes, at)?;
     if let Some(types) = types {

@@ -1,6 +1,6 @@
 //! Custom sections (5.5.3), which stand anywhere and leave nothing, and the beginnings of the others (5.5.2).
 
-ghost use Rattle.std.specs.Prelude.{◌≡◌, ◌≢◌, ℕ, ◌≤◌, length, drop, IfOk};
+ghost use Rattle.std.specs.Prelude.{◌≡◌, ◌≤◌, length, drop, IfOk};
 ghost use Rattle.wh_leb.specs.Reading.{Gives};
 ghost use Rattle.wh_decode.specs.ReadingModule.{custom_at, begins, skip_at};
 ghost use Rattle.wh_decode.specs.Beginnings.{EndsAt, section_start_at};

@@ -44,7 +44,8 @@ pub fn items<T: Item + Drop>(
 ) -> Result<(Vec<T>, usize), DecodeError>
     requires inside { at ≤ length bytes.now }
     requires short { length bytes.now < 2 ^ 32 }
-    ensures exact { GivesItems T.gift count bytes.now at (seen (λ found. (found.0.items, found.1)) result) }
+    ensures exact { GivesItems T.gift count bytes.now at
+        (seen (λ found. (found.0.items, found.1)) result) }
     ensures inside { IfOk result (λ found. found.1 ≤ length bytes.now) }
 {
     let mut list = Vec::new(alloc);

@@ -1,7 +1,7 @@
 //! Modules of the binary format (section 5 of the standard): bytes to a `Module`, or the first fault.
 #![tactic(auto)]
 
-ghost use Rattle.std.specs.Prelude.{◌≡◌, ◌≢◌, ℕ, IfOk, IfErr, Ok};
+ghost use Rattle.std.specs.Prelude.{◌≢◌, ℕ, IfOk, IfErr, Ok};
 ghost use Rattle.wh_model.specs.Syntax as model;
 ghost use Rattle.wh_model.specs.Spelling.{Spells, Small, IsBroken};
 ghost use Rattle.wh_leb.specs.Reading.{Gives};
@@ -54,13 +54,17 @@ fn read_module(alloc: Global, bytes: &[u8]) -> Result<Module, DecodeError>
 /// where a growth was refused.
 pub fn decode(alloc: Global, bytes: &[u8]) -> Result<Module, DecodeError>
     // What is decoded is spelled so, within the limits.
-    ensures found { IfOk result (λ m. Spells bytes.now (view_module m) × Small bytes.now (view_module m)) }
+    ensures found { IfOk result
+        (λ m. Spells bytes.now (view_module m) × Small bytes.now (view_module m)) }
     // What is spelled so within the limits is decoded, unless memory runs out.
-    ensures only { (m : model.Module) → Spells bytes.now m → Small bytes.now m → Gives view_module result (Ok m) }
+    ensures only { (m : model.Module) → Spells bytes.now m → Small bytes.now m
+        → Gives view_module result (Ok m) }
     // A fault is the first one, of this kind and at this place, unless memory runs out.
-    ensures fault { IfErr result (λ e. e.kind ≢ FaultKind.Memory → IsBroken bytes.now e.kind e.offset) }
+    ensures fault { IfErr result
+        (λ e. e.kind ≢ FaultKind.Memory → IsBroken bytes.now e.kind e.offset) }
     // Where the bytes break, that fault is found, unless memory runs out.
-    ensures refused { (kind : FaultKind) (offset : ℕ) → IsBroken bytes.now kind offset → IsFault result kind offset }
+    ensures refused { (kind : FaultKind) (offset : ℕ) → IsBroken bytes.now kind offset
+        → IsFault result kind offset }
 {
     read_module(alloc, bytes)
 }

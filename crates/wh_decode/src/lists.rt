@@ -1,6 +1,6 @@
 //! The vectors that sections hold: a count, which is looked at before its items, and that many items.
 
-ghost use Rattle.std.specs.Prelude.{◌≡◌, ◌≢◌, ℕ, ◌<◌, ◌≤◌, ◌^◌, ◌+◌, List, length, map, IfOk};
+ghost use Rattle.std.specs.Prelude.{◌<◌, ◌≤◌, ◌^◌, length, map, IfOk};
 ghost use Rattle.wh_leb.specs.Reading.{times_at, u32_at, vec_at, vec_up_to_at, Gives};
 ghost use Rattle.wh_syntax.specs.View.{view_type, view_import, view_table, view_limits, view_global, view_export, view_element, view_data};
 ghost use Rattle.wh_decode.specs.ReadingModule.{functype_at, import_at, tabletype_at, limits_at, global_at, export_at, element_at, segment_at};
@@ -35,7 +35,8 @@ fn type_items(
 ) -> Result<(Vec<FuncType>, usize), DecodeError>
     requires inside { at ≤ length bytes.now }
     requires short { length bytes.now < 2 ^ 32 }
-    ensures exact { Gives (λ found. (map view_type found.0.items, found.1)) result (times_at count functype_at bytes.now at) }
+    ensures exact { Gives (λ found. (map view_type found.0.items, found.1)) result
+        (times_at count functype_at bytes.now at) }
     ensures inside { IfOk result (λ found. found.1 ≤ length bytes.now) }
 {
     items(alloc, count, bytes, at)
@@ -49,7 +50,8 @@ pub fn type_contents(
 ) -> Result<(Vec<FuncType>, usize), DecodeError>
     requires inside { at ≤ length bytes.now }
     requires short { length bytes.now < 2 ^ 32 }
-    ensures exact { Gives (λ found. (map view_type found.0.items, found.1)) result (vec_up_to_at 1024 functype_at bytes.now at) }
+    ensures exact { Gives (λ found. (map view_type found.0.items, found.1)) result
+        (vec_up_to_at 1024 functype_at bytes.now at) }
     ensures inside { IfOk result (λ found. found.1 ≤ length bytes.now) }
 {
     let (count, next) = count_up_to(bytes, at, MOST_TYPES)?;
@@ -64,7 +66,8 @@ fn import_items(
 ) -> Result<(Vec<Import>, usize), DecodeError>
     requires inside { at ≤ length bytes.now }
     requires short { length bytes.now < 2 ^ 32 }
-    ensures exact { Gives (λ found. (map view_import found.0.items, found.1)) result (times_at count import_at bytes.now at) }
+    ensures exact { Gives (λ found. (map view_import found.0.items, found.1)) result
+        (times_at count import_at bytes.now at) }
     ensures inside { IfOk result (λ found. found.1 ≤ length bytes.now) }
 {
     items(alloc, count, bytes, at)
@@ -78,7 +81,8 @@ pub fn import_contents(
 ) -> Result<(Vec<Import>, usize), DecodeError>
     requires inside { at ≤ length bytes.now }
     requires short { length bytes.now < 2 ^ 32 }
-    ensures exact { Gives (λ found. (map view_import found.0.items, found.1)) result (vec_up_to_at 256 import_at bytes.now at) }
+    ensures exact { Gives (λ found. (map view_import found.0.items, found.1)) result
+        (vec_up_to_at 256 import_at bytes.now at) }
     ensures inside { IfOk result (λ found. found.1 ≤ length bytes.now) }
 {
     let (count, next) = count_up_to(bytes, at, MOST_IMPORTS)?;
@@ -93,7 +97,8 @@ fn table_items(
 ) -> Result<(Vec<TableType>, usize), DecodeError>
     requires inside { at ≤ length bytes.now }
     requires short { length bytes.now < 2 ^ 32 }
-    ensures exact { Gives (λ found. (map view_table found.0.items, found.1)) result (times_at count tabletype_at bytes.now at) }
+    ensures exact { Gives (λ found. (map view_table found.0.items, found.1)) result
+        (times_at count tabletype_at bytes.now at) }
     ensures inside { IfOk result (λ found. found.1 ≤ length bytes.now) }
 {
     items(alloc, count, bytes, at)
@@ -107,7 +112,8 @@ pub fn table_contents(
 ) -> Result<(Vec<TableType>, usize), DecodeError>
     requires inside { at ≤ length bytes.now }
     requires short { length bytes.now < 2 ^ 32 }
-    ensures exact { Gives (λ found. (map view_table found.0.items, found.1)) result (vec_at tabletype_at bytes.now at) }
+    ensures exact { Gives (λ found. (map view_table found.0.items, found.1)) result
+        (vec_at tabletype_at bytes.now at) }
     ensures inside { IfOk result (λ found. found.1 ≤ length bytes.now) }
 {
     let (count, next) = read_u32(bytes, at)?;
@@ -122,7 +128,8 @@ fn memory_items(
 ) -> Result<(Vec<Limits>, usize), DecodeError>
     requires inside { at ≤ length bytes.now }
     requires short { length bytes.now < 2 ^ 32 }
-    ensures exact { Gives (λ found. (map view_limits found.0.items, found.1)) result (times_at count limits_at bytes.now at) }
+    ensures exact { Gives (λ found. (map view_limits found.0.items, found.1)) result
+        (times_at count limits_at bytes.now at) }
     ensures inside { IfOk result (λ found. found.1 ≤ length bytes.now) }
 {
     items(alloc, count, bytes, at)
@@ -136,7 +143,8 @@ pub fn memory_contents(
 ) -> Result<(Vec<Limits>, usize), DecodeError>
     requires inside { at ≤ length bytes.now }
     requires short { length bytes.now < 2 ^ 32 }
-    ensures exact { Gives (λ found. (map view_limits found.0.items, found.1)) result (vec_at limits_at bytes.now at) }
+    ensures exact { Gives (λ found. (map view_limits found.0.items, found.1)) result
+        (vec_at limits_at bytes.now at) }
     ensures inside { IfOk result (λ found. found.1 ≤ length bytes.now) }
 {
     let (count, next) = read_u32(bytes, at)?;
@@ -151,7 +159,8 @@ fn global_items(
 ) -> Result<(Vec<GlobalVariable>, usize), DecodeError>
     requires inside { at ≤ length bytes.now }
     requires short { length bytes.now < 2 ^ 32 }
-    ensures exact { Gives (λ found. (map view_global found.0.items, found.1)) result (times_at count global_at bytes.now at) }
+    ensures exact { Gives (λ found. (map view_global found.0.items, found.1)) result
+        (times_at count global_at bytes.now at) }
     ensures inside { IfOk result (λ found. found.1 ≤ length bytes.now) }
 {
     items(alloc, count, bytes, at)
@@ -165,7 +174,8 @@ pub fn global_contents(
 ) -> Result<(Vec<GlobalVariable>, usize), DecodeError>
     requires inside { at ≤ length bytes.now }
     requires short { length bytes.now < 2 ^ 32 }
-    ensures exact { Gives (λ found. (map view_global found.0.items, found.1)) result (vec_up_to_at 1024 global_at bytes.now at) }
+    ensures exact { Gives (λ found. (map view_global found.0.items, found.1)) result
+        (vec_up_to_at 1024 global_at bytes.now at) }
     ensures inside { IfOk result (λ found. found.1 ≤ length bytes.now) }
 {
     let (count, next) = count_up_to(bytes, at, MOST_GLOBALS)?;
@@ -180,7 +190,8 @@ fn export_items(
 ) -> Result<(Vec<Export>, usize), DecodeError>
     requires inside { at ≤ length bytes.now }
     requires short { length bytes.now < 2 ^ 32 }
-    ensures exact { Gives (λ found. (map view_export found.0.items, found.1)) result (times_at count export_at bytes.now at) }
+    ensures exact { Gives (λ found. (map view_export found.0.items, found.1)) result
+        (times_at count export_at bytes.now at) }
     ensures inside { IfOk result (λ found. found.1 ≤ length bytes.now) }
 {
     items(alloc, count, bytes, at)
@@ -194,7 +205,8 @@ pub fn export_contents(
 ) -> Result<(Vec<Export>, usize), DecodeError>
     requires inside { at ≤ length bytes.now }
     requires short { length bytes.now < 2 ^ 32 }
-    ensures exact { Gives (λ found. (map view_export found.0.items, found.1)) result (vec_up_to_at 1024 export_at bytes.now at) }
+    ensures exact { Gives (λ found. (map view_export found.0.items, found.1)) result
+        (vec_up_to_at 1024 export_at bytes.now at) }
     ensures inside { IfOk result (λ found. found.1 ≤ length bytes.now) }
 {
     let (count, next) = count_up_to(bytes, at, MOST_EXPORTS)?;
@@ -209,7 +221,8 @@ fn element_items(
 ) -> Result<(Vec<Element>, usize), DecodeError>
     requires inside { at ≤ length bytes.now }
     requires short { length bytes.now < 2 ^ 32 }
-    ensures exact { Gives (λ found. (map view_element found.0.items, found.1)) result (times_at count element_at bytes.now at) }
+    ensures exact { Gives (λ found. (map view_element found.0.items, found.1)) result
+        (times_at count element_at bytes.now at) }
     ensures inside { IfOk result (λ found. found.1 ≤ length bytes.now) }
 {
     items(alloc, count, bytes, at)
@@ -223,7 +236,8 @@ pub fn element_contents(
 ) -> Result<(Vec<Element>, usize), DecodeError>
     requires inside { at ≤ length bytes.now }
     requires short { length bytes.now < 2 ^ 32 }
-    ensures exact { Gives (λ found. (map view_element found.0.items, found.1)) result (vec_up_to_at 256 element_at bytes.now at) }
+    ensures exact { Gives (λ found. (map view_element found.0.items, found.1)) result
+        (vec_up_to_at 256 element_at bytes.now at) }
     ensures inside { IfOk result (λ found. found.1 ≤ length bytes.now) }
 {
     let (count, next) = count_up_to(bytes, at, MOST_ELEMENTS)?;
@@ -238,7 +252,8 @@ fn segment_items(
 ) -> Result<(Vec<Data>, usize), DecodeError>
     requires inside { at ≤ length bytes.now }
     requires short { length bytes.now < 2 ^ 32 }
-    ensures exact { Gives (λ found. (map view_data found.0.items, found.1)) result (times_at count segment_at bytes.now at) }
+    ensures exact { Gives (λ found. (map view_data found.0.items, found.1)) result
+        (times_at count segment_at bytes.now at) }
     ensures inside { IfOk result (λ found. found.1 ≤ length bytes.now) }
 {
     items(alloc, count, bytes, at)
@@ -252,7 +267,8 @@ pub fn segment_contents(
 ) -> Result<(Vec<Data>, usize), DecodeError>
     requires inside { at ≤ length bytes.now }
     requires short { length bytes.now < 2 ^ 32 }
-    ensures exact { Gives (λ found. (map view_data found.0.items, found.1)) result (vec_up_to_at 1024 segment_at bytes.now at) }
+    ensures exact { Gives (λ found. (map view_data found.0.items, found.1)) result
+        (vec_up_to_at 1024 segment_at bytes.now at) }
     ensures inside { IfOk result (λ found. found.1 ≤ length bytes.now) }
 {
     let (count, next) = count_up_to(bytes, at, MOST_SEGMENTS)?;
@@ -267,7 +283,8 @@ pub fn function_contents(
 ) -> Result<(Vec<u32>, usize), DecodeError>
     requires inside { at ≤ length bytes.now }
     requires short { length bytes.now < 2 ^ 32 }
-    ensures exact { Gives (λ found. (found.0.items, found.1)) result (vec_up_to_at 4096 u32_at bytes.now at) }
+    ensures exact { Gives (λ found. (found.0.items, found.1)) result
+        (vec_up_to_at 4096 u32_at bytes.now at) }
     ensures inside { IfOk result (λ found. found.1 ≤ length bytes.now) }
 {
     let (count, next) = count_up_to(bytes, at, MOST_FUNCTIONS)?;

@@ -1,12 +1,11 @@
 //! Names, imports, globals, exports and segments (section 5.5 of the standard).
 
-ghost use Rattle.std.specs.Prelude.{◌≡◌, ◌≢◌, ℕ, ◌<◌, ◌≤◌, ◌^◌, ◌+◌, ◌++◌, ◌∷◌, [], List, length, IfOk, IfErr, OnOk, Option, None};
+ghost use Rattle.std.specs.Prelude.{◌≡◌, ◌<◌, ◌≤◌, ◌^◌, ◌+◌, length, IfOk, IfErr, None};
 ghost use Rattle.std.specs.Prelude.{string_bytes};
 ghost use Rattle.std.specs.Str.{is_utf8};
 ghost use Rattle.wh_model.specs.Opcodes.{imported_mutability, export_kind, import_kind};
 ghost use Rattle.wh_leb.specs.Reading.{one_at, only_at, bytes_at, times_at, vec_at, u32_at, Gives};
 ghost use Rattle.wh_syntax.specs.View.{view_desc, view_import, view_global, view_export, view_element, view_data};
-ghost use Rattle.wh_decode.specs.Items.{GivesItems, seen};
 ghost use Rattle.wh_decode.specs.ReadingModule.{name_at, importdesc_by_at, importdesc_at, import_at, global_at, export_at, element_at, byte_vector_at, segment_at};
 
 use crate::items::{Item, items};
@@ -21,7 +20,8 @@ use wh_syntax::{Data, Element, Export, Global as GlobalVariable, Import, ImportD
 /// So many bytes that are text, and the place behind them.
 fn text(bytes: &[u8], at: usize, count: u32) -> Result<(&str, usize), DecodeError>
     requires { at ≤ length bytes.now }
-    ensures exact { Gives (λ found. (found.0.now, found.1)) result (only_at is_utf8 FaultKind.Utf8 (bytes_at count) bytes.now at) }
+    ensures exact { Gives (λ found. (found.0.now, found.1)) result
+        (only_at is_utf8 FaultKind.Utf8 (bytes_at count) bytes.now at) }
     ensures inside { IfOk result (λ found. found.1 ≤ length bytes.now) }
 {
     let end = at + count as usize;
@@ -123,7 +123,8 @@ fn import_desc_by(
     is_function: bool,
 ) -> Result<(ImportDesc, usize), DecodeError>
     requires { at ≤ length bytes.now }
-    ensures exact { Gives (λ found. (view_desc found.0, found.1)) result (importdesc_by_at is_function bytes.now at) }
+    ensures exact { Gives (λ found. (view_desc found.0, found.1)) result
+        (importdesc_by_at is_function bytes.now at) }
     ensures inside { IfOk result (λ found. found.1 ≤ length bytes.now) }
 {
     if is_function {
@@ -138,7 +139,8 @@ fn import_desc_by(
 #[tactic(auto, unfolding(crate::specs::ReadingModule::importdesc_at))]
 fn import_desc(bytes: &[u8], at: usize) -> Result<(ImportDesc, usize), DecodeError>
     requires { at ≤ length bytes.now }
-    ensures exact { Gives (λ found. (view_desc found.0, found.1)) result (importdesc_at bytes.now at) }
+    ensures exact { Gives (λ found. (view_desc found.0, found.1)) result
+        (importdesc_at bytes.now at) }
     ensures inside { IfOk result (λ found. found.1 ≤ length bytes.now) }
 {
     let (is_function, next) = import_kind(bytes, at)?;
@@ -148,7 +150,8 @@ fn import_desc(bytes: &[u8], at: usize) -> Result<(ImportDesc, usize), DecodeErr
 #[tactic(auto, unfolding(crate::specs::ReadingModule::import_at))]
 fn import(alloc: Global, bytes: &[u8], at: usize) -> Result<(Import, usize), DecodeError>
     requires { at ≤ length bytes.now }
-    ensures exact { Gives (λ found. (view_import found.0, found.1)) result (import_at bytes.now at) }
+    ensures exact { Gives (λ found. (view_import found.0, found.1)) result
+        (import_at bytes.now at) }
     ensures inside { IfOk result (λ found. found.1 ≤ length bytes.now) }
 {
     let (from, next) = owned_name(alloc, bytes, at)?;
@@ -161,7 +164,8 @@ fn import(alloc: Global, bytes: &[u8], at: usize) -> Result<(Import, usize), Dec
 fn global(alloc: Global, bytes: &[u8], at: usize) -> Result<(GlobalVariable, usize), DecodeError>
     requires inside { at ≤ length bytes.now }
     requires short { length bytes.now < 2 ^ 32 }
-    ensures exact { Gives (λ found. (view_global found.0, found.1)) result (global_at bytes.now at) }
+    ensures exact { Gives (λ found. (view_global found.0, found.1)) result
+        (global_at bytes.now at) }
     ensures inside { IfOk result (λ found. found.1 ≤ length bytes.now) }
 {
     let (global_type, next) = global_type(bytes, at)?;
@@ -198,7 +202,8 @@ fn export_kind(bytes: &[u8], at: usize) -> Result<(ExternKind, usize), DecodeErr
 #[tactic(auto, unfolding(crate::specs::ReadingModule::export_at))]
 fn export(alloc: Global, bytes: &[u8], at: usize) -> Result<(Export, usize), DecodeError>
     requires { at ≤ length bytes.now }
-    ensures exact { Gives (λ found. (view_export found.0, found.1)) result (export_at bytes.now at) }
+    ensures exact { Gives (λ found. (view_export found.0, found.1)) result
+        (export_at bytes.now at) }
     ensures inside { IfOk result (λ found. found.1 ≤ length bytes.now) }
 {
     let (name, next) = owned_name(alloc, bytes, at)?;
@@ -227,7 +232,8 @@ pub fn index_list(
 ) -> Result<(Vec<u32>, usize), DecodeError>
     requires inside { at ≤ length bytes.now }
     requires short { length bytes.now < 2 ^ 32 }
-    ensures exact { Gives (λ found. (found.0.items, found.1)) result (times_at count u32_at bytes.now at) }
+    ensures exact { Gives (λ found. (found.0.items, found.1)) result
+        (times_at count u32_at bytes.now at) }
     ensures inside { IfOk result (λ found. found.1 ≤ length bytes.now) }
 {
     items(alloc, count, bytes, at)
@@ -237,7 +243,8 @@ pub fn index_list(
 fn element(alloc: Global, bytes: &[u8], at: usize) -> Result<(Element, usize), DecodeError>
     requires inside { at ≤ length bytes.now }
     requires short { length bytes.now < 2 ^ 32 }
-    ensures exact { Gives (λ found. (view_element found.0, found.1)) result (element_at bytes.now at) }
+    ensures exact { Gives (λ found. (view_element found.0, found.1)) result
+        (element_at bytes.now at) }
     ensures inside { IfOk result (λ found. found.1 ≤ length bytes.now) }
 {
     let (table, next) = read_u32(bytes, at)?;

@@ -1,6 +1,6 @@
 //! Sections (5.5.2), each with the custom ones in front of it.
 
-ghost use Rattle.std.specs.Prelude.{◌≡◌, ◌≢◌, ℕ, ◌<◌, ◌≤◌, ◌^◌, ◌+◌, List, length, map, IfOk, Ok, Err, Some, None, option_map};
+ghost use Rattle.std.specs.Prelude.{◌<◌, ◌≤◌, ◌^◌, ◌+◌, length, map, IfOk, Ok, Some, None, option_map};
 ghost use Rattle.wh_leb.specs.Reading.{Gives};
 ghost use Rattle.wh_syntax.specs.View.{view_type, view_import, view_table, view_limits, view_global, view_export, view_element, view_body, view_data};
 ghost use Rattle.wh_decode.specs.ReadingModule.{part_at, type_list_at, import_list_at, function_list_at, table_list_at, memory_list_at, global_list_at, export_list_at, start_function_at, element_list_at, codes_at, segments_at};
@@ -43,7 +43,8 @@ pub fn type_section(
 ) -> Result<(Option<Vec<FuncType>>, usize), DecodeError>
     requires inside { at ≤ length bytes.now }
     requires short { length bytes.now < 2 ^ 32 }
-    ensures exact { Gives (λ found. (option_map (λ xs. map view_type xs.items) found.0, found.1)) result (type_list_at bytes.now at) }
+    ensures exact { Gives (λ found. (option_map (λ xs. map view_type xs.items) found.0, found.1))
+        result (type_list_at bytes.now at) }
     ensures inside { IfOk result (λ found. found.1 ≤ length bytes.now) }
 {
     section!(
@@ -63,7 +64,8 @@ pub fn import_section(
 ) -> Result<(Option<Vec<Import>>, usize), DecodeError>
     requires inside { at ≤ length bytes.now }
     requires short { length bytes.now < 2 ^ 32 }
-    ensures exact { Gives (λ found. (option_map (λ xs. map view_import xs.items) found.0, found.1)) result (import_list_at bytes.now at) }
+    ensures exact { Gives (λ found. (option_map (λ xs. map view_import xs.items) found.0, found.1))
+        result (import_list_at bytes.now at) }
     ensures inside { IfOk result (λ found. found.1 ≤ length bytes.now) }
 {
     section!(
@@ -83,7 +85,8 @@ pub fn function_section(
 ) -> Result<(Option<Vec<u32>>, usize), DecodeError>
     requires inside { at ≤ length bytes.now }
     requires short { length bytes.now < 2 ^ 32 }
-    ensures exact { Gives (λ found. (option_map (λ xs. xs.items) found.0, found.1)) result (function_list_at bytes.now at) }
+    ensures exact { Gives (λ found. (option_map (λ xs. xs.items) found.0, found.1)) result
+        (function_list_at bytes.now at) }
     ensures inside { IfOk result (λ found. found.1 ≤ length bytes.now) }
 {
     section!(
@@ -103,7 +106,8 @@ pub fn table_section(
 ) -> Result<(Option<Vec<TableType>>, usize), DecodeError>
     requires inside { at ≤ length bytes.now }
     requires short { length bytes.now < 2 ^ 32 }
-    ensures exact { Gives (λ found. (option_map (λ xs. map view_table xs.items) found.0, found.1)) result (table_list_at bytes.now at) }
+    ensures exact { Gives (λ found. (option_map (λ xs. map view_table xs.items) found.0, found.1))
+        result (table_list_at bytes.now at) }
     ensures inside { IfOk result (λ found. found.1 ≤ length bytes.now) }
 {
     section!(
@@ -123,7 +127,8 @@ pub fn memory_section(
 ) -> Result<(Option<Vec<Limits>>, usize), DecodeError>
     requires inside { at ≤ length bytes.now }
     requires short { length bytes.now < 2 ^ 32 }
-    ensures exact { Gives (λ found. (option_map (λ xs. map view_limits xs.items) found.0, found.1)) result (memory_list_at bytes.now at) }
+    ensures exact { Gives (λ found. (option_map (λ xs. map view_limits xs.items) found.0, found.1))
+        result (memory_list_at bytes.now at) }
     ensures inside { IfOk result (λ found. found.1 ≤ length bytes.now) }
 {
     section!(
@@ -143,7 +148,8 @@ pub fn global_section(
 ) -> Result<(Option<Vec<GlobalVariable>>, usize), DecodeError>
     requires inside { at ≤ length bytes.now }
     requires short { length bytes.now < 2 ^ 32 }
-    ensures exact { Gives (λ found. (option_map (λ xs. map view_global xs.items) found.0, found.1)) result (global_list_at bytes.now at) }
+    ensures exact { Gives (λ found. (option_map (λ xs. map view_global xs.items) found.0, found.1))
+        result (global_list_at bytes.now at) }
     ensures inside { IfOk result (λ found. found.1 ≤ length bytes.now) }
 {
     section!(
@@ -163,7 +169,8 @@ pub fn export_section(
 ) -> Result<(Option<Vec<Export>>, usize), DecodeError>
     requires inside { at ≤ length bytes.now }
     requires short { length bytes.now < 2 ^ 32 }
-    ensures exact { Gives (λ found. (option_map (λ xs. map view_export xs.items) found.0, found.1)) result (export_list_at bytes.now at) }
+    ensures exact { Gives (λ found. (option_map (λ xs. map view_export xs.items) found.0, found.1))
+        result (export_list_at bytes.now at) }
     ensures inside { IfOk result (λ found. found.1 ≤ length bytes.now) }
 {
     section!(
@@ -193,7 +200,8 @@ pub fn element_section(
 ) -> Result<(Option<Vec<Element>>, usize), DecodeError>
     requires inside { at ≤ length bytes.now }
     requires short { length bytes.now < 2 ^ 32 }
-    ensures exact { Gives (λ found. (option_map (λ xs. map view_element xs.items) found.0, found.1)) result (element_list_at bytes.now at) }
+    ensures exact { Gives (λ found. (option_map (λ xs. map view_element xs.items) found.0, found.1))
+        result (element_list_at bytes.now at) }
     ensures inside { IfOk result (λ found. found.1 ≤ length bytes.now) }
 {
     section!(
@@ -214,7 +222,8 @@ pub fn code_section(
 ) -> Result<(Option<Vec<Body>>, usize), DecodeError>
     requires inside { at ≤ length bytes.now }
     requires short { length bytes.now < 2 ^ 32 }
-    ensures exact { Gives (λ found. (option_map (λ xs. map view_body xs.items) found.0, found.1)) result (codes_at functions bytes.now at) }
+    ensures exact { Gives (λ found. (option_map (λ xs. map view_body xs.items) found.0, found.1))
+        result (codes_at functions bytes.now at) }
     ensures inside { IfOk result (λ found. found.1 ≤ length bytes.now) }
 {
     section!(
@@ -234,7 +243,8 @@ pub fn data_section(
 ) -> Result<(Option<Vec<Data>>, usize), DecodeError>
     requires inside { at ≤ length bytes.now }
     requires short { length bytes.now < 2 ^ 32 }
-    ensures exact { Gives (λ found. (option_map (λ xs. map view_data xs.items) found.0, found.1)) result (segments_at bytes.now at) }
+    ensures exact { Gives (λ found. (option_map (λ xs. map view_data xs.items) found.0, found.1))
+        result (segments_at bytes.now at) }
     ensures inside { IfOk result (λ found. found.1 ≤ length bytes.now) }
 {
     section!(

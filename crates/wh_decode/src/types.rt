@@ -1,8 +1,8 @@
 //! Types (section 5.3 of the standard).
 
-ghost use Rattle.std.specs.Prelude.{◌≡◌, ◌≢◌, ℕ, ◌<◌, ◌≤◌, ◌^◌, ◌++◌, ◌∷◌, [], List, length, IfOk, IfErr, OnOk, Option};
+ghost use Rattle.std.specs.Prelude.{◌≡◌, ◌<◌, ◌≤◌, ◌++◌, ◌∷◌, [], length, IfOk, IfErr, OnOk};
 ghost use Rattle.wh_model.specs.Grammar.{exact_byte};
-ghost use Rattle.wh_model.specs.Opcodes.{value_type, mutability, imported_mutability, limits_flag};
+ghost use Rattle.wh_model.specs.Opcodes.{value_type, mutability, limits_flag};
 ghost use Rattle.wh_leb.specs.Reading.{one_at, times_at, u32_at, Gives};
 ghost use Rattle.wh_syntax.specs.View.{view_type, view_limits, view_table, view_global_type};
 ghost use Rattle.wh_decode.specs.ReadingModule.{functype_at, limits_by_at, limits_at, tabletype_at, globaltype_at};
@@ -130,7 +130,8 @@ fn val_types<const N: usize>(
     at: usize,
 ) -> Result<(SmallVec<ValType, N>, usize), DecodeError>
     requires { at ≤ length bytes.now }
-    ensures exact { Gives (λ found. (found.0.items, found.1)) result (times_at count (one_at value_type) bytes.now at) }
+    ensures exact { Gives (λ found. (found.0.items, found.1)) result
+        (times_at count (one_at value_type) bytes.now at) }
     ensures inside { IfOk result (λ found. found.1 ≤ length bytes.now) }
 {
     let mut types = SmallVec::new(alloc);
@@ -146,7 +147,8 @@ fn val_types<const N: usize>(
 #[tactic(auto, unfolding(crate::specs::ReadingModule::functype_at))]
 fn func_type(alloc: Global, bytes: &[u8], at: usize) -> Result<(FuncType, usize), DecodeError>
     requires { at ≤ length bytes.now }
-    ensures exact { Gives (λ found. (view_type found.0, found.1)) result (functype_at bytes.now at) }
+    ensures exact { Gives (λ found. (view_type found.0, found.1)) result
+        (functype_at bytes.now at) }
     ensures inside { IfOk result (λ found. found.1 ≤ length bytes.now) }
 {
     let next = expect_byte(bytes, at, 0x60, FaultKind::UnknownByte)?;
@@ -159,7 +161,8 @@ fn func_type(alloc: Global, bytes: &[u8], at: usize) -> Result<(FuncType, usize)
 
 fn limits_by(bytes: &[u8], at: usize, bounded: bool) -> Result<(Limits, usize), DecodeError>
     requires { at ≤ length bytes.now }
-    ensures exact { Gives (λ found. (view_limits found.0, found.1)) result (limits_by_at bounded bytes.now at) }
+    ensures exact { Gives (λ found. (view_limits found.0, found.1)) result
+        (limits_by_at bounded bytes.now at) }
     ensures inside { IfOk result (λ found. found.1 ≤ length bytes.now) }
 {
     let (min, next) = read_u32(bytes, at)?;
@@ -179,7 +182,8 @@ fn limits_by(bytes: &[u8], at: usize, bounded: bool) -> Result<(Limits, usize), 
 #[tactic(auto, unfolding(crate::specs::ReadingModule::limits_at))]
 fn limits(bytes: &[u8], at: usize) -> Result<(Limits, usize), DecodeError>
     requires { at ≤ length bytes.now }
-    ensures exact { Gives (λ found. (view_limits found.0, found.1)) result (limits_at bytes.now at) }
+    ensures exact { Gives (λ found. (view_limits found.0, found.1)) result
+        (limits_at bytes.now at) }
     ensures inside { IfOk result (λ found. found.1 ≤ length bytes.now) }
 {
     let (bounded, next) = limits_flag(bytes, at)?;
@@ -189,7 +193,8 @@ fn limits(bytes: &[u8], at: usize) -> Result<(Limits, usize), DecodeError>
 #[tactic(auto, unfolding(crate::specs::ReadingModule::tabletype_at))]
 fn table_type(bytes: &[u8], at: usize) -> Result<(TableType, usize), DecodeError>
     requires { at ≤ length bytes.now }
-    ensures exact { Gives (λ found. (view_table found.0, found.1)) result (tabletype_at bytes.now at) }
+    ensures exact { Gives (λ found. (view_table found.0, found.1)) result
+        (tabletype_at bytes.now at) }
     ensures inside { IfOk result (λ found. found.1 ≤ length bytes.now) }
 {
     let next = expect_byte(bytes, at, 0x70, FaultKind::UnknownByte)?;
@@ -201,7 +206,8 @@ fn table_type(bytes: &[u8], at: usize) -> Result<(TableType, usize), DecodeError
 #[tactic(auto, unfolding(crate::specs::ReadingModule::globaltype_at))]
 pub fn global_type(bytes: &[u8], at: usize) -> Result<(GlobalType, usize), DecodeError>
     requires { at ≤ length bytes.now }
-    ensures exact { Gives (λ found. (view_global_type found.0, found.1)) result (globaltype_at bytes.now at) }
+    ensures exact { Gives (λ found. (view_global_type found.0, found.1)) result
+        (globaltype_at bytes.now at) }
     ensures inside { IfOk result (λ found. found.1 ≤ length bytes.now) }
 {
     let (value, next) = val_type(bytes, at)?;

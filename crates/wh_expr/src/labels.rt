@@ -1,6 +1,6 @@
 //! The labels of `br_table`, which lie in a pool of the expression.
 
-ghost use Rattle.std.specs.Prelude.{◌≡◌, ◌≢◌, ℕ, ◌+◌, ◌<◌, ◌≤◌, ◌^◌, ◌++◌, ◌∷◌, [], List, length, IfOk, IfErr, OnOk};
+ghost use Rattle.std.specs.Prelude.{◌≡◌, ◌+◌, ◌<◌, ◌≤◌, ◌^◌, ◌++◌, ◌∷◌, [], length, IfOk, IfErr, OnOk};
 ghost use Rattle.wh_leb.specs.Reading.{u32_at, times_at, limited_at, Gives};
 ghost use Rattle.wh_syntax.specs.Shown.{instr_of, InPool};
 ghost use Rattle.wh_expr.specs.ReadingCode.{table_at};
@@ -31,8 +31,10 @@ fn keep_labels(
     labels: &mut Vec<u32>,
 ) -> Result<usize, DecodeError>
     requires { at ≤ length bytes.now }
-    ensures exact { AddsRead labels.old.items labels.new.items result (times_at count u32_at bytes.now at) }
-    ensures grows { IfOk result (λ next. length labels.new.items ≡ length labels.old.items + count) }
+    ensures exact { AddsRead labels.old.items labels.new.items result
+        (times_at count u32_at bytes.now at) }
+    ensures grows { IfOk result
+        (λ next. length labels.new.items ≡ length labels.old.items + count) }
     ensures paid { IfOk result (λ next. at + count ≤ next) }
     ensures inside { IfOk result (λ next. next ≤ length bytes.now) }
 {
@@ -68,7 +70,8 @@ pub fn label_table(
     requires inside { at ≤ length bytes.now }
     requires short { length bytes.now < 2 ^ 32 }
     requires paid { length labels.old.items ≤ at }
-    ensures exact { Gives (λ found. (instr_of labels.new.items found.0, found.1)) result (table_at bytes.now at) }
+    ensures exact { Gives (λ found. (instr_of labels.new.items found.0, found.1)) result
+        (table_at bytes.now at) }
     ensures in_pool { IfOk result (λ found. InPool labels.new.items found.0) }
     ensures grows { IfOk result (λ found. Extends labels.old.items labels.new.items) }
     ensures paid { IfOk result (λ found. length labels.new.items ≤ found.1) }

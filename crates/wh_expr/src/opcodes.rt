@@ -1,6 +1,6 @@
 //! What a byte stands for where an instruction begins.
 
-ghost use Rattle.std.specs.Prelude.{◌≡◌, ℕ, ◌<◌, ◌≤◌};
+ghost use Rattle.std.specs.Prelude.{◌≡◌, ◌<◌};
 ghost use Rattle.wh_model.specs.Opcodes.{operator_from, control_opcode, variable_opcode, memory_opcode, single_opcode, numeric_opcode, opcode, is_float_opcode};
 
 use wh_model::{

@@ -41,7 +41,8 @@ fn result_type(bytes: &[u8], at: usize) -> Result<(Option<ValType>, usize), Deco
 /// The place behind a byte that has to be 0.
 fn reserved(bytes: &[u8], at: usize) -> Result<usize, DecodeError>
     requires { at ≤ length bytes.now }
-    ensures exact { Gives (λ next. (tt, next)) result (one_at (exact_byte FaultKind.UnknownByte 0) bytes.now at) }
+    ensures exact { Gives (λ next. (tt, next)) result
+        (one_at (exact_byte FaultKind.UnknownByte 0) bytes.now at) }
     ensures further { IfOk result (λ next. at ≤ next) }
     ensures inside { IfOk result (λ next. next ≤ length bytes.now) }
 {
@@ -60,7 +61,9 @@ fn reserved(bytes: &[u8], at: usize) -> Result<usize, DecodeError>
 pub fn operands(opcode: Opcode, bytes: &[u8], at: usize) -> Result<(Instr, usize), DecodeError>
     requires inside { at ≤ length bytes.now }
     requires other { opcode ≢ Opcode.BrTable }
-    ensures exact { (labels : List ℕ) → Gives (λ found. (instr_of labels found.0, found.1)) result (operands_at opcode bytes.now at) }
+    ensures exact { (labels : List ℕ)
+        → Gives (λ found. (instr_of labels found.0, found.1)) result
+            (operands_at opcode bytes.now at) }
     ensures in_pool { IfOk result (λ found. (labels : List ℕ) → InPool labels found.0) }
     ensures further { IfOk result (λ found. at ≤ found.1) }
     ensures inside { IfOk result (λ found. found.1 ≤ length bytes.now) }

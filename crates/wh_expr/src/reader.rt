@@ -1,8 +1,8 @@
 //! Instructions one behind the other, up to the end of the expression.
 
-ghost use Rattle.std.specs.Prelude.{◌≡◌, ◌≢◌, ℕ, ◌<◌, ◌≤◌, ◌+◌, ◌-◌, ◌^◌, ◌++◌, ◌∷◌, [], List, length, drop, reverse, map, IfOk, IfErr, Ok, Err, OnOk, Option, Some, None};
+ghost use Rattle.std.specs.Prelude.{◌≡◌, ◌≢◌, ℕ, ◌<◌, ◌≤◌, ◌+◌, ◌-◌, ◌^◌, ◌++◌, ◌∷◌, [], List, length, drop, reverse, map, IfOk, IfErr, Ok, Err, OnOk, Option, Some};
 ghost use Rattle.std.specs.List.{AllByRecursion};
-ghost use Rattle.wh_model.specs.Syntax.{Code, expression};
+ghost use Rattle.wh_model.specs.Syntax.{Code};
 ghost use Rattle.wh_model.specs.Syntax as model;
 ghost use Rattle.wh_model.specs.Opcodes.{opcode};
 ghost use Rattle.wh_model.specs.Instructions.{allowed, may_come, expr};
@@ -71,7 +71,8 @@ fn immediates(
     requires inside { at ≤ length bytes.now }
     requires short { length bytes.now < 2 ^ 32 }
     requires paid { length labels.old.items ≤ at }
-    ensures exact { Gives (λ found. (instr_of labels.new.items found.0, found.1)) result (operands_at opcode bytes.now at) }
+    ensures exact { Gives (λ found. (instr_of labels.new.items found.0, found.1)) result
+        (operands_at opcode bytes.now at) }
     ensures in_pool { IfOk result (λ found. InPool labels.new.items found.0) }
     ensures grows { IfOk result (λ found. Extends labels.old.items labels.new.items) }
     ensures paid { IfOk result (λ found. length labels.new.items ≤ found.1) }
@@ -94,7 +95,8 @@ fn instruction(
     requires inside { at ≤ length bytes.now }
     requires short { length bytes.now < 2 ^ 32 }
     requires paid { length labels.old.items ≤ at }
-    ensures exact { Gives (λ found. (instr_of labels.new.items found.0, found.1)) result (instr_at (reverse stack.now) bytes.now at) }
+    ensures exact { Gives (λ found. (instr_of labels.new.items found.0, found.1)) result
+        (instr_at (reverse stack.now) bytes.now at) }
     ensures in_pool { IfOk result (λ found. InPool labels.new.items found.0) }
     ensures grows { IfOk result (λ found. Extends labels.old.items labels.new.items) }
     ensures paid { IfOk result (λ found. length labels.new.items ≤ found.1) }
@@ -106,7 +108,10 @@ fn instruction(
 
 /// The constructs that are open behind an instruction; true where it ends the expression.
 fn advance(stack: &mut Vec<Open>, instr: Instr) -> Result<bool, AllocError>
-    ensures { IfOk result (λ ended. (labels : List ℕ) → Advances ended (after_instr (reverse stack.old.items) (instr_of labels instr)) (reverse stack.new.items)) }
+    ensures { IfOk result
+        (λ ended. (labels : List ℕ)
+            → Advances ended (after_instr (reverse stack.old.items) (instr_of labels instr))
+                (reverse stack.new.items)) }
 {
     match instr {
         Instr::Block(_) | Instr::Loop(_) => stack.push(Open::Other)?,
@@ -124,7 +129,10 @@ fn advance(stack: &mut Vec<Open>, instr: Instr) -> Result<bool, AllocError>
 
 /// The same; the place is that of a fault.
 fn advance_at(stack: &mut Vec<Open>, instr: Instr, at: usize) -> Result<bool, DecodeError>
-    ensures ok { IfOk result (λ ended. (labels : List ℕ) → Advances ended (after_instr (reverse stack.old.items) (instr_of labels instr)) (reverse stack.new.items)) }
+    ensures ok { IfOk result
+        (λ ended. (labels : List ℕ)
+            → Advances ended (after_instr (reverse stack.old.items) (instr_of labels instr))
+                (reverse stack.new.items)) }
     ensures err { IfErr result (λ e. e.kind ≡ FaultKind.Memory) }
 {
     match advance(stack, instr) {
@@ -147,7 +155,8 @@ fn keep(instrs: &mut Vec<Instr>, instr: Instr, at: usize) -> Result<(), DecodeEr
 /// No instruction may stand here any more.
 fn too_many(bytes: &[u8], at: usize) -> DecodeError
     requires { at ≤ length bytes.now }
-    ensures { head_of {A = List model.Instr} (λ _. Err FaultKind.Limit) (drop at bytes.now) at ≡ Err result }
+    ensures { head_of {A = List model.Instr} (λ _. Err FaultKind.Limit) (drop at bytes.now) at
+        ≡ Err result }
 {
     let kind = if at == bytes.len() {
         FaultKind::Truncated
@@ -166,7 +175,8 @@ fn instructions(
 ) -> Result<(Vec<Instr>, Vec<u32>, usize), DecodeError>
     requires inside { at ≤ length bytes.now }
     requires short { length bytes.now < 2 ^ 32 }
-    ensures exact { Gives (λ found. (map (instr_of found.1.items) found.0.items, found.2)) result (code_from most [] bytes.now at) }
+    ensures exact { Gives (λ found. (map (instr_of found.1.items) found.0.items, found.2)) result
+        (code_from most [] bytes.now at) }
     ensures in_pool { IfOk result (λ found. AllByRecursion (InPool found.1.items) found.0.items) }
     ensures inside { IfOk result (λ found. found.2 ≤ length bytes.now) }
 {
@@ -230,9 +240,11 @@ pub fn read_expr(
     // The bytes up to the next place spell the expression, within the limits.
     ensures found { IfOk result (λ x. Found (expr most) bytes.now at x.0 x.1) }
     // What spells an expression within the limits is read, whatever follows it, unless memory runs out.
-    ensures only { (c : Code) (t u : List ℕ) → drop at bytes.now ≡ t ++ u → (expr most).within c t → Gives (λ x. x) result (Ok (c, at + length t)) }
+    ensures only { (c : Code) (t u : List ℕ) → drop at bytes.now ≡ t ++ u → (expr most).within c t
+        → Gives (λ x. x) result (Ok (c, at + length t)) }
     // Where the bytes break, and in which way.
-    ensures fault { IfErr result (λ e. e.kind ≢ FaultKind.Memory → Broken (expr most) bytes.now at e) }
+    ensures fault { IfErr result
+        (λ e. e.kind ≢ FaultKind.Memory → Broken (expr most) bytes.now at e) }
     ensures exact { Gives (λ x. x) result (code_at most bytes.now at) }
     ensures inside { IfOk result (λ found. found.1 ≤ length bytes.now) }
 {

@@ -9,7 +9,7 @@
 //! move.
 #![tactic(auto)]
 
-ghost use Rattle.std.specs.Prelude.{◌≡◌, ℕ, ◌+◌, ◌*◌, ◌<◌, ◌≤◌, List, length, replicate, IfOk, IsTrue, IsFalse, vec_capacity, refl};
+ghost use Rattle.std.specs.Prelude.{◌≡◌, ◌+◌, ◌*◌, ◌<◌, ◌≤◌, length, replicate, IfOk, IsTrue, IsFalse, vec_capacity, refl};
 ghost use Rattle.std.proofs.Common.{◌∙◌};
 ghost use Rattle.wh_flatmem.specs.Flat.{Flat, Begins};
 ghost use Rattle.wh_model.specs.Store.{bytes_at, written};
@@ -37,8 +37,8 @@ impl Model for FlatMemory {
 
     ghost view = { λ m. record { bytes = m.bytes.items; limit = m.limit } };
 
-    ghost invariant = { λ m. (length m.bytes.items ≡ m.pages * 65536) × (m.pages ≤ m.limit) × (m.limit ≤ 65536)
-        × (m.limit * 65536 ≤ vec_capacity m.bytes) };
+    ghost invariant = { λ m. (length m.bytes.items ≡ m.pages * 65536) × (m.pages ≤ m.limit)
+        × (m.limit ≤ 65536) × (m.limit * 65536 ≤ vec_capacity m.bytes) };
 }
 
 // Writes over N bytes by as many, if there are so many, and says whether it did.

@@ -1,6 +1,6 @@
 //! The items of the host, by their names and their types.
 
-ghost use Rattle.std.specs.Prelude.{◌≡◌, ◌↔◌, ⊤, IsTrue, map, codes, IfOk, IfErr, IfSome, IfNone};
+ghost use Rattle.std.specs.Prelude.{◌≡◌, ◌↔◌, IsTrue, map, codes, IfOk, IfErr, IfSome, IfNone};
 ghost use Rattle.std.specs.String.{string_bytes};
 ghost use Rattle.wh_model.specs.Store.{host, signature};
 ghost use Rattle.wh_host_model.specs.Linking.{item_name, ImportsItem, IsKnown, LacksItem, ImportFault};
@@ -15,7 +15,9 @@ use wh_syntax::{FuncType, Import, ImportDesc};
 
 /// The item of the import's names.
 fn named(import: &Import) -> Option<HostItem>
-    ensures some { IfSome result (λ item. (string_bytes import.now.from ≡ codes "host") × (string_bytes import.now.name ≡ item_name item)) }
+    ensures some { IfSome result
+        (λ item. (string_bytes import.now.from ≡ codes "host")
+            × (string_bytes import.now.name ≡ item_name item)) }
     ensures none { IfNone result (¬ (IsKnown (view_import import.now))) }
 {
     if import.from.as_str() != "host" {
@@ -74,7 +76,10 @@ fn is_typed(types: &[FuncType], desc: ImportDesc, item: HostItem) -> bool
 /// `UnknownImport` where the host has nothing of its names, else `ImportType` where that has another kind or type.
 pub fn item_of(types: &[FuncType], import: &Import, at: usize) -> Result<HostItem, LinkError>
     ensures ok { IfOk result (ImportsItem (map view_type types.now) (view_import import.now)) }
-    ensures err { IfErr result (λ e. (fault : ImportFault) × LacksItem (map view_type types.now) (view_import import.now) fault × (e ≡ error_of fault at)) }
+    ensures err { IfErr result
+        (λ e. (fault : ImportFault)
+            × LacksItem (map view_type types.now) (view_import import.now) fault
+            × (e ≡ error_of fault at)) }
 {
     let Some(item) = named(import) else {
         return Err(LinkError::UnknownImport(at));

@@ -32,9 +32,11 @@ impl Model for Linked {
 
     ghost coded = { stored_joined };
 
-    ghost view = { λ l. record { valid = l.valid; funcs = l.funcs.items; globals = l.globals.items } };
+    ghost view = { λ l. record { valid = l.valid; funcs = l.funcs.items;
+        globals = l.globals.items } };
 
-    ghost invariant = { λ l. IsSound (view_module l.valid.decoded) (map view_side l.valid.tables) × IsResolved (view_module l.valid.decoded) l.funcs.items l.globals.items };
+    ghost invariant = { λ l. IsSound (view_module l.valid.decoded) (map view_side l.valid.tables)
+        × IsResolved (view_module l.valid.decoded) l.funcs.items l.globals.items };
 }
 
 impl Linked {
@@ -81,7 +83,9 @@ struct Resolved {
 impl Resolved {
     /// Adds what one more import is.
     fn add(&mut self, item: HostItem) -> Result<(), LinkError>
-        ensures ok { OnOk result (Adds item self.old.funcs.items self.old.globals.items self.new.funcs.items self.new.globals.items) }
+        ensures ok { OnOk result
+            (Adds item self.old.funcs.items self.old.globals.items self.new.funcs.items
+                self.new.globals.items) }
         ensures err { IfErr result (λ e. e ≡ LinkError.Memory) }
     {
         let pushed = match item {
@@ -98,7 +102,8 @@ impl Resolved {
 /// What each import of a module is.
 fn resolve(alloc: Global, decoded: &Module) -> Result<Resolved, LinkError>
     ensures ok { OnOk result (Links (view_module decoded.now)) }
-    ensures resolved { IfOk result (λ r. IsResolved (view_module decoded.now) r.funcs.items r.globals.items) }
+    ensures resolved { IfOk result
+        (λ r. IsResolved (view_module decoded.now) r.funcs.items r.globals.items) }
     ensures err { IfErr result (Refuses (view_module decoded.now)) }
 {
     let mut resolved = Resolved {

@@ -50,7 +50,8 @@ fn begin(
     requires { IsPrepared decoded.now imported.now (view_parameters parameters) }
     ensures ok { IfOk result (BeginsInWords decoded.now imported.now (view_parameters parameters)) }
     ensures inputs { IfOk result (λ i. i.store.inputs ≡ parameters.inputs) }
-    ensures err { IfErr result (RefusesInWords decoded.now imported.now (view_parameters parameters)) }
+    ensures err { IfErr result
+        (RefusesInWords decoded.now imported.now (view_parameters parameters)) }
 {
     let pages = first_pages(&decoded.memories);
     if pages > parameters.page_limit {
@@ -90,11 +91,13 @@ pub fn initial(
     parameters: Parameters,
 ) -> Result<Initial, InitialError>
     // It begins as the definition of instantiation says.
-    ensures ok { IfOk result (BeginsWith (view_module linked.now.valid.decoded) (view_parameters parameters)) }
+    ensures ok { IfOk result
+        (BeginsWith (view_module linked.now.valid.decoded) (view_parameters parameters)) }
     // The words of `input` are those that were given.
     ensures inputs { IfOk result (λ i. i.store.inputs ≡ parameters.inputs) }
     // It has the fault that is named.
-    ensures err { IfErr result (Refuses (view_module linked.now.valid.decoded) (view_parameters parameters)) }
+    ensures err { IfErr result
+        (Refuses (view_module linked.now.valid.decoded) (view_parameters parameters)) }
 {
     begin(alloc, linked.module(), linked.globals(), parameters)
 }

@@ -1,6 +1,6 @@
 //! The first values of globals (4.5.3).
 
-ghost use Rattle.std.specs.Prelude.{◌≡◌, ◌++◌, map, take, length, OnOk, IfOk, IfErr};
+ghost use Rattle.std.specs.Prelude.{◌≡◌, ◌++◌, map, length, OnOk, IfOk, IfErr};
 ghost use Rattle.std.specs.List.{All};
 ghost use Rattle.std.specs.Vec.{vec_len};
 ghost use Rattle.wh_initial.specs.Words.{IsSeen, word_in, host_word, global_words};
@@ -32,7 +32,9 @@ fn add_hosts(
     imported: &[HostGlobal],
     parameters: &Parameters,
 ) -> Result<(), InitialError>
-    ensures ok { OnOk result (words.new.items ≡ words.old.items ++ map (host_word (view_parameters parameters.now)) imported.now) }
+    ensures ok { OnOk result
+        (words.new.items ≡ words.old.items
+        ++ map (host_word (view_parameters parameters.now)) imported.now) }
     ensures err { IfErr result (λ e. e ≡ InitialError.Memory) }
 {
     for global in imported {
@@ -47,7 +49,8 @@ fn add_hosts(
 /// `Memory` where a growth was refused.
 fn add_own(words: &mut Vec<u64>, own: &[Global]) -> Result<(), InitialError>
     requires { All (λ g. IsSeen (vec_len words.old) g.init) own.now }
-    ensures ok { OnOk result (words.new.items ≡ words.old.items ++ map (λ g. word_in words.old.items g.init) own.now) }
+    ensures ok { OnOk result
+        (words.new.items ≡ words.old.items ++ map (λ g. word_in words.old.items g.init) own.now) }
     ensures err { IfErr result (λ e. e ≡ InitialError.Memory) }
 {
     let imported = words.len();
@@ -69,7 +72,9 @@ pub fn first_globals(
     parameters: &Parameters,
 ) -> Result<Vec<u64>, InitialError>
     requires { All (λ g. IsSeen (length imported.now) g.init) own.now }
-    ensures ok { IfOk result (λ words. words.items ≡ global_words (view_parameters parameters.now) imported.now own.now) }
+    ensures ok { IfOk result
+        (λ words. words.items
+        ≡ global_words (view_parameters parameters.now) imported.now own.now) }
     ensures err { IfErr result (λ e. e ≡ InitialError.Memory) }
 {
     let mut words = with_room(alloc, imported.len() + own.len())?;

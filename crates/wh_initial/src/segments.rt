@@ -20,7 +20,8 @@ fn is_within(place: u32, count: usize, size: u64) -> bool
 /// Whether all element segments end within a table of so many entries, where the globals have these words.
 pub fn elements_fit(elements: &[Element], globals: &[u64], size: u64) -> bool
     requires { All (λ e. IsOffset globals.now e.offset) elements.now }
-    ensures { IsTrue result ↔ All (λ e. word_in globals.now e.offset + length e.init.items ≤ size) elements.now }
+    ensures { IsTrue result
+        ↔ All (λ e. word_in globals.now e.offset + length e.init.items ≤ size) elements.now }
 {
     for element in elements {
         if !is_within(
@@ -37,7 +38,8 @@ pub fn elements_fit(elements: &[Element], globals: &[u64], size: u64) -> bool
 /// Whether all data segments end within a memory of so many bytes, where the globals have these words.
 pub fn segments_fit(segments: &[Data], globals: &[u64], size: u64) -> bool
     requires { All (λ s. IsOffset globals.now s.offset) segments.now }
-    ensures { IsTrue result ↔ All (λ s. word_in globals.now s.offset + length s.init.items ≤ size) segments.now }
+    ensures { IsTrue result
+        ↔ All (λ s. word_in globals.now s.offset + length s.init.items ≤ size) segments.now }
 {
     for segment in segments {
         if !is_within(
@@ -61,7 +63,8 @@ pub fn segment_places(
     globals: &[u64],
 ) -> Result<Vec<u32>, InitialError>
     requires { All (λ s. IsOffset globals.now s.offset) segments.now }
-    ensures ok { IfOk result (λ places. places.items ≡ map (λ s. word_in globals.now s.offset) segments.now) }
+    ensures ok { IfOk result
+        (λ places. places.items ≡ map (λ s. word_in globals.now s.offset) segments.now) }
     ensures err { IfErr result (λ e. e ≡ InitialError.Memory) }
 {
     let mut places = with_room(alloc, segments.len())?;

@@ -33,8 +33,11 @@ pub fn first_table(
     globals: &[u64],
 ) -> Result<Vec<Option<u32>>, InitialError>
     requires offsets { All (λ e. IsOffset globals.now e.offset) elements.now }
-    requires within { All (λ e. word_in globals.now e.offset + length e.init.items ≤ size) elements.now }
-    ensures ok { IfOk result (λ table. table.items ≡ filled (replicate size None) (map (element_piece globals.now) elements.now)) }
+    requires within { All (λ e. word_in globals.now e.offset + length e.init.items ≤ size)
+        elements.now }
+    ensures ok { IfOk result
+        (λ table. table.items
+        ≡ filled (replicate size None) (map (element_piece globals.now) elements.now)) }
     ensures err { IfErr result (λ e. e ≡ InitialError.Memory) }
 {
     let mut table = Vec::new(alloc);

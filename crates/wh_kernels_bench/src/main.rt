@@ -2,7 +2,6 @@
 //! prints never depends on the time.
 #![tactic(auto)]
 
-ghost use Rattle.std.specs.Prelude.{◌≤◌};
 
 use std::rt::Clock;
 use std::time::Instant;

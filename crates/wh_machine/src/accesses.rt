@@ -39,7 +39,8 @@ pub fn turn_global_set(stack: &mut Stack, store: &mut Store, global: u32) -> Tur
 #[inline(always)]
 pub fn turn_memory_size<M: LinearMem>(stack: &mut Stack, memory: &M) -> Turn
     requires { IsNextInMemory stack.old (M.bytes memory.now) (M.limit memory.now) MemorySize }
-    ensures { InMemory (M.ready memory.now) stack.old (M.bytes memory.now) (M.limit memory.now) MemorySize result stack.new (M.bytes memory.now) }
+    ensures { InMemory (M.ready memory.now) stack.old (M.bytes memory.now) (M.limit memory.now)
+        MemorySize result stack.new (M.bytes memory.now) }
 {
     stack.words.push(u64::from(memory.size()));
     advance(stack);
@@ -63,7 +64,8 @@ fn answer_word(grown: Grown) -> u64
 #[inline(always)]
 pub fn turn_memory_grow<M: LinearMem>(stack: &mut Stack, memory: &mut M) -> Turn
     requires { IsNextInMemory stack.old (M.bytes memory.old) (M.limit memory.old) MemoryGrow }
-    ensures turned { InMemory (M.ready memory.old) stack.old (M.bytes memory.old) (M.limit memory.old) MemoryGrow result stack.new (M.bytes memory.new) }
+    ensures turned { InMemory (M.ready memory.old) stack.old (M.bytes memory.old)
+        (M.limit memory.old) MemoryGrow result stack.new (M.bytes memory.new) }
     ensures keeps { M.keeps memory.old memory.new }
     ensures waits { IsUncharged result → memory.new ≡ memory.old }
 {
@@ -95,9 +97,12 @@ pub fn turn_load<M: LinearMem>(
     align: u32,
     offset: u32,
 ) -> Turn
-    requires { IsNextInMemory stack.old (M.bytes memory.old) (M.limit memory.old) (Load op align offset) }
-    ensures turned { InMemory (M.ready memory.old) stack.old (M.bytes memory.old) (M.limit memory.old) (Load op align offset) result stack.new (M.bytes memory.new) }
-    ensures found { FoundInMemory (M.ready memory.old) stack.old (M.bytes memory.old) (M.limit memory.old) (Load op align offset) result }
+    requires { IsNextInMemory stack.old (M.bytes memory.old) (M.limit memory.old)
+        (Load op align offset) }
+    ensures turned { InMemory (M.ready memory.old) stack.old (M.bytes memory.old)
+        (M.limit memory.old) (Load op align offset) result stack.new (M.bytes memory.new) }
+    ensures found { FoundInMemory (M.ready memory.old) stack.old (M.bytes memory.old)
+        (M.limit memory.old) (Load op align offset) result }
     ensures keeps { M.keeps memory.old memory.new }
     ensures waits { IsUncharged result → memory.new ≡ memory.old }
 {
@@ -125,9 +130,12 @@ pub fn turn_store<M: LinearMem>(
     align: u32,
     offset: u32,
 ) -> Turn
-    requires { IsNextInMemory stack.old (M.bytes memory.old) (M.limit memory.old) (StoreAt op align offset) }
-    ensures turned { InMemory (M.ready memory.old) stack.old (M.bytes memory.old) (M.limit memory.old) (StoreAt op align offset) result stack.new (M.bytes memory.new) }
-    ensures found { FoundInMemory (M.ready memory.old) stack.old (M.bytes memory.old) (M.limit memory.old) (StoreAt op align offset) result }
+    requires { IsNextInMemory stack.old (M.bytes memory.old) (M.limit memory.old)
+        (StoreAt op align offset) }
+    ensures turned { InMemory (M.ready memory.old) stack.old (M.bytes memory.old)
+        (M.limit memory.old) (StoreAt op align offset) result stack.new (M.bytes memory.new) }
+    ensures found { FoundInMemory (M.ready memory.old) stack.old (M.bytes memory.old)
+        (M.limit memory.old) (StoreAt op align offset) result }
     ensures keeps { M.keeps memory.old memory.new }
     ensures waits { IsUncharged result → memory.new ≡ memory.old }
 {

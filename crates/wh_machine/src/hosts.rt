@@ -1,9 +1,9 @@
 //! The host's functions (4.4.7, "Invocation of host functions"), on words, store and memory.
 
-ghost use Rattle.std.specs.Prelude.{◌≡◌, ℕ, ◌+◌, ◌^◌, ◌<◌, ◌≤◌, List, ◌∷◌, ◌++◌, length, get_or};
+ghost use Rattle.std.specs.Prelude.{◌≡◌, ℕ, ◌+◌, ◌^◌, ◌<◌, ◌≤◌, List, ◌∷◌, length, get_or};
 ghost use Rattle.std.specs.Vec.{vec_capacity};
-ghost use Rattle.wh_model.specs.Store.{output_room, bytes_of};
-ghost use Rattle.wh_machine.specs.Hosting.{Puts, EmitsOnto, OnlyOutput, HasOperands, HostTurn};
+ghost use Rattle.wh_model.specs.Store.{output_room};
+ghost use Rattle.wh_machine.specs.Hosting.{Puts, EmitsOnto, HasOperands, HostTurn};
 ghost use Rattle.wh_machine.specs.Waiting.{EmitWaits, IsUncharged};
 
 use crate::bytes::{Emitted, emit, put};
@@ -23,7 +23,8 @@ pub const OUTPUT_ROOM: usize = 65536;
 #[inline(always)]
 pub fn host_input(words: &mut Words, inputs: &[u64])
     requires { (i : ℕ) × (rest : List ℕ) × (words.old ≡ i ∷ rest) }
-    ensures { (i : ℕ) (rest : List ℕ) → words.old ≡ i ∷ rest → (words.new ≡ get_or inputs.now i 0 ∷ rest) × (get_or inputs.now i 0 < 2 ^ 64) }
+    ensures { (i : ℕ) (rest : List ℕ) → words.old ≡ i ∷ rest
+        → (words.new ≡ get_or inputs.now i 0 ∷ rest) × (get_or inputs.now i 0 < 2 ^ 64) }
 {
     let index = words.pop() as usize;
     let word = if index < inputs.len() {
@@ -40,7 +41,8 @@ pub fn host_put(words: &mut Words, store: &mut Store) -> bool
     requires operand { (x : ℕ) × (rest : List ℕ) × (words.old ≡ x ∷ rest) }
     requires small { length store.old.output.items ≤ output_room }
     requires capacity { output_room ≤ vec_capacity store.old.output }
-    ensures puts { (x : ℕ) (rest : List ℕ) → words.old ≡ x ∷ rest → Puts x rest store.old result words.new store.new }
+    ensures puts { (x : ℕ) (rest : List ℕ) → words.old ≡ x ∷ rest
+        → Puts x rest store.old result words.new store.new }
 {
     let word = words.pop();
     if store.output.len() + 8 > OUTPUT_ROOM {
@@ -53,10 +55,13 @@ pub fn host_put(words: &mut Words, store: &mut Store) -> bool
 /// `emit`: whether its bytes were appended to the output. Where they are awaited the operands are put back.
 #[inline(always)]
 pub fn host_emit<M: LinearMem>(words: &mut Words, store: &mut Store, memory: &mut M) -> Emitted
-    requires operands { (count i : ℕ) × (rest : List ℕ) × (words.old ≡ count ∷ i ∷ rest) × (count < 2 ^ 32) × (i < 2 ^ 32) }
+    requires operands { (count i : ℕ) × (rest : List ℕ) × (words.old ≡ count ∷ i ∷ rest)
+        × (count < 2 ^ 32) × (i < 2 ^ 32) }
     requires small { length store.old.output.items ≤ output_room }
     requires capacity { output_room ≤ vec_capacity store.old.output }
-    ensures emits { (count i : ℕ) (rest : List ℕ) → words.old ≡ count ∷ i ∷ rest → EmitsOnto (M.ready memory.old) (M.bytes memory.old) i count rest words.old store.old result words.new store.new }
+    ensures emits { (count i : ℕ) (rest : List ℕ) → words.old ≡ count ∷ i ∷ rest
+        → EmitsOnto (M.ready memory.old) (M.bytes memory.old) i count rest words.old store.old
+        result words.new store.new }
     ensures bytes { M.bytes memory.new ≡ M.bytes memory.old }
     ensures keeps { M.keeps memory.old memory.new }
     ensures waits { EmitWaits result → memory.new ≡ memory.old }
@@ -89,7 +94,8 @@ pub fn call_host<M: LinearMem>(
     requires place { stack.old.frame.place + 1 < 2 ^ 64 }
     requires small { length store.old.output.items ≤ output_room }
     requires capacity { output_room ≤ vec_capacity store.old.output }
-    ensures turned { HostTurn func (M.ready memory.old) (M.bytes memory.old) stack.old store.old result stack.new store.new }
+    ensures turned { HostTurn func (M.ready memory.old) (M.bytes memory.old) stack.old store.old
+        result stack.new store.new }
     ensures bytes { M.bytes memory.new ≡ M.bytes memory.old }
     ensures keeps { M.keeps memory.old memory.new }
     ensures waits { IsUncharged result → memory.new ≡ memory.old }

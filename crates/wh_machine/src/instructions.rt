@@ -2,10 +2,9 @@
 
 ghost use Rattle.std.specs.Prelude.{◌≡◌, ◌+◌, ◌^◌, ◌<◌};
 ghost use Rattle.wh_control.specs.Moves.{moved};
-ghost use Rattle.wh_model.specs.Numbers.{unsigned};
-ghost use Rattle.wh_syntax.specs.declared.instr.Instr.TheVariants.{Nop, Block, Loop, Drop, Select, LocalGet, LocalSet, LocalTee, I32Const, I64Const, Test, Compare, Unary, Binary, Convert, Unreachable, End, Else, If, Br, BrIf, BrTable};
+ghost use Rattle.wh_syntax.specs.declared.instr.Instr.TheVariants.{Nop, Block, Loop, Drop, Select, LocalGet, LocalSet, LocalTee, I32Const, I64Const, Test, Compare, Unary, Binary, Convert, End};
 ghost use Rattle.wh_machine.specs.declared.machine.Turn.TheVariants.{Free};
-ghost use Rattle.wh_machine.specs.Alone.{IsNext, Alone, IsNextAnywhere, AloneAnywhere};
+ghost use Rattle.wh_machine.specs.Alone.{IsNextAnywhere, AloneAnywhere};
 
 use crate::bytes::{word_of, word_of_i32};
 use crate::machine::{Stack, Turn};
@@ -17,7 +16,8 @@ use wh_model::{BinaryOp, CompareOp, ConvertOp, TestOp, UnaryOp, ValType};
 #[inline(always)]
 pub fn advance(stack: &mut Stack)
     requires { stack.old.frame.place + 1 < 2 ^ 64 }
-    ensures { stack.new ≡ record stack.old { frame = moved stack.old.frame (stack.old.frame.place + 1) } }
+    ensures { stack.new
+        ≡ record stack.old { frame = moved stack.old.frame (stack.old.frame.place + 1) } }
 {
     stack.frame.place += 1;
 }

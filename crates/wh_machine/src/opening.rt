@@ -1,11 +1,11 @@
 //! Machines, and the calls that they begin with (4.5.5).
 
-ghost use Rattle.std.specs.Prelude.{◌≡◌, ℕ, ◌+◌, ◌<◌, ◌≤◌, List, [], ◌++◌, None, Some, false, length, replicate, reverse, slice_get, IfOk};
+ghost use Rattle.std.specs.Prelude.{◌≡◌, ◌+◌, ◌<◌, ◌≤◌, [], ◌++◌, None, Some, false, length, replicate, reverse, slice_get, IfOk};
 ghost use Rattle.std.specs.List.{AllByRecursion};
-ghost use Rattle.wh_control.specs.Represents.{Func, most_words};
+ghost use Rattle.wh_control.specs.Represents.{Func};
 ghost use Rattle.wh_control.specs.Moves.{begun};
-ghost use Rattle.wh_machine.specs.Opening.{CanBegin, Begins};
 ghost use Rattle.wh_control.specs.Parts.{funcs_in};
+ghost use Rattle.wh_machine.specs.Opening.{CanBegin, Begins};
 ghost use Rattle.wh_machine.specs.Program.{parts_in};
 ghost use Rattle.wh_machine.specs.Runs.{linked_parts, IsSettledIn};
 ghost use Rattle.wh_machine.specs.Turns.{calls_of};
@@ -69,10 +69,20 @@ impl Machine {
 /// The first frame of a call, and its words.
 fn open(program: &Program<'_>, stack: &mut Stack, func: usize, args: &[u64])
     requires there { (g : Func) × (slice_get (funcs_in (parts_in program.now)) func ≡ Some g) }
-    requires named { AllByRecursion (λ x. x < length program.now.module.now.types.items) program.now.module.now.funcs.items }
-    requires params { (g : Func) → slice_get (funcs_in (parts_in program.now)) func ≡ Some g → length g.type.params ≡ length args.now }
-    requires few { (g : Func) → slice_get (funcs_in (parts_in program.now)) func ≡ Some g → length g.type.params + length g.body.locals ≤ 256 }
-    ensures { (g : Func) → slice_get (funcs_in (parts_in program.now)) func ≡ Some g → calls_of stack.new ≡ record { words = replicate (length g.body.locals) 0 ++ reverse args.now; now = Some (begun func 0 (length g.type.params + length g.body.locals)); waiting = [] } }
+    requires named { AllByRecursion (λ x. x < length program.now.module.now.types.items)
+        program.now.module.now.funcs.items }
+    requires params { (g : Func) → slice_get (funcs_in (parts_in program.now)) func ≡ Some g
+        → length g.type.params ≡ length args.now }
+    requires few { (g : Func) → slice_get (funcs_in (parts_in program.now)) func ≡ Some g
+        → length g.type.params + length g.body.locals ≤ 256 }
+    ensures { (g : Func) → slice_get (funcs_in (parts_in program.now)) func ≡ Some g
+        → calls_of stack.new
+        ≡ record {
+          words = replicate (length g.body.locals) 0
+              ++ reverse args.now;
+          now = Some (begun func 0 (length g.type.params + length g.body.locals));
+          waiting = [];
+        } }
 {
     let (params, locals) = frame_size(program, func);
     stack.words.clear();

@@ -21,7 +21,8 @@ pub fn drop_top(words: &mut Words)
 #[inline(always)]
 pub fn select(words: &mut Words)
     requires { (i w v : ℕ) × (rest : List ℕ) × (words.old ≡ i ∷ w ∷ v ∷ rest) }
-    ensures { (i w v : ℕ) (rest : List ℕ) → words.old ≡ i ∷ w ∷ v ∷ rest → ((i ≢ 0) × (words.new ≡ v ∷ rest)) ⊎ ((i ≡ 0) × (words.new ≡ w ∷ rest)) }
+    ensures { (i w v : ℕ) (rest : List ℕ) → words.old ≡ i ∷ w ∷ v ∷ rest
+        → ((i ≢ 0) × (words.new ≡ v ∷ rest)) ⊎ ((i ≡ 0) × (words.new ≡ w ∷ rest)) }
 {
     let condition = words.pop();
     let second = words.pop();
@@ -33,7 +34,8 @@ pub fn select(words: &mut Words)
 #[inline(always)]
 pub fn unary(words: &mut Words, width: ValType, op: UnaryOp)
     requires { (x : ℕ) × (rest : List ℕ) × (words.old ≡ x ∷ rest) × (x < 2 ^ bits width) }
-    ensures { (x : ℕ) (rest : List ℕ) → words.old ≡ x ∷ rest → (r : ℕ) × (words.new ≡ r ∷ rest) × (r ≡ numbers.unary width op x) × (r < 2 ^ bits width) }
+    ensures { (x : ℕ) (rest : List ℕ) → words.old ≡ x ∷ rest
+        → (r : ℕ) × (words.new ≡ r ∷ rest) × (r ≡ numbers.unary width op x) × (r < 2 ^ bits width) }
 {
     let operand = words.pop();
     words.push(unop(width, op, operand));
@@ -43,7 +45,8 @@ pub fn unary(words: &mut Words, width: ValType, op: UnaryOp)
 #[inline(always)]
 pub fn test(words: &mut Words, op: TestOp)
     requires { (x : ℕ) × (rest : List ℕ) × (words.old ≡ x ∷ rest) }
-    ensures { (x : ℕ) (rest : List ℕ) → words.old ≡ x ∷ rest → (r : ℕ) × (words.new ≡ r ∷ rest) × (r ≡ numbers.test op x) × (r < 2 ^ 32) }
+    ensures { (x : ℕ) (rest : List ℕ) → words.old ≡ x ∷ rest
+        → (r : ℕ) × (words.new ≡ r ∷ rest) × (r ≡ numbers.test op x) × (r < 2 ^ 32) }
 {
     let operand = words.pop();
     words.push(testop(op, operand));
@@ -52,8 +55,10 @@ pub fn test(words: &mut Words, op: TestOp)
 /// A comparison of this type.
 #[inline(always)]
 pub fn compare(words: &mut Words, width: ValType, op: CompareOp)
-    requires { (y x : ℕ) × (rest : List ℕ) × (words.old ≡ y ∷ x ∷ rest) × (y < 2 ^ bits width) × (x < 2 ^ bits width) }
-    ensures { (y x : ℕ) (rest : List ℕ) → words.old ≡ y ∷ x ∷ rest → (r : ℕ) × (words.new ≡ r ∷ rest) × (r ≡ numbers.compare width op x y) × (r < 2 ^ 32) }
+    requires { (y x : ℕ) × (rest : List ℕ) × (words.old ≡ y ∷ x ∷ rest) × (y < 2 ^ bits width)
+        × (x < 2 ^ bits width) }
+    ensures { (y x : ℕ) (rest : List ℕ) → words.old ≡ y ∷ x ∷ rest
+        → (r : ℕ) × (words.new ≡ r ∷ rest) × (r ≡ numbers.compare width op x y) × (r < 2 ^ 32) }
 {
     let right = words.pop();
     let left = words.pop();
@@ -66,9 +71,15 @@ pub fn compare(words: &mut Words, width: ValType, op: CompareOp)
 /// Its trap.
 #[inline(always)]
 pub fn binary(words: &mut Words, width: ValType, op: BinaryOp) -> Result<(), Trap>
-    requires { (y x : ℕ) × (rest : List ℕ) × (words.old ≡ y ∷ x ∷ rest) × (y < 2 ^ bits width) × (x < 2 ^ bits width) }
-    ensures ok { IfOk result (λ _. (y x : ℕ) (rest : List ℕ) → words.old ≡ y ∷ x ∷ rest → (r : ℕ) × (words.new ≡ r ∷ rest) × (numbers.binary width op x y ≡ Ok r) × (r < 2 ^ bits width)) }
-    ensures err { IfErr result (λ trap. (y x : ℕ) (rest : List ℕ) → words.old ≡ y ∷ x ∷ rest → numbers.binary width op x y ≡ Err trap) }
+    requires { (y x : ℕ) × (rest : List ℕ) × (words.old ≡ y ∷ x ∷ rest) × (y < 2 ^ bits width)
+        × (x < 2 ^ bits width) }
+    ensures ok { IfOk result
+        (λ _. (y x : ℕ) (rest : List ℕ) → words.old ≡ y ∷ x ∷ rest
+        → (r : ℕ) × (words.new ≡ r ∷ rest) × (numbers.binary width op x y ≡ Ok r)
+        × (r < 2 ^ bits width)) }
+    ensures err { IfErr result
+        (λ trap. (y x : ℕ) (rest : List ℕ) → words.old ≡ y ∷ x ∷ rest
+        → numbers.binary width op x y ≡ Err trap) }
 {
     let right = words.pop();
     let left = words.pop();
@@ -84,8 +95,11 @@ pub fn binary(words: &mut Words, width: ValType, op: BinaryOp) -> Result<(), Tra
 /// A conversion.
 #[inline(always)]
 pub fn conversion(words: &mut Words, op: ConvertOp)
-    requires { (x : ℕ) × (rest : List ℕ) × (words.old ≡ x ∷ rest) × (x < 2 ^ bits (numbers.operand_type op)) }
-    ensures { (x : ℕ) (rest : List ℕ) → words.old ≡ x ∷ rest → (r : ℕ) × (words.new ≡ r ∷ rest) × (r ≡ numbers.convert op x) × (r < 2 ^ bits (numbers.result_type op)) }
+    requires { (x : ℕ) × (rest : List ℕ) × (words.old ≡ x ∷ rest)
+        × (x < 2 ^ bits (numbers.operand_type op)) }
+    ensures { (x : ℕ) (rest : List ℕ) → words.old ≡ x ∷ rest
+        → (r : ℕ) × (words.new ≡ r ∷ rest) × (r ≡ numbers.convert op x)
+        × (r < 2 ^ bits (numbers.result_type op)) }
 {
     let operand = words.pop();
     words.push(convert(op, operand));

@@ -10,7 +10,8 @@ use wh_control::Words;
 pub fn local_get(words: &mut Words, place: usize)
     requires there { place < length words.old }
     requires room { length words.old < most_words }
-    ensures { (w : ℕ) × (slice_get (reverse words.old) place ≡ Some w) × (words.new ≡ w ∷ words.old) }
+    ensures { (w : ℕ) × (slice_get (reverse words.old) place ≡ Some w)
+        × (words.new ≡ w ∷ words.old) }
 {
     let word = words.get(place);
     words.push(word);
@@ -20,7 +21,8 @@ pub fn local_get(words: &mut Words, place: usize)
 #[inline(always)]
 pub fn local_set(words: &mut Words, place: usize)
     requires { (w : ℕ) × (rest : List ℕ) × (words.old ≡ w ∷ rest) × (place < length rest) }
-    ensures { (w : ℕ) (rest : List ℕ) → words.old ≡ w ∷ rest → words.new ≡ reverse (slice_set (reverse rest) place w) }
+    ensures { (w : ℕ) (rest : List ℕ) → words.old ≡ w ∷ rest
+        → words.new ≡ reverse (slice_set (reverse rest) place w) }
 {
     let word = words.pop();
     words.put(place, word);
@@ -30,7 +32,8 @@ pub fn local_set(words: &mut Words, place: usize)
 #[inline(always)]
 pub fn local_tee(words: &mut Words, place: usize)
     requires { (w : ℕ) × (rest : List ℕ) × (words.old ≡ w ∷ rest) × (place < length words.old) }
-    ensures { (w : ℕ) (rest : List ℕ) → words.old ≡ w ∷ rest → words.new ≡ reverse (slice_set (reverse words.old) place w) }
+    ensures { (w : ℕ) (rest : List ℕ) → words.old ≡ w ∷ rest
+        → words.new ≡ reverse (slice_set (reverse words.old) place w) }
 {
     let word = words.top();
     words.put(place, word);

@@ -48,7 +48,8 @@ fn is_word(bytes: &[u8]) -> bool
 
 /// Whether a word is bytes in hexadecimal: two digits each, in either case.
 fn is_hex(word: &[u8]) -> bool
-    ensures { MatchBool result ((bytes : List ℕ) × IsHex word.now bytes) ((bytes : List ℕ) → IsHex word.now bytes → ⊥) }
+    ensures { MatchBool result ((bytes : List ℕ) × IsHex word.now bytes)
+        ((bytes : List ℕ) → IsHex word.now bytes → ⊥) }
 {
     if word.len() % 2 != 0 {
         return false;
@@ -58,14 +59,16 @@ fn is_hex(word: &[u8]) -> bool
 
 /// Whether all of the bytes are digits in hexadecimal.
 fn has_digits_alone(word: &[u8]) -> bool
-    ensures { MatchBool result (AllPass is_ascii_hexdigit word.now) (¬ (AllPass is_ascii_hexdigit word.now)) }
+    ensures { MatchBool result (AllPass is_ascii_hexdigit word.now)
+        (¬ (AllPass is_ascii_hexdigit word.now)) }
 {
     word.iter().all(|b| b.is_ascii_hexdigit())
 }
 
 /// The two parts of a line at its first space.
 fn at_space(line: &[u8]) -> Option<(&[u8], &[u8])>
-    ensures some { IfSome result (λ parts. (line.now ≡ parts.0.now ++ 32 ∷ parts.1.now) × All (λ b. b ≢ 32) parts.0.now) }
+    ensures some { IfSome result
+        (λ parts. (line.now ≡ parts.0.now ++ 32 ∷ parts.1.now) × All (λ b. b ≢ 32) parts.0.now) }
     ensures none { IfNone result (All (λ b. b ≢ 32) line.now) }
 {
     let at = memchr(b' ', line)?;
@@ -78,7 +81,8 @@ fn at_space(line: &[u8]) -> Option<(&[u8], &[u8])>
 /// `Syntax` where the line holds a byte above 127, has not the shape of a command, or a `HEX` isn't bytes in hexadecimal.
 pub fn parse(line: &[u8]) -> Result<Command<'_>, Complaint>
     // The line asks for what the command that is found means.
-    ensures found { IfOk result (λ command. (request : Request) × Asks line.now request × Means command request) }
+    ensures found { IfOk result
+        (λ command. (request : Request) × Asks line.now request × Means command request) }
     // What the line asks for is found.
     ensures only { (request : Request) → Asks line.now request → Finds result request }
     ensures err { IfErr result (λ e. e ≡ Complaint.Syntax) }

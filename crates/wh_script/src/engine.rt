@@ -44,7 +44,8 @@ pub fn run_script<R: Read, W: Write>(
     writer: &mut W,
 ) -> Result<(), ScriptFault>
     // The replies to the lines of the script were written, and nothing else; where it stopped, those to lines before.
-    ensures { Runs (R.remaining reader.old) (R.remaining reader.new) (W.contents writer.old) (W.contents writer.new) result }
+    ensures { Runs (R.remaining reader.old) (R.remaining reader.new) (W.contents writer.old)
+        (W.contents writer.new) result }
 {
     let mut lines = Lines::new(alloc)?;
     let mut engine = Engine::new(alloc)?;
@@ -81,7 +82,8 @@ impl Engine {
         number: u64,
     ) -> Result<(), ScriptFault>
         ensures { (line : List ℕ) → IsKind kind held.now line
-            → Answers self.old self.new number line (W.contents writer.old) (W.contents writer.new) result }
+            → Answers self.old self.new number line (W.contents writer.old) (W.contents writer.new)
+                result }
     {
         match kind {
             Line::End | Line::Skipped => Ok(()),
@@ -100,7 +102,8 @@ impl Engine {
         number: u64,
     ) -> Result<(), ScriptFault>
         ensures { (request : Request) → Means command.entry request
-            → Obeys self.old self.new number request (W.contents writer.old) (W.contents writer.new) result }
+            → Obeys self.old self.new number request (W.contents writer.old) (W.contents writer.new)
+                result }
     {
         match command {
             Command::Module { name, hex } => self.module(writer, name, hex, number),
@@ -115,7 +118,8 @@ impl Engine {
         number: u64,
     ) -> Result<(), ScriptFault>
         ensures { (bytes : List ℕ) → IsHex hex.now bytes
-            → Obeys self.old self.new number (keep_module name.now bytes) (W.contents writer.old) (W.contents writer.new) result }
+            → Obeys self.old self.new number (keep_module name.now bytes) (W.contents writer.old)
+                (W.contents writer.new) result }
     {
         if self.modules.contains_key(name) {
             return self.complain(writer, Complaint::NameTaken, number);
@@ -133,7 +137,8 @@ impl Engine {
     ) -> Result<(), ScriptFault>
         requires { modules_of self.old name.now ≡ None }
         ensures { (bytes : List ℕ) → IsHex hex.now bytes
-            → Obeys self.old self.new number (keep_module name.now bytes) (W.contents writer.old) (W.contents writer.new) result }
+            → Obeys self.old self.new number (keep_module name.now bytes) (W.contents writer.old)
+                (W.contents writer.new) result }
     {
         let Ok(bytes) = hex::decode(self.alloc, hex) else {
             return self.complain(writer, Complaint::Memory, number);
@@ -150,7 +155,9 @@ impl Engine {
     }
 
     fn keep(&mut self, name: &str, linked: Linked) -> Result<(), AllocError>
-        ensures kept { OnOk result (modules_of self.new ≡ with_module (modules_of self.old) name.now (view_linked linked)) }
+        ensures kept { OnOk result
+            (modules_of self.new
+                ≡ with_module (modules_of self.old) name.now (view_linked linked)) }
         ensures same { OnErr result (modules_of self.new ≡ modules_of self.old) }
     {
         let name = String::from_str(self.alloc, name)?;
@@ -159,7 +166,8 @@ impl Engine {
     }
 
     fn say_kept<W: Write>(&mut self, writer: &mut W, name: &str) -> Result<(), ScriptFault>
-        ensures sent { Sent (W.contents writer.old) (W.contents writer.new) result (kept_reply name.now) }
+        ensures sent { Sent (W.contents writer.old) (W.contents writer.new) result
+            (kept_reply name.now) }
         ensures names { modules_of self.new ≡ modules_of self.old }
     {
         self.reply.clear();
@@ -175,7 +183,8 @@ impl Engine {
         name: &str,
         error: ModuleError,
     ) -> Result<(), ScriptFault>
-        ensures sent { Sent (W.contents writer.old) (W.contents writer.new) result (refusal_reply name.now error) }
+        ensures sent { Sent (W.contents writer.old) (W.contents writer.new) result
+            (refusal_reply name.now error) }
         ensures names { modules_of self.new ≡ modules_of self.old }
     {
         self.reply.clear();
@@ -205,7 +214,10 @@ impl Engine {
     /// Puts the reply to a module that isn't valid together.
     fn say_invalid(&mut self, name: &str, error: ValidError) -> Result<(), AllocError>
         requires { string_bytes self.old.reply ≡ [] }
-        ensures said { OnOk result (string_bytes self.new.reply ≡ invalid_reply name.now (kind_number error.kind) (place_of error.func error.instr)) }
+        ensures said { OnOk result
+            (string_bytes self.new.reply
+                ≡ invalid_reply name.now (kind_number error.kind)
+                    (place_of error.func error.instr)) }
         ensures names { modules_of self.new ≡ modules_of self.old }
     {
         let kind = error.kind.number();
@@ -242,7 +254,8 @@ impl Engine {
         complaint: Complaint,
         line: u64,
     ) -> Result<(), ScriptFault>
-        ensures sent { Sent (W.contents writer.old) (W.contents writer.new) result (error_reply (complaint_number complaint) line) }
+        ensures sent { Sent (W.contents writer.old) (W.contents writer.new) result
+            (error_reply (complaint_number complaint) line) }
         ensures names { modules_of self.new ≡ modules_of self.old }
     {
         let cause = complaint.number();
@@ -255,7 +268,8 @@ impl Engine {
 
     /// Writes the reply, whole and at once.
     fn send<W: Write>(&self, writer: &mut W) -> Result<(), ScriptFault>
-        ensures sent { Sent (W.contents writer.old) (W.contents writer.new) result (string_bytes self.now.reply) }
+        ensures sent { Sent (W.contents writer.old) (W.contents writer.new) result
+            (string_bytes self.now.reply) }
         ensures output { IfErr result (λ e. e ≡ ScriptFault.Output) }
     {
         write_whole(writer, self.reply.as_bytes())?;

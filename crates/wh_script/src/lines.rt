@@ -84,7 +84,8 @@ impl Lines {
         ensures line { IfOk result (λ kind. ReadsLine (coming self.old (R.remaining reader.old))
             (coming self.new (R.remaining reader.new)) kind self.new.line.items) }
         // Where the reader failed, no whole line was lost.
-        ensures failed { FailsAt (coming self.old (R.remaining reader.old)) (R.remaining reader.new) result }
+        ensures failed { FailsAt (coming self.old (R.remaining reader.old)) (R.remaining reader.new)
+            result }
         ensures within { OnOk result (Within self.new) }
         ensures err { IfErr result (λ e. e ≢ ScriptFault.Output) }
     {
@@ -108,7 +109,8 @@ impl Lines {
 
     /// What the line is that was read.
     fn kind(&self) -> Line
-        ensures { (line : List ℕ) → Holds self.now.line.items self.now.is_long line → IsKind result self.now.line.items line }
+        ensures { (line : List ℕ) → Holds self.now.line.items self.now.is_long line
+            → IsKind result self.now.line.items line }
     {
         match self.line.first() {
             None | Some(b'#') => Line::Skipped,
@@ -120,9 +122,14 @@ impl Lines {
     /// Whether more of the script is to come; then some of it lies in the chunk.
     fn has_more<R: Read>(&mut self, reader: &mut R) -> Result<bool, ScriptFault>
         requires { Within self.old }
-        ensures bytes { OnOk result (Consumes (coming self.old (R.remaining reader.old)) (coming self.new (R.remaining reader.new)) []) }
-        ensures none { OnErr result (Consumes (coming self.old (R.remaining reader.old)) (R.remaining reader.new) []) }
-        ensures more { IfOk result (λ more. MatchBool more (self.new.next < self.new.end) (IsAtEnd (coming self.new (R.remaining reader.new)))) }
+        ensures bytes { OnOk result
+            (Consumes (coming self.old (R.remaining reader.old))
+                (coming self.new (R.remaining reader.new)) []) }
+        ensures none { OnErr result
+            (Consumes (coming self.old (R.remaining reader.old)) (R.remaining reader.new) []) }
+        ensures more { IfOk result
+            (λ more. MatchBool more (self.new.next < self.new.end)
+                (IsAtEnd (coming self.new (R.remaining reader.new)))) }
         ensures within { OnOk result (Within self.new) }
         ensures line { (self.new.line ≡ self.old.line) × (self.new.is_long ≡ self.old.is_long) }
         ensures err { IfErr result (λ e. e ≡ ScriptFault.Script) }
@@ -137,9 +144,12 @@ impl Lines {
     /// Reads more of the script; false at its end.
     fn fill<R: Read>(&mut self, reader: &mut R) -> Result<bool, ScriptFault>
         requires { Within self.old }
-        ensures bytes { OnOk result (Consumes (R.remaining reader.old) (R.remaining reader.new) (unread self.new)) }
+        ensures bytes { OnOk result
+            (Consumes (R.remaining reader.old) (R.remaining reader.new) (unread self.new)) }
         ensures none { OnErr result (Keeps (R.remaining reader.old) (R.remaining reader.new)) }
-        ensures more { IfOk result (λ more. MatchBool more (self.new.next < self.new.end) (IsAtEnd (R.remaining reader.new) × (unread self.new ≡ []))) }
+        ensures more { IfOk result
+            (λ more. MatchBool more (self.new.next < self.new.end)
+                (IsAtEnd (R.remaining reader.new) × (unread self.new ≡ []))) }
         ensures within { OnOk result (Within self.new) }
         ensures line { (self.new.line ≡ self.old.line) × (self.new.is_long ≡ self.old.is_long) }
         ensures err { IfErr result (λ e. e ≡ ScriptFault.Script) }
@@ -162,7 +172,8 @@ impl Lines {
     fn take(&mut self) -> Result<bool, ScriptFault>
         requires within { Within self.old }
         requires some { self.old.next < self.old.end }
-        ensures piece { IfOk result (λ is_last. (piece : List ℕ) × Takes self.old self.new is_last piece) }
+        ensures piece { IfOk result
+            (λ is_last. (piece : List ℕ) × Takes self.old self.new is_last piece) }
         ensures within { OnOk result (Within self.new) }
         ensures err { IfErr result (λ e. e ≡ ScriptFault.Memory) }
     {
@@ -182,7 +193,9 @@ impl Lines {
 /// The bytes up to the first newline, and whether there is one.
 fn first_piece(bytes: &[u8]) -> (&[u8], bool)
     ensures free { All (λ b. b ≢ 10) result.0.now }
-    ensures cut { MatchBool result.1 (bytes.now ≡ result.0.now ++ 10 ∷ drop (length result.0.now + 1) bytes.now) (bytes.now ≡ result.0.now) }
+    ensures cut { MatchBool result.1
+        (bytes.now ≡ result.0.now ++ 10 ∷ drop (length result.0.now + 1) bytes.now)
+        (bytes.now ≡ result.0.now) }
     ensures fits { OnTrue result.1 (length result.0.now + 1 ≤ length bytes.now) }
 {
     match memchr(b'\n', bytes) {

@@ -1,6 +1,6 @@
 //! Expressions: instructions up to their end.
 
-ghost use Rattle.std.specs.Prelude.{◌≡◌, List, map};
+ghost use Rattle.std.specs.Prelude.{◌≡◌, map};
 ghost use Rattle.std.specs.List.{AllByRecursion};
 ghost use Rattle.wh_model.specs.Syntax.{Code, expression};
 ghost use Rattle.wh_model.specs.Nested.{nested};
@@ -25,7 +25,9 @@ impl Model for Expr {
 
     ghost view = { λ e. nested (map (instr_of e.labels.items) e.instrs.items) };
 
-    ghost invariant = { λ e. (map (instr_of e.labels.items) e.instrs.items ≡ expression (nested (map (instr_of e.labels.items) e.instrs.items))) × AllByRecursion (InPool e.labels.items) e.instrs.items };
+    ghost invariant = { λ e. (map (instr_of e.labels.items) e.instrs.items
+            ≡ expression (nested (map (instr_of e.labels.items) e.instrs.items)))
+        × AllByRecursion (InPool e.labels.items) e.instrs.items };
 }
 
 /// The instructions of an expression in binary order, the last one its end, and the pool of the labels of its
@@ -41,7 +43,8 @@ pub struct Flat<'a> {
 impl Expr {
     /// An expression from its instructions, which have to be those of a nested form, and the pool of labels.
     pub fn new(instrs: Vec<Instr>, labels: Vec<u32>) -> Expr
-        requires nests { map (instr_of labels.items) instrs.items ≡ expression (nested (map (instr_of labels.items) instrs.items)) }
+        requires nests { map (instr_of labels.items) instrs.items
+            ≡ expression (nested (map (instr_of labels.items) instrs.items)) }
         requires in_pool { AllByRecursion (InPool labels.items) instrs.items }
         ensures { result ≡ nested (map (instr_of labels.items) instrs.items) }
     {

@@ -1,6 +1,6 @@
 //! Constant expressions (3.3.7): one constant, or one global that is never written.
 
-ghost use Rattle.std.specs.Prelude.{◌≡◌, ◌≢◌, ◌≤◌, map, take, length, slice_get, Some, IfErr};
+ghost use Rattle.std.specs.Prelude.{◌≡◌, ◌≢◌, map, take, slice_get, Some, IfErr};
 ghost use Rattle.wh_model.specs.Validity.{ConstantOf};
 ghost use Rattle.wh_syntax.specs.View.{view_global_type};
 ghost use Rattle.wh_validate.specs.Deciding.{Decides};
@@ -21,7 +21,8 @@ pub fn check_constant(
     globals: &[GlobalType],
     seen: usize,
 ) -> Result<(), ValidKind>
-    ensures decides { Decides result (ConstantOf (map view_global_type (take seen globals.now)) expr.now wanted) }
+    ensures decides { Decides result
+        (ConstantOf (map view_global_type (take seen globals.now)) expr.now wanted) }
     ensures err { IfErr result (λ k. k ≢ ValidKind.Memory) }
 {
     let instrs = expr.flat().instrs;
@@ -37,7 +38,8 @@ fn check_instr(
     globals: &[GlobalType],
     seen: usize,
 ) -> Result<(), ValidKind>
-    ensures decides { Decides result (IsConstant (map view_global_type (take seen globals.now)) instr wanted) }
+    ensures decides { Decides result
+        (IsConstant (map view_global_type (take seen globals.now)) instr wanted) }
     ensures err { IfErr result (λ k. k ≢ ValidKind.Memory) }
 {
     match instr {
@@ -65,7 +67,9 @@ fn check_global(
     globals: &[GlobalType],
     seen: usize,
 ) -> Result<(), ValidKind>
-    ensures decides { Decides result (slice_get (map view_global_type (take seen globals.now)) index ≡ Some (record { value = wanted; mutability = Mutability.Const })) }
+    ensures decides { Decides result
+        (slice_get (map view_global_type (take seen globals.now)) index
+            ≡ Some (record { value = wanted; mutability = Mutability.Const })) }
     ensures err { IfErr result (λ k. k ≢ ValidKind.Memory) }
 {
     let index = index as usize;

@@ -1,10 +1,9 @@
 //! Exports (3.4.8, 3.4.10).
 
-ghost use Rattle.std.specs.Prelude.{◌≡◌, ◌≢◌, ◌||◌, ℕ, List, true, false, map, length, OnOk, IfErr};
-ghost use Rattle.std.specs.String.{string_bytes};
+ghost use Rattle.std.specs.Prelude.{◌≡◌, ◌≢◌, ◌||◌, ℕ, List, true, false, map, OnOk, IfErr};
 ghost use Rattle.std.specs.Str.{bytes_eq};
 ghost use Rattle.std.specs.List.{All};
-ghost use Rattle.wh_model.specs.Validity.{Exported, DifferentNames};
+ghost use Rattle.wh_model.specs.Validity.{DifferentNames};
 ghost use Rattle.wh_syntax.specs.View.{view_export};
 ghost use Rattle.wh_bodies.specs.Views.{view_context};
 ghost use Rattle.wh_validate.specs.Deciding.{Decides};
@@ -41,8 +40,11 @@ fn check_export(context: &Context<'_>, export: &Export) -> Result<(), ValidKind>
 /// `DuplicateExport` where it is among those that were kept.
 fn add_name<'a>(names: &mut BTreeMap<&'a str, ()>, name: &'a str) -> Result<(), ValidKind>
     ensures new { OnOk result (has_name names.old name.now ≡ false) }
-    ensures added { OnOk result ((q : List ℕ) → has_name names.new q ≡ (bytes_eq name.now q || has_name names.old q)) }
-    ensures err { IfErr result (λ k. k ≢ ValidKind.Memory → (k ≡ ValidKind.DuplicateExport) × (has_name names.old name.now ≡ true)) }
+    ensures added { OnOk result
+        ((q : List ℕ) → has_name names.new q ≡ (bytes_eq name.now q || has_name names.old q)) }
+    ensures err { IfErr result
+        (λ k. k ≢ ValidKind.Memory
+            → (k ≡ ValidKind.DuplicateExport) × (has_name names.old name.now ≡ true)) }
 {
     match names.insert(name, ()) {
         Ok(None) => Ok(()),
@@ -60,7 +62,9 @@ pub fn check_exports(
     context: &Context<'_>,
     exports: &[Export],
 ) -> Result<(), ValidKind>
-    ensures decides { Decides result (All (IsExport (view_context context.now)) exports.now × DifferentNames (map view_export exports.now)) }
+    ensures decides { Decides result
+        (All (IsExport (view_context context.now)) exports.now
+            × DifferentNames (map view_export exports.now)) }
 {
     let mut names = BTreeMap::new(alloc);
     for export in exports {

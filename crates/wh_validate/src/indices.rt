@@ -68,8 +68,11 @@ pub fn push<T: Drop>(items: &mut Vec<T>, item: T) -> Result<(), ValidKind>
 /// # Errors
 /// `Index` where the type of a function isn't there.
 pub fn imported(alloc: Heap, types: &[FuncType], imports: &[Import]) -> Result<Indices, ValidKind>
-    ensures funcs { IfOk result (λ i. i.funcs.items ≡ imported_funcs (map view_import imports.now)) }
-    ensures globals { IfOk result (λ i. map view_global_type i.globals.items ≡ imported_globals (map view_import imports.now)) }
+    ensures funcs { IfOk result
+        (λ i. i.funcs.items ≡ imported_funcs (map view_import imports.now)) }
+    ensures globals { IfOk result
+        (λ i. map view_global_type i.globals.items
+            ≡ imported_globals (map view_import imports.now)) }
     ensures decides { Decides result (All (λ i. NamesType (length types.now) i) imports.now) }
     ensures err { IfErr result (λ k. k ≢ ValidKind.Memory → k ≡ ValidKind.Index) }
 {
@@ -105,7 +108,8 @@ pub fn add_funcs(funcs: &mut Vec<u32>, own: &[u32]) -> Result<(), ValidKind>
 
 /// Puts the types of the globals that the module defines behind those of the ones that it imports.
 pub fn add_globals(globals: &mut Vec<GlobalType>, own: &[Global]) -> Result<(), ValidKind>
-    ensures ok { OnOk result (globals.new.items ≡ globals.old.items ++ map (λ g. g.global_type) own.now) }
+    ensures ok { OnOk result
+        (globals.new.items ≡ globals.old.items ++ map (λ g. g.global_type) own.now) }
     ensures err { IfErr result (λ k. k ≡ ValidKind.Memory) }
 {
     for global in own {

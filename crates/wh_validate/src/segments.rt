@@ -23,7 +23,8 @@ use wh_syntax::{Data, Element, FuncType, Global, GlobalType};
 /// As `check_constant`'s.
 #[tactic(auto, unfolding(crate::specs::Parts::IsGlobal))]
 fn check_global(global: &Global, globals: &[GlobalType], imported: usize) -> Result<(), ValidKind>
-    ensures decides { Decides result (IsGlobal (map view_global_type (take imported globals.now)) global.now) }
+    ensures decides { Decides result
+        (IsGlobal (map view_global_type (take imported globals.now)) global.now) }
     ensures err { IfErr result (λ k. k ≢ ValidKind.Memory) }
 {
     check_constant(&global.init, global.global_type.value, globals, imported)
@@ -75,7 +76,8 @@ pub fn check_globals(
     globals: &[GlobalType],
     imported: usize,
 ) -> Result<(), ValidKind>
-    ensures decides { Decides result (All (IsGlobal (map view_global_type (take imported globals.now))) own.now) }
+    ensures decides { Decides result
+        (All (IsGlobal (map view_global_type (take imported globals.now))) own.now) }
     ensures err { IfErr result (λ k. k ≢ ValidKind.Memory) }
 {
     for global in own {
@@ -134,7 +136,8 @@ pub fn check_start(context: &Context<'_>, start: Option<u32>) -> Result<(), Vali
 
 /// Whether a function of this type takes and gives nothing.
 fn takes_nothing(func_type: &FuncType) -> bool
-    ensures { MatchBool result (view_type func_type.now ≡ no_type) (view_type func_type.now ≢ no_type) }
+    ensures { MatchBool result (view_type func_type.now ≡ no_type)
+        (view_type func_type.now ≢ no_type) }
 {
     func_type.params.is_empty() && func_type.results.is_empty()
 }

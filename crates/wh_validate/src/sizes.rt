@@ -1,6 +1,6 @@
 //! Tables and memories (3.2.1, 3.4.2, 3.4.3), and the limit on a table's first size.
 
-ghost use Rattle.std.specs.Prelude.{◌≡◌, ◌≤◌, map, length, IfErr};
+ghost use Rattle.std.specs.Prelude.{◌≡◌, ◌≤◌, length, IfErr};
 ghost use Rattle.std.specs.Bool.{MatchBool};
 ghost use Rattle.std.specs.List.{All};
 ghost use Rattle.wh_model.specs.Validity.{WithinBound, most_pages};
@@ -20,7 +20,8 @@ const MOST_FIRST_ENTRIES: u32 = 4096;
 /// # Errors
 /// `Limits` where it isn't so.
 pub fn check_tables(tables: &[TableType]) -> Result<(), ValidKind>
-    ensures decides { Decides result ((length tables.now ≤ 1) × All (λ t. IsTable (view_table t)) tables.now) }
+    ensures decides { Decides result
+        ((length tables.now ≤ 1) × All (λ t. IsTable (view_table t)) tables.now) }
     ensures err { IfErr result (λ k. k ≡ ValidKind.Limits) }
 {
     match tables {
@@ -44,7 +45,9 @@ fn is_table(limits: Limits) -> bool
 /// # Errors
 /// `Limits` where it isn't so.
 pub fn check_memories(memories: &[Limits]) -> Result<(), ValidKind>
-    ensures decides { Decides result ((length memories.now ≤ 1) × All (λ l. WithinBound most_pages (view_limits l)) memories.now) }
+    ensures decides { Decides result
+        ((length memories.now ≤ 1)
+            × All (λ l. WithinBound most_pages (view_limits l)) memories.now) }
     ensures err { IfErr result (λ k. k ≡ ValidKind.Limits) }
 {
     match memories {
@@ -55,7 +58,8 @@ pub fn check_memories(memories: &[Limits]) -> Result<(), ValidKind>
 }
 
 fn is_memory(limits: Limits) -> bool
-    ensures { MatchBool result (WithinBound most_pages (view_limits limits)) (¬ (WithinBound most_pages (view_limits limits))) }
+    ensures { MatchBool result (WithinBound most_pages (view_limits limits))
+        (¬ (WithinBound most_pages (view_limits limits))) }
 {
     match limits.max {
         None => limits.min <= MOST_PAGES,

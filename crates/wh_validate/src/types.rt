@@ -1,6 +1,6 @@
 //! Function types (3.2.3).
 
-ghost use Rattle.std.specs.Prelude.{◌≡◌, ◌<◌, ◌++◌, map, length, IfErr, IfOk};
+ghost use Rattle.std.specs.Prelude.{◌≡◌, ◌<◌, IfErr};
 ghost use Rattle.std.specs.List.{All};
 ghost use Rattle.wh_model.specs.Validity.{ValidType};
 ghost use Rattle.wh_syntax.specs.View.{view_type};

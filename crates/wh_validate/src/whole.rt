@@ -1,10 +1,10 @@
 //! Whole modules (3.4.10).
 
-ghost use Rattle.std.specs.Prelude.{◌≡◌, ◌≢◌, ◌<◌, ◌≤◌, ◌++◌, map, take, length, OnOk, IfOk, IfErr};
-ghost use Rattle.std.specs.List.{All, AllByRecursion};
-ghost use Rattle.wh_model.specs.Validity.{Valid, ValidType, imported_funcs, imported_globals, IsContext, IsValidIn};
-ghost use Rattle.wh_model.specs.Heights.{Fits, FitsIn};
-ghost use Rattle.wh_syntax.specs.View.{view_module, view_import, view_type, view_global_type};
+ghost use Rattle.std.specs.Prelude.{◌≡◌, ◌≢◌, ◌<◌, map, take, length, OnOk, IfOk, IfErr};
+ghost use Rattle.std.specs.List.{AllByRecursion};
+ghost use Rattle.wh_model.specs.Validity.{Valid, imported_funcs, imported_globals};
+ghost use Rattle.wh_model.specs.Heights.{Fits};
+ghost use Rattle.wh_syntax.specs.View.{view_module, view_global_type};
 ghost use Rattle.wh_bodies.specs.Views.{view_context, view_side};
 ghost use Rattle.wh_validate.specs.Blaming.{BlamesRightly};
 ghost use Rattle.wh_validate.specs.Soundness.{IsSound};
@@ -97,7 +97,9 @@ fn check_around(
     imported_globals: usize,
 ) -> Result<(), ValidKind>
     requires named { AllByRecursion (λ x. x < length context.now.types.now) context.now.funcs.now }
-    ensures decides { Decides result (IsAround decoded.now (view_context context.now) (map view_global_type (take imported_globals context.now.globals.now))) }
+    ensures decides { Decides result
+        (IsAround decoded.now (view_context context.now)
+            (map view_global_type (take imported_globals context.now.globals.now))) }
 {
     check_globals(&decoded.globals, context.globals, imported_globals)?;
     check_exports(alloc, context, &decoded.exports)?;
@@ -108,9 +110,14 @@ fn check_around(
 
 /// Everything, and where the branches of each body lead.
 fn check_whole(alloc: Global, decoded: &Module) -> Result<Vec<SideTable>, ValidError>
-    ensures sound { IfOk result (λ tables. IsSound (view_module decoded.now) (map view_side tables.items)) }
-    ensures complete { IfErr result (λ e. e.kind ≢ ValidKind.Memory → ¬ (Valid (view_module decoded.now) × Fits (view_module decoded.now))) }
-    ensures blames { IfErr result (λ e. e.kind ≢ ValidKind.Memory → BlamesRightly (view_module decoded.now) e.func e.instr e.kind) }
+    ensures sound { IfOk result
+        (λ tables. IsSound (view_module decoded.now) (map view_side tables.items)) }
+    ensures complete { IfErr result
+        (λ e. e.kind ≢ ValidKind.Memory
+            → ¬ (Valid (view_module decoded.now) × Fits (view_module decoded.now))) }
+    ensures blames { IfErr result
+        (λ e. e.kind ≢ ValidKind.Memory
+            → BlamesRightly (view_module decoded.now) e.func e.instr e.kind) }
 {
     let gathered = match gather(alloc, decoded) {
         Ok(gathered) => gathered,
@@ -150,10 +157,14 @@ pub fn validate(alloc: Global, decoded: Module) -> Result<ValidModule, ValidErro
     // It passes no limit.
     ensures fits { OnOk result (Fits (view_module decoded)) }
     // Unless memory was refused, a module that is refused isn't valid, or passes a limit.
-    ensures complete { IfErr result (λ e. e.kind ≢ ValidKind.Memory → ¬ (Valid (view_module decoded) × Fits (view_module decoded))) }
+    ensures complete { IfErr result
+        (λ e. e.kind ≢ ValidKind.Memory
+            → ¬ (Valid (view_module decoded) × Fits (view_module decoded))) }
     // A fault that names a function names one whose body isn't valid or passes a limit, and one of its instructions, and is
     // one that bodies have. Where a fault names no function, no bodies would make the module valid and within the limits.
-    ensures blames { IfErr result (λ e. e.kind ≢ ValidKind.Memory → BlamesRightly (view_module decoded) e.func e.instr e.kind) }
+    ensures blames { IfErr result
+        (λ e. e.kind ≢ ValidKind.Memory
+            → BlamesRightly (view_module decoded) e.func e.instr e.kind) }
     // It is the module that was given.
     ensures same { IfOk result (λ v. v.decoded ≡ decoded) }
 {

@@ -1,7 +1,7 @@
 use Rattle.std.proofs.Common.{◌<◌, refl, sym, subst}
 use Rattle.std.specs.Vec.{with_item}
-use Rattle.wh_machine.specs.Alone.{always}
 use Rattle.wh_control.specs.declared.store.Store as kept
+use Rattle.wh_machine.specs.Alone.{always}
 use Rattle.wh_machine.proofs.Turning.{place_fits}
 use Rattle.wh_machine.proofs.Accessing.{charged_turn, global_set_needs, global_set_steps}
 use Rattle.wh_machine.proofs.accesses.turn_global_set.Goals as goal

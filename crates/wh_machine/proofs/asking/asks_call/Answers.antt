@@ -10,7 +10,9 @@ use Rattle.wh_machine.proofs.Turning.{here}
 use Rattle.wh_machine.proofs.asking.asks_call.Goals as goal
 
 pub returns-then-index-program : goal.returns-then-index-program
-returns-then-index-program g c code r =
+returns-then-index-program g c =
+    let code = c.requires.0 in
+    let r = c.requires.1 in
     let p = parts_in c.args.program.now in
     let low = c.if-index-program.true in
     let y : ℕ = c.args.func - length p.hosts in
@@ -25,7 +27,9 @@ host_reads-requires g c =
     has_operands c.host_at.result (before_call (parts_in c.args.program.now) c.args.stack.now c.requires.0 c.args.store.now (g.M.LinearMem.bytes c.args.memory.now) (g.M.LinearMem.limit c.args.memory.now) c.args.func c.host_at.result r c.host_at.ensures u.context u.inst u.out u.s u.a u.ws u.stands).1
 
 pub returns : goal.returns
-returns g c code r =
+returns g c =
+    let code = c.requires.0 in
+    let r = c.requires.1 in
     let p = parts_in c.args.program.now in
     let m = c.args.stack.now in
     let k = c.args.store.now in

@@ -24,13 +24,17 @@ pub top-requires : goal.top-requires
 top-requires g c = let l = ap length (index_there c.args.type_index c.requires.1).2 in omega (arith, l)
 
 pub returns-in_default : goal.returns-in_default
-returns-in_default g c code r =
+returns-in_default g c =
+    let code = c.requires.0 in
+    let r = c.requires.1 in
     let i = index_there c.args.type_index r in
     let top = c.top.ensures i.0 i.1 i.2 in
     unnamed_asks_nothing c.args.type_index i.0 i.1 r i.2 (λ x at. no_entry c.deref.result.now c.top.result c.element_at.result c.element_at.ensures c.in_default.not-Func x (ap (slice_get c.deref.result.now) top ∙ ap (λ t. slice_get t i.0) c.deref.ensures.value ∙ at))
 
 pub returns-then-index-program : goal.returns-then-index-program
-returns-then-index-program g c code r =
+returns-then-index-program g c =
+    let code = c.requires.0 in
+    let r = c.requires.1 in
     let i = index_there c.args.type_index r in
     let entry = named c.element_at.result (c.top.ensures i.0 i.1 i.2) c.deref.ensures.value c.element_at.ensures c.in-Func.is in
     own_entry_asks_nothing c.args.type_index i.0 c.in-Func.func i.1 r i.2 entry c.if-index-program.true
@@ -43,7 +47,9 @@ host_has_type-requires g c =
     wanted_there st c.args.type_index ty.1 ty.3
 
 pub returns-then-not-host_has_type : goal.returns-then-not-host_has_type
-returns-then-not-host_has_type g c code r =
+returns-then-not-host_has_type g c =
+    let code = c.requires.0 in
+    let r = c.requires.1 in
     let i = index_there c.args.type_index r in
     let entry = named c.element_at.result (c.top.ensures i.0 i.1 i.2) c.deref.ensures.value c.element_at.ensures c.in-Func.is in
     mistyped_asks_nothing c.args.type_index i.0 c.in-Func.func c.host_at-host.result i.1 r i.2 entry c.host_at-host.ensures c.if-not-host_has_type.ensures
@@ -65,7 +71,9 @@ host_reads_beneath-requires g c =
     (i.0, i.1, i.2, has_operands c.host_at-host.result (before_indirect p beneath c.requires.0 k flat most i.0 c.in-Func.func y c.host_at-host.result r2 entry c.host_at-host.ensures c.if-not-host_has_type.ensures u.context u.inst u.out u.s u.a u.ws u.stands).1)
 
 pub returns : goal.returns
-returns g c code r =
+returns g c =
+    let code = c.requires.0 in
+    let r = c.requires.1 in
     let p = parts_in c.args.program.now in
     let m = c.args.stack.now in
     let k = c.args.store.now in

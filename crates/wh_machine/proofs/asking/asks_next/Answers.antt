@@ -26,10 +26,10 @@ pub returns-in-Store : goal.returns-in-Store
 returns-in-Store g c = c.asks_store.ensures _ _ _ (is_next c.requires c.instr_at.ensures c.in-Store.is)
 
 pub returns-in-Call : goal.returns-in-Call
-returns-in-Call g c = c.asks_call.ensures _ (is_next c.requires c.instr_at.ensures c.in-Call.is)
+returns-in-Call g c = c.asks_call.ensures
 
 pub returns-in-CallIndirect : goal.returns-in-CallIndirect
-returns-in-CallIndirect g c = c.asks_call_indirect.ensures _ (is_next c.requires c.instr_at.ensures c.in-CallIndirect.is)
+returns-in-CallIndirect g c = c.asks_call_indirect.ensures
 
 pub returns-in_default : goal.returns-in_default
 returns-in_default g c = silent_asks_nothing c.instr_at.result.now (is_next c.requires c.instr_at.ensures refl) (silent_instr c.instr_at.result.now c.in_default.not-Call c.in_default.not-CallIndirect c.in_default.not-Load c.in_default.not-Store c.args.code.labels.now)

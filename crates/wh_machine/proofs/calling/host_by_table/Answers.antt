@@ -32,7 +32,12 @@ host_has_type-requires g c =
     wanted_there st y ty.1 ty.3
 
 pub returns-then-not-host_has_type-clause-turned : goal.returns-then-not-host_has_type-clause-turned
-returns-then-not-host_has_type-clause-turned g c code x r entry at =
+returns-then-not-host_has_type-clause-turned g c =
+    let code = c.requires.0 in
+    let x = c.requires.1 in
+    let r = c.requires.2 in
+    let entry = c.requires.3 in
+    let at = c.requires.4 in
     let p = parts_in c.args.program.now in
     let m = c.args.stack.now in
     let y = c.args.type_index in
@@ -77,7 +82,12 @@ push-requires g c =
     omega (arith, k, n)
 
 pub returns-in-NotReady-clause-turned : goal.returns-in-NotReady-clause-turned
-returns-in-NotReady-clause-turned g c code x r entry at =
+returns-in-NotReady-clause-turned g c =
+    let code = c.requires.0 in
+    let x = c.requires.1 in
+    let r = c.requires.2 in
+    let entry = c.requires.3 in
+    let at = c.requires.4 in
     let p = parts_in c.args.program.now in
     let m = c.args.stack.now in
     let k = c.args.store.now in
@@ -97,7 +107,12 @@ returns-in-NotReady-clause-turned g c code x r entry at =
 
 pub returns-in_default : goal.returns-in_default
 returns-in_default g c = record {
-  turned = λ code x r entry at.
+  turned =
+      let code = c.requires.0 in
+      let x = c.requires.1 in
+      let r = c.requires.2 in
+      let entry = c.requires.3 in
+      let at = c.requires.4 in
       let p = parts_in c.args.program.now in
       let m = c.args.stack.now in
       let k = c.args.store.now in
@@ -108,7 +123,12 @@ returns-in_default g c = record {
       subst (λ b. Turned p (g.M.LinearMem.ready c.args.memory.now) (pushed m w) k flat most c.call_host.result c.call_host.new.stack c.call_host.new.store b) (sym c.call_host.ensures.bytes)
       (host_turned c.args.func c.call_host.result p (g.M.LinearMem.ready c.args.memory.now) (pushed m w) k flat most (call_indirect y) m.words c.call_host.new.stack c.call_host.new.store r.sound
       (before_indirect p m code k flat most w x y c.args.func r entry at c.if-not-host_has_type.ensures) c.call_host.ensures.turned c.in_default.not-NotReady);
-  found = λ code x r entry at.
+  found =
+      let code = c.requires.0 in
+      let x = c.requires.1 in
+      let r = c.requires.2 in
+      let entry = c.requires.3 in
+      let at = c.requires.4 in
       let p = parts_in c.args.program.now in
       let m = c.args.stack.now in
       let k = c.args.store.now in

@@ -26,7 +26,9 @@ pub call_host-requires-clause-place : goal.call_host-requires-clause-place
 call_host-requires-clause-place g c = place_fits c.requires.1
 
 pub returns-then-index-imported-clause-turned : goal.returns-then-index-imported-clause-turned
-returns-then-index-imported-clause-turned g c code r =
+returns-then-index-imported-clause-turned g c =
+    let code = c.requires.0 in
+    let r = c.requires.1 in
     let p = parts_in c.args.program.now in
     let m = c.args.stack.now in
     let k = c.args.store.now in
@@ -66,7 +68,9 @@ pub enter_own-requires-clause-place : goal.enter_own-requires-clause-place
 enter_own-requires-clause-place g c = place_fits c.requires.1
 
 pub returns-then-enter_own-clause-turned : goal.returns-then-enter_own-clause-turned
-returns-then-enter_own-clause-turned g c code r =
+returns-then-enter_own-clause-turned g c =
+    let code = c.requires.0 in
+    let r = c.requires.1 in
     let p = parts_in c.args.program.now in
     let m = c.args.stack.now in
     let low = c.if-index-imported.false in
@@ -80,7 +84,9 @@ returns-then-enter_own-clause-turned g c code r =
     )
 
 pub returns-clause-turned : goal.returns-clause-turned
-returns-clause-turned g c code r =
+returns-clause-turned g c =
+    let code = c.requires.0 in
+    let r = c.requires.1 in
     let p = parts_in c.args.program.now in
     let m = c.args.stack.now in
     let low = c.if-index-imported.false in
@@ -90,7 +96,9 @@ returns-clause-turned g c code r =
     ((λ cx inst out s a ws st. call_traps cx inst p.hosts (funcs_in p) out (calls_of m) s m.frame a ws st.instance.program st.running c.args.func y own.0 (here r) own.1 (omega (arith, low)) e.0), refl, refl)
 
 pub returns-then-index-imported-clause-found : goal.returns-then-index-imported-clause-found
-returns-then-index-imported-clause-found g c code r =
+returns-then-index-imported-clause-found g c =
+    let code = c.requires.0 in
+    let r = c.requires.1 in
     let p = parts_in c.args.program.now in
     let m = c.args.stack.now in
     let k = c.args.store.now in
@@ -99,7 +107,9 @@ returns-then-index-imported-clause-found g c code r =
     host_found c.host_at.result c.call_host.result p (g.M.LinearMem.ready c.args.memory.now) m k flat most (call c.args.func) m.words c.call_host.new.stack c.call_host.new.store (rests_here r tt) (before_call p m code k flat most c.args.func c.host_at.result r c.host_at.ensures) c.call_host.ensures.turned
 
 pub returns-then-enter_own-clause-found : goal.returns-then-enter_own-clause-found
-returns-then-enter_own-clause-found g c code r =
+returns-then-enter_own-clause-found g c =
+    let code = c.requires.0 in
+    let r = c.requires.1 in
     let p = parts_in c.args.program.now in
     let low = c.if-index-imported.false in
     let y : ℕ = c.args.func - length p.hosts in

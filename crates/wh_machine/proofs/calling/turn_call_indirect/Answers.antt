@@ -22,7 +22,9 @@ pop-index-requires g c =
     omega (arith, z)
 
 pub returns-in-Outside-clause-turned : goal.returns-in-Outside-clause-turned
-returns-in-Outside-clause-turned g c code r =
+returns-in-Outside-clause-turned g c =
+    let code = c.requires.0 in
+    let r = c.requires.1 in
     let m = c.args.stack.now in (
       (λ cx inst out s a ws st.
           (indirect_stops inst cx (funcs_in (parts_in c.args.program.now)) out (calls_of m) s m.frame a ws st.running c.args.type_index (here r) st.instance.program.types c.pop-index.result c.pop-index.new.self c.pop-index.ensures.taken).0 (ap (λ t. slice_get t c.pop-index.result) st.store.table ∙ ap (λ t. slice_get t c.pop-index.result) (sym c.deref.ensures.value) ∙ c.in-Outside.ensures)),
@@ -31,7 +33,9 @@ returns-in-Outside-clause-turned g c code r =
     )
 
 pub returns-in-Empty-clause-turned : goal.returns-in-Empty-clause-turned
-returns-in-Empty-clause-turned g c code r =
+returns-in-Empty-clause-turned g c =
+    let code = c.requires.0 in
+    let r = c.requires.1 in
     let m = c.args.stack.now in (
       (λ cx inst out s a ws st.
           (indirect_stops inst cx (funcs_in (parts_in c.args.program.now)) out (calls_of m) s m.frame a ws st.running c.args.type_index (here r) st.instance.program.types c.pop-index.result c.pop-index.new.self c.pop-index.ensures.taken).1 (ap (λ t. slice_get t c.pop-index.result) st.store.table ∙ ap (λ t. slice_get t c.pop-index.result) (sym c.deref.ensures.value) ∙ c.in-Empty.ensures)),
@@ -40,7 +44,9 @@ returns-in-Empty-clause-turned g c code r =
     )
 
 pub returns-then-func-program-clause-turned : goal.returns-then-func-program-clause-turned
-returns-then-func-program-clause-turned g c code r =
+returns-then-func-program-clause-turned g c =
+    let code = c.requires.0 in
+    let r = c.requires.1 in
     let p = parts_in c.args.program.now in
     let m = c.args.stack.now in
     let k = c.args.store.now in
@@ -48,8 +54,7 @@ returns-then-func-program-clause-turned g c code r =
     let most = g.M.LinearMem.limit c.args.memory.now in
     let e = back m c.pop-index.new.self c.pop-index.result c.pop-index.ensures.taken in
     let entry = ap (λ t. slice_get t c.pop-index.result) (sym c.deref.ensures.value) ∙ c.in-Func.ensures in
-    subst (λ z. Turned p (g.M.LinearMem.ready c.args.memory.now) z k flat most c.host_by_table.result c.host_by_table.new.stack c.host_by_table.new.store (g.M.LinearMem.bytes c.host_by_table.new.memory)) (sym e)
-    (c.host_by_table.ensures.turned code c.in-Func.func (subst (λ z. IsReady p code z k flat most (CallIndirect c.args.type_index)) e r) entry c.host_at-host.ensures)
+    subst (λ z. Turned p (g.M.LinearMem.ready c.args.memory.now) z k flat most c.host_by_table.result c.host_by_table.new.stack c.host_by_table.new.store (g.M.LinearMem.bytes c.host_by_table.new.memory)) (sym e) c.host_by_table.ensures.turned
 
 pub own_by_table-requires : goal.own_by_table-requires
 own_by_table-requires g c =
@@ -65,7 +70,9 @@ own_by_table-requires g c =
     (c.requires.0, k, flat, most, c.pop-index.result, subst (λ z. IsReady p c.requires.0 z k flat most (CallIndirect c.args.type_index)) e c.requires.1, entry ∙ ap (λ x. Some (Some x)) same)
 
 pub returns-else-func-program-clause-turned : goal.returns-else-func-program-clause-turned
-returns-else-func-program-clause-turned g c code r =
+returns-else-func-program-clause-turned g c =
+    let code = c.requires.0 in
+    let r = c.requires.1 in
     let p = parts_in c.args.program.now in
     let m = c.args.stack.now in
     let k = c.args.store.now in
@@ -80,7 +87,9 @@ returns-else-func-program-clause-turned g c code r =
     (c.own_by_table.ensures c.requires.0 k flat most c.pop-index.result (subst (λ z. IsReady p c.requires.0 z k flat most (CallIndirect c.args.type_index)) e c.requires.1) (entry ∙ ap (λ x. Some (Some x)) same)))
 
 pub returns-then-func-program-clause-found : goal.returns-then-func-program-clause-found
-returns-then-func-program-clause-found g c code r =
+returns-then-func-program-clause-found g c =
+    let code = c.requires.0 in
+    let r = c.requires.1 in
     let p = parts_in c.args.program.now in
     let m = c.args.stack.now in
     let k = c.args.store.now in
@@ -88,11 +97,12 @@ returns-then-func-program-clause-found g c code r =
     let most = g.M.LinearMem.limit c.args.memory.now in
     let e = back m c.pop-index.new.self c.pop-index.result c.pop-index.ensures.taken in
     let entry = ap (λ t. slice_get t c.pop-index.result) (sym c.deref.ensures.value) ∙ c.in-Func.ensures in
-    subst (λ z. Found p (g.M.LinearMem.ready c.args.memory.now) z k flat most c.host_by_table.result) (sym e)
-    (c.host_by_table.ensures.found code c.in-Func.func (subst (λ z. IsReady p code z k flat most (CallIndirect c.args.type_index)) e r) entry c.host_at-host.ensures)
+    subst (λ z. Found p (g.M.LinearMem.ready c.args.memory.now) z k flat most c.host_by_table.result) (sym e) c.host_by_table.ensures.found
 
 pub returns-else-func-program-clause-found : goal.returns-else-func-program-clause-found
-returns-else-func-program-clause-found g c code r =
+returns-else-func-program-clause-found g c =
+    let code = c.requires.0 in
+    let r = c.requires.1 in
     let p = parts_in c.args.program.now in
     let m = c.args.stack.now in
     let k = c.args.store.now in

@@ -16,26 +16,25 @@ leave-requires c =
     subst (λ b. m.frame.base + one_if b ≤ length m.words) (sym (c.has_result-carries.ensures n.frame.func n.frame.at)) (leave_room n (past_now r.code_is n r.past))
 
 pub returns : goal.returns
-returns c code k flat most r =
+returns c =
     let p = parts_in c.args.program.now in
     let m = c.args.stack.now in
-    let free = past_rests r in
     by_bool c.leave.result c.leave.ensures.calls
-    (λ left_so e. (
+    (λ left_so e code k flat most r. (
       (λ cx inst out s a ws st.
           let n = st.running in
           let next = leave_next inst cx p.hosts (funcs_in p) out (calls_of m) s m.frame a ws st.instance.program n (past_now r.code_is n r.past) in
           let same : left (cut m.words (one_if (is_some (result_of n.frame.func.type))) m.frame.base) m.waiting ≡ calls_of c.leave.new.stack =
           sym (left_so ∙ ap (λ x. left (cut m.words (one_if x) m.frame.base) m.waiting) (c.has_result-carries.ensures n.frame.func n.frame.at)) in
           (s, next.0, one_step 0 next.1, subst (λ x. Represents cx (funcs_in p) out x s next.0) same next.2, st.store)),
-      λ z. (c.leave.ensures.fewer e, free),
+      λ z. (c.leave.ensures.fewer e, past_rests r),
     ))
-    (λ left_so e. (
+    (λ left_so e code k flat most r. (
       (λ cx inst out s a ws st.
           let n = st.running in
           let next = leave_next inst cx p.hosts (funcs_in p) out (calls_of m) s m.frame a ws st.instance.program n (past_now r.code_is n r.past) in
           let same : left (cut m.words (one_if (is_some (result_of n.frame.func.type))) m.frame.base) m.waiting ≡ ended_calls c.leave.new.stack =
           sym (left_so ∙ ap (λ x. left (cut m.words (one_if x) m.frame.base) m.waiting) (c.has_result-carries.ensures n.frame.func n.frame.at)) in
           (s, next.0, one_step 0 next.1, subst (λ x. Represents cx (funcs_in p) out x s next.0) same next.2, st.store)),
-      λ z. free,
+      λ z. past_rests r,
     ))

@@ -1,8 +1,8 @@
 use Rattle.wh_control.specs.Parts.{funcs_in}
+use Rattle.wh_control.proofs.Constructs.{block_next}
 use Rattle.wh_machine.specs.Turns.{calls_of}
 use Rattle.wh_machine.proofs.Turning.{here, place_fits, charged_words}
 use Rattle.wh_syntax.specs.declared.instr.Instr.TheVariants.{Block}
-use Rattle.wh_control.proofs.Constructs.{block_next}
 use Rattle.wh_machine.proofs.instructions.turn_block.Goals as goal
 
 pub advance-requires : goal.advance-requires

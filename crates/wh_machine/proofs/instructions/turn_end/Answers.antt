@@ -1,8 +1,8 @@
 use Rattle.wh_control.specs.Parts.{funcs_in}
+use Rattle.wh_control.proofs.Constructs.{end_next}
 use Rattle.wh_machine.specs.Turns.{calls_of}
 use Rattle.wh_machine.proofs.Turning.{here, place_fits, free_words}
 use Rattle.wh_syntax.specs.declared.instr.Instr.TheVariants.{End}
-use Rattle.wh_control.proofs.Constructs.{end_next}
 use Rattle.wh_machine.proofs.instructions.turn_end.Goals as goal
 
 pub advance-requires : goal.advance-requires

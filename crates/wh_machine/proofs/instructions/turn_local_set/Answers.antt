@@ -5,9 +5,9 @@ use Rattle.wh_control.specs.Next.{Next}
 use Rattle.wh_control.specs.Represents.{bits_of, beneath}
 use Rattle.wh_control.proofs.Branches.{lower}
 use Rattle.wh_control.proofs.Room.{in_room}
-use Rattle.wh_machine.proofs.Straight.{one}
 use Rattle.wh_control.proofs.Constructs.{at_now}
 use Rattle.wh_control.specs.Parts.{funcs_in}
+use Rattle.wh_machine.proofs.Straight.{one}
 use Rattle.wh_machine.specs.Turns.{calls_of}
 use Rattle.wh_machine.proofs.Turning.{here, place_fits, charged_words, low_words}
 use Rattle.wh_syntax.specs.declared.instr.Instr.TheVariants.{LocalSet}
