@@ -19,7 +19,8 @@ use Rattle.wh_alone.specs.declared.outcome.Stage.{Stage}
 use Rattle.wh_alone.specs.declared.outcome.Stage.TheVariants as stages
 use Rattle.wh_alone.specs.declared.outcome.Refused.{Refused}
 use Rattle.wh_alone.specs.declared.outcome.Refused.TheVariants as refusals
-use Rattle.wh_alone.specs.Alone.{HasCall, IsAccepted}
+use Rattle.wh_model.specs.Accepting.{IsAccepted}
+use Rattle.wh_alone.specs.Alone.{HasCall}
 use Rattle.wh_alone.specs.Kept.{Kept, HasStore}
 use Rattle.wh_alone.specs.Journal.{Plain, IsOutcome, HasResults, ended_as, open_as, listed, IsInvoked, IsUnderWay, IsStage, IsJournalOf, IsAt, further, called_so, GoesOn, Called}
 use Rattle.wh_alone.specs.Stages.{IsOpen, RefusesCall}

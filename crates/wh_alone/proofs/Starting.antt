@@ -1,6 +1,6 @@
 -- The start function can be called.
 use Rattle.std.proofs.Common.{◌≡◌, ℕ, [], Option, Some, slice_get, refl, sym, ap, subst, ◌∙◌}
-use Rattle.wh_model.specs.declared.HostFunc.TheVariants.{Input, Put, Emit}
+use Rattle.wh_model.specs.declared.host.HostFunc.TheVariants.{Input, Put, Emit}
 use Rattle.wh_model.specs.Syntax.{FuncType, Body, Module}
 use Rattle.wh_model.specs.Typing.{Context}
 use Rattle.wh_model.specs.Validity.{IsValidIn, ValidStart}

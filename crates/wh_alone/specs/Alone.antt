@@ -1,6 +1,6 @@
 -- What a call of a module comes to, from its bytes.
 use Rattle.std.specs.Prelude.{◌≡◌, ◌≢◌, ⊤, true, false, Option, ℕ, ◌^◌, ◌<◌, ◌≤◌, List, [], ◌∷◌, slice_get, map, reverse}
-use Rattle.wh_model.specs.declared.FaultKind.TheVariants.{Memory as NoRoom}
+use Rattle.wh_model.specs.declared.faults.FaultKind.TheVariants.{Memory as NoRoom}
 use Rattle.wh_model.specs.Syntax.{nothing, FuncType, Body, Module}
 use Rattle.wh_model.specs.Typing.{Context}
 use Rattle.wh_model.specs.Validity.{Valid, IsValidIn}
@@ -14,9 +14,9 @@ use Rattle.wh_model.specs.Store.{Value, Instance, Store, written}
 use Rattle.wh_syntax.specs.declared.module.Data.{Data}
 use Rattle.wh_model.specs.Configuration.{Term, code, frame, called, Config, config, trapped}
 use Rattle.wh_model.specs.Reduction.{After}
-use Rattle.wh_host_model.specs.Linking.{Links}
-use Rattle.wh_host_model.specs.Replies.{IsModule}
-use Rattle.wh_bodies.specs.declared.fault.ValidKind.TheVariants.{Memory as NoRoomToCheck}
+use Rattle.wh_model.specs.Linking.{Links}
+use Rattle.wh_model.specs.Accepting.{IsModule}
+use Rattle.wh_model.specs.declared.faults.ValidKind.TheVariants.{Memory as NoRoomToCheck}
 use Rattle.wh_syntax.specs.View.{view_module}
 use Rattle.wh_imports.specs.Joined.{Joined}
 use Rattle.wh_imports.specs.Refusing as linking
@@ -31,29 +31,15 @@ use Rattle.wh_flatmem.specs.Flat.{Flat}
 use Rattle.wh_alone.specs.declared.outcome.Outcome.{Outcome}
 use Rattle.wh_alone.specs.declared.outcome.Outcome.TheVariants.{Returned, Trapped, OutOfFuel}
 use Rattle.wh_alone.specs.declared.outcome.CallError.{CallError}
-use Rattle.wh_alone.specs.declared.outcome.CallError.TheVariants.{Decode, Valid as Invalid, Link, Initial, Memory}
-
--- ---- modules
-
--- the bytes spell the module, it is valid, it fits, and each import has its item
-pub record IsAccepted (bytes : List ℕ) (m : Module) : Type 0 where
-  pub is_module : IsModule bytes m
-  pub valid : Valid m
-  pub fits : Fits m
-  pub links : Links m
-
--- what is wrong with the bytes, or with the module that they spell, but for want of memory
-abbrev pub RefusesBytes : List ℕ → CallError → Type 0
-RefusesBytes bytes (Decode e) = e.kind ≢ NoRoom → IsBroken bytes e.kind e.offset
-RefusesBytes bytes (Invalid e) = (m : Module) × IsModule bytes m × (e.kind ≢ NoRoomToCheck → ¬ (Valid m × Fits m))
-RefusesBytes bytes (Link e) = (m : Module) × IsModule bytes m × Valid m × Fits m × linking.Refuses m e
-RefusesBytes bytes e = ⊥
+use Rattle.wh_alone.specs.declared.outcome.CallError.TheVariants.{Load, Initial, Memory}
+use Rattle.wh_model.specs.Accepting.{IsAccepted}
+use Rattle.wh_load.specs.Refusing.{RefusesBytes}
 
 -- why there is no instance; of memory nothing is said
 abbrev pub RefusesAlone : List ℕ → Parameters → CallError → Type 0
 RefusesAlone bytes p (Initial e) = (m : Module) × IsAccepted bytes m × initials.Refuses m p e
 RefusesAlone bytes p Memory = ⊤
-RefusesAlone bytes p e = RefusesBytes bytes e
+RefusesAlone bytes p (Load e) = RefusesBytes bytes e
 
 -- ---- arguments
 

@@ -3,7 +3,7 @@ use Rattle.std.specs.Prelude.{◌≡◌, ℕ, List, [], ◌∷◌, Option, Some,
 use Rattle.wh_model.specs.Syntax.{Module}
 use Rattle.wh_model.specs.Instance.{Parameters}
 use Rattle.wh_model.specs.Replay.{Call, returned, pending, Standing}
-use Rattle.wh_alone.specs.Alone.{IsAccepted}
+use Rattle.wh_model.specs.Accepting.{IsAccepted}
 use Rattle.wh_alone.specs.Journal.{Plain, IsAt}
 
 -- the start that has written so many fragments, where there is no start function

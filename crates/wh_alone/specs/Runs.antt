@@ -10,7 +10,8 @@ use Rattle.wh_alone.specs.declared.outcome.Outcome.{Outcome}
 use Rattle.wh_alone.specs.declared.outcome.Outcome.TheVariants.{Returned}
 use Rattle.wh_alone.specs.declared.outcome.Alone.{Alone}
 use Rattle.wh_alone.specs.declared.outcome.Alone.TheVariants.{Start, NoCall, Call as Called}
-use Rattle.wh_alone.specs.Alone.{HasCall, IsAccepted}
+use Rattle.wh_model.specs.Accepting.{IsAccepted}
+use Rattle.wh_alone.specs.Alone.{HasCall}
 use Rattle.wh_alone.specs.Kept.{HasStore}
 use Rattle.wh_alone.specs.Journal.{Plain, IsOutcome, HasResults}
 

@@ -9,7 +9,6 @@ ghost use Rattle.wh_alone.specs.Journal.{Plain, IsSomewhere, GoesOn, Called, Giv
 ghost use Rattle.wh_alone.specs.Stages.{IsOpen, RefusesCall};
 ghost use Rattle.wh_alone.specs.Beginnings.{BeginsAlone};
 
-use crate::accepting::accept;
 use crate::arguments::{are_words, can_call};
 use crate::calling::{call, first_stage, run_on, stage_after_call, stage_after_start};
 use crate::exports::exported;
@@ -20,6 +19,7 @@ use std::marker::Model;
 use wh_flatmem::FlatMemory;
 use wh_imports::Linked;
 use wh_initial::{Parameters, initial};
+use wh_load::load;
 use wh_machine::{Machine, Store};
 
 /// An instance of a module, with a memory of its own, and its call that hasn't ended, if there is one.
@@ -65,7 +65,7 @@ impl Instance {
         ensures err { IfErr result (RefusesAlone bytes.now (view_parameters parameters)) }
     {
         are_words(&parameters.inputs);
-        let linked = accept(alloc, bytes)?;
+        let linked = load(alloc, bytes).map_err(CallError::Load)?;
         let begun = match initial(alloc, &linked, parameters) {
             Ok(begun) => begun,
             Err(error) => return Err(CallError::Initial(error)),

@@ -5,7 +5,6 @@
 //! of sections 4.4 and 4.5 of the W3C WebAssembly Core Specification 1.0 say, charge by charge.
 #![tactic(auto)]
 
-mod accepting;
 mod alone;
 mod arguments;
 mod calling;

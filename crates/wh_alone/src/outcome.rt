@@ -1,11 +1,9 @@
 //! What a call comes to, and why there is no instance.
 
 use thiserror::Error;
-use wh_imports::LinkError;
 use wh_initial::InitialError;
-use wh_leb::DecodeError;
+use wh_load::LoadError;
 use wh_model::Trap;
-use wh_validate::ValidError;
 
 /// How a call has ended, or that it hasn't.
 #[derive(Clone, Copy, Debug, PartialEq, Eq)]
@@ -69,15 +67,9 @@ pub enum Alone {
 /// Why bytes have no instance.
 #[derive(Clone, Copy, Debug, PartialEq, Eq, Error)]
 pub enum CallError {
-    /// The bytes aren't a module, or pass a limit of the format.
-    #[error("the bytes aren't accepted as a module")]
-    Decode(DecodeError),
-    /// The module isn't valid, or passes a limit.
-    #[error("the module isn't valid")]
-    Valid(ValidError),
-    /// The module imports what the host doesn't offer.
-    #[error("an import isn't offered")]
-    Link(LinkError),
+    /// They aren't accepted as a module.
+    #[error("{0}")]
+    Load(LoadError),
     /// The module has no instance with these parameters.
     #[error("there is no such instance")]
     Initial(InitialError),

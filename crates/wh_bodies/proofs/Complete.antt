@@ -6,7 +6,7 @@ use Rattle.wh_model.specs.Syntax.{Op, Code, nothing, plain, block, loop, if_then
 use Rattle.wh_model.specs.Typing.{Context, OpType, operand, under, HasType, no_more, then_op, then_block, then_loop, then_if, then_if_else}
 use Rattle.wh_model.specs.Heights.{operands, height_behind, lowered, greatest}
 use Rattle.wh_model.proofs.Heights.{begins_within}
-use Rattle.wh_bodies.specs.declared.fault.ValidKind.{ValidKind}
+use Rattle.wh_model.specs.declared.faults.ValidKind.{ValidKind}
 use Rattle.wh_bodies.specs.declared.fault.BodyFault.{BodyFault}
 use Rattle.wh_bodies.specs.declared.table.Entry.{Entry}
 use Rattle.wh_bodies.specs.declared.labels.Label.{Label}

@@ -8,8 +8,8 @@ use Rattle.wh_model.specs.declared.Open.TheVariants.{Then, Other}
 use Rattle.wh_model.specs.Syntax.{Code, Instr, block_start, loop_start, if_start, else_mark, end_mark, flatten}
 use Rattle.wh_model.specs.Typing.{Context, operand}
 use Rattle.wh_model.specs.Heights.{operands, lowered}
-use Rattle.wh_bodies.specs.declared.fault.ValidKind.{ValidKind}
-use Rattle.wh_bodies.specs.declared.fault.ValidKind.TheVariants.{Arity}
+use Rattle.wh_model.specs.declared.faults.ValidKind.{ValidKind}
+use Rattle.wh_model.specs.declared.faults.ValidKind.TheVariants.{Arity}
 use Rattle.wh_bodies.specs.declared.fault.BodyFault.{BodyFault}
 use Rattle.wh_bodies.specs.declared.table.Entry.{Entry}
 use Rattle.wh_bodies.specs.declared.labels.Label.{Label}

@@ -1,6 +1,6 @@
 -- What a chain of steps that passes went through.
 use Rattle.std.proofs.Common.{◌≡◌, refl, Result, Ok, Err, Option, Some, None, Bool, true, false, cond, IsTrue, rules}
-use Rattle.wh_bodies.specs.declared.fault.ValidKind.{ValidKind}
+use Rattle.wh_model.specs.declared.faults.ValidKind.{ValidKind}
 use Rattle.wh_bodies.specs.Faults.{follow}
 use Rattle.wh_bodies.specs.Stepping.{found}
 

@@ -7,8 +7,8 @@ use Rattle.std.proofs.lemmas.List.{reverse-append, length-take}
 use Rattle.wh_model.specs.declared.ValType.{ValType}
 use Rattle.wh_model.specs.declared.ValType.TheVariants.{I32, I64}
 use Rattle.wh_model.specs.Typing.{operand}
-use Rattle.wh_bodies.specs.declared.fault.ValidKind.{ValidKind}
-use Rattle.wh_bodies.specs.declared.fault.ValidKind.TheVariants.{Arity}
+use Rattle.wh_model.specs.declared.faults.ValidKind.{ValidKind}
+use Rattle.wh_model.specs.declared.faults.ValidKind.TheVariants.{Arity}
 use Rattle.wh_bodies.specs.Faults.{follow}
 use Rattle.wh_bodies.specs.Known.{Known, above, Admits, Agree, Fit, same_type, topmost, take_any, is_wanted, take_one, give_one, fall, take_all, give_all, pass, agreed, selected}
 use Rattle.wh_bodies.specs.Stepping.{finished}

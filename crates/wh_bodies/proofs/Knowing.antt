@@ -6,8 +6,8 @@ use Rattle.std.proofs.lemmas.Bool.{ltb-true}
 use Rattle.std.proofs.lemmas.Bool.Decides.{nat_tests}
 use Rattle.wh_model.specs.declared.ValType.{ValType}
 use Rattle.wh_model.specs.declared.ValType.TheVariants.{I32, I64}
-use Rattle.wh_bodies.specs.declared.fault.ValidKind.{ValidKind}
-use Rattle.wh_bodies.specs.declared.fault.ValidKind.TheVariants.{BadType, Arity, Height}
+use Rattle.wh_model.specs.declared.faults.ValidKind.{ValidKind}
+use Rattle.wh_model.specs.declared.faults.ValidKind.TheVariants.{BadType, Arity, Height}
 use Rattle.wh_bodies.specs.Known.{Known, above, beneath, Admits, Agree, Fit, same_type, topmost, take_any, is_wanted, take_one, give_one, fall, take_all, give_all}
 use Rattle.wh_bodies.proofs.Follow.{ok_is, follow_ok, cond_ok, by_test}
 

@@ -1,22 +1,8 @@
 -- Faults of modules that were decoded: their numbers, which are this project's own, where they lie, and how a check answers.
 use Rattle.std.specs.Prelude.{◌≡◌, ◌≢◌, ℕ, ◌<◌, length, Result, Ok, Err}
 use Rattle.wh_model.specs.Syntax.{expression, Body}
-use Rattle.wh_bodies.specs.declared.fault.ValidKind.{ValidKind}
-use Rattle.wh_bodies.specs.declared.fault.ValidKind.TheVariants.{BadType, Index, Align, Arity, Const, DuplicateExport, Start, Limits, Height, ConstImmutable, Memory}
-
--- a fault of a module that was decoded is named V and this number
-abbrev pub kind_number : ValidKind → ℕ
-kind_number BadType = 1
-kind_number Index = 2
-kind_number Align = 3
-kind_number Arity = 4
-kind_number Const = 5
-kind_number DuplicateExport = 6
-kind_number Start = 7
-kind_number Limits = 8
-kind_number Height = 9
-kind_number ConstImmutable = 10
-kind_number Memory = 11
+use Rattle.wh_model.specs.declared.faults.ValidKind.{ValidKind}
+use Rattle.wh_model.specs.declared.faults.ValidKind.TheVariants.{BadType, Index, Align, Arity, Const, DuplicateExport, Start, Limits, Height, ConstImmutable, Memory}
 
 -- the faults that a body's instructions can have
 abbrev pub IsOfBody : ValidKind → Type 0

@@ -14,14 +14,14 @@ ghost use Rattle.wh_model.specs.Heights.{FitsBody};
 ghost use Rattle.wh_syntax.specs.View.{view_type, view_body};
 
 use crate::context::{Around, Context};
-use crate::fault::{BodyFault, ValidKind, push};
+use crate::fault::{BodyFault, push};
 use crate::labels::Label;
 use crate::marks::{Mark, all_marks};
 use crate::operands::Operands;
 use crate::steps::{Checker, step};
 use crate::table::{Entry, SideTable};
 use std::alloc::Global;
-use wh_model::{Open, ValType};
+use wh_model::{Open, ValType, ValidKind};
 use wh_syntax::{Body, FuncType, Instr};
 
 const MOST_LOCALS: usize = 256;

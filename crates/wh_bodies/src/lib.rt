@@ -18,5 +18,5 @@ mod table;
 
 pub use body::check_body;
 pub use context::Context;
-pub use fault::{BodyFault, ValidKind};
+pub use fault::BodyFault;
 pub use table::{Entry, SideTable};

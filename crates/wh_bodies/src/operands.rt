@@ -4,8 +4,8 @@ ghost use Rattle.std.specs.Prelude.{◌≡◌, ◌<◌, reverse};
 ghost use Rattle.wh_bodies.specs.Known.{known, same_type, take_one, take_any, give_one, fall, take_all, give_all, pass, agreed, selected};
 ghost use Rattle.wh_bodies.specs.Faults.{Checks, Yields};
 
-use crate::fault::{ValidKind, push};
-use wh_model::ValType;
+use crate::fault::push;
+use wh_model::{ValType, ValidKind};
 
 const MOST_HEIGHT: usize = 256;
 

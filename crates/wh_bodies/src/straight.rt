@@ -12,10 +12,9 @@ ghost use Rattle.wh_bodies.specs.Views.{view_around};
 ghost use Rattle.wh_bodies.specs.Faults.{Checks};
 
 use crate::context::Around;
-use crate::fault::ValidKind;
 use crate::labels::take_operand;
 use crate::operands::{Operands, fall, pass, select, take, take_any};
-use wh_model::{ConvertOp, LoadOp, Mutability, StoreOp, ValType};
+use wh_model::{ConvertOp, LoadOp, Mutability, StoreOp, ValType, ValidKind};
 use wh_syntax::{GlobalType, Instr};
 
 /// The types that a conversion takes and gives.

@@ -3,8 +3,7 @@
 use crate::parse::parse_number;
 use anyhow::{Result, bail};
 use std::fmt;
-use wh_leb::DecodeError;
-use wh_model::FaultKind;
+use wh_model::{DecodeError, FaultKind};
 use wh_syntax::Module;
 
 /// What decoding answers.

@@ -1,8 +1,8 @@
 -- A window that is closed, seen by a view of what was read in it.
 use Rattle.std.proofs.Common.{◌≡◌, ℕ, Bool, true, false, cond, Result, Ok, Err, refl, ap}
 use Rattle.std.specs.Prelude.{◌==◌}
-use Rattle.wh_model.specs.declared.FaultKind.TheVariants.{Memory, SectionSize}
-use Rattle.wh_leb.specs.declared.DecodeError.{DecodeError}
+use Rattle.wh_model.specs.declared.faults.FaultKind.TheVariants.{Memory, SectionSize}
+use Rattle.wh_model.specs.declared.faults.DecodeError.{DecodeError}
 use Rattle.wh_leb.specs.Reading.{fail, Gives, closed, outer_fault}
 
 -- want of memory is that outside too

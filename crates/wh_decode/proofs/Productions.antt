@@ -4,7 +4,7 @@ use Rattle.std.proofs.Math.ListN.{replicate}
 use Rattle.std.proofs.lemmas.Bool.{eqb-true, eq-eqb}
 use Rattle.std.proofs.lemmas.Str.{IsUtf8-from_is_utf8, is_utf8-from_IsUtf8}
 use Rattle.std.specs.Str.{is_utf8}
-use Rattle.wh_model.specs.declared.FaultKind.TheVariants.{UnknownByte, Utf8, CountMismatch}
+use Rattle.wh_model.specs.declared.faults.FaultKind.TheVariants.{UnknownByte, Utf8, CountMismatch}
 use Rattle.wh_model.specs.Grammar.{Grammar, gives, ◌>>=◌ as ◌then◌, one_of, this_byte, exact_byte, bytes, only_if, up_to, times, exactly, exactly_from}
 use Rattle.wh_model.specs.Leb.{u32, vec, vec_up_to}
 use Rattle.wh_model.specs.Syntax.{of_func, of_global}

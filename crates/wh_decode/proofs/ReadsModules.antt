@@ -1,6 +1,6 @@
 -- Reading a module, section by section.
 use Rattle.std.proofs.Common.{◌≡◌, length, Some, eqb, arith}
-use Rattle.wh_model.specs.declared.FaultKind.TheVariants.{Magic, Version}
+use Rattle.wh_model.specs.declared.faults.FaultKind.TheVariants.{Magic, Version}
 use Rattle.wh_model.specs.Grammar.{this_byte, exact_byte}
 use Rattle.wh_model.specs.Leb.{u32, vec, vec_up_to}
 use Rattle.wh_model.specs.Syntax.{Module, empty_module}

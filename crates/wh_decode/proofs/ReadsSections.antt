@@ -3,14 +3,14 @@ use Rattle.std.proofs.Common.{◌≡◌, ℕ, zero, suc, ◌+◌, ◌-◌, ◌<�
 use Rattle.std.proofs.Math.ListN.{drop_of_length-le}
 use Rattle.std.proofs.lemmas.List.{append-nil}
 use Rattle.std.proofs.lemmas.Bool.{eqb-true, eqb-false, eq-eqb, ne_eqb, both_ways, cases_Bool, cond-true, cond-false, false_from_ne_true}
-use Rattle.wh_model.specs.declared.FaultKind.{FaultKind}
-use Rattle.wh_model.specs.declared.FaultKind.TheVariants.{UnknownByte, CountMismatch, SectionOrder}
+use Rattle.wh_model.specs.declared.faults.FaultKind.{FaultKind}
+use Rattle.wh_model.specs.declared.faults.FaultKind.TheVariants.{UnknownByte, CountMismatch, SectionOrder}
 use Rattle.wh_model.specs.Grammar.{Grammar, ◌>>=◌ as ◌then◌, this_byte, exact_byte, Each, exactly, exactly_from}
 use Rattle.wh_model.specs.Leb.{u32}
 use Rattle.wh_model.specs.Syntax.{Module}
 use Rattle.wh_model.specs.Modules.{BeginsWith, custom, customs_then, section, section_or, part, EndBreaks, ends_with}
 use Rattle.wh_model.specs.Parts.{name}
-use Rattle.wh_leb.specs.declared.DecodeError.{DecodeError}
+use Rattle.wh_model.specs.declared.faults.DecodeError.{DecodeError}
 use Rattle.wh_leb.specs.Reading.{◌>>=◌, fail, Reads, Reader, Anything}
 use Rattle.wh_leb.proofs.Combinators.{bind_ok, bind_err, ok_is, err_is, succeed, fails_at, chosen, after, inside, reads_then}
 use Rattle.wh_decode.specs.ReadingModule.{custom_at, begins, skip_from, skip_at, contents_at, present, section_at, part_at, put_or, end_of}

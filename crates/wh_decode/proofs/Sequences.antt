@@ -1,7 +1,7 @@
 -- Items that are read one after the other, by what reading one of them gives.
 use Rattle.std.proofs.Common.{◌≡◌, ℕ, suc, ◌+◌, ◌-◌, List, [], ◌∷◌, ◌++◌, length, map, Result, Ok, Err, refl, sym, ap, subst, ◌∙◌, inl, inr, arith, Vec, Global}
 use Rattle.std.proofs.lemmas.List.{append-nil, map-id}
-use Rattle.wh_leb.specs.declared.DecodeError.{DecodeError}
+use Rattle.wh_model.specs.declared.faults.DecodeError.{DecodeError}
 use Rattle.wh_leb.specs.Reading.{◌>>=◌, Reader, Gives, times_at, with_front, u32_at}
 use Rattle.wh_leb.proofs.Combinators.{succeed, with_front-with_front, with_front-nil}
 use Rattle.wh_decode.specs.Items.{Gift, Given, GivesItems, seen}

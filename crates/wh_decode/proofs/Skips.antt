@@ -2,8 +2,8 @@
 use Rattle.std.proofs.Common.{◌≡◌, ℕ, zero, suc, ◌+◌, ◌-◌, ◌<◌, ◌≤◌, true, false, cond, leb, List, length, take, drop, Result, Ok, Err, refl, sym, ap, ◌∙◌, arith, inl, inr}
 use Rattle.std.proofs.Math.ListN.{drop_of_length-le}
 use Rattle.std.proofs.lemmas.Bool.{le-leb, cond-true, cond-false, cases_lt, both_ways}
-use Rattle.wh_model.specs.declared.FaultKind.TheVariants.{UnknownByte}
-use Rattle.wh_leb.specs.declared.DecodeError.{DecodeError}
+use Rattle.wh_model.specs.declared.faults.FaultKind.TheVariants.{UnknownByte}
+use Rattle.wh_model.specs.declared.faults.DecodeError.{DecodeError}
 use Rattle.wh_model.specs.Grammar.{exact_byte}
 use Rattle.wh_leb.specs.Reading.{◌>>=◌, one_at, u32_at, closed_from, exactly_from_at}
 use Rattle.wh_decode.specs.ReadingModule.{name_at, custom_at, begins, skip_from, skip_at}

@@ -1,8 +1,8 @@
 -- Parts of the reading of sections that the code takes one by one.
 use Rattle.std.specs.Prelude.{◌≡◌, ◌≢◌, ℕ, Result, Ok, Err}
-use Rattle.wh_model.specs.declared.FaultKind.TheVariants.{Memory, UnknownByte}
+use Rattle.wh_model.specs.declared.faults.FaultKind.TheVariants.{Memory, UnknownByte}
 use Rattle.wh_model.specs.Grammar.{exact_byte}
-use Rattle.wh_leb.specs.declared.DecodeError.{DecodeError}
+use Rattle.wh_model.specs.declared.faults.DecodeError.{DecodeError}
 use Rattle.wh_leb.specs.Reading.{◌>>=◌, one_at, u32_at, Reader}
 
 -- a place alone, of a value and a place

@@ -1,7 +1,7 @@
 -- Items read one after the other, by what reading one of them may give.
 use Rattle.std.specs.Prelude.{◌≡◌, ℕ, ◌<◌, ◌⊎◌, List, [], ◌∷◌, length, Result, Ok, Err}
-use Rattle.wh_model.specs.declared.FaultKind.TheVariants.{Memory}
-use Rattle.wh_leb.specs.declared.DecodeError.{DecodeError}
+use Rattle.wh_model.specs.declared.faults.FaultKind.TheVariants.{Memory}
+use Rattle.wh_model.specs.declared.faults.DecodeError.{DecodeError}
 
 -- what reading one may give at a place of bytes
 abbrev pub Gift : Type 0 → Type 1

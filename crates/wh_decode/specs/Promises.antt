@@ -1,8 +1,8 @@
 -- Words of the decoder's contract.
 use Rattle.std.specs.Prelude.{◌≡◌, ◌≢◌, ℕ, Result, Ok, Err}
-use Rattle.wh_model.specs.declared.FaultKind.{FaultKind}
-use Rattle.wh_model.specs.declared.FaultKind.TheVariants.{Memory}
-use Rattle.wh_leb.specs.declared.DecodeError.{DecodeError}
+use Rattle.wh_model.specs.declared.faults.FaultKind.{FaultKind}
+use Rattle.wh_model.specs.declared.faults.FaultKind.TheVariants.{Memory}
+use Rattle.wh_model.specs.declared.faults.DecodeError.{DecodeError}
 
 -- the result is this fault, unless memory ran out
 abbrev pub IsFault : {X : Type 0} → Result X DecodeError → FaultKind → ℕ → Type 0

@@ -12,8 +12,8 @@ use crate::windows::{close, window};
 use smallvec::SmallVec;
 use std::alloc::Global;
 use wh_expr::read_expr;
-use wh_leb::{DecodeError, fault, read_u32};
-use wh_model::{FaultKind, ValType};
+use wh_leb::{fault, read_u32};
+use wh_model::{DecodeError, FaultKind, ValType};
 use wh_syntax::Body;
 
 const MOST_LOCALS: u32 = 256;

@@ -14,8 +14,8 @@ use crate::sections::{
 };
 use crate::types::expect_byte;
 use std::alloc::Global;
-use wh_leb::{DecodeError, fault};
-use wh_model::FaultKind;
+use wh_leb::fault;
+use wh_model::{DecodeError, FaultKind};
 use wh_syntax::Module;
 
 const GREATEST_ID: u8 = 11;

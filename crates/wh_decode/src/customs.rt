@@ -8,8 +8,8 @@ ghost use Rattle.wh_decode.specs.Beginnings.{EndsAt, section_start_at};
 use crate::parts::name;
 use crate::types::expect_byte;
 use crate::windows::{outer, window};
-use wh_leb::{DecodeError, fault, read_u32};
-use wh_model::FaultKind;
+use wh_leb::{fault, read_u32};
+use wh_model::{DecodeError, FaultKind};
 
 /// The place behind a custom section.
 #[tactic(auto, unfolding(crate::specs::ReadingModule::custom_at))]

@@ -1,13 +1,13 @@
 //! Items that stand one behind the other.
 
 ghost use Rattle.std.specs.Prelude.{◌≡◌, ℕ, ◌≤◌, ◌^◌, ◌<◌, ◌++◌, ◌∷◌, [], List, length, IfOk, IfErr, OnOk, Result};
-ghost use Rattle.wh_leb.specs.declared.DecodeError.{DecodeError};
+ghost use Rattle.wh_model.specs.declared.faults.DecodeError.{DecodeError};
 ghost use Rattle.wh_leb.specs.Reading.{limited_at, u32_at};
 ghost use Rattle.wh_decode.specs.Items.{GivesItems, seen};
 
 use std::alloc::Global;
-use wh_leb::{DecodeError, fault, read_u32};
-use wh_model::FaultKind;
+use wh_leb::{fault, read_u32};
+use wh_model::{DecodeError, FaultKind};
 
 /// Something that can be read from a place of a module's bytes.
 pub trait Item: Sized {

@@ -1,7 +1,7 @@
 //! Laws of the definitions alone.
 
 ghost use Rattle.std.specs.Prelude.{◌≡◌, ◌⊎◌, ℕ, List};
-ghost use Rattle.wh_model.specs.declared.FaultKind.{FaultKind};
+ghost use Rattle.wh_model.specs.declared.faults.FaultKind.{FaultKind};
 ghost use Rattle.wh_model.specs.Syntax.{Module};
 ghost use Rattle.wh_model.specs.Spelling.{AreBytes, Spells, Small, IsBroken};
 

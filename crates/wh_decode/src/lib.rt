@@ -8,7 +8,7 @@ ghost use Rattle.wh_leb.specs.Reading.{Gives};
 ghost use Rattle.wh_syntax.specs.View.{view_module};
 ghost use Rattle.wh_decode.specs.ReadingModule.{module_of};
 ghost use Rattle.wh_decode.specs.Promises.{IsFault};
-ghost use Rattle.wh_model.specs.declared.FaultKind.{FaultKind};
+ghost use Rattle.wh_model.specs.declared.faults.FaultKind.{FaultKind};
 
 mod bodies;
 mod chain;
@@ -24,8 +24,8 @@ mod windows;
 use crate::chain::{empty, from_types, preamble};
 pub use crate::laws::one_meaning;
 use std::alloc::Global;
-use wh_leb::{DecodeError, fault};
-use wh_model::FaultKind;
+use wh_leb::fault;
+use wh_model::{DecodeError, FaultKind};
 use wh_syntax::Module;
 
 const MOST_BYTES: usize = 1048576;

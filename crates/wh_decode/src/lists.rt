@@ -8,7 +8,8 @@ ghost use Rattle.wh_decode.specs.ReadingModule.{functype_at, import_at, tabletyp
 use crate::items::{count_up_to, items};
 use crate::parts::index_list;
 use std::alloc::Global;
-use wh_leb::{DecodeError, read_u32};
+use wh_leb::read_u32;
+use wh_model::DecodeError;
 use wh_syntax::{
     Data, Element, Export, FuncType, Global as GlobalVariable, Import, Limits, TableType,
 };

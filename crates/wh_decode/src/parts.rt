@@ -13,8 +13,8 @@ use crate::types::{global_type, val_type};
 use simdutf8::compat::from_utf8;
 use std::alloc::Global;
 use wh_expr::read_expr;
-use wh_leb::{DecodeError, fault, read_u32};
-use wh_model::{ExternKind, FaultKind, Mutability};
+use wh_leb::{fault, read_u32};
+use wh_model::{DecodeError, ExternKind, FaultKind, Mutability};
 use wh_syntax::{Data, Element, Export, Global as GlobalVariable, Import, ImportDesc};
 
 /// So many bytes that are text, and the place behind them.

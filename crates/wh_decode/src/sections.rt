@@ -13,7 +13,8 @@ use crate::lists::{
 };
 use crate::windows::{close, window};
 use std::alloc::Global;
-use wh_leb::{DecodeError, read_u32};
+use wh_leb::read_u32;
+use wh_model::DecodeError;
 use wh_syntax::{
     Body, Data, Element, Export, FuncType, Global as GlobalVariable, Import, Limits, TableType,
 };

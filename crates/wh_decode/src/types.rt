@@ -10,8 +10,8 @@ ghost use Rattle.wh_decode.specs.ReadingModule.{functype_at, limits_by_at, limit
 use crate::items::{Item, count_up_to};
 use smallvec::SmallVec;
 use std::alloc::Global;
-use wh_leb::{DecodeError, fault, read_u32};
-use wh_model::{FaultKind, Mutability, ValType};
+use wh_leb::{fault, read_u32};
+use wh_model::{DecodeError, FaultKind, Mutability, ValType};
 use wh_syntax::{FuncType, GlobalType, Limits, TableType};
 
 const MOST_PARAMS: u32 = 256;

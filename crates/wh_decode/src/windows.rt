@@ -3,8 +3,8 @@
 ghost use Rattle.std.specs.Prelude.{◌≡◌, ◌≤◌, length, take, Result};
 ghost use Rattle.wh_leb.specs.Reading.{outer_fault, closed};
 
-use wh_leb::{DecodeError, fault};
-use wh_model::FaultKind;
+use wh_leb::fault;
+use wh_model::{DecodeError, FaultKind};
 
 /// The bytes up to this place, as far as there are any.
 pub fn window(bytes: &[u8], end: usize) -> &[u8]

@@ -1,9 +1,9 @@
 -- Reading an expression.
 use Rattle.std.proofs.Common.{◌≡◌, ℕ, zero, suc, ◌+◌, ◌-◌, ◌<◌, ◌≤◌, List, [], ◌∷◌, ◌++◌, length, drop, Result, Ok, Err, Option, Some, None, refl, sym, ap, subst, ◌∙◌, append_assoc, inl, inr, ◌⊎◌, arith, length-append, length-drop}
 use Rattle.std.proofs.lemmas.List.{append-nil}
-use Rattle.wh_model.specs.declared.FaultKind.{FaultKind}
-use Rattle.wh_model.specs.declared.FaultKind.TheVariants.{Limit}
-use Rattle.wh_leb.specs.declared.DecodeError.{DecodeError}
+use Rattle.wh_model.specs.declared.faults.FaultKind.{FaultKind}
+use Rattle.wh_model.specs.declared.faults.FaultKind.TheVariants.{Limit}
+use Rattle.wh_model.specs.declared.faults.DecodeError.{DecodeError}
 use Rattle.wh_model.specs.declared.Open.{Open}
 use Rattle.wh_model.specs.Grammar.{HeadBreaks, Each}
 use Rattle.wh_model.specs.Syntax.{Code, nothing, Instr, end_mark, flatten, expression}

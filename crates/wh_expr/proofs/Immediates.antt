@@ -2,7 +2,7 @@
 use Rattle.std.proofs.Common.{ℕ, ◌≤◌, List, [], length, Result, Ok, Err, sym, arith}
 use Rattle.std.specs.Prelude.{IfOk}
 use Rattle.std.proofs.lemmas.List.{append-nil}
-use Rattle.wh_leb.specs.declared.DecodeError.{DecodeError}
+use Rattle.wh_model.specs.declared.faults.DecodeError.{DecodeError}
 use Rattle.wh_syntax.specs.declared.instr.Instr.{Instr}
 use Rattle.wh_syntax.specs.Shown.{InPool}
 use Rattle.wh_expr.specs.Stack.{Extends}

@@ -1,8 +1,8 @@
 -- Reading one instruction.
 use Rattle.std.proofs.Common.{◌≡◌, ℕ, ◌<◌, ◌≤◌, List, [], ◌∷◌, length, Result, Ok, Err, Option, refl, sym, ap, subst, ◌∙◌, inl, inr, arith, ltb, length-append}
 use Rattle.std.proofs.lemmas.Bool.{ltb-true, lt-ltb}
-use Rattle.wh_model.specs.declared.FaultKind.{FaultKind}
-use Rattle.wh_model.specs.declared.FaultKind.TheVariants.{Limit, UnknownByte}
+use Rattle.wh_model.specs.declared.faults.FaultKind.{FaultKind}
+use Rattle.wh_model.specs.declared.faults.FaultKind.TheVariants.{Limit, UnknownByte}
 use Rattle.wh_model.specs.declared.ValType.{ValType}
 use Rattle.wh_model.specs.declared.Open.{Open}
 use Rattle.wh_model.specs.declared.Open.TheVariants.{Then, Other}

@@ -1,7 +1,7 @@
 -- Reading instructions from a place of a byte list.
 use Rattle.std.specs.Prelude.{ℕ, zero, suc, ◌-◌, List, [], ◌∷◌, length, drop, Result, Ok, Err, Option, Some, None}
-use Rattle.wh_model.specs.declared.FaultKind.TheVariants.{Limit, UnknownByte}
-use Rattle.wh_leb.specs.declared.DecodeError.{DecodeError}
+use Rattle.wh_model.specs.declared.faults.FaultKind.TheVariants.{Limit, UnknownByte}
+use Rattle.wh_model.specs.declared.faults.DecodeError.{DecodeError}
 use Rattle.wh_model.specs.declared.ValType.{ValType}
 use Rattle.wh_model.specs.declared.Open.{Open}
 use Rattle.wh_model.specs.declared.Open.TheVariants.{Then, Other}

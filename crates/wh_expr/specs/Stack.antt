@@ -1,8 +1,8 @@
 -- What instructions do to the constructs that are open, and to the pool of labels.
 use Rattle.std.specs.Prelude.{◌≡◌, ◌≢◌, ℕ, List, ◌++◌, Option, Some, None, Bool, true, false, Result, Ok, Err}
-use Rattle.wh_model.specs.declared.FaultKind.TheVariants.{Memory}
+use Rattle.wh_model.specs.declared.faults.FaultKind.TheVariants.{Memory}
 use Rattle.wh_model.specs.declared.Open.{Open}
-use Rattle.wh_leb.specs.declared.DecodeError.{DecodeError}
+use Rattle.wh_model.specs.declared.faults.DecodeError.{DecodeError}
 
 -- whether the expression has ended, and the constructs that are open behind the instruction
 abbrev pub Advances : Bool → Option (List Open) → List Open → Type 0

@@ -6,8 +6,8 @@ ghost use Rattle.wh_syntax.specs.Shown.{instr_of, InPool};
 ghost use Rattle.wh_expr.specs.ReadingCode.{table_at};
 ghost use Rattle.wh_expr.specs.Stack.{AddsRead, Extends};
 
-use wh_leb::{DecodeError, fault, read_u32};
-use wh_model::FaultKind;
+use wh_leb::{fault, read_u32};
+use wh_model::{DecodeError, FaultKind};
 use wh_syntax::Instr;
 
 const MOST_LABELS: u32 = 4096;

@@ -7,8 +7,8 @@ ghost use Rattle.wh_leb.specs.Reading.{one_at, Gives};
 ghost use Rattle.wh_syntax.specs.Shown.{instr_of, InPool};
 ghost use Rattle.wh_expr.specs.ReadingCode.{operands_at};
 
-use wh_leb::{DecodeError, fault, read_s32, read_s64, read_u32};
-use wh_model::{FaultKind, Opcode, ValType};
+use wh_leb::{fault, read_s32, read_s64, read_u32};
+use wh_model::{DecodeError, FaultKind, Opcode, ValType};
 use wh_syntax::Instr;
 
 fn block_type_of(byte: u8) -> Result<Option<ValType>, FaultKind>

@@ -15,8 +15,8 @@ use crate::labels::label_table;
 use crate::opcodes::opcode_of;
 use crate::operands::operands;
 use std::alloc::{AllocError, Global};
-use wh_leb::{DecodeError, fault};
-use wh_model::{FaultKind, Opcode, Open};
+use wh_leb::fault;
+use wh_model::{DecodeError, FaultKind, Opcode, Open};
 use wh_syntax::{Expr, Instr};
 
 const MOST_NESTED: usize = 256;

@@ -1,6 +1,4 @@
-pub mod Beginnings
 pub mod FrameLemmas
-pub mod LinkingLemmas
 pub mod PageLemmas
 pub mod Host
 pub mod Space

@@ -1,7 +1,5 @@
 pub mod Frames
 pub mod Hash
-pub mod Linking
-pub mod LinkingLaws
 pub mod Pages
 pub mod Replies
 pub mod Requests

@@ -1,12 +1,16 @@
 -- The replies to a script: what each line gets, after what the lines before it have made.
-use Rattle.std.specs.Prelude.{◌≡◌, ℕ, ◌+◌, ◌<◌, ◌≤◌, ◌⊎◌, true, false, if◌then◌else◌, List, [], ◌∷◌, ◌++◌, length, Option, Some, None, bytes_eq}
-use Rattle.wh_model.specs.declared.FaultKind.{FaultKind}
-use Rattle.wh_model.specs.Numbering.{fault_number}
+use Rattle.std.specs.Prelude.{◌≡◌, ◌≢◌, ℕ, ◌+◌, ◌<◌, ◌≤◌, ◌⊎◌, true, false, if◌then◌else◌, List, [], ◌∷◌, ◌++◌, length, Option, Some, None, bytes_eq}
+use Rattle.wh_model.specs.declared.faults.FaultKind.{FaultKind}
+use Rattle.wh_model.specs.declared.faults.ValidKind.{ValidKind}
+use Rattle.wh_model.specs.declared.faults.ValidKind.TheVariants.{Memory as NoRoomToCheck}
+use Rattle.wh_model.specs.Numbering.{fault_number, valid_number, import_number}
 use Rattle.wh_model.specs.Syntax.{Module}
-use Rattle.wh_model.specs.Spelling.{Spells, Small, IsBroken}
+use Rattle.wh_model.specs.Spelling.{IsBroken}
 use Rattle.wh_model.specs.Validity.{Valid}
 use Rattle.wh_model.specs.Heights.{Fits}
-use Rattle.wh_host_model.specs.Linking.{ImportFault, import_fault_number, Links, IsFirstFault}
+use Rattle.wh_model.specs.declared.faults.ImportFault.{ImportFault}
+use Rattle.wh_model.specs.Linking.{Links, IsFirstFault}
+use Rattle.wh_model.specs.Accepting.{IsModule}
 use Rattle.wh_host_model.specs.Script.{is_skipped, longest_line, Place, error_reply, kept_reply, refused_reply, invalid_reply, unlinked_reply, no_link_memory_reply}
 use Rattle.wh_host_model.specs.Requests.{Request, keep_module, Asks}
 
@@ -22,14 +26,9 @@ no_modules name = None
 abbrev pub with_module : Modules → List ℕ → Module → Modules
 with_module modules name m other = if bytes_eq name other then Some m else modules other
 
--- the bytes spell the module, within the limits of the format
-pub record IsModule (bytes : List ℕ) (m : Module) : Type 0 where
-  pub spelled : Spells bytes m
-  pub small : Small bytes m
-
--- the validator's faults are numbered so, but for want of memory
-abbrev pub IsValidFault : ℕ → Type 0
-IsValidFault kind = (1 ≤ kind) × (kind ≤ 10)
+-- what the validator may find wrong: all of its kinds but want of memory
+abbrev pub IsValidFault : ValidKind → Type 0
+IsValidFault kind = kind ≢ NoRoomToCheck
 
 -- The reply to a module, and what is kept before and after it. A taken name is C3, whatever the bytes. Bytes that break are
 -- refused with their fault. A module that isn't valid, or doesn't fit, is refused with one of the validator's faults, and which
@@ -39,8 +38,9 @@ pub data ModuleReply (before : Modules) (number : ℕ) (name bytes text : List �
   taken : (m : Module) → before name ≡ Some m → text ≡ error_reply 3 number → after ≡ before → ModuleReply before number name bytes text after
   kept : (m : Module) → before name ≡ None → IsModule bytes m → Valid m → Fits m → Links m → text ≡ kept_reply name → after ≡ with_module before name m → ModuleReply before number name bytes text after
   refused : (kind : FaultKind) (offset : ℕ) → before name ≡ None → IsBroken bytes kind offset → text ≡ refused_reply name (fault_number kind) offset → after ≡ before → ModuleReply before number name bytes text after
-  invalid : (m : Module) (kind : ℕ) (place : Place) → before name ≡ None → IsModule bytes m → ¬ (Valid m × Fits m) → IsValidFault kind → text ≡ invalid_reply name kind place → after ≡ before → ModuleReply before number name bytes text after
-  unlinked : (m : Module) (fault : ImportFault) (place : ℕ) → before name ≡ None → IsModule bytes m → Valid m → Fits m → IsFirstFault m fault place → text ≡ unlinked_reply name (import_fault_number fault) place → after ≡ before
+  invalid : (m : Module) (kind : ValidKind) (place : Place) → before name ≡ None → IsModule bytes m → ¬ (Valid m × Fits m) → IsValidFault kind
+      → text ≡ invalid_reply name (valid_number kind) place → after ≡ before → ModuleReply before number name bytes text after
+  unlinked : (m : Module) (fault : ImportFault) (place : ℕ) → before name ≡ None → IsModule bytes m → Valid m → Fits m → IsFirstFault m fault place → text ≡ unlinked_reply name (import_number fault) place → after ≡ before
       → ModuleReply before number name bytes text after
 
 -- What a module may get instead where memory is wanted: C5, the decoder's D13 at some place, the validator's V11 at some place,
@@ -87,7 +87,8 @@ AreReplies gets lines text = (after : Modules) × Replies gets no_modules 1 line
 -- Two replies to a line agree: they are the same, or they refuse a module of one name with faults of the validator.
 pub data AgreeAt (reply other : List ℕ) : Type 0 where
   same : reply ≡ other → AgreeAt reply other
-  both_invalid : (name : List ℕ) (kind kind2 : ℕ) (place place2 : Place) → IsValidFault kind → IsValidFault kind2 → reply ≡ invalid_reply name kind place → other ≡ invalid_reply name kind2 place2 → AgreeAt reply other
+  both_invalid : (name : List ℕ) (kind kind2 : ValidKind) (place place2 : Place) → IsValidFault kind → IsValidFault kind2
+      → reply ≡ invalid_reply name (valid_number kind) place → other ≡ invalid_reply name (valid_number kind2) place2 → AgreeAt reply other
 
 -- the replies to lines agree, one by one
 abbrev pub Agree : List (List ℕ) → List ℕ → List ℕ → Type 0

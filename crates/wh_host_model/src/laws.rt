@@ -1,17 +1,9 @@
 //! Laws of the definitions alone.
 
-ghost use Rattle.wh_host_model.specs.LinkingLaws.{OneFirstFault, LinksWithoutFault, SomeBeginning};
 ghost use Rattle.wh_host_model.specs.Space.Laws.{ReadyIsDecided, NoBytesAreReady, OneUseOfAFrame, SomePageCanBeTaken, SomeSlotIsVacant, EvictionKeepsAll, FetchKeepsSound, FetchKeepsBytes, MovesAreFew, ProvisionIsRight, BeginsEvictSoundly, BeginsEvictQuietly, BeginsFetchQuietly, CommitsEvictQuietly, CommitsFetchQuietly};
 ghost use Rattle.wh_host_model.specs.Space.Sight.{OffersQuietly, WritesQuietly, StepsQuietly, GrowsAlone, GrowsByZeros, EntersAlone, EntersAtZeros, ExitsAlone, PinsEnd, GoneIsSkipped, WrittenIsVoid, ReleasedIsVoid, NothingNeedless};
 ghost use Rattle.wh_host_model.specs.Space.Kept.{TouchesSoundly, EpochsSoundly, WritesSoundly, StandsSoundly, EndsSoundly, CommitsEvictSoundly, OffersSoundly, BeginsFetchSoundly, CommitsFetchSoundly, GrowsSoundly, EntersSoundly, ExitsSoundly};
 ghost use Rattle.wh_host_model.specs.Space.Chain.{FailsSoundly, EmptyIsSound, StaysSound, ScansSoundly};
-
-/// What holds of linking and of what an instance begins with. The function does nothing; what it ensures are the laws.
-pub fn linking_holds()
-    ensures one_first_fault { OneFirstFault }
-    ensures links_without_fault { LinksWithoutFault }
-    ensures some_beginning { SomeBeginning }
-{}
 
 /// What holds of the memory on which all instances lie. The function does nothing; what it ensures are the laws.
 pub fn space_holds()

@@ -10,30 +10,10 @@ mod plain;
 mod runs;
 mod states;
 
-pub use laws::{linking_holds, space_holds};
+pub use laws::space_holds;
 pub use plain::{InstId, SwapError, TurnEnd};
 pub use runs::every_run;
 pub use states::{EvictEnd, FetchEnd, Mark, Offer, Page, Slot};
-use wh_model::HostFunc;
-
-/// A global that the host offers for import, in its module `host`. It is never written; the owner of an instance gives its
-/// value.
-#[derive(Clone, Copy, Debug, PartialEq, Eq)]
-pub enum HostGlobal {
-    /// `base`, an i32.
-    Base,
-    /// `salt`, an i64.
-    Salt,
-}
-
-/// An item that the host offers for import, in its module `host`.
-#[derive(Clone, Copy, Debug, PartialEq, Eq)]
-pub enum HostItem {
-    /// A function.
-    Func(HostFunc),
-    /// A global.
-    Global(HostGlobal),
-}
 
 /// The tax on idle memory: the fraction `num / den` of a page that isn't touched is taken from its owner, so that
 /// an idle page costs its owner as much as `den / (den - num)` touched ones.

@@ -1,18 +1,21 @@
 -- Imports that are resolved, one after the other.
 use Rattle.std.proofs.Common.{◌≡◌, ℕ, zero, suc, ◌+◌, ◌<◌, inl, inr, List, [], ◌∷◌, ◌++◌, length, map, take, get_or, Some, slice_get, refl, sym, ap, subst, ◌∙◌, arith}
 use Rattle.std.specs.List.{AllByRecursion}
-use Rattle.wh_model.specs.declared.HostFunc.{HostFunc}
+use Rattle.wh_model.specs.declared.host.HostFunc.{HostFunc}
 use Rattle.wh_model.specs.Syntax.{FuncType, Import, Module}
 use Rattle.wh_model.specs.Store.{host, Value, FuncInst}
 use Rattle.wh_model.specs.Instance.{Parameters, ImportsFunc, ImportsGlobal, Imported}
-use Rattle.wh_host_model.specs.declared.HostGlobal.{HostGlobal}
-use Rattle.wh_host_model.specs.declared.HostItem.{HostItem}
-use Rattle.wh_host_model.specs.declared.HostItem.TheVariants.{Func, Global}
-use Rattle.wh_host_model.specs.Linking.{value_of, ImportsItem, HasItem, ImportFault, unknown_import, import_type, LacksItem}
+use Rattle.wh_model.specs.declared.host.HostGlobal.{HostGlobal}
+use Rattle.wh_model.specs.declared.host.HostItem.{HostItem}
+use Rattle.wh_model.specs.declared.host.HostItem.TheVariants.{Func, Global}
+use Rattle.wh_model.specs.declared.faults.ImportFault.{ImportFault}
+use Rattle.wh_model.specs.declared.faults.ImportFault.TheVariants.{UnknownImport, ImportType}
+use Rattle.wh_model.specs.Linking.{value_of, ImportsItem, HasItem, LacksItem}
 use Rattle.wh_syntax.specs.View.{view_import}
 use Rattle.wh_syntax.specs.declared.module.Import.{Import as Given}
 use Rattle.wh_imports.specs.Resolving.{AreResolved, Adds}
-use Rattle.wh_imports.specs.Refusing.{error_of, Refuses}
+use Rattle.wh_imports.specs.Refusing.{Refuses}
+use Rattle.wh_imports.specs.declared.error.LinkError.TheVariants.{NoItem}
 
 one_func_more : (types : List FuncType) (p : Parameters) (is : List Import) (fs : List FuncInst) (vs : List Value) (i : Import) (h : HostFunc) → Imported types p is fs vs → ImportsFunc types i h
     → Imported types p (is ++ i ∷ []) (fs ++ host h ∷ []) vs
@@ -59,9 +62,8 @@ take_mapped f (y ∷ ys) (suc k) x lt e =
     let same : suc k + 1 ≡ suc (k + 1) = omega arith in
     ap (λ n. take n (f y ∷ map f ys)) same ∙ ap (λ w. f y ∷ w) (take_mapped f ys k x (omega (arith, lt)) e)
 
-pub refuses : (m : Module) (i : Import) (fault : ImportFault) (at : ℕ) → slice_get m.imports at ≡ Some i → LacksItem m.types i fault → AllByRecursion (HasItem m.types) (take at m.imports) → Refuses m (error_of fault at)
-refuses m i unknown_import at stands lacks before = record { at = i; stands = stands; lacks = lacks; before = before }
-refuses m i import_type at stands lacks before = record { at = i; stands = stands; lacks = lacks; before = before }
+pub refuses : (m : Module) (i : Import) (fault : ImportFault) (at : ℕ) → slice_get m.imports at ≡ Some i → LacksItem m.types i fault → AllByRecursion (HasItem m.types) (take at m.imports) → Refuses m (NoItem fault at)
+refuses m i fault at stands lacks before = record { at = i; stands = stands; lacks = lacks; before = before }
 
 -- ---- one import more that was read
 

@@ -1,10 +1,10 @@
 -- What contracts see of a linked module, and that it can be stored: as its parts.
 use Rattle.std.specs.Prelude.{List, refl}
 use Rattle.std.specs.Coded.{Coded, code_by, coded_list, coded×}
-use Rattle.wh_model.specs.declared.HostFunc.{HostFunc}
-use Rattle.wh_model.specs.contracts.HostFunc as func_type
-use Rattle.wh_host_model.specs.declared.HostGlobal.{HostGlobal}
-use Rattle.wh_host_model.specs.contracts.HostGlobal as global_type
+use Rattle.wh_model.specs.declared.host.HostFunc.{HostFunc}
+use Rattle.wh_model.specs.contracts.host.HostFunc as func_type
+use Rattle.wh_model.specs.declared.host.HostGlobal.{HostGlobal}
+use Rattle.wh_model.specs.contracts.host.HostGlobal as global_type
 use Rattle.wh_validate.specs.Validated.{Validated, stored_valid}
 
 -- the valid module, and the functions and globals that its imports are, in order

@@ -4,10 +4,10 @@ use Rattle.wh_model.specs.declared.ValType.{ValType}
 use Rattle.wh_model.specs.declared.ValType.TheVariants.{I32, I64}
 use Rattle.wh_model.specs.Syntax.{FuncType, ImportDesc, of_func, of_global}
 use Rattle.wh_model.specs.Store.{host, signature}
-use Rattle.wh_host_model.specs.declared.HostGlobal.{HostGlobal}
-use Rattle.wh_host_model.specs.declared.HostGlobal.TheVariants.{Base, Salt}
-use Rattle.wh_host_model.specs.declared.HostItem.{HostItem}
-use Rattle.wh_host_model.specs.declared.HostItem.TheVariants.{Func, Global}
+use Rattle.wh_model.specs.declared.host.HostGlobal.{HostGlobal}
+use Rattle.wh_model.specs.declared.host.HostGlobal.TheVariants.{Base, Salt}
+use Rattle.wh_model.specs.declared.host.HostItem.{HostItem}
+use Rattle.wh_model.specs.declared.host.HostItem.TheVariants.{Func, Global}
 
 abbrev pub global_type : HostGlobal → ValType
 global_type Base = I32

@@ -3,14 +3,13 @@
 ghost use Rattle.std.specs.Prelude.{◌≡◌, ◌↔◌, IsTrue, map, codes, IfOk, IfErr, IfSome, IfNone};
 ghost use Rattle.std.specs.String.{string_bytes};
 ghost use Rattle.wh_model.specs.Store.{host, signature};
-ghost use Rattle.wh_host_model.specs.Linking.{item_name, ImportsItem, IsKnown, LacksItem, ImportFault};
+ghost use Rattle.wh_model.specs.declared.faults.ImportFault.{ImportFault};
+ghost use Rattle.wh_model.specs.Linking.{item_name, ImportsItem, IsKnown, LacksItem};
 ghost use Rattle.wh_syntax.specs.View.{view_type, view_import, view_desc};
 ghost use Rattle.wh_imports.specs.Typed.{global_type, IsTyped};
-ghost use Rattle.wh_imports.specs.Refusing.{error_of};
 
 use crate::error::LinkError;
-use wh_host_model::{HostGlobal, HostItem};
-use wh_model::{HostFunc, ValType};
+use wh_model::{HostFunc, HostGlobal, HostItem, ImportFault, ValType};
 use wh_syntax::{FuncType, Import, ImportDesc};
 
 /// The item of the import's names.
@@ -73,19 +72,19 @@ fn is_typed(types: &[FuncType], desc: ImportDesc, item: HostItem) -> bool
 /// The item that an import is, which stands at this place of the import section.
 ///
 /// # Errors
-/// `UnknownImport` where the host has nothing of its names, else `ImportType` where that has another kind or type.
+/// `NoItem`: `UnknownImport` where the host has nothing of its names, else `ImportType` where that has another kind or type.
 pub fn item_of(types: &[FuncType], import: &Import, at: usize) -> Result<HostItem, LinkError>
     ensures ok { IfOk result (ImportsItem (map view_type types.now) (view_import import.now)) }
     ensures err { IfErr result
         (λ e. (fault : ImportFault)
             × LacksItem (map view_type types.now) (view_import import.now) fault
-            × (e ≡ error_of fault at)) }
+            × (e ≡ LinkError.NoItem fault at)) }
 {
     let Some(item) = named(import) else {
-        return Err(LinkError::UnknownImport(at));
+        return Err(LinkError::NoItem(ImportFault::UnknownImport, at));
     };
     if !is_typed(types, import.desc, item) {
-        return Err(LinkError::ImportType(at));
+        return Err(LinkError::NoItem(ImportFault::ImportType, at));
     }
     Ok(item)
 }

@@ -1,7 +1,7 @@
 //! Whole modules, linked.
 
 ghost use Rattle.std.specs.Prelude.{◌≡◌, map, OnOk, IfOk, IfErr};
-ghost use Rattle.wh_host_model.specs.Linking.{Links};
+ghost use Rattle.wh_model.specs.Linking.{Links};
 ghost use Rattle.wh_syntax.specs.View.{view_module};
 ghost use Rattle.wh_bodies.specs.Views.{view_side};
 ghost use Rattle.wh_validate.specs.Soundness.{IsSound};
@@ -14,8 +14,7 @@ use crate::items::item_of;
 use std::alloc::Global;
 use std::marker::Model;
 use wh_bodies::SideTable;
-use wh_host_model::{HostGlobal, HostItem};
-use wh_model::HostFunc;
+use wh_model::{HostFunc, HostGlobal, HostItem};
 use wh_syntax::Module;
 use wh_validate::ValidModule;
 
@@ -122,8 +121,7 @@ fn resolve(alloc: Global, decoded: &Module) -> Result<Resolved, LinkError>
 /// Finds what each import of a module is.
 ///
 /// # Errors
-/// Of the first import that the host doesn't offer, its place: `UnknownImport` or `ImportType`. `Memory` where a growth was
-/// refused.
+/// `NoItem` of the first import that the host doesn't offer, with the cause and its place. `Memory` where a growth was refused.
 pub fn link(alloc: Global, valid: ValidModule) -> Result<Linked, LinkError>
     // Each import of what is linked has its item.
     ensures ok { OnOk result (Links (view_module valid.decoded)) }

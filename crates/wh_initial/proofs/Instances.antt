@@ -10,7 +10,7 @@ use Rattle.wh_model.specs.Validity.{Name, imported_funcs, func_first}
 use Rattle.wh_model.specs.Store.{Value, FuncInst, own, host, signature, Instance}
 use Rattle.wh_model.specs.Instance.{Parameters, Piece, Imported, Defined, Prepares}
 use Rattle.wh_model.proofs.Instance.{imported_same}
-use Rattle.wh_host_model.specs.Linking.{value_of}
+use Rattle.wh_model.specs.Linking.{value_of}
 use Rattle.wh_syntax.specs.View.{view_module}
 use Rattle.wh_bodies.specs.Table.{Table, table_of}
 use Rattle.wh_bodies.specs.Views.{view_side, type_at}

@@ -12,9 +12,9 @@ use Rattle.wh_model.specs.Syntax as model
 use Rattle.wh_model.specs.Validity.{ConstantOf, imported_globals, global_first}
 use Rattle.wh_model.specs.Store.{Value, value, type_of, FuncInst}
 use Rattle.wh_model.specs.Instance.{Parameters, Imported, Evaluates, Begun}
-use Rattle.wh_host_model.specs.declared.HostGlobal.{HostGlobal}
-use Rattle.wh_host_model.specs.declared.HostGlobal.TheVariants.{Base, Salt}
-use Rattle.wh_host_model.specs.Linking.{value_of}
+use Rattle.wh_model.specs.declared.host.HostGlobal.{HostGlobal}
+use Rattle.wh_model.specs.declared.host.HostGlobal.TheVariants.{Base, Salt}
+use Rattle.wh_model.specs.Linking.{value_of}
 use Rattle.wh_control.specs.Represents.{bits_of, InRange}
 use Rattle.wh_syntax.specs.declared.module.Global.{Global}
 use Rattle.wh_syntax.specs.View.{view_global}

@@ -4,7 +4,7 @@ use Rattle.std.specs.List.{All}
 use Rattle.std.specs.Vec.{vec_capacity}
 use Rattle.wh_model.specs.Store.{output_room}
 use Rattle.wh_model.specs.Instance.{Parameters, filled, first_size, last_size}
-use Rattle.wh_host_model.specs.declared.HostGlobal.{HostGlobal}
+use Rattle.wh_model.specs.declared.host.HostGlobal.{HostGlobal}
 use Rattle.wh_syntax.specs.declared.module.Module.{Module}
 use Rattle.wh_syntax.specs.declared.module.Element.{Element}
 use Rattle.wh_syntax.specs.declared.module.Data.{Data}

@@ -3,8 +3,8 @@ use Rattle.std.specs.Prelude.{◌≡◌, ℕ, ◌^◌, ◌<◌, ◌⊎◌, List,
 use Rattle.wh_model.specs.Numbers.{unsigned}
 use Rattle.wh_model.specs.Syntax.{Op, i32_const, i64_const, global_get, Code, nothing, plain}
 use Rattle.wh_model.specs.Instance.{Parameters, Piece}
-use Rattle.wh_host_model.specs.declared.HostGlobal.{HostGlobal}
-use Rattle.wh_host_model.specs.Linking.{value_of}
+use Rattle.wh_model.specs.declared.host.HostGlobal.{HostGlobal}
+use Rattle.wh_model.specs.Linking.{value_of}
 use Rattle.wh_syntax.specs.declared.instr.Instr.{Instr}
 use Rattle.wh_syntax.specs.declared.instr.Instr.TheVariants.{I32Const, I64Const, GlobalGet}
 use Rattle.wh_syntax.specs.declared.module.Global.{Global}

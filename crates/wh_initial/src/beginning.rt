@@ -17,8 +17,8 @@ use crate::sizes::{first_entries, first_pages, last_pages};
 use crate::table::first_table;
 use std::alloc::Global;
 use wh_control::Store;
-use wh_host_model::HostGlobal;
 use wh_imports::Linked;
+use wh_model::HostGlobal;
 use wh_syntax::Module;
 
 const PAGE: u64 = 65536;

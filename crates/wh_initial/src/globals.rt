@@ -10,7 +10,7 @@ use crate::constants::word_of;
 use crate::error::{InitialError, push, with_room};
 use crate::parameters::Parameters;
 use std::alloc::Global as Heap;
-use wh_host_model::HostGlobal;
+use wh_model::HostGlobal;
 use wh_syntax::Global;
 
 /// The value of a global of the host; an i32 in the low 32 bits.

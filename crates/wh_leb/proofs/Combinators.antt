@@ -4,9 +4,9 @@ use Rattle.std.proofs.lemmas.Bool.{ltb-true, ltb-false, lt-ltb, le-ltb, leb-true
 use Rattle.std.proofs.lemmas.List.{append-nil, take_at, take-append-drop, drop-take}
 use Rattle.std.proofs.Math.ListN.{drop_of_length-le}
 use Rattle.std.proofs.Math.Seq.{drop-append_seam}
-use Rattle.wh_model.specs.declared.FaultKind.{FaultKind}
-use Rattle.wh_model.specs.declared.FaultKind.TheVariants.{Truncated, SectionSize, Limit}
-use Rattle.wh_leb.specs.declared.DecodeError.{DecodeError}
+use Rattle.wh_model.specs.declared.faults.FaultKind.{FaultKind}
+use Rattle.wh_model.specs.declared.faults.FaultKind.TheVariants.{Truncated, SectionSize, Limit}
+use Rattle.wh_model.specs.declared.faults.DecodeError.{DecodeError}
 use Rattle.wh_model.specs.Grammar.{Grammar, gives, ◌>>=◌ as ◌then◌, one_of, bytes, only_if, up_to, times, exactly, exactly_from, EndsAs, HeadBreaks}
 use Rattle.wh_leb.specs.Reading.{◌>>=◌, fail, Reads, Anything, with_next, head_of, one_at, bytes_at, only_at, limited_at, times_at, is_truncated, outer_fault, closed, exactly_at, closed_from, exactly_from_at, with_front}
 

@@ -3,9 +3,9 @@ use Rattle.std.proofs.Common.{◌≡◌, ℕ, ◌+◌, ◌-◌, ◌*◌, ◌^◌
 use Rattle.std.proofs.Math.Pow.{pow_mono}
 use Rattle.std.proofs.lemmas.Bool.{ltb-true, ltb-false, lt-ltb, le-ltb, leb-true, leb-false, le-leb, lt-leb, and_parts, and_cases, and_from, and_left, and_right, cases_lt, cond-true, cond-false}
 use Rattle.std.proofs.lemmas.Int.{ints}
-use Rattle.wh_model.specs.declared.FaultKind.{FaultKind}
-use Rattle.wh_model.specs.declared.FaultKind.TheVariants.{Leb}
-use Rattle.wh_leb.specs.declared.DecodeError.{DecodeError}
+use Rattle.wh_model.specs.declared.faults.FaultKind.{FaultKind}
+use Rattle.wh_model.specs.declared.faults.FaultKind.TheVariants.{Leb}
+use Rattle.wh_model.specs.declared.faults.DecodeError.{DecodeError}
 use Rattle.wh_model.specs.Grammar.{Grammar, up_to, times, this_byte, exact_byte}
 use Rattle.wh_model.specs.Leb.{IsUnsigned, BreaksUnsigned, IsSigned, BreaksSigned, unsigned, signed, u32, s32, s64, vec, vec_up_to}
 use Rattle.wh_leb.specs.Reading.{fail, Reads, Reader, Anything, unsigned_of, signed_of, u32_at, s32_at, s64_at, one_at, limited_at, times_at, vec_at, vec_up_to_at}

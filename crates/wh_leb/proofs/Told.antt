@@ -1,8 +1,8 @@
 -- What a caller is told of a reader, from the laws of reading.
 use Rattle.std.proofs.Common.{◌≡◌, ◌≢◌, ℕ, ◌≤◌, ◌+◌, ◌++◌, List, length, drop, Result, Ok, Err, sym, subst, ◌∙◌}
 use Rattle.std.specs.Prelude.{IfOk, IfErr}
-use Rattle.wh_model.specs.declared.FaultKind.TheVariants.{Memory}
-use Rattle.wh_leb.specs.declared.DecodeError.{DecodeError}
+use Rattle.wh_model.specs.declared.faults.FaultKind.TheVariants.{Memory}
+use Rattle.wh_model.specs.declared.faults.DecodeError.{DecodeError}
 use Rattle.wh_model.specs.Grammar.{Grammar}
 use Rattle.wh_leb.specs.Reading.{Reads, Anything, Gives, Found, Broken, Complete}
 

@@ -7,18 +7,7 @@ ghost use Rattle.std.specs.Prelude.{◌≡◌, ◌<◌, ◌≤◌, ◌+◌, ◌-
 ghost use Rattle.wh_model.specs.Leb.{u32, s32, s64};
 ghost use Rattle.wh_leb.specs.Reading.{unsigned_of, signed_of, u32_at, s32_at, s64_at, Found, Broken, Complete};
 
-use thiserror::Error;
-use wh_model::FaultKind;
-
-/// A fault of the binary format, and the offset of the byte that it is found at.
-#[derive(Clone, Copy, Debug, PartialEq, Eq, Error)]
-#[error("{kind} at byte {offset}")]
-pub struct DecodeError {
-    /// What is wrong.
-    pub kind: FaultKind,
-    /// The offset in the module's bytes. At the end of the input it is their number.
-    pub offset: usize,
-}
+use wh_model::{DecodeError, FaultKind};
 
 /// A fault, as the result of reading.
 pub fn fault<T>(kind: FaultKind, offset: usize) -> Result<T, DecodeError>

@@ -2,6 +2,7 @@
 
 use std::fmt;
 use wh_alone::{CallError, Outcome};
+use wh_load::LoadError;
 
 /// What comes of a call.
 #[derive(Clone, Copy)]
@@ -27,15 +28,17 @@ fn write_outcome<W: fmt::Write>(f: &mut fmt::Formatter<W>, outcome: Outcome) -> 
 
 fn write_refusal<W: fmt::Write>(f: &mut fmt::Formatter<W>, error: CallError) -> fmt::Result {
     match error {
-        CallError::Decode(error) => write!(f, "D{} at {}", error.kind.number(), error.offset),
-        CallError::Valid(error) => {
+        CallError::Load(LoadError::Decode(error)) => {
+            write!(f, "D{} at {}", error.kind.number(), error.offset)
+        }
+        CallError::Load(LoadError::Valid(error)) => {
             let kind = error.kind.number();
             match error.func {
                 Some(func) => write!(f, "V{kind} func {func} instr {}", error.instr),
                 None => write!(f, "V{kind} module"),
             }
         }
-        CallError::Link(error) => write!(f, "L{}: {error}", error.number()),
+        CallError::Load(LoadError::Link(error)) => write!(f, "{error}"),
         CallError::Initial(error) => write!(f, "{error}"),
         CallError::Memory => write!(f, "{error}"),
     }

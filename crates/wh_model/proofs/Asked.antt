@@ -1,7 +1,7 @@
 -- What the focused form asks for is what its nested configuration asks for; that is one need at most, and none where it traps.
 use Rattle.std.proofs.Common.{◌≡◌, ℕ, List, [], ◌∷◌, subst, arith, inl, inr, slice_get, Some}
 use Rattle.wh_model.specs.declared.Trap.{Trap}
-use Rattle.wh_model.specs.declared.HostFunc.TheVariants.{Input, Put, Emit}
+use Rattle.wh_model.specs.declared.host.HostFunc.TheVariants.{Input, Put, Emit}
 use Rattle.wh_model.specs.declared.memory.Need.{Need}
 use Rattle.wh_model.specs.Syntax.{Op, unreachable, nop, br, br_if, br_table, return, call, call_indirect, drop_operand, select, local_get, local_set, local_tee, global_get, global_set, load, store, memory_size, memory_grow, i32_const, i64_const, test, comparison, unary, binary, conversion, Code, nothing, plain, block, loop, if_then, if_else}
 use Rattle.wh_model.specs.Store.{Value, FuncInst, own, host, signature, Instance, Store}

@@ -1,7 +1,7 @@
 -- A module with its parameters begins in one way at most.
 use Rattle.std.proofs.Common.{◌≡◌, ℕ, List, [], ◌∷◌, ◌++◌, refl, sym, ap, subst, arith, ◌∙◌, ⊎_elim, ◌*◌, map, None, replicate}
-use Rattle.wh_model.specs.declared.HostFunc.{HostFunc}
-use Rattle.wh_model.specs.declared.HostFunc.TheVariants.{Input, Put, Emit}
+use Rattle.wh_model.specs.declared.host.HostFunc.{HostFunc}
+use Rattle.wh_model.specs.declared.host.HostFunc.TheVariants.{Input, Put, Emit}
 use Rattle.wh_model.specs.Syntax.{Code, FuncType, Import, Global, Body, Module}
 use Rattle.wh_model.specs.Store.{Value, FuncInst, host, Instance}
 use Rattle.wh_model.specs.Instance.{Parameters, name_of, ImportsFunc, ImportsGlobal, Imported, Defined, Evaluates, Begun, Piece, Placed, Within, first_size, Prepares, Beginning, IsInitial, needs_more, out_of_bounds, in_bounds, begins, fragments, filled}

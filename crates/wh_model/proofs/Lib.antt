@@ -13,6 +13,8 @@ pub mod Opened
 pub mod Journals
 pub mod Histories
 pub mod Instance
+pub mod LinkingLemmas
+pub mod Beginnings
 pub mod Worked
 pub mod WorkedDepth
 pub mod Fragments

@@ -3,7 +3,7 @@ use Rattle.std.proofs.Common.{◌≡◌, ℕ, suc, ◌+◌, List, [], ◌∷◌,
 use Rattle.std.specs.Prelude.{get_or}
 use Rattle.wh_model.specs.declared.ValType.TheVariants.{I32}
 use Rattle.wh_model.specs.declared.Trap.{Trap}
-use Rattle.wh_model.specs.declared.HostFunc.TheVariants.{Input, Put, Emit}
+use Rattle.wh_model.specs.declared.host.HostFunc.TheVariants.{Input, Put, Emit}
 use Rattle.wh_model.specs.Syntax.{Op, unreachable, nop, br, br_if, br_table, return, call, call_indirect, drop_operand, select, local_get, local_set, local_tee, global_get, global_set, load, store, memory_size, memory_grow, i32_const, i64_const, test, comparison, unary, binary, conversion, Code, nothing, plain, block, loop, if_then, if_else, join}
 use Rattle.wh_model.specs.Store.{Value, value, FuncInst, own, host, Instance, Store}
 use Rattle.wh_model.specs.Configuration.{Term, code, label, frame, Block, hole, inner, config, trapped}

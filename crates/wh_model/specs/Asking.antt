@@ -2,7 +2,7 @@
 -- host's function `emit` hands on.
 use Rattle.std.specs.Prelude.{◌≡◌, ℕ, ◌+◌, ◌≤◌, List, ◌∷◌, Some, slice_get, length}
 use Rattle.wh_model.specs.declared.ValType.TheVariants.{I32}
-use Rattle.wh_model.specs.declared.HostFunc.TheVariants.{Emit}
+use Rattle.wh_model.specs.declared.host.HostFunc.TheVariants.{Emit}
 use Rattle.wh_model.specs.declared.memory.Need.{Need}
 use Rattle.wh_model.specs.Syntax.{Op, call, call_indirect, load, store, Code, plain}
 use Rattle.wh_model.specs.Typing.{load_type, store_type}

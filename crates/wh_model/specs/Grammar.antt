@@ -4,8 +4,8 @@
 -- Beside what it derives, a production says what it derives within the limits of this host, and in which way bytes
 -- that begin as it does break. The standard has no such faults: they are this project's own (docs/definitions.md).
 use Rattle.std.specs.Prelude.{◌≡◌, ℕ, zero, suc, ◌+◌, ◌≤◌, ◌<◌, ◌⊎◌, List, [], ◌∷◌, ◌++◌, length, take, Result, Ok, Err, if◌then◌else◌, ◌==◌}
-use Rattle.wh_model.specs.declared.FaultKind.{FaultKind}
-use Rattle.wh_model.specs.declared.FaultKind.TheVariants.{Truncated, SectionSize, Limit}
+use Rattle.wh_model.specs.declared.faults.FaultKind.{FaultKind}
+use Rattle.wh_model.specs.declared.faults.FaultKind.TheVariants.{Truncated, SectionSize, Limit}
 
 -- spells x b: the production derives all of the bytes b with the value x.
 -- within x b: it does so, and no limit is passed.

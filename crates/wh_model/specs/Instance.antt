@@ -2,8 +2,8 @@
 use Rattle.std.specs.Prelude.{◌≡◌, ℕ, ◌+◌, ◌*◌, ◌%◌, ◌^◌, ◌==◌, ◌<◌, ◌≤◌, ◌⊎◌, if◌then◌else◌, List, [], ◌∷◌, ◌++◌, length, map, replicate, slice_get, min, Option, Some, None, unwrap_or, codes, ℤ}
 use Rattle.std.specs.List.{AllByRecursion}
 use Rattle.wh_model.specs.declared.ValType.TheVariants.{I32, I64}
-use Rattle.wh_model.specs.declared.HostFunc.{HostFunc}
-use Rattle.wh_model.specs.declared.HostFunc.TheVariants.{Input, Put, Emit}
+use Rattle.wh_model.specs.declared.host.HostFunc.{HostFunc}
+use Rattle.wh_model.specs.declared.host.HostFunc.TheVariants.{Input, Put, Emit}
 use Rattle.wh_model.specs.Syntax.{i32_const, i64_const, global_get, Code, nothing, plain, FuncType, Limits, of_func, of_global, Import, Global, Body, Module}
 use Rattle.wh_model.specs.Numbers.{unsigned}
 use Rattle.wh_model.specs.Store.{Value, value, FuncInst, own, host, signature, Instance, Store, written}

@@ -1,7 +1,7 @@
 -- Integers, section 5.2.2 of the standard (LEB128), and vectors, section 5.1.3. One definition for all widths.
 use Rattle.std.specs.Prelude.{◌≡◌, ℕ, ◌+◌, ◌-◌, ◌*◌, ◌^◌, ◌≤◌, ◌<◌, ◌⊎◌, List, [], ◌∷◌, ℤ, pos, ◌+ℤ◌, ◌*ℤ◌}
-use Rattle.wh_model.specs.declared.FaultKind.{FaultKind}
-use Rattle.wh_model.specs.declared.FaultKind.TheVariants.{Truncated, Leb}
+use Rattle.wh_model.specs.declared.faults.FaultKind.{FaultKind}
+use Rattle.wh_model.specs.declared.faults.FaultKind.TheVariants.{Truncated, Leb}
 use Rattle.wh_model.specs.Grammar.{Grammar, ◌>>=◌, up_to, times}
 
 -- uN: a byte below 2^7 and 2^N is itself; a byte from 2^7 on, if N is above 7, is followed by m of N-7 bits, and the

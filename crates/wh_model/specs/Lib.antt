@@ -22,6 +22,9 @@ pub mod Focus
 pub mod FocusSteps
 pub mod FocusLaws
 pub mod Instance
+pub mod Linking
+pub mod LinkingLaws
+pub mod Accepting
 pub mod Replay
 pub mod Histories
 pub mod ReplayLaws

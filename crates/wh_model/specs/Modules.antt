@@ -1,7 +1,7 @@
 -- Sections and modules in the binary format, sections 5.5.2, 5.5.3 and 5.5.15 of the standard.
 use Rattle.std.specs.Prelude.{◌≡◌, ℕ, ◌+◌, ◌⊎◌, List, [], ◌∷◌, ◌++◌, length, Some, if◌then◌else◌, nat_lt}
-use Rattle.wh_model.specs.declared.FaultKind.{FaultKind}
-use Rattle.wh_model.specs.declared.FaultKind.TheVariants.{Magic, Version, UnknownByte, CountMismatch, SectionOrder}
+use Rattle.wh_model.specs.declared.faults.FaultKind.{FaultKind}
+use Rattle.wh_model.specs.declared.faults.FaultKind.TheVariants.{Magic, Version, UnknownByte, CountMismatch, SectionOrder}
 use Rattle.wh_model.specs.Grammar.{Grammar, ◌>>=◌, ◌>>◌, this_byte, Each, exactly, exactly_from}
 use Rattle.wh_model.specs.Leb.{u32, vec, vec_up_to}
 use Rattle.wh_model.specs.Syntax.{Module, empty_module}

@@ -1,7 +1,11 @@
--- The numbers by which replies name faults of the decoder and traps. They are this project's own.
+-- The numbers by which replies name faults of modules and traps. They are this project's own.
 use Rattle.std.specs.Prelude.{ℕ}
-use Rattle.wh_model.specs.declared.FaultKind.{FaultKind}
-use Rattle.wh_model.specs.declared.FaultKind.TheVariants.{Magic, Version, Truncated, SectionOrder, SectionSize, Leb, Utf8, UnknownByte, Float, Unsupported, Limit, CountMismatch, Memory}
+use Rattle.wh_model.specs.declared.faults.FaultKind.{FaultKind}
+use Rattle.wh_model.specs.declared.faults.FaultKind.TheVariants.{Magic, Version, Truncated, SectionOrder, SectionSize, Leb, Utf8, UnknownByte, Float, Unsupported, Limit, CountMismatch, Memory}
+use Rattle.wh_model.specs.declared.faults.ValidKind.{ValidKind}
+use Rattle.wh_model.specs.declared.faults.ValidKind.TheVariants.{BadType, Index, Align, Arity, Const, DuplicateExport, Start, Limits, Height, ConstImmutable, Memory as NoRoomToCheck}
+use Rattle.wh_model.specs.declared.faults.ImportFault.{ImportFault}
+use Rattle.wh_model.specs.declared.faults.ImportFault.TheVariants.{UnknownImport, ImportType}
 use Rattle.wh_model.specs.declared.Trap.{Trap}
 use Rattle.wh_model.specs.declared.Trap.TheVariants.{Unreachable, DivideByZero, Overflow, OutOfBounds, TableBounds, EmptyElement, IndirectType, HostTooLong, HostFull, CallDepth}
 
@@ -20,6 +24,25 @@ fault_number Unsupported = 10
 fault_number Limit = 11
 fault_number CountMismatch = 12
 fault_number Memory = 13
+
+-- a fault of a module that was decoded is named V and this number
+abbrev pub valid_number : ValidKind → ℕ
+valid_number BadType = 1
+valid_number Index = 2
+valid_number Align = 3
+valid_number Arity = 4
+valid_number Const = 5
+valid_number DuplicateExport = 6
+valid_number Start = 7
+valid_number Limits = 8
+valid_number Height = 9
+valid_number ConstImmutable = 10
+valid_number NoRoomToCheck = 11
+
+-- a fault of an import is named L and this number
+abbrev pub import_number : ImportFault → ℕ
+import_number UnknownImport = 1
+import_number ImportType = 2
 
 -- a trap is named T and this number
 abbrev pub trap_number : Trap → ℕ

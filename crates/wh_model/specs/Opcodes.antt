@@ -1,8 +1,8 @@
 -- The bytes that stand for types (section 5.3 of the standard) and for instructions (section 5.4). Floating point is
 -- left out of this profile: its types and opcodes are the fault Float, every other byte outside the tables UnknownByte.
 use Rattle.std.specs.Prelude.{ℕ, ◌-◌, List, [], ◌∷◌, Option, Some, None, Result, Ok, Err, Bool, true, false, if◌then◌else◌, ◌==◌, ◌&&◌, ◌||◌, nat_le, slice_get}
-use Rattle.wh_model.specs.declared.FaultKind.{FaultKind}
-use Rattle.wh_model.specs.declared.FaultKind.TheVariants.{UnknownByte, Float, Unsupported}
+use Rattle.wh_model.specs.declared.faults.FaultKind.{FaultKind}
+use Rattle.wh_model.specs.declared.faults.FaultKind.TheVariants.{UnknownByte, Float, Unsupported}
 use Rattle.wh_model.specs.declared.ValType.{ValType}
 use Rattle.wh_model.specs.declared.ValType.TheVariants.{I32, I64}
 use Rattle.wh_model.specs.declared.Mutability.{Mutability}

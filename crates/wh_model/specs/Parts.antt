@@ -1,7 +1,7 @@
 -- Types and the parts of modules in the binary format, sections 5.2.4, 5.3 and 5.5.4 to 5.5.14 of the standard.
 use Rattle.std.specs.Prelude.{◌≡◌, ℕ, zero, suc, ◌+◌, ◌-◌, List, [], ◌++◌, Some, None, Bool, true, false, IsUtf8}
 use Rattle.std.proofs.Math.ListN.{replicate}
-use Rattle.wh_model.specs.declared.FaultKind.TheVariants.{UnknownByte, Utf8, CountMismatch}
+use Rattle.wh_model.specs.declared.faults.FaultKind.TheVariants.{UnknownByte, Utf8, CountMismatch}
 use Rattle.wh_model.specs.declared.ValType.{ValType}
 use Rattle.wh_model.specs.Grammar.{Grammar, gives, ◌>>=◌, ◌>>◌, one_of, this_byte, bytes, only_if, up_to, times, exactly}
 use Rattle.wh_model.specs.Leb.{u32, vec, vec_up_to}

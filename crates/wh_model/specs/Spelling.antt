@@ -1,8 +1,8 @@
 -- What the decoder is told to do, in three words: which bytes spell which module (section 5 of the standard), when a
 -- module is within this host's limits (section 7.2), and which fault is the first one of bytes that are neither.
 use Rattle.std.specs.Prelude.{◌≡◌, ℕ, ◌≤◌, ◌<◌, ◌⊎◌, List, length, All}
-use Rattle.wh_model.specs.declared.FaultKind.{FaultKind}
-use Rattle.wh_model.specs.declared.FaultKind.TheVariants.{Limit}
+use Rattle.wh_model.specs.declared.faults.FaultKind.{FaultKind}
+use Rattle.wh_model.specs.declared.faults.FaultKind.TheVariants.{Limit}
 use Rattle.wh_model.specs.Syntax.{Module}
 use Rattle.wh_model.specs.Limits.{most_bytes, SmallModule}
 use Rattle.wh_model.specs.Modules.{«module»}

@@ -5,8 +5,8 @@ use Rattle.wh_model.specs.declared.ValType.{ValType}
 use Rattle.wh_model.specs.declared.ValType.TheVariants.{I32, I64}
 use Rattle.wh_model.specs.declared.LoadOp.{LoadOp}
 use Rattle.wh_model.specs.declared.LoadOp.TheVariants.{I32Load, I64Load, I32Load8S, I32Load8U, I32Load16S, I32Load16U, I64Load8S, I64Load8U, I64Load16S, I64Load16U, I64Load32S, I64Load32U}
-use Rattle.wh_model.specs.declared.HostFunc.{HostFunc}
-use Rattle.wh_model.specs.declared.HostFunc.TheVariants.{Input, Put, Emit}
+use Rattle.wh_model.specs.declared.host.HostFunc.{HostFunc}
+use Rattle.wh_model.specs.declared.host.HostFunc.TheVariants.{Input, Put, Emit}
 use Rattle.wh_model.specs.Syntax.{FuncType, Body}
 use Rattle.wh_model.specs.Numbers.{bits, extend_s, extend_u}
 

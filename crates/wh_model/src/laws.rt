@@ -3,6 +3,7 @@
 ghost use Rattle.wh_model.specs.Laws.{OneReduction, SmallCharges, UnchargedEnd, Settles, OneAfter, AfterJoins, AfterSplits, OneNeed};
 ghost use Rattle.wh_model.specs.FocusLaws.{Agrees, AfterAgrees, ChargedSettles};
 ghost use Rattle.wh_model.specs.ReplayLaws.{OneBeginning, OneEnd, OneStanding, HistoryBefore, HistorySplits, JournalGrows, StartIsCalled, FuelSuffices, ArgumentsFit, RunningGoesOn, OthersWait, DeadDoNothing, ReturnedHasWritten, PiecesInOrder, CancelledStays, DoneReplays, TrappedReplays, FuelReplays, FragmentsInPages, FragmentsWithin, CutAtMultiples, CutOfThree, FragmentsWrite, BeginningWrites};
+ghost use Rattle.wh_model.specs.LinkingLaws.{OneFirstFault, LinksWithoutFault, SomeBeginning};
 
 /// What holds of reduction. The function does nothing; what it ensures are the laws.
 pub fn execution_holds()
@@ -50,4 +51,11 @@ pub fn journals_hold()
     ensures cut_of_three { CutOfThree }
     ensures fragments_write { FragmentsWrite }
     ensures beginning_writes { BeginningWrites }
+{}
+
+/// What holds of linking and of what an instance begins with. The function does nothing; what it ensures are the laws.
+pub fn linking_holds()
+    ensures one_first_fault { OneFirstFault }
+    ensures links_without_fault { LinksWithoutFault }
+    ensures some_beginning { SomeBeginning }
 {}

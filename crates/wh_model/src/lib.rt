@@ -5,82 +5,18 @@
 #![tactic(auto)]
 
 ghost use Rattle.std.specs.Prelude.{◌≡◌};
-ghost use Rattle.wh_model.specs.Numbering.{fault_number, trap_number};
+ghost use Rattle.wh_model.specs.Numbering.{trap_number};
 
+mod faults;
+mod host;
 mod laws;
 mod memory;
 
-pub use laws::{execution_holds, focus_holds, journals_hold};
+pub use faults::{DecodeError, FaultKind, ImportFault, ValidKind};
+pub use host::{HostFunc, HostGlobal, HostItem};
+pub use laws::{execution_holds, focus_holds, journals_hold, linking_holds};
 pub use memory::{Got, Grown, Need};
 use thiserror::Error;
-
-/// What is wrong with the bytes of a module. The standard says only which bytes are a module; these kinds, and
-/// which byte each is found at, are this project's own (`docs/definitions.md`, "Faults").
-#[derive(Clone, Copy, Debug, PartialEq, Eq, Error)]
-pub enum FaultKind {
-    /// One of the first four bytes isn't that of `00 61 73 6D`.
-    #[error("the module doesn't begin with the magic bytes")]
-    Magic,
-    /// One of the second four bytes isn't that of `01 00 00 00`.
-    #[error("the version isn't 1")]
-    Version,
-    /// The input ends where a byte must stand.
-    #[error("the input ends too early")]
-    Truncated,
-    /// A section's id is repeated, or doesn't rise.
-    #[error("the section is repeated or out of order")]
-    SectionOrder,
-    /// The contents of a section or of a code entry end before its declared end, or would pass it.
-    #[error("the contents don't fill the declared size")]
-    SectionSize,
-    /// The last byte that a LEB128 number may have continues, or has wrong unused bits.
-    #[error("the number has too many bits")]
-    Leb,
-    /// A name isn't UTF-8.
-    #[error("the name isn't UTF-8")]
-    Utf8,
-    /// A byte that stands for nothing where it stands.
-    #[error("the byte has no meaning here")]
-    UnknownByte,
-    /// A floating-point type or opcode, which this host leaves out.
-    #[error("floating point is left out")]
-    Float,
-    /// A part of the standard that this host leaves out, or that isn't there yet.
-    #[error("this part of the standard is left out")]
-    Unsupported,
-    /// A limit of this host is passed.
-    #[error("a limit of this host is passed")]
-    Limit,
-    /// There aren't as many code entries as functions.
-    #[error("there aren't as many code entries as functions")]
-    CountMismatch,
-    /// A growth of memory was refused.
-    #[error("a growth of memory was refused")]
-    Memory,
-}
-
-impl FaultKind {
-    /// The number by which replies name the kind, 1 to 13.
-    pub fn number(self) -> u8
-        ensures { result ≡ fault_number self }
-    {
-        match self {
-            FaultKind::Magic => 1,
-            FaultKind::Version => 2,
-            FaultKind::Truncated => 3,
-            FaultKind::SectionOrder => 4,
-            FaultKind::SectionSize => 5,
-            FaultKind::Leb => 6,
-            FaultKind::Utf8 => 7,
-            FaultKind::UnknownByte => 8,
-            FaultKind::Float => 9,
-            FaultKind::Unsupported => 10,
-            FaultKind::Limit => 11,
-            FaultKind::CountMismatch => 12,
-            FaultKind::Memory => 13,
-        }
-    }
-}
 
 /// Why a computation stops without a result (section 4.2.2 of the standard, "Trap"). The last three are this
 /// host's own.
@@ -381,15 +317,4 @@ pub enum ExternKind {
     Memory,
     /// A global.
     Global,
-}
-
-/// A function that the host offers for import, in its module `host`. These are this host's own.
-#[derive(Clone, Copy, Debug, PartialEq, Eq)]
-pub enum HostFunc {
-    /// `input`, `[i32] -> [i64]`: the input word at that place.
-    Input,
-    /// `put`, `[i64] -> []`: appends the 8 bytes of the operand to the output, the lowest first.
-    Put,
-    /// `emit`, `[i32 i32] -> []`: appends bytes of the memory, given by address and length, to the output.
-    Emit,
 }

@@ -1,16 +1,18 @@
 -- A script has one text of replies, where no memory is wanted, but for the faults of the validator.
 use Rattle.std.proofs.Common.{◌≡◌, ℕ, ◌+◌, List, [], ◌∷◌, sym, ap, subst, ◌∙◌, arith}
-use Rattle.wh_model.specs.declared.FaultKind.{FaultKind}
-use Rattle.wh_model.specs.Numbering.{fault_number}
+use Rattle.wh_model.specs.declared.faults.FaultKind.{FaultKind}
+use Rattle.wh_model.specs.Numbering.{fault_number, import_number}
 use Rattle.wh_model.specs.Syntax.{Module}
 use Rattle.wh_model.specs.Spelling.{Spells, Small, IsBroken}
 use Rattle.wh_model.specs.Validity.{Valid}
 use Rattle.wh_model.specs.Heights.{Fits}
-use Rattle.wh_host_model.specs.Linking.{ImportFault, import_fault_number, Links, IsFirstFault}
+use Rattle.wh_model.specs.declared.faults.ImportFault.{ImportFault}
+use Rattle.wh_model.specs.Linking.{Links, IsFirstFault}
 use Rattle.wh_host_model.specs.Script.{refused_reply, unlinked_reply}
 use Rattle.wh_host_model.specs.Requests.{Request, keep_module, Asks, IsHex}
-use Rattle.wh_host_model.specs.Replies.{Modules, with_module, IsModule, ModuleReply, taken, kept, refused, invalid, unlinked, Reply, LineReply, skipped, too_long, no_request, asked, Replies, AgreeAt, same, both_invalid, Agree}
-use Rattle.wh_host_model.proofs.LinkingLemmas.{one_first_fault, links_no_fault}
+use Rattle.wh_model.specs.Accepting.{IsModule}
+use Rattle.wh_host_model.specs.Replies.{Modules, with_module, ModuleReply, taken, kept, refused, invalid, unlinked, Reply, LineReply, skipped, too_long, no_request, asked, Replies, AgreeAt, same, both_invalid, Agree}
+use Rattle.wh_model.proofs.LinkingLemmas.{one_first_fault, links_no_fault}
 use Rattle.wh_script.proofs.Hex.{one_hex}
 use Rattle.wh_script.proofs.Words.{one_module_line}
 
@@ -39,10 +41,10 @@ module _ (one_fault : (b : List ℕ) (kind kind2 : FaultKind) (offset offset2 : 
   not_unlinked bytes m n fault place p q links first = links_no_fault n fault place (subst Links (same_module bytes m n p q) links) first
 
   one_unlinked : (name bytes : List ℕ) (m n : Module) (f g : ImportFault) (i j : ℕ) → IsModule bytes m → IsModule bytes n → IsFirstFault m f i → IsFirstFault n g j
-      → unlinked_reply name (import_fault_number f) i ≡ unlinked_reply name (import_fault_number g) j
+      → unlinked_reply name (import_number f) i ≡ unlinked_reply name (import_number g) j
   one_unlinked name bytes m n f g i j p q x y =
       let same = one_first_fault n f g i j (subst (λ w. IsFirstFault w f i) (same_module bytes m n p q) x) y in
-      ap (λ h. unlinked_reply name (import_fault_number h) i) same.0 ∙ ap (unlinked_reply name (import_fault_number g)) same.1
+      ap (λ h. unlinked_reply name (import_number h) i) same.0 ∙ ap (unlinked_reply name (import_number g)) same.1
 
   one_refused : (name bytes : List ℕ) (k l : FaultKind) (i j : ℕ) → IsBroken bytes k i → IsBroken bytes l j → refused_reply name (fault_number k) i ≡ refused_reply name (fault_number l) j
   one_refused name bytes k l i j x y =

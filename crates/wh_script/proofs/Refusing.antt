@@ -1,23 +1,23 @@
 -- What is refused gets the reply of its fault, or want of memory.
 use Rattle.std.proofs.Common.{◌≡◌, ◌≢◌, ℕ, ◌⊎◌, inl, inr, List, None, refl, ap, arith}
-use Rattle.wh_model.specs.declared.FaultKind.{FaultKind}
-use Rattle.wh_model.specs.declared.FaultKind.TheVariants.{Magic, Version, Truncated, SectionOrder, SectionSize, Leb, Utf8, UnknownByte, Float, Unsupported, Limit, CountMismatch, Memory as NoRoom}
-use Rattle.wh_model.specs.Numbering.{fault_number}
+use Rattle.wh_model.specs.declared.faults.FaultKind.{FaultKind}
+use Rattle.wh_model.specs.declared.faults.FaultKind.TheVariants.{Magic, Version, Truncated, SectionOrder, SectionSize, Leb, Utf8, UnknownByte, Float, Unsupported, Limit, CountMismatch, Memory as NoRoom}
+use Rattle.wh_model.specs.Numbering.{fault_number, valid_number}
 use Rattle.wh_model.specs.Spelling.{IsBroken}
 use Rattle.wh_model.specs.Syntax.{Module}
 use Rattle.wh_model.specs.Validity.{Valid}
 use Rattle.wh_model.specs.Heights.{Fits}
-use Rattle.wh_host_model.specs.Linking.{unknown_import, import_type}
 use Rattle.wh_host_model.specs.Script.{Place, refused_reply, invalid_reply}
 use Rattle.wh_host_model.specs.Requests.{keep_module}
-use Rattle.wh_host_model.specs.Replies.{Modules, IsModule, IsValidFault, refused, invalid, unlinked, by_decoder, by_validator, by_linker, ReplyOrWant}
-use Rattle.wh_bodies.specs.declared.fault.ValidKind.{ValidKind}
-use Rattle.wh_bodies.specs.declared.fault.ValidKind.TheVariants.{BadType, Index, Align, Arity, Const, DuplicateExport, Start, Limits, Height, ConstImmutable, Memory as NoRoomToCheck}
-use Rattle.wh_bodies.specs.Faults.{kind_number}
-use Rattle.wh_imports.specs.declared.error.LinkError.TheVariants.{UnknownImport, ImportType, Memory}
-use Rattle.wh_script.specs.declared.module.ModuleError.{ModuleError}
-use Rattle.wh_script.specs.declared.module.ModuleError.TheVariants.{Decode, Valid as Invalid, Link}
-use Rattle.wh_script.specs.Accepting.{Refuses, place_of, refusal_reply}
+use Rattle.wh_model.specs.Accepting.{IsModule}
+use Rattle.wh_host_model.specs.Replies.{Modules, IsValidFault, refused, invalid, unlinked, by_decoder, by_validator, by_linker, ReplyOrWant}
+use Rattle.wh_model.specs.declared.faults.ValidKind.{ValidKind}
+use Rattle.wh_model.specs.declared.faults.ValidKind.TheVariants.{BadType, Index, Align, Arity, Const, DuplicateExport, Start, Limits, Height, ConstImmutable, Memory as NoRoomToCheck}
+use Rattle.wh_imports.specs.declared.error.LinkError.TheVariants.{NoItem, Memory}
+use Rattle.wh_load.specs.declared.error.LoadError.{LoadError}
+use Rattle.wh_load.specs.declared.error.LoadError.TheVariants.{Decode, Valid as Invalid, Link}
+use Rattle.wh_load.specs.Refusing.{RefusesBytes}
+use Rattle.wh_script.specs.Refusals.{place_of, refusal_reply}
 
 no_room : (kind : FaultKind) → (kind ≡ NoRoom) ⊎ (kind ≢ NoRoom)
 no_room Magic = inr (λ e. cc)
@@ -34,17 +34,17 @@ no_room Limit = inr (λ e. cc)
 no_room CountMismatch = inr (λ e. cc)
 no_room NoRoom = inl refl
 
-no_room_to_check : (kind : ValidKind) → (kind ≡ NoRoomToCheck) ⊎ ((kind ≢ NoRoomToCheck) × IsValidFault (kind_number kind))
-no_room_to_check BadType = inr ((λ e. cc), (omega arith, omega arith))
-no_room_to_check Index = inr ((λ e. cc), (omega arith, omega arith))
-no_room_to_check Align = inr ((λ e. cc), (omega arith, omega arith))
-no_room_to_check Arity = inr ((λ e. cc), (omega arith, omega arith))
-no_room_to_check Const = inr ((λ e. cc), (omega arith, omega arith))
-no_room_to_check DuplicateExport = inr ((λ e. cc), (omega arith, omega arith))
-no_room_to_check Start = inr ((λ e. cc), (omega arith, omega arith))
-no_room_to_check Limits = inr ((λ e. cc), (omega arith, omega arith))
-no_room_to_check Height = inr ((λ e. cc), (omega arith, omega arith))
-no_room_to_check ConstImmutable = inr ((λ e. cc), (omega arith, omega arith))
+no_room_to_check : (kind : ValidKind) → (kind ≡ NoRoomToCheck) ⊎ (kind ≢ NoRoomToCheck)
+no_room_to_check BadType = inr (λ e. cc)
+no_room_to_check Index = inr (λ e. cc)
+no_room_to_check Align = inr (λ e. cc)
+no_room_to_check Arity = inr (λ e. cc)
+no_room_to_check Const = inr (λ e. cc)
+no_room_to_check DuplicateExport = inr (λ e. cc)
+no_room_to_check Start = inr (λ e. cc)
+no_room_to_check Limits = inr (λ e. cc)
+no_room_to_check Height = inr (λ e. cc)
+no_room_to_check ConstImmutable = inr (λ e. cc)
 no_room_to_check NoRoomToCheck = inl refl
 
 module _ (before after : Modules) (number : ℕ) (name bytes : List ℕ) (free : before name ≡ None) (same : after ≡ before) where
@@ -54,15 +54,14 @@ module _ (before after : Modules) (number : ℕ) (name bytes : List ℕ) (free :
     | inr n ↦ inl (refused kind offset free (broken n) refl same)
   ]
 
-  not_valid : (m : Module) (kind : ValidKind) (place : Place) → IsModule bytes m → (kind ≢ NoRoomToCheck → ¬ (Valid m × Fits m)) → ReplyOrWant before number (keep_module name bytes) (invalid_reply name (kind_number kind) place) after
+  not_valid : (m : Module) (kind : ValidKind) (place : Place) → IsModule bytes m → (kind ≢ NoRoomToCheck → ¬ (Valid m × Fits m)) → ReplyOrWant before number (keep_module name bytes) (invalid_reply name (valid_number kind) place) after
   not_valid m kind place is wrong = elim (no_room_to_check kind) [
-    | inl e ↦ inr (by_validator m place free is (ap (λ k. invalid_reply name (kind_number k) place) e) same)
-    | inr n ↦ inl (invalid m (kind_number kind) place free is (wrong n.0) n.1 refl same)
+    | inl e ↦ inr (by_validator m place free is (ap (λ k. invalid_reply name (valid_number k) place) e) same)
+    | inr n ↦ inl (invalid m kind place free is (wrong n) n refl same)
   ]
 
-  pub refuses : (e : ModuleError) → Refuses bytes e → ReplyOrWant before number (keep_module name bytes) (refusal_reply name e) after
+  pub refuses : (e : LoadError) → RefusesBytes bytes e → ReplyOrWant before number (keep_module name bytes) (refusal_reply name e) after
   refuses (Decode e) broken = not_decoded e.kind e.offset broken
   refuses (Invalid e) (m, is, wrong) = not_valid m e.kind (place_of e.func e.instr) is wrong
-  refuses (Link (UnknownImport at)) (m, is, valid, fits, first) = inl (unlinked m unknown_import at free is valid fits first refl same)
-  refuses (Link (ImportType at)) (m, is, valid, fits, first) = inl (unlinked m import_type at free is valid fits first refl same)
+  refuses (Link (NoItem fault at)) (m, is, valid, fits, first) = inl (unlinked m fault at free is valid fits first refl same)
   refuses (Link Memory) (m, is, valid, fits, first) = inr (by_linker m free is valid fits refl same)

@@ -2,16 +2,20 @@
 -- by the validator's code, and by no definition.
 use Rattle.std.proofs.Common.{◌≡◌, ◌⊎◌, inl, inr, ℕ, zero, suc, ◌+◌, ◌<◌, ◌≤◌, List, [], ◌∷◌, ◌++◌, length, take, get_or, Option, None, Some, slice_get, Bool, true, false, refl, arith}
 use Rattle.std.specs.List.{AllByRecursion}
-use Rattle.wh_model.specs.declared.FaultKind.{FaultKind}
-use Rattle.wh_model.specs.Numbering.{fault_number}
+use Rattle.wh_model.specs.declared.faults.FaultKind.{FaultKind}
+use Rattle.wh_model.specs.declared.faults.ValidKind.TheVariants.{BadType}
+use Rattle.wh_model.specs.Numbering.{fault_number, import_number}
 use Rattle.wh_model.specs.Syntax.{FuncType, Import, Module}
 use Rattle.wh_model.specs.Spelling.{AreBytes, Spells, Small, IsBroken}
 use Rattle.wh_model.specs.Validity.{Valid}
 use Rattle.wh_model.specs.Heights.{Fits}
-use Rattle.wh_host_model.specs.Linking.{HasItem, IsKnown, ImportFault, unknown_import, import_type, import_fault_number, LacksItem}
+use Rattle.wh_model.specs.declared.faults.ImportFault.{ImportFault}
+use Rattle.wh_model.specs.declared.faults.ImportFault.TheVariants.{UnknownImport, ImportType}
+use Rattle.wh_model.specs.Linking.{HasItem, IsKnown, LacksItem}
 use Rattle.wh_host_model.specs.Script.{is_skipped, longest_line, in_module, error_reply, kept_reply, refused_reply, invalid_reply, unlinked_reply}
 use Rattle.wh_host_model.specs.Requests.{IsDigit, numeral, lower, upper, IsHex, Request, keep_module, Asks}
-use Rattle.wh_host_model.specs.Replies.{Modules, no_modules, with_module, IsModule, ModuleReply, taken, kept, refused, invalid, unlinked, Reply, LineReply, skipped, too_long, no_request, asked, Replies, AreReplies}
+use Rattle.wh_model.specs.Accepting.{IsModule}
+use Rattle.wh_host_model.specs.Replies.{Modules, no_modules, with_module, ModuleReply, taken, kept, refused, invalid, unlinked, Reply, LineReply, skipped, too_long, no_request, asked, Replies, AreReplies}
 
 -- ---- it can't be that there is none
 
@@ -36,8 +40,8 @@ abbrev Linked : List FuncType → List Import → Type 0
 Linked types is = AllByRecursion (HasItem types) is ⊎ FirstIn types is
 
 by_known : (types : List FuncType) (i : Import) → ¬ (HasItem types i) → IsKnown i ⊎ ¬ (IsKnown i) → (fault : ImportFault) × LacksItem types i fault
-by_known types i lacks (inl known) = (import_type, (known, lacks))
-by_known types i lacks (inr unknown) = (unknown_import, unknown)
+by_known types i lacks (inl known) = (ImportType, (known, lacks))
+by_known types i lacks (inr unknown) = (UnknownImport, unknown)
 
 later : (types : List FuncType) (i : Import) (is : List Import) → HasItem types i → Linked types is → Linked types (i ∷ is)
 later types i is has (inl all) = inl (has, all)
@@ -90,14 +94,14 @@ module _ (some_meaning : (b : List ℕ) → AreBytes b → ((m : Module) × Spel
   of_right : (before : Modules) (number : ℕ) (name bytes : List ℕ) (m : Module) → before name ≡ None → IsModule bytes m → Valid m → Fits m → Linked m.types m.imports → ModuleText before number name bytes
   of_right before number name bytes m free is valid fits (inl links) = (kept_reply name, with_module before name m, kept m free is valid fits links refl refl)
   of_right before number name bytes m free is valid fits (inr (fault, place, at, stands, lacks, earlier)) = (
-    unlinked_reply name (import_fault_number fault) place,
+    unlinked_reply name (import_number fault) place,
     before,
     unlinked m fault place free is valid fits (record { at = at; stands = stands; lacks = lacks; before = earlier }) refl refl,
   )
 
   of_module : (before : Modules) (number : ℕ) (name bytes : List ℕ) (m : Module) → before name ≡ None → IsModule bytes m → (Valid m × Fits m) ⊎ ¬ (Valid m × Fits m) → NotNone (ModuleText before number name bytes)
   of_module before number name bytes m free is (inl (valid, fits)) = and_then (some_linked m.types m.imports) (λ r. there_is (of_right before number name bytes m free is valid fits r))
-  of_module before number name bytes m free is (inr wrong) = there_is (invalid_reply name 1 in_module, before, invalid m 1 in_module free is wrong (omega arith, omega arith) refl refl)
+  of_module before number name bytes m free is (inr wrong) = there_is (invalid_reply name 1 in_module, before, invalid m BadType in_module free is wrong (λ e. cc) refl refl)
 
   of_bytes : (before : Modules) (number : ℕ) (name bytes : List ℕ) → before name ≡ None → ((m : Module) × Spells bytes m × Small bytes m) ⊎ ((kind : FaultKind) × (offset : ℕ) × IsBroken bytes kind offset) → NotNone (ModuleText before number name bytes)
   of_bytes before number name bytes free (inl (m, spells, small)) = and_then (either (Valid m × Fits m)) (of_module before number name bytes m free (record { spelled = spells; small = small }))

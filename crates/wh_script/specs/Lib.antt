@@ -1,4 +1,4 @@
-pub mod Accepting
+pub mod Refusals
 pub mod Coming
 pub mod Commands
 pub mod Numbering

@@ -5,7 +5,7 @@ use Rattle.std.specs.Io.KnownBytes.{Appends, Keeps}
 use Rattle.wh_script.specs.declared.engine.Engine.{Engine}
 use Rattle.wh_script.specs.declared.fault.ScriptFault.{ScriptFault}
 use Rattle.wh_script.specs.declared.fault.ScriptFault.TheVariants.{Script, Output, Memory}
-use Rattle.wh_script.specs.Accepting.{view_linked}
+use Rattle.wh_load.specs.Refusing.{view_linked}
 use Rattle.wh_host_model.specs.Requests.{Request}
 use Rattle.wh_host_model.specs.Replies.{Modules, ReplyOrWant, LineReply}
 

@@ -3,10 +3,11 @@
 ghost use Rattle.std.specs.Prelude.{◌≡◌, ℕ, List, IfOk, [], IfErr, OnOk, OnErr, string_bytes};
 ghost use Rattle.wh_host_model.specs.Replies.{no_modules, with_module};
 ghost use Rattle.wh_host_model.specs.Requests.{Request, keep_module, IsHex};
-ghost use Rattle.wh_bodies.specs.Faults.{kind_number};
+ghost use Rattle.wh_model.specs.Numbering.{valid_number};
 ghost use Rattle.wh_host_model.specs.Script.{kept_reply, error_reply, invalid_reply};
 ghost use Rattle.wh_script.specs.Numbering.{complaint_number};
-ghost use Rattle.wh_script.specs.Accepting.{view_linked, place_of, link_reply, refusal_reply};
+ghost use Rattle.wh_load.specs.Refusing.{view_linked};
+ghost use Rattle.wh_script.specs.Refusals.{place_of, link_reply, refusal_reply};
 ghost use Rattle.wh_script.specs.Coming.{IsKind};
 ghost use Rattle.wh_script.specs.Commands.{Means};
 ghost use Rattle.wh_script.specs.Replies.{modules_of, Sent, Obeys, Answers};
@@ -15,11 +16,11 @@ ghost use Rattle.wh_script.specs.Runs.{Runs};
 use crate::command::{Command, parse};
 use crate::fault::{Complaint, ScriptFault};
 use crate::lines::{Line, Lines};
-use crate::module::{ModuleError, accept};
 use std::alloc::{AllocError, Global};
 use std::collections::BTreeMap;
 use std::io::{ErrorKind, Read, Write};
 use wh_imports::{LinkError, Linked};
+use wh_load::{LoadError, load};
 use wh_validate::ValidError;
 
 const LONGEST_REPLY: usize = 128;
@@ -143,7 +144,7 @@ impl Engine {
         let Ok(bytes) = hex::decode(self.alloc, hex) else {
             return self.complain(writer, Complaint::Memory, number);
         };
-        match accept(self.alloc, &bytes) {
+        match load(self.alloc, &bytes) {
             Ok(linked) => {
                 if self.keep(name, linked).is_err() {
                     return self.complain(writer, Complaint::Memory, number);
@@ -181,7 +182,7 @@ impl Engine {
         &mut self,
         writer: &mut W,
         name: &str,
-        error: ModuleError,
+        error: LoadError,
     ) -> Result<(), ScriptFault>
         ensures sent { Sent (W.contents writer.old) (W.contents writer.new) result
             (refusal_reply name.now error) }
@@ -195,19 +196,19 @@ impl Engine {
     }
 
     /// Puts the reply to a refused module together.
-    fn say_refused(&mut self, name: &str, error: ModuleError) -> Result<(), AllocError>
+    fn say_refused(&mut self, name: &str, error: LoadError) -> Result<(), AllocError>
         requires { string_bytes self.old.reply ≡ [] }
         ensures said { OnOk result (string_bytes self.new.reply ≡ refusal_reply name.now error) }
         ensures names { modules_of self.new ≡ modules_of self.old }
     {
         match error {
-            ModuleError::Decode(fault) => {
+            LoadError::Decode(fault) => {
                 let kind = fault.kind.number();
                 let offset = fault.offset;
                 writeln!(self.reply, "module {name} refused D{kind} at {offset}")
             }
-            ModuleError::Valid(error) => self.say_invalid(name, error),
-            ModuleError::Link(error) => self.say_unlinked(name, error),
+            LoadError::Valid(error) => self.say_invalid(name, error),
+            LoadError::Link(error) => self.say_unlinked(name, error),
         }
     }
 
@@ -216,7 +217,7 @@ impl Engine {
         requires { string_bytes self.old.reply ≡ [] }
         ensures said { OnOk result
             (string_bytes self.new.reply
-                ≡ invalid_reply name.now (kind_number error.kind)
+                ≡ invalid_reply name.now (valid_number error.kind)
                     (place_of error.func error.instr)) }
         ensures names { modules_of self.new ≡ modules_of self.old }
     {
@@ -239,9 +240,9 @@ impl Engine {
         ensures said { OnOk result (string_bytes self.new.reply ≡ link_reply name.now error) }
         ensures names { modules_of self.new ≡ modules_of self.old }
     {
-        let kind = error.number();
         match error {
-            LinkError::UnknownImport(at) | LinkError::ImportType(at) => {
+            LinkError::NoItem(fault, at) => {
+                let kind = fault.number();
                 writeln!(self.reply, "module {name} refused L{kind} import {at}")
             }
             LinkError::Memory => writeln!(self.reply, "module {name} refused L3"),

@@ -20,7 +20,6 @@ mod engine;
 mod fault;
 mod laws;
 mod lines;
-mod module;
 
 pub use command::{Command, parse};
 pub use engine::run_script;

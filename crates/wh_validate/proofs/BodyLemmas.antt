@@ -9,7 +9,7 @@ use Rattle.wh_syntax.specs.View.{view_body}
 use Rattle.wh_syntax.specs.declared.module.Body.{Body as Given}
 use Rattle.wh_bodies.specs.Table.{Table, table_of}
 use Rattle.wh_validate.specs.Soundness.{Checked}
-use Rattle.wh_bodies.specs.declared.fault.ValidKind.{ValidKind}
+use Rattle.wh_model.specs.declared.faults.ValidKind.{ValidKind}
 use Rattle.wh_bodies.specs.Faults.{IsOfBody, HasInstr}
 use Rattle.wh_validate.specs.declared.error.ValidError.{ValidError}
 use Rattle.wh_validate.specs.Blaming.{IsBadBody, Blames}

@@ -1,6 +1,6 @@
 -- Checks that decide the same.
 use Rattle.std.proofs.Common.{Result, Ok, Err}
-use Rattle.wh_bodies.specs.declared.fault.ValidKind.{ValidKind}
+use Rattle.wh_model.specs.declared.faults.ValidKind.{ValidKind}
 use Rattle.wh_validate.specs.Deciding.{Decides}
 
 -- either follows from the other

@@ -24,8 +24,8 @@ use Rattle.wh_validate.specs.Parts.{IsGlobal, IsExport, IsElement, IsSegment}
 use Rattle.wh_validate.specs.Soundness.{Checked, IsSound}
 use Rattle.wh_validate.proofs.Lists.{each_recursion}
 use Rattle.wh_validate.specs.declared.error.ValidError.{ValidError}
-use Rattle.wh_bodies.specs.declared.fault.ValidKind.TheVariants.{Memory}
-use Rattle.wh_bodies.specs.declared.fault.ValidKind.{ValidKind}
+use Rattle.wh_model.specs.declared.faults.ValidKind.TheVariants.{Memory}
+use Rattle.wh_model.specs.declared.faults.ValidKind.{ValidKind}
 use Rattle.wh_validate.specs.Blaming.{Blames, HasRightBodies, BlamesRightly}
 use Rattle.wh_validate.proofs.CompleteLemmas.{IsRightWith, around_in, bodies_in}
 use Rattle.wh_validate.proofs.BodyLemmas.{valid_checked, fit_checked}

@@ -6,7 +6,7 @@ use Rattle.wh_model.specs.Syntax.{FuncType, Body, Module}
 use Rattle.wh_model.specs.Typing.{Context}
 use Rattle.wh_model.specs.Validity.{ValidBody, IsContext, imported_funcs, Valid}
 use Rattle.wh_model.specs.Heights.{FitsBody, Fits}
-use Rattle.wh_bodies.specs.declared.fault.ValidKind.{ValidKind}
+use Rattle.wh_model.specs.declared.faults.ValidKind.{ValidKind}
 use Rattle.wh_bodies.specs.Faults.{IsOfBody, HasInstr}
 
 -- ---- in a function

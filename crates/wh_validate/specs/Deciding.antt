@@ -1,7 +1,7 @@
 -- How a check answers.
 use Rattle.std.specs.Prelude.{◌≢◌, Result, Ok, Err}
-use Rattle.wh_bodies.specs.declared.fault.ValidKind.{ValidKind}
-use Rattle.wh_bodies.specs.declared.fault.ValidKind.TheVariants.{Memory}
+use Rattle.wh_model.specs.declared.faults.ValidKind.{ValidKind}
+use Rattle.wh_model.specs.declared.faults.ValidKind.TheVariants.{Memory}
 
 -- what is looked for holds, or doesn't, unless memory was refused
 abbrev pub Decides : {A : Type 0} → Result A ValidKind → Type 0 → Type 0

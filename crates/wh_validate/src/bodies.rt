@@ -11,7 +11,8 @@ ghost use Rattle.wh_validate.specs.Soundness.{Checked};
 
 use crate::error::ValidError;
 use std::alloc::Global;
-use wh_bodies::{Context, SideTable, ValidKind, check_body};
+use wh_bodies::{Context, SideTable, check_body};
+use wh_model::ValidKind;
 use wh_syntax::{Body, FuncType};
 
 /// Checks each function's body, and finds where its branches lead. The first so many functions are imported.

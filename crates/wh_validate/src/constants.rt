@@ -6,8 +6,7 @@ ghost use Rattle.wh_syntax.specs.View.{view_global_type};
 ghost use Rattle.wh_validate.specs.Deciding.{Decides};
 ghost use Rattle.wh_validate.specs.Constants.{IsConstant};
 
-use wh_bodies::ValidKind;
-use wh_model::{Mutability, ValType};
+use wh_model::{Mutability, ValType, ValidKind};
 use wh_syntax::{Expr, GlobalType, Instr};
 
 /// Whether an expression is constant and of this type. It sees the first so many of the globals.

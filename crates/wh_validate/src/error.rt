@@ -3,7 +3,8 @@
 ghost use Rattle.std.specs.Prelude.{◌≡◌, ◌+◌, ◌-◌, ◌^◌, min, None, Some};
 
 use thiserror::Error;
-use wh_bodies::{BodyFault, ValidKind};
+use wh_bodies::BodyFault;
+use wh_model::ValidKind;
 
 /// Why a module isn't valid, or passes a limit.
 #[derive(Clone, Copy, Debug, PartialEq, Eq, Error)]

@@ -13,8 +13,8 @@ ghost use Rattle.wh_validate.specs.Names.{has_name};
 use crate::indices::check_index;
 use std::alloc::Global;
 use std::collections::BTreeMap;
-use wh_bodies::{Context, ValidKind};
-use wh_model::ExternKind;
+use wh_bodies::Context;
+use wh_model::{ExternKind, ValidKind};
 use wh_syntax::Export;
 
 /// Whether what is exported is there.

@@ -8,8 +8,7 @@ ghost use Rattle.wh_validate.specs.Deciding.{Decides};
 ghost use Rattle.wh_validate.specs.Naming.{NamesType};
 
 use std::alloc::Global as Heap;
-use wh_bodies::ValidKind;
-use wh_model::Mutability;
+use wh_model::{Mutability, ValidKind};
 use wh_syntax::{FuncType, Global, GlobalType, Import, ImportDesc};
 
 /// What indices name.

@@ -12,8 +12,8 @@ ghost use Rattle.wh_validate.specs.Parts.{IsGlobal, IsElement, IsSegment};
 
 use crate::constants::check_constant;
 use crate::indices::{check_index, check_indices};
-use wh_bodies::{Context, ValidKind};
-use wh_model::ValType;
+use wh_bodies::Context;
+use wh_model::{ValType, ValidKind};
 use wh_syntax::{Data, Element, FuncType, Global, GlobalType};
 
 /// Whether a global's own expression is a constant of its type. It sees the imported globals, which are the first so

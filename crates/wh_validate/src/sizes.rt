@@ -8,7 +8,7 @@ ghost use Rattle.wh_validate.specs.Sizing.{IsTable};
 ghost use Rattle.wh_syntax.specs.View.{view_limits, view_table};
 ghost use Rattle.wh_validate.specs.Deciding.{Decides};
 
-use wh_bodies::ValidKind;
+use wh_model::ValidKind;
 use wh_syntax::{Limits, TableType};
 
 const MOST_PAGES: u32 = 65536;

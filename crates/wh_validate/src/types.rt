@@ -6,7 +6,7 @@ ghost use Rattle.wh_model.specs.Validity.{ValidType};
 ghost use Rattle.wh_syntax.specs.View.{view_type};
 ghost use Rattle.wh_validate.specs.Deciding.{Decides};
 
-use wh_bodies::ValidKind;
+use wh_model::ValidKind;
 use wh_syntax::FuncType;
 
 /// Whether each function type has one result at most (3.2.3).

@@ -21,7 +21,8 @@ use crate::sizes::{check_memories, check_tables};
 use crate::types::check_types;
 use std::alloc::Global;
 use std::marker::Model;
-use wh_bodies::{Context, SideTable, ValidKind};
+use wh_bodies::{Context, SideTable};
+use wh_model::ValidKind;
 use wh_syntax::Module;
 
 /// A module that is valid and passes no limit, with the places that branches of its bodies lead to. Contracts see these

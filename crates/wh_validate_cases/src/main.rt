@@ -8,9 +8,9 @@
 use anyhow::{Result, bail};
 use std::alloc::Global;
 use std::io::{BufRead, BufReader};
-use wh_decode::decode;
-use wh_imports::{LinkError, link};
-use wh_validate::{ValidError, validate};
+use wh_imports::LinkError;
+use wh_load::{LoadError, load};
+use wh_validate::ValidError;
 
 /// How a module comes out.
 #[derive(Clone, Copy)]
@@ -23,16 +23,11 @@ enum Answer {
 
 /// Decodes, validates and links a module.
 fn answer_of(alloc: Global, bytes: &[u8]) -> Answer {
-    let Ok(decoded) = decode(alloc, bytes) else {
-        return Answer::Undecoded;
-    };
-    let valid = match validate(alloc, decoded) {
-        Ok(valid) => valid,
-        Err(error) => return Answer::Refused(error),
-    };
-    match link(alloc, valid) {
+    match load(alloc, bytes) {
         Ok(_) => Answer::Linked,
-        Err(error) => Answer::Unlinked(error),
+        Err(LoadError::Decode(_)) => Answer::Undecoded,
+        Err(LoadError::Valid(error)) => Answer::Refused(error),
+        Err(LoadError::Link(error)) => Answer::Unlinked(error),
     }
 }
 
@@ -64,12 +59,12 @@ fn refuse(rt: &impl Print, name: &str, error: ValidError) -> Result<()> {
 }
 
 fn say_unlinked(rt: &impl Print, name: &str, error: LinkError) -> Result<()> {
-    let kind = error.number();
     match error {
-        LinkError::UnknownImport(at) | LinkError::ImportType(at) => {
+        LinkError::NoItem(fault, at) => {
+            let kind = fault.number();
             println!(rt; "{name} L{kind} import {at}")?
         }
-        LinkError::Memory => println!(rt; "{name} L{kind}")?,
+        LinkError::Memory => println!(rt; "{name} L3")?,
     }
     Ok(())
 }

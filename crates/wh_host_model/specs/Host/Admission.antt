@@ -1,6 +1,6 @@
 -- How modules and instances come to a host, and how instances go.
 use Rattle.std.specs.Prelude.{◌≡◌, ◌≢◌, ℕ, ◌+◌, ◌-◌, ◌<◌, ◌≤◌, ◌⊎◌, false, List, [], ◌∷◌, ◌++◌, length, slice_get, Option, Some, None}
-use Rattle.wh_model.specs.declared.FaultKind.{FaultKind}
+use Rattle.wh_model.specs.declared.faults.FaultKind.{FaultKind}
 use Rattle.wh_model.specs.Syntax.{Module}
 use Rattle.wh_model.specs.Spelling.{IsBroken}
 use Rattle.wh_model.specs.Validity.{Valid}
@@ -8,8 +8,9 @@ use Rattle.wh_model.specs.Heights.{Fits}
 use Rattle.wh_model.specs.Store.{Instance, Store}
 use Rattle.wh_model.specs.Instance.{AreGiven, Piece, IsInitial, memory_min, segment_bounds, begins}
 use Rattle.wh_model.specs.Replay.{Outcome, returned, pending}
-use Rattle.wh_host_model.specs.Linking.{ImportFault, Links, IsFirstFault}
-use Rattle.wh_host_model.specs.Replies.{IsModule}
+use Rattle.wh_model.specs.declared.faults.ImportFault.{ImportFault}
+use Rattle.wh_model.specs.Linking.{Links, IsFirstFault}
+use Rattle.wh_model.specs.Accepting.{IsModule}
 use Rattle.wh_host_model.specs.Space.Parts.{Space, minima, spreads}
 use Rattle.wh_host_model.specs.Host.Spaces.{Arrives, Departs}
 use Rattle.wh_host_model.specs.Host.Worlds.{Params, Entry, Rest, Doing, resting, has_left, Tenant, Loaded, World, given_of, promised, with_tenant}

@@ -2,7 +2,7 @@ use Rattle.std.proofs.Common.{◌≡◌, ◌+◌, ◌-◌, ℕ, List, take, drop
 use Rattle.std.proofs.lemmas.Bool.{cond-true, cond-false, false_from_ne_true}
 use Rattle.std.proofs.lemmas.Str.{IsUtf8-from_is_utf8, is_utf8-from_IsUtf8}
 use Rattle.std.specs.Str.{is_utf8}
-use Rattle.wh_model.specs.declared.FaultKind.TheVariants.{Utf8}
+use Rattle.wh_model.specs.declared.faults.FaultKind.TheVariants.{Utf8}
 use Rattle.wh_leb.specs.Reading.{fail}
 use Rattle.wh_decode.proofs.Text.{whole_text}
 use Rattle.wh_decode.proofs.parts.text.Goals as goal

@@ -1,7 +1,7 @@
 use Rattle.std.proofs.Common.{string_bytes}
 use Rattle.std.specs.BTreeMap.{get_by_text}
 use Rattle.std.proofs.lemmas.Map.Text.{btree_map_updates_text}
-use Rattle.wh_script.specs.Accepting.{view_linked}
+use Rattle.wh_load.specs.Refusing.{view_linked}
 use Rattle.wh_script.proofs.Kept.{seen_update}
 use Rattle.wh_script.proofs.engine.Engine.keep.Goals as goal
 

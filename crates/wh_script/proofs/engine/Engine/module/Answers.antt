@@ -2,7 +2,7 @@ use Rattle.std.proofs.Common.{refl, sym, inl}
 use Rattle.std.specs.BTreeMap.{get_by_text}
 use Rattle.wh_host_model.specs.Script.{error_reply}
 use Rattle.wh_host_model.specs.Replies.{taken}
-use Rattle.wh_script.specs.Accepting.{view_linked}
+use Rattle.wh_load.specs.Refusing.{view_linked}
 use Rattle.wh_script.proofs.Kept.{taken_by, is_free}
 use Rattle.wh_script.proofs.engine.Engine.module.Goals as goal
 

@@ -3,11 +3,13 @@ use Rattle.std.proofs.Common.{◌≡◌, ℕ, zero, suc, inl, inr, List, [], ◌
 use Rattle.std.specs.List.{AllByRecursion}
 use Rattle.wh_model.specs.Syntax.{FuncType, Import, Module}
 use Rattle.wh_model.specs.Instance.{Parameters, ImportsGlobal}
-use Rattle.wh_host_model.specs.declared.HostGlobal.{HostGlobal}
-use Rattle.wh_host_model.specs.declared.HostGlobal.TheVariants.{Base, Salt}
-use Rattle.wh_host_model.specs.declared.HostItem.{HostItem}
-use Rattle.wh_host_model.specs.declared.HostItem.TheVariants.{Func, Global}
-use Rattle.wh_host_model.specs.Linking.{value_of, ImportsItem, HasItem, IsKnown, ImportFault, unknown_import, import_type, LacksItem, Links, IsFirstFault}
+use Rattle.wh_model.specs.declared.host.HostGlobal.{HostGlobal}
+use Rattle.wh_model.specs.declared.host.HostGlobal.TheVariants.{Base, Salt}
+use Rattle.wh_model.specs.declared.host.HostItem.{HostItem}
+use Rattle.wh_model.specs.declared.host.HostItem.TheVariants.{Func, Global}
+use Rattle.wh_model.specs.declared.faults.ImportFault.{ImportFault}
+use Rattle.wh_model.specs.declared.faults.ImportFault.TheVariants.{UnknownImport, ImportType}
+use Rattle.wh_model.specs.Linking.{value_of, ImportsItem, HasItem, IsKnown, LacksItem, Links, IsFirstFault}
 
 -- what an owner may give
 pub some_parameters : Parameters
@@ -22,14 +24,14 @@ known_item types i (Func h) is = (is.0, Func h, is.1)
 known_item types i (Global g) is = known_global some_parameters i g (is some_parameters)
 
 pub has_not_lacks : (types : List FuncType) (i : Import) (fault : ImportFault) → HasItem types i → LacksItem types i fault → ⊥
-has_not_lacks types i unknown_import has lacks = lacks (known_item types i has.0 has.1)
-has_not_lacks types i import_type has lacks = lacks.1 has
+has_not_lacks types i UnknownImport has lacks = lacks (known_item types i has.0 has.1)
+has_not_lacks types i ImportType has lacks = lacks.1 has
 
 one_cause : (types : List FuncType) (i : Import) (f g : ImportFault) → LacksItem types i f → LacksItem types i g → f ≡ g
-one_cause types i unknown_import unknown_import p q = refl
-one_cause types i unknown_import import_type p q = absurd (p q.0)
-one_cause types i import_type unknown_import p q = absurd (q p.0)
-one_cause types i import_type import_type p q = refl
+one_cause types i UnknownImport UnknownImport p q = refl
+one_cause types i UnknownImport ImportType p q = absurd (p q.0)
+one_cause types i ImportType UnknownImport p q = absurd (q p.0)
+one_cause types i ImportType ImportType p q = refl
 
 some_same : {X : Type 0} (x y : X) → Some x ≡ Some y → x ≡ y
 some_same x y e = cc e

@@ -3,7 +3,8 @@ use Rattle.std.specs.Prelude.{◌≡◌, ℕ}
 use Rattle.wh_model.specs.Syntax.{Module}
 use Rattle.wh_model.specs.Validity.{Valid}
 use Rattle.wh_model.specs.Instance.{Parameters, Beginning, IsInitial}
-use Rattle.wh_host_model.specs.Linking.{ImportFault, Links, IsFirstFault}
+use Rattle.wh_model.specs.declared.faults.ImportFault.{ImportFault}
+use Rattle.wh_model.specs.Linking.{Links, IsFirstFault}
 
 -- a module has one first import without its item at most, for one cause
 abbrev pub OneFirstFault : Type 0

@@ -13,9 +13,9 @@ use Rattle.wh_model.specs.Typing.{Context}
 use Rattle.wh_model.specs.Validity.{Valid, ConstantOf, ValidGlobal, ValidElement, ValidData, ValidBodies, global_first, imported_globals}
 use Rattle.wh_model.specs.Store.{Value, value, type_of, FuncInst, own, host, Instance}
 use Rattle.wh_model.specs.Instance.{Parameters, ImportsGlobal, Imported, Defined, Evaluates, Begun, Piece, Placed, Within, first_size, last_size, Prepares, memory_min, segment_bounds, needs_more, out_of_bounds, in_bounds}
-use Rattle.wh_host_model.specs.declared.HostItem.TheVariants.{Func, Global as GlobalItem}
-use Rattle.wh_host_model.specs.Linking.{value_of, HasItem}
-use Rattle.wh_host_model.specs.LinkingLaws.{SomeBeginning}
+use Rattle.wh_model.specs.declared.host.HostItem.TheVariants.{Func, Global as GlobalItem}
+use Rattle.wh_model.specs.Linking.{value_of, HasItem}
+use Rattle.wh_model.specs.LinkingLaws.{SomeBeginning}
 
 -- ---- imports
 

@@ -1,6 +1,6 @@
-use Rattle.wh_host_model.proofs.LinkingLemmas.{one_first_fault, links_no_fault}
-use Rattle.wh_host_model.proofs.Beginnings.{some_beginning}
-use Rattle.wh_host_model.proofs.laws.linking_holds.Goals as goal
+use Rattle.wh_model.proofs.LinkingLemmas.{one_first_fault, links_no_fault}
+use Rattle.wh_model.proofs.Beginnings.{some_beginning}
+use Rattle.wh_model.proofs.laws.linking_holds.Goals as goal
 
 pub returns-clause-one_first_fault : goal.returns-clause-one_first_fault
 returns-clause-one_first_fault c = one_first_fault

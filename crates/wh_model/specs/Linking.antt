@@ -6,10 +6,12 @@ use Rattle.wh_model.specs.declared.ValType.TheVariants.{I32, I64}
 use Rattle.wh_model.specs.Syntax.{FuncType, Import, Module}
 use Rattle.wh_model.specs.Store.{Value, value}
 use Rattle.wh_model.specs.Instance.{Parameters, name_of, ImportsFunc, ImportsGlobal}
-use Rattle.wh_host_model.specs.declared.HostGlobal.{HostGlobal}
-use Rattle.wh_host_model.specs.declared.HostGlobal.TheVariants.{Base, Salt}
-use Rattle.wh_host_model.specs.declared.HostItem.{HostItem}
-use Rattle.wh_host_model.specs.declared.HostItem.TheVariants.{Func, Global}
+use Rattle.wh_model.specs.declared.faults.ImportFault.{ImportFault}
+use Rattle.wh_model.specs.declared.faults.ImportFault.TheVariants.{UnknownImport, ImportType}
+use Rattle.wh_model.specs.declared.host.HostGlobal.{HostGlobal}
+use Rattle.wh_model.specs.declared.host.HostGlobal.TheVariants.{Base, Salt}
+use Rattle.wh_model.specs.declared.host.HostItem.{HostItem}
+use Rattle.wh_model.specs.declared.host.HostItem.TheVariants.{Func, Global}
 
 -- the name of an item in the module `host`
 abbrev pub item_name : HostItem → List ℕ
@@ -35,20 +37,10 @@ HasItem types i = (item : HostItem) × ImportsItem types i item
 abbrev pub IsKnown : Import → Type 0
 IsKnown i = (i.from ≡ codes "host") × (item : HostItem) × (i.name ≡ item_name item)
 
--- why an import has no item: the host has none of its names, or that one is of another kind or type
-pub data ImportFault : Type 0 where
-  unknown_import : ImportFault
-  import_type : ImportFault
-
--- replies name it L and this number
-abbrev pub import_fault_number : ImportFault → ℕ
-import_fault_number unknown_import = 1
-import_fault_number import_type = 2
-
 -- the import has no item, for this cause
 abbrev pub LacksItem : List FuncType → Import → ImportFault → Type 0
-LacksItem types i unknown_import = ¬ (IsKnown i)
-LacksItem types i import_type = IsKnown i × ¬ (HasItem types i)
+LacksItem types i UnknownImport = ¬ (IsKnown i)
+LacksItem types i ImportType = IsKnown i × ¬ (HasItem types i)
 
 -- each import of the module has its item
 abbrev pub Links : Module → Type 0
