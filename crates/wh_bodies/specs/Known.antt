@@ -95,4 +95,6 @@ agreed (Some found) (Some wanted) = cond (same_type found wanted) (Ok (Some foun
 
 -- select
 abbrev pub selected : Known → Result Known ValidKind
-selected k = follow (take_one k I32) (λ a. follow (take_any a) (λ b. follow (take_any b.1) (λ d. follow (agreed b.0 d.0) (λ of. give_one d.1 of))))
+selected k =
+    follow (take_one k I32)
+    (λ a. follow (take_any a) (λ b. follow (take_any b.1) (λ d. follow (agreed b.0 d.0) (λ of. give_one d.1 of))))

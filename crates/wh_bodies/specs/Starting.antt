@@ -18,10 +18,12 @@ nothing_known = record { types = []; floor = 0; dead = false }
 
 -- the label of a body of so many instructions
 abbrev pub body_label : Option ValType → ℕ → Label
-body_label of count = record { kind = Other; result = of; carries = of; place = count; height = 0; outer_floor = 0; outer_dead = false }
+body_label of count =
+    record { kind = Other; result = of; carries = of; place = count; height = 0; outer_floor = 0; outer_dead = false }
 
 abbrev pub started : Option ValType → ℕ → List Mark → State
-started of count marks = record { known = nothing_known; labels = body_label of count ∷ []; marks = marks; entries = []; pool = [] }
+started of count marks =
+    record { known = nothing_known; labels = body_label of count ∷ []; marks = marks; entries = []; pool = [] }
 
 -- a whole body's instructions
 abbrev pub whole_run : Context → List Instr → Result State BodyFault

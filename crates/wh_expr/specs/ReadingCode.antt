@@ -107,14 +107,16 @@ after_instr stack (if_start t) = Some (Then ∷ stack)
 after_instr stack else_mark = else_after stack
 after_instr stack end_mark = end_after stack
 
-abbrev pub goes_on : Option (List Open) → Instr → ℕ → (List Open → Result (List Instr × ℕ) DecodeError) → Result (List Instr × ℕ) DecodeError
+abbrev pub goes_on : Option (List Open) → Instr → ℕ → (List Open → Result (List Instr × ℕ) DecodeError)
+    → Result (List Instr × ℕ) DecodeError
 goes_on None i at rest = Ok (i ∷ [], at)
 goes_on (Some stack) i at rest = rest stack >>= λ r. Ok (i ∷ r.0, r.1)
 
 -- the instructions up to the end of the expression, at most so many
 unfoldable pub code_from : ℕ → List Open → Reader (List Instr)
 code_from zero stack b at = head_of (λ _. Err Limit) (drop at b) at
-code_from (suc n) stack b at = instr_at stack b at >>= λ i. goes_on (after_instr stack i.0) i.0 i.1 (λ inner. code_from n inner b i.1)
+code_from (suc n) stack b at =
+    instr_at stack b at >>= λ i. goes_on (after_instr stack i.0) i.0 i.1 (λ inner. code_from n inner b i.1)
 
 -- without a limit there may be as many as there are bytes
 abbrev pub most_from : Option ℕ → List ℕ → ℕ → ℕ

@@ -8,7 +8,8 @@ abbrev pub onto_first : ℕ → List (List ℕ) → List (List ℕ)
 onto_first b [] = (b ∷ []) ∷ []
 onto_first b (line ∷ lines) = (b ∷ line) ∷ lines
 
--- the lines of a script: the bytes up to each newline; the last line may lack it, and nothing behind a last newline is no line
+-- the lines of a script: the bytes up to each newline; the last line may lack it, and nothing behind a last newline is
+-- no line
 abbrev pub lines_of : List ℕ → List (List ℕ)
 lines_of [] = []
 lines_of (b ∷ bs) = if b == 10 then [] ∷ lines_of bs else onto_first b (lines_of bs)
@@ -54,7 +55,8 @@ kept_reply name = codes "module " ++ name ++ codes " ok\n"
 
 -- `module NAME refused D3 at 7`
 abbrev pub refused_reply : List ℕ → ℕ → ℕ → List ℕ
-refused_reply name kind offset = codes "module " ++ name ++ codes " refused D" ++ decimal kind ++ codes " at " ++ decimal offset ++ codes "\n"
+refused_reply name kind offset =
+    codes "module " ++ name ++ codes " refused D" ++ decimal kind ++ codes " at " ++ decimal offset ++ codes "\n"
 
 -- where a fault of the validator lies: in no function, or at an instruction of one
 pub data Place : Type 0 where
@@ -64,11 +66,14 @@ pub data Place : Type 0 where
 -- `module NAME refused V6 module`, or `module NAME refused V1 func 0 instr 4`
 abbrev pub invalid_reply : List ℕ → ℕ → Place → List ℕ
 invalid_reply name kind in_module = codes "module " ++ name ++ codes " refused V" ++ decimal kind ++ codes " module\n"
-invalid_reply name kind (in_func func instr) = codes "module " ++ name ++ codes " refused V" ++ decimal kind ++ codes " func " ++ decimal func ++ codes " instr " ++ decimal instr ++ codes "\n"
+invalid_reply name kind (in_func func instr) =
+    codes "module " ++ name ++ codes " refused V" ++ decimal kind ++ codes " func " ++ decimal func ++ codes " instr "
+    ++ decimal instr ++ codes "\n"
 
 -- `module NAME refused L1 import 0`
 abbrev pub unlinked_reply : List ℕ → ℕ → ℕ → List ℕ
-unlinked_reply name kind place = codes "module " ++ name ++ codes " refused L" ++ decimal kind ++ codes " import " ++ decimal place ++ codes "\n"
+unlinked_reply name kind place =
+    codes "module " ++ name ++ codes " refused L" ++ decimal kind ++ codes " import " ++ decimal place ++ codes "\n"
 
 -- `module NAME refused L3`
 abbrev pub no_link_memory_reply : List ℕ → List ℕ

@@ -11,7 +11,8 @@ use Rattle.wh_host_model.specs.declared.Tax.{Tax}
 abbrev pub weight : Tax → Claim → ℕ
 weight tax claim = claim.active * (tax.den - tax.num) + (claim.pages - claim.active) * tax.den
 
--- the fraction of the first is below that of the second: S1 * (den - num) / w1 < S2 * (den - num) / w2, without division
+-- the fraction of the first is below that of the second: S1 * (den - num) / w1 < S2 * (den - num) / w2, without
+-- division
 abbrev pub RhoLess : Tax → Claim → Claim → Type 0
 RhoLess tax first second = first.shares * weight tax second < second.shares * weight tax first
 

@@ -14,5 +14,7 @@ pub record Joined : Type 0 where
   pub globals : List HostGlobal
 
 abbrev pub stored_joined : Coded Joined
-stored_joined = code_by (Validated × (List HostFunc × List HostGlobal)) (coded× stored_valid (coded× (coded_list func_type.the_row.coded) (coded_list global_type.the_row.coded)))
+stored_joined =
+    code_by (Validated × (List HostFunc × List HostGlobal))
+    (coded× stored_valid (coded× (coded_list func_type.the_row.coded) (coded_list global_type.the_row.coded)))
     (λ j. (j.valid, (j.funcs, j.globals))) (λ p. record { valid = p.0; funcs = p.1.0; globals = p.1.1 }) (λ _. refl)

@@ -11,7 +11,8 @@ use Rattle.wh_model.specs.Linking.{value_of}
 
 -- where imports are these functions and, whatever the owner of an instance gives it, the values of these globals
 abbrev pub AreResolved : List FuncType → List Import → List HostFunc → List HostGlobal → Type 0
-AreResolved types imports funcs globals = (p : Parameters) → Imported types p imports (map (λ h. host h) funcs) (map (value_of p) globals)
+AreResolved types imports funcs globals =
+    (p : Parameters) → Imported types p imports (map (λ h. host h) funcs) (map (value_of p) globals)
 
 -- the same of the imports of a module
 abbrev pub IsResolved : Module → List HostFunc → List HostGlobal → Type 0

@@ -20,12 +20,17 @@ Gives view (Err e) read = e.kind ≢ Memory → read ≡ Err e
 
 -- Reading a production from a place: what is found is derived within the limits, what is derived within them and
 -- followed so is found, a fault is a break, and a break is that fault.
-pub record Reads {A : Type 0} (Follows : List ℕ → Type 0) (g : Grammar A) (read : List ℕ → ℕ → Result (A × ℕ) DecodeError) : Type 0 where
-  pub found : (b : List ℕ) (at : ℕ) (x : A) (next : ℕ) → at ≤ length b → read b at ≡ Ok (x, next) → (t : List ℕ) × (drop at b ≡ t ++ drop next b) × (next ≡ at + length t) × g.within x t
-  pub only : (b : List ℕ) (at : ℕ) (x : A) (t u : List ℕ) → at ≤ length b → drop at b ≡ t ++ u → Follows u → g.within x t → read b at ≡ Ok (x, at + length t)
+pub record Reads {A : Type 0} (Follows : List ℕ → Type 0) (g : Grammar A)
+    (read : List ℕ → ℕ → Result (A × ℕ) DecodeError) : Type 0 where
+  pub found : (b : List ℕ) (at : ℕ) (x : A) (next : ℕ) → at ≤ length b → read b at ≡ Ok (x, next)
+      → (t : List ℕ) × (drop at b ≡ t ++ drop next b) × (next ≡ at + length t) × g.within x t
+  pub only : (b : List ℕ) (at : ℕ) (x : A) (t u : List ℕ) → at ≤ length b → drop at b ≡ t ++ u → Follows u
+      → g.within x t → read b at ≡ Ok (x, at + length t)
   pub ends : (b : List ℕ) (at : ℕ) (x : A) (next : ℕ) → at ≤ length b → read b at ≡ Ok (x, next) → Follows (drop next b)
-  pub fault : (b : List ℕ) (at : ℕ) (e : DecodeError) → at ≤ length b → read b at ≡ Err e → (k : ℕ) × (e.offset ≡ at + k) × g.breaks (drop at b) e.kind k
-  pub stops : (b : List ℕ) (at : ℕ) (kind : FaultKind) (k : ℕ) → at ≤ length b → g.breaks (drop at b) kind k → read b at ≡ Err (record { kind = kind; offset = at + k })
+  pub fault : (b : List ℕ) (at : ℕ) (e : DecodeError) → at ≤ length b → read b at ≡ Err e
+      → (k : ℕ) × (e.offset ≡ at + k) × g.breaks (drop at b) e.kind k
+  pub stops : (b : List ℕ) (at : ℕ) (kind : FaultKind) (k : ℕ) → at ≤ length b → g.breaks (drop at b) kind k
+      → read b at ≡ Err (record { kind = kind; offset = at + k })
 
 -- nothing is asked of what follows
 abbrev pub Anything : List ℕ → Type 0
@@ -72,13 +77,15 @@ one_at table b at = head_of table (drop at b) at
 abbrev pub bytes_at : ℕ → List ℕ → ℕ → Result (List ℕ × ℕ) DecodeError
 bytes_at n b at = if nat_lt (length b) (at + n) then fail Truncated (length b) else Ok (take n (drop at b), at + n)
 
-abbrev pub only_at : {A : Type 0} → (A → Bool) → FaultKind → (List ℕ → ℕ → Result (A × ℕ) DecodeError) → List ℕ → ℕ → Result (A × ℕ) DecodeError
+abbrev pub only_at : {A : Type 0} → (A → Bool) → FaultKind → (List ℕ → ℕ → Result (A × ℕ) DecodeError) → List ℕ → ℕ
+    → Result (A × ℕ) DecodeError
 only_at test kind read b at = read b at >>= λ x. if test x.0 then Ok x else fail kind at
 
 abbrev pub limited_at : ℕ → (List ℕ → ℕ → Result (ℕ × ℕ) DecodeError) → List ℕ → ℕ → Result (ℕ × ℕ) DecodeError
 limited_at limit read b at = read b at >>= λ x. if nat_lt limit x.0 then fail Limit at else Ok x
 
-abbrev pub times_at : {A : Type 0} → ℕ → (List ℕ → ℕ → Result (A × ℕ) DecodeError) → List ℕ → ℕ → Result (List A × ℕ) DecodeError
+abbrev pub times_at : {A : Type 0} → ℕ → (List ℕ → ℕ → Result (A × ℕ) DecodeError) → List ℕ → ℕ
+    → Result (List A × ℕ) DecodeError
 times_at zero read b at = Ok ([], at)
 times_at (suc n) read b at = do
   x ← read b at
@@ -114,14 +121,16 @@ abbrev pub closed : {A : Type 0} → Bool → ℕ → Result (A × ℕ) DecodeEr
 closed whole end (Ok x) = if x.1 == end then Ok x else fail SectionSize x.1
 closed whole end (Err e) = Err (outer_fault whole e)
 
-abbrev pub exactly_at : {A : Type 0} → ℕ → (List ℕ → ℕ → Result (A × ℕ) DecodeError) → List ℕ → ℕ → Result (A × ℕ) DecodeError
+abbrev pub exactly_at : {A : Type 0} → ℕ → (List ℕ → ℕ → Result (A × ℕ) DecodeError) → List ℕ → ℕ
+    → Result (A × ℕ) DecodeError
 exactly_at n read b at = closed (nat_le (at + n) (length b)) (at + n) (read (take (at + n) b) at)
 
 abbrev pub closed_from : {A : Type 0} → Bool → ℕ → ℕ → Result (A × ℕ) DecodeError → Result (A × ℕ) DecodeError
 closed_from whole end len (Ok x) = if whole then Ok (x.0, end) else fail Truncated len
 closed_from whole end len (Err e) = Err (outer_fault whole e)
 
-abbrev pub exactly_from_at : {A : Type 0} → ℕ → (List ℕ → ℕ → Result (A × ℕ) DecodeError) → List ℕ → ℕ → Result (A × ℕ) DecodeError
+abbrev pub exactly_from_at : {A : Type 0} → ℕ → (List ℕ → ℕ → Result (A × ℕ) DecodeError) → List ℕ → ℕ
+    → Result (A × ℕ) DecodeError
 exactly_from_at n read b at = closed_from (nat_le (at + n) (length b)) (at + n) (length b) (read (take (at + n) b) at)
 
 -- ---- what callers are told

@@ -31,7 +31,8 @@ abbrev pub ◌>>=◌ : {A B : Type 0} → Grammar A → (A → Grammar B) → Gr
   spells = λ y b. (x : A) × (t u : List ℕ) × (b ≡ t ++ u) × first.spells x t × (next x).spells y u;
   within = λ y b. (x : A) × (t u : List ℕ) × (b ≡ t ++ u) × first.within x t × (next x).within y u;
   breaks = λ b kind k. first.breaks b kind k
-      ⊎ ((x : A) × (t u : List ℕ) × (j : ℕ) × (b ≡ t ++ u) × (k ≡ length t + j) × first.within x t × (next x).breaks u kind j);
+      ⊎ ((x : A) × (t u : List ℕ) × (j : ℕ) × (b ≡ t ++ u) × (k ≡ length t + j) × first.within x t
+      × (next x).breaks u kind j);
 }
 
 infixl 10 ◌>>◌
@@ -107,7 +108,8 @@ exactly {A} n g = record {
   spells = λ x b. (length b ≡ n) × g.spells x b;
   within = λ x b. (length b ≡ n) × g.within x b;
   breaks = λ b kind k. ((inner : FaultKind) × g.breaks (take n b) inner k × EndsAs n b inner kind)
-      ⊎ ((x : A) × (t u : List ℕ) × (take n b ≡ t ++ u) × g.within x t × (length t < n) × (kind ≡ SectionSize) × (k ≡ length t));
+      ⊎ ((x : A) × (t u : List ℕ) × (take n b ≡ t ++ u) × g.within x t × (length t < n) × (kind ≡ SectionSize)
+      × (k ≡ length t));
 }
 
 -- exactly n bytes, of which the production derives a front, whatever follows it
@@ -116,5 +118,6 @@ exactly_from {A} n g = record {
   spells = λ x b. (length b ≡ n) × (t u : List ℕ) × (b ≡ t ++ u) × g.spells x t;
   within = λ x b. (length b ≡ n) × (t u : List ℕ) × (b ≡ t ++ u) × g.within x t;
   breaks = λ b kind k. ((inner : FaultKind) × g.breaks (take n b) inner k × EndsAs n b inner kind)
-      ⊎ ((length b < n) × ((x : A) × (t u : List ℕ) × (b ≡ t ++ u) × g.within x t) × (kind ≡ Truncated) × (k ≡ length b));
+      ⊎ ((length b < n) × ((x : A) × (t u : List ℕ) × (b ≡ t ++ u) × g.within x t) × (kind ≡ Truncated)
+      × (k ≡ length b));
 }

@@ -1,5 +1,5 @@
--- Limits that a validator sets beside the standard, as its section 7.2 allows: how many operands an instruction may stand
--- over, how many locals a function may have, and how large a table may be at least.
+-- Limits that a validator sets beside the standard, as its section 7.2 allows: how many operands an instruction may
+-- stand over, how many locals a function may have, and how large a table may be at least.
 use Rattle.std.specs.Prelude.{◌≡◌, ℕ, ◌+◌, ◌-◌, ◌≤◌, max, List, [], ◌∷◌, length, Option, Some, None, slice_get, unwrap_or}
 use Rattle.std.specs.List.{AllByRecursion}
 use Rattle.wh_model.specs.declared.ValType.{ValType}
@@ -20,8 +20,8 @@ carried c l = operands (unwrap_or (slice_get c.labels l) None)
 abbrev pub no_type : FuncType
 no_type = record { params = []; results = [] }
 
--- The operands that an instruction takes, and those that it gives. Behind unreachable, br, br_table and return the height
--- is the floor, whatever they take.
+-- The operands that an instruction takes, and those that it gives. Behind unreachable, br, br_table and return the
+-- height is the floor, whatever they take.
 abbrev pub taken : Context → Op → ℕ
 taken c (br_if l) = carried c l + 1
 taken c (call x) = length (unwrap_or (slice_get c.funcs x) no_type).params
@@ -73,17 +73,21 @@ height_behind c floor height (br_table ls l) = floor
 height_behind c floor height return = floor
 height_behind c floor height op = lowered floor height (taken c op) + given c op
 
--- The greatest height in a sequence that begins at that height, over that floor. No types are looked at, and dead code is
--- counted as any other.
+-- The greatest height in a sequence that begins at that height, over that floor. No types are looked at, and dead code
+-- is counted as any other.
 abbrev pub greatest : Context → ℕ → ℕ → Code → ℕ
 greatest c floor height nothing = height
 greatest c floor height (plain op rest) = max height (greatest c floor (height_behind c floor height op) rest)
-greatest c floor height (block t body rest) = max (greatest (under t c) height height body) (greatest c floor (height + operands t) rest)
-greatest c floor height (loop t body rest) = max (greatest (under None c) height height body) (greatest c floor (height + operands t) rest)
+greatest c floor height (block t body rest) =
+    max (greatest (under t c) height height body) (greatest c floor (height + operands t) rest)
+greatest c floor height (loop t body rest) =
+    max (greatest (under None c) height height body) (greatest c floor (height + operands t) rest)
 greatest c floor height (if_then t first rest) = let low = lowered floor height 1 in
     max height (max (greatest (under t c) low low first) (greatest c floor (low + operands t) rest))
 greatest c floor height (if_else t first second rest) = let low = lowered floor height 1 in
-    max height (max (greatest (under t c) low low first) (max (greatest (under t c) low low second) (greatest c floor (low + operands t) rest)))
+    max height
+        (max (greatest (under t c) low low first)
+            (max (greatest (under t c) low low second) (greatest c floor (low + operands t) rest)))
 
 -- the greatest height in a function's body, whose label carries its result
 abbrev pub body_height : Context → FuncType → Body → ℕ
@@ -107,7 +111,9 @@ FitsBody c f b = (length f.params + length b.locals ≤ most_locals) × (body_he
 -- each body with its function's type
 abbrev pub FitBodies : Context → List ℕ → List Body → Type 0
 FitBodies c [] bs = bs ≡ []
-FitBodies c (x ∷ xs) bs = (b : Body) × (rest : List Body) × (bs ≡ b ∷ rest) × (f : FuncType) × (slice_get c.types x ≡ Some f) × FitsBody c f b × FitBodies c xs rest
+FitBodies c (x ∷ xs) bs =
+    (b : Body) × (rest : List Body) × (bs ≡ b ∷ rest) × (f : FuncType) × (slice_get c.types x ≡ Some f) × FitsBody c f b
+    × FitBodies c xs rest
 
 -- a table's first entries are few, and no more than its last ones
 abbrev pub FitsTable : Limits → Type 0

@@ -93,10 +93,14 @@ instr = one_of opcode >>= operands
 -- innermost first, the next instruction stands.
 pub data Front : List Instr → List Open → Type 0 where
   in_body : (c : Code) → depth c ≤ most_nested → Front (flatten c) []
-  in_block : {front : List Instr} {stack : List Open} (t : Option ValType) (c : Code) → Front front stack → depth c + suc (length stack) ≤ most_nested → Front (front ++ block_start t ∷ flatten c) (Other ∷ stack)
-  in_loop : {front : List Instr} {stack : List Open} (t : Option ValType) (c : Code) → Front front stack → depth c + suc (length stack) ≤ most_nested → Front (front ++ loop_start t ∷ flatten c) (Other ∷ stack)
-  in_then : {front : List Instr} {stack : List Open} (t : Option ValType) (c : Code) → Front front stack → depth c + suc (length stack) ≤ most_nested → Front (front ++ if_start t ∷ flatten c) (Then ∷ stack)
-  in_else : {front : List Instr} {stack : List Open} (t : Option ValType) (c d : Code) → Front front stack → depth c + suc (length stack) ≤ most_nested → depth d + suc (length stack) ≤ most_nested
+  in_block : {front : List Instr} {stack : List Open} (t : Option ValType) (c : Code) → Front front stack
+      → depth c + suc (length stack) ≤ most_nested → Front (front ++ block_start t ∷ flatten c) (Other ∷ stack)
+  in_loop : {front : List Instr} {stack : List Open} (t : Option ValType) (c : Code) → Front front stack
+      → depth c + suc (length stack) ≤ most_nested → Front (front ++ loop_start t ∷ flatten c) (Other ∷ stack)
+  in_then : {front : List Instr} {stack : List Open} (t : Option ValType) (c : Code) → Front front stack
+      → depth c + suc (length stack) ≤ most_nested → Front (front ++ if_start t ∷ flatten c) (Then ∷ stack)
+  in_else : {front : List Instr} {stack : List Open} (t : Option ValType) (c d : Code) → Front front stack
+      → depth c + suc (length stack) ≤ most_nested → depth d + suc (length stack) ≤ most_nested
       → Front (front ++ if_start t ∷ flatten c ++ else_mark ∷ flatten d) (Other ∷ stack)
 
 -- what an opcode stands for inside these constructs: one that opens a construct has to be at a level that there may
@@ -134,7 +138,11 @@ NextBreaks (Some most) count stack b kind k = ((count < most) × (next_instr sta
 abbrev pub expr : Option ℕ → Grammar Code
 expr most = record {
   spells = λ c b. Each instr.spells (expression c) b;
-  within = λ c b. Each instr.within (expression c) b × FewInstructions most (length (expression c)) × (depth c ≤ most_nested);
-  breaks = λ b kind k. (front : List Instr) × (stack : List Open) × (t u : List ℕ) × (j : ℕ) × (b ≡ t ++ u) × (k ≡ length t + j)
+  within =
+      λ c b. Each instr.within (expression c) b × FewInstructions most (length (expression c))
+      × (depth c ≤ most_nested);
+  breaks =
+      λ b kind k. (front : List Instr) × (stack : List Open) × (t u : List ℕ) × (j : ℕ) × (b ≡ t ++ u)
+      × (k ≡ length t + j)
       × Front front stack × Each instr.within front t × NextBreaks most (length front) stack u kind j;
 }

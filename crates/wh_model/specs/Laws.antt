@@ -9,7 +9,8 @@ use Rattle.wh_model.specs.Asking.{Asks}
 
 -- at most one charge and one configuration follow
 abbrev pub OneReduction : Type 0
-OneReduction = (inst : Instance) (d j k : ℕ) (a b c : Config) → Reduces inst d a j b → Reduces inst d a k c → (j ≡ k) × (b ≡ c)
+OneReduction =
+    (inst : Instance) (d j k : ℕ) (a b c : Config) → Reduces inst d a j b → Reduces inst d a k c → (j ≡ k) × (b ≡ c)
 
 -- a charge is 0 or 1
 abbrev pub SmallCharges : Type 0
@@ -52,7 +53,9 @@ AfterJoins = (inst : Instance) (m n : ℕ) (a b c : Config) → After inst a m b
 
 -- and m + n charges are m and then n
 abbrev pub AfterSplits : Type 0
-AfterSplits = (inst : Instance) (m n : ℕ) (a c : Config) → After inst a (m + n) c → (b : Config) × After inst a m b × After inst b n c
+AfterSplits =
+    (inst : Instance) (m n : ℕ) (a c : Config) → After inst a (m + n) c
+    → (b : Config) × After inst a m b × After inst b n c
 
 -- a configuration asks for one run of bytes at most
 abbrev pub OneNeed : Type 0

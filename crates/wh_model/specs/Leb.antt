@@ -9,9 +9,11 @@ use Rattle.wh_model.specs.Grammar.{Grammar, ◌>>=◌, up_to, times}
 abbrev pub IsUnsigned : ℕ → List ℕ → ℕ → Type 0
 IsUnsigned bits [] n = ⊥
 IsUnsigned bits (b ∷ []) n = (b < 128) × (b < 2 ^ bits) × (n ≡ b)
-IsUnsigned bits (b ∷ c ∷ bs) n = (128 ≤ b) × (7 < bits) × (m : ℕ) × (n + 128 ≡ b + 128 * m) × IsUnsigned (bits - 7) (c ∷ bs) m
+IsUnsigned bits (b ∷ c ∷ bs) n =
+    (128 ≤ b) × (7 < bits) × (m : ℕ) × (n + 128 ≡ b + 128 * m) × IsUnsigned (bits - 7) (c ∷ bs) m
 
--- It breaks where the bytes end, or at the last byte that there may be, where that one continues or has unused bits set.
+-- It breaks where the bytes end, or at the last byte that there may be, where that one continues or has unused bits
+-- set.
 abbrev pub BreaksUnsigned : ℕ → List ℕ → FaultKind → ℕ → Type 0
 BreaksUnsigned bits [] kind k = (kind ≡ Truncated) × (k ≡ 0)
 BreaksUnsigned bits (b ∷ bs) kind k = ((bits ≤ 7) × (2 ^ bits ≤ b) × (kind ≡ Leb) × (k ≡ 0))
@@ -27,20 +29,24 @@ IsSignedByte bits b n = ((b < 64) × (b < 2 ^ (bits - 1)) × (n ≡ pos b))
 abbrev pub IsSigned : ℕ → List ℕ → ℤ → Type 0
 IsSigned bits [] n = ⊥
 IsSigned bits (b ∷ []) n = IsSignedByte bits b n
-IsSigned bits (b ∷ c ∷ bs) n = (128 ≤ b) × (7 < bits) × (m : ℤ) × (n +ℤ pos 128 ≡ pos b +ℤ pos 128 *ℤ m) × IsSigned (bits - 7) (c ∷ bs) m
+IsSigned bits (b ∷ c ∷ bs) n =
+    (128 ≤ b) × (7 < bits) × (m : ℤ) × (n +ℤ pos 128 ≡ pos b +ℤ pos 128 *ℤ m) × IsSigned (bits - 7) (c ∷ bs) m
 
 -- It breaks where the bytes end, or at the last byte that there may be, where that one continues or has unused bits
 -- that aren't copies of the sign bit.
 abbrev pub BreaksSigned : ℕ → List ℕ → FaultKind → ℕ → Type 0
 BreaksSigned bits [] kind k = (kind ≡ Truncated) × (k ≡ 0)
-BreaksSigned bits (b ∷ bs) kind k = ((bits ≤ 7) × (2 ^ (bits - 1) ≤ b) × ((128 ≤ b) ⊎ (b + 2 ^ (bits - 1) < 128)) × (kind ≡ Leb) × (k ≡ 0))
+BreaksSigned bits (b ∷ bs) kind k =
+    ((bits ≤ 7) × (2 ^ (bits - 1) ≤ b) × ((128 ≤ b) ⊎ (b + 2 ^ (bits - 1) < 128)) × (kind ≡ Leb) × (k ≡ 0))
     ⊎ ((128 ≤ b) × (7 < bits) × (j : ℕ) × (k ≡ 1 + j) × BreaksSigned (bits - 7) bs kind j)
 
 abbrev pub unsigned : ℕ → Grammar ℕ
-unsigned bits = record { spells = λ n b. IsUnsigned bits b n; within = λ n b. IsUnsigned bits b n; breaks = BreaksUnsigned bits }
+unsigned bits =
+    record { spells = λ n b. IsUnsigned bits b n; within = λ n b. IsUnsigned bits b n; breaks = BreaksUnsigned bits }
 
 abbrev pub signed : ℕ → Grammar ℤ
-signed bits = record { spells = λ n b. IsSigned bits b n; within = λ n b. IsSigned bits b n; breaks = BreaksSigned bits }
+signed bits =
+    record { spells = λ n b. IsSigned bits b n; within = λ n b. IsSigned bits b n; breaks = BreaksSigned bits }
 
 -- indices, sizes and counts; constants
 abbrev pub u32 : Grammar ℕ

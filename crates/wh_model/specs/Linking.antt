@@ -1,5 +1,5 @@
--- Linking with the host's module (4.5.4 of the standard, steps 2 to 4): which item of the host each import is, and the first
--- import that has none.
+-- Linking with the host's module (4.5.4 of the standard, steps 2 to 4): which item of the host each import is, and the
+-- first import that has none.
 use Rattle.std.specs.Prelude.{◌≡◌, ℕ, List, take, Some, slice_get, codes}
 use Rattle.std.specs.List.{AllByRecursion}
 use Rattle.wh_model.specs.declared.ValType.TheVariants.{I32, I64}

@@ -24,9 +24,13 @@ custom = do
 -- customsec*, and what is behind them
 abbrev pub customs_then : {A : Type 0} → Grammar A → Grammar A
 customs_then next = record {
-  spells = λ x b. (names : List (List ℕ)) × (t u : List ℕ) × (b ≡ t ++ u) × Each custom.spells names t × next.spells x u;
-  within = λ x b. (names : List (List ℕ)) × (t u : List ℕ) × (b ≡ t ++ u) × Each custom.within names t × next.within x u;
-  breaks = λ b kind k. (names : List (List ℕ)) × (t u : List ℕ) × (j : ℕ) × (b ≡ t ++ u) × (k ≡ length t + j) × Each custom.within names t
+  spells =
+      λ x b. (names : List (List ℕ)) × (t u : List ℕ) × (b ≡ t ++ u) × Each custom.spells names t × next.spells x u;
+  within =
+      λ x b. (names : List (List ℕ)) × (t u : List ℕ) × (b ≡ t ++ u) × Each custom.within names t × next.within x u;
+  breaks =
+      λ b kind k. (names : List (List ℕ)) × (t u : List ℕ) × (j : ℕ) × (b ≡ t ++ u) × (k ≡ length t + j)
+      × Each custom.within names t
       × ((BeginsWith 0 u × custom.breaks u kind j) ⊎ ((BeginsWith 0 u → ⊥) × next.breaks u kind j));
 }
 
@@ -42,7 +46,9 @@ abbrev pub section_or : {A B : Type 0} → ℕ → Grammar A → (A → Grammar 
 section_or id contents next missing = record {
   spells = λ y b. (section id contents >>= next).spells y b ⊎ missing.spells y b;
   within = λ y b. (section id contents >>= next).within y b ⊎ missing.within y b;
-  breaks = λ b kind k. (BeginsWith id b × (section id contents >>= next).breaks b kind k) ⊎ ((BeginsWith id b → ⊥) × missing.breaks b kind k);
+  breaks =
+      λ b kind k. (BeginsWith id b × (section id contents >>= next).breaks b kind k)
+      ⊎ ((BeginsWith id b → ⊥) × missing.breaks b kind k);
 }
 
 -- A section among custom ones. What it gives is put into the module read so far, m; without it m goes on as it is.

@@ -1,9 +1,8 @@
--- The integer operators, as the W3C WebAssembly Core Specification 1.0 states them in section 4.3, "Numerics": its parts
--- 4.3.2, "Integer Operations", and 4.3.4, "Conversions". An operator has the name that it has there.
---
--- N is the number of bits. An integer is a number i with 0 ≤ i < 2 ^ N, and so is every result. Bits are counted from
--- the low end: bit k of i is `i / 2 ^ k % 2`. Where the standard writes i as high bits d₁ and then k low bits d₂, d₁ is
--- `i / 2 ^ k` and d₂ is `i % 2 ^ k`; back, k bits e and then N - k bits d are `e * 2 ^ (N - k) + d`.
+-- The integer operators, as the W3C WebAssembly Core Specification 1.0 states them in section 4.3, "Numerics": its
+-- parts 4.3.2, "Integer Operations", and 4.3.4, "Conversions". An operator has the name that it has there.  N is the
+-- number of bits. An integer is a number i with 0 ≤ i < 2 ^ N, and so is every result. Bits are counted from the low
+-- end: bit k of i is `i / 2 ^ k % 2`. Where the standard writes i as high bits d₁ and then k low bits d₂, d₁ is `i / 2
+-- ^ k` and d₂ is `i % 2 ^ k`; back, k bits e and then N - k bits d are `e * 2 ^ (N - k) + d`.
 use Rattle.std.specs.Prelude.{ℕ, zero, suc, ◌+◌, ◌-◌, ◌*◌, ◌/◌, ◌%◌, ◌^◌, Bool, not, if◌then◌else◌, ◌==◌, nat_lt, nat_le, ℤ, pos, negsuc, ◌-ℤ◌, ◌*ℤ◌, int_lt, int_le, int_div, bit_and, bit_or, bit_xor, Result}
 use Rattle.std.specs.declared.result.Result.TheVariants.{Ok, Err}
 use Rattle.wh_model.specs.declared.Trap.{Trap}
@@ -114,7 +113,9 @@ ictz N i = count_below N (λ k. i % 2 ^ (k + 1) == 0)
 unfoldable pub ipopcnt : ℕ → ℕ → ℕ
 ipopcnt N i = count_below N (λ k. i / 2 ^ k % 2 == 1)
 
--- ---- conversions; the sign extensions of later standards, as extend8_s, would be `extend_s` of `wrap`, and unary operators
+-- ---- conversions
+
+-- The sign extensions of later standards, as extend8_s, would be `extend_s` of `wrap`, and unary operators.
 
 -- modulo 2 ^ N
 unfoldable pub wrap : ℕ → ℕ → ℕ

@@ -50,12 +50,22 @@ limits_flag n = if n == 0 then Ok false else if n == 1 then Ok true else Err Unk
 
 -- the kind of an export (5.5.10)
 abbrev pub export_kind : ℕ → Result ExternKind FaultKind
-export_kind n = if n == 0 then Ok Func else if n == 1 then Ok Table else if n == 2 then Ok Memory else if n == 3 then Ok Global else Err UnknownByte
+export_kind n =
+    if n == 0 then Ok Func
+    else if n == 1 then Ok Table
+    else if n == 2 then Ok Memory
+    else if n == 3 then Ok Global
+    else Err UnknownByte
 
 -- the kind of an import (5.5.5), true for a function and false for a global: tables and memories aren't imported in
 -- this profile
 abbrev pub import_kind : ℕ → Result Bool FaultKind
-import_kind n = if n == 0 then Ok true else if n == 1 then Err Unsupported else if n == 2 then Err Unsupported else if n == 3 then Ok false else Err UnknownByte
+import_kind n =
+    if n == 0 then Ok true
+    else if n == 1 then Err Unsupported
+    else if n == 2 then Err Unsupported
+    else if n == 3 then Ok false
+    else Err UnknownByte
 
 -- ---- instructions
 
@@ -71,7 +81,8 @@ control_opcode n = if n == 0x00 then Some Unreachable else if n == 0x01 then Som
 
 -- variable instructions (5.4.3), memory instructions without an address (5.4.4) and constants (5.4.5)
 abbrev pub variable_opcode : ℕ → Option Opcode
-variable_opcode n = if n == 0x20 then Some LocalGet else if n == 0x21 then Some LocalSet else if n == 0x22 then Some LocalTee
+variable_opcode n =
+    if n == 0x20 then Some LocalGet else if n == 0x21 then Some LocalSet else if n == 0x22 then Some LocalTee
     else if n == 0x23 then Some GlobalGet else if n == 0x24 then Some GlobalSet
     else if n == 0x3f then Some MemorySize else if n == 0x40 then Some MemoryGrow
     else if n == 0x41 then Some I32Const else if n == 0x42 then Some I64Const
@@ -87,7 +98,9 @@ abbrev pub full_loads : List LoadOp
 full_loads = I32Load ∷ I64Load ∷ []
 
 abbrev pub narrow_loads : List LoadOp
-narrow_loads = I32Load8S ∷ I32Load8U ∷ I32Load16S ∷ I32Load16U ∷ I64Load8S ∷ I64Load8U ∷ I64Load16S ∷ I64Load16U ∷ I64Load32S ∷ I64Load32U ∷ []
+narrow_loads =
+    I32Load8S ∷ I32Load8U ∷ I32Load16S ∷ I32Load16U ∷ I64Load8S ∷ I64Load8U ∷ I64Load16S ∷ I64Load16U ∷ I64Load32S
+    ∷ I64Load32U ∷ []
 
 abbrev pub full_stores : List StoreOp
 full_stores = I32Store ∷ I64Store ∷ []
@@ -119,7 +132,9 @@ memory_opcode n = class_or (operator_from 0x28 full_loads n) Load
 -- tests, eqz, and conversions (5.4.5)
 abbrev pub single_opcode : ℕ → Option Opcode
 single_opcode n = if n == 0x45 then Some (Test I32 Eqz) else if n == 0x50 then Some (Test I64 Eqz)
-    else if n == 0xa7 then Some (Convert WrapI64) else if n == 0xac then Some (Convert ExtendI32S) else if n == 0xad then Some (Convert ExtendI32U)
+    else if n == 0xa7 then Some (Convert WrapI64)
+    else if n == 0xac then Some (Convert ExtendI32S)
+    else if n == 0xad then Some (Convert ExtendI32U)
     else None
 
 -- the other numeric instructions (5.4.5)
@@ -145,5 +160,10 @@ or_else None next = next
 
 -- what a byte stands for where an instruction begins
 unfoldable pub opcode : ℕ → Result Opcode FaultKind
-opcode n = or_else (control_opcode n) (or_else (variable_opcode n) (or_else (memory_opcode n) (or_else (single_opcode n) (or_else (numeric_opcode n)
+opcode n =
+    or_else (control_opcode n)
+    (or_else (variable_opcode n)
+    (or_else (memory_opcode n)
+    (or_else (single_opcode n)
+    (or_else (numeric_opcode n)
     (if is_float_opcode n then Err Float else Err UnknownByte)))))

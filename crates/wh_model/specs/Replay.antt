@@ -19,9 +19,9 @@ pub data Outcome : Type 0 where
   dead : Outcome
   pending : Outcome
 
--- A call: its function, if any, its arguments in order, the fuel that it was given, how many fragments it has written, how
--- many charges it took, and its outcome. The first call of an instance is its start: it alone writes fragments, and it need
--- not have a function.
+-- A call: its function, if any, its arguments in order, the fuel that it was given, how many fragments it has written,
+-- how many charges it took, and its outcome. The first call of an instance is its start: it alone writes fragments, and
+-- it need not have a function.
 pub record Call : Type 0 where
   pub func : Option ℕ
   pub args : List Value
@@ -37,8 +37,8 @@ abbrev pub with_pieces : Store → List Piece → Store
 with_pieces s [] = s
 with_pieces s (p ∷ ps) = with_pieces (record s { bytes = written s.bytes p.at p.items }) ps
 
--- The call is at its invocation over this store (4.5.5): of one of the module's own functions, with a value for each of its
--- parameters.
+-- The call is at its invocation over this store (4.5.5): of one of the module's own functions, with a value for each of
+-- its parameters.
 pub record Invocation (inst : Instance) (s : Store) (call : Call) (c : Config) : Type 0 where
   pub index : ℕ
   pub type : FuncType
@@ -61,8 +61,8 @@ store_at (idle s) = s
 store_at (writing s rest) = s
 store_at (running c) = store_of c
 
--- An open call, which has these pieces to write first: it has some of them left; or it is at its invocation; or it is where
--- its charges lead it, within its fuel, and a charged reduction is next.
+-- An open call, which has these pieces to write first: it has some of them left; or it is at its invocation; or it is
+-- where its charges lead it, within its fuel, and a charged reduction is next.
 pub data Stands (inst : Instance) (s : Store) (ps : List Piece) (call : Call) : Standing → Type 0 where
   has_pieces : call.fragments < length ps → call.charges ≡ 0
       → Stands inst s ps call (writing (with_pieces s (take call.fragments ps)) (drop call.fragments ps))
@@ -106,7 +106,8 @@ pub data Replays (inst : Instance) : Store → List Piece → List Call → Stan
   ended : {s s2 : Store} {ps : List Piece} {call : Call} {calls : List Call} {z : Standing}
       → Ends inst s ps call s2 → Replays inst s2 [] calls z → Replays inst s ps (call ∷ calls) z
   at_work : {s : Store} {ps : List Piece} {call : Call} {calls : List Call} {z : Standing}
-      → call.outcome ≡ pending → Stands inst s ps call z → AllByRecursion Waits calls → Replays inst s ps (call ∷ calls) z
+      → call.outcome ≡ pending → Stands inst s ps call z → AllByRecursion Waits calls
+      → Replays inst s ps (call ∷ calls) z
 
 -- whether a start so ended leaves its instance dead
 abbrev pub fails : Outcome → Bool
@@ -138,4 +139,5 @@ pub record IsJournal (m : Module) (start : Call) (calls : List Call) : Type 0 wh
 abbrev pub Replay : Module → Parameters → List Call → Standing → Type 0
 Replay m p [] z = ⊥
 Replay m p (start ∷ calls) z = AreGiven p × IsJournal m start calls
-    × ((inst : Instance) × (s : Store) × (ps : List Piece) × IsInitial m p (begins inst s ps) × Replays inst s ps (start ∷ calls) z)
+    × ((inst : Instance) × (s : Store) × (ps : List Piece) × IsInitial m p (begins inst s ps)
+    × Replays inst s ps (start ∷ calls) z)

@@ -1,5 +1,5 @@
--- Runtime structure, section 4.2 of the standard: values, function instances, the module instance and the store; and how
--- numbers lie in memory (4.3.1).
+-- Runtime structure, section 4.2 of the standard: values, function instances, the module instance and the store; and
+-- how numbers lie in memory (4.3.1).
 use Rattle.std.specs.Prelude.{ℕ, zero, suc, ◌+◌, ◌*◌, ◌/◌, ◌%◌, ◌^◌, ◌<◌, List, [], ◌∷◌, ◌++◌, Option, length, slice_range, take, drop}
 use Rattle.wh_model.specs.declared.ValType.{ValType}
 use Rattle.wh_model.specs.declared.ValType.TheVariants.{I32, I64}

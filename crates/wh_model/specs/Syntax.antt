@@ -70,7 +70,8 @@ flatten (plain op rest) = single op ∷ flatten rest
 flatten (block t body rest) = block_start t ∷ flatten body ++ end_mark ∷ flatten rest
 flatten (loop t body rest) = loop_start t ∷ flatten body ++ end_mark ∷ flatten rest
 flatten (if_then t first rest) = if_start t ∷ flatten first ++ end_mark ∷ flatten rest
-flatten (if_else t first second rest) = if_start t ∷ flatten first ++ else_mark ∷ flatten second ++ end_mark ∷ flatten rest
+flatten (if_else t first second rest) =
+    if_start t ∷ flatten first ++ else_mark ∷ flatten second ++ end_mark ∷ flatten rest
 
 -- one sequence, and behind it another
 abbrev pub join : Code → Code → Code

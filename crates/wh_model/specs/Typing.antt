@@ -86,23 +86,32 @@ conversion_type ExtendI32U = (I32, I64)
 abbrev pub OpType : Context → Op → List ValType → List ValType → Type 0
 OpType c unreachable ins outs = Unit {0}
 OpType c nop ins outs = (ins ≡ []) × (outs ≡ [])
-OpType c (br l) ins outs = (t : Option ValType) × (any : List ValType) × (slice_get c.labels l ≡ Some t) × (ins ≡ operand t ++ any)
-OpType c (br_if l) ins outs = (t : Option ValType) × (slice_get c.labels l ≡ Some t) × (ins ≡ I32 ∷ operand t) × (outs ≡ operand t)
-OpType c (br_table ls l) ins outs = (t : Option ValType) × (any : List ValType) × AllByRecursion (λ k. slice_get c.labels k ≡ Some t) ls
+OpType c (br l) ins outs =
+    (t : Option ValType) × (any : List ValType) × (slice_get c.labels l ≡ Some t) × (ins ≡ operand t ++ any)
+OpType c (br_if l) ins outs =
+    (t : Option ValType) × (slice_get c.labels l ≡ Some t) × (ins ≡ I32 ∷ operand t) × (outs ≡ operand t)
+OpType c (br_table ls l) ins outs =
+    (t : Option ValType) × (any : List ValType) × AllByRecursion (λ k. slice_get c.labels k ≡ Some t) ls
     × (slice_get c.labels l ≡ Some t) × (ins ≡ I32 ∷ operand t ++ any)
 OpType c return ins outs = (any : List ValType) × (ins ≡ operand c.result ++ any)
-OpType c (call x) ins outs = (f : FuncType) × (slice_get c.funcs x ≡ Some f) × (ins ≡ reverse f.params) × (outs ≡ reverse f.results)
-OpType c (call_indirect y) ins outs = (l : Limits) × (f : FuncType) × (slice_get c.tables 0 ≡ Some l) × (slice_get c.types y ≡ Some f)
+OpType c (call x) ins outs =
+    (f : FuncType) × (slice_get c.funcs x ≡ Some f) × (ins ≡ reverse f.params) × (outs ≡ reverse f.results)
+OpType c (call_indirect y) ins outs =
+    (l : Limits) × (f : FuncType) × (slice_get c.tables 0 ≡ Some l) × (slice_get c.types y ≡ Some f)
     × (ins ≡ I32 ∷ reverse f.params) × (outs ≡ reverse f.results)
 OpType c drop_operand ins outs = (t : ValType) × (ins ≡ t ∷ []) × (outs ≡ [])
 OpType c select ins outs = (t : ValType) × (ins ≡ I32 ∷ t ∷ t ∷ []) × (outs ≡ t ∷ [])
 OpType c (local_get x) ins outs = (t : ValType) × (slice_get c.locals x ≡ Some t) × (ins ≡ []) × (outs ≡ t ∷ [])
 OpType c (local_set x) ins outs = (t : ValType) × (slice_get c.locals x ≡ Some t) × (ins ≡ t ∷ []) × (outs ≡ [])
 OpType c (local_tee x) ins outs = (t : ValType) × (slice_get c.locals x ≡ Some t) × (ins ≡ t ∷ []) × (outs ≡ t ∷ [])
-OpType c (global_get x) ins outs = (g : GlobalType) × (slice_get c.globals x ≡ Some g) × (ins ≡ []) × (outs ≡ g.value ∷ [])
-OpType c (global_set x) ins outs = (g : GlobalType) × (slice_get c.globals x ≡ Some g) × (g.mutability ≡ Var) × (ins ≡ g.value ∷ []) × (outs ≡ [])
-OpType c (load op align offset) ins outs = Aligned c align (load_type op).1 × (ins ≡ I32 ∷ []) × (outs ≡ (load_type op).0 ∷ [])
-OpType c (store op align offset) ins outs = Aligned c align (store_type op).1 × (ins ≡ (store_type op).0 ∷ I32 ∷ []) × (outs ≡ [])
+OpType c (global_get x) ins outs =
+    (g : GlobalType) × (slice_get c.globals x ≡ Some g) × (ins ≡ []) × (outs ≡ g.value ∷ [])
+OpType c (global_set x) ins outs =
+    (g : GlobalType) × (slice_get c.globals x ≡ Some g) × (g.mutability ≡ Var) × (ins ≡ g.value ∷ []) × (outs ≡ [])
+OpType c (load op align offset) ins outs =
+    Aligned c align (load_type op).1 × (ins ≡ I32 ∷ []) × (outs ≡ (load_type op).0 ∷ [])
+OpType c (store op align offset) ins outs =
+    Aligned c align (store_type op).1 × (ins ≡ (store_type op).0 ∷ I32 ∷ []) × (outs ≡ [])
 OpType c memory_size ins outs = HasMemory c × (ins ≡ []) × (outs ≡ I32 ∷ [])
 OpType c memory_grow ins outs = HasMemory c × (ins ≡ I32 ∷ []) × (outs ≡ I32 ∷ [])
 OpType c (i32_const n) ins outs = (ins ≡ []) × (outs ≡ I32 ∷ [])
@@ -115,18 +124,22 @@ OpType c (conversion op) ins outs = (ins ≡ (conversion_type op).0 ∷ []) × (
 
 -- ---- sequences (3.3.6), and the constructs in them (3.3.5)
 
--- The sequence has the type ins -> outs: each instruction stands over further operands, which it leaves alone. A block's
--- label takes its result, a loop's takes nothing. An if without an else is one whose other part is empty, so it has no
--- result.
+-- The sequence has the type ins -> outs: each instruction stands over further operands, which it leaves alone. A
+-- block's label takes its result, a loop's takes nothing. An if without an else is one whose other part is empty, so it
+-- has no result.
 pub data HasType : Context → Code → List ValType → List ValType → Type 0 where
   no_more : {c : Context} {ts : List ValType} → HasType c nothing ts ts
   then_op : {c : Context} {op : Op} {rest : Code} {outs : List ValType} (a b below : List ValType)
       → OpType c op a b → HasType c rest (b ++ below) outs → HasType c (plain op rest) (a ++ below) outs
   then_block : {c : Context} {t : Option ValType} {body rest : Code} {below outs : List ValType}
-      → HasType (under t c) body [] (operand t) → HasType c rest (operand t ++ below) outs → HasType c (block t body rest) below outs
+      → HasType (under t c) body [] (operand t) → HasType c rest (operand t ++ below) outs
+      → HasType c (block t body rest) below outs
   then_loop : {c : Context} {t : Option ValType} {body rest : Code} {below outs : List ValType}
-      → HasType (under None c) body [] (operand t) → HasType c rest (operand t ++ below) outs → HasType c (loop t body rest) below outs
+      → HasType (under None c) body [] (operand t) → HasType c rest (operand t ++ below) outs
+      → HasType c (loop t body rest) below outs
   then_if : {c : Context} {t : Option ValType} {first rest : Code} {below outs : List ValType}
-      → HasType (under t c) first [] (operand t) → HasType (under t c) nothing [] (operand t) → HasType c rest (operand t ++ below) outs → HasType c (if_then t first rest) (I32 ∷ below) outs
+      → HasType (under t c) first [] (operand t) → HasType (under t c) nothing [] (operand t)
+      → HasType c rest (operand t ++ below) outs → HasType c (if_then t first rest) (I32 ∷ below) outs
   then_if_else : {c : Context} {t : Option ValType} {first second rest : Code} {below outs : List ValType}
-      → HasType (under t c) first [] (operand t) → HasType (under t c) second [] (operand t) → HasType c rest (operand t ++ below) outs → HasType c (if_else t first second rest) (I32 ∷ below) outs
+      → HasType (under t c) first [] (operand t) → HasType (under t c) second [] (operand t)
+      → HasType c rest (operand t ++ below) outs → HasType c (if_else t first second rest) (I32 ∷ below) outs

@@ -42,7 +42,8 @@ imported_globals (i ∷ is) = global_first i.desc (imported_globals is)
 -- each index names that type
 abbrev pub Name : List FuncType → List ℕ → List FuncType → Type 0
 Name types [] fs = fs ≡ []
-Name types (x ∷ xs) fs = (f : FuncType) × (rest : List FuncType) × (fs ≡ f ∷ rest) × (slice_get types x ≡ Some f) × Name types xs rest
+Name types (x ∷ xs) fs =
+    (f : FuncType) × (rest : List FuncType) × (fs ≡ f ∷ rest) × (slice_get types x ≡ Some f) × Name types xs rest
 
 -- the context of the module: imported functions and globals come before its own
 pub record IsContext (m : Module) (c : Context) : Type 0 where
@@ -59,7 +60,8 @@ pub record IsContext (m : Module) (c : Context) : Type 0 where
 abbrev pub ConstantOf : List GlobalType → Code → ValType → Type 0
 ConstantOf globals e t = ((n : ℤ) × (e ≡ plain (i32_const n) nothing) × (t ≡ I32))
     ⊎ ((n : ℤ) × (e ≡ plain (i64_const n) nothing) × (t ≡ I64))
-    ⊎ ((x : ℕ) × (e ≡ plain (global_get x) nothing) × (slice_get globals x ≡ Some (record { value = t; mutability = Const })))
+    ⊎ ((x : ℕ) × (e ≡ plain (global_get x) nothing)
+    × (slice_get globals x ≡ Some (record { value = t; mutability = Const })))
 
 -- ---- the parts of a module (3.4.1 to 3.4.9)
 
@@ -71,7 +73,9 @@ ValidBody c f b = (t : Option ValType) × (f.results ≡ operand t)
 -- each body with its function's type
 abbrev pub ValidBodies : Context → List ℕ → List Body → Type 0
 ValidBodies c [] bs = bs ≡ []
-ValidBodies c (x ∷ xs) bs = (b : Body) × (rest : List Body) × (bs ≡ b ∷ rest) × (f : FuncType) × (slice_get c.types x ≡ Some f) × ValidBody c f b × ValidBodies c xs rest
+ValidBodies c (x ∷ xs) bs =
+    (b : Body) × (rest : List Body) × (bs ≡ b ∷ rest) × (f : FuncType) × (slice_get c.types x ≡ Some f)
+    × ValidBody c f b × ValidBodies c xs rest
 
 -- a global's own expression sees the imported globals alone
 abbrev pub ValidGlobal : List Import → Global → Type 0
@@ -82,7 +86,9 @@ abbrev pub HasFunc : Context → ℕ → Type 0
 HasFunc c x = (f : FuncType) × (slice_get c.funcs x ≡ Some f)
 
 abbrev pub ValidElement : Context → Element → Type 0
-ValidElement c e = ((l : Limits) × (slice_get c.tables e.table ≡ Some l)) × ConstantOf c.globals e.offset I32 × AllByRecursion (HasFunc c) e.init
+ValidElement c e =
+    ((l : Limits) × (slice_get c.tables e.table ≡ Some l)) × ConstantOf c.globals e.offset I32
+    × AllByRecursion (HasFunc c) e.init
 
 abbrev pub ValidData : Context → Data → Type 0
 ValidData c d = ((l : Limits) × (slice_get c.memories d.memory ≡ Some l)) × ConstantOf c.globals d.offset I32

@@ -9,7 +9,10 @@ use Rattle.wh_model.specs.Reduction.{After, Reduces}
 
 -- a call of a function without further locals, from outside, with these arguments in order
 abbrev pub invoked : Store → List ValType → List ValType → Code → List Value → Config
-invoked s params results body args = config s [] (called (record { params = params; results = results }) (record { locals = []; code = body }) (reverse args) [] nothing)
+invoked s params results body args =
+    config s []
+    (called (record { params = params; results = results }) (record { locals = []; code = body }) (reverse args) []
+        nothing)
 
 -- it is done with these values after so many charges
 abbrev pub Done : Instance → Config → Store → List Value → ℕ → Type 0

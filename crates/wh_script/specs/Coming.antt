@@ -27,7 +27,8 @@ pub record Within (l : Lines) : Type 0 where
 -- What is held of a line so far: its beginning, and the whole of it where it is no comment and not too long.
 pub record Holds (held : List ℕ) (is_long : Bool) (line : List ℕ) : Type 0 where
   pub first : slice_get held 0 ≡ slice_get line 0
-  pub whole : slice_get line 0 ≢ Some 35 → MatchBool is_long (longest_line < length line) ((held ≡ line) × (length line ≤ longest_line))
+  pub whole : slice_get line 0 ≢ Some 35
+      → MatchBool is_long (longest_line < length line) ((held ≡ line) × (length line ≤ longest_line))
 
 -- old has a piece of the line and then, if it was the line's last, its newline; the rest is to come
 pub record Takes (old new : Lines) (is_last : Bool) (piece : List ℕ) : Type 0 where
@@ -49,7 +50,8 @@ IsKind TooLong held line = (is_skipped line ≡ false) × (longest_line < length
 IsKind Skipped held line = is_skipped line ≡ true
 IsKind End held line = ⊥
 
--- What is said of the bytes to come: at End there are none; else it is said of the first line, and the others are to come.
+-- What is said of the bytes to come: at End there are none; else it is said of the first line, and the others are to
+-- come.
 abbrev pub ReadsLine : Option (List ℕ) → Option (List ℕ) → Line → List ℕ → Type 0
 ReadsLine old new End held = IsAtEnd old
 ReadsLine old new Kept held = (line : List ℕ) × TakesLines old new (line ∷ []) × IsKind Kept held line

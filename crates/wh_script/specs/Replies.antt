@@ -26,8 +26,11 @@ Sent old new (Err Memory) text = Keeps old new
 
 -- The request got its reply, as far as that was written; what is kept went from that of old to that of new.
 abbrev pub Obeys : Engine → Engine → ℕ → Request → Option (List ℕ) → Option (List ℕ) → Result Unit ScriptFault → Type 0
-Obeys old new number request before after result = (text : List ℕ) × ReplyOrWant (modules_of old) number request text (modules_of new) × Sent before after result text
+Obeys old new number request before after result =
+    (text : List ℕ) × ReplyOrWant (modules_of old) number request text (modules_of new) × Sent before after result text
 
 -- the same of a line
 abbrev pub Answers : Engine → Engine → ℕ → List ℕ → Option (List ℕ) → Option (List ℕ) → Result Unit ScriptFault → Type 0
-Answers old new number line before after result = (text : List ℕ) × LineReply ReplyOrWant (modules_of old) number line text (modules_of new) × Sent before after result text
+Answers old new number line before after result =
+    (text : List ℕ) × LineReply ReplyOrWant (modules_of old) number line text (modules_of new)
+    × Sent before after result text

@@ -15,7 +15,8 @@ instr_of labels Else = else_mark
 instr_of labels End = end_mark
 instr_of labels (Br l) = single (br l)
 instr_of labels (BrIf l) = single (br_if l)
-instr_of labels (BrTable first count) = single (br_table (take count (drop first labels)) (slice_index labels (first + count)))
+instr_of labels (BrTable first count) =
+    single (br_table (take count (drop first labels)) (slice_index labels (first + count)))
 instr_of labels Return = single return
 instr_of labels (Call f) = single (call f)
 instr_of labels (CallIndirect t) = single (call_indirect t)

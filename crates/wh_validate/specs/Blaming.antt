@@ -1,6 +1,6 @@
--- What a fault names. In a function: one of the module's own, whose body isn't valid or doesn't fit (3.4.1), and an instruction
--- of it. Imported functions count first, and a number past those of 32 bits is named as the greatest. In no function: what is
--- wrong isn't in the bodies.
+-- What a fault names. In a function: one of the module's own, whose body isn't valid or doesn't fit (3.4.1), and an
+-- instruction of it. Imported functions count first, and a number past those of 32 bits is named as the greatest. In no
+-- function: what is wrong isn't in the bodies.
 use Rattle.std.specs.Prelude.{◌≡◌, ℕ, ◌+◌, ◌-◌, ◌^◌, min, List, length, Option, Some, None, slice_get}
 use Rattle.wh_model.specs.Syntax.{FuncType, Body, Module}
 use Rattle.wh_model.specs.Typing.{Context}
@@ -36,7 +36,9 @@ with_bodies m bodies = record m { bodies = bodies }
 
 -- with some bodies in place of its own, as many, the module is valid and fits
 abbrev pub HasRightBodies : Module → Type 0
-HasRightBodies m = (bodies : List Body) × (length bodies ≡ length m.bodies) × Valid (with_bodies m bodies) × Fits (with_bodies m bodies)
+HasRightBodies m =
+    (bodies : List Body) × (length bodies ≡ length m.bodies) × Valid (with_bodies m bodies)
+    × Fits (with_bodies m bodies)
 
 -- ---- in a module
 

@@ -25,8 +25,10 @@ pub record HasValidOutline (m : Module) : Type 0 where
 pub record IsGathered (m : Module) (g : Gathered) : Type 0 where
   pub funcs : g.indices.funcs.items ≡ imported_funcs (map view_import m.imports.items) ++ m.funcs.items
   pub count : g.imported_funcs ≡ length (imported_funcs (map view_import m.imports.items))
-  pub globals : (imported : List _) × (map view_global_type imported ≡ imported_globals (map view_import m.imports.items))
-      × (length imported ≡ g.imported_globals) × (g.indices.globals.items ≡ imported ++ map (λ x. x.global_type) m.globals.items)
+  pub globals : (imported : List _)
+      × (map view_global_type imported ≡ imported_globals (map view_import m.imports.items))
+      × (length imported ≡ g.imported_globals)
+      × (g.indices.globals.items ≡ imported ++ map (λ x. x.global_type) m.globals.items)
 
 -- constants, exports, the start function and segments, in a context; a global's own expression sees these globals
 pub record IsAround (m : Module) (c : Context) (seen : List GlobalType) : Type 0 where

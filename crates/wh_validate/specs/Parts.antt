@@ -1,5 +1,5 @@
--- The parts of a module as they stand in the code, each valid (3.4.4 to 3.4.8). They are names that loops over parts leave
--- closed.
+-- The parts of a module as they stand in the code, each valid (3.4.4 to 3.4.8). They are names that loops over parts
+-- leave closed.
 use Rattle.std.specs.Prelude.{List}
 use Rattle.wh_model.specs.Syntax as model
 use Rattle.wh_model.specs.Typing.{Context}

@@ -10,7 +10,8 @@ use Rattle.wh_bodies.specs.Table.{Table, table_of}
 abbrev pub Checked : Context → List ℕ → List Body → List Table → Type 0
 Checked c [] bs ts = (bs ≡ []) × (ts ≡ [])
 Checked c (x ∷ xs) bs ts = (b : Body) × (rest : List Body) × (f : FuncType) × (more : List Table)
-    × (bs ≡ b ∷ rest) × (ts ≡ table_of c f b ∷ more) × (slice_get c.types x ≡ Some f) × ValidBody c f b × FitsBody c f b × Checked c xs rest more
+    × (bs ≡ b ∷ rest) × (ts ≡ table_of c f b ∷ more) × (slice_get c.types x ≡ Some f) × ValidBody c f b × FitsBody c f b
+    × Checked c xs rest more
 
 -- the module is valid and fits in a context, and these are its bodies' tables there
 pub record IsSound (m : Module) (tables : List Table) : Type 0 where
