@@ -57,7 +57,8 @@ HasCall inst func args = (type : FuncType) × (body : Body) × (vs : List Value)
 
 -- the pieces are these segments, at these places
 abbrev pub ArePieces : List Piece → List ℕ → List Data → Type 0
-ArePieces ps places segments = (map (λ p. p.at) ps ≡ places) × (map (λ p. p.items) ps ≡ map (λ d. d.init.items) segments)
+ArePieces ps places segments =
+    (map (λ p. p.at) ps ≡ places) × (map (λ p. p.items) ps ≡ map (λ d. d.init.items) segments)
 
 -- bytes with pieces written over them, in order
 abbrev pub written_over : List ℕ → List Piece → List ℕ

@@ -18,8 +18,8 @@ abbrev pub IsFresh : Option ℕ → List Call → Option Call → Type 0
 IsFresh None ended current = (n : ℕ) × (ended ≡ written_start n ∷ []) × (current ≡ None)
 IsFresh (Some x) ended current = (n : ℕ) × (ended ≡ []) × (current ≡ Some (open_start x n))
 
--- The bytes are accepted, their module has an instance with these parameters, and this is it, its data segments written and
--- nothing called.
+-- The bytes are accepted, their module has an instance with these parameters, and this is it, its data segments written
+-- and nothing called.
 pub record BeginsAlone (bytes : List ℕ) (p : Parameters) (i : Plain) : Type 0 where
   pub m : Module
   pub accepted : IsAccepted bytes m

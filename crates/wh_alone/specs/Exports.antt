@@ -10,7 +10,8 @@ IsFuncOf name e = (e.kind ≡ Func) × (string_bytes e.name ≡ name)
 
 -- one of the exports is a function by this name, with this index
 abbrev pub Exports : List Export → List ℕ → ℕ → Type 0
-Exports exports name index = (at : ℕ) × (e : Export) × (slice_get exports at ≡ Some e) × IsFuncOf name e × (index ≡ e.index)
+Exports exports name index =
+    (at : ℕ) × (e : Export) × (slice_get exports at ≡ Some e) × IsFuncOf name e × (index ≡ e.index)
 
 -- none is
 abbrev pub LacksFunc : List Export → List ℕ → Type 0

@@ -34,7 +34,9 @@ IsOutcome answer o = ⊥
 
 -- a call that has returned has results of its function's types
 abbrev pub HasResults : Instance → Call → Type 0
-HasResults inst call = (x : ℕ) (type : FuncType) (body : Body) (vs : List Value) → call.func ≡ Some x → slice_get inst.funcs x ≡ Some (own type body)
+HasResults inst call =
+    (x : ℕ) (type : FuncType) (body : Body) (vs : List Value) → call.func ≡ Some x
+    → slice_get inst.funcs x ≡ Some (own type body)
     → call.outcome ≡ returned vs → map type_of vs ≡ type.results
 
 -- the call, if it has ended
@@ -71,7 +73,8 @@ pub record IsInvoked (inst : Instance) (s : Store) (ps : List Piece) (call : Cal
   pub invocation : Invocation inst (with_pieces s ps) call at
 
 -- the call has taken all its fuel, a charged reduction is next, and the machine stands for where it is
-pub record IsUnderWay (k : Kept) (inst : Instance) (s : Store) (ps : List Piece) (call : Call) (z : Standing) : Type 0 where
+pub record IsUnderWay (k : Kept) (inst : Instance) (s : Store) (ps : List Piece) (call : Call) (z : Standing) : Type 0
+    where
   pub first : Config
   pub at : Config
   pub stands : z ≡ running at
@@ -95,13 +98,16 @@ abbrev pub HasFailed : List Call → Type 0
 HasFailed [] = ⊥
 HasFailed (start ∷ rest) = (fails start.outcome ≡ true) × (rest ≡ [])
 
--- The stage is that of an instance behind these calls that have ended, with this store and these pieces to write, an open call,
--- if there is one, and where that stands.
+-- The stage is that of an instance behind these calls that have ended, with this store and these pieces to write, an
+-- open call, if there is one, and where that stands.
 abbrev pub IsStage : Stage → Kept → Instance → Store → List Piece → List Call → Option Call → Standing → Type 0
-IsStage Fresh k inst s ps ended current z = (ended ≡ []) × (call : Call) × (current ≡ Some call) × IsInvoked inst s ps call z
-IsStage Starting k inst s ps ended current z = (ended ≡ []) × (call : Call) × (current ≡ Some call) × IsUnderWay k inst s ps call z
+IsStage Fresh k inst s ps ended current z =
+    (ended ≡ []) × (call : Call) × (current ≡ Some call) × IsInvoked inst s ps call z
+IsStage Starting k inst s ps ended current z =
+    (ended ≡ []) × (call : Call) × (current ≡ Some call) × IsUnderWay k inst s ps call z
 IsStage Idle k inst s ps ended current z = HasStarted ended × (ps ≡ []) × (current ≡ None) × (z ≡ idle s)
-IsStage Calling k inst s ps ended current z = HasStarted ended × (ps ≡ []) × (call : Call) × (current ≡ Some call) × IsUnderWay k inst s ps call z
+IsStage Calling k inst s ps ended current z =
+    HasStarted ended × (ps ≡ []) × (call : Call) × (current ≡ Some call) × IsUnderWay k inst s ps call z
 IsStage Dead k inst s ps ended current z = HasFailed ended × (current ≡ None) × (z ≡ idle s)
 
 -- the calls are a journal of the module
@@ -109,9 +115,10 @@ abbrev pub IsJournalOf : Module → List Call → Type 0
 IsJournalOf m [] = ⊥
 IsJournalOf m (start ∷ rest) = IsJournal m start rest
 
--- The instance is one of this module with these parameters, and it is where its journal leads: behind calls that have ended,
--- and an open one, if there is one.
-pub record IsAt (i : Plain) (m : Module) (p : Parameters) (ended : List Call) (current : Option Call) (z : Standing) : Type 0 where
+-- The instance is one of this module with these parameters, and it is where its journal leads: behind calls that have
+-- ended, and an open one, if there is one.
+pub record IsAt (i : Plain) (m : Module) (p : Parameters) (ended : List Call) (current : Option Call) (z : Standing)
+    : Type 0 where
   pub module_is : m ≡ view_module i.kept.linked.valid.decoded
   pub given : AreGiven p
   pub journal : IsJournalOf m (ended ++ listed current)
@@ -141,23 +148,28 @@ pub record IsSomewhere (i : Plain) : Type 0 where
 abbrev pub further : Call → ℕ → ℕ → model.Outcome → Call
 further call fuel charges o = record call { fuel = call.fuel + fuel; charges = call.charges + charges; outcome = o }
 
--- Whatever its journal is, the open call goes on with so much more fuel: it comes to that outcome after so many more charges.
+-- Whatever its journal is, the open call goes on with so much more fuel: it comes to that outcome after so many more
+-- charges.
 abbrev pub GoesOn : Plain → ℕ → Outcome → ℕ → Plain → Type 0
-GoesOn i fuel outcome n i2 = (m : Module) (p : Parameters) (ended : List Call) (call : Call) (z : Standing) → IsAt i m p ended (Some call) z
+GoesOn i fuel outcome n i2 =
+    (m : Module) (p : Parameters) (ended : List Call) (call : Call) (z : Standing) → IsAt i m p ended (Some call) z
     → (o : model.Outcome) × (z2 : Standing) × IsOutcome outcome o
     × IsAt i2 m p (ended ++ ended_as (further call fuel n o) o) (open_as (further call fuel n o) o) z2
 
 -- a call of this function with these values and this fuel came so far
 abbrev pub called_so : ℕ → List Value → ℕ → ℕ → model.Outcome → Call
-called_so func vs fuel charges o = record { func = Some func; args = vs; fuel = fuel; fragments = 0; charges = charges; outcome = o }
+called_so func vs fuel charges o =
+    record { func = Some func; args = vs; fuel = fuel; fragments = 0; charges = charges; outcome = o }
 
 -- Whatever its journal is, the call is its next one: it comes to that outcome after so many charges.
 abbrev pub Called : Plain → ℕ → List ℕ → ℕ → Outcome → ℕ → Plain → Type 0
-Called i func args fuel outcome n i2 = (m : Module) (p : Parameters) (ended : List Call) (z : Standing) → IsAt i m p ended None z
+Called i func args fuel outcome n i2 =
+    (m : Module) (p : Parameters) (ended : List Call) (z : Standing) → IsAt i m p ended None z
     → (vs : List Value) × (o : model.Outcome) × (z2 : Standing) × (map bits_of vs ≡ args) × IsOutcome outcome o
     × IsAt i2 m p (ended ++ ended_as (called_so func vs fuel n o) o) (open_as (called_so func vs fuel n o) o) z2
 
 -- Whatever its journal is, the open call has been cancelled where it stood.
 abbrev pub GivenUp : Plain → Plain → Type 0
-GivenUp i i2 = (m : Module) (p : Parameters) (ended : List Call) (call : Call) (z : Standing) → IsAt i m p ended (Some call) z
+GivenUp i i2 =
+    (m : Module) (p : Parameters) (ended : List Call) (call : Call) (z : Standing) → IsAt i m p ended (Some call) z
     → IsAt i2 m p (ended ++ record call { outcome = cancelled } ∷ []) None (idle (store_at z))

@@ -46,12 +46,13 @@ pub record CanCall (k : Kept) (func : ℕ) (args : List ℕ) : Type 0 where
   pub vs : List Value
   pub suits : Suits inst func args type body vs
 
--- What a configuration of a call with this result comes to within this fuel. It is done, after so many charges, with values of
--- the result's type, of which the topmost is the answer; or it traps; or all fuel is taken, a charged reduction is next, and the
--- machine stands for where it is.
+-- What a configuration of a call with this result comes to within this fuel. It is done, after so many charges, with
+-- values of the result's type, of which the topmost is the answer; or it traps; or all fuel is taken, a charged
+-- reduction is next, and the machine stands for where it is.
 abbrev pub EndsAs : Kept → Option ValType → Instance → Config → ℕ → Outcome → ℕ → Store → Type 0
 EndsAs k2 out inst c fuel (Returned result) n s =
-    (n ≤ fuel) × (us : List Value) × (map type_of us ≡ operand out) × (result ≡ slice_get (map bits_of us) 0) × After inst c n (config s [] (code us nothing))
+    (n ≤ fuel) × (us : List Value) × (map type_of us ≡ operand out) × (result ≡ slice_get (map bits_of us) 0)
+        × After inst c n (config s [] (code us nothing))
 EndsAs k2 out inst c fuel (Trapped x) n s = (n ≤ fuel) × After inst c n (trapped s x)
 EndsAs k2 out inst c fuel OutOfFuel n s =
     (n ≡ fuel) × (c2 : Config) × After inst c n c2 × IsNext inst c2 × (s ≡ store_of c2)
@@ -59,11 +60,16 @@ EndsAs k2 out inst c fuel OutOfFuel n s =
 
 -- whatever configuration the machine stands for comes to that, and what it leaves is of the same instance
 abbrev pub Goes : Kept → ℕ → Outcome → ℕ → Kept → Type 0
-Goes k fuel outcome n k2 = (out : Option ValType) (inst : Instance) (c : Config) → StandsAt k out inst c → IsSettled inst c
+Goes k fuel outcome n k2 =
+    (out : Option ValType) (inst : Instance) (c : Config) → StandsAt k out inst c → IsSettled inst c
     → (s : Store) × EndsAs k2 out inst c fuel outcome n s × HasStore k2 inst s
 
 -- whatever instance they are of, its invocation (4.5.5) comes to that, and what it leaves is of the same instance
 abbrev pub Comes : Kept → ℕ → List ℕ → ℕ → Outcome → ℕ → Kept → Type 0
-Comes k func args fuel outcome n k2 = (c : Context) (inst : Instance) (s : Store) (type : FuncType) (body : Body) (vs : List Value)
-    → StoreStands (linked_parts k.linked) k.store k.memory.bytes k.memory.limit c inst s → Suits inst func args type body vs
-    → (s2 : Store) × EndsAs k2 (result_of type) inst (config s [] (called type body (reverse vs) [] nothing)) fuel outcome n s2 × HasStore k2 inst s2
+Comes k func args fuel outcome n k2 =
+    (c : Context) (inst : Instance) (s : Store) (type : FuncType) (body : Body) (vs : List Value)
+    → StoreStands (linked_parts k.linked) k.store k.memory.bytes k.memory.limit c inst s
+    → Suits inst func args type body vs
+    → (s2 : Store)
+    × EndsAs k2 (result_of type) inst (config s [] (called type body (reverse vs) [] nothing)) fuel outcome n s2
+    × HasStore k2 inst s2

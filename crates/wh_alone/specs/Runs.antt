@@ -21,7 +21,8 @@ pub record CameTo (call : Call) (fuel : ℕ) (outcome : Outcome) (charges : ℕ)
   pub charges_are : call.charges ≡ charges
   pub within : charges ≤ fuel
 
--- it is the call of this function with these words as arguments, and has results of its function's types if it has returned
+-- it is the call of this function with these words as arguments, and has results of its function's types if it has
+-- returned
 pub record IsCallOf (inst : Instance) (call : Call) (func : ℕ) (args : List ℕ) (fuel : ℕ) : Type 0 where
   pub func_is : call.func ≡ Some func
   pub args_are : map bits_of call.args ≡ args
@@ -33,20 +34,24 @@ abbrev pub IsStopped : Outcome → Type 0
 IsStopped (Returned result) = ⊥
 IsStopped outcome = Unit {0}
 
--- What came of a call, as a journal of the instance: its start, which hasn't returned; or its start, which has, and there is no
--- such function with such arguments; or its start, which has, and the call. And the store that is left is where the journal leads.
+-- What came of a call, as a journal of the instance: its start, which hasn't returned; or its start, which has, and
+-- there is no such function with such arguments; or its start, which has, and the call. And the store that is left is
+-- where the journal leads.
 abbrev pub AloneFrom : Module → Parameters → Instance → ℕ → List ℕ → ℕ → Alone → Plain → Type 0
 AloneFrom m p inst func args fuel (Start outcome n) i =
-    (start : Call) × (z : Standing) × Replay m p (start ∷ []) z × HasStore i.kept inst (store_at z) × CameTo start fuel outcome n × IsStopped outcome
+    (start : Call) × (z : Standing) × Replay m p (start ∷ []) z × HasStore i.kept inst (store_at z)
+        × CameTo start fuel outcome n × IsStopped outcome
 AloneFrom m p inst func args fuel (NoCall n) i =
     (start : Call) × (z : Standing) × Replay m p (start ∷ []) z × HasStore i.kept inst (store_at z)
     × (result : Option ℕ) × CameTo start fuel (Returned result) n × ¬ (HasCall inst func args)
 AloneFrom m p inst func args fuel (Called started outcome n) i =
     (start call : Call) × (z : Standing) × Replay m p (start ∷ call ∷ []) z × HasStore i.kept inst (store_at z)
-    × (result : Option ℕ) × CameTo start fuel (Returned result) started × IsCallOf inst call func args fuel × CameTo call fuel outcome n
+    × (result : Option ℕ) × CameTo start fuel (Returned result) started × IsCallOf inst call func args fuel
+    × CameTo call fuel outcome n
 
 -- The bytes are a module that is accepted, it begins so with these parameters, and that comes of the call.
-pub record RunsAlone (bytes : List ℕ) (p : Parameters) (func : ℕ) (args : List ℕ) (fuel : ℕ) (alone : Alone) (i : Plain) : Type 0 where
+pub record RunsAlone (bytes : List ℕ) (p : Parameters) (func : ℕ) (args : List ℕ) (fuel : ℕ) (alone : Alone) (i : Plain)
+    : Type 0 where
   pub m : Module
   pub accepted : IsAccepted bytes m
   pub inst : Instance

@@ -42,7 +42,8 @@ after_call OutOfFuel = Calling
 
 -- none of the module's own functions has this index and such arguments
 abbrev pub IsNoCall : Kept → ℕ → List ℕ → Type 0
-IsNoCall k func args = (c : Context) (inst : Instance) → IsInstance (linked_parts k.linked) c inst → ¬ (HasCall inst func args)
+IsNoCall k func args =
+    (c : Context) (inst : Instance) → IsInstance (linked_parts k.linked) c inst → ¬ (HasCall inst func args)
 
 -- why a function isn't called
 abbrev pub RefusesCall : Plain → ℕ → List ℕ → Refused → Type 0

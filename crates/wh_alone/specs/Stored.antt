@@ -13,11 +13,18 @@ use Rattle.wh_alone.specs.Kept.{Kept}
 use Rattle.wh_alone.specs.Journal.{Plain}
 
 abbrev pub stored_flat : Coded Flat
-stored_flat = code_by (List ℕ × ℕ) (coded× (coded_list coded_ℕ) coded_ℕ) (λ m. (m.bytes, m.limit)) (λ p. record { bytes = p.0; limit = p.1 }) (λ _. refl)
+stored_flat =
+    code_by (List ℕ × ℕ) (coded× (coded_list coded_ℕ) coded_ℕ) (λ m. (m.bytes, m.limit))
+    (λ p. record { bytes = p.0; limit = p.1 }) (λ _. refl)
 
 abbrev pub stored_kept : Coded Kept
-stored_kept = code_by (Joined × (Store × (Flat × Machine))) (coded× stored_joined (coded× store_type.the_row.coded (coded× stored_flat machine_type.the_row.coded)))
-    (λ k. (k.linked, (k.store, (k.memory, k.machine)))) (λ p. record { linked = p.0; store = p.1.0; memory = p.1.1.0; machine = p.1.1.1 }) (λ _. refl)
+stored_kept =
+    code_by (Joined × (Store × (Flat × Machine)))
+    (coded× stored_joined (coded× store_type.the_row.coded (coded× stored_flat machine_type.the_row.coded)))
+    (λ k. (k.linked, (k.store, (k.memory, k.machine))))
+        (λ p. record { linked = p.0; store = p.1.0; memory = p.1.1.0; machine = p.1.1.1 }) (λ _. refl)
 
 abbrev pub stored_plain : Coded Plain
-stored_plain = code_by (Kept × Stage) (coded× stored_kept stage_type.the_row.coded) (λ i. (i.kept, i.stage)) (λ p. record { kept = p.0; stage = p.1 }) (λ _. refl)
+stored_plain =
+    code_by (Kept × Stage) (coded× stored_kept stage_type.the_row.coded) (λ i. (i.kept, i.stage))
+    (λ p. record { kept = p.0; stage = p.1 }) (λ _. refl)

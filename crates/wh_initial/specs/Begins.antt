@@ -25,7 +25,8 @@ first_store m p globals elements = record {
 
 -- In the context of the module what is handed out stands for a store, over a memory of zeros.
 abbrev pub StandsFor : Module → Instance → Store → Initial → Type 0
-StandsFor m inst s i = (c : Context) → IsContext m c → IsStore c inst i.store (replicate (i.pages * 65536) 0) i.page_limit s
+StandsFor m inst s i =
+    (c : Context) → IsContext m c → IsStore c inst i.store (replicate (i.pages * 65536) 0) i.page_limit s
 
 -- An instance begins so: the definition has it, and what is handed out is its store and where its data segments belong.
 pub record BeginsWith (m : Module) (p : Parameters) (i : Initial) : Type 0 where

@@ -40,7 +40,8 @@ first_pages m = first_size (map view_limits m.memories.items)
 
 -- all segments of a module end within its table and its memory
 unfoldable pub AllFit : Module → List ℕ → Type 0
-AllFit m words = ElementsFit words (first_entries m) m.elements.items × SegmentsFit words (first_pages m * 65536) m.segments.items
+AllFit m words =
+    ElementsFit words (first_entries m) m.elements.items × SegmentsFit words (first_pages m * 65536) m.segments.items
 
 -- what is handed out
 pub record BeginsInWords (m : Module) (imported : List HostGlobal) (p : Parameters) (i : Initial) : Type 0 where
@@ -49,7 +50,8 @@ pub record BeginsInWords (m : Module) (imported : List HostGlobal) (p : Paramete
   pub pages : i.pages ≡ first_pages m
   pub page_limit : i.page_limit ≡ last_size (map view_limits m.memories.items) p.page_limit
   pub globals : i.store.globals.items ≡ words_of m imported p
-  pub table : i.store.table.items ≡ filled (replicate (first_entries m) None) (map (element_piece (words_of m imported p)) m.elements.items)
+  pub table : i.store.table.items
+      ≡ filled (replicate (first_entries m) None) (map (element_piece (words_of m imported p)) m.elements.items)
   pub inputs : i.store.inputs.items ≡ p.inputs
   pub output : i.store.output.items ≡ []
   pub room : output_room ≤ vec_capacity i.store.output

@@ -25,7 +25,16 @@ pub fn load(alloc: Global, bytes: &[u8]) -> Result<Linked, LoadError>
     ensures ok { IfOk result (λ linked. IsAccepted bytes.now (view_linked linked)) }
     ensures err { IfErr result (RefusesBytes bytes.now) }
 {
-    let decoded = decode(alloc, bytes).map_err(LoadError::Decode)?;
-    let valid = validate(alloc, decoded).map_err(LoadError::Valid)?;
-    link(alloc, valid).map_err(LoadError::Link)
+    let decoded = match decode(alloc, bytes) {
+        Ok(decoded) => decoded,
+        Err(error) => return Err(LoadError::Decode(error)),
+    };
+    let valid = match validate(alloc, decoded) {
+        Ok(valid) => valid,
+        Err(error) => return Err(LoadError::Valid(error)),
+    };
+    match link(alloc, valid) {
+        Ok(linked) => Ok(linked),
+        Err(error) => Err(LoadError::Link(error)),
+    }
 }
