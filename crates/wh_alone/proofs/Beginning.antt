@@ -10,15 +10,15 @@ use Rattle.wh_model.proofs.Fragments.{fragments_write}
 use Rattle.wh_syntax.specs.declared.module.Data.{Data}
 use Rattle.wh_syntax.specs.View.{view_module, view_data}
 use Rattle.wh_bodies.specs.Views.{view_side}
-use Rattle.wh_validate.specs.Soundness.{IsSound}
-use Rattle.wh_imports.specs.Joined.{Joined}
+use Rattle.wh_validate.specs.Soundness.{IsChecked}
+use Rattle.wh_imports.specs.Joined.{LinkedState}
 use Rattle.wh_imports.specs.Resolving.{IsResolved}
-use Rattle.wh_control.specs.declared.store.Store as kept
-use Rattle.wh_control.specs.Storage.{IsStore}
-use Rattle.wh_machine.specs.Runs.{linked_parts, StoreStands}
+use Rattle.wh_control.specs.declared.store.Store as code_store
+use Rattle.wh_control.specs.Storage.{RepresentsStore}
+use Rattle.wh_machine.specs.Runs.{linked_parts, RepresentsInstance}
 use Rattle.wh_initial.proofs.Instances.{instance_of}
-use Rattle.wh_initial.specs.declared.outcome.Initial.{Initial}
-use Rattle.wh_initial.specs.Begins.{BeginsWith, first_store}
+use Rattle.wh_initial.specs.declared.outcome.Instantiated.{Instantiated}
+use Rattle.wh_initial.specs.Begins.{Instantiates, first_store}
 use Rattle.wh_alone.specs.Alone.{ArePieces, written_over}
 use Rattle.wh_alone.proofs.Lists.{with_pieces_bytes}
 
@@ -27,7 +27,7 @@ inits_of [] = refl
 inits_of (d ∷ segments) = ap (λ z. d.init.items ∷ z) (inits_of segments)
 
 -- the segments and their places are the pieces that instantiation has
-pub pieces_ready : (l : Joined) (p : Parameters) (i : Initial) (b : BeginsWith (view_module l.valid.decoded) p i) (segments : List Data) (places flat : List ℕ) → segments ≡ l.valid.decoded.segments.items → places ≡ i.places.items → flat ≡ replicate (i.pages * 65536) 0
+pub pieces_ready : (l : LinkedState) (p : Parameters) (i : Instantiated) (b : Instantiates (view_module l.valid.decoded) p i) (segments : List Data) (places flat : List ℕ) → segments ≡ l.valid.decoded.segments.items → places ≡ i.places.items → flat ≡ replicate (i.pages * 65536) 0
     → ArePieces b.segments places segments × Within (length flat) b.segments
 pieces_ready l p i b segments places flat segs at zeros = (
   (b.places ∙ sym at, b.bytes ∙ inits_of l.valid.decoded.segments.items ∙ ap (map (λ (d : Data). d.init.items)) (sym segs)),
@@ -35,7 +35,7 @@ pieces_ready l p i b segments places flat segs at zeros = (
 )
 
 -- a store with other bytes
-other_bytes : {c : Context} {inst : Instance} {k : kept.Store} {flat : List ℕ} {most : ℕ} {s : Store} (flat2 : List ℕ) → IsStore c inst k flat most s → IsStore c inst k flat2 most (record s { bytes = flat2 })
+other_bytes : {c : Context} {inst : Instance} {k : code_store.Store} {flat : List ℕ} {most : ℕ} {s : Store} (flat2 : List ℕ) → RepresentsStore c inst k flat most s → RepresentsStore c inst k flat2 most (record s { bytes = flat2 })
 other_bytes flat2 st = record {
   bytes = refl;
   limit = st.limit;
@@ -51,9 +51,9 @@ other_bytes flat2 st = record {
 }
 
 -- with the data segments written it stands for the store that instantiation ends with
-pub stands_written : (l : Joined) (sound : IsSound (view_module l.valid.decoded) (map view_side l.valid.tables)) → IsResolved (view_module l.valid.decoded) l.funcs l.globals → (p : Parameters) (i : Initial) (b : BeginsWith (view_module l.valid.decoded) p i) (flat flat2 : List ℕ)
+pub stands_written : (l : LinkedState) (sound : IsChecked (view_module l.valid.decoded) (map view_side l.valid.tables)) → IsResolved (view_module l.valid.decoded) l.funcs l.globals → (p : Parameters) (i : Instantiated) (b : Instantiates (view_module l.valid.decoded) p i) (flat flat2 : List ℕ)
     → flat ≡ replicate (i.pages * 65536) 0 → flat2 ≡ written_over flat b.segments
-    → StoreStands (linked_parts l) i.store flat2 i.page_limit sound.context b.inst (with_pieces (first_store (view_module l.valid.decoded) p b.globals b.elements) (fragments b.segments))
+    → RepresentsInstance (linked_parts l) i.store flat2 i.page_limit sound.context b.inst (with_pieces (first_store (view_module l.valid.decoded) p b.globals b.elements) (fragments b.segments))
 stands_written l sound resolved p i b flat flat2 zeros written =
     let m = view_module l.valid.decoded in
     let s = first_store m p b.globals b.elements in
@@ -64,5 +64,5 @@ stands_written l sound resolved p i b flat flat2 zeros written =
     let whole : with_pieces s (fragments b.segments) ≡ record s { bytes = flat2 } = fragments_write s b.segments within ∙ with_pieces_bytes s b.segments ∙ ap (λ z. let t : Store = record s { bytes = z } in t) (sym all) in
     record {
       instance = instance_of l sound resolved p b.inst b.globals b.elements b.segments b.prepares;
-      store = subst (λ z. IsStore sound.context b.inst i.store flat2 i.page_limit z) (sym whole) (other_bytes flat2 begun);
+      store = subst (λ z. RepresentsStore sound.context b.inst i.store flat2 i.page_limit z) (sym whole) (other_bytes flat2 begun);
     }

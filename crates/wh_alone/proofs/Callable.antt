@@ -13,13 +13,13 @@ use Rattle.wh_syntax.specs.declared.module.FuncType.{FuncType}
 use Rattle.wh_syntax.specs.View.{view_module, view_type}
 use Rattle.wh_bodies.specs.Table.{Table}
 use Rattle.wh_bodies.specs.Views.{view_side, type_at}
-use Rattle.wh_validate.specs.Soundness.{Checked, IsSound}
-use Rattle.wh_imports.specs.Joined.{Joined}
+use Rattle.wh_validate.specs.Soundness.{Checked, IsChecked}
+use Rattle.wh_imports.specs.Joined.{LinkedState}
 use Rattle.wh_control.specs.Represents.{Func}
 use Rattle.wh_control.proofs.Calling.{own_at}
 use Rattle.wh_control.proofs.Entries.{Callee, of_host, of_module, callee}
 use Rattle.wh_control.proofs.Places.{same_at}
-use Rattle.wh_control.specs.Parts.{Parts, funcs_of, funcs_in, IsInstance}
+use Rattle.wh_control.specs.Parts.{ProgramParts, funcs_of, funcs_in, IsInstance}
 use Rattle.wh_machine.specs.Runs.{linked_parts}
 use Rattle.wh_machine.proofs.Lookups.{parts_of, all_of}
 use Rattle.wh_alone.specs.Alone.{Arguments, HasCall}
@@ -31,26 +31,26 @@ own_type : {t u : model.FuncType} {b d : Body} → own t b ≡ own u d → t ≡
 own_type e = cc
 
 -- where a function is the module's own, it stands behind those of the host
-pub record OwnIndex (p : Parts) (func : ℕ) (type : model.FuncType) : Type 0 where
+pub record OwnIndex (p : ProgramParts) (func : ℕ) (type : model.FuncType) : Type 0 where
   pub g : Func
   pub y : ℕ
   pub index : func ≡ length p.hosts + y
   pub at : slice_get (funcs_in p) y ≡ Some g
   pub is_type : type ≡ g.type
 
-own_index_by : (p : Parts) (func : ℕ) (type : model.FuncType) (body : Body) → Callee p.hosts (funcs_in p) func (own type body) → OwnIndex p func type
+own_index_by : (p : ProgramParts) (func : ℕ) (type : model.FuncType) (body : Body) → Callee p.hosts (funcs_in p) func (own type body) → OwnIndex p func type
 own_index_by p func type body (of_host k at is) = absurd (cc is)
 own_index_by p func type body (of_module g y index at is) = record { g = g; y = y; index = index; at = at; is_type = own_type is }
 
-own_index : (p : Parts) (c : Context) (inst : Instance) (func : ℕ) (type : model.FuncType) (body : Body) → IsInstance p c inst → slice_get inst.funcs func ≡ Some (own type body) → OwnIndex p func type
+own_index : (p : ProgramParts) (c : Context) (inst : Instance) (func : ℕ) (type : model.FuncType) (body : Body) → IsInstance p c inst → slice_get inst.funcs func ≡ Some (own type body) → OwnIndex p func type
 own_index p c inst func type body is at = own_index_by p func type body (callee p.hosts (funcs_in p) func (own type body) (ap (λ fs. slice_get fs func) (sym is.program.funcs_are) ∙ at))
 
 -- no function of the host is one
-pub no_call_low : (p : Parts) (c : Context) (inst : Instance) (func : ℕ) (args : List ℕ) → IsInstance p c inst → func < length p.hosts → HasCall inst func args → ⊥
+pub no_call_low : (p : ProgramParts) (c : Context) (inst : Instance) (func : ℕ) (args : List ℕ) → IsInstance p c inst → func < length p.hosts → HasCall inst func args → ⊥
 no_call_low p c inst func args is low (type, body, vs, u) = let o = own_index p c inst func type body is u.is_own in let index = o.index in absurd (omega (arith, low, index))
 
 -- and none behind the last one
-pub no_call_high : (p : Parts) (c : Context) (inst : Instance) (func : ℕ) (args : List ℕ) → IsInstance p c inst → length p.decoded.funcs.items ≤ func - length p.hosts → HasCall inst func args → ⊥
+pub no_call_high : (p : ProgramParts) (c : Context) (inst : Instance) (func : ℕ) (args : List ℕ) → IsInstance p c inst → length p.decoded.funcs.items ≤ func - length p.hosts → HasCall inst func args → ⊥
 no_call_high p c inst func args is high (type, body, vs, u) =
     let o = own_index p c inst func type body is u.is_own in
     let index = o.index in
@@ -77,7 +77,7 @@ checked_at c types (z ∷ xs) bs ts (suc y) x (b, rest, f, more, eb, et, at, val
 -- ---- calls
 
 -- the function of a place is called with arguments of its parameters
-pub calls_at : (l : Joined) (sound : IsSound (view_module l.valid.decoded) (map view_side l.valid.tables)) (func place x : ℕ) (ft : FuncType) (args : List ℕ) → func ≡ length l.funcs + place
+pub calls_at : (l : LinkedState) (sound : IsChecked (view_module l.valid.decoded) (map view_side l.valid.tables)) (func place x : ℕ) (ft : FuncType) (args : List ℕ) → func ≡ length l.funcs + place
     → slice_get l.valid.decoded.funcs.items place ≡ Some x → slice_get l.valid.decoded.types.items x ≡ Some ft → (b : Bool) → MatchBool b (Arguments ft.params.items args) (¬ (Arguments ft.params.items args))
     → (c : Context) (inst : Instance) → IsInstance (linked_parts l) c inst → MatchBool b (HasCall inst func args) (¬ (HasCall inst func args))
 calls_at l sound func place x ft args index at_x at_type b decided c inst is = by_case b decided
@@ -113,13 +113,13 @@ calls_at l sound func place x ft args index at_x at_type b decided c inst is = b
 
 -- ---- of a linked module, by the clauses of its parts
 
-pub refused_low : (l : Joined) (func : ℕ) (args : List ℕ) → func < length l.funcs → (c : Context) (inst : Instance) → IsInstance (linked_parts l) c inst → HasCall inst func args → ⊥
+pub refused_low : (l : LinkedState) (func : ℕ) (args : List ℕ) → func < length l.funcs → (c : Context) (inst : Instance) → IsInstance (linked_parts l) c inst → HasCall inst func args → ⊥
 refused_low l func args low c inst is h = no_call_low (linked_parts l) c inst func args is low h
 
-pub refused_high : (l : Joined) (func : ℕ) (args : List ℕ) → length l.valid.decoded.funcs.items ≤ func - length l.funcs → (c : Context) (inst : Instance) → IsInstance (linked_parts l) c inst → HasCall inst func args → ⊥
+pub refused_high : (l : LinkedState) (func : ℕ) (args : List ℕ) → length l.valid.decoded.funcs.items ≤ func - length l.funcs → (c : Context) (inst : Instance) → IsInstance (linked_parts l) c inst → HasCall inst func args → ⊥
 refused_high l func args high c inst is h = no_call_high (linked_parts l) c inst func args is high h
 
-pub type_there : (l : Joined) (sound : IsSound (view_module l.valid.decoded) (map view_side l.valid.tables)) (place x : ℕ) → slice_get l.valid.decoded.funcs.items place ≡ Some x → x < length l.valid.decoded.types.items
+pub type_there : (l : LinkedState) (sound : IsChecked (view_module l.valid.decoded) (map view_side l.valid.tables)) (place x : ℕ) → slice_get l.valid.decoded.funcs.items place ≡ Some x → x < length l.valid.decoded.types.items
 type_there l sound place x at =
     let low = all_of (λ y. y < length sound.context.types) l.valid.decoded.funcs.items place x (checked_named sound.context l.valid.decoded.funcs.items _ _ sound.checked) at in
     let same = ap length sound.valid.context.types in

@@ -10,32 +10,32 @@ use Rattle.wh_model.specs.Reduction.{IsSettled, After}
 use Rattle.wh_model.specs.Focus.{Focused, running, finished, stopped, plug}
 use Rattle.wh_model.proofs.Chains.{after_joins}
 use Rattle.wh_model.proofs.Taken.{takes_after}
-use Rattle.wh_imports.specs.Joined.{Joined}
-use Rattle.wh_control.specs.Represents.{Func, Calls, Represents, bits_of}
+use Rattle.wh_imports.specs.Joined.{LinkedState}
+use Rattle.wh_control.specs.Represents.{Func, CallsState, RepresentsCalls, bits_of}
 use Rattle.wh_control.specs.declared.store.Store as stored
-use Rattle.wh_control.specs.Parts.{Parts, funcs_in}
+use Rattle.wh_control.specs.Parts.{ProgramParts, funcs_in}
 use Rattle.wh_machine.specs.declared.machine.Machine.{Machine}
 use Rattle.wh_machine.specs.declared.machine.Stepped.{Stepped}
 use Rattle.wh_machine.specs.declared.machine.Stepped.TheVariants as steps
-use Rattle.wh_machine.specs.Runs.{calls_in, linked_parts, StoreStands, Stands}
-use Rattle.wh_machine.specs.Went.{Went}
-use Rattle.wh_flatmem.specs.Flat.{Flat}
+use Rattle.wh_machine.specs.Runs.{calls_in, linked_parts, RepresentsInstance, RepresentsMachine}
+use Rattle.wh_machine.specs.Stepping.{IsRun}
+use Rattle.wh_flatmem.specs.Flat.{FlatMemoryState}
 use Rattle.wh_alone.specs.declared.outcome.Outcome.{Outcome}
 use Rattle.wh_alone.specs.declared.outcome.Outcome.TheVariants.{Returned, Trapped, OutOfFuel}
-use Rattle.wh_alone.specs.Kept.{Kept, HasStore, StandsAt, EndsAs, Goes}
+use Rattle.wh_alone.specs.Kept.{Kept, HasStore, StandsAt, EndsBy, ContinuesTo}
 
 -- ---- stores
 
-store_there : (c : Context) (funcs : List Func) (out : Option ValType) (m : Calls) (s : Store) (to : Focused) → Represents c funcs out m s to → store_of (plug to) ≡ s
+store_there : (c : Context) (funcs : List Func) (out : Option ValType) (m : CallsState) (s : Store) (to : Focused) → RepresentsCalls c funcs out m s to → store_of (plug to) ≡ s
 store_there c funcs out m s (running s2 a ws) h = h.0
 store_there c funcs out m s (finished s2 vs) h = h.0
 store_there c funcs out m s (stopped s2 x) h = absurd h
 
 -- what the machine stands for has the store of its instance
-pub stands_with : {p : Parts} {m : Machine} {k : stored.Store} {flat : List ℕ} {most : ℕ} {out : Option ValType} {inst : Instance} {cfg : Config} → Stands p m k flat most out inst cfg → (c : Context) × StoreStands p k flat most c inst (store_of cfg)
+pub stands_with : {p : ProgramParts} {m : Machine} {k : stored.Store} {flat : List ℕ} {most : ℕ} {out : Option ValType} {inst : Instance} {cfg : Config} → RepresentsMachine p m k flat most out inst cfg → (c : Context) × RepresentsInstance p k flat most c inst (store_of cfg)
 stands_with {p} {m} {k} {flat} {most} {out} {inst} st =
     let same = ap store_of st.nested ∙ store_there st.context (funcs_in p) out (calls_in m) st.s st.focused st.calls in
-    (st.context, subst (λ s. StoreStands p k flat most st.context inst s) (sym same) st.around)
+    (st.context, subst (λ s. RepresentsInstance p k flat most st.context inst s) (sym same) st.around)
 
 -- ---- runs
 
@@ -48,14 +48,14 @@ Answers m2 (steps.NotReady need) outcome = outcome ≡ OutOfFuel
 
 -- a run over a flat memory, all of whose bytes are always at hand
 abbrev pub WentFlat : Kept → ℕ → Stepped → ℕ → Kept → Type 0
-WentFlat k fuel stepped n k2 = Went (linked_parts k.linked) (λ (m : Flat). m.bytes) (λ m need. Unit {0}) (λ (a b : Flat). b.limit ≡ a.limit) k.machine k.store k.memory k.memory.limit fuel stepped n k2.machine k2.store k2.memory
+WentFlat k fuel stepped n k2 = IsRun (linked_parts k.linked) (λ (m : FlatMemoryState). m.bytes) (λ m need. Unit {0}) (λ (a b : FlatMemoryState). b.limit ≡ a.limit) k.machine k.store k.memory k.memory.limit fuel stepped n k2.machine k2.store k2.memory
 
 abbrev Came : Kept → Option ValType → Instance → Config → ℕ → Outcome → ℕ → Type 0
-Came k2 out inst cfg fuel outcome n = (s : Store) × EndsAs k2 out inst cfg fuel outcome n s × HasStore k2 inst s
+Came k2 out inst cfg fuel outcome n = (s : Store) × EndsBy k2 out inst cfg fuel outcome n s × HasStore k2 inst s
 
-pub goes_by : (l : Joined) (store store2 : stored.Store) (memory memory2 : Flat) (machine machine2 : Machine) (fuel : ℕ) (stepped : Stepped) (n : ℕ) (outcome : Outcome) → memory2.limit ≡ memory.limit
+pub goes_by : (l : LinkedState) (store store2 : stored.Store) (memory memory2 : FlatMemoryState) (machine machine2 : Machine) (fuel : ℕ) (stepped : Stepped) (n : ℕ) (outcome : Outcome) → memory2.limit ≡ memory.limit
     → WentFlat (record { linked = l; store = store; memory = memory; machine = machine }) fuel stepped n (record { linked = l; store = store2; memory = memory2; machine = machine2 }) → Answers machine2 stepped outcome
-    → Goes (record { linked = l; store = store; memory = memory; machine = machine }) fuel outcome n (record { linked = l; store = store2; memory = memory2; machine = machine2 })
+    → ContinuesTo (record { linked = l; store = store; memory = memory; machine = machine }) fuel outcome n (record { linked = l; store = store2; memory = memory2; machine = machine2 })
 goes_by l store store2 memory memory2 machine machine2 fuel steps.Done n outcome limit went a out inst cfg st settled =
     let k2 : Kept = record { linked = l; store = store2; memory = memory2; machine = machine2 } in
     let x = went.1 out inst cfg st in
@@ -65,7 +65,7 @@ goes_by l store store2 memory memory2 machine machine2 fuel steps.Done n outcome
     subst (λ o. Came k2 out inst cfg fuel o n) (sym a.2) (
       s,
       (went.0, us, types, top, subst (λ c. After inst cfg n c) is (takes_after x.1 settled)),
-      (store.0, subst (λ w. StoreStands (linked_parts l) store2 memory2.bytes memory2.limit store.0 inst w) (ap store_of is) (subst (λ most. StoreStands (linked_parts l) store2 memory2.bytes most store.0 inst (store_of x.0)) (sym limit) store.1)),
+      (store.0, subst (λ w. RepresentsInstance (linked_parts l) store2 memory2.bytes memory2.limit store.0 inst w) (ap store_of is) (subst (λ most. RepresentsInstance (linked_parts l) store2 memory2.bytes most store.0 inst (store_of x.0)) (sym limit) store.1)),
     )
 goes_by l store store2 memory memory2 machine machine2 fuel (steps.Trapped trap) n outcome limit went a out inst cfg st settled =
     let k2 : Kept = record { linked = l; store = store2; memory = memory2; machine = machine2 } in
@@ -73,7 +73,7 @@ goes_by l store store2 memory memory2 machine machine2 fuel (steps.Trapped trap)
     subst (λ o. Came k2 out inst cfg fuel o n) (sym a) (
       x.1,
       (went.0, takes_after x.2 settled),
-      (x.0, subst (λ most. StoreStands (linked_parts l) store2 memory2.bytes most x.0 inst x.1) (sym limit) x.3),
+      (x.0, subst (λ most. RepresentsInstance (linked_parts l) store2 memory2.bytes most x.0 inst x.1) (sym limit) x.3),
     )
 goes_by l store store2 memory memory2 machine machine2 fuel steps.Charged n outcome limit went a out inst cfg st settled =
     let k2 : Kept = record { linked = l; store = store2; memory = memory2; machine = machine2 } in
@@ -87,11 +87,11 @@ goes_by l store store2 memory memory2 machine machine2 fuel steps.Charged n outc
         takes_after x.1 settled,
         x.3,
         refl,
-        subst (λ most. Stands (linked_parts l) machine2 store2 memory2.bytes most out inst x.0) (sym limit) x.2,
+        subst (λ most. RepresentsMachine (linked_parts l) machine2 store2 memory2.bytes most out inst x.0) (sym limit) x.2,
         went.2,
         went.3,
       ),
-      (store.0, subst (λ most. StoreStands (linked_parts l) store2 memory2.bytes most store.0 inst (store_of x.0)) (sym limit) store.1),
+      (store.0, subst (λ most. RepresentsInstance (linked_parts l) store2 memory2.bytes most store.0 inst (store_of x.0)) (sym limit) store.1),
     )
 goes_by l store store2 memory memory2 machine machine2 fuel (steps.NotReady need) n outcome limit went a out inst cfg st settled = absurd (went.4 tt)
 
@@ -101,7 +101,7 @@ joined : {inst : Instance} {a b c : Config} (m n k : ℕ) → m + n ≡ k → Af
 joined {inst} {a} {b} {c} m n k e x y = subst (λ i. After inst a i c) e (after_joins inst m n a b c x y)
 
 pub ends_from : (k2 : Kept) (out : Option ValType) (inst : Instance) (first cfg : Config) (m fuel fuel2 n n2 : ℕ) (outcome : Outcome) (s : Store) → m + fuel ≡ fuel2 → m + n ≡ n2 → After inst first m cfg
-    → EndsAs k2 out inst cfg fuel outcome n s → EndsAs k2 out inst first fuel2 outcome n2 s
+    → EndsBy k2 out inst cfg fuel outcome n s → EndsBy k2 out inst first fuel2 outcome n2 s
 ends_from k2 out inst first cfg m fuel fuel2 n n2 (Returned result) s e f begun (low, us, types, top, after) = (omega (arith, e, f, low), us, types, top, joined m n n2 f begun after)
 ends_from k2 out inst first cfg m fuel fuel2 n n2 (Trapped x) s e f begun (low, after) = (omega (arith, e, f, low), joined m n n2 f begun after)
 ends_from k2 out inst first cfg m fuel fuel2 n n2 OutOfFuel s e f begun (all, c2, after, next, store, machine, runs, settled) = (omega (arith, e, f, all), c2, joined m n n2 f begun after, next, store, machine, runs, settled)

@@ -8,9 +8,9 @@ use Rattle.wh_model.specs.Instance.{Parameters, AreGiven, Piece, IsInitial, begi
 use Rattle.wh_model.specs.Histories.{none_yet, one_more}
 use Rattle.wh_model.specs.Replay.{Call, with_pieces, has_written, Standing, idle, running}
 use Rattle.wh_syntax.specs.View.{view_module}
-use Rattle.wh_machine.specs.Opening.{Suits}
+use Rattle.wh_machine.specs.Opening.{IsOwnCall}
 use Rattle.wh_alone.specs.Kept.{Kept, HasStore}
-use Rattle.wh_alone.specs.Journal.{IsAt}
+use Rattle.wh_alone.specs.Journal.{IsAtStanding}
 use Rattle.wh_alone.specs.Stages.{stage_at_first}
 use Rattle.wh_alone.specs.Beginnings.{written_start, open_start, IsFresh}
 
@@ -27,11 +27,11 @@ pub record Begun (k : Kept) (m : Module) (p : Parameters) (start : Option ℕ) :
   pub ended : List Call
   pub current : Option Call
   pub z : Standing
-  pub is_at : IsAt (record { kept = k; stage = stage_at_first start }) m p ended current z
+  pub is_at : IsAtStanding (record { kept = k; stage = stage_at_first start }) m p ended current z
   pub fresh : IsFresh start ended current
 
 pub begun_at : (k : Kept) (m : Module) (p : Parameters) (inst : Instance) (first : Store) (pieces : List Piece) (start : Option ℕ) → m ≡ view_module k.linked.valid.decoded → AreGiven p → IsInitial m p (begins inst first pieces) → HasStore k inst (with_pieces first pieces)
-    → m.start ≡ start → ((x : ℕ) → start ≡ Some x → (type : FuncType) × (body : Body) × (type.params ≡ []) × Suits inst x [] type body []) → Begun k m p start
+    → m.start ≡ start → ((x : ℕ) → start ≡ Some x → (type : FuncType) × (body : Body) × (type.params ≡ []) × IsOwnCall inst x [] type body []) → Begun k m p start
 begun_at k m p inst first pieces None module_is given initial store none suits = record {
   ended = written_start (length pieces) ∷ [];
   current = None;

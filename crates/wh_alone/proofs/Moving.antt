@@ -17,17 +17,17 @@ use Rattle.wh_syntax.specs.View.{view_module}
 use Rattle.wh_control.specs.Represents.{bits_of, result_of, IsFunc}
 use Rattle.wh_control.proofs.Jumps.{all_at}
 use Rattle.wh_control.specs.Parts.{funcs_in, IsInstance}
-use Rattle.wh_machine.specs.Opening.{Suits}
-use Rattle.wh_machine.specs.Runs.{linked_parts, StoreStands}
+use Rattle.wh_machine.specs.Opening.{IsOwnCall}
+use Rattle.wh_machine.specs.Runs.{linked_parts, RepresentsInstance}
 use Rattle.wh_machine.proofs.Opened.{own_of}
-use Rattle.wh_imports.specs.Joined.{Joined}
+use Rattle.wh_imports.specs.Joined.{LinkedState}
 use Rattle.wh_alone.specs.declared.outcome.Outcome.{Outcome}
 use Rattle.wh_alone.specs.declared.outcome.Outcome.TheVariants.{Returned, Trapped, OutOfFuel}
 use Rattle.wh_alone.specs.declared.outcome.Stage.{Stage}
 use Rattle.wh_alone.specs.declared.outcome.Stage.TheVariants as stages
 use Rattle.wh_alone.specs.Alone.{HasCall}
-use Rattle.wh_alone.specs.Kept.{Kept, HasStore, EndsAs, Goes, Comes}
-use Rattle.wh_alone.specs.Journal.{IsOutcome, HasResults, ended_as, open_as, listed, HasStarted, HasFailed, IsInvoked, IsUnderWay, IsStage, IsJournalOf, IsAt, IsSomewhere, Plain, further, called_so, GoesOn, Called, GivenUp}
+use Rattle.wh_alone.specs.Kept.{Kept, HasStore, EndsBy, ContinuesTo, InvocationEnds}
+use Rattle.wh_alone.specs.Journal.{IsOutcome, HasResults, ended_as, open_as, listed, HasStarted, HasFailed, IsInvoked, IsUnderWay, IsStage, IsJournalOf, IsAtStanding, IsSomewhere, InstanceState, further, called_so, GoesOnWith, CallEnds, GivenUp}
 use Rattle.wh_alone.specs.Stages.{after_start, after_call, IsOpen}
 use Rattle.wh_alone.proofs.Journals.{all_join, change_last, add_last, started_then}
 use Rattle.wh_alone.proofs.Ending.{ends_from}
@@ -37,7 +37,7 @@ use Rattle.wh_alone.proofs.Ending.{ends_from}
 -- the result of a function that is called
 declared : (k : Kept) {inst : Instance} {s w : Store} {call : Call} {c : Config} → HasStore k inst s → (i : Invocation inst w call c) → i.type.results ≡ operand (result_of i.type)
 declared k {inst} {call = call} (cx, st) i =
-    let u : Suits inst i.index (map bits_of call.args) i.type i.body call.args = record { is_own = i.is_own; types = i.types; fit = i.fit; words = refl } in
+    let u : IsOwnCall inst i.index (map bits_of call.args) i.type i.body call.args = record { is_own = i.is_own; types = i.types; fit = i.fit; words = refl } in
     let o = own_of st u in
     let f = all_at (IsFunc cx) (funcs_in (linked_parts k.linked)) o.y o.g st.instance.program.each o.at in
     subst (λ (t : FuncType). t.results ≡ operand (result_of t)) (sym o.is_type) f.results
@@ -90,7 +90,7 @@ has_begun false ended ps b = inr b.0
 at_end : {k2 : Kept} {m : Module} {p : Parameters} {ended : List Call} {call : Call} (b : Before k2 m p ended call) (starting : Bool) (stage : Stage) (fuel n : ℕ) (o : model.Outcome) (s2 : Store) → Begun starting ended b.ps → ¬ (o ≡ dead)
     → Ends b.inst b.s b.ps (come_to call fuel n o) s2 → HasResults b.inst (come_to call fuel n o) → HasStore k2 b.inst s2
     → IsStage stage k2 b.inst s2 [] (ended ++ come_to call fuel n o ∷ []) None (idle s2)
-    → IsAt (record { kept = k2; stage = stage }) m p (ended ++ come_to call fuel n o ∷ []) None (idle s2)
+    → IsAtStanding (record { kept = k2; stage = stage }) m p (ended ++ come_to call fuel n o ∷ []) None (idle s2)
 at_end {k2} {m} {p} {ended} {call} b starting stage fuel n o s2 begun alive ends results store is = record {
   module_is = b.module_is;
   given = b.given;
@@ -122,10 +122,10 @@ no_results inst call never x type body vs e f g = absurd (never vs g)
 
 at_open : {k2 : Kept} {m : Module} {p : Parameters} {ended : List Call} {call : Call} (b : Before k2 m p ended call) (starting : Bool) (stage : Stage) (fuel n : ℕ) (c : Config) → Begun starting ended b.ps → HasStore k2 b.inst (store_of c)
     → IsStage stage k2 b.inst b.s b.ps ended (Some (come_to call fuel n pending)) (running c)
-    → IsAt (record { kept = k2; stage = stage }) m p (ended ++ []) (Some (come_to call fuel n pending)) (running c)
+    → IsAtStanding (record { kept = k2; stage = stage }) m p (ended ++ []) (Some (come_to call fuel n pending)) (running c)
 at_open {k2} {m} {p} {ended} {call} b starting stage fuel n c begun store is =
     let call2 = come_to call fuel n pending in
-    subst (λ cs. IsAt (record { kept = k2; stage = stage }) m p cs (Some call2) (running c)) (sym (append-nil ended)) (record {
+    subst (λ cs. IsAtStanding (record { kept = k2; stage = stage }) m p cs (Some call2) (running c)) (sym (append-nil ended)) (record {
       module_is = b.module_is;
       given = b.given;
       journal = change_last m ended call call2 refl refl (λ e. cc) (has_begun starting ended b.ps begun) b.journal;
@@ -149,8 +149,8 @@ open_then k2 inst s ps false ended call z begun way = (begun.0, begun.1, call, r
 
 -- what its invocation comes to is where the journal leads
 pub comes_further : {k2 : Kept} {m : Module} {p : Parameters} {ended : List Call} {call : Call} (b : Before k2 m p ended call) (starting : Bool) (fuel n : ℕ) (outcome : Outcome) (s2 : Store) (invoked : Config) → Begun starting ended b.ps
-    → (i : Invocation b.inst (with_pieces b.s b.ps) call invoked) → EndsAs k2 (result_of i.type) b.inst invoked fuel outcome n s2 → HasStore k2 b.inst s2
-    → (o : model.Outcome) × (z : Standing) × IsOutcome outcome o × IsAt (record { kept = k2; stage = after_by starting outcome }) m p (ended ++ ended_as (come_to call fuel n o) o) (open_as (come_to call fuel n o) o) z
+    → (i : Invocation b.inst (with_pieces b.s b.ps) call invoked) → EndsBy k2 (result_of i.type) b.inst invoked fuel outcome n s2 → HasStore k2 b.inst s2
+    → (o : model.Outcome) × (z : Standing) × IsOutcome outcome o × IsAtStanding (record { kept = k2; stage = after_by starting outcome }) m p (ended ++ ended_as (come_to call fuel n o) o) (open_as (come_to call fuel n o) o) z
 comes_further {k2} {m} {p} {ended} {call} b starting fuel n (Returned result) s2 invoked begun i (low, us, types, top, after) store =
     let same = short_reverse us (result_of i.type) types in
     let call2 = come_to call fuel n (returned us) in
@@ -200,9 +200,9 @@ comes_further {k2} {m} {p} {ended} {call} b starting fuel n OutOfFuel s2 invoked
 same_call : {call call2 : Call} → Some call ≡ Some call2 → call ≡ call2
 same_call e = cc e
 
-abbrev before_at : {k k2 : Kept} {stage : Stage} {m : Module} {p : Parameters} {ended : List Call} {call : Call} {z : Standing} (at : IsAt (record { kept = k; stage = stage }) m p ended (Some call) z) → k2.linked ≡ k.linked → call.fragments ≡ length at.ps → Before k2 m p ended call
+abbrev before_at : {k k2 : Kept} {stage : Stage} {m : Module} {p : Parameters} {ended : List Call} {call : Call} {z : Standing} (at : IsAtStanding (record { kept = k; stage = stage }) m p ended (Some call) z) → k2.linked ≡ k.linked → call.fragments ≡ length at.ps → Before k2 m p ended call
 before_at at linked written = record {
-  module_is = at.module_is ∙ ap (λ (l : Joined). view_module l.valid.decoded) (sym linked);
+  module_is = at.module_is ∙ ap (λ (l : LinkedState). view_module l.valid.decoded) (sym linked);
   given = at.given;
   journal = at.journal;
   inst = at.inst;
@@ -217,9 +217,9 @@ before_at at linked written = record {
 }
 
 -- a call that is under way goes on
-under_way_on : {k k2 : Kept} {stage : Stage} {m : Module} {p : Parameters} {ended : List Call} {call : Call} {z : Standing} (fuel n : ℕ) (outcome : Outcome) (starting : Bool) (at : IsAt (record { kept = k; stage = stage }) m p ended (Some call) z) → k2.linked ≡ k.linked → Begun starting ended at.ps
-    → IsUnderWay k at.inst at.s at.ps call z → Goes k fuel outcome n k2
-    → (o : model.Outcome) × (z2 : Standing) × IsOutcome outcome o × IsAt (record { kept = k2; stage = after_by starting outcome }) m p (ended ++ ended_as (further call fuel n o) o) (open_as (further call fuel n o) o) z2
+under_way_on : {k k2 : Kept} {stage : Stage} {m : Module} {p : Parameters} {ended : List Call} {call : Call} {z : Standing} (fuel n : ℕ) (outcome : Outcome) (starting : Bool) (at : IsAtStanding (record { kept = k; stage = stage }) m p ended (Some call) z) → k2.linked ≡ k.linked → Begun starting ended at.ps
+    → IsUnderWay k at.inst at.s at.ps call z → ContinuesTo k fuel outcome n k2
+    → (o : model.Outcome) × (z2 : Standing) × IsOutcome outcome o × IsAtStanding (record { kept = k2; stage = after_by starting outcome }) m p (ended ++ ended_as (further call fuel n o) o) (open_as (further call fuel n o) o) z2
 under_way_on {k} {k2} {call = call} fuel n outcome starting at linked begun way goes =
     let out = result_of way.invocation.type in
     let x = goes out at.inst way.at way.machine way.after.1 in
@@ -227,18 +227,18 @@ under_way_on {k} {k2} {call = call} fuel n outcome starting at linked begun way 
     let ends = ends_from k2 out at.inst way.first way.at call.charges fuel (call.fuel + fuel) n (call.charges + n) outcome x.0 (omega (arith, spent)) refl way.after x.1 in
     comes_further (before_at at linked way.all_written) starting (call.fuel + fuel) (call.charges + n) outcome x.0 way.first begun way.invocation ends x.2
 
-pub starting_on : (k k2 : Kept) (fuel n : ℕ) (outcome : Outcome) → k2.linked ≡ k.linked → Goes k fuel outcome n k2 → GoesOn (record { kept = k; stage = stages.Starting }) fuel outcome n (record { kept = k2; stage = after_start outcome })
+pub starting_on : (k k2 : Kept) (fuel n : ℕ) (outcome : Outcome) → k2.linked ≡ k.linked → ContinuesTo k fuel outcome n k2 → GoesOnWith (record { kept = k; stage = stages.Starting }) fuel outcome n (record { kept = k2; stage = after_start outcome })
 starting_on k k2 fuel n outcome linked goes m p ended call z at =
     let st = at.stage in
     under_way_on fuel n outcome true at linked st.0 (subst (λ c. IsUnderWay k at.inst at.s at.ps c z) (sym (same_call st.2)) st.3) goes
 
-pub calling_on : (k k2 : Kept) (fuel n : ℕ) (outcome : Outcome) → k2.linked ≡ k.linked → Goes k fuel outcome n k2 → GoesOn (record { kept = k; stage = stages.Calling }) fuel outcome n (record { kept = k2; stage = after_call outcome })
+pub calling_on : (k k2 : Kept) (fuel n : ℕ) (outcome : Outcome) → k2.linked ≡ k.linked → ContinuesTo k fuel outcome n k2 → GoesOnWith (record { kept = k; stage = stages.Calling }) fuel outcome n (record { kept = k2; stage = after_call outcome })
 calling_on k k2 fuel n outcome linked goes m p ended call z at =
     let st = at.stage in
     under_way_on fuel n outcome false at linked (st.0, st.1) (subst (λ c. IsUnderWay k at.inst at.s at.ps c z) (sym (same_call st.3)) st.4) goes
 
 -- the start function is called
-pub start_comes : (k k2 : Kept) (func fuel n : ℕ) (outcome : Outcome) → k2.linked ≡ k.linked → (view_module k.linked.valid.decoded).start ≡ Some func → Comes k func [] fuel outcome n k2 → GoesOn (record { kept = k; stage = stages.Fresh }) fuel outcome n (record { kept = k2; stage = after_start outcome })
+pub start_comes : (k k2 : Kept) (func fuel n : ℕ) (outcome : Outcome) → k2.linked ≡ k.linked → (view_module k.linked.valid.decoded).start ≡ Some func → InvocationEnds k func [] fuel outcome n k2 → GoesOnWith (record { kept = k; stage = stages.Fresh }) fuel outcome n (record { kept = k2; stage = after_start outcome })
 start_comes k k2 func fuel n outcome linked start comes m p ended call z at =
     let st = at.stage in
     let face = subst (λ c. IsInvoked at.inst at.s at.ps c z) (sym (same_call st.2)) st.3 in
@@ -247,7 +247,7 @@ start_comes k k2 func fuel n outcome linked start comes m p ended call z at =
     let index : i.index ≡ func = index_of (sym i.calls ∙ first ∙ ap (λ (w : Module). w.start) at.module_is ∙ start) in
     let w = store_at z in
     let store_is : w ≡ with_pieces at.s at.ps = ap store_at face.stands ∙ ap store_of i.begins in
-    let suits : Suits at.inst func [] i.type i.body call.args = record { is_own = subst (λ x. slice_get at.inst.funcs x ≡ Some (own i.type i.body)) index i.is_own; types = i.types; fit = i.fit; words = ap (map bits_of) face.no_args } in
+    let suits : IsOwnCall at.inst func [] i.type i.body call.args = record { is_own = subst (λ x. slice_get at.inst.funcs x ≡ Some (own i.type i.body)) index i.is_own; types = i.types; fit = i.fit; words = ap (map bits_of) face.no_args } in
     let x = comes at.store.0 at.inst w i.type i.body call.args at.store.1 suits in
     let invoked = config w [] (called i.type i.body (reverse call.args) [] nothing) in
     let j : Invocation at.inst (with_pieces at.s at.ps) call invoked = record { index = i.index; type = i.type; body = i.body; calls = i.calls; is_own = i.is_own; types = i.types; fit = i.fit; begins = ap (λ v. config v [] (called i.type i.body (reverse call.args) [] nothing)) store_is } in
@@ -259,12 +259,12 @@ start_comes k k2 func fuel n outcome linked start comes m p ended call z at =
     index_of : {x y : ℕ} → Some x ≡ Some y → x ≡ y
     index_of e = cc e
 
-    ends_total : (k2 : Kept) (out : Option ValType) (inst : Instance) (c : Config) (fuel fuel2 n n2 : ℕ) (outcome : Outcome) (s : Store) → fuel ≡ fuel2 → n ≡ n2 → EndsAs k2 out inst c fuel outcome n s → EndsAs k2 out inst c fuel2 outcome n2 s
-    ends_total k2 out inst c fuel fuel2 n n2 outcome s e f x = subst (λ a. EndsAs k2 out inst c fuel2 outcome a s) f (subst (λ a. EndsAs k2 out inst c a outcome n s) e x)
+    ends_total : (k2 : Kept) (out : Option ValType) (inst : Instance) (c : Config) (fuel fuel2 n n2 : ℕ) (outcome : Outcome) (s : Store) → fuel ≡ fuel2 → n ≡ n2 → EndsBy k2 out inst c fuel outcome n s → EndsBy k2 out inst c fuel2 outcome n2 s
+    ends_total k2 out inst c fuel fuel2 n n2 outcome s e f x = subst (λ a. EndsBy k2 out inst c fuel2 outcome a s) f (subst (λ a. EndsBy k2 out inst c a outcome n s) e x)
 
 -- another function is called
-pub call_comes : (k k2 : Kept) (func : ℕ) (args : List ℕ) (fuel n : ℕ) (outcome : Outcome) → k2.linked ≡ k.linked → ((c : Context) (inst : Instance) → IsInstance (linked_parts k.linked) c inst → HasCall inst func args) → Comes k func args fuel outcome n k2
-    → Called (record { kept = k; stage = stages.Idle }) func args fuel outcome n (record { kept = k2; stage = after_call outcome })
+pub call_comes : (k k2 : Kept) (func : ℕ) (args : List ℕ) (fuel n : ℕ) (outcome : Outcome) → k2.linked ≡ k.linked → ((c : Context) (inst : Instance) → IsInstance (linked_parts k.linked) c inst → HasCall inst func args) → InvocationEnds k func args fuel outcome n k2
+    → CallEnds (record { kept = k; stage = stages.Idle }) func args fuel outcome n (record { kept = k2; stage = after_call outcome })
 call_comes k k2 func args fuel n outcome linked can comes m p ended z at =
     let st = at.stage in
     let (type, body, vs, suits) = can at.store.0 at.inst at.store.1.instance in
@@ -275,7 +275,7 @@ call_comes k k2 func args fuel n outcome linked can comes m p ended z at =
     let invoked = config w [] (called type body (reverse vs) [] nothing) in
     let i : Invocation at.inst (with_pieces at.s at.ps) call0 invoked = record { index = func; type = type; body = body; calls = refl; is_own = suits.is_own; types = suits.types; fit = suits.fit; begins = ap (λ v. config v [] (called type body (reverse vs) [] nothing)) store_is } in
     let before : Before k2 m p ended call0 = record {
-      module_is = at.module_is ∙ ap (λ (l : Joined). view_module l.valid.decoded) (sym linked);
+      module_is = at.module_is ∙ ap (λ (l : LinkedState). view_module l.valid.decoded) (sym linked);
       given = at.given;
       journal = add_last m ended call0 (λ e. cc) (λ e. cc) st.0 at.journal;
       inst = at.inst;
@@ -293,9 +293,9 @@ call_comes k k2 func args fuel n outcome linked can comes m p ended z at =
 
 -- ---- calls that are given up
 
-given_up : {k : Kept} {stage : Stage} {m : Module} {p : Parameters} {ended : List Call} {call : Call} {z : Standing} (stage2 : Stage) (starting : Bool) (at : IsAt (record { kept = k; stage = stage }) m p ended (Some call) z) → call.fragments ≡ length at.ps → Begun starting ended at.ps → Stands at.inst at.s at.ps call z
+given_up : {k : Kept} {stage : Stage} {m : Module} {p : Parameters} {ended : List Call} {call : Call} {z : Standing} (stage2 : Stage) (starting : Bool) (at : IsAtStanding (record { kept = k; stage = stage }) m p ended (Some call) z) → call.fragments ≡ length at.ps → Begun starting ended at.ps → Stands at.inst at.s at.ps call z
     → IsStage stage2 k at.inst (store_at z) [] (ended ++ record call { outcome = cancelled } ∷ []) None (idle (store_at z))
-    → IsAt (record { kept = k; stage = stage2 }) m p (ended ++ record call { outcome = cancelled } ∷ []) None (idle (store_at z))
+    → IsAtStanding (record { kept = k; stage = stage2 }) m p (ended ++ record call { outcome = cancelled } ∷ []) None (idle (store_at z))
 given_up {k} {call = call} {z = z} stage2 starting at written begun stands is =
     at_end (before_at {k2 = k} at refl written) starting stage2 call.fuel call.charges cancelled (store_at z) begun (λ e. cc)
     (cancelled_stays at.inst at.s at.ps call z stands) (no_results at.inst (record call { outcome = cancelled }) (λ vs e. cc)) at.store is
@@ -337,23 +337,23 @@ opened stages.Calling k inst s ps ended current z is st = (st.2, st.3)
 opened stages.Idle k inst s ps ended current z is st = absurd is
 opened stages.Dead k inst s ps ended current z is st = absurd is
 
-pub somewhere_on : (i i2 : Plain) (fuel n : ℕ) (outcome : Outcome) → IsOpen i.stage → GoesOn i fuel outcome n i2 → IsSomewhere i → IsSomewhere i2
+pub somewhere_on : (i i2 : InstanceState) (fuel n : ℕ) (outcome : Outcome) → IsOpen i.stage → GoesOnWith i fuel outcome n i2 → IsSomewhere i → IsSomewhere i2
 somewhere_on i i2 fuel n outcome is goes w =
     let at = w.is_at in
     let call = opened i.stage i.kept at.inst at.s at.ps w.ended w.current w.z is at.stage in
-    let x = goes w.m w.p w.ended call.0 w.z (subst (λ current. IsAt i w.m w.p w.ended current w.z) call.1 at) in
+    let x = goes w.m w.p w.ended call.0 w.z (subst (λ current. IsAtStanding i w.m w.p w.ended current w.z) call.1 at) in
     record { m = w.m; p = w.p; ended = _; current = _; z = x.1; is_at = x.3 }
 
-pub somewhere_called : (i i2 : Plain) (func : ℕ) (args : List ℕ) (fuel n : ℕ) (outcome : Outcome) → i.stage ≡ stages.Idle → Called i func args fuel outcome n i2 → IsSomewhere i → IsSomewhere i2
+pub somewhere_called : (i i2 : InstanceState) (func : ℕ) (args : List ℕ) (fuel n : ℕ) (outcome : Outcome) → i.stage ≡ stages.Idle → CallEnds i func args fuel outcome n i2 → IsSomewhere i → IsSomewhere i2
 somewhere_called i i2 func args fuel n outcome is called w =
     let at = w.is_at in
     let st = subst (λ s. IsStage s i.kept at.inst at.s at.ps w.ended w.current w.z) is at.stage in
-    let x = called w.m w.p w.ended w.z (subst (λ current. IsAt i w.m w.p w.ended current w.z) st.2 at) in
+    let x = called w.m w.p w.ended w.z (subst (λ current. IsAtStanding i w.m w.p w.ended current w.z) st.2 at) in
     record { m = w.m; p = w.p; ended = _; current = _; z = x.2; is_at = x.5 }
 
-pub somewhere_up : (i i2 : Plain) → IsOpen i.stage → GivenUp i i2 → IsSomewhere i → IsSomewhere i2
+pub somewhere_up : (i i2 : InstanceState) → IsOpen i.stage → GivenUp i i2 → IsSomewhere i → IsSomewhere i2
 somewhere_up i i2 is up w =
     let at = w.is_at in
     let call = opened i.stage i.kept at.inst at.s at.ps w.ended w.current w.z is at.stage in
-    let x = up w.m w.p w.ended call.0 w.z (subst (λ current. IsAt i w.m w.p w.ended current w.z) call.1 at) in
+    let x = up w.m w.p w.ended call.0 w.z (subst (λ current. IsAtStanding i w.m w.p w.ended current w.z) call.1 at) in
     record { m = w.m; p = w.p; ended = _; current = _; z = _; is_at = x }

@@ -6,11 +6,11 @@ use Rattle.wh_model.specs.Instance.{Piece}
 use Rattle.wh_model.specs.Replay.{Call, Standing, store_at}
 use Rattle.wh_syntax.specs.View.{view_module}
 use Rattle.wh_control.specs.Represents.{bits_of, result_of}
-use Rattle.wh_machine.specs.Opening.{Suits}
+use Rattle.wh_machine.specs.Opening.{IsOwnCall}
 use Rattle.wh_alone.specs.declared.outcome.Stage.{Stage}
 use Rattle.wh_alone.specs.declared.outcome.Stage.TheVariants as stages
 use Rattle.wh_alone.specs.Kept.{Kept, HasStore, StandsSomewhere, CanCall}
-use Rattle.wh_alone.specs.Journal.{Plain, IsInvoked, IsUnderWay, IsJournalOf, IsSomewhere, listed}
+use Rattle.wh_alone.specs.Journal.{InstanceState, IsInvoked, IsUnderWay, IsJournalOf, IsSomewhere, listed}
 
 same_call : {call call2 : Call} → Some call ≡ Some call2 → call ≡ call2
 same_call e = cc e
@@ -74,8 +74,8 @@ calling_stands k w = way_stands w.is_at.stage.4
 -- ---- what contracts see
 
 -- the parts of an instance at this stage
-abbrev pub record_of : Kept → Stage → Plain
+abbrev pub record_of : Kept → Stage → InstanceState
 record_of k stage = record { kept = k; stage = stage }
 
-pub at_stage : (k : Kept) (stage stage2 : Stage) (i : Plain) → stage ≡ stage2 → record_of k stage ≡ i → record_of k stage2 ≡ i
+pub at_stage : (k : Kept) (stage stage2 : Stage) (i : InstanceState) → stage ≡ stage2 → record_of k stage ≡ i → record_of k stage2 ≡ i
 at_stage k stage stage2 i e view = ap (λ s. record_of k s) (sym e) ∙ view

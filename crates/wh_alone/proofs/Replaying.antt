@@ -14,7 +14,7 @@ use Rattle.wh_control.specs.Parts.{IsInstance}
 use Rattle.wh_machine.specs.Runs.{linked_parts}
 use Rattle.wh_alone.specs.declared.outcome.Outcome.{Outcome}
 use Rattle.wh_alone.specs.declared.outcome.Outcome.TheVariants.{Returned, Trapped, OutOfFuel}
-use Rattle.wh_alone.specs.declared.outcome.Alone.TheVariants as alone
+use Rattle.wh_alone.specs.declared.outcome.CallResult.TheVariants as alone
 use Rattle.wh_alone.specs.declared.outcome.Stage.{Stage}
 use Rattle.wh_alone.specs.declared.outcome.Stage.TheVariants as stages
 use Rattle.wh_alone.specs.declared.outcome.Refused.{Refused}
@@ -22,10 +22,10 @@ use Rattle.wh_alone.specs.declared.outcome.Refused.TheVariants as refusals
 use Rattle.wh_model.specs.Accepting.{IsAccepted}
 use Rattle.wh_alone.specs.Alone.{HasCall}
 use Rattle.wh_alone.specs.Kept.{Kept, HasStore}
-use Rattle.wh_alone.specs.Journal.{Plain, IsOutcome, HasResults, ended_as, open_as, listed, IsInvoked, IsUnderWay, IsStage, IsJournalOf, IsAt, further, called_so, GoesOn, Called}
+use Rattle.wh_alone.specs.Journal.{InstanceState, IsOutcome, HasResults, ended_as, open_as, listed, IsInvoked, IsUnderWay, IsStage, IsJournalOf, IsAtStanding, further, called_so, GoesOnWith, CallEnds}
 use Rattle.wh_alone.specs.Stages.{IsOpen, RefusesCall}
-use Rattle.wh_alone.specs.Beginnings.{written_start, open_start, IsFresh, BeginsAlone}
-use Rattle.wh_alone.specs.Runs.{CameTo, IsCallOf, IsStopped, AloneFrom, RunsAlone}
+use Rattle.wh_alone.specs.Beginnings.{written_start, open_start, IsFresh, BeginsInstance}
+use Rattle.wh_alone.specs.Runs.{CameTo, IsCallOf, IsStopped, AloneFrom, RunsModule}
 
 -- ---- a journal replays
 
@@ -41,7 +41,7 @@ replay_of m p [] z inst s ps given journal initial replays = absurd journal
 replay_of m p (start ∷ calls) z inst s ps given journal initial replays = (given, journal, (inst, s, ps, initial, replays))
 
 -- where an instance is, its journal leads
-pub replays_at : (i : Plain) (m : Module) (p : Parameters) (ended : List Call) (current : Option Call) (z : Standing) → IsAt i m p ended current z → Replay m p (ended ++ listed current) z
+pub replays_at : (i : InstanceState) (m : Module) (p : Parameters) (ended : List Call) (current : Option Call) (z : Standing) → IsAtStanding i m p ended current z → Replay m p (ended ++ listed current) z
 replays_at i m p ended current z at = replay_of m p (ended ++ listed current) z at.inst at.first at.pieces at.given at.journal at.initial (replays_then at.past (now_replays i.stage i.kept at.inst at.s at.ps ended current z at.stage))
 
 -- ---- the start, and a call behind it
@@ -80,19 +80,19 @@ idle_stage stages.Dead k inst s ps start rest z e st = let failed = st.0.0 in ab
 -- ---- the start has come so far
 
 -- it is all that the instance has done
-pub record Began (m : Module) (p : Parameters) (i : Plain) (fuel : ℕ) (outcome : Outcome) (n : ℕ) : Type 0 where
+pub record Began (m : Module) (p : Parameters) (i : InstanceState) (fuel : ℕ) (outcome : Outcome) (n : ℕ) : Type 0 where
   pub start : Call
   pub z : Standing
-  pub is_at : IsAt i m p (ended_as start start.outcome) (open_as start start.outcome) z
+  pub is_at : IsAtStanding i m p (ended_as start start.outcome) (open_as start start.outcome) z
   pub came : CameTo start fuel outcome n
 
 came_to : (m : Module) (p : Parameters) (start : Call) (z : Standing) (fuel n : ℕ) (outcome : Outcome) → IsOutcome outcome start.outcome → start.charges ≡ n → start.fuel ≡ fuel → Replay m p (start ∷ []) z → CameTo start fuel outcome n
 came_to m p start z fuel n outcome is charges fuel_is r = let low = within m p [] start z r in record { is_outcome = is; charges_are = charges; within = omega (arith, low, charges, fuel_is) }
 
-start_replays : {m : Module} {p : Parameters} {i : Plain} (start : Call) (o : model.Outcome) (z : Standing) → IsAt i m p (ended_as start o) (open_as start o) z → Replay m p (start ∷ []) z
+start_replays : {m : Module} {p : Parameters} {i : InstanceState} (start : Call) (o : model.Outcome) (z : Standing) → IsAtStanding i m p (ended_as start o) (open_as start o) z → Replay m p (start ∷ []) z
 start_replays {m} {p} {i} start o z at = subst (λ cs. Replay m p cs z) (whole start o) (replays_at i m p (ended_as start o) (open_as start o) z at)
 
-begins_by : (m : Module) (p : Parameters) (i i2 : Plain) (fuel n : ℕ) (outcome : Outcome) (start : Option ℕ) (ended : List Call) (current : Option Call) (z : Standing) → IsFresh start ended current → IsAt i m p ended current z → IsOpen i.stage → GoesOn i fuel outcome n i2 → Began m p i2 fuel outcome n
+begins_by : (m : Module) (p : Parameters) (i i2 : InstanceState) (fuel n : ℕ) (outcome : Outcome) (start : Option ℕ) (ended : List Call) (current : Option Call) (z : Standing) → IsFresh start ended current → IsAtStanding i m p ended current z → IsOpen i.stage → GoesOnWith i fuel outcome n i2 → Began m p i2 fuel outcome n
 begins_by m p i i2 fuel n outcome None ended current z (k, one, none) at is goes =
     absurd (closed i.stage i.kept at.inst at.s at.ps ended current z none is at.stage)
   where
@@ -104,28 +104,28 @@ begins_by m p i i2 fuel n outcome None ended current z (k, one, none) at is goes
     closed stages.Dead k inst s ps ended current z e is st = is
 begins_by m p i i2 fuel n outcome (Some x) ended current z (k, none, one) at is goes =
     let call = open_start x k in
-    let r = goes m p ended call z (subst (λ c. IsAt i m p ended c z) one at) in
+    let r = goes m p ended call z (subst (λ c. IsAtStanding i m p ended c z) one at) in
     let o = r.0 in
     let start = further call fuel n o in
-    let at2 = subst (λ es. IsAt i2 m p (es ++ ended_as start o) (open_as start o) r.1) none r.3 in
+    let at2 = subst (λ es. IsAtStanding i2 m p (es ++ ended_as start o) (open_as start o) r.1) none r.3 in
     record { start = start; z = r.1; is_at = at2; came = came_to m p start r.1 fuel n outcome r.2 (omega arith) (omega arith) (start_replays start o r.1 at2) }
 
-pub began_some : (bytes : List ℕ) (p : Parameters) (i i2 : Plain) (fuel n : ℕ) (outcome : Outcome) (b : BeginsAlone bytes p i) → IsOpen i.stage → GoesOn i fuel outcome n i2 → Began b.m p i2 fuel outcome n
+pub began_some : (bytes : List ℕ) (p : Parameters) (i i2 : InstanceState) (fuel n : ℕ) (outcome : Outcome) (b : BeginsInstance bytes p i) → IsOpen i.stage → GoesOnWith i fuel outcome n i2 → Began b.m p i2 fuel outcome n
 began_some bytes p i i2 fuel n outcome b is goes = begins_by b.m p i i2 fuel n outcome b.m.start b.ended b.current b.z b.fresh b.is_at is goes
 
-none_by : (m : Module) (p : Parameters) (i : Plain) (fuel : ℕ) (start : Option ℕ) (ended : List Call) (current : Option Call) (z : Standing) → IsFresh start ended current → IsAt i m p ended current z → ¬ (IsOpen i.stage) → Began m p i fuel (Returned None) 0
+none_by : (m : Module) (p : Parameters) (i : InstanceState) (fuel : ℕ) (start : Option ℕ) (ended : List Call) (current : Option Call) (z : Standing) → IsFresh start ended current → IsAtStanding i m p ended current z → ¬ (IsOpen i.stage) → Began m p i fuel (Returned None) 0
 none_by m p i fuel None ended current z (k, one, none) at never =
     let start = written_start k in
-    let at2 = subst (λ c. IsAt i m p (start ∷ []) c z) none (subst (λ es. IsAt i m p es current z) one at) in
+    let at2 = subst (λ c. IsAtStanding i m p (start ∷ []) c z) none (subst (λ es. IsAtStanding i m p es current z) one at) in
     record { start = start; z = z; is_at = at2; came = record { is_outcome = refl; charges_are = refl; within = omega arith } }
 none_by m p i fuel (Some x) ended current z (k, none, one) at never = absurd (never (open_stage i.stage i.kept at.inst at.s at.ps ended current (open_start x k) z one at.stage))
 
-pub began_none : (bytes : List ℕ) (p : Parameters) (i : Plain) (fuel : ℕ) (b : BeginsAlone bytes p i) → ¬ (IsOpen i.stage) → Began b.m p i fuel (Returned None) 0
+pub began_none : (bytes : List ℕ) (p : Parameters) (i : InstanceState) (fuel : ℕ) (b : BeginsInstance bytes p i) → ¬ (IsOpen i.stage) → Began b.m p i fuel (Returned None) 0
 began_none bytes p i fuel b never = none_by b.m p i fuel b.m.start b.ended b.current b.z b.fresh b.is_at never
 
 -- ---- what comes of it
 
-pub stopped_start : (bytes : List ℕ) (p : Parameters) (i : Plain) (func : ℕ) (args : List ℕ) (fuel n : ℕ) (outcome : Outcome) (m : Module) → IsAccepted bytes m → Began m p i fuel outcome n → ((result : Option ℕ) → outcome ≡ Returned result → ⊥) → RunsAlone bytes p func args fuel (alone.Start outcome n) i
+pub stopped_start : (bytes : List ℕ) (p : Parameters) (i : InstanceState) (func : ℕ) (args : List ℕ) (fuel n : ℕ) (outcome : Outcome) (m : Module) → IsAccepted bytes m → Began m p i fuel outcome n → ((result : Option ℕ) → outcome ≡ Returned result → ⊥) → RunsModule bytes p func args fuel (alone.Start outcome n) i
 stopped_start bytes p i func args fuel n outcome m accepted b never =
     let at = b.is_at in
     record {
@@ -144,21 +144,21 @@ stopped_start bytes p i func args fuel n outcome m accepted b never =
     stopped_by OutOfFuel never = tt
 
 -- a start that has returned
-record HasReturned (m : Module) (p : Parameters) (i : Plain) (start : Call) (z : Standing) : Type 0 where
-  at_one : IsAt i m p (start ∷ []) None z
+record HasReturned (m : Module) (p : Parameters) (i : InstanceState) (start : Call) (z : Standing) : Type 0 where
+  at_one : IsAtStanding i m p (start ∷ []) None z
   alive : model.fails start.outcome ≡ false
 
-has_returned : {m : Module} {p : Parameters} {i : Plain} {fuel n : ℕ} {result : Option ℕ} (b : Began m p i fuel (Returned result) n) → HasReturned m p i b.start b.z
+has_returned : {m : Module} {p : Parameters} {i : InstanceState} {fuel n : ℕ} {result : Option ℕ} (b : Began m p i fuel (Returned result) n) → HasReturned m p i b.start b.z
 has_returned {m} {p} {i} {result = result} b = by_outcome b.start.outcome refl b.came.is_outcome
   where
     by_outcome : (o : model.Outcome) → b.start.outcome ≡ o → IsOutcome (Returned result) o → HasReturned m p i b.start b.z
-    by_outcome (returned vs) e is = record { at_one = subst (λ o. IsAt i m p (ended_as b.start o) (open_as b.start o) b.z) e b.is_at; alive = ap model.fails e }
+    by_outcome (returned vs) e is = record { at_one = subst (λ o. IsAtStanding i m p (ended_as b.start o) (open_as b.start o) b.z) e b.is_at; alive = ap model.fails e }
     by_outcome (stopped x) e is = absurd is
     by_outcome cancelled e is = absurd is
     by_outcome dead e is = absurd is
     by_outcome pending e is = absurd is
 
-pub no_call : (bytes : List ℕ) (p : Parameters) (i : Plain) (func : ℕ) (args : List ℕ) (fuel n : ℕ) (result : Option ℕ) (m : Module) (e : Refused) → IsAccepted bytes m → Began m p i fuel (Returned result) n → RefusesCall i func args e → RunsAlone bytes p func args fuel (alone.NoCall n) i
+pub no_call : (bytes : List ℕ) (p : Parameters) (i : InstanceState) (func : ℕ) (args : List ℕ) (fuel n : ℕ) (result : Option ℕ) (m : Module) (e : Refused) → IsAccepted bytes m → Began m p i fuel (Returned result) n → RefusesCall i func args e → RunsModule bytes p func args fuel (alone.NoCall n) i
 no_call bytes p i func args fuel n result m e accepted b refuses =
     let h = has_returned b in
     let at = h.at_one in
@@ -185,8 +185,8 @@ last_results inst call cancelled e all = λ y type body vs p q r. absurd (cc (e,
 last_results inst call dead e all = λ y type body vs p q r. absurd (cc (e, r))
 last_results inst call pending e all = λ y type body vs p q r. absurd (cc (e, r))
 
-pub one_call : (bytes : List ℕ) (p : Parameters) (i i2 : Plain) (func : ℕ) (args : List ℕ) (fuel started n : ℕ) (result : Option ℕ) (outcome : Outcome) (m : Module) → IsAccepted bytes m → Began m p i fuel (Returned result) started → Called i func args fuel outcome n i2
-    → RunsAlone bytes p func args fuel (alone.Call started outcome n) i2
+pub one_call : (bytes : List ℕ) (p : Parameters) (i i2 : InstanceState) (func : ℕ) (args : List ℕ) (fuel started n : ℕ) (result : Option ℕ) (outcome : Outcome) (m : Module) → IsAccepted bytes m → Began m p i fuel (Returned result) started → CallEnds i func args fuel outcome n i2
+    → RunsModule bytes p func args fuel (alone.Call started outcome n) i2
 one_call bytes p i i2 func args fuel started n result outcome m accepted b called =
     let h = has_returned b in
     let r = called m p (b.start ∷ []) b.z h.at_one in

@@ -18,16 +18,16 @@ use Rattle.wh_model.specs.Linking.{Links}
 use Rattle.wh_model.specs.Accepting.{IsModule}
 use Rattle.wh_model.specs.declared.faults.ValidKind.TheVariants.{Memory as NoRoomToCheck}
 use Rattle.wh_syntax.specs.View.{view_module}
-use Rattle.wh_imports.specs.Joined.{Joined}
+use Rattle.wh_imports.specs.Joined.{LinkedState}
 use Rattle.wh_imports.specs.Refusing as linking
 use Rattle.wh_control.specs.Represents.{bits_of}
-use Rattle.wh_control.specs.declared.store.Store as kept
-use Rattle.wh_control.specs.Parts.{Parts, IsInstance}
-use Rattle.wh_machine.specs.Opening.{Suits}
+use Rattle.wh_control.specs.declared.store.Store as code_store
+use Rattle.wh_control.specs.Parts.{ProgramParts, IsInstance}
+use Rattle.wh_machine.specs.Opening.{IsOwnCall}
 use Rattle.wh_machine.specs.declared.machine.Machine.{Machine}
-use Rattle.wh_machine.specs.Runs.{linked_parts, StoreStands, Stands, IsStanding}
+use Rattle.wh_machine.specs.Runs.{linked_parts, RepresentsInstance, RepresentsMachine, HasConfiguration}
 use Rattle.wh_initial.specs.Begins as initials
-use Rattle.wh_flatmem.specs.Flat.{Flat}
+use Rattle.wh_flatmem.specs.Flat.{FlatMemoryState}
 use Rattle.wh_alone.specs.declared.outcome.Outcome.{Outcome}
 use Rattle.wh_alone.specs.declared.outcome.Outcome.TheVariants.{Returned, Trapped, OutOfFuel}
 use Rattle.wh_alone.specs.declared.outcome.CallError.{CallError}
@@ -36,10 +36,10 @@ use Rattle.wh_model.specs.Accepting.{IsAccepted}
 use Rattle.wh_load.specs.Refusing.{RefusesBytes}
 
 -- why there is no instance; of memory nothing is said
-abbrev pub RefusesAlone : List ℕ → Parameters → CallError → Type 0
-RefusesAlone bytes p (Initial e) = (m : Module) × IsAccepted bytes m × initials.Refuses m p e
-RefusesAlone bytes p Memory = ⊤
-RefusesAlone bytes p (Load e) = RefusesBytes bytes e
+abbrev pub RefusesModule : List ℕ → Parameters → CallError → Type 0
+RefusesModule bytes p (Initial e) = (m : Module) × IsAccepted bytes m × initials.RefusesInstance m p e
+RefusesModule bytes p Memory = ⊤
+RefusesModule bytes p (Load e) = RefusesBytes bytes e
 
 -- ---- arguments
 
@@ -51,7 +51,7 @@ Arguments ts ns = ⊥
 
 -- the function of this index is one of the instance's own, and these words are arguments of it
 abbrev pub HasCall : Instance → ℕ → List ℕ → Type 0
-HasCall inst func args = (type : FuncType) × (body : Body) × (vs : List Value) × Suits inst func args type body vs
+HasCall inst func args = (type : FuncType) × (body : Body) × (vs : List Value) × IsOwnCall inst func args type body vs
 
 -- ---- data segments
 

@@ -4,7 +4,7 @@ use Rattle.wh_model.specs.Syntax.{Module}
 use Rattle.wh_model.specs.Instance.{Parameters}
 use Rattle.wh_model.specs.Replay.{Call, returned, pending, Standing}
 use Rattle.wh_model.specs.Accepting.{IsAccepted}
-use Rattle.wh_alone.specs.Journal.{Plain, IsAt}
+use Rattle.wh_alone.specs.Journal.{InstanceState, IsAtStanding}
 
 -- the start that has written so many fragments, where there is no start function
 abbrev pub written_start : ℕ → Call
@@ -20,11 +20,11 @@ IsFresh (Some x) ended current = (n : ℕ) × (ended ≡ []) × (current ≡ Som
 
 -- The bytes are accepted, their module has an instance with these parameters, and this is it, its data segments written
 -- and nothing called.
-pub record BeginsAlone (bytes : List ℕ) (p : Parameters) (i : Plain) : Type 0 where
+pub record BeginsInstance (bytes : List ℕ) (p : Parameters) (i : InstanceState) : Type 0 where
   pub m : Module
   pub accepted : IsAccepted bytes m
   pub ended : List Call
   pub current : Option Call
   pub z : Standing
-  pub is_at : IsAt i m p ended current z
+  pub is_at : IsAtStanding i m p ended current z
   pub fresh : IsFresh m.start ended current

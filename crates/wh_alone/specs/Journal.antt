@@ -19,7 +19,7 @@ use Rattle.wh_alone.specs.declared.outcome.Stage.TheVariants.{Fresh, Starting, I
 use Rattle.wh_alone.specs.Kept.{Kept, HasStore, StandsAt}
 
 -- what contracts see of an instance
-pub record Plain : Type 0 where
+pub record InstanceState : Type 0 where
   pub kept : Kept
   pub stage : Stage
 
@@ -74,19 +74,19 @@ pub record IsInvoked (inst : Instance) (s : Store) (ps : List Piece) (call : Cal
 
 -- the call has taken all its fuel, a charged reduction is next, and the machine stands for where it is
 pub record IsUnderWay (k : Kept) (inst : Instance) (s : Store) (ps : List Piece) (call : Call) (z : Standing) : Type 0
-    where
-  pub first : Config
-  pub at : Config
-  pub stands : z ≡ running at
-  pub is_open : call.outcome ≡ pending
-  pub all_written : call.fragments ≡ length ps
-  pub spent : call.charges ≡ call.fuel
-  pub invocation : Invocation inst (with_pieces s ps) call first
-  pub after : After inst first call.charges at
-  pub next : IsNext inst at
-  pub machine : StandsAt k (result_of invocation.type) inst at
-  pub runs : k.machine.running ≡ true
-  pub settled : IsSettledIn (linked_parts k.linked) k.machine
+  where
+    pub first : Config
+    pub at : Config
+    pub stands : z ≡ running at
+    pub is_open : call.outcome ≡ pending
+    pub all_written : call.fragments ≡ length ps
+    pub spent : call.charges ≡ call.fuel
+    pub invocation : Invocation inst (with_pieces s ps) call first
+    pub after : After inst first call.charges at
+    pub next : IsNext inst at
+    pub machine : StandsAt k (result_of invocation.type) inst at
+    pub runs : k.machine.running ≡ true
+    pub settled : IsSettledIn (linked_parts k.linked) k.machine
 
 -- the first of these calls, the start, hasn't failed
 abbrev pub HasStarted : List Call → Type 0
@@ -117,7 +117,8 @@ IsJournalOf m (start ∷ rest) = IsJournal m start rest
 
 -- The instance is one of this module with these parameters, and it is where its journal leads: behind calls that have
 -- ended, and an open one, if there is one.
-pub record IsAt (i : Plain) (m : Module) (p : Parameters) (ended : List Call) (current : Option Call) (z : Standing)
+pub record IsAtStanding (i : InstanceState) (m : Module) (p : Parameters) (ended : List Call) (current : Option Call)
+    (z : Standing)
     : Type 0 where
   pub module_is : m ≡ view_module i.kept.linked.valid.decoded
   pub given : AreGiven p
@@ -134,13 +135,13 @@ pub record IsAt (i : Plain) (m : Module) (p : Parameters) (ended : List Call) (c
   pub stage : IsStage i.stage i.kept inst s ps ended current z
 
 -- there is such a journal
-pub record IsSomewhere (i : Plain) : Type 0 where
+pub record IsSomewhere (i : InstanceState) : Type 0 where
   pub m : Module
   pub p : Parameters
   pub ended : List Call
   pub current : Option Call
   pub z : Standing
-  pub is_at : IsAt i m p ended current z
+  pub is_at : IsAtStanding i m p ended current z
 
 -- ---- what calls do
 
@@ -150,11 +151,12 @@ further call fuel charges o = record call { fuel = call.fuel + fuel; charges = c
 
 -- Whatever its journal is, the open call goes on with so much more fuel: it comes to that outcome after so many more
 -- charges.
-abbrev pub GoesOn : Plain → ℕ → Outcome → ℕ → Plain → Type 0
-GoesOn i fuel outcome n i2 =
-    (m : Module) (p : Parameters) (ended : List Call) (call : Call) (z : Standing) → IsAt i m p ended (Some call) z
+abbrev pub GoesOnWith : InstanceState → ℕ → Outcome → ℕ → InstanceState → Type 0
+GoesOnWith i fuel outcome n i2 =
+    (m : Module) (p : Parameters) (ended : List Call) (call : Call) (z : Standing)
+    → IsAtStanding i m p ended (Some call) z
     → (o : model.Outcome) × (z2 : Standing) × IsOutcome outcome o
-    × IsAt i2 m p (ended ++ ended_as (further call fuel n o) o) (open_as (further call fuel n o) o) z2
+    × IsAtStanding i2 m p (ended ++ ended_as (further call fuel n o) o) (open_as (further call fuel n o) o) z2
 
 -- a call of this function with these values and this fuel came so far
 abbrev pub called_so : ℕ → List Value → ℕ → ℕ → model.Outcome → Call
@@ -162,14 +164,15 @@ called_so func vs fuel charges o =
     record { func = Some func; args = vs; fuel = fuel; fragments = 0; charges = charges; outcome = o }
 
 -- Whatever its journal is, the call is its next one: it comes to that outcome after so many charges.
-abbrev pub Called : Plain → ℕ → List ℕ → ℕ → Outcome → ℕ → Plain → Type 0
-Called i func args fuel outcome n i2 =
-    (m : Module) (p : Parameters) (ended : List Call) (z : Standing) → IsAt i m p ended None z
+abbrev pub CallEnds : InstanceState → ℕ → List ℕ → ℕ → Outcome → ℕ → InstanceState → Type 0
+CallEnds i func args fuel outcome n i2 =
+    (m : Module) (p : Parameters) (ended : List Call) (z : Standing) → IsAtStanding i m p ended None z
     → (vs : List Value) × (o : model.Outcome) × (z2 : Standing) × (map bits_of vs ≡ args) × IsOutcome outcome o
-    × IsAt i2 m p (ended ++ ended_as (called_so func vs fuel n o) o) (open_as (called_so func vs fuel n o) o) z2
+    × IsAtStanding i2 m p (ended ++ ended_as (called_so func vs fuel n o) o) (open_as (called_so func vs fuel n o) o) z2
 
 -- Whatever its journal is, the open call has been cancelled where it stood.
-abbrev pub GivenUp : Plain → Plain → Type 0
+abbrev pub GivenUp : InstanceState → InstanceState → Type 0
 GivenUp i i2 =
-    (m : Module) (p : Parameters) (ended : List Call) (call : Call) (z : Standing) → IsAt i m p ended (Some call) z
-    → IsAt i2 m p (ended ++ record call { outcome = cancelled } ∷ []) None (idle (store_at z))
+    (m : Module) (p : Parameters) (ended : List Call) (call : Call) (z : Standing)
+    → IsAtStanding i m p ended (Some call) z
+    → IsAtStanding i2 m p (ended ++ record call { outcome = cancelled } ∷ []) None (idle (store_at z))

@@ -8,12 +8,12 @@ use Rattle.wh_model.specs.Store.{Value, Instance, Store}
 use Rattle.wh_control.specs.Represents.{bits_of}
 use Rattle.wh_alone.specs.declared.outcome.Outcome.{Outcome}
 use Rattle.wh_alone.specs.declared.outcome.Outcome.TheVariants.{Returned}
-use Rattle.wh_alone.specs.declared.outcome.Alone.{Alone}
-use Rattle.wh_alone.specs.declared.outcome.Alone.TheVariants.{Start, NoCall, Call as Called}
+use Rattle.wh_alone.specs.declared.outcome.CallResult.{CallResult}
+use Rattle.wh_alone.specs.declared.outcome.CallResult.TheVariants.{Start, NoCall, Call as Called}
 use Rattle.wh_model.specs.Accepting.{IsAccepted}
 use Rattle.wh_alone.specs.Alone.{HasCall}
 use Rattle.wh_alone.specs.Kept.{HasStore}
-use Rattle.wh_alone.specs.Journal.{Plain, IsOutcome, HasResults}
+use Rattle.wh_alone.specs.Journal.{InstanceState, IsOutcome, HasResults}
 
 -- the journal's call came to this answer after so many charges, within this fuel
 pub record CameTo (call : Call) (fuel : ℕ) (outcome : Outcome) (charges : ℕ) : Type 0 where
@@ -37,10 +37,10 @@ IsStopped outcome = Unit {0}
 -- What came of a call, as a journal of the instance: its start, which hasn't returned; or its start, which has, and
 -- there is no such function with such arguments; or its start, which has, and the call. And the store that is left is
 -- where the journal leads.
-abbrev pub AloneFrom : Module → Parameters → Instance → ℕ → List ℕ → ℕ → Alone → Plain → Type 0
+abbrev pub AloneFrom : Module → Parameters → Instance → ℕ → List ℕ → ℕ → CallResult → InstanceState → Type 0
 AloneFrom m p inst func args fuel (Start outcome n) i =
     (start : Call) × (z : Standing) × Replay m p (start ∷ []) z × HasStore i.kept inst (store_at z)
-        × CameTo start fuel outcome n × IsStopped outcome
+    × CameTo start fuel outcome n × IsStopped outcome
 AloneFrom m p inst func args fuel (NoCall n) i =
     (start : Call) × (z : Standing) × Replay m p (start ∷ []) z × HasStore i.kept inst (store_at z)
     × (result : Option ℕ) × CameTo start fuel (Returned result) n × ¬ (HasCall inst func args)
@@ -50,7 +50,8 @@ AloneFrom m p inst func args fuel (Called started outcome n) i =
     × CameTo call fuel outcome n
 
 -- The bytes are a module that is accepted, it begins so with these parameters, and that comes of the call.
-pub record RunsAlone (bytes : List ℕ) (p : Parameters) (func : ℕ) (args : List ℕ) (fuel : ℕ) (alone : Alone) (i : Plain)
+pub record RunsModule (bytes : List ℕ) (p : Parameters) (func : ℕ) (args : List ℕ) (fuel : ℕ) (alone : CallResult)
+    (i : InstanceState)
     : Type 0 where
   pub m : Module
   pub accepted : IsAccepted bytes m

@@ -13,7 +13,7 @@ use Rattle.wh_alone.specs.declared.outcome.Refused.{Refused}
 use Rattle.wh_alone.specs.declared.outcome.Refused.TheVariants.{Busy, Dead, NoCall}
 use Rattle.wh_alone.specs.Alone.{HasCall}
 use Rattle.wh_alone.specs.Kept.{Kept}
-use Rattle.wh_alone.specs.Journal.{Plain}
+use Rattle.wh_alone.specs.Journal.{InstanceState}
 
 -- a call is open: the start function, or another one
 abbrev pub IsOpen : Stage → Type 0
@@ -46,7 +46,7 @@ IsNoCall k func args =
     (c : Context) (inst : Instance) → IsInstance (linked_parts k.linked) c inst → ¬ (HasCall inst func args)
 
 -- why a function isn't called
-abbrev pub RefusesCall : Plain → ℕ → List ℕ → Refused → Type 0
+abbrev pub RefusesCall : InstanceState → ℕ → List ℕ → Refused → Type 0
 RefusesCall i func args Busy = IsOpen i.stage
 RefusesCall i func args Dead = i.stage ≡ stages.Dead
 RefusesCall i func args NoCall = (i.stage ≡ Idle) × IsNoCall i.kept func args

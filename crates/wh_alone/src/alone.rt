@@ -2,11 +2,11 @@
 
 ghost use Rattle.std.specs.Prelude.{IfOk, IfErr};
 ghost use Rattle.wh_initial.specs.Given.{view_parameters};
-ghost use Rattle.wh_alone.specs.Alone.{RefusesAlone};
-ghost use Rattle.wh_alone.specs.Runs.{RunsAlone};
+ghost use Rattle.wh_alone.specs.Alone.{RefusesModule};
+ghost use Rattle.wh_alone.specs.Runs.{RunsModule};
 
 use crate::instance::Instance;
-use crate::outcome::{Alone, CallError, Outcome};
+use crate::outcome::{CallError, CallResult, Outcome};
 use std::alloc::Global;
 use wh_initial::Parameters;
 
@@ -16,24 +16,24 @@ use wh_initial::Parameters;
 ///
 /// # Errors
 /// Why the bytes aren't accepted, or the module has no instance with these parameters.
-pub fn call_alone(
+pub fn call_module(
     alloc: Global,
     bytes: &[u8],
     parameters: Parameters,
     func: u32,
     args: &[u64],
     fuel: u64,
-) -> Result<(Instance, Alone), CallError>
+) -> Result<(Instance, CallResult), CallError>
     ensures ok { IfOk result
-        (λ r. RunsAlone bytes.now (view_parameters parameters) func args.now fuel r.1 r.0) }
-    ensures err { IfErr result (RefusesAlone bytes.now (view_parameters parameters)) }
+        (λ r. RunsModule bytes.now (view_parameters parameters) func args.now fuel r.1 r.0) }
+    ensures err { IfErr result (RefusesModule bytes.now (view_parameters parameters)) }
 {
     let mut instance = Instance::new(alloc, bytes, parameters)?;
     let started = match instance.run(fuel) {
         None => 0,
         Some((outcome, charges)) => {
             let Outcome::Returned(_) = outcome else {
-                return Ok((instance, Alone::Start(outcome, charges)));
+                return Ok((instance, CallResult::Start(outcome, charges)));
             };
             charges
         }
@@ -41,12 +41,12 @@ pub fn call_alone(
     match instance.call(func, args, fuel) {
         Ok((outcome, charges)) => Ok((
             instance,
-            Alone::Call {
+            CallResult::Call {
                 started,
                 outcome,
                 charges,
             },
         )),
-        Err(_) => Ok((instance, Alone::NoCall(started))),
+        Err(_) => Ok((instance, CallResult::NoCall(started))),
     }
 }

@@ -1,7 +1,7 @@
 //! Calls over a flat memory.
 
 ghost use Rattle.std.specs.Prelude.{◌≡◌};
-ghost use Rattle.wh_alone.specs.Kept.{StandsSomewhere, CanCall, Goes, Comes};
+ghost use Rattle.wh_alone.specs.Kept.{StandsSomewhere, CanCall, ContinuesTo, InvocationEnds};
 ghost use Rattle.wh_alone.specs.Stages.{stage_at_first, after_start, after_call};
 
 use crate::outcome::{Outcome, Stage};
@@ -24,7 +24,7 @@ pub fn run_on(
           memory = memory.old;
           machine = machine.old;
         }) }
-    ensures { Goes
+    ensures { ContinuesTo
         (record {
           linked = linked.now;
           store = store.old;
@@ -66,7 +66,7 @@ pub fn call(
           machine = machine.old;
         })
         func args.now }
-    ensures { Comes
+    ensures { InvocationEnds
         (record {
           linked = linked.now;
           store = store.old;

@@ -4,10 +4,10 @@ ghost use Rattle.std.specs.Prelude.{◌≡◌, true, false, IfOk, IfErr, IfSome,
 ghost use Rattle.wh_initial.specs.Given.{view_parameters};
 ghost use Rattle.wh_alone.specs.Exports.{Exports, LacksFunc};
 ghost use Rattle.wh_alone.specs.Stored.{stored_plain};
-ghost use Rattle.wh_alone.specs.Alone.{RefusesAlone};
-ghost use Rattle.wh_alone.specs.Journal.{Plain, IsSomewhere, GoesOn, Called, GivenUp};
+ghost use Rattle.wh_alone.specs.Alone.{RefusesModule};
+ghost use Rattle.wh_alone.specs.Journal.{InstanceState, IsSomewhere, GoesOnWith, CallEnds, GivenUp};
 ghost use Rattle.wh_alone.specs.Stages.{IsOpen, RefusesCall};
-ghost use Rattle.wh_alone.specs.Beginnings.{BeginsAlone};
+ghost use Rattle.wh_alone.specs.Beginnings.{BeginsInstance};
 
 use crate::arguments::{are_words, can_call};
 use crate::calling::{call, first_stage, run_on, stage_after_call, stage_after_start};
@@ -18,7 +18,7 @@ use std::alloc::Global;
 use std::marker::Model;
 use wh_flatmem::FlatMemory;
 use wh_imports::Linked;
-use wh_initial::{Parameters, initial};
+use wh_initial::{Parameters, instantiate};
 use wh_load::load;
 use wh_machine::{Machine, Store};
 
@@ -35,7 +35,7 @@ pub struct Instance {
 }
 
 impl Model for Instance {
-    ghost Value = { Plain };
+    ghost Value = { InstanceState };
 
     ghost coded = { stored_plain };
 
@@ -61,12 +61,12 @@ impl Instance {
     /// # Errors
     /// Why the bytes aren't accepted, or the module has no instance with these parameters.
     pub fn new(alloc: Global, bytes: &[u8], parameters: Parameters) -> Result<Instance, CallError>
-        ensures ok { IfOk result (BeginsAlone bytes.now (view_parameters parameters)) }
-        ensures err { IfErr result (RefusesAlone bytes.now (view_parameters parameters)) }
+        ensures ok { IfOk result (BeginsInstance bytes.now (view_parameters parameters)) }
+        ensures err { IfErr result (RefusesModule bytes.now (view_parameters parameters)) }
     {
         are_words(&parameters.inputs);
         let linked = load(alloc, bytes).map_err(CallError::Load)?;
-        let begun = match initial(alloc, &linked, parameters) {
+        let begun = match instantiate(alloc, &linked, parameters) {
             Ok(begun) => begun,
             Err(error) => return Err(CallError::Initial(error)),
         };
@@ -95,7 +95,7 @@ impl Instance {
     /// where this isn't the index of one of the module's own functions, or these words aren't arguments of it: one for
     /// each parameter, below 2^32 for an i32.
     pub fn call(&mut self, func: u32, args: &[u64], fuel: u64) -> Result<(Outcome, u64), Refused>
-        ensures ok { IfOk result (λ r. Called self.old func args.now fuel r.0 r.1 self.new) }
+        ensures ok { IfOk result (λ r. CallEnds self.old func args.now fuel r.0 r.1 self.new) }
         ensures err { IfErr result
             (λ e. RefusesCall self.old func args.now e × (self.new ≡ self.old)) }
     {
@@ -124,7 +124,7 @@ impl Instance {
     /// and how many charges were taken now. `None` where no call is open.
     pub fn run(&mut self, fuel: u64) -> Option<(Outcome, u64)>
         ensures some { IfSome result
-            (λ r. IsOpen self.old.stage × GoesOn self.old fuel r.0 r.1 self.new) }
+            (λ r. IsOpen self.old.stage × GoesOnWith self.old fuel r.0 r.1 self.new) }
         ensures none { IfNone result ((¬ (IsOpen self.old.stage)) × (self.new ≡ self.old)) }
     {
         match self.stage {

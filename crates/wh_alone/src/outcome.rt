@@ -1,7 +1,7 @@
 //! What a call comes to, and why there is no instance.
 
 use thiserror::Error;
-use wh_initial::InitialError;
+use wh_initial::InstantiateError;
 use wh_load::LoadError;
 use wh_model::Trap;
 
@@ -47,7 +47,7 @@ pub enum Refused {
 
 /// What came of one call of a module.
 #[derive(Clone, Copy, Debug, PartialEq, Eq)]
-pub enum Alone {
+pub enum CallResult {
     /// The start function hasn't returned: how it has ended, and its charges. Nothing else was called.
     Start(Outcome, u64),
     /// The start function, if there is one, has returned after so many charges; the module has no function of its own
@@ -72,7 +72,7 @@ pub enum CallError {
     Load(LoadError),
     /// The module has no instance with these parameters.
     #[error("there is no such instance")]
-    Initial(InitialError),
+    Initial(InstantiateError),
     /// A growth of memory was refused.
     #[error("a growth of memory was refused")]
     Memory,

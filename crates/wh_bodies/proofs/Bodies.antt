@@ -8,7 +8,7 @@ use Rattle.wh_model.specs.Typing.{Context, operand}
 use Rattle.wh_model.specs.Validity.{ValidBody}
 use Rattle.wh_model.specs.Heights.{operands, lowered, height_behind, greatest, body_height}
 use Rattle.wh_bodies.specs.declared.fault.BodyFault.{BodyFault}
-use Rattle.wh_bodies.specs.declared.table.Entry.{Entry}
+use Rattle.wh_bodies.specs.declared.table.BranchEntry.{BranchEntry}
 use Rattle.wh_bodies.specs.declared.marks.Mark.{Mark}
 use Rattle.wh_bodies.specs.Marks.{Marks, all_marks}
 use Rattle.wh_bodies.specs.Table.{Table, Target, within, base, laid, beside, one, nowhere, leads_to, entry_of, run_of, table_of}
@@ -53,7 +53,7 @@ module _ (c : Context) (ls : List ValType) (r : Option ValType) where
   abbrev carried_by : List Target → List (Option ValType)
   carried_by ts = map (λ (t : Target). t.carries) ts
 
-  laid_one : (us ts : List Target) (p q h h1 end : ℕ) (body rest : Code) (e : Entry) (t : Option ValType) → laid with_locals us (p + 1) q h1 body ≡ laid c us (p + 1) q h1 body → ((k : ℕ) → laid with_locals ts (end + 1) k (h1 + operands t) rest ≡ laid c ts (end + 1) k (h1 + operands t) rest)
+  laid_one : (us ts : List Target) (p q h h1 end : ℕ) (body rest : Code) (e : BranchEntry) (t : Option ValType) → laid with_locals us (p + 1) q h1 body ≡ laid c us (p + 1) q h1 body → ((k : ℕ) → laid with_locals ts (end + 1) k (h1 + operands t) rest ≡ laid c ts (end + 1) k (h1 + operands t) rest)
       → beside (beside (one e []) (beside (laid with_locals us (p + 1) q h1 body) (one nowhere []))) (laid with_locals ts (end + 1) (q + length (laid with_locals us (p + 1) q h1 body).pool) (h1 + operands t) rest) ≡ beside (beside (one e []) (beside (laid c us (p + 1) q h1 body) (one nowhere []))) (laid c ts (end + 1) (q + length (laid c us (p + 1) q h1 body).pool) (h1 + operands t) rest)
   laid_one us ts p q h h1 end body rest e t inner behind =
       ap (λ (x : Table). beside (beside (one e []) (beside x (one nowhere []))) (laid with_locals ts (end + 1) (q + length x.pool) (h1 + operands t) rest)) inner
@@ -129,8 +129,8 @@ shown c f b count ms last few size marks e =
     let inner = laid d ts 0 0 0 b.code in
     let is : inner ≡ laid c ts 0 0 0 b.code = laid_same c (f.params ++ b.locals) of ts 0 0 0 b.code in
     let made : (let t : Table = record { entries = part.next.entries; pool = part.next.pool } in t) ≡ table_of c f b =
-    ap (λ (es : List Entry). let t : Table = record { entries = es; pool = part.next.pool } in t) part.entries
-    ∙ ap (λ (es : List Entry). let t : Table = record { entries = inner.entries ++ nowhere ∷ []; pool = es } in t) (part.pool ∙ sym (append-nil inner.pool))
+    ap (λ (es : List BranchEntry). let t : Table = record { entries = es; pool = part.next.pool } in t) part.entries
+    ∙ ap (λ (es : List BranchEntry). let t : Table = record { entries = inner.entries ++ nowhere ∷ []; pool = es } in t) (part.pool ∙ sym (append-nil inner.pool))
     ∙ ap (λ (t : Table). beside t (one nowhere [])) is in
     record {
       valid = (of, result_is f.results few, part.typed);

@@ -12,13 +12,13 @@ use Rattle.wh_model.specs.Typing.{Context, operand, load_type, store_type}
 use Rattle.wh_model.specs.declared.faults.ValidKind.{ValidKind}
 use Rattle.wh_model.specs.declared.faults.ValidKind.TheVariants.{BadType, Align, Arity, Height}
 use Rattle.wh_bodies.specs.declared.fault.BodyFault.{BodyFault}
-use Rattle.wh_bodies.specs.declared.table.Entry.{Entry}
+use Rattle.wh_bodies.specs.declared.table.BranchEntry.{BranchEntry}
 use Rattle.wh_bodies.specs.declared.labels.Label.{Label}
 use Rattle.wh_bodies.specs.declared.marks.Mark.{Mark}
 use Rattle.wh_bodies.specs.Faults.{follow, IsOfBody}
 use Rattle.wh_bodies.specs.Table.{leads_to, nowhere}
 use Rattle.wh_bodies.specs.Known.{Known, topmost, take_any, is_wanted, take_one, give_one, fall, take_all, give_all, pass, agreed, selected, same_type}
-use Rattle.wh_bodies.specs.Stepping.{State, found, typed, aligned, written, load_exponent, store_exponent, fixed, straight, numeric, entry_to, branch, branch_if, same_operand, add_run, branch_table, plain_step, next_mark, inside, label_over, opened, finished, turned_at, turned, may_end, closed, with_label, act, noted, step, at_instr, run}
+use Rattle.wh_bodies.specs.Stepping.{State, found, typed, aligned, type_to_write, load_exponent, store_exponent, fixed, straight, numeric, entry_to, branch, branch_if, same_operand, add_run, branch_table, plain_step, next_mark, known_inside, label_over, opened, finished, turned_at, turned, may_end, closed_construct, with_label, act, noted, step, at_instr, run}
 use Rattle.wh_bodies.specs.Marks.{all_marks}
 use Rattle.wh_bodies.specs.Starting.{started, whole_run}
 use Rattle.wh_bodies.proofs.Constructs.{Act, Marked, Two}
@@ -86,7 +86,7 @@ in_selected k = in_follow (take_one k I32) (λ a. follow (take_any a) (λ b. fol
 
 -- ---- instructions without a body
 
-in_written : (m : Mutability) (t : ValType) → Listed (written m t)
+in_written : (m : Mutability) (t : ValType) → Listed (type_to_write m t)
 in_written Const t = tt
 in_written Var t = tt
 
@@ -96,7 +96,7 @@ in_fixed c (local_get x) = in_found (slice_get c.locals x) (λ t. typed [] (t �
 in_fixed c (local_set x) = in_found (slice_get c.locals x) (λ t. typed (t ∷ []) []) (λ t. tt)
 in_fixed c (local_tee x) = in_found (slice_get c.locals x) (λ t. typed (t ∷ []) (t ∷ [])) (λ t. tt)
 in_fixed c (global_get x) = in_found (slice_get c.globals x) (λ g. typed [] (g.value ∷ [])) (λ g. tt)
-in_fixed c (global_set x) = in_found (slice_get c.globals x) (λ g. written g.mutability g.value) (λ g. in_written g.mutability g.value)
+in_fixed c (global_set x) = in_found (slice_get c.globals x) (λ g. type_to_write g.mutability g.value) (λ g. in_written g.mutability g.value)
 in_fixed c (load op align offset) = let t = typed (I32 ∷ []) ((load_type op).0 ∷ []) in in_found (slice_get c.memories 0) (λ l. aligned align (load_exponent op) t) (λ l. in_cond (nat_le align (load_exponent op)) t (Err Align) tt tt)
 in_fixed c (store op align offset) = let t = typed (I32 ∷ (store_type op).0 ∷ []) [] in in_found (slice_get c.memories 0) (λ l. aligned align (store_exponent op) t) (λ l. in_cond (nat_le align (store_exponent op)) t (Err Align) tt tt)
 in_fixed c memory_size = in_found (slice_get c.memories 0) (λ l. typed [] (I32 ∷ [])) (λ l. tt)
@@ -136,32 +136,32 @@ in_straight c (binary t op) k = in_passed c (binary t op) k
 in_straight c (conversion op) k = in_passed c (conversion op) k
 
 abbrev Step : Type 0
-Step = Entry × Known × List Entry
+Step = BranchEntry × Known × List BranchEntry
 
 in_branch : (labels : List Label) (l : ℕ) (k : Known) → Listed (branch labels l k)
-in_branch labels l k = in_found {B = Entry × Known} (slice_get labels l) (λ to. follow (take_all k (operand to.carries)) (λ left. Ok (entry_to to, fall left))) (λ to. in_follow {B = Entry × Known} (take_all k (operand to.carries)) (λ left. Ok (entry_to to, fall left)) (in_take_all k (operand to.carries)) (λ left. tt))
+in_branch labels l k = in_found {B = BranchEntry × Known} (slice_get labels l) (λ to. follow (take_all k (operand to.carries)) (λ left. Ok (entry_to to, fall left))) (λ to. in_follow {B = BranchEntry × Known} (take_all k (operand to.carries)) (λ left. Ok (entry_to to, fall left)) (in_take_all k (operand to.carries)) (λ left. tt))
 
 in_branch_if : (labels : List Label) (l : ℕ) (k : Known) → Listed (branch_if labels l k)
-in_branch_if labels l k = in_found {B = Entry × Known} (slice_get labels l) (λ to. follow (take_one k I32) (λ a. follow (take_all a (operand to.carries)) (λ b. follow (give_all b (operand to.carries)) (λ new. Ok (entry_to to, new)))))
-    (λ to. in_follow {B = Entry × Known} (take_one k I32) (λ a. follow (take_all a (operand to.carries)) (λ b. follow (give_all b (operand to.carries)) (λ new. Ok (entry_to to, new)))) (in_take_one k I32)
-    (λ a. in_follow {B = Entry × Known} (take_all a (operand to.carries)) (λ b. follow (give_all b (operand to.carries)) (λ new. Ok (entry_to to, new))) (in_take_all a (operand to.carries))
-    (λ b. in_follow {B = Entry × Known} (give_all b (operand to.carries)) (λ new. Ok (entry_to to, new)) (in_give_all b (operand to.carries)) (λ new. tt))))
+in_branch_if labels l k = in_found {B = BranchEntry × Known} (slice_get labels l) (λ to. follow (take_one k I32) (λ a. follow (take_all a (operand to.carries)) (λ b. follow (give_all b (operand to.carries)) (λ new. Ok (entry_to to, new)))))
+    (λ to. in_follow {B = BranchEntry × Known} (take_one k I32) (λ a. follow (take_all a (operand to.carries)) (λ b. follow (give_all b (operand to.carries)) (λ new. Ok (entry_to to, new)))) (in_take_one k I32)
+    (λ a. in_follow {B = BranchEntry × Known} (take_all a (operand to.carries)) (λ b. follow (give_all b (operand to.carries)) (λ new. Ok (entry_to to, new))) (in_take_all a (operand to.carries))
+    (λ b. in_follow {B = BranchEntry × Known} (give_all b (operand to.carries)) (λ new. Ok (entry_to to, new)) (in_give_all b (operand to.carries)) (λ new. tt))))
 
-in_run : (labels : List Label) (carries : Option ValType) (ls : List ℕ) (pool : List Entry) → Listed (add_run labels carries ls pool)
+in_run : (labels : List Label) (carries : Option ValType) (ls : List ℕ) (pool : List BranchEntry) → Listed (add_run labels carries ls pool)
 in_run labels carries [] pool = tt
 in_run labels carries (l ∷ ls) pool = in_found (slice_get labels l) (λ to. cond (same_operand to.carries carries) (add_run labels carries ls (pool ++ entry_to to ∷ [])) (Err BadType))
     (λ to. in_cond (same_operand to.carries carries) (add_run labels carries ls (pool ++ entry_to to ∷ [])) (Err BadType) (in_run labels carries ls (pool ++ entry_to to ∷ [])) tt)
 
-in_table : (labels : List Label) (ls : List ℕ) (last : ℕ) (k : Known) (pool : List Entry) → Listed (branch_table labels ls last k pool)
+in_table : (labels : List Label) (ls : List ℕ) (last : ℕ) (k : Known) (pool : List BranchEntry) → Listed (branch_table labels ls last k pool)
 in_table labels ls last k pool = in_found {B = Step} (slice_get labels last) (λ to. follow (add_run labels to.carries ls pool) (λ more. follow (take_one k I32) (λ a. follow (take_all a (operand to.carries)) (λ b. Ok (leads_to (length pool), fall b, more ++ entry_to to ∷ [])))))
     (λ to. in_follow {B = Step} (add_run labels to.carries ls pool) (λ more. follow (take_one k I32) (λ a. follow (take_all a (operand to.carries)) (λ b. Ok (leads_to (length pool), fall b, more ++ entry_to to ∷ [])))) (in_run labels to.carries ls pool)
     (λ more. in_follow {B = Step} (take_one k I32) (λ a. follow (take_all a (operand to.carries)) (λ b. Ok (leads_to (length pool), fall b, more ++ entry_to to ∷ []))) (in_take_one k I32)
     (λ a. in_follow {B = Step} (take_all a (operand to.carries)) (λ b. Ok (leads_to (length pool), fall b, more ++ entry_to to ∷ [])) (in_take_all a (operand to.carries)) (λ b. tt))))
 
-in_noted : (c : Context) (op : Op) (k : Known) (pool : List Entry) → Listed (numeric c (single op) k) → Listed (follow {B = Step} (numeric c (single op) k) (λ new. Ok (nowhere, new, pool)))
+in_noted : (c : Context) (op : Op) (k : Known) (pool : List BranchEntry) → Listed (numeric c (single op) k) → Listed (follow {B = Step} (numeric c (single op) k) (λ new. Ok (nowhere, new, pool)))
 in_noted c op k pool p = in_follow {B = Step} (numeric c (single op) k) (λ new. Ok (nowhere, new, pool)) p (λ new. tt)
 
-in_plain : (c : Context) (labels : List Label) (op : Op) (k : Known) (pool : List Entry) → Listed (plain_step c labels op k pool)
+in_plain : (c : Context) (labels : List Label) (op : Op) (k : Known) (pool : List BranchEntry) → Listed (plain_step c labels op k pool)
 in_plain c labels (br l) k pool = in_follow {B = Step} (branch labels l k) (λ r. Ok (r.0, r.1, pool)) (in_branch labels l k) (λ r. tt)
 in_plain c labels (br_if l) k pool = in_follow {B = Step} (branch_if labels l k) (λ r. Ok (r.0, r.1, pool)) (in_branch_if labels l k) (λ r. tt)
 in_plain c labels (br_table ls l) k pool = in_table labels ls l k pool
@@ -196,7 +196,7 @@ in_mark [] = tt
 in_mark (m ∷ ms) = tt
 
 in_opened : (kind : Open) (t carries : Option ValType) (place : ℕ) (k : Known) (ls : List Label) → Listed (opened kind t carries place k ls)
-in_opened kind t carries place k ls = in_cond {A = Two} (nat_le (length k.types) 256) (Ok (inside k, label_over k kind t carries place ∷ ls)) (Err Height) tt tt
+in_opened kind t carries place k ls = in_cond {A = Two} (nat_le (length k.types) 256) (Ok (known_inside k, label_over k kind t carries place ∷ ls)) (Err Height) tt tt
 
 in_finished : (k : Known) (t : Option ValType) → Listed (finished k t)
 in_finished k t = in_follow (take_all k (operand t)) (λ left. cond (nat_eq (length left.types) left.floor) (Ok left) (Err Arity)) (in_take_all k (operand t)) (λ left. in_cond (nat_eq (length left.types) left.floor) (Ok left) (Err Arity) tt tt)
@@ -209,7 +209,7 @@ in_turned : (k : Known) (ls : List Label) → Listed (turned k ls)
 in_turned k [] = tt
 in_turned k (l ∷ ls) = in_turned_at l.kind k l ls
 
-in_closed : (k : Known) (ls : List Label) → Listed (closed k ls)
+in_closed : (k : Known) (ls : List Label) → Listed (closed_construct k ls)
 in_closed k [] = tt
 in_closed k (l ∷ ls) = in_follow {B = Two} (finished k l.result) (λ left. cond (may_end l.kind l.result) (follow (give_all (record left { floor = l.outer_floor; dead = l.outer_dead }) (operand l.result)) (λ new. Ok (new, ls))) (Err Arity)) (in_finished k l.result)
     (λ left. in_cond {A = Two} (may_end l.kind l.result) (follow (give_all (record left { floor = l.outer_floor; dead = l.outer_dead }) (operand l.result)) (λ new. Ok (new, ls))) (Err Arity)
@@ -226,7 +226,7 @@ in_act c (if_start t) s = in_follow {B = Act} (take_one s.known I32) (λ k. foll
     (λ m. in_follow {A = Two} {B = Act} (opened Then t t (m.0.end + 1) k s.labels) (λ r. Ok (with_label s m.1 r (leads_to m.0.other))) (in_opened Then t t (m.0.end + 1) k s.labels) (λ r. tt)))
 in_act c else_mark s = in_follow {A = Marked} {B = Act} (next_mark s.marks) (λ m. follow (turned s.known s.labels) (λ r. Ok (with_label s m.1 r (leads_to m.0.end)))) (in_mark s.marks)
     (λ m. in_follow {A = Two} {B = Act} (turned s.known s.labels) (λ r. Ok (with_label s m.1 r (leads_to m.0.end))) (in_turned s.known s.labels) (λ r. tt))
-in_act c end_mark s = in_follow {A = Two} {B = Act} (closed s.known s.labels) (λ r. Ok (with_label s s.marks r nowhere)) (in_closed s.known s.labels) (λ r. tt)
+in_act c end_mark s = in_follow {A = Two} {B = Act} (closed_construct s.known s.labels) (λ r. Ok (with_label s s.marks r nowhere)) (in_closed s.known s.labels) (λ r. tt)
 
 in_step : (c : Context) (i : Instr) (s : State) → Listed (step c i s)
 in_step c i s = in_follow {A = Act} {B = State} (act c i s) (λ r. Ok (noted r)) (in_act c i s) (λ r. tt)

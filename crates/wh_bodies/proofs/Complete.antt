@@ -8,7 +8,7 @@ use Rattle.wh_model.specs.Heights.{operands, height_behind, lowered, greatest}
 use Rattle.wh_model.proofs.Heights.{begins_within}
 use Rattle.wh_model.specs.declared.faults.ValidKind.{ValidKind}
 use Rattle.wh_bodies.specs.declared.fault.BodyFault.{BodyFault}
-use Rattle.wh_bodies.specs.declared.table.Entry.{Entry}
+use Rattle.wh_bodies.specs.declared.table.BranchEntry.{BranchEntry}
 use Rattle.wh_bodies.specs.declared.labels.Label.{Label}
 use Rattle.wh_bodies.specs.declared.marks.Mark.{Mark}
 use Rattle.wh_bodies.specs.Faults.{follow}
@@ -47,7 +47,7 @@ pub record Plainly (c : Context) (op : Op) (ls : List Label) (p q h : ℕ) (ms :
   pub fit : Fit next.known after
 
 abbrev Step : Type 0
-Step = Entry × Known × List Entry
+Step = BranchEntry × Known × List BranchEntry
 
 can_plain : (c : Context) (op : Op) (ls : List Label) (p q h : ℕ) (ms : List Mark) (s : State) (a b below : List ValType) → At s ls p q h → s.marks ≡ ms → h ≤ 256 → height_behind (around ls c) (base (targets_of ls)) h op ≤ 256 → OpType (around ls c) op a b → Fit s.known (a ++ below)
     → Plainly c op ls (p + 1) (q + length (run_of (targets_of ls) op)) (height_behind (around ls c) (base (targets_of ls)) h op) ms s (b ++ below)
@@ -55,9 +55,9 @@ can_plain c op ls p q h ms s a b below here marks small room t fit =
     let high = here.height in
     let tall : height_behind (around ls c) s.known.floor (length s.known.types) op ≡ height_behind (around ls c) (base (targets_of ls)) h op = ap (λ f. height_behind (around ls c) f (length s.known.types) op) here.floor ∙ ap (λ k. height_behind (around ls c) (base (targets_of ls)) k op) high in
     let g = can_step c ls op s.known s.pool a b below here.within (omega arith) (omega arith) t fit in
-    let e : Entry = g.0 in
+    let e : BranchEntry = g.0 in
     let k : Known = g.1 in
-    let more : List Entry = g.2 in
+    let more : List BranchEntry = g.2 in
     let m : State = record s { known = k; pool = more } in
     let n : State = noted (e, m) in
     let by : step c (single op) s ≡ Ok n =

@@ -11,14 +11,14 @@ use Rattle.wh_model.specs.Heights.{operands, lowered}
 use Rattle.wh_model.specs.declared.faults.ValidKind.{ValidKind}
 use Rattle.wh_model.specs.declared.faults.ValidKind.TheVariants.{Arity}
 use Rattle.wh_bodies.specs.declared.fault.BodyFault.{BodyFault}
-use Rattle.wh_bodies.specs.declared.table.Entry.{Entry}
+use Rattle.wh_bodies.specs.declared.table.BranchEntry.{BranchEntry}
 use Rattle.wh_bodies.specs.declared.labels.Label.{Label}
 use Rattle.wh_bodies.specs.declared.marks.Mark.{Mark}
 use Rattle.wh_bodies.specs.Faults.{follow}
-use Rattle.wh_bodies.specs.Known.{Known, Agree, Fit, take_one, give_all}
+use Rattle.wh_bodies.specs.Known.{Known, AgreeWithKnown, Fit, take_one, give_all}
 use Rattle.wh_bodies.specs.Table.{base, laid, nowhere, leads_to}
 use Rattle.wh_bodies.specs.Opened.{targets_of}
-use Rattle.wh_bodies.specs.Stepping.{State, next_mark, label_over, inside, opened, turned, may_end, closed, with_label, noted, step, at_instr, run}
+use Rattle.wh_bodies.specs.Stepping.{State, next_mark, label_over, known_inside, opened, turned, may_end, closed_construct, with_label, noted, step, at_instr, run}
 use Rattle.wh_bodies.proofs.Follow.{ok_is}
 use Rattle.wh_bodies.proofs.Knowing.{Stays, Passes, takes_one, above_none}
 use Rattle.wh_bodies.proofs.Forward.{can_take_one, can_give_all, can_finish}
@@ -34,22 +34,22 @@ run_on c n i is s next e = ap (λ (x : Result State ValidKind). follow (at_instr
 
 -- ---- opening
 
-fit_inside : (k : Known) → Fit (inside k) []
-fit_inside k = subst (λ xs. Agree xs false []) (sym (above_none (length k.types) k.types (omega arith))) refl
+fit_inside : (k : Known) → Fit (known_inside k) []
+fit_inside k = subst (λ xs. AgreeWithKnown xs false []) (sym (above_none (length k.types) k.types (omega arith))) refl
 
-can_open : (kind : Open) (t carries : Option ValType) (place : ℕ) (k : Known) (ls : List Label) → length k.types ≤ 256 → opened kind t carries place k ls ≡ Ok (inside k, label_over k kind t carries place ∷ ls)
+can_open : (kind : Open) (t carries : Option ValType) (place : ℕ) (k : Known) (ls : List Label) → length k.types ≤ 256 → opened kind t carries place k ls ≡ Ok (known_inside k, label_over k kind t carries place ∷ ls)
 can_open kind t carries place k ls h = rw (le-leb (length k.types) 256 h) refl
 
 -- a construct opens, and nothing lies above its floor
 pub record Opening (c : Context) (i : Instr) (k : Known) (l : Label) (ls : List Label) (p q h1 : ℕ) (ms : List Mark) (s : State) : Type 0 where
   pub next : State
   pub is : step c i s ≡ Ok next
-  pub known : next.known ≡ inside k
+  pub known : next.known ≡ known_inside k
   pub at : At next (l ∷ ls) (p + 1) q h1
   pub marks : next.marks ≡ ms
   pub fit : Fit next.known []
 
-opening : (c : Context) (i : Instr) (k : Known) (l : Label) (ls : List Label) (p q h1 : ℕ) (e : Entry) (ms : List Mark) (s n : State) → step c i s ≡ Ok n → Entered c [] k l ls p q h1 e ms s n → Opening c i k l ls p q h1 ms s
+opening : (c : Context) (i : Instr) (k : Known) (l : Label) (ls : List Label) (p q h1 : ℕ) (e : BranchEntry) (ms : List Mark) (s n : State) → step c i s ≡ Ok n → Entered c [] k l ls p q h1 e ms s n → Opening c i k l ls p q h1 ms s
 opening c i k l ls p q h1 e ms s n is en =
     let same : en.next ≡ n = ok_is {E = BodyFault} en.next n en.runs in
     record {
@@ -63,7 +63,7 @@ opening c i k l ls p q h1 e ms s n is en =
 
 pub can_block : (c : Context) (ls : List Label) (p q h : ℕ) (m : Mark) (ms : List Mark) (t : Option ValType) (s : State) → At s ls p q h → s.marks ≡ m ∷ ms → h ≤ 256 → Opening c (block_start t) s.known (label_at s.known Other t t (m.end + 1) h) ls p q h ms s
 can_block c ls p q h m ms t s here marks small =
-    let two : Two = (inside s.known, label_over s.known Other t t (m.end + 1) ∷ s.labels) in
+    let two : Two = (known_inside s.known, label_over s.known Other t t (m.end + 1) ∷ s.labels) in
     let n : State = noted (with_label s ms two (leads_to m.end)) in
     let a = here.height in
     let is : step c (block_start t) s ≡ Ok n =
@@ -73,7 +73,7 @@ can_block c ls p q h m ms t s here marks small =
 
 pub can_loop : (c : Context) (ls : List Label) (p q h : ℕ) (m : Mark) (ms : List Mark) (t : Option ValType) (s : State) → At s ls p q h → s.marks ≡ m ∷ ms → h ≤ 256 → Opening c (loop_start t) s.known (label_at s.known Other t None p h) ls p q h ms s
 can_loop c ls p q h m ms t s here marks small =
-    let two : Two = (inside s.known, label_over s.known Other t None (length s.entries) ∷ s.labels) in
+    let two : Two = (known_inside s.known, label_over s.known Other t None (length s.entries) ∷ s.labels) in
     let n : State = noted (with_label s ms two (leads_to m.end)) in
     let a = here.height in
     let is : step c (loop_start t) s ≡ Ok n =
@@ -105,7 +105,7 @@ can_if c ls p q h m ms t s below here marks small fit =
     let g = can_take_one s.known I32 below fit in
     let k : Known = g.0 in
     let w = takes_one s.known k I32 here.within g.1 in
-    let two : Two = (inside k, label_over k Then t t (m.end + 1) ∷ s.labels) in
+    let two : Two = (known_inside k, label_over k Then t t (m.end + 1) ∷ s.labels) in
     let n : State = noted (with_label s ms two (leads_to m.other)) in
     let a = here.height in
     let low : length k.types ≤ 256 = w.stays.small (omega arith) in
@@ -125,7 +125,7 @@ pub record Closing (c : Context) (ls : List Label) (p q h : ℕ) (ms : List Mark
   pub marks : next.marks ≡ ms
   pub fit : Fit next.known after
 
-can_close : (k b : Known) (l : Label) (ls : List Label) (below : List ValType) → k.floor ≤ length k.types → l.outer_floor ≡ k.floor → l.outer_dead ≡ k.dead → Stays (inside k) b → Fit b (operand l.result) → may_end l.kind l.result ≡ true → length k.types + operands l.result ≤ 256 → Fit k below → (new : Known) × (closed b (l ∷ ls) ≡ Ok (new, ls)) × Fit new (operand l.result ++ below)
+can_close : (k b : Known) (l : Label) (ls : List Label) (below : List ValType) → k.floor ≤ length k.types → l.outer_floor ≡ k.floor → l.outer_dead ≡ k.dead → Stays (known_inside k) b → Fit b (operand l.result) → may_end l.kind l.result ≡ true → length k.types + operands l.result ≤ 256 → Fit k below → (new : Known) × (closed_construct b (l ∷ ls) ≡ Ok (new, ls)) × Fit new (operand l.result ++ below)
 can_close k b l ls below w floor dead st fit may room under_it =
     let f = can_finish b l.result st.within fit in
     let left : Known = f.0 in
@@ -153,16 +153,16 @@ closing c body ls l p q h1 t k ms s b n after is fit part =
     }
 
 pub can_end : (c : Context) (body : Code) (ls : List Label) (k : Known) (kind : Open) (t carries : Option ValType) (place p q h1 : ℕ) (ms : List Mark) (s b : State) (below : List ValType)
-    → k.floor ≡ base (targets_of ls) → k.floor ≤ length k.types → length k.types ≡ h1 → s.known ≡ inside k → At s (label_at k kind t carries place h1 ∷ ls) p q h1 → Ran c body (label_at k kind t carries place h1 ∷ ls) p q h1 s b → b.marks ≡ ms → Fit b.known (operand t) → may_end kind t ≡ true → h1 + operands t ≤ 256 → Fit k below
+    → k.floor ≡ base (targets_of ls) → k.floor ≤ length k.types → length k.types ≡ h1 → s.known ≡ known_inside k → At s (label_at k kind t carries place h1 ∷ ls) p q h1 → Ran c body (label_at k kind t carries place h1 ∷ ls) p q h1 s b → b.marks ≡ ms → Fit b.known (operand t) → may_end kind t ≡ true → h1 + operands t ≤ 256 → Fit k below
     → Closing c ls (p + length (flatten body) + 1) (q + length (laid c (targets_of (label_at k kind t carries place h1 ∷ ls)) p q h1 body).pool) (h1 + operands t) ms b (operand t ++ below)
 can_end c body ls k kind t carries place p q h1 ms s b below floor w high known here r marks fit may room under_it =
     let l = label_at k kind t carries place h1 in
-    let stays : Stays (inside k) b.known = subst (λ (v : Known). Stays v b.known) known r.stays in
+    let stays : Stays (known_inside k) b.known = subst (λ (v : Known). Stays v b.known) known r.stays in
     let x = can_close k b.known l ls below w refl refl stays fit may (omega arith) under_it in
     let two : Two = (x.0, ls) in
     let n : State = noted (with_label b b.marks two nowhere) in
     let is : step c end_mark b ≡ Ok n =
-    ap (λ (y : List Label). follow {A = Act} {B = State} (follow {A = Two} {B = Act} (closed b.known y) (λ r. Ok (with_label b b.marks r nowhere))) (λ r. Ok (noted r))) r.labels
+    ap (λ (y : List Label). follow {A = Act} {B = State} (follow {A = Two} {B = Act} (closed_construct b.known y) (λ r. Ok (with_label b b.marks r nowhere))) (λ r. Ok (noted r))) r.labels
     ∙ ap (λ (y : Result Two ValidKind). follow {A = Act} {B = State} (follow {A = Two} {B = Act} y (λ r. Ok (with_label b b.marks r nowhere))) (λ r. Ok (noted r))) x.1 in
     closing c body ls l p q h1 t k ms s b n (operand t ++ below) is x.2 (part_ends c body [] ls k kind t carries place p q h1 0 ms s b n floor w high known here r marks (run_on c 0 end_mark [] b n is))
 
@@ -171,7 +171,7 @@ can_end c body ls k kind t carries place p q h1 ms s b below floor w high known 
 pub record Turning (c : Context) (k : Known) (l : Label) (ls : List Label) (p q low : ℕ) (ms : List Mark) (s : State) : Type 0 where
   pub next : State
   pub is : step c else_mark s ≡ Ok next
-  pub known : next.known ≡ inside k
+  pub known : next.known ≡ known_inside k
   pub at : At next (l ∷ ls) p q low
   pub marks : next.marks ≡ ms
   pub fit : Fit next.known []
@@ -188,11 +188,11 @@ turning c first k t ls p q low m ms s b n is tn =
       fit = subst (λ (x : Known). Fit x []) (sym tn.known) (fit_inside k);
     }
 
-pub can_turn : (c : Context) (first : Code) (k : Known) (t : Option ValType) (ls : List Label) (p q low m : ℕ) (ms : List Mark) (s b : State) → s.known ≡ inside k → length k.types ≡ low → At s (label_at k Then t t (m + 1) low ∷ ls) (p + 1) q low → Ran c first (label_at k Then t t (m + 1) low ∷ ls) (p + 1) q low s b → b.marks ≡ mark m m ∷ ms → Fit b.known (operand t)
+pub can_turn : (c : Context) (first : Code) (k : Known) (t : Option ValType) (ls : List Label) (p q low m : ℕ) (ms : List Mark) (s b : State) → s.known ≡ known_inside k → length k.types ≡ low → At s (label_at k Then t t (m + 1) low ∷ ls) (p + 1) q low → Ran c first (label_at k Then t t (m + 1) low ∷ ls) (p + 1) q low s b → b.marks ≡ mark m m ∷ ms → Fit b.known (operand t)
     → Turning c k (label_at k Other t t (m + 1) low) ls (p + 1 + length (flatten first) + 1) (q + length (laid c (targets_of (label_at k Then t t (m + 1) low ∷ ls)) (p + 1) q low first).pool) low ms b
 can_turn c first k t ls p q low m ms s b known high at r marks fit =
     let l = label_at k Then t t (m + 1) low in
-    let stays : Stays (inside k) b.known = subst (λ (v : Known). Stays v b.known) known r.stays in
+    let stays : Stays (known_inside k) b.known = subst (λ (v : Known). Stays v b.known) known r.stays in
     let f = can_finish b.known t stays.within fit in
     let two : Two = (record f.0 { dead = false }, record l { kind = Other } ∷ ls) in
     let turned_ok : turned b.known (l ∷ ls) ≡ Ok two = ap (λ (x : Result Known ValidKind). follow {B = Two} x (λ left. Ok (record left { dead = false }, record l { kind = Other } ∷ ls))) f.1 in

@@ -10,7 +10,7 @@ use Rattle.wh_model.specs.Typing.{operand}
 use Rattle.wh_model.specs.declared.faults.ValidKind.{ValidKind}
 use Rattle.wh_model.specs.declared.faults.ValidKind.TheVariants.{Arity}
 use Rattle.wh_bodies.specs.Faults.{follow}
-use Rattle.wh_bodies.specs.Known.{Known, above, Admits, Agree, Fit, same_type, topmost, take_any, is_wanted, take_one, give_one, fall, take_all, give_all, pass, agreed, selected}
+use Rattle.wh_bodies.specs.Known.{Known, above, Admits, AgreeWithKnown, Fit, same_type, topmost, take_any, is_wanted, take_one, give_one, fall, take_all, give_all, pass, agreed, selected}
 use Rattle.wh_bodies.specs.Stepping.{finished}
 use Rattle.wh_bodies.proofs.Follow.{by_test}
 use Rattle.wh_bodies.proofs.Knowing.{above-front, above_none, popped, takes_one, takes_all, gives_one, falls}
@@ -23,19 +23,19 @@ pub record Taken (k : Known) (t : ValType) (after : List ValType) : Type 0 where
   pub admits : Admits was t
   pub fit : Fit left after
 
-taken_top : (types : List (Option ValType)) (floor : ℕ) (dead : Bool) (t : ValType) (after : List ValType) → floor < length types → Agree (above floor types) dead (t ∷ after)
+taken_top : (types : List (Option ValType)) (floor : ℕ) (dead : Bool) (t : ValType) (after : List ValType) → floor < length types → AgreeWithKnown (above floor types) dead (t ∷ after)
     → (o : Option ValType) × (left : Known) × (topmost (record { types = types; floor = floor; dead = dead }) types ≡ Ok (o, left)) × Admits o t × Fit left after
 taken_top [] floor dead t after h fit = absurd (omega arith)
 taken_top (o ∷ os) floor dead t after h fit =
-    let f : Agree (o ∷ above floor os) dead (t ∷ after) = subst (λ xs. Agree xs dead (t ∷ after)) (above-front floor o os (omega arith)) fit in
+    let f : AgreeWithKnown (o ∷ above floor os) dead (t ∷ after) = subst (λ xs. AgreeWithKnown xs dead (t ∷ after)) (above-front floor o os (omega arith)) fit in
     (o, record { types = os; floor = floor; dead = dead }, refl, f.0, f.1)
 
-agree_none : (dead : Bool) (t : ValType) (after : List ValType) → Agree [] dead (t ∷ after) → dead ≡ true
+agree_none : (dead : Bool) (t : ValType) (after : List ValType) → AgreeWithKnown [] dead (t ∷ after) → dead ≡ true
 agree_none true t after f = refl
 agree_none false t after f = cc
 
 fit_dead : (k : Known) (after : List ValType) → length k.types ≤ k.floor → k.dead ≡ true → Fit k after
-fit_dead k after h dead = subst (λ d. Agree (above k.floor k.types) d after) (sym dead) (subst (λ xs. Agree xs true after) (sym (above_none k.floor k.types h)) tt)
+fit_dead k after h dead = subst (λ d. AgreeWithKnown (above k.floor k.types) d after) (sym dead) (subst (λ xs. AgreeWithKnown xs true after) (sym (above_none k.floor k.types h)) tt)
 
 pub can_take : (k : Known) (t : ValType) (after : List ValType) → Fit k (t ∷ after) → Taken k t after
 can_take k t after fit = by_test (nat_lt k.floor (length k.types))
@@ -44,7 +44,7 @@ can_take k t after fit = by_test (nat_lt k.floor (length k.types))
     record { was = q.0; left = q.1; is = rw h q.2; admits = q.3; fit = q.4 })
     (λ h.
     let low : length k.types ≤ k.floor = grind (arith, nat_tests, h) in
-    let dead = agree_none k.dead t after (subst (λ xs. Agree xs k.dead (t ∷ after)) (above_none k.floor k.types low) fit) in
+    let dead = agree_none k.dead t after (subst (λ xs. AgreeWithKnown xs k.dead (t ∷ after)) (above_none k.floor k.types low) fit) in
     record { was = None; left = k; is = rw (h, dead) refl; admits = tt; fit = fit_dead k after low dead })
 
 pub same_true : (t : ValType) → same_type t t ≡ true
@@ -73,7 +73,7 @@ can_take_all k (t ∷ ts) after fit =
 
 pub can_give : (k : Known) (o : Option ValType) (t : ValType) (after : List ValType) → k.floor ≤ length k.types → length k.types < 256 → Admits o t → Fit k after → Goes (give_one k o) (t ∷ after)
 can_give k o t after w room a fit =
-    (record k { types = o ∷ k.types }, rw (lt-ltb (length k.types) 256 room) refl, subst (λ xs. Agree xs k.dead (t ∷ after)) (sym (above-front k.floor o k.types w)) (a, fit))
+    (record k { types = o ∷ k.types }, rw (lt-ltb (length k.types) 256 room) refl, subst (λ xs. AgreeWithKnown xs k.dead (t ∷ after)) (sym (above-front k.floor o k.types w)) (a, fit))
 
 pub can_give_all : (k : Known) (ts after : List ValType) → k.floor ≤ length k.types → length k.types + length ts ≤ 256 → Fit k after → Goes (give_all k ts) (reverse ts ++ after)
 can_give_all k [] after w room fit = (k, refl, fit)
@@ -128,7 +128,7 @@ can_fall k after w = (falls k w).back after
 
 -- ---- the end of a sequence
 
-agree_nothing : (os : List (Option ValType)) (dead : Bool) → Agree os dead [] → length os ≡ 0
+agree_nothing : (os : List (Option ValType)) (dead : Bool) → AgreeWithKnown os dead [] → length os ≡ 0
 agree_nothing [] dead f = refl
 agree_nothing (o ∷ os) dead f = absurd f
 

@@ -8,7 +8,7 @@ use Rattle.wh_model.specs.declared.ValType.{ValType}
 use Rattle.wh_model.specs.declared.ValType.TheVariants.{I32, I64}
 use Rattle.wh_model.specs.declared.faults.ValidKind.{ValidKind}
 use Rattle.wh_model.specs.declared.faults.ValidKind.TheVariants.{BadType, Arity, Height}
-use Rattle.wh_bodies.specs.Known.{Known, above, beneath, Admits, Agree, Fit, same_type, topmost, take_any, is_wanted, take_one, give_one, fall, take_all, give_all}
+use Rattle.wh_bodies.specs.Known.{Known, above, known_beneath, Admits, AgreeWithKnown, Fit, same_type, topmost, take_any, is_wanted, take_one, give_one, fall, take_all, give_all}
 use Rattle.wh_bodies.proofs.Follow.{ok_is, follow_ok, cond_ok, by_test}
 
 -- ---- the operands above the floor
@@ -28,13 +28,13 @@ drop_none n xs e = rw e refl
 pub above-front : (floor : ℕ) (o : Option ValType) (os : List (Option ValType)) → floor ≤ length os → above floor (o ∷ os) ≡ o ∷ above floor os
 above-front floor o os h = take_front (length (o ∷ os) - floor) (length os - floor) o os (omega arith)
 
-pub beneath-front : (floor : ℕ) (o : Option ValType) (os : List (Option ValType)) → floor ≤ length os → beneath floor (o ∷ os) ≡ beneath floor os
+pub beneath-front : (floor : ℕ) (o : Option ValType) (os : List (Option ValType)) → floor ≤ length os → known_beneath floor (o ∷ os) ≡ known_beneath floor os
 beneath-front floor o os h = drop_front (length (o ∷ os) - floor) (length os - floor) o os (omega arith)
 
 pub above_none : (floor : ℕ) (os : List (Option ValType)) → length os ≤ floor → above floor os ≡ []
 above_none floor os h = take_none (length os - floor) os (omega arith)
 
-pub beneath_all : (floor : ℕ) (os : List (Option ValType)) → length os ≤ floor → beneath floor os ≡ os
+pub beneath_all : (floor : ℕ) (os : List (Option ValType)) → length os ≤ floor → known_beneath floor os ≡ os
 beneath_all floor os h = drop_none (length os - floor) os (omega arith)
 
 -- ---- what stays the same in the innermost sequence
@@ -42,7 +42,7 @@ beneath_all floor os h = drop_none (length os - floor) os (omega arith)
 pub record Stays (k n : Known) : Type 0 where
   pub floor : n.floor ≡ k.floor
   pub within : n.floor ≤ length n.types
-  pub beneath : beneath n.floor n.types ≡ beneath k.floor k.types
+  pub known_beneath : known_beneath n.floor n.types ≡ known_beneath k.floor k.types
   pub small : length k.types ≤ 256 → length n.types ≤ 256
 
 pub stay : (k : Known) → k.floor ≤ length k.types → Stays k k
@@ -63,14 +63,14 @@ pop_known : (o : Option ValType) (os : List (Option ValType)) (floor : ℕ) (dea
 pop_known o os floor dead w = record {
   stays = record { floor = refl; within = w; beneath = sym (beneath-front floor o os w); small = λ h. omega arith };
   height = omega arith;
-  back = λ after fit t admits. subst (λ xs. Agree xs dead (t ∷ after)) (sym (above-front floor o os w)) (admits, fit);
+  back = λ after fit t admits. subst (λ xs. AgreeWithKnown xs dead (t ∷ after)) (sym (above-front floor o os w)) (admits, fit);
 }
 
 pop_dead : (k : Known) → k.floor ≤ length k.types → length k.types ≤ k.floor → k.dead ≡ true → Popped k None k
 pop_dead k w h dead = record {
   stays = stay k w;
   height = omega arith;
-  back = λ after fit t admits. subst (λ d. Agree (above k.floor k.types) d (t ∷ after)) (sym dead) (subst (λ xs. Agree xs true (t ∷ after)) (sym (above_none k.floor k.types h)) tt);
+  back = λ after fit t admits. subst (λ d. AgreeWithKnown (above k.floor k.types) d (t ∷ after)) (sym dead) (subst (λ xs. AgreeWithKnown xs true (t ∷ after)) (sym (above_none k.floor k.types h)) tt);
 }
 
 pop_top : (types : List (Option ValType)) (floor : ℕ) (dead : Bool) (o : Option ValType) (n : Known) → floor < length types → topmost (record { types = types; floor = floor; dead = dead }) types ≡ Ok (o, n) → Popped (record { types = types; floor = floor; dead = dead }) o n
@@ -133,7 +133,7 @@ pub record Pushed (k : Known) (o : Option ValType) (n : Known) : Type 0 where
   pub height : length n.types ≡ length k.types + 1
   pub back : (after : List ValType) → Fit n after → (t : ValType) × (rest : List ValType) × (after ≡ t ∷ rest) × Admits o t × Fit k rest
 
-agrees_front : (o : Option ValType) (os : List (Option ValType)) (dead : Bool) (after : List ValType) → Agree (o ∷ os) dead after → (t : ValType) × (rest : List ValType) × (after ≡ t ∷ rest) × Admits o t × Agree os dead rest
+agrees_front : (o : Option ValType) (os : List (Option ValType)) (dead : Bool) (after : List ValType) → AgreeWithKnown (o ∷ os) dead after → (t : ValType) × (rest : List ValType) × (after ≡ t ∷ rest) × Admits o t × AgreeWithKnown os dead rest
 agrees_front o os dead [] f = absurd f
 agrees_front o os dead (t ∷ rest) f = (t, rest, refl, f.0, f.1)
 
@@ -145,7 +145,7 @@ pushed k n o w e =
     let made : Pushed k o m = record {
       stays = record { floor = refl; within = omega arith; beneath = beneath-front k.floor o k.types w; small = λ h. omega arith };
       height = omega arith;
-      back = λ after fit. agrees_front o (above k.floor k.types) k.dead after (subst (λ xs. Agree xs k.dead after) (above-front k.floor o k.types w) fit);
+      back = λ after fit. agrees_front o (above k.floor k.types) k.dead after (subst (λ xs. AgreeWithKnown xs k.dead after) (above-front k.floor o k.types w) fit);
     } in
     subst (λ u. Pushed k o u) (ok_is {E = ValidKind} m n p.1) made
 
@@ -217,12 +217,12 @@ pub record Falls (k n : Known) : Type 0 where
 
 pub falls : (k : Known) → k.floor ≤ length k.types → Falls k (fall k)
 falls k w =
-    let under = beneath k.floor k.types in
+    let under = known_beneath k.floor k.types in
     let high : length under ≡ k.floor = let l = length-drop (length k.types - k.floor) k.types in omega arith in
     record {
       stays = record { floor = refl; within = omega arith; beneath = beneath_all k.floor under (omega arith); small = λ h. omega arith };
       height = high;
-      back = λ after. subst (λ xs. Agree xs true after) (sym (above_none k.floor under (omega arith))) tt;
+      back = λ after. subst (λ xs. AgreeWithKnown xs true after) (sym (above_none k.floor under (omega arith))) tt;
     }
 
 -- something fits whatever is known
@@ -230,7 +230,7 @@ some_type : (o : Option ValType) → (t : ValType) × Admits o t
 some_type None = (I32, tt)
 some_type (Some t) = (t, refl)
 
-some_agree : (os : List (Option ValType)) (dead : Bool) → (ts : List ValType) × Agree os dead ts
+some_agree : (os : List (Option ValType)) (dead : Bool) → (ts : List ValType) × AgreeWithKnown os dead ts
 some_agree [] true = ([], tt)
 some_agree [] false = ([], refl)
 some_agree (o ∷ os) dead = let t = some_type o in let r = some_agree os dead in (t.0 ∷ r.0, (t.1, r.1))

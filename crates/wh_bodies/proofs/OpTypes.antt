@@ -21,7 +21,7 @@ use Rattle.wh_model.specs.Typing.{Context, OpType, load_type, store_type, conver
 use Rattle.wh_model.specs.Heights.{taken, given, no_type}
 use Rattle.wh_model.specs.declared.faults.ValidKind.{ValidKind}
 use Rattle.wh_model.specs.declared.faults.ValidKind.TheVariants.{Align}
-use Rattle.wh_bodies.specs.Stepping.{fixed, typed, load_exponent, store_exponent, aligned, written}
+use Rattle.wh_bodies.specs.Stepping.{fixed, typed, load_exponent, store_exponent, aligned, type_to_write}
 use Rattle.wh_bodies.proofs.Follow.{ok_is, found_ok, cond_ok}
 
 -- the instruction has this type, and takes and gives as many operands
@@ -94,13 +94,13 @@ global_typed c x f e =
     let q = found_ok (slice_get c.globals x) (λ g. typed [] (g.value ∷ [])) f e in
     known_type c (global_get x) f [] (q.0.value ∷ []) q.2 (record { type = (q.0, q.1, refl, refl); takes = refl; gives = refl })
 
-is_written : (m : Mutability) (t : ValType) (f : FuncType) → written m t ≡ Ok f → (m ≡ Var) × (typed (t ∷ []) [] ≡ Ok f)
+is_written : (m : Mutability) (t : ValType) (f : FuncType) → type_to_write m t ≡ Ok f → (m ≡ Var) × (typed (t ∷ []) [] ≡ Ok f)
 is_written Const t f e = cc
 is_written Var t f e = (refl, e)
 
 pub written_typed : (c : Context) (x : ℕ) (f : FuncType) → fixed c (global_set x) ≡ Ok f → Typed c (global_set x) f
 written_typed c x f e =
-    let q = found_ok (slice_get c.globals x) (λ g. written g.mutability g.value) f e in
+    let q = found_ok (slice_get c.globals x) (λ g. type_to_write g.mutability g.value) f e in
     let p = is_written q.0.mutability q.0.value f q.2 in
     known_type c (global_set x) f (q.0.value ∷ []) [] p.1 (record { type = (q.0, q.1, p.0, refl, refl); takes = refl; gives = refl })
 

@@ -10,7 +10,7 @@ use Rattle.wh_model.specs.Typing.{Context, OpType, operand}
 use Rattle.wh_model.specs.Heights.{taken, given, lowered, height_behind, operands, carried, no_type}
 use Rattle.wh_model.specs.declared.faults.ValidKind.{ValidKind}
 use Rattle.wh_model.specs.declared.faults.ValidKind.TheVariants.{BadType}
-use Rattle.wh_bodies.specs.declared.table.Entry.{Entry}
+use Rattle.wh_bodies.specs.declared.table.BranchEntry.{BranchEntry}
 use Rattle.wh_bodies.specs.declared.labels.Label.{Label}
 use Rattle.wh_bodies.specs.Faults.{follow}
 use Rattle.wh_bodies.specs.Known.{Known, Admits, Fit, take_any, take_one, give_one, take_all, give_all, pass, fall, agreed, selected, same_type}
@@ -146,18 +146,18 @@ explained_indirect c y k n w e =
 -- ---- with their entries
 
 -- and beside it stands the entry of the table, and in the pool the run of a br_table
-pub record Done (c : Context) (labels : List Label) (op : Op) (k n : Known) (pool : List Entry) (e : Entry) (more : List Entry) : Type 0 where
+pub record Done (c : Context) (labels : List Label) (op : Op) (k n : Known) (pool : List BranchEntry) (e : BranchEntry) (more : List BranchEntry) : Type 0 where
   pub explained : Explained (around labels c) op k n
   pub entry : e ≡ entry_of (targets_of labels) (length pool) op
   pub run : more ≡ pool ++ run_of (targets_of labels) op
 
 abbrev Step : Type 0
-Step = Entry × Known × List Entry
+Step = BranchEntry × Known × List BranchEntry
 
-done_as : (c : Context) (labels : List Label) (op : Op) (k m n : Known) (pool : List Entry) (d e : Entry) (less more : List Entry) → ◌≡◌ {A = Result Step ValidKind} (Ok (d, m, less)) (Ok (e, n, more)) → Done c labels op k m pool d less → Done c labels op k n pool e more
+done_as : (c : Context) (labels : List Label) (op : Op) (k m n : Known) (pool : List BranchEntry) (d e : BranchEntry) (less more : List BranchEntry) → ◌≡◌ {A = Result Step ValidKind} (Ok (d, m, less)) (Ok (e, n, more)) → Done c labels op k m pool d less → Done c labels op k n pool e more
 done_as c labels op k m n pool d e less more same h = subst (λ (s : Step). Done c labels op k s.1 pool s.0 s.2) (ok_is {E = ValidKind} (d, m, less) (e, n, more) same) h
 
-module _ (c : Context) (labels : List Label) (k n : Known) (pool : List Entry) (e : Entry) (more : List Entry) (w : k.floor ≤ length k.types) where
+module _ (c : Context) (labels : List Label) (k n : Known) (pool : List BranchEntry) (e : BranchEntry) (more : List BranchEntry) (w : k.floor ≤ length k.types) where
   straight_done : (op : Op) → ((m : Known) → numeric c (single op) k ≡ Ok m → Explained (around labels c) op k m) → entry_of (targets_of labels) (length pool) op ≡ nowhere → run_of (targets_of labels) op ≡ [] → follow {B = Step} (numeric c (single op) k) (λ new. Ok (nowhere, new, pool)) ≡ Ok (e, n, more) → Done c labels op k n pool e more
   straight_done op explained entry run same =
       let q = follow_ok {B = Step} (numeric c (single op) k) (λ new. Ok (nowhere, new, pool)) (e, n, more) same in
@@ -179,39 +179,39 @@ label_there c labels l to e = get_map (λ (t : Target). t.carries) (targets_of l
 label_entry : (labels : List Label) (l : ℕ) (to : Label) → slice_get labels l ≡ Some to → entry_to to ≡ branch_to (targets_of labels) l
 label_entry labels l to e = sym (ap to_target (get_map target_of labels l to e))
 
-branch_done : (c : Context) (labels : List Label) (l : ℕ) (k n : Known) (e : Entry) → k.floor ≤ length k.types → branch labels l k ≡ Ok (e, n) → Explained (around labels c) (br l) k n × (e ≡ branch_to (targets_of labels) l)
+branch_done : (c : Context) (labels : List Label) (l : ℕ) (k n : Known) (e : BranchEntry) → k.floor ≤ length k.types → branch labels l k ≡ Ok (e, n) → Explained (around labels c) (br l) k n × (e ≡ branch_to (targets_of labels) l)
 branch_done c labels l k n e w h =
-    let q = found_ok (slice_get labels l) (λ to. follow {B = Entry × Known} (take_all k (operand to.carries)) (λ left. Ok (entry_to to, fall left))) (e, n) h in
+    let q = found_ok (slice_get labels l) (λ to. follow {B = BranchEntry × Known} (take_all k (operand to.carries)) (λ left. Ok (entry_to to, fall left))) (e, n) h in
     let to = q.0 in
-    let r = follow_ok {B = Entry × Known} (take_all k (operand to.carries)) (λ left. Ok (entry_to to, fall left)) (e, n) q.2 in
+    let r = follow_ok {B = BranchEntry × Known} (take_all k (operand to.carries)) (λ left. Ok (entry_to to, fall left)) (e, n) q.2 in
     let p = takes_all k r.0 (operand to.carries) w r.1 in
     let there = label_there c labels l to q.1 in
     let x = explained_fall (around labels c) (br l) k r.0 (operand to.carries) refl (λ any outs. (to.carries, any, there, refl)) p in
-    let same = ok_is {A = Entry × Known} {E = ValidKind} (entry_to to, fall r.0) (e, n) r.2 in
-    (subst (λ u. Explained (around labels c) (br l) k u) (ap (λ (s : Entry × Known). s.1) same) x, sym (ap (λ (s : Entry × Known). s.0) same) ∙ label_entry labels l to q.1)
+    let same = ok_is {A = BranchEntry × Known} {E = ValidKind} (entry_to to, fall r.0) (e, n) r.2 in
+    (subst (λ u. Explained (around labels c) (br l) k u) (ap (λ (s : BranchEntry × Known). s.1) same) x, sym (ap (λ (s : BranchEntry × Known). s.0) same) ∙ label_entry labels l to q.1)
 
 pub operand_reversed : (t : Option ValType) → reverse (operand t) ≡ operand t
 operand_reversed None = refl
 operand_reversed (Some t) = refl
 
-branch_if_done : (c : Context) (labels : List Label) (l : ℕ) (k n : Known) (e : Entry) → k.floor ≤ length k.types → branch_if labels l k ≡ Ok (e, n) → Explained (around labels c) (br_if l) k n × (e ≡ branch_to (targets_of labels) l)
+branch_if_done : (c : Context) (labels : List Label) (l : ℕ) (k n : Known) (e : BranchEntry) → k.floor ≤ length k.types → branch_if labels l k ≡ Ok (e, n) → Explained (around labels c) (br_if l) k n × (e ≡ branch_to (targets_of labels) l)
 branch_if_done c labels l k n e w h =
-    let q = found_ok (slice_get labels l) (λ to. follow {B = Entry × Known} (take_one k I32) (λ a. follow {B = Entry × Known} (take_all a (operand to.carries)) (λ b. follow {B = Entry × Known} (give_all b (operand to.carries)) (λ new. Ok (entry_to to, new))))) (e, n) h in
+    let q = found_ok (slice_get labels l) (λ to. follow {B = BranchEntry × Known} (take_one k I32) (λ a. follow {B = BranchEntry × Known} (take_all a (operand to.carries)) (λ b. follow {B = BranchEntry × Known} (give_all b (operand to.carries)) (λ new. Ok (entry_to to, new))))) (e, n) h in
     let to = q.0 in
     let ts = operand to.carries in
-    let r = follow_ok {B = Entry × Known} (take_one k I32) (λ a. follow {B = Entry × Known} (take_all a ts) (λ b. follow {B = Entry × Known} (give_all b ts) (λ new. Ok (entry_to to, new)))) (e, n) q.2 in
+    let r = follow_ok {B = BranchEntry × Known} (take_one k I32) (λ a. follow {B = BranchEntry × Known} (take_all a ts) (λ b. follow {B = BranchEntry × Known} (give_all b ts) (λ new. Ok (entry_to to, new)))) (e, n) q.2 in
     let pa = takes_one k r.0 I32 w r.1 in
-    let s = follow_ok {B = Entry × Known} (take_all r.0 ts) (λ b. follow {B = Entry × Known} (give_all b ts) (λ new. Ok (entry_to to, new))) (e, n) r.2 in
+    let s = follow_ok {B = BranchEntry × Known} (take_all r.0 ts) (λ b. follow {B = BranchEntry × Known} (give_all b ts) (λ new. Ok (entry_to to, new))) (e, n) r.2 in
     let pb = takes_all r.0 s.0 ts pa.stays.within s.1 in
-    let g = follow_ok {B = Entry × Known} (give_all s.0 ts) (λ new. Ok (entry_to to, new)) (e, n) s.2 in
+    let g = follow_ok {B = BranchEntry × Known} (give_all s.0 ts) (λ new. Ok (entry_to to, new)) (e, n) s.2 in
     let pg = gives_all s.0 g.0 ts pb.stays.within g.1 in
     let all = take_then_give k s.0 g.0 (I32 ∷ ts) (reverse ts) (take_then k r.0 s.0 (I32 ∷ []) ts pa pb) pg in
     let there = label_there c labels l to q.1 in
     let many : carried (around labels c) l ≡ length ts = ap (λ o. operands (unwrap_or o None)) there in
     let back : length (reverse ts) ≡ length ts = length-reverse ts in
     let x = explained_pass (around labels c) (br_if l) k g.0 (I32 ∷ ts) (reverse ts) (to.carries, there, refl, operand_reversed to.carries) (omega arith) all in
-    let same = ok_is {A = Entry × Known} {E = ValidKind} (entry_to to, g.0) (e, n) g.2 in
-    (subst (λ u. Explained (around labels c) (br_if l) k u) (ap (λ (s : Entry × Known). s.1) same) x, sym (ap (λ (s : Entry × Known). s.0) same) ∙ label_entry labels l to q.1)
+    let same = ok_is {A = BranchEntry × Known} {E = ValidKind} (entry_to to, g.0) (e, n) g.2 in
+    (subst (λ u. Explained (around labels c) (br_if l) k u) (ap (λ (s : BranchEntry × Known). s.1) same) x, sym (ap (λ (s : BranchEntry × Known). s.0) same) ∙ label_entry labels l to q.1)
 
 same_carried : (t u : Option ValType) → same_operand t u ≡ true → t ≡ u
 same_carried None None e = refl
@@ -219,7 +219,7 @@ same_carried None (Some u) e = cc
 same_carried (Some t) None e = cc
 same_carried (Some t) (Some u) e = ap (λ v. Some v) (same_types t u e)
 
-run_done : (c : Context) (labels : List Label) (carries : Option ValType) (ls : List ℕ) (pool more : List Entry) → add_run labels carries ls pool ≡ Ok more → AllByRecursion (λ k. slice_get (around labels c).labels k ≡ Some carries) ls × (more ≡ pool ++ map (branch_to (targets_of labels)) ls)
+run_done : (c : Context) (labels : List Label) (carries : Option ValType) (ls : List ℕ) (pool more : List BranchEntry) → add_run labels carries ls pool ≡ Ok more → AllByRecursion (λ k. slice_get (around labels c).labels k ≡ Some carries) ls × (more ≡ pool ++ map (branch_to (targets_of labels)) ls)
 run_done c labels carries [] pool more e = (tt, sym (ok_is {E = ValidKind} pool more e) ∙ sym (append-nil pool))
 run_done c labels carries (l ∷ ls) pool more e =
     let q = found_ok (slice_get labels l) (λ to. cond (same_operand to.carries carries) (add_run labels carries ls (pool ++ entry_to to ∷ [])) (Err BadType)) more e in
@@ -232,7 +232,7 @@ run_done c labels carries (l ∷ ls) pool more e =
       r.1 ∙ append_assoc pool (one ∷ []) these ∙ ap (λ u. pool ++ (u ∷ these)) (label_entry labels l to q.1),
     )
 
-branch_table_done : (c : Context) (labels : List Label) (ls : List ℕ) (last : ℕ) (k n : Known) (pool : List Entry) (e : Entry) (more : List Entry) → k.floor ≤ length k.types → branch_table labels ls last k pool ≡ Ok (e, n, more) → Done c labels (br_table ls last) k n pool e more
+branch_table_done : (c : Context) (labels : List Label) (ls : List ℕ) (last : ℕ) (k n : Known) (pool : List BranchEntry) (e : BranchEntry) (more : List BranchEntry) → k.floor ≤ length k.types → branch_table labels ls last k pool ≡ Ok (e, n, more) → Done c labels (br_table ls last) k n pool e more
 branch_table_done c labels ls last k n pool e more w h =
     let q = found_ok (slice_get labels last) (λ to. follow {B = Step} (add_run labels to.carries ls pool) (λ more. follow {B = Step} (take_one k I32) (λ a. follow {B = Step} (take_all a (operand to.carries)) (λ b. Ok (leads_to (length pool), fall b, more ++ entry_to to ∷ []))))) (e, n, more) h in
     let to = q.0 in
@@ -252,7 +252,7 @@ branch_table_done c labels ls last k n pool e more w h =
 
 -- ---- every instruction without a body
 
-pub done : (c : Context) (labels : List Label) (op : Op) (k n : Known) (pool : List Entry) (e : Entry) (more : List Entry) → k.floor ≤ length k.types → plain_step c labels op k pool ≡ Ok (e, n, more) → Done c labels op k n pool e more
+pub done : (c : Context) (labels : List Label) (op : Op) (k n : Known) (pool : List BranchEntry) (e : BranchEntry) (more : List BranchEntry) → k.floor ≤ length k.types → plain_step c labels op k pool ≡ Ok (e, n, more) → Done c labels op k n pool e more
 done c labels (br l) k n pool e more w h =
     let q = follow_ok {B = Step} (branch labels l k) (λ r. Ok (r.0, r.1, pool)) (e, n, more) h in
     let b = branch_done c labels l k q.0.1 q.0.0 w q.1 in

@@ -13,13 +13,13 @@ use Rattle.wh_model.specs.Typing.{Context, OpType, operand, load_type, store_typ
 use Rattle.wh_model.specs.Heights.{taken, given, lowered, height_behind, operands, carried, no_type}
 use Rattle.wh_model.specs.declared.faults.ValidKind.{ValidKind}
 use Rattle.wh_model.specs.declared.faults.ValidKind.TheVariants.{BadType, Align}
-use Rattle.wh_bodies.specs.declared.table.Entry.{Entry}
+use Rattle.wh_bodies.specs.declared.table.BranchEntry.{BranchEntry}
 use Rattle.wh_bodies.specs.declared.labels.Label.{Label}
 use Rattle.wh_bodies.specs.Faults.{follow}
 use Rattle.wh_bodies.specs.Known.{Known, Fit, take_one, take_all, give_all, pass, fall}
 use Rattle.wh_bodies.specs.Table.{Target, nowhere, leads_to}
 use Rattle.wh_bodies.specs.Opened.{target_of, targets_of, around}
-use Rattle.wh_bodies.specs.Stepping.{found, fixed, straight, numeric, typed, aligned, written, load_exponent, store_exponent, entry_to, same_operand, add_run, plain_step}
+use Rattle.wh_bodies.specs.Stepping.{found, fixed, straight, numeric, typed, aligned, type_to_write, load_exponent, store_exponent, entry_to, same_operand, add_run, plain_step}
 use Rattle.wh_bodies.proofs.Knowing.{takes_one, takes_all}
 use Rattle.wh_bodies.proofs.Forward.{Goes, can_take, can_take_one, can_take_all, can_give_all, can_pass, can_select, can_fall, same_true}
 use Rattle.wh_bodies.proofs.Ops.{operand_reversed}
@@ -56,7 +56,7 @@ has c (local_get x) a b w t = (type [] (t.0 ∷ []), ap (λ o. found o (λ u. ty
 has c (local_set x) a b w t = (type (t.0 ∷ []) [], ap (λ o. found o (λ u. typed (u ∷ []) [])) t.1, t.2, t.3)
 has c (local_tee x) a b w t = (type (t.0 ∷ []) (t.0 ∷ []), ap (λ o. found o (λ u. typed (u ∷ []) (u ∷ []))) t.1, t.2, t.3)
 has c (global_get x) a b w t = (type [] (t.0.value ∷ []), ap (λ o. found o (λ (g : GlobalType). typed [] (g.value ∷ []))) t.1, t.2, t.3)
-has c (global_set x) a b w t = (type (t.0.value ∷ []) [], ap (λ o. found o (λ (g : GlobalType). written g.mutability g.value)) t.1 ∙ ap (λ m. written m t.0.value) t.2, t.3, t.4)
+has c (global_set x) a b w t = (type (t.0.value ∷ []) [], ap (λ o. found o (λ (g : GlobalType). type_to_write g.mutability g.value)) t.1 ∙ ap (λ m. type_to_write m t.0.value) t.2, t.3, t.4)
 has c (load op align offset) a b w t =
     let rest = typed (I32 ∷ []) ((load_type op).0 ∷ []) in
     (type (I32 ∷ []) ((load_type op).0 ∷ []), ap (λ o. found o (λ (l : Limits). aligned align (load_exponent op) rest)) t.0.0.1 ∙ ap (λ x. cond x rest (Err Align)) (small_align align (load_exponent op) (load_type op).1 (load_width op) t.0.1), t.1, t.2)
@@ -133,13 +133,13 @@ label_of c labels l t e =
     (v.0, v.1, ap (λ (t : Target). t.carries) v.2 ∙ u.2)
 
 abbrev Step : Type 0
-Step = Entry × Known × List Entry
+Step = BranchEntry × Known × List BranchEntry
 
 -- a step passes, and these types fit behind it
 abbrev pub Steps : Result Step ValidKind → List ValType → Type 0
-Steps r after = (e : Entry) × (n : Known) × (more : List Entry) × (r ≡ Ok (e, n, more)) × Fit n after
+Steps r after = (e : BranchEntry) × (n : Known) × (more : List BranchEntry) × (r ≡ Ok (e, n, more)) × Fit n after
 
-can_branch : (c : Context) (labels : List Label) (l : ℕ) (k : Known) (pool : List Entry) (a b below : List ValType) → k.floor ≤ length k.types → OpType (around labels c) (br l) a b → Fit k (a ++ below) → Steps (plain_step c labels (br l) k pool) (b ++ below)
+can_branch : (c : Context) (labels : List Label) (l : ℕ) (k : Known) (pool : List BranchEntry) (a b below : List ValType) → k.floor ≤ length k.types → OpType (around labels c) (br l) a b → Fit k (a ++ below) → Steps (plain_step c labels (br l) k pool) (b ++ below)
 can_branch c labels l k pool a b below w t fit =
     let to = label_of c labels l t.0 t.2 in
     let ts = operand to.0.carries in
@@ -148,12 +148,12 @@ can_branch c labels l k pool a b below w t fit =
       entry_to to.0,
       fall p.0,
       pool,
-      ap (λ (x : Option Label). follow {B = Step} (found {B = Entry × Known} x (λ to. follow {B = Entry × Known} (take_all k (operand to.carries)) (λ left. Ok (entry_to to, fall left)))) (λ r. Ok (r.0, r.1, pool))) to.1
-          ∙ ap (λ (x : Result Known ValidKind). follow {B = Step} (follow {B = Entry × Known} x (λ left. Ok (entry_to to.0, fall left))) (λ r. Ok (r.0, r.1, pool))) p.1,
+      ap (λ (x : Option Label). follow {B = Step} (found {B = BranchEntry × Known} x (λ to. follow {B = BranchEntry × Known} (take_all k (operand to.carries)) (λ left. Ok (entry_to to, fall left)))) (λ r. Ok (r.0, r.1, pool))) to.1
+          ∙ ap (λ (x : Result Known ValidKind). follow {B = Step} (follow {B = BranchEntry × Known} x (λ left. Ok (entry_to to.0, fall left))) (λ r. Ok (r.0, r.1, pool))) p.1,
       can_fall p.0 (b ++ below) q.stays.within,
     )
 
-can_branch_if : (c : Context) (labels : List Label) (l : ℕ) (k : Known) (pool : List Entry) (a b below : List ValType) → k.floor ≤ length k.types → height_behind (around labels c) k.floor (length k.types) (br_if l) ≤ 256 → OpType (around labels c) (br_if l) a b → Fit k (a ++ below) → Steps (plain_step c labels (br_if l) k pool) (b ++ below)
+can_branch_if : (c : Context) (labels : List Label) (l : ℕ) (k : Known) (pool : List BranchEntry) (a b below : List ValType) → k.floor ≤ length k.types → height_behind (around labels c) k.floor (length k.types) (br_if l) ≤ 256 → OpType (around labels c) (br_if l) a b → Fit k (a ++ below) → Steps (plain_step c labels (br_if l) k pool) (b ++ below)
 can_branch_if c labels l k pool a b below w room t fit =
     let to = label_of c labels l t.0 t.1 in
     let ts = operand to.0.carries in
@@ -169,10 +169,10 @@ can_branch_if c labels l k pool a b below w room t fit =
       entry_to to.0,
       g.0,
       pool,
-      ap (λ (x : Option Label). follow {B = Step} (found {B = Entry × Known} x (λ to. follow {B = Entry × Known} (take_one k I32) (λ a. follow {B = Entry × Known} (take_all a (operand to.carries)) (λ b. follow {B = Entry × Known} (give_all b (operand to.carries)) (λ new. Ok (entry_to to, new)))))) (λ r. Ok (r.0, r.1, pool))) to.1
-          ∙ ap (λ (x : Result Known ValidKind). follow {B = Step} (follow {B = Entry × Known} x (λ a. follow {B = Entry × Known} (take_all a ts) (λ b. follow {B = Entry × Known} (give_all b ts) (λ new. Ok (entry_to to.0, new))))) (λ r. Ok (r.0, r.1, pool))) p.1
-          ∙ ap (λ (x : Result Known ValidKind). follow {B = Step} (follow {B = Entry × Known} x (λ b. follow {B = Entry × Known} (give_all b ts) (λ new. Ok (entry_to to.0, new)))) (λ r. Ok (r.0, r.1, pool))) q.1
-          ∙ ap (λ (x : Result Known ValidKind). follow {B = Step} (follow {B = Entry × Known} x (λ new. Ok (entry_to to.0, new))) (λ r. Ok (r.0, r.1, pool))) g.1,
+      ap (λ (x : Option Label). follow {B = Step} (found {B = BranchEntry × Known} x (λ to. follow {B = BranchEntry × Known} (take_one k I32) (λ a. follow {B = BranchEntry × Known} (take_all a (operand to.carries)) (λ b. follow {B = BranchEntry × Known} (give_all b (operand to.carries)) (λ new. Ok (entry_to to, new)))))) (λ r. Ok (r.0, r.1, pool))) to.1
+          ∙ ap (λ (x : Result Known ValidKind). follow {B = Step} (follow {B = BranchEntry × Known} x (λ a. follow {B = BranchEntry × Known} (take_all a ts) (λ b. follow {B = BranchEntry × Known} (give_all b ts) (λ new. Ok (entry_to to.0, new))))) (λ r. Ok (r.0, r.1, pool))) p.1
+          ∙ ap (λ (x : Result Known ValidKind). follow {B = Step} (follow {B = BranchEntry × Known} x (λ b. follow {B = BranchEntry × Known} (give_all b ts) (λ new. Ok (entry_to to.0, new)))) (λ r. Ok (r.0, r.1, pool))) q.1
+          ∙ ap (λ (x : Result Known ValidKind). follow {B = Step} (follow {B = BranchEntry × Known} x (λ new. Ok (entry_to to.0, new))) (λ r. Ok (r.0, r.1, pool))) g.1,
       subst (λ xs. Fit g.0 (xs ++ below)) (operand_reversed to.0.carries ∙ ap operand to.2 ∙ sym t.3) g.2,
     )
 
@@ -180,7 +180,7 @@ same_operand_true : (t : Option ValType) → same_operand t t ≡ true
 same_operand_true None = refl
 same_operand_true (Some t) = same_true t
 
-can_run : (c : Context) (labels : List Label) (carries : Option ValType) (ls : List ℕ) (pool : List Entry) → AllByRecursion (λ k. slice_get (around labels c).labels k ≡ Some carries) ls → (more : List Entry) × (add_run labels carries ls pool ≡ Ok more)
+can_run : (c : Context) (labels : List Label) (carries : Option ValType) (ls : List ℕ) (pool : List BranchEntry) → AllByRecursion (λ k. slice_get (around labels c).labels k ≡ Some carries) ls → (more : List BranchEntry) × (add_run labels carries ls pool ≡ Ok more)
 can_run c labels carries [] pool all = (pool, refl)
 can_run c labels carries (l ∷ ls) pool all =
     let to = label_of c labels l carries all.0 in
@@ -190,7 +190,7 @@ can_run c labels carries (l ∷ ls) pool all =
           ∙ ap (λ x. cond x (add_run labels carries ls (pool ++ entry_to to.0 ∷ [])) (Err BadType)) (ap (λ o. same_operand o carries) to.2 ∙ same_operand_true carries) ∙ r.1,
     )
 
-can_table : (c : Context) (labels : List Label) (ls : List ℕ) (last : ℕ) (k : Known) (pool : List Entry) (a b below : List ValType) → k.floor ≤ length k.types → OpType (around labels c) (br_table ls last) a b → Fit k (a ++ below) → Steps (plain_step c labels (br_table ls last) k pool) (b ++ below)
+can_table : (c : Context) (labels : List Label) (ls : List ℕ) (last : ℕ) (k : Known) (pool : List BranchEntry) (a b below : List ValType) → k.floor ≤ length k.types → OpType (around labels c) (br_table ls last) a b → Fit k (a ++ below) → Steps (plain_step c labels (br_table ls last) k pool) (b ++ below)
 can_table c labels ls last k pool a b below w t fit =
     let to = label_of c labels last t.0 t.3 in
     let ts = operand to.0.carries in
@@ -203,7 +203,7 @@ can_table c labels ls last k pool a b below w t fit =
       fall q.0,
       r.0 ++ entry_to to.0 ∷ [],
       ap (λ (x : Option Label). found {B = Step} x (λ to. follow {B = Step} (add_run labels to.carries ls pool) (λ more. follow {B = Step} (take_one k I32) (λ a. follow {B = Step} (take_all a (operand to.carries)) (λ b. Ok (leads_to (length pool), fall b, more ++ entry_to to ∷ [])))))) to.1
-          ∙ ap (λ (x : Result (List Entry) ValidKind). follow {B = Step} x (λ more. follow {B = Step} (take_one k I32) (λ a. follow {B = Step} (take_all a ts) (λ b. Ok (leads_to (length pool), fall b, more ++ entry_to to.0 ∷ []))))) r.1
+          ∙ ap (λ (x : Result (List BranchEntry) ValidKind). follow {B = Step} x (λ more. follow {B = Step} (take_one k I32) (λ a. follow {B = Step} (take_all a ts) (λ b. Ok (leads_to (length pool), fall b, more ++ entry_to to.0 ∷ []))))) r.1
           ∙ ap (λ (x : Result Known ValidKind). follow {B = Step} x (λ a. follow {B = Step} (take_all a ts) (λ b. Ok (leads_to (length pool), fall b, r.0 ++ entry_to to.0 ∷ [])))) p.1
           ∙ ap (λ (x : Result Known ValidKind). follow {B = Step} x (λ b. Ok (leads_to (length pool), fall b, r.0 ++ entry_to to.0 ∷ []))) q.1,
       can_fall q.0 (b ++ below) pb.stays.within,
@@ -211,10 +211,10 @@ can_table c labels ls last k pool a b below w t fit =
 
 -- ---- every instruction without a body
 
-straight_steps : (c : Context) (op : Op) (k : Known) (pool : List Entry) (after : List ValType) → Goes (numeric c (single op) k) after → Steps (follow {B = Step} (numeric c (single op) k) (λ new. Ok (nowhere, new, pool))) after
+straight_steps : (c : Context) (op : Op) (k : Known) (pool : List BranchEntry) (after : List ValType) → Goes (numeric c (single op) k) after → Steps (follow {B = Step} (numeric c (single op) k) (λ new. Ok (nowhere, new, pool))) after
 straight_steps c op k pool after g = (nowhere, g.0, pool, ap (λ (r : Result Known ValidKind). follow {B = Step} r (λ new. Ok (nowhere, new, pool))) g.1, g.2)
 
-pub can_step : (c : Context) (labels : List Label) (op : Op) (k : Known) (pool : List Entry) (a b below : List ValType) → k.floor ≤ length k.types → length k.types ≤ 256 → height_behind (around labels c) k.floor (length k.types) op ≤ 256 → OpType (around labels c) op a b → Fit k (a ++ below) → Steps (plain_step c labels op k pool) (b ++ below)
+pub can_step : (c : Context) (labels : List Label) (op : Op) (k : Known) (pool : List BranchEntry) (a b below : List ValType) → k.floor ≤ length k.types → length k.types ≤ 256 → height_behind (around labels c) k.floor (length k.types) op ≤ 256 → OpType (around labels c) op a b → Fit k (a ++ below) → Steps (plain_step c labels op k pool) (b ++ below)
 can_step c labels (br l) k pool a b below w small room t fit = can_branch c labels l k pool a b below w t fit
 can_step c labels (br_if l) k pool a b below w small room t fit = can_branch_if c labels l k pool a b below w room t fit
 can_step c labels (br_table ls l) k pool a b below w small room t fit = can_table c labels ls l k pool a b below w t fit

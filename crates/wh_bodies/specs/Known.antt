@@ -24,9 +24,9 @@ known o = record { types = reverse o.types.items; floor = o.floor; dead = o.dead
 abbrev pub above : ℕ → List (Option ValType) → List (Option ValType)
 above floor types = take (length types - floor) types
 
--- and those beneath it
-abbrev pub beneath : ℕ → List (Option ValType) → List (Option ValType)
-beneath floor types = drop (length types - floor) types
+-- and those known_beneath it
+abbrev pub known_beneath : ℕ → List (Option ValType) → List (Option ValType)
+known_beneath floor types = drop (length types - floor) types
 
 -- a type that is known is that type, and another one any
 abbrev pub Admits : Option ValType → ValType → Type 0
@@ -34,14 +34,14 @@ Admits None t = Unit {0}
 Admits (Some u) t = u ≡ t
 
 -- the operand types agree with what is known of them
-abbrev pub Agree : List (Option ValType) → Bool → List ValType → Type 0
-Agree [] true ts = Unit {0}
-Agree [] false ts = ts ≡ []
-Agree (o ∷ os) dead [] = ⊥
-Agree (o ∷ os) dead (t ∷ ts) = Admits o t × Agree os dead ts
+abbrev pub AgreeWithKnown : List (Option ValType) → Bool → List ValType → Type 0
+AgreeWithKnown [] true ts = Unit {0}
+AgreeWithKnown [] false ts = ts ≡ []
+AgreeWithKnown (o ∷ os) dead [] = ⊥
+AgreeWithKnown (o ∷ os) dead (t ∷ ts) = Admits o t × AgreeWithKnown os dead ts
 
 abbrev pub Fit : Known → List ValType → Type 0
-Fit k ts = Agree (above k.floor k.types) k.dead ts
+Fit k ts = AgreeWithKnown (above k.floor k.types) k.dead ts
 
 -- ---- what is taken and given
 
@@ -71,7 +71,7 @@ give_one k of = cond (nat_lt (length k.types) 256) (Ok (record k { types = of �
 
 -- what follows isn't reached
 abbrev pub fall : Known → Known
-fall k = record k { types = beneath k.floor k.types; dead = true }
+fall k = record k { types = known_beneath k.floor k.types; dead = true }
 
 -- operands of these types, the first one topmost
 abbrev pub take_all : Known → List ValType → Result Known ValidKind

@@ -35,8 +35,13 @@ view_around a = record (view_context a.context) { locals = a.params.now ++ a.loc
 
 abbrev pub state_of : Checker → State
 state_of c =
-    record { known = known c.operands; labels = reverse c.labels.items; marks = reverse c.marks.items;
-    entries = c.entries.items; pool = c.pool.items }
+    record {
+      known = known c.operands;
+      labels = reverse c.labels.items;
+      marks = reverse c.marks.items;
+      entries = c.entries.items;
+      pool = c.pool.items;
+    }
 
 abbrev pub view_side : SideTable → Table
 view_side t = record { entries = t.entries.items; pool = t.pool.items }

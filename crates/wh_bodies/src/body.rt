@@ -19,7 +19,7 @@ use crate::labels::Label;
 use crate::marks::{Mark, all_marks};
 use crate::operands::Operands;
 use crate::steps::{Checker, step};
-use crate::table::{Entry, SideTable};
+use crate::table::{BranchEntry, SideTable};
 use std::alloc::Global;
 use wh_model::{Open, ValType, ValidKind};
 use wh_syntax::{Body, FuncType, Instr};
@@ -27,7 +27,7 @@ use wh_syntax::{Body, FuncType, Instr};
 const MOST_LOCALS: usize = 256;
 
 /// An empty table with room for so many entries.
-fn room(alloc: Global, count: u32) -> Result<Vec<Entry>, ValidKind>
+fn room(alloc: Global, count: u32) -> Result<Vec<BranchEntry>, ValidKind>
     ensures ok { IfOk result (λ entries. entries.items ≡ []) }
     ensures err { IfErr result (λ k. k ≡ ValidKind.Memory) }
 {
@@ -84,7 +84,7 @@ fn check_all(
     requires short { length instrs.now < 2 ^ 32 }
     ensures { RunsTo result (state_of checker.new)
         (run (view_around around.now) 0 (map (instr_of targets.now) instrs.now)
-            (state_of checker.old)) }
+        (state_of checker.old)) }
 {
     for at in 0..instrs.len() {
         match step(around, targets, checker, instrs[at]) {
@@ -104,9 +104,9 @@ fn check_all(
 fn prepare(alloc: Global, instrs: &[Instr], of: Option<ValType>) -> Result<Checker, ValidKind>
     ensures ok { IfOk result
         (λ c. (labels : List ℕ)
-            → state_of c
-                ≡ started of (length instrs.now)
-                    (all_marks 0 (map (instr_of labels) instrs.now)).done) }
+        → state_of c
+        ≡ started of (length instrs.now)
+        (all_marks 0 (map (instr_of labels) instrs.now)).done) }
     ensures short { OnOk result (length instrs.now < 2 ^ 32) }
     ensures err { IfErr result (λ k. k ≡ ValidKind.Memory) }
 {
@@ -175,10 +175,10 @@ pub fn check_body(
     // Unless memory was refused, a body that is refused isn't valid, or doesn't fit.
     ensures complete { IfErr result
         (λ e. e.kind ≢ ValidKind.Memory
-            → ValidBody (view_context context.now) (view_type func_type.now)
-                (view_body body.now)
-            → FitsBody (view_context context.now) (view_type func_type.now) (view_body body.now)
-            → ⊥) }
+        → ValidBody (view_context context.now) (view_type func_type.now)
+        (view_body body.now)
+        → FitsBody (view_context context.now) (view_type func_type.now) (view_body body.now)
+        → ⊥) }
     // Another fault than want of memory is one of those that a body can have.
     ensures kinds { IfErr result (λ e. e.kind ≢ ValidKind.Memory → IsOfBody e.kind) }
     // It names an instruction of the body.
@@ -187,8 +187,8 @@ pub fn check_body(
     // The table is that of the body.
     ensures table { IfOk result
         (λ found. view_side found
-            ≡ table_of (view_context context.now) (view_type func_type.now)
-                (view_body body.now)) }
+        ≡ table_of (view_context context.now) (view_type func_type.now)
+        (view_body body.now)) }
 {
     if !few_locals(func_type, body) {
         return Err(before_all(ValidKind::Limits));

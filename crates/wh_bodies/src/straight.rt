@@ -34,7 +34,7 @@ pub fn numeric(around: &Around, operands: &mut Operands, instr: Instr) -> Result
         around.now.context.funcs.now }
     ensures { (labels : List ℕ)
         → Checks result (known operands.new)
-            (numeric (view_around around.now) (instr_of labels instr) (known operands.old)) }
+        (numeric (view_around around.now) (instr_of labels instr) (known operands.old)) }
 {
     match instr {
         Instr::I32Const(_) => pass(operands, &[], &[ValType::I32]),
@@ -96,7 +96,7 @@ fn variable(around: &Around, operands: &mut Operands, instr: Instr) -> Result<()
         around.now.context.funcs.now }
     ensures { (labels : List ℕ)
         → Checks result (known operands.new)
-            (variable (view_around around.now) (instr_of labels instr) (known operands.old)) }
+        (variable (view_around around.now) (instr_of labels instr) (known operands.old)) }
 {
     match instr {
         Instr::LocalGet(local) => {
@@ -184,7 +184,7 @@ fn store(around: &Around, operands: &mut Operands, op: StoreOp, align: u32) -> R
 fn pages(around: &Around, operands: &mut Operands, params: &[ValType]) -> Result<(), ValidKind>
     ensures { Checks result (known operands.new)
         (found (slice_get (view_around around.now).memories 0)
-            (λ _. pass (known operands.old) params.now (I32 ∷ []))) }
+        (λ _. pass (known operands.old) params.now (I32 ∷ []))) }
 {
     if around.context.memories.is_empty() {
         return Err(ValidKind::Index);
@@ -198,7 +198,7 @@ fn memory(around: &Around, operands: &mut Operands, instr: Instr) -> Result<(), 
         around.now.context.funcs.now }
     ensures { (labels : List ℕ)
         → Checks result (known operands.new)
-            (memory (view_around around.now) (instr_of labels instr) (known operands.old)) }
+        (memory (view_around around.now) (instr_of labels instr) (known operands.old)) }
 {
     match instr {
         Instr::Load { op, align, .. } => load(around, operands, op, align),
@@ -244,7 +244,7 @@ fn control(around: &Around, operands: &mut Operands, instr: Instr) -> Result<(),
         around.now.context.funcs.now }
     ensures { (labels : List ℕ)
         → Checks result (known operands.new)
-            (control (view_around around.now) (instr_of labels instr) (known operands.old)) }
+        (control (view_around around.now) (instr_of labels instr) (known operands.old)) }
 {
     match instr {
         Instr::Unreachable => {

@@ -1,4 +1,4 @@
-pub mod Lies
+pub mod Layout
 pub mod Represents
 pub mod Moves
 pub mod Next

@@ -1,8 +1,8 @@
 -- Frames can be stored, as their four numbers.
 use Rattle.std.specs.Prelude.{List}
 use Rattle.std.specs.Coded.{Coded, coded_list}
-use Rattle.wh_control.specs.declared.frame.Frame.{Frame}
-use Rattle.wh_control.specs.contracts.frame.Frame as frame_type
+use Rattle.wh_control.specs.declared.frame.CallFrame.{CallFrame}
+use Rattle.wh_control.specs.contracts.frame.CallFrame as frame_type
 
-abbrev pub stored_frames : Coded (List Frame)
+abbrev pub stored_frames : Coded (List CallFrame)
 stored_frames = coded_list frame_type.the_row.coded

@@ -4,7 +4,7 @@ ghost use Rattle.std.specs.Prelude.{◌≡◌, ◌<◌, ◌≤◌, List, [], ◌
 ghost use Rattle.std.specs.Vec.{vec_capacity};
 ghost use Rattle.wh_model.specs.Execution.{call_depth};
 ghost use Rattle.wh_control.specs.Stored.{stored_frames};
-ghost use Rattle.wh_control.specs.declared.frame.Frame.{Frame};
+ghost use Rattle.wh_control.specs.declared.frame.CallFrame.{CallFrame};
 
 use std::alloc::{AllocError, Global};
 use std::marker::Model;
@@ -14,7 +14,7 @@ pub const CALL_DEPTH: usize = 128;
 
 /// A call of one of the module's own functions: where its words lie and its code goes on.
 #[derive(Clone, Copy, Debug, PartialEq, Eq)]
-pub struct Frame {
+pub struct CallFrame {
     /// The function, counted among those that the module defines.
     pub func: usize,
     /// How many words lie beneath its parameters.
@@ -28,12 +28,12 @@ pub struct Frame {
 /// The calls that wait for a result, which contracts see innermost first. Room for as many as there may be is reserved when
 /// it is made.
 #[derive(Drop)]
-pub struct Frames {
-    items: Vec<Frame>,
+pub struct CallStack {
+    items: Vec<CallFrame>,
 }
 
-impl Model for Frames {
-    ghost Value = { List Frame };
+impl Model for CallStack {
+    ghost Value = { List CallFrame };
 
     ghost coded = { stored_frames };
 
@@ -42,16 +42,16 @@ impl Model for Frames {
     ghost invariant = { λ f. call_depth ≤ vec_capacity f.items };
 }
 
-impl Frames {
+impl CallStack {
     /// No calls, and room for all.
     ///
     /// # Errors
     /// Where memory was refused.
-    pub fn reserve(alloc: Global) -> Result<Frames, AllocError>
+    pub fn reserve(alloc: Global) -> Result<CallStack, AllocError>
         ensures { IfOk result (λ frames. frames ≡ []) }
     {
         let items = Vec::with_capacity(alloc, CALL_DEPTH)?;
-        Ok(Frames { items })
+        Ok(CallStack { items })
     }
 
     /// How many there are.
@@ -72,7 +72,7 @@ impl Frames {
 
     /// One more call waits.
     #[inline(always)]
-    pub fn push(&mut self, frame: Frame)
+    pub fn push(&mut self, frame: CallFrame)
         requires { length self.old < call_depth }
         ensures { self.new ≡ frame ∷ self.old }
     {
@@ -81,7 +81,7 @@ impl Frames {
 
     /// Takes the innermost one.
     #[inline(always)]
-    pub fn pop(&mut self) -> Option<Frame>
+    pub fn pop(&mut self) -> Option<CallFrame>
         ensures some { IfSome result (λ frame. self.old ≡ frame ∷ self.new) }
         ensures none { IfNone result ((self.old ≡ []) × (self.new ≡ [])) }
     {

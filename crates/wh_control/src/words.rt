@@ -4,7 +4,7 @@ ghost use Rattle.std.specs.Prelude.{◌≡◌, ℕ, ◌+◌, ◌<◌, ◌≤◌,
 ghost use Rattle.std.specs.Coded.{coded_list, coded_ℕ};
 ghost use Rattle.std.specs.Vec.{vec_capacity};
 ghost use Rattle.wh_control.specs.Represents.{most_words};
-ghost use Rattle.wh_control.specs.Moves.{cut, one_if};
+ghost use Rattle.wh_control.specs.Moves.{cut, words_carried};
 
 use std::alloc::{AllocError, Global};
 use std::marker::Model;
@@ -15,11 +15,11 @@ pub const MOST_WORDS: usize = 65536;
 /// A stack of words, which contracts see topmost first. Room for as many as there may be is reserved when it is made, and
 /// nothing is written there before a word is.
 #[derive(Drop)]
-pub struct Words {
+pub struct ValueStack {
     items: Vec<u64>,
 }
 
-impl Model for Words {
+impl Model for ValueStack {
     ghost Value = { List ℕ };
 
     ghost coded = { coded_list coded_ℕ };
@@ -30,16 +30,16 @@ impl Model for Words {
         × (length w.items.items ≤ most_words) };
 }
 
-impl Words {
+impl ValueStack {
     /// No words, and room for all.
     ///
     /// # Errors
     /// Where memory was refused.
-    pub fn reserve(alloc: Global) -> Result<Words, AllocError>
+    pub fn reserve(alloc: Global) -> Result<ValueStack, AllocError>
         ensures { IfOk result (λ words. words ≡ []) }
     {
         let items = Vec::with_capacity(alloc, MOST_WORDS)?;
-        Ok(Words { items })
+        Ok(ValueStack { items })
     }
 
     /// How many there are.
@@ -100,8 +100,8 @@ impl Words {
     /// Leaves so many of the lowest, and above them the topmost one where it is carried along.
     #[inline(always)]
     pub fn cut(&mut self, height: usize, carries: bool)
-        requires { height + one_if carries ≤ length self.old }
-        ensures { self.new ≡ cut self.old (one_if carries) height }
+        requires { height + words_carried carries ≤ length self.old }
+        ensures { self.new ≡ cut self.old (words_carried carries) height }
     {
         if carries {
             let top = self.items.take_last();

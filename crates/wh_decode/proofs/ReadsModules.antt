@@ -7,7 +7,7 @@ use Rattle.wh_model.specs.Syntax.{Module, empty_module}
 use Rattle.wh_model.specs.Limits.{most_types, most_imports, most_functions, most_globals, most_exports, most_elements, most_segments}
 use Rattle.wh_model.specs.Modules.{from_end, from_data, from_code, from_elements, from_start, from_exports, from_globals, from_memories, from_tables, from_functions, from_imports, from_types, preamble, «module»}
 use Rattle.wh_model.specs.Parts.{functype, «import», tabletype, limits, global, export, element, codes, segment}
-use Rattle.wh_leb.specs.Reading.{Reads, Anything, one_at, u32_at, vec_at, vec_up_to_at}
+use Rattle.wh_leb.specs.Reading.{ReadsBy, Anything, one_at, u32_at, vec_at, vec_up_to_at}
 use Rattle.wh_leb.proofs.Combinators.{reads_then}
 use Rattle.wh_leb.proofs.Integers.{reads_u32, reads_vec, reads_vec_up_to, reads_byte}
 use Rattle.wh_decode.specs.ReadingModule.{functype_at, import_at, tabletype_at, limits_at, global_at, export_at, element_at, bodies_at, segment_at, end_at, segments_at, data_at, codes_at, code_section_at, element_list_at, elements_at, start_function_at, start_at, export_list_at, exports_at, global_list_at, globals_at, memory_list_at, memories_at, table_list_at, tables_at, function_list_at, functions_at, import_list_at, imports_at, type_list_at, types_at, preamble_at, module_at}
@@ -62,7 +62,7 @@ laws_types : (m : Module) → PartLaws 0 (from_types m) (types_at m)
 unfolding from_types types_at type_list_at
 laws_types m = part_laws 1 (vec_up_to most_types functype) (vec_up_to_at most_types functype_at) (λ ts. record m { types = ts }) from_imports imports_at m 0 1 (omega arith) (omega arith) (reads_vec_up_to most_types functype functype_at reads_functype) laws_imports
 
-reads_preamble : Reads Anything preamble preamble_at
+reads_preamble : ReadsBy Anything preamble preamble_at
 unfolding preamble_at
 reads_preamble =
     reads_then Anything (this_byte Magic 0x00) _ (one_at (exact_byte Magic 0x00)) _ (reads_byte Magic 0x00) (λ _.
@@ -74,6 +74,6 @@ reads_preamble =
     reads_then Anything (this_byte Version 0x00) _ (one_at (exact_byte Version 0x00)) _ (reads_byte Version 0x00) (λ _.
     reads_byte Version 0x00)))))))
 
-pub reads_module : Reads AtEnd «module» module_at
+pub reads_module : ReadsBy AtEnd «module» module_at
 unfolding «module» module_at
 reads_module = reads_then AtEnd preamble (λ _. from_types empty_module) preamble_at (λ _. types_at empty_module) reads_preamble (λ _. (laws_types empty_module).is_read)

@@ -11,9 +11,9 @@ use Rattle.wh_model.specs.Syntax.{Module}
 use Rattle.wh_model.specs.Modules.{BeginsWith, custom, customs_then, section, section_or, part, EndBreaks, ends_with}
 use Rattle.wh_model.specs.Parts.{name}
 use Rattle.wh_model.specs.declared.faults.DecodeError.{DecodeError}
-use Rattle.wh_leb.specs.Reading.{◌>>=◌, fail, Reads, Reader, Anything}
+use Rattle.wh_leb.specs.Reading.{◌>>=◌, fail, ReadsBy, Reader, Anything}
 use Rattle.wh_leb.proofs.Combinators.{bind_ok, bind_err, ok_is, err_is, succeed, fails_at, chosen, after, inside, reads_then}
-use Rattle.wh_decode.specs.ReadingModule.{custom_at, begins, skip_from, skip_at, contents_at, present, section_at, part_at, put_or, end_of}
+use Rattle.wh_decode.specs.ReadingModule.{custom_at, begins_with, skip_from, skip_at, contents_at, present, section_at, part_at, put_or, end_of}
 use Rattle.wh_decode.proofs.Productions.{reads_custom, reads_contents}
 
 -- ---- custom sections
@@ -21,19 +21,19 @@ use Rattle.wh_decode.proofs.Productions.{reads_custom, reads_contents}
 abbrev pub AtEnd : List ℕ → Type 0
 AtEnd u = u ≡ []
 
-begins_true : (n : ℕ) (b : List ℕ) → begins n b ≡ true → BeginsWith n b
+begins_true : (n : ℕ) (b : List ℕ) → begins_with n b ≡ true → BeginsWith n b
 begins_true n [] e = absurd cc
 begins_true n (m ∷ b) e = eqb-true m n e
 
-begins_false : (n : ℕ) (b : List ℕ) → begins n b ≡ false → BeginsWith n b → ⊥
+begins_false : (n : ℕ) (b : List ℕ) → begins_with n b ≡ false → BeginsWith n b → ⊥
 begins_false n [] e h = h
 begins_false n (m ∷ b) e h = eqb-false m n e h
 
-begins_again : (n : ℕ) (b : List ℕ) → BeginsWith n b → begins n b ≡ true
+begins_again : (n : ℕ) (b : List ℕ) → BeginsWith n b → begins_with n b ≡ true
 begins_again n [] h = absurd h
 begins_again n (m ∷ b) h = eq-eqb m n h
 
-begins_not : (n : ℕ) (b : List ℕ) → (BeginsWith n b → ⊥) → begins n b ≡ false
+begins_not : (n : ℕ) (b : List ℕ) → (BeginsWith n b → ⊥) → begins_with n b ≡ false
 begins_not n [] h = refl
 begins_not n (m ∷ b) h = ne_eqb m n h
 
@@ -43,7 +43,7 @@ byte_is kind c n x e = elim (chosen (eqb n c) (Ok tt) (Err kind) (Ok x) e) [
   | inr h ↦ absurd cc
 ]
 
--- what begins with this byte
+-- what begins_with with this byte
 begins_this : {A : Type 0} (kind : FaultKind) (c : ℕ) (g : Unit {0} → Grammar A) (y : A) (b : List ℕ) → ((this_byte kind c) then g).within y b → BeginsWith c b
 begins_this kind c g y b w =
     let front : b ≡ w.4.0 ∷ w.2 = w.3 ∙ ap (λ (t : List ℕ). t ++ w.2) w.4.1 in
@@ -66,7 +66,7 @@ unfolding skip_from
 skip_found zero b at c le e =
     let p : at ≡ c = cc in
     ([], [], ap (λ (k : ℕ). drop k b) p, omega arith, refl, λ few h. (let none : drop at b ≡ [] = drop_of_length-le b (omega arith) in subst (λ (v : List ℕ). BeginsWith 0 v) (ap (λ (k : ℕ). drop k b) (sym p) ∙ none) h))
-skip_found (suc n) b at c le e = elim (chosen (begins 0 (drop at b)) (custom_at b at >>= λ item. skip_from n b item.1) (Ok at) (Ok c) e) [
+skip_found (suc n) b at c le e = elim (chosen (begins_with 0 (drop at b)) (custom_at b at >>= λ item. skip_from n b item.1) (Ok at) (Ok c) e) [
   | inl h ↦
       let p = bind_ok (custom_at b at) (λ item. skip_from n b item.1) c h.1 in
       let one = reads_custom.found b at p.0.0 p.0.1 le p.1 in
@@ -83,7 +83,7 @@ skip_fault : (n : ℕ) (b : List ℕ) (at : ℕ) (d : DecodeError) → at ≤ le
     → (names : List (List ℕ)) × (t u : List ℕ) × (j : ℕ) × (drop at b ≡ t ++ u) × (d.offset ≡ at + (length t + j)) × Each custom.within names t × BeginsWith 0 u × custom.breaks u d.kind j
 unfolding skip_from
 skip_fault zero b at d le e = absurd cc
-skip_fault (suc n) b at d le e = elim (chosen (begins 0 (drop at b)) (custom_at b at >>= λ item. skip_from n b item.1) (Ok at) (Err d) e) [
+skip_fault (suc n) b at d le e = elim (chosen (begins_with 0 (drop at b)) (custom_at b at >>= λ item. skip_from n b item.1) (Ok at) (Err d) e) [
   | inl h ↦ elim (bind_err (custom_at b at) (λ item. skip_from n b item.1) d h.1) [
     | inl k ↦
         let one = reads_custom.fault b at d le k in
@@ -105,31 +105,31 @@ skip_reads zero b at (x ∷ xs) t u le e w few = (let some = begins_some 0 w.0 (
 skip_reads (suc n) b at (x ∷ xs) t u le e w few =
     let parts : drop at b ≡ w.0 ++ (w.1 ++ u) = e ∙ ap (λ (r : List ℕ). r ++ u) w.2 ∙ append_assoc w.0 w.1 u in
     let head = custom_begins x w.0 w.3 in
-    let more : begins 0 (drop at b) ≡ true = begins_again 0 (drop at b) (subst (λ (v : List ℕ). BeginsWith 0 v) (sym parts) (begins_front 0 w.0 (w.1 ++ u) head)) in
+    let more : begins_with 0 (drop at b) ≡ true = begins_again 0 (drop at b) (subst (λ (v : List ℕ). BeginsWith 0 v) (sym parts) (begins_front 0 w.0 (w.1 ++ u) head)) in
     let one = reads_custom.only b at x w.0 (w.1 ++ u) le parts tt w.3 in
     let le2 = inside b at (at + length w.0) w.0 (w.1 ++ u) le parts refl in
     let some = begins_some 0 w.0 head in
     let long : at + length w.0 + length w.1 ≡ at + length t = omega (arith, length-append w.0 w.1, ap length w.2) in
     let total : length t ≡ length w.0 + length w.1 = omega (arith, length-append w.0 w.1, ap length w.2) in
     let rest = skip_reads n b (at + length w.0) xs w.1 u le2 (after b at w.0 (w.1 ++ u) parts) w.4 (omega arith) in
-    (rest.0, (let few2 = rest.1 in omega arith), cond-true (begins 0 (drop at b)) _ (Ok at) more ∙ ap (λ r. r >>= λ item. skip_from n b item.1) one ∙ rest.2 ∙ ap (λ (k : ℕ). skip_from rest.0 b k) long)
+    (rest.0, (let few2 = rest.1 in omega arith), cond-true (begins_with 0 (drop at b)) _ (Ok at) more ∙ ap (λ r. r >>= λ item. skip_from n b item.1) one ∙ rest.2 ∙ ap (λ (k : ℕ). skip_from rest.0 b k) long)
 
 skip_ends : (n : ℕ) (b : List ℕ) (at : ℕ) → (BeginsWith 0 (drop at b) → ⊥) → skip_from n b at ≡ Ok at
 unfolding skip_from
 skip_ends zero b at none = refl
-skip_ends (suc n) b at none = cond-false (begins 0 (drop at b)) _ (Ok at) (begins_not 0 (drop at b) none)
+skip_ends (suc n) b at none = cond-false (begins_with 0 (drop at b)) _ (Ok at) (begins_not 0 (drop at b) none)
 
 skip_stops : (n : ℕ) (b : List ℕ) (at : ℕ) (kind : FaultKind) (k : ℕ) → at ≤ length b → length b - at ≤ n → BeginsWith 0 (drop at b) → custom.breaks (drop at b) kind k → skip_from n b at ≡ Err (record { kind = kind; offset = at + k })
 unfolding skip_from
 skip_stops zero b at kind k le few begun w = (let none : drop at b ≡ [] = drop_of_length-le b (omega arith) in absurd (subst (λ (v : List ℕ). BeginsWith 0 v) none begun))
-skip_stops (suc n) b at kind k le few begun w = cond-true (begins 0 (drop at b)) _ (Ok at) (begins_again 0 (drop at b) begun) ∙ ap (λ r. r >>= λ item. skip_from n b item.1) (reads_custom.stops b at kind k le w)
+skip_stops (suc n) b at kind k le few begun w = cond-true (begins_with 0 (drop at b)) _ (Ok at) (begins_again 0 (drop at b) begun) ∙ ap (λ r. r >>= λ item. skip_from n b item.1) (reads_custom.stops b at kind k le w)
 
 skip_only : (b : List ℕ) (at : ℕ) (names : List (List ℕ)) (t u : List ℕ) → at ≤ length b → drop at b ≡ t ++ u → Each custom.within names t → (BeginsWith 0 u → ⊥) → skip_from (length b - at) b at ≡ Ok (at + length t)
 skip_only b at names t u le e w none =
     let r = skip_reads (length b - at) b at names t u le e w (omega (arith, length-drop at b, ap length e, length-append t u)) in
     r.2 ∙ skip_ends r.0 b (at + length t) (λ h. none (subst (λ (v : List ℕ). BeginsWith 0 v) (after b at t u e) h))
 
--- the custom sections that what is behind begins with are custom sections
+-- the custom sections that what is behind begins_with with are custom sections
 abbrev pub Drops : {A : Type 0} → Grammar A → Type 0
 Drops {A} g = (y : A) (b : List ℕ) → g.within y b → (names : List (List ℕ)) × (t u : List ℕ) × (b ≡ t ++ u) × Each custom.within names t × g.within y u × (BeginsWith 0 u → ⊥)
 
@@ -137,7 +137,7 @@ each_append : (xs ys : List (List ℕ)) (t u : List ℕ) → Each custom.within 
 each_append [] ys t u p q = subst (λ (v : List ℕ). Each custom.within ys (v ++ u)) (sym p) q
 each_append (x ∷ xs) ys t u p q = (p.0, p.1 ++ u, ap (λ (v : List ℕ). v ++ u) p.2 ∙ append_assoc p.0 p.1 u, p.3, each_append xs ys p.1 u p.4 q)
 
-reads_customs : {A : Type 0} (g : Grammar A) (read : Reader A) → Drops g → Reads AtEnd g read → Reads AtEnd (customs_then g) (λ b at. skip_at b at >>= λ c. read b c)
+reads_customs : {A : Type 0} (g : Grammar A) (read : Reader A) → Drops g → ReadsBy AtEnd g read → ReadsBy AtEnd (customs_then g) (λ b at. skip_at b at >>= λ c. read b c)
 unfolding skip_at
 reads_customs {A} g read drops r = record {
   found = λ b at x next le e.
@@ -253,10 +253,10 @@ head_not k (n ∷ b) some (inr h) m = omega arith
 
 -- what is read by a section or goes on without it
 abbrev pub section_or_at : {A : Type 0} → ℕ → Reader A → (A → Reader Module) → Reader Module → Reader Module
-section_or_at id read there missing b at = cond (begins id (drop at b)) (contents_at id read b at >>= λ x. there x.0 b x.1) (missing b at)
+section_or_at id read there missing b at = cond (begins_with id (drop at b)) (contents_at id read b at >>= λ x. there x.0 b x.1) (missing b at)
 
 reads_section : {A : Type 0} (id : ℕ) (g : Grammar A) (read : Reader A) (next : A → Grammar Module) (there_at : A → Reader Module) (missing : Grammar Module) (missing_at : Reader Module) → 0 < id → Heads id missing
-    → Reads Anything g read → ((x : A) → Reads AtEnd (next x) (there_at x)) → Reads AtEnd missing missing_at → Reads AtEnd (section_or id g next missing) (section_or_at id read there_at missing_at)
+    → ReadsBy Anything g read → ((x : A) → ReadsBy AtEnd (next x) (there_at x)) → ReadsBy AtEnd missing missing_at → ReadsBy AtEnd (section_or id g next missing) (section_or_at id read there_at missing_at)
 reads_section {A} id g read next there_at missing missing_at some heads r k m =
     let there = reads_then AtEnd (section id g) next (contents_at id read) there_at (reads_contents id g read r) k in
     record {
@@ -287,17 +287,17 @@ reads_section {A} id g read next there_at missing missing_at some heads r k m =
       ];
     }
   where
-    way : (b : List ℕ) (at : ℕ) → (begins id (drop at b) ≡ true) ⊎ (begins id (drop at b) ≡ false)
-    way b at = cases_Bool (begins id (drop at b))
+    way : (b : List ℕ) (at : ℕ) → (begins_with id (drop at b) ≡ true) ⊎ (begins_with id (drop at b) ≡ false)
+    way b at = cases_Bool (begins_with id (drop at b))
 
-    stands : (b : List ℕ) (at : ℕ) → begins id (drop at b) ≡ true → section_or_at id read there_at missing_at b at ≡ (contents_at id read b at >>= λ x. there_at x.0 b x.1)
-    stands b at h = cond-true (begins id (drop at b)) (contents_at id read b at >>= λ x. there_at x.0 b x.1) (missing_at b at) h
+    stands : (b : List ℕ) (at : ℕ) → begins_with id (drop at b) ≡ true → section_or_at id read there_at missing_at b at ≡ (contents_at id read b at >>= λ x. there_at x.0 b x.1)
+    stands b at h = cond-true (begins_with id (drop at b)) (contents_at id read b at >>= λ x. there_at x.0 b x.1) (missing_at b at) h
 
-    lacks : (b : List ℕ) (at : ℕ) → begins id (drop at b) ≡ false → section_or_at id read there_at missing_at b at ≡ missing_at b at
-    lacks b at h = cond-false (begins id (drop at b)) (contents_at id read b at >>= λ x. there_at x.0 b x.1) (missing_at b at) h
+    lacks : (b : List ℕ) (at : ℕ) → begins_with id (drop at b) ≡ false → section_or_at id read there_at missing_at b at ≡ missing_at b at
+    lacks b at h = cond-false (begins_with id (drop at b)) (contents_at id read b at >>= λ x. there_at x.0 b x.1) (missing_at b at) h
 
 -- a reader that reads the same
-pub reads_as : {A : Type 0} (F : List ℕ → Type 0) (g : Grammar A) (read other : Reader A) → ((b : List ℕ) (at : ℕ) → read b at ≡ other b at) → Reads F g read → Reads F g other
+pub reads_as : {A : Type 0} (F : List ℕ → Type 0) (g : Grammar A) (read other : Reader A) → ((b : List ℕ) (at : ℕ) → read b at ≡ other b at) → ReadsBy F g read → ReadsBy F g other
 reads_as F g read other same r = record {
   found = λ b at x next le e. r.found b at x next le (same b at ∙ e);
   only = λ b at x t u le e follows w. sym (same b at) ∙ r.only b at x t u le e follows w;
@@ -309,7 +309,7 @@ reads_as F g read other same r = record {
 -- ---- a part of the module: what all of them have in common
 
 pub record PartLaws (k : ℕ) (g : Grammar Module) (read : Reader Module) : Type 0 where
-  pub is_read : Reads AtEnd g read
+  pub is_read : ReadsBy AtEnd g read
   pub drops : Drops g
   pub heads : Heads k g
 
@@ -322,15 +322,15 @@ module _ {A : Type 0} (id : ℕ) (g : Grammar A) (read : Reader A) (put : A → 
       found (Ok x) = refl
       found (Err e) = refl
 
-      there : (c : ℕ) (t : Bool) → begins id (drop c b) ≡ t → section_or_at id read (λ x. rest (put x)) (rest m) b c ≡ (section_at id read b c >>= λ x. rest (put_or put m x.0) b x.1)
+      there : (c : ℕ) (t : Bool) → begins_with id (drop c b) ≡ t → section_or_at id read (λ x. rest (put x)) (rest m) b c ≡ (section_at id read b c >>= λ x. rest (put_or put m x.0) b x.1)
       there c true e = rw e (found (contents_at id read b c))
       there c false e = rw e refl
 
       go : (s : Result ℕ DecodeError) → (s >>= λ c. section_or_at id read (λ x. rest (put x)) (rest m) b c) ≡ ((s >>= λ c. section_at id read b c) >>= λ x. rest (put_or put m x.0) b x.1)
-      go (Ok c) = there c (begins id (drop c b)) refl
+      go (Ok c) = there c (begins_with id (drop c b)) refl
       go (Err e) = refl
 
-  pub part_laws : (k j : ℕ) → k < id → id ≤ j → Reads Anything g read → ((x : Module) → PartLaws j (next x) (rest x)) → PartLaws k (part id g put next m) (λ b at. part_at id read b at >>= λ x. rest (put_or put m x.0) b x.1)
+  pub part_laws : (k j : ℕ) → k < id → id ≤ j → ReadsBy Anything g read → ((x : Module) → PartLaws j (next x) (rest x)) → PartLaws k (part id g put next m) (λ b at. part_at id read b at >>= λ x. rest (put_or put m x.0) b x.1)
   part_laws k j low high r laws =
       let there = reads_section id g read (λ x. next (put x)) (λ x. rest (put x)) (next m) (rest m) (omega arith) (heads_less id j (next m) high (laws m).heads) r (λ x. (laws (put x)).is_read) (laws m).is_read in
       let dropped = drops_section id g (λ x. next (put x)) (next m) (omega arith) (laws m).drops in
@@ -370,7 +370,7 @@ end_stops {A} P fits x (n ∷ b) at kind d w = go (ltb 11 n) ∙ ap (λ (c : Fau
     go true = refl
     go false = refl
 
-reads_end : {A : Type 0} (P : Type 0) (fits : Bool) (x : A) → Decides fits P → Reads AtEnd (ends_with P x) (λ b at. end_of fits x (drop at b) at)
+reads_end : {A : Type 0} (P : Type 0) (fits : Bool) (x : A) → Decides fits P → ReadsBy AtEnd (ends_with P x) (λ b at. end_of fits x (drop at b) at)
 reads_end {A} P fits x d = record {
   found = λ b at y next le e. let p = end_found P fits x y (drop at b) at next d e in ([], ap (λ (k : ℕ). drop k b) (sym p.3), p.3 ∙ omega arith, (p.0, refl, p.2));
   only = λ b at y t u le e follows w.

@@ -6,7 +6,7 @@ use Rattle.wh_model.specs.declared.faults.FaultKind.TheVariants.{UnknownByte}
 use Rattle.wh_model.specs.declared.faults.DecodeError.{DecodeError}
 use Rattle.wh_model.specs.Grammar.{exact_byte}
 use Rattle.wh_leb.specs.Reading.{◌>>=◌, one_at, u32_at, closed_from, exactly_from_at}
-use Rattle.wh_decode.specs.ReadingModule.{name_at, custom_at, begins, skip_from, skip_at}
+use Rattle.wh_decode.specs.ReadingModule.{name_at, custom_at, begins_with, skip_from, skip_at}
 use Rattle.wh_leb.proofs.Combinators.{inside}
 use Rattle.wh_decode.proofs.Productions.{reads_custom}
 use Rattle.wh_decode.proofs.ReadsSections.{begins_some, custom_begins}
@@ -28,22 +28,22 @@ custom_long b at x next le e =
 custom_inside : (b : List ℕ) (at : ℕ) (x : List ℕ) (next : ℕ) → at ≤ length b → custom_at b at ≡ Ok (x, next) → next ≤ length b
 custom_inside b at x next le e = let f = reads_custom.found b at x next le e in inside b at next f.0 (drop next b) le f.1 f.2
 
-nothing_left : (b : List ℕ) (at : ℕ) → length b ≤ at → begins 0 (drop at b) ≡ false
-nothing_left b at le = ap (begins 0) (drop_of_length-le b le)
+nothing_left : (b : List ℕ) (at : ℕ) → length b ≤ at → begins_with 0 (drop at b) ≡ false
+nothing_left b at le = ap (begins_with 0) (drop_of_length-le b le)
 
-pub begun : (b : List ℕ) (at : ℕ) → at ≤ length b → begins 0 (drop at b) ≡ true → at < length b
+pub begun : (b : List ℕ) (at : ℕ) → at ≤ length b → begins_with 0 (drop at b) ≡ true → at < length b
 begun b at le e = elim (cases_lt at (length b)) [
   | inl lt ↦ lt
-  | inr past ↦ absurd (both_ways (begins 0 (drop at b)) (nothing_left b at past) e)
+  | inr past ↦ absurd (both_ways (begins_with 0 (drop at b)) (nothing_left b at past) e)
 ]
 
 -- how many sections may come is no matter, where there are as many as bytes
 skip_fuel : (n m : ℕ) (b : List ℕ) (at : ℕ) → at ≤ length b → length b - at ≤ n → length b - at ≤ m → skip_from n b at ≡ skip_from m b at
 unfolding skip_from
 skip_fuel zero zero b at le p q = refl
-skip_fuel zero (suc m) b at le p q = sym (cond-false (begins 0 (drop at b)) _ (Ok at) (nothing_left b at (omega arith)))
-skip_fuel (suc n) zero b at le p q = cond-false (begins 0 (drop at b)) _ (Ok at) (nothing_left b at (omega arith))
-skip_fuel (suc n) (suc m) b at le p q = ap (λ r. cond (begins 0 (drop at b)) r (Ok at)) (go (custom_at b at) refl (λ next short few few2. skip_fuel n m b next short few few2))
+skip_fuel zero (suc m) b at le p q = sym (cond-false (begins_with 0 (drop at b)) _ (Ok at) (nothing_left b at (omega arith)))
+skip_fuel (suc n) zero b at le p q = cond-false (begins_with 0 (drop at b)) _ (Ok at) (nothing_left b at (omega arith))
+skip_fuel (suc n) (suc m) b at le p q = ap (λ r. cond (begins_with 0 (drop at b)) r (Ok at)) (go (custom_at b at) refl (λ next short few few2. skip_fuel n m b next short few few2))
   where
     go : (r : Result (List ℕ × ℕ) DecodeError) → custom_at b at ≡ r → ((next : ℕ) → next ≤ length b → length b - next ≤ n → length b - next ≤ m → skip_from n b next ≡ skip_from m b next)
         → (r >>= λ item. skip_from n b item.1) ≡ (r >>= λ item. skip_from m b item.1)
@@ -53,10 +53,10 @@ skip_fuel (suc n) (suc m) b at le p q = ap (λ r. cond (begins 0 (drop at b)) r 
         rest x.1 short (omega arith) (omega arith)
     go (Err d) e rest = refl
 
-module _ (b : List ℕ) (at : ℕ) (total : Result ℕ DecodeError) (lt : at < length b) (first : begins 0 (drop at b) ≡ true) (so-far : skip_at b at ≡ total) where
+module _ (b : List ℕ) (at : ℕ) (total : Result ℕ DecodeError) (lt : at < length b) (first : begins_with 0 (drop at b) ≡ true) (so-far : skip_at b at ≡ total) where
   one : skip_at b at ≡ (custom_at b at >>= λ item. skip_from (length b - (at + 1)) b item.1)
   unfolding skip_at skip_from
-  one = let e : length b - at ≡ suc (length b - (at + 1)) = omega arith in rw e (cond-true (begins 0 (drop at b)) _ (Ok at) first)
+  one = let e : length b - at ≡ suc (length b - (at + 1)) = omega arith in rw e (cond-true (begins_with 0 (drop at b)) _ (Ok at) first)
 
   pub skip_goes : (x : List ℕ) (next : ℕ) → custom_at b at ≡ Ok (x, next) → skip_at b next ≡ total
   unfolding skip_at
@@ -69,10 +69,10 @@ module _ (b : List ℕ) (at : ℕ) (total : Result ℕ DecodeError) (lt : at < l
   pub skip_fails : (d : DecodeError) → custom_at b at ≡ Err d → total ≡ Err d
   skip_fails d e = sym so-far ∙ one ∙ ap (λ r. r >>= λ item. skip_from (length b - (at + 1)) b item.1) e
 
-pub skip_done : (b : List ℕ) (at : ℕ) (total : Result ℕ DecodeError) → begins 0 (drop at b) ≡ false → skip_at b at ≡ total → total ≡ Ok at
+pub skip_done : (b : List ℕ) (at : ℕ) (total : Result ℕ DecodeError) → begins_with 0 (drop at b) ≡ false → skip_at b at ≡ total → total ≡ Ok at
 unfolding skip_at skip_from
 skip_done b at total none so-far = sym so-far ∙ go (length b - at)
   where
     go : (n : ℕ) → skip_from n b at ≡ Ok at
     go zero = refl
-    go (suc n) = cond-false (begins 0 (drop at b)) _ (Ok at) none
+    go (suc n) = cond-false (begins_with 0 (drop at b)) _ (Ok at) none

@@ -6,9 +6,9 @@ use Rattle.wh_model.specs.declared.faults.DecodeError.{DecodeError}
 use Rattle.wh_leb.specs.Reading.{◌>>=◌, one_at, u32_at, Reader}
 
 -- a place alone, of a value and a place
-abbrev pub EndsAt : {A : Type 0} → Result ℕ DecodeError → Result (A × ℕ) DecodeError → Type 0
-EndsAt {A} (Ok next) read = (x : A) × (read ≡ Ok (x, next))
-EndsAt (Err e) read = e.kind ≢ Memory → read ≡ Err e
+abbrev pub LeavesPlace : {A : Type 0} → Result ℕ DecodeError → Result (A × ℕ) DecodeError → Type 0
+LeavesPlace {A} (Ok next) read = (x : A) × (read ≡ Ok (x, next))
+LeavesPlace (Err e) read = e.kind ≢ Memory → read ≡ Err e
 
 -- the id and the size of a section
 abbrev pub section_start_at : ℕ → Reader ℕ

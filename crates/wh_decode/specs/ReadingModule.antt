@@ -9,7 +9,7 @@ use Rattle.wh_model.specs.Syntax.{FuncType, Limits, GlobalType, ImportDesc, of_f
 use Rattle.wh_model.specs.Opcodes.{value_type, mutability, imported_mutability, limits_flag, export_kind, import_kind}
 use Rattle.wh_model.specs.Limits.{most_bytes, most_types, most_params, most_imports, most_functions, most_globals, most_exports, most_elements, most_segments, most_locals, most_instructions}
 use Rattle.wh_model.specs.declared.faults.DecodeError.{DecodeError}
-use Rattle.wh_leb.specs.Reading.{◌>>=◌, fail, one_at, bytes_at, only_at, limited_at, times_at, exactly_at, exactly_from_at, u32_at, Reader, vec_at, vec_up_to_at}
+use Rattle.wh_leb.specs.Reading.{◌>>=◌, fail, one_at, read_bytes_at, only_at, limited_at, times_at, exactly_at, exactly_from_at, u32_at, Reader, vec_at, vec_up_to_at}
 use Rattle.wh_expr.specs.ReadingCode.{code_at}
 
 -- ---- types
@@ -51,7 +51,7 @@ globaltype_at b at = do
 unfoldable pub name_at : Reader (List ℕ)
 name_at b at = do
   n ← u32_at b at
-  only_at is_utf8 Utf8 (bytes_at n.0) b n.1
+  only_at is_utf8 Utf8 (read_bytes_at n.0) b n.1
 
 abbrev pub constant_at : Reader Code
 constant_at = code_at None
@@ -100,7 +100,7 @@ element_at b at = do
 unfoldable pub byte_vector_at : Reader (List ℕ)
 byte_vector_at b at = do
   n ← u32_at b at
-  bytes_at n.0 b n.1
+  read_bytes_at n.0 b n.1
 
 unfoldable pub segment_at : Reader Data
 segment_at b at = do
@@ -146,14 +146,14 @@ custom_at b at = do
   size ← u32_at b id.1
   exactly_from_at size.0 name_at b size.1
 
-abbrev pub begins : ℕ → List ℕ → Bool
-begins n [] = false
-begins n (m ∷ b) = nat_eq m n
+abbrev pub begins_with : ℕ → List ℕ → Bool
+begins_with n [] = false
+begins_with n (m ∷ b) = nat_eq m n
 
 -- the place behind the custom sections that stand here, at most so many
 unfoldable pub skip_from : ℕ → List ℕ → ℕ → Result ℕ DecodeError
 skip_from zero b at = Ok at
-skip_from (suc n) b at = if begins 0 (drop at b) then (do
+skip_from (suc n) b at = if begins_with 0 (drop at b) then (do
   item ← custom_at b at
   skip_from n b item.1) else Ok at
 
@@ -170,7 +170,7 @@ abbrev pub present : {A : Type 0} → Result (A × ℕ) DecodeError → Result (
 present read = read >>= λ x. Ok (Some x.0, x.1)
 
 abbrev pub section_at : {A : Type 0} → ℕ → Reader A → Reader (Option A)
-section_at id read b at = if begins id (drop at b) then present (contents_at id read b at) else Ok (None, at)
+section_at id read b at = if begins_with id (drop at b) then present (contents_at id read b at) else Ok (None, at)
 
 -- the custom sections, and the section of this id, if it stands here
 unfoldable pub part_at : {A : Type 0} → ℕ → Reader A → Reader (Option A)

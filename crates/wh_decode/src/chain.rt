@@ -61,7 +61,7 @@ fn ends(bytes: &[u8], at: usize, partial: Module) -> Result<(Module, usize), Dec
     requires { at ≤ length bytes.now }
     ensures exact { Gives (λ found. (view_module found.0, found.1)) result
         (end_of (nat_eq (length (view_module partial).bodies) (length (view_module partial).funcs))
-            (view_module partial) (drop at bytes.now) at) }
+        (view_module partial) (drop at bytes.now) at) }
 {
     if at < bytes.len() {
         let kind = if bytes[at] > GREATEST_ID {

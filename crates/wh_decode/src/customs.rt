@@ -2,8 +2,8 @@
 
 ghost use Rattle.std.specs.Prelude.{◌≡◌, ◌≤◌, length, drop, IfOk};
 ghost use Rattle.wh_leb.specs.Reading.{Gives};
-ghost use Rattle.wh_decode.specs.ReadingModule.{custom_at, begins, skip_at};
-ghost use Rattle.wh_decode.specs.Beginnings.{EndsAt, section_start_at};
+ghost use Rattle.wh_decode.specs.ReadingModule.{custom_at, begins_with, skip_at};
+ghost use Rattle.wh_decode.specs.Beginnings.{LeavesPlace, section_start_at};
 
 use crate::parts::name;
 use crate::types::expect_byte;
@@ -15,7 +15,7 @@ use wh_model::{DecodeError, FaultKind};
 #[tactic(auto, unfolding(crate::specs::ReadingModule::custom_at))]
 fn custom(bytes: &[u8], at: usize) -> Result<usize, DecodeError>
     requires { at ≤ length bytes.now }
-    ensures exact { EndsAt result (custom_at bytes.now at) }
+    ensures exact { LeavesPlace result (custom_at bytes.now at) }
     ensures inside { IfOk result (λ next. next ≤ length bytes.now) }
 {
     let next = expect_byte(bytes, at, 0, FaultKind::UnknownByte)?;
@@ -37,7 +37,7 @@ fn custom(bytes: &[u8], at: usize) -> Result<usize, DecodeError>
 /// Whether this byte stands here.
 pub fn stands_at(bytes: &[u8], at: usize, byte: u8) -> bool
     requires { at ≤ length bytes.now }
-    ensures { result ≡ begins byte (drop at bytes.now) }
+    ensures { result ≡ begins_with byte (drop at bytes.now) }
 {
     if at == bytes.len() {
         return false;

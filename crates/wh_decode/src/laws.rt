@@ -16,5 +16,5 @@ pub fn one_meaning()
         → IsBroken b kind offset → Spells b m → Small b m → ⊥ }
     ensures some_meaning { (b : List ℕ) → AreBytes b
         → ((m : Module) × Spells b m × Small b m)
-            ⊎ ((kind : FaultKind) × (offset : ℕ) × IsBroken b kind offset) }
+        ⊎ ((kind : FaultKind) × (offset : ℕ) × IsBroken b kind offset) }
 {}

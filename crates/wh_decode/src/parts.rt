@@ -4,7 +4,7 @@ ghost use Rattle.std.specs.Prelude.{◌≡◌, ◌<◌, ◌≤◌, ◌^◌, ◌+
 ghost use Rattle.std.specs.Prelude.{string_bytes};
 ghost use Rattle.std.specs.Str.{is_utf8};
 ghost use Rattle.wh_model.specs.Opcodes.{imported_mutability, export_kind, import_kind};
-ghost use Rattle.wh_leb.specs.Reading.{one_at, only_at, bytes_at, times_at, vec_at, u32_at, Gives};
+ghost use Rattle.wh_leb.specs.Reading.{one_at, only_at, read_bytes_at, times_at, vec_at, u32_at, Gives};
 ghost use Rattle.wh_syntax.specs.View.{view_desc, view_import, view_global, view_export, view_element, view_data};
 ghost use Rattle.wh_decode.specs.ReadingModule.{name_at, importdesc_by_at, importdesc_at, import_at, global_at, export_at, element_at, byte_vector_at, segment_at};
 
@@ -21,7 +21,7 @@ use wh_syntax::{Data, Element, Export, Global as GlobalVariable, Import, ImportD
 fn text(bytes: &[u8], at: usize, count: u32) -> Result<(&str, usize), DecodeError>
     requires { at ≤ length bytes.now }
     ensures exact { Gives (λ found. (found.0.now, found.1)) result
-        (only_at is_utf8 FaultKind.Utf8 (bytes_at count) bytes.now at) }
+        (only_at is_utf8 FaultKind.Utf8 (read_bytes_at count) bytes.now at) }
     ensures inside { IfOk result (λ found. found.1 ≤ length bytes.now) }
 {
     let end = at + count as usize;
@@ -268,7 +268,8 @@ fn byte_list(
     count: u32,
 ) -> Result<(Vec<u8>, usize), DecodeError>
     requires { at ≤ length bytes.now }
-    ensures exact { Gives (λ found. (found.0.items, found.1)) result (bytes_at count bytes.now at) }
+    ensures exact { Gives (λ found. (found.0.items, found.1)) result
+        (read_bytes_at count bytes.now at) }
     ensures inside { IfOk result (λ found. found.1 ≤ length bytes.now) }
 {
     let end = at + count as usize;

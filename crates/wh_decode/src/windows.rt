@@ -1,7 +1,7 @@
 //! Windows: so many bytes of the input, as far as there are any, which what is read has to fill.
 
 ghost use Rattle.std.specs.Prelude.{◌≡◌, ◌≤◌, length, take, Result};
-ghost use Rattle.wh_leb.specs.Reading.{outer_fault, closed};
+ghost use Rattle.wh_leb.specs.Reading.{outer_fault, closed_window};
 
 use wh_leb::fault;
 use wh_model::{DecodeError, FaultKind};
@@ -37,7 +37,7 @@ pub fn close<T: Drop>(
     end: usize,
     read: Result<(T, usize), DecodeError>,
 ) -> Result<(T, usize), DecodeError>
-    ensures { result ≡ closed whole end read }
+    ensures { result ≡ closed_window whole end read }
 {
     match read {
         Ok((value, next)) => {

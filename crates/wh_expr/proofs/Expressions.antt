@@ -11,7 +11,7 @@ use Rattle.wh_model.specs.Limits.{depth, most_nested, FewInstructions}
 use Rattle.wh_model.specs.Instructions.{instr, next_instr, NextBreaks, Front, in_body, expr}
 use Rattle.wh_model.specs.Nested.{nested}
 use Rattle.wh_model.proofs.Nesting.{nested-expression}
-use Rattle.wh_leb.specs.Reading.{◌>>=◌, Reads, Anything, head_of, with_front}
+use Rattle.wh_leb.specs.Reading.{◌>>=◌, ReadsBy, Anything, head_of, with_front}
 use Rattle.wh_leb.proofs.Combinators.{bind_ok, bind_err, ok_is, succeed, fails_at, after, inside, head_fault, head_stops, with_front-with_front, with_front-nil}
 use Rattle.wh_expr.specs.ReadingCode.{instr_at, after_instr, goes_on, code_from, most_from, code_at}
 use Rattle.wh_expr.proofs.Fronts.{Passes, front_more, front_last, passes_flatten, front_passes}
@@ -256,7 +256,7 @@ left_behind (Some most) b at count t u kind stack k e long (inl h) = (let lt = h
 left_behind (Some most) b at count t u kind stack k e long (inr h) = (let all = h.0 in (omega arith, omega arith))
 left_behind None b at count t u kind stack k e long h = (omega (arith, length-drop at b, length-append t u, ap length e), omega arith)
 
-pub reads_expr : (most : Option ℕ) → Reads Anything (expr most) (code_at most)
+pub reads_expr : (most : Option ℕ) → ReadsBy Anything (expr most) (code_at most)
 unfolding code_at
 reads_expr most = record {
   found = λ b at c next le e.

@@ -14,37 +14,37 @@ use Rattle.wh_model.specs.Syntax.{Op, unreachable, nop, br, br_if, br_table, ret
 use Rattle.wh_model.specs.Opcodes.{block_type, opcode}
 use Rattle.wh_model.specs.Limits.{most_nested, most_labels}
 use Rattle.wh_model.specs.Instructions.{blocktype, with_index, with_address, opening, operands, instr, if_room, else_in, allowed, may_come, next_instr}
-use Rattle.wh_leb.specs.Reading.{◌>>=◌, Reads, Anything, one_at, u32_at, s32_at, s64_at, vec_up_to_at}
+use Rattle.wh_leb.specs.Reading.{◌>>=◌, ReadsBy, Anything, one_at, u32_at, s32_at, s64_at, vec_up_to_at}
 use Rattle.wh_leb.proofs.Combinators.{chosen, reads_gives, reads_then, reads_one_of}
 use Rattle.wh_leb.proofs.Integers.{reads_u32, reads_s32, reads_s64, reads_vec_up_to, reads_byte}
 use Rattle.wh_expr.specs.ReadingCode.{with_index_at, with_address_at, opening_at, table_at, indirect_at, reserved_at, operands_at, instr_at}
 use Rattle.wh_expr.proofs.Fronts.{MayCome, ElseMayCome}
 
-reads_with_index : (op : ℕ → Op) → Reads Anything (with_index op) (with_index_at op)
+reads_with_index : (op : ℕ → Op) → ReadsBy Anything (with_index op) (with_index_at op)
 reads_with_index op = reads_then Anything u32 (λ x. gives (single (op x))) u32_at (λ x b at. Ok (single (op x), at)) reads_u32 (λ x. reads_gives (single (op x)))
 
-reads_with_address : (op : ℕ → ℕ → Op) → Reads Anything (with_address op) (with_address_at op)
+reads_with_address : (op : ℕ → ℕ → Op) → ReadsBy Anything (with_address op) (with_address_at op)
 reads_with_address op =
     reads_then Anything u32 (λ a. u32 then λ o. gives (single (op a o))) u32_at (λ a b at. u32_at b at >>= λ o. Ok (single (op a o.0), o.1)) reads_u32 (λ a.
     reads_then Anything u32 (λ o. gives (single (op a o))) u32_at (λ o b at. Ok (single (op a o), at)) reads_u32 (λ o. reads_gives (single (op a o))))
 
-reads_opening : (start : Option ValType → Instr) → Reads Anything (opening start) (opening_at start)
+reads_opening : (start : Option ValType → Instr) → ReadsBy Anything (opening start) (opening_at start)
 reads_opening start = reads_then Anything blocktype (λ t. gives (start t)) (one_at block_type) (λ t b at. Ok (start t, at)) (reads_one_of block_type) (λ t. reads_gives (start t))
 
-reads_table : Reads Anything (operands BrTable) table_at
+reads_table : ReadsBy Anything (operands BrTable) table_at
 reads_table =
     reads_then Anything (vec_up_to most_labels u32) (λ ls. u32 then λ l. gives (single (br_table ls l))) (vec_up_to_at most_labels u32_at) (λ ls b at. u32_at b at >>= λ l. Ok (single (br_table ls l.0), l.1)) (reads_vec_up_to most_labels u32 u32_at reads_u32) (λ ls.
     reads_then Anything u32 (λ l. gives (single (br_table ls l))) u32_at (λ l b at. Ok (single (br_table ls l), at)) reads_u32 (λ l. reads_gives (single (br_table ls l))))
 
-reads_indirect : Reads Anything (operands CallIndirect) indirect_at
+reads_indirect : ReadsBy Anything (operands CallIndirect) indirect_at
 reads_indirect =
     reads_then Anything u32 (λ t. this_byte UnknownByte 0 then λ _. gives (single (call_indirect t))) u32_at (λ t b at. one_at (exact_byte UnknownByte 0) b at >>= λ z. Ok (single (call_indirect t), z.1)) reads_u32 (λ t.
     reads_then Anything (this_byte UnknownByte 0) (λ _. gives (single (call_indirect t))) (one_at (exact_byte UnknownByte 0)) (λ _ b at. Ok (single (call_indirect t), at)) (reads_byte UnknownByte 0) (λ _. reads_gives (single (call_indirect t))))
 
-reads_reserved : (op : Op) → Reads Anything (this_byte UnknownByte 0 then λ _. gives (single op)) (reserved_at op)
+reads_reserved : (op : Op) → ReadsBy Anything (this_byte UnknownByte 0 then λ _. gives (single op)) (reserved_at op)
 reads_reserved op = reads_then Anything (this_byte UnknownByte 0) (λ _. gives (single op)) (one_at (exact_byte UnknownByte 0)) (λ _ b at. Ok (single op, at)) (reads_byte UnknownByte 0) (λ _. reads_gives (single op))
 
-reads_operands : (code : Opcode) → Reads Anything (operands code) (operands_at code)
+reads_operands : (code : Opcode) → ReadsBy Anything (operands code) (operands_at code)
 unfolding operands_at
 reads_operands Unreachable = reads_gives (single unreachable)
 reads_operands Nop = reads_gives (single nop)
@@ -78,7 +78,7 @@ reads_operands (Unary t op) = reads_gives (single (unary t op))
 reads_operands (Binary t op) = reads_gives (single (binary t op))
 reads_operands (Convert op) = reads_gives (single (conversion op))
 
-pub reads_next : (stack : List Open) → Reads Anything (next_instr stack) (instr_at stack)
+pub reads_next : (stack : List Open) → ReadsBy Anything (next_instr stack) (instr_at stack)
 unfolding instr_at
 reads_next stack = reads_then Anything (one_of (λ n. may_come stack (opcode n))) operands (one_at (λ n. may_come stack (opcode n))) (λ code. operands_at code) (reads_one_of (λ n. may_come stack (opcode n))) reads_operands
 

@@ -6,7 +6,7 @@ ghost use Rattle.wh_model.specs.Syntax.{Code};
 ghost use Rattle.wh_model.specs.Syntax as model;
 ghost use Rattle.wh_model.specs.Opcodes.{opcode};
 ghost use Rattle.wh_model.specs.Instructions.{allowed, may_come, expr};
-ghost use Rattle.wh_leb.specs.Reading.{one_at, head_of, Gives, Found, Broken};
+ghost use Rattle.wh_leb.specs.Reading.{one_at, head_of, Gives, IsFound, Broken};
 ghost use Rattle.wh_syntax.specs.Shown.{instr_of, InPool};
 ghost use Rattle.wh_expr.specs.ReadingCode.{instr_at, operands_at, after_instr, code_from, most_from, code_at};
 ghost use Rattle.wh_expr.specs.Stack.{Advances, Extends};
@@ -238,7 +238,7 @@ pub fn read_expr(
     requires inside { at ≤ length bytes.now }
     requires short { length bytes.now < 2 ^ 32 }
     // The bytes up to the next place spell the expression, within the limits.
-    ensures found { IfOk result (λ x. Found (expr most) bytes.now at x.0 x.1) }
+    ensures found { IfOk result (λ x. IsFound (expr most) bytes.now at x.0 x.1) }
     // What spells an expression within the limits is read, whatever follows it, unless memory runs out.
     ensures only { (c : Code) (t u : List ℕ) → drop at bytes.now ≡ t ++ u → (expr most).within c t
         → Gives (λ x. x) result (Ok (c, at + length t)) }

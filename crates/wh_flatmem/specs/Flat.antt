@@ -2,11 +2,11 @@
 use Rattle.std.specs.Prelude.{◌≡◌, ℕ, ◌+◌, ◌<◌, ◌≤◌, List, Option, Some, None, length}
 
 -- its bytes, and the greatest number of pages of 65536 bytes that it may have
-pub record Flat : Type 0 where
+pub record FlatMemoryState : Type 0 where
   pub bytes : List ℕ
   pub limit : ℕ
 
 -- where so many bytes begin, if all of them are in the memory
-abbrev pub Begins : List ℕ → ℕ → ℕ → Option ℕ → Type 0
-Begins bytes at count (Some start) = (start ≡ at) × (at + count ≤ length bytes)
-Begins bytes at count None = length bytes < at + count
+abbrev pub StartsAt : List ℕ → ℕ → ℕ → Option ℕ → Type 0
+StartsAt bytes at count (Some start) = (start ≡ at) × (at + count ≤ length bytes)
+StartsAt bytes at count None = length bytes < at + count

@@ -11,7 +11,7 @@
 
 ghost use Rattle.std.specs.Prelude.{◌≡◌, ◌+◌, ◌*◌, ◌<◌, ◌≤◌, length, replicate, IfOk, IsTrue, IsFalse, vec_capacity, refl};
 ghost use Rattle.std.proofs.Common.{◌∙◌};
-ghost use Rattle.wh_flatmem.specs.Flat.{Flat, Begins};
+ghost use Rattle.wh_flatmem.specs.Flat.{FlatMemoryState, StartsAt};
 ghost use Rattle.wh_model.specs.Store.{bytes_at, written};
 
 use std::alloc::{AllocError, Global};
@@ -33,7 +33,7 @@ pub struct FlatMemory {
 }
 
 impl Model for FlatMemory {
-    ghost Value = { Flat };
+    ghost Value = { FlatMemoryState };
 
     ghost view = { λ m. record { bytes = m.bytes.items; limit = m.limit } };
 
@@ -114,7 +114,7 @@ impl FlatMemory {
     // Where so many bytes begin, if all of them are in the memory.
     #[inline(always)]
     fn place(&self, at: u64, count: usize) -> Option<usize>
-        ensures { Begins self.now.bytes at count result }
+        ensures { StartsAt self.now.bytes at count result }
     {
         if at.saturating_add(count as u64) > self.bytes.len() as u64 {
             return None;

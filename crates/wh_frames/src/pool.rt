@@ -3,7 +3,7 @@
 ghost use Rattle.std.specs.Prelude.{◌≡◌, ◌≢◌, ◌↔◌, ℕ, ◌+◌, ◌<◌, ◌≤◌, ◌++◌, [], ◌∷◌, length, replicate, slice_get, Some, Err, OnErr, IfOk, IfErr, vec_len, vec_capacity};
 ghost use Rattle.std.specs.Borrow.{sem};
 ghost use Rattle.wh_frames.specs.Lending.{LendsFrame};
-ghost use Rattle.wh_host_model.specs.Frames.{IsTaken, HasDistinctFree, Takes, tally, one_if};
+ghost use Rattle.wh_host_model.specs.Frames.{IsTaken, HasDistinctFree, TakesFrame, tally, one_if};
 ghost use Rattle.wh_host_model.specs.Pages.{zero_page};
 
 use crate::FrameError;
@@ -78,10 +78,10 @@ impl FramePool {
         })
     }
 
-    /// Takes a free frame, one that was given back where there is one. It holds the bytes that it had: those that
+    /// TakesFrame a free frame, one that was given back where there is one. It holds the bytes that it had: those that
     /// were last written to it, or zeros where it was never taken. `NoFrame` where none is free. It takes no memory.
     pub fn take(&mut self) -> Result<u32, FrameError>
-        ensures takes { IfOk result (λ frame. Takes self.old frame self.new) }
+        ensures takes { IfOk result (λ frame. TakesFrame self.old frame self.new) }
         ensures taken { IfOk result (λ frame. IsTaken self.new frame) }
         ensures others { IfOk result
             (λ frame. (f : ℕ) → IsTaken self.old f → (f ≢ frame) × IsTaken self.new f) }

@@ -25,6 +25,6 @@ pub record HasDistinctFree (pool : Pool) : Type 0 where
   pub there : (f : ℕ) → length pool.frames ≤ f → tally (one_if f) pool.free ≡ 0
 
 -- one free frame is taken: it isn't free any more, all others stay as they were, and so do the bytes of all frames
-pub record Takes (old : Pool) (f : ℕ) (new : Pool) : Type 0 where
+pub record TakesFrame (old : Pool) (f : ℕ) (new : Pool) : Type 0 where
   pub frames : new.frames ≡ old.frames
   pub free : old.free ≡ new.free ++ f ∷ []

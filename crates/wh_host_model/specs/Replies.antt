@@ -12,7 +12,7 @@ use Rattle.wh_model.specs.declared.faults.ImportFault.{ImportFault}
 use Rattle.wh_model.specs.Linking.{Links, IsFirstFault}
 use Rattle.wh_model.specs.Accepting.{IsModule}
 use Rattle.wh_host_model.specs.Script.{is_skipped, longest_line, Place, error_reply, kept_reply, refused_reply, invalid_reply, unlinked_reply, no_link_memory_reply}
-use Rattle.wh_host_model.specs.Requests.{Request, keep_module, Asks}
+use Rattle.wh_host_model.specs.Requests.{Request, keep_module, AsksRequest}
 
 -- which module each name has, if it has one
 abbrev pub Modules : Type 0
@@ -87,9 +87,9 @@ pub data LineReply (gets : Replying) (before : Modules) (number : ℕ) (line tex
   skipped : is_skipped line ≡ true → text ≡ [] → after ≡ before → LineReply gets before number line text after
   too_long : is_skipped line ≡ false → longest_line < length line → text ≡ error_reply 1 number → after ≡ before
       → LineReply gets before number line text after
-  no_request : is_skipped line ≡ false → ((request : Request) → Asks line request → ⊥) → text ≡ error_reply 1 number
+  no_request : is_skipped line ≡ false → ((request : Request) → AsksRequest line request → ⊥) → text ≡ error_reply 1 number
       → after ≡ before → LineReply gets before number line text after
-  asked : (request : Request) → is_skipped line ≡ false → length line ≤ longest_line → Asks line request
+  asked : (request : Request) → is_skipped line ≡ false → length line ≤ longest_line → AsksRequest line request
       → gets before number request text after → LineReply gets before number line text after
 
 -- what lines get, one after the other, the first of them having this number

@@ -25,5 +25,5 @@ pub data Request : Type 0 where
   keep_module : (name bytes : List ℕ) → Request
 
 -- the line asks for it
-abbrev pub Asks : List ℕ → Request → Type 0
-Asks line (keep_module name bytes) = (word : List ℕ) × IsModuleLine line name word × IsHex word bytes
+abbrev pub AsksRequest : List ℕ → Request → Type 0
+AsksRequest line (keep_module name bytes) = (word : List ℕ) × IsModuleLine line name word × IsHex word bytes

@@ -14,7 +14,7 @@ use Rattle.wh_model.specs.Linking.{value_of, ImportsItem, HasItem, LacksItem}
 use Rattle.wh_syntax.specs.View.{view_import}
 use Rattle.wh_syntax.specs.declared.module.Import.{Import as Given}
 use Rattle.wh_imports.specs.Resolving.{AreResolved, Adds}
-use Rattle.wh_imports.specs.Refusing.{Refuses}
+use Rattle.wh_imports.specs.Refusing.{RefusesLink}
 use Rattle.wh_imports.specs.declared.error.LinkError.TheVariants.{NoItem}
 
 one_func_more : (types : List FuncType) (p : Parameters) (is : List Import) (fs : List FuncInst) (vs : List Value) (i : Import) (h : HostFunc) → Imported types p is fs vs → ImportsFunc types i h
@@ -62,7 +62,7 @@ take_mapped f (y ∷ ys) (suc k) x lt e =
     let same : suc k + 1 ≡ suc (k + 1) = omega arith in
     ap (λ n. take n (f y ∷ map f ys)) same ∙ ap (λ w. f y ∷ w) (take_mapped f ys k x (omega (arith, lt)) e)
 
-pub refuses : (m : Module) (i : Import) (fault : ImportFault) (at : ℕ) → slice_get m.imports at ≡ Some i → LacksItem m.types i fault → AllByRecursion (HasItem m.types) (take at m.imports) → Refuses m (NoItem fault at)
+pub refuses : (m : Module) (i : Import) (fault : ImportFault) (at : ℕ) → slice_get m.imports at ≡ Some i → LacksItem m.types i fault → AllByRecursion (HasItem m.types) (take at m.imports) → RefusesLink m (NoItem fault at)
 refuses m i fault at stands lacks before = record { at = i; stands = stands; lacks = lacks; before = before }
 
 -- ---- one import more that was read

@@ -16,7 +16,7 @@ use wh_syntax::{FuncType, Import, ImportDesc};
 fn named(import: &Import) -> Option<HostItem>
     ensures some { IfSome result
         (λ item. (string_bytes import.now.from ≡ codes "host")
-            × (string_bytes import.now.name ≡ item_name item)) }
+        × (string_bytes import.now.name ≡ item_name item)) }
     ensures none { IfNone result (¬ (IsKnown (view_import import.now))) }
 {
     if import.from.as_str() != "host" {
@@ -77,8 +77,8 @@ pub fn item_of(types: &[FuncType], import: &Import, at: usize) -> Result<HostIte
     ensures ok { IfOk result (ImportsItem (map view_type types.now) (view_import import.now)) }
     ensures err { IfErr result
         (λ e. (fault : ImportFault)
-            × LacksItem (map view_type types.now) (view_import import.now) fault
-            × (e ≡ LinkError.NoItem fault at)) }
+        × LacksItem (map view_type types.now) (view_import import.now) fault
+        × (e ≡ LinkError.NoItem fault at)) }
 {
     let Some(item) = named(import) else {
         return Err(LinkError::NoItem(ImportFault::UnknownImport, at));

@@ -4,10 +4,10 @@ ghost use Rattle.std.specs.Prelude.{◌≡◌, map, OnOk, IfOk, IfErr};
 ghost use Rattle.wh_model.specs.Linking.{Links};
 ghost use Rattle.wh_syntax.specs.View.{view_module};
 ghost use Rattle.wh_bodies.specs.Views.{view_side};
-ghost use Rattle.wh_validate.specs.Soundness.{IsSound};
+ghost use Rattle.wh_validate.specs.Soundness.{IsChecked};
 ghost use Rattle.wh_imports.specs.Resolving.{IsResolved, Adds};
-ghost use Rattle.wh_imports.specs.Joined.{Joined, stored_joined};
-ghost use Rattle.wh_imports.specs.Refusing.{Refuses};
+ghost use Rattle.wh_imports.specs.Joined.{LinkedState, stored_joined};
+ghost use Rattle.wh_imports.specs.Refusing.{RefusesLink};
 
 use crate::error::LinkError;
 use crate::items::item_of;
@@ -27,14 +27,17 @@ pub struct Linked {
 }
 
 impl Model for Linked {
-    ghost Value = { Joined };
+    ghost Value = { LinkedState };
 
     ghost coded = { stored_joined };
 
-    ghost view = { λ l. record { valid = l.valid; funcs = l.funcs.items;
-        globals = l.globals.items } };
+    ghost view = { λ l. record {
+      valid = l.valid;
+      funcs = l.funcs.items;
+      globals = l.globals.items;
+    } };
 
-    ghost invariant = { λ l. IsSound (view_module l.valid.decoded) (map view_side l.valid.tables)
+    ghost invariant = { λ l. IsChecked (view_module l.valid.decoded) (map view_side l.valid.tables)
         × IsResolved (view_module l.valid.decoded) l.funcs.items l.globals.items };
 }
 
@@ -43,7 +46,7 @@ impl Linked {
     pub fn module(&self) -> &Module
         ensures same { result.now ≡ self.now.valid.decoded }
         // It is valid, it fits, and its bodies have their tables.
-        ensures sound { IsSound (view_module result.now) (map view_side self.now.valid.tables) }
+        ensures sound { IsChecked (view_module result.now) (map view_side self.now.valid.tables) }
         // Its imports are what they are linked to.
         ensures resolved { IsResolved (view_module result.now) self.now.funcs self.now.globals }
     {
@@ -84,7 +87,7 @@ impl Resolved {
     fn add(&mut self, item: HostItem) -> Result<(), LinkError>
         ensures ok { OnOk result
             (Adds item self.old.funcs.items self.old.globals.items self.new.funcs.items
-                self.new.globals.items) }
+            self.new.globals.items) }
         ensures err { IfErr result (λ e. e ≡ LinkError.Memory) }
     {
         let pushed = match item {
@@ -103,7 +106,7 @@ fn resolve(alloc: Global, decoded: &Module) -> Result<Resolved, LinkError>
     ensures ok { OnOk result (Links (view_module decoded.now)) }
     ensures resolved { IfOk result
         (λ r. IsResolved (view_module decoded.now) r.funcs.items r.globals.items) }
-    ensures err { IfErr result (Refuses (view_module decoded.now)) }
+    ensures err { IfErr result (RefusesLink (view_module decoded.now)) }
 {
     let mut resolved = Resolved {
         funcs: Vec::new(alloc),
@@ -128,7 +131,7 @@ pub fn link(alloc: Global, valid: ValidModule) -> Result<Linked, LinkError>
     // It is the module that was given.
     ensures same { IfOk result (λ linked. linked.valid ≡ valid) }
     // The first import without its item is named, with its cause.
-    ensures err { IfErr result (Refuses (view_module valid.decoded)) }
+    ensures err { IfErr result (RefusesLink (view_module valid.decoded)) }
 {
     let resolved = resolve(alloc, valid.module())?;
     Ok(Linked {

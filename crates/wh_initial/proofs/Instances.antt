@@ -14,8 +14,8 @@ use Rattle.wh_model.specs.Linking.{value_of}
 use Rattle.wh_syntax.specs.View.{view_module}
 use Rattle.wh_bodies.specs.Table.{Table, table_of}
 use Rattle.wh_bodies.specs.Views.{view_side, type_at}
-use Rattle.wh_validate.specs.Soundness.{Checked, IsSound}
-use Rattle.wh_imports.specs.Joined.{Joined}
+use Rattle.wh_validate.specs.Soundness.{Checked, IsChecked}
+use Rattle.wh_imports.specs.Joined.{LinkedState}
 use Rattle.wh_imports.specs.Resolving.{IsResolved}
 use Rattle.wh_control.specs.Represents.{Func, func_of, IsFunc}
 use Rattle.wh_control.proofs.Places.{same_at}
@@ -80,7 +80,7 @@ own_funcs c types same (x ∷ xs) bs ts os (b, rest, f, more, eb, et, at, valid,
 
 -- ---- instances
 
-pub instance_of : (l : Joined) (sound : IsSound (view_module l.valid.decoded) (map view_side l.valid.tables)) → IsResolved (view_module l.valid.decoded) l.funcs l.globals
+pub instance_of : (l : LinkedState) (sound : IsChecked (view_module l.valid.decoded) (map view_side l.valid.tables)) → IsResolved (view_module l.valid.decoded) l.funcs l.globals
     → (p : Parameters) (inst : Instance) (globals : List Value) (elements segments : List Piece) → Prepares (view_module l.valid.decoded) p inst globals elements segments → IsInstance (record { decoded = l.valid.decoded; tables = l.valid.tables; hosts = l.funcs }) sound.context inst
 instance_of l sound resolved p inst globals elements segments pre =
     let m = view_module l.valid.decoded in

@@ -15,19 +15,19 @@ use Rattle.wh_syntax.specs.declared.module.Module.{Module}
 use Rattle.wh_syntax.specs.View.{view_module}
 use Rattle.wh_bodies.specs.Table.{Table}
 use Rattle.wh_validate.proofs.Lists.{recursion_each}
-use Rattle.wh_validate.specs.Soundness.{IsSound}
+use Rattle.wh_validate.specs.Soundness.{IsChecked}
 use Rattle.wh_imports.specs.Resolving.{IsResolved}
-use Rattle.wh_initial.specs.declared.outcome.Initial.{Initial}
-use Rattle.wh_initial.specs.declared.error.InitialError.{InitialError}
-use Rattle.wh_initial.specs.declared.error.InitialError.TheVariants.{MemoryMin, SegmentBounds, Memory}
+use Rattle.wh_initial.specs.declared.outcome.Instantiated.{Instantiated}
+use Rattle.wh_initial.specs.declared.error.InstantiateError.{InstantiateError}
+use Rattle.wh_initial.specs.declared.error.InstantiateError.TheVariants.{MemoryMin, SegmentBounds, Memory}
 use Rattle.wh_initial.specs.Words.{word_in, IsSeen, IsOffset, element_piece, data_piece}
-use Rattle.wh_initial.specs.InWords.{AllFit, words_of, first_entries, first_pages, IsPrepared, BeginsInWords, RefusesInWords}
-use Rattle.wh_initial.specs.Begins.{first_store, StandsFor, BeginsWith, Refuses}
+use Rattle.wh_initial.specs.InWords.{AllFit, words_of_globals, first_entries, first_pages, IsPrepared, BeginsInWords, RefusesInWords}
+use Rattle.wh_initial.specs.Begins.{first_store, RepresentsFirstStore, Instantiates, RefusesInstance}
 use Rattle.wh_initial.proofs.ValueLemmas.{AreTyped, HasValue, imported_types, hosts_in_range, host_words, own_value, AreValued, are_valued, own_begun, own_in_range, own_types, own_words}
 use Rattle.wh_initial.proofs.FuncLemmas.{AreDefined, are_defined, imported_count, named_count, NamesBelow, all_joined, filled_below, none_below, below_at}
 use Rattle.wh_initial.proofs.SegmentLemmas.{all_offsets, elements_valued, segments_valued, elements_placed, segments_placed, all_within, within_all, elements_name, places_mapped, bytes_mapped}
 
-module _ (m : Module) (imported : List HostGlobal) (hosts : List HostFunc) (tables : List Table) (p : Parameters) (sound : IsSound (view_module m) tables) (resolved : IsResolved (view_module m) hosts imported) (base : p.base < 2 ^ 32) (salt : p.salt < 2 ^ 64) where
+module _ (m : Module) (imported : List HostGlobal) (hosts : List HostFunc) (tables : List Table) (p : Parameters) (sound : IsChecked (view_module m) tables) (resolved : IsResolved (view_module m) hosts imported) (base : p.base < 2 ^ 32) (salt : p.salt < 2 ^ 64) where
   -- ---- globals
 
   abbrev host_values : List Value
@@ -55,8 +55,8 @@ module _ (m : Module) (imported : List HostGlobal) (hosts : List HostFunc) (tabl
     in_range = all_joined InRange host_values own_values typed_hosts.in_range (own_in_range host_values m.globals.items valued);
   }
 
-  words : map bits_of values ≡ words_of m imported p
-  unfolding words_of
+  words : map bits_of values ≡ words_of_globals m imported p
+  unfolding words_of_globals
   words =
       map-append bits_of host_values own_values
       ∙ ap (λ w. map bits_of host_values ++ w) (own_words (map bits_of host_values) m.globals.items)
@@ -78,10 +78,10 @@ module _ (m : Module) (imported : List HostGlobal) (hosts : List HostFunc) (tabl
   }
 
   abbrev elements : List Piece
-  elements = map (element_piece (words_of m imported p)) m.elements.items
+  elements = map (element_piece (words_of_globals m imported p)) m.elements.items
 
   abbrev segments : List Piece
-  segments = map (data_piece (words_of m imported p)) m.segments.items
+  segments = map (data_piece (words_of_globals m imported p)) m.segments.items
 
   -- ---- the instance
 
@@ -119,24 +119,24 @@ module _ (m : Module) (imported : List HostGlobal) (hosts : List HostFunc) (tabl
       omega (arith, named, first, both, all, own)
 
   named : AllByRecursion (NamesBelow (length inst.funcs)) (filled (replicate (first_entries m) None) elements)
-  named = filled_below (length inst.funcs) (replicate (first_entries m) None) elements (none_below (length inst.funcs) (first_entries m)) (elements_name sound.context (length inst.funcs) (words_of m imported p) m.elements.items counted sound.valid.elements)
+  named = filled_below (length inst.funcs) (replicate (first_entries m) None) elements (none_below (length inst.funcs) (first_entries m)) (elements_name sound.context (length inst.funcs) (words_of_globals m imported p) m.elements.items counted sound.valid.elements)
 
   -- ---- what is handed out
 
-  elements_in : AllFit m (words_of m imported p) → Within (first_entries m) elements
+  elements_in : AllFit m (words_of_globals m imported p) → Within (first_entries m) elements
   unfolding AllFit
-  elements_in fit = all_within (element_piece (words_of m imported p)) (first_entries m) m.elements.items fit.0
+  elements_in fit = all_within (element_piece (words_of_globals m imported p)) (first_entries m) m.elements.items fit.0
 
-  segments_in : AllFit m (words_of m imported p) → Within (first_pages m * 65536) segments
+  segments_in : AllFit m (words_of_globals m imported p) → Within (first_pages m * 65536) segments
   unfolding AllFit
-  segments_in fit = all_within (data_piece (words_of m imported p)) (first_pages m * 65536) m.segments.items fit.1
+  segments_in fit = all_within (data_piece (words_of_globals m imported p)) (first_pages m * 65536) m.segments.items fit.1
 
-  all_in : Within (first_entries m) elements → Within (first_pages m * 65536) segments → AllFit m (words_of m imported p)
+  all_in : Within (first_entries m) elements → Within (first_pages m * 65536) segments → AllFit m (words_of_globals m imported p)
   unfolding AllFit
-  all_in es ss = (within_all (element_piece (words_of m imported p)) (first_entries m) m.elements.items es, within_all (data_piece (words_of m imported p)) (first_pages m * 65536) m.segments.items ss)
+  all_in es ss = (within_all (element_piece (words_of_globals m imported p)) (first_entries m) m.elements.items es, within_all (data_piece (words_of_globals m imported p)) (first_pages m * 65536) m.segments.items ss)
 
-  module _ (i : Initial) (b : BeginsInWords m imported p i) where
-    stands_for : StandsFor (view_module m) inst (first_store (view_module m) p values elements) i
+  module _ (i : Instantiated) (b : BeginsInWords m imported p i) where
+    stands_for : RepresentsFirstStore (view_module m) inst (first_store (view_module m) p values elements) i
     stands_for c context = record {
       bytes = ap (λ n. replicate (n * 65536) 0) (sym b.pages);
       limit = b.page_limit;
@@ -151,7 +151,7 @@ module _ (m : Module) (imported : List HostGlobal) (hosts : List HostFunc) (tabl
       room = b.room;
     }
 
-    begins_with : BeginsWith (view_module m) p i
+    begins_with : Instantiates (view_module m) p i
     begins_with = record {
       inst = inst;
       globals = values;
@@ -169,20 +169,20 @@ module _ (m : Module) (imported : List HostGlobal) (hosts : List HostFunc) (tabl
       table = sym b.table;
       no_output = b.output;
       room = b.room;
-      places = places_mapped (words_of m imported p) m.segments.items ∙ sym b.places;
-      bytes = bytes_mapped (words_of m imported p) m.segments.items;
+      places = places_mapped (words_of_globals m imported p) m.segments.items ∙ sym b.places;
+      bytes = bytes_mapped (words_of_globals m imported p) m.segments.items;
       stands_for = stands_for;
     }
 
-  refuses : (e : InitialError) → RefusesInWords m imported p e → Refuses (view_module m) p e
+  refuses : (e : InstantiateError) → RefusesInWords m imported p e → RefusesInstance (view_module m) p e
   refuses MemoryMin more = needs_more more
   refuses SegmentBounds out = out_of_bounds out.0 prepares (λ both. out.1 (all_in both.0 both.1))
   refuses Memory none = tt
 
-  pub ok_turned : (r : Result Initial InitialError) → IfOk r (BeginsInWords m imported p) → IfOk r (BeginsWith (view_module m) p)
+  pub ok_turned : (r : Result Instantiated InstantiateError) → IfOk r (BeginsInWords m imported p) → IfOk r (Instantiates (view_module m) p)
   ok_turned (Ok i) b = begins_with i b
   ok_turned (Err e) b = tt
 
-  pub err_turned : (r : Result Initial InitialError) → IfErr r (RefusesInWords m imported p) → IfErr r (Refuses (view_module m) p)
+  pub err_turned : (r : Result Instantiated InstantiateError) → IfErr r (RefusesInWords m imported p) → IfErr r (RefusesInstance (view_module m) p)
   err_turned (Ok i) h = tt
   err_turned (Err e) h = refuses e h

@@ -8,10 +8,10 @@ use Rattle.wh_model.specs.Validity.{IsContext}
 use Rattle.wh_model.specs.Store.{Value, Instance, Store, output_room}
 use Rattle.wh_model.specs.Instance.{Parameters, Piece, Within, filled, fragments, first_size, Prepares, IsInitial, memory_min, segment_bounds, begins}
 use Rattle.wh_control.specs.Represents.{bits_of, InRange}
-use Rattle.wh_control.specs.Storage.{IsStore}
-use Rattle.wh_initial.specs.declared.outcome.Initial.{Initial}
-use Rattle.wh_initial.specs.declared.error.InitialError.{InitialError}
-use Rattle.wh_initial.specs.declared.error.InitialError.TheVariants.{MemoryMin, SegmentBounds, Memory}
+use Rattle.wh_control.specs.Storage.{RepresentsStore}
+use Rattle.wh_initial.specs.declared.outcome.Instantiated.{Instantiated}
+use Rattle.wh_initial.specs.declared.error.InstantiateError.{InstantiateError}
+use Rattle.wh_initial.specs.declared.error.InstantiateError.TheVariants.{MemoryMin, SegmentBounds, Memory}
 
 -- the store that instantiation makes of these globals and elements
 abbrev pub first_store : Module → Parameters → List Value → List Piece → Store
@@ -24,12 +24,12 @@ first_store m p globals elements = record {
 }
 
 -- In the context of the module what is handed out stands for a store, over a memory of zeros.
-abbrev pub StandsFor : Module → Instance → Store → Initial → Type 0
-StandsFor m inst s i =
-    (c : Context) → IsContext m c → IsStore c inst i.store (replicate (i.pages * 65536) 0) i.page_limit s
+abbrev pub RepresentsFirstStore : Module → Instance → Store → Instantiated → Type 0
+RepresentsFirstStore m inst s i =
+    (c : Context) → IsContext m c → RepresentsStore c inst i.store (replicate (i.pages * 65536) 0) i.page_limit s
 
 -- An instance begins so: the definition has it, and what is handed out is its store and where its data segments belong.
-pub record BeginsWith (m : Module) (p : Parameters) (i : Initial) : Type 0 where
+pub record Instantiates (m : Module) (p : Parameters) (i : Instantiated) : Type 0 where
   pub inst : Instance
   pub globals : List Value
   pub elements : List Piece
@@ -48,10 +48,10 @@ pub record BeginsWith (m : Module) (p : Parameters) (i : Initial) : Type 0 where
   pub room : output_room ≤ vec_capacity i.store.output
   pub places : map (λ s. s.at) segments ≡ i.places.items
   pub bytes : map (λ s. s.items) segments ≡ map (λ d. d.init) m.segments
-  pub stands_for : StandsFor m inst (first_store m p globals elements) i
+  pub stands_for : RepresentsFirstStore m inst (first_store m p globals elements) i
 
 -- why there is none; of memory nothing is said
-abbrev pub Refuses : Module → Parameters → InitialError → Type 0
-Refuses m p MemoryMin = IsInitial m p memory_min
-Refuses m p SegmentBounds = IsInitial m p segment_bounds
-Refuses m p Memory = ⊤
+abbrev pub RefusesInstance : Module → Parameters → InstantiateError → Type 0
+RefusesInstance m p MemoryMin = IsInitial m p memory_min
+RefusesInstance m p SegmentBounds = IsInitial m p segment_bounds
+RefusesInstance m p Memory = ⊤

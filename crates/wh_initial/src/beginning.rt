@@ -6,11 +6,11 @@ ghost use Rattle.wh_syntax.specs.View.{view_module};
 ghost use Rattle.wh_initial.specs.Given.{view_parameters};
 ghost use Rattle.wh_initial.specs.Words.{IsOffset};
 ghost use Rattle.wh_initial.specs.InWords.{AllFit, IsPrepared, BeginsInWords, RefusesInWords};
-ghost use Rattle.wh_initial.specs.Begins.{BeginsWith, Refuses};
+ghost use Rattle.wh_initial.specs.Begins.{Instantiates, RefusesInstance};
 
-use crate::error::{InitialError, with_room};
+use crate::error::{InstantiateError, with_room};
 use crate::globals::first_globals;
-use crate::outcome::Initial;
+use crate::outcome::Instantiated;
 use crate::parameters::Parameters;
 use crate::segments::{elements_fit, segment_places, segments_fit};
 use crate::sizes::{first_entries, first_pages, last_pages};
@@ -40,13 +40,13 @@ fn all_fit(decoded: &Module, globals: &[u64]) -> bool
 /// What an instance of a module begins with, where imported globals are these ones of the host.
 ///
 /// # Errors
-/// As `initial`'s.
+/// As `instantiate`'s.
 fn begin(
     alloc: Global,
     decoded: &Module,
     imported: &[HostGlobal],
     parameters: Parameters,
-) -> Result<Initial, InitialError>
+) -> Result<Instantiated, InstantiateError>
     requires { IsPrepared decoded.now imported.now (view_parameters parameters) }
     ensures ok { IfOk result (BeginsInWords decoded.now imported.now (view_parameters parameters)) }
     ensures inputs { IfOk result (λ i. i.store.inputs ≡ parameters.inputs) }
@@ -55,18 +55,18 @@ fn begin(
 {
     let pages = first_pages(&decoded.memories);
     if pages > parameters.page_limit {
-        return Err(InitialError::MemoryMin);
+        return Err(InstantiateError::MemoryMin);
     }
     let page_limit = last_pages(&decoded.memories, parameters.page_limit);
     let globals = first_globals(alloc, imported, &decoded.globals, &parameters)?;
     let places = segment_places(alloc, &decoded.segments, &globals)?;
     if !all_fit(decoded, &globals) {
-        return Err(InitialError::SegmentBounds);
+        return Err(InstantiateError::SegmentBounds);
     }
     let entries = first_entries(&decoded.tables);
     let table = first_table(alloc, entries, &decoded.elements, &globals)?;
     let output = with_room(alloc, OUTPUT_ROOM)?;
-    Ok(Initial {
+    Ok(Instantiated {
         store: Store {
             globals,
             table,
@@ -85,19 +85,19 @@ fn begin(
 /// # Errors
 /// `MemoryMin` where the first size of the memory is above `page_limit`; else `SegmentBounds` where a segment passes the
 /// end of the table or of the memory; `Memory` where a growth was refused.
-pub fn initial(
+pub fn instantiate(
     alloc: Global,
     linked: &Linked,
     parameters: Parameters,
-) -> Result<Initial, InitialError>
+) -> Result<Instantiated, InstantiateError>
     // It begins as the definition of instantiation says.
     ensures ok { IfOk result
-        (BeginsWith (view_module linked.now.valid.decoded) (view_parameters parameters)) }
+        (Instantiates (view_module linked.now.valid.decoded) (view_parameters parameters)) }
     // The words of `input` are those that were given.
     ensures inputs { IfOk result (λ i. i.store.inputs ≡ parameters.inputs) }
     // It has the fault that is named.
     ensures err { IfErr result
-        (Refuses (view_module linked.now.valid.decoded) (view_parameters parameters)) }
+        (RefusesInstance (view_module linked.now.valid.decoded) (view_parameters parameters)) }
 {
     begin(alloc, linked.module(), linked.globals(), parameters)
 }

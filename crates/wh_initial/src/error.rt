@@ -8,7 +8,7 @@ use thiserror::Error;
 
 /// Why a module has no instance with what its owner gives.
 #[derive(Clone, Copy, Debug, PartialEq, Eq, Error)]
-pub enum InitialError {
+pub enum InstantiateError {
     /// The first size of the memory is above the page limit.
     #[error("the memory begins with more pages than it may have")]
     MemoryMin,
@@ -24,14 +24,14 @@ pub enum InitialError {
 ///
 /// # Errors
 /// `Memory` where that room was refused.
-pub fn with_room<T: Drop>(alloc: Global, count: usize) -> Result<Vec<T>, InitialError>
+pub fn with_room<T: Drop>(alloc: Global, count: usize) -> Result<Vec<T>, InstantiateError>
     ensures ok { IfOk result (λ v. v.items ≡ []) }
     ensures room { IfOk result (λ v. count ≤ vec_capacity v) }
-    ensures err { IfErr result (λ e. e ≡ InitialError.Memory) }
+    ensures err { IfErr result (λ e. e ≡ InstantiateError.Memory) }
 {
     match Vec::with_capacity(alloc, count) {
         Ok(items) => Ok(items),
-        Err(_) => Err(InitialError::Memory),
+        Err(_) => Err(InstantiateError::Memory),
     }
 }
 
@@ -39,12 +39,12 @@ pub fn with_room<T: Drop>(alloc: Global, count: usize) -> Result<Vec<T>, Initial
 ///
 /// # Errors
 /// `Memory` where a growth was refused.
-pub fn push<T: Drop>(items: &mut Vec<T>, item: T) -> Result<(), InitialError>
+pub fn push<T: Drop>(items: &mut Vec<T>, item: T) -> Result<(), InstantiateError>
     ensures ok { OnOk result (items.new.items ≡ items.old.items ++ item ∷ []) }
-    ensures err { IfErr result (λ e. e ≡ InitialError.Memory) }
+    ensures err { IfErr result (λ e. e ≡ InstantiateError.Memory) }
 {
     match items.push(item) {
         Ok(()) => Ok(()),
-        Err(_) => Err(InitialError::Memory),
+        Err(_) => Err(InstantiateError::Memory),
     }
 }

@@ -7,7 +7,7 @@ ghost use Rattle.wh_initial.specs.Words.{IsSeen, word_in, host_word, global_word
 ghost use Rattle.wh_initial.specs.Given.{view_parameters};
 
 use crate::constants::word_of;
-use crate::error::{InitialError, push, with_room};
+use crate::error::{InstantiateError, push, with_room};
 use crate::parameters::Parameters;
 use std::alloc::Global as Heap;
 use wh_model::HostGlobal;
@@ -31,11 +31,11 @@ fn add_hosts(
     words: &mut Vec<u64>,
     imported: &[HostGlobal],
     parameters: &Parameters,
-) -> Result<(), InitialError>
+) -> Result<(), InstantiateError>
     ensures ok { OnOk result
         (words.new.items ≡ words.old.items
         ++ map (host_word (view_parameters parameters.now)) imported.now) }
-    ensures err { IfErr result (λ e. e ≡ InitialError.Memory) }
+    ensures err { IfErr result (λ e. e ≡ InstantiateError.Memory) }
 {
     for global in imported {
         push(words, word_of_host(*global, parameters))?;
@@ -47,11 +47,11 @@ fn add_hosts(
 ///
 /// # Errors
 /// `Memory` where a growth was refused.
-fn add_own(words: &mut Vec<u64>, own: &[Global]) -> Result<(), InitialError>
+fn add_own(words: &mut Vec<u64>, own: &[Global]) -> Result<(), InstantiateError>
     requires { All (λ g. IsSeen (vec_len words.old) g.init) own.now }
     ensures ok { OnOk result
         (words.new.items ≡ words.old.items ++ map (λ g. word_in words.old.items g.init) own.now) }
-    ensures err { IfErr result (λ e. e ≡ InitialError.Memory) }
+    ensures err { IfErr result (λ e. e ≡ InstantiateError.Memory) }
 {
     let imported = words.len();
     for global in own {
@@ -70,12 +70,12 @@ pub fn first_globals(
     imported: &[HostGlobal],
     own: &[Global],
     parameters: &Parameters,
-) -> Result<Vec<u64>, InitialError>
+) -> Result<Vec<u64>, InstantiateError>
     requires { All (λ g. IsSeen (length imported.now) g.init) own.now }
     ensures ok { IfOk result
         (λ words. words.items
         ≡ global_words (view_parameters parameters.now) imported.now own.now) }
-    ensures err { IfErr result (λ e. e ≡ InitialError.Memory) }
+    ensures err { IfErr result (λ e. e ≡ InstantiateError.Memory) }
 {
     let mut words = with_room(alloc, imported.len() + own.len())?;
     add_hosts(&mut words, imported, parameters)?;

@@ -4,7 +4,7 @@ use wh_control::Store;
 
 /// What an instance begins with.
 #[derive(Drop)]
-pub struct Initial {
+pub struct Instantiated {
     /// The globals, the table with the elements written into it, and no output yet, with room for 65536 bytes.
     pub store: Store,
     /// The first size of the memory, in pages of 65536 bytes.

@@ -5,7 +5,7 @@ ghost use Rattle.std.specs.List.{All};
 ghost use Rattle.wh_initial.specs.Words.{word_in, IsOffset};
 
 use crate::constants::offset_of;
-use crate::error::{InitialError, push, with_room};
+use crate::error::{InstantiateError, push, with_room};
 use std::alloc::Global;
 use wh_syntax::{Data, Element};
 
@@ -61,11 +61,11 @@ pub fn segment_places(
     alloc: Global,
     segments: &[Data],
     globals: &[u64],
-) -> Result<Vec<u32>, InitialError>
+) -> Result<Vec<u32>, InstantiateError>
     requires { All (λ s. IsOffset globals.now s.offset) segments.now }
     ensures ok { IfOk result
         (λ places. places.items ≡ map (λ s. word_in globals.now s.offset) segments.now) }
-    ensures err { IfErr result (λ e. e ≡ InitialError.Memory) }
+    ensures err { IfErr result (λ e. e ≡ InstantiateError.Memory) }
 {
     let mut places = with_room(alloc, segments.len())?;
     for segment in segments {

@@ -7,7 +7,7 @@ ghost use Rattle.wh_model.specs.Instance.{filled};
 ghost use Rattle.wh_initial.specs.Words.{word_in, IsOffset, element_piece};
 
 use crate::constants::offset_of;
-use crate::error::InitialError;
+use crate::error::InstantiateError;
 use std::alloc::Global;
 use wh_syntax::Element;
 
@@ -31,18 +31,18 @@ pub fn first_table(
     size: u32,
     elements: &[Element],
     globals: &[u64],
-) -> Result<Vec<Option<u32>>, InitialError>
+) -> Result<Vec<Option<u32>>, InstantiateError>
     requires offsets { All (λ e. IsOffset globals.now e.offset) elements.now }
     requires within { All (λ e. word_in globals.now e.offset + length e.init.items ≤ size)
         elements.now }
     ensures ok { IfOk result
         (λ table. table.items
         ≡ filled (replicate size None) (map (element_piece globals.now) elements.now)) }
-    ensures err { IfErr result (λ e. e ≡ InitialError.Memory) }
+    ensures err { IfErr result (λ e. e ≡ InstantiateError.Memory) }
 {
     let mut table = Vec::new(alloc);
     if table.resize(size as usize, None).is_err() {
-        return Err(InitialError::Memory);
+        return Err(InstantiateError::Memory);
     }
     for element in elements {
         let place = offset_of(&element.offset, globals);

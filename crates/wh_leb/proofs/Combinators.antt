@@ -8,7 +8,7 @@ use Rattle.wh_model.specs.declared.faults.FaultKind.{FaultKind}
 use Rattle.wh_model.specs.declared.faults.FaultKind.TheVariants.{Truncated, SectionSize, Limit}
 use Rattle.wh_model.specs.declared.faults.DecodeError.{DecodeError}
 use Rattle.wh_model.specs.Grammar.{Grammar, gives, ◌>>=◌ as ◌then◌, one_of, bytes, only_if, up_to, times, exactly, exactly_from, EndsAs, HeadBreaks}
-use Rattle.wh_leb.specs.Reading.{◌>>=◌, fail, Reads, Anything, with_next, head_of, one_at, bytes_at, only_at, limited_at, times_at, is_truncated, outer_fault, closed, exactly_at, closed_from, exactly_from_at, with_front}
+use Rattle.wh_leb.specs.Reading.{◌>>=◌, fail, ReadsBy, Anything, with_next, head_of, one_at, read_bytes_at, only_at, limited_at, times_at, is_truncated, outer_fault, closed_window, exactly_at, closed_from, exactly_from_at, with_front}
 
 -- the value of a step that did not fail
 pub bind_ok : {A B : Type 0} (r : Result A DecodeError) (f : A → Result B DecodeError) (y : B) → (r >>= f) ≡ Ok y → (x : A) × (r ≡ Ok x) × (f x ≡ Ok y)
@@ -56,7 +56,7 @@ after b at t u e = drop_drop at (length t) b ∙ ap (drop (length t)) e ∙ drop
 pub inside : {X : Type 0} (b : List X) (at next : ℕ) (t u : List X) → at ≤ length b → drop at b ≡ t ++ u → next ≡ at + length t → next ≤ length b
 inside b at next t u le e n = omega (arith, length-drop at b, length-append t u, ap length e)
 
-pub reads_gives : {A : Type 0} (x : A) → Reads Anything (gives x) (λ b at. Ok (x, at))
+pub reads_gives : {A : Type 0} (x : A) → ReadsBy Anything (gives x) (λ b at. Ok (x, at))
 reads_gives {A} x = record {
   found = λ b at y next le e. let p = ok_is (x, at) (y, next) e in ([], ap (λ (q : A × ℕ). drop q.1 b) p, (let n : at ≡ next = ap (λ (q : A × ℕ). q.1) p in omega arith), (sym (ap (λ (q : A × ℕ). q.0) p), refl));
   only = λ b at y t u le e follows w. rw (w.0, w.1) (ap (λ (n : ℕ). Ok (x, n)) (omega arith));
@@ -66,7 +66,7 @@ reads_gives {A} x = record {
 }
 
 pub reads_then : {A B : Type 0} (F : List ℕ → Type 0) (first : Grammar A) (next : A → Grammar B) (ra : List ℕ → ℕ → Result (A × ℕ) DecodeError) (rb : A → List ℕ → ℕ → Result (B × ℕ) DecodeError)
-    → Reads Anything first ra → ((x : A) → Reads F (next x) (rb x)) → Reads F (first then next) (λ b at. ra b at >>= λ x. rb x.0 b x.1)
+    → ReadsBy Anything first ra → ((x : A) → ReadsBy F (next x) (rb x)) → ReadsBy F (first then next) (λ b at. ra b at >>= λ x. rb x.0 b x.1)
 reads_then F first next ra rb ha hb = record {
   found = λ b at y n le e.
       let p = bind_ok (ra b at) (λ x. rb x.0 b x.1) (y, n) e in
@@ -124,7 +124,7 @@ pub head_stops : {A : Type 0} (table : ℕ → Result A FaultKind) (b : List ℕ
 head_stops {A} table [] at kind h = ap (λ (k : FaultKind). stop {A = A × ℕ} (record { kind = k; offset = at })) (sym h)
 head_stops table (n ∷ u) at kind h = rw h refl
 
-pub reads_one_of : {A : Type 0} (table : ℕ → Result A FaultKind) → Reads Anything (one_of table) (one_at table)
+pub reads_one_of : {A : Type 0} (table : ℕ → Result A FaultKind) → ReadsBy Anything (one_of table) (one_at table)
 reads_one_of table = record {
   found = λ b at x next le e.
       let p = head_found table (drop at b) at x next e in
@@ -136,7 +136,7 @@ reads_one_of table = record {
   stops = λ b at kind k le w. head_stops table (drop at b) at kind w.1 ∙ fails_at kind at (at + k) (omega (arith, w.0));
 }
 
-pub reads_bytes : (n : ℕ) → Reads Anything (bytes n) (bytes_at n)
+pub reads_bytes : (n : ℕ) → ReadsBy Anything (bytes n) (read_bytes_at n)
 reads_bytes n = record {
   found = λ b at x next le e. elim (chosen (ltb (length b) (at + n)) (fail Truncated (length b)) (Ok (take n (drop at b), at + n)) (Ok (x, next)) e) [
     | inl h ↦ absurd cc
@@ -168,7 +168,7 @@ reads_bytes n = record {
 }
 
 pub reads_only_if : {A : Type 0} (P : A → Type 0) (test : A → Bool) (kind : FaultKind) (g : Grammar A) (read : List ℕ → ℕ → Result (A × ℕ) DecodeError)
-    → ((x : A) → Decides (test x) (P x)) → Reads Anything g read → Reads Anything (only_if P kind g) (only_at test kind read)
+    → ((x : A) → Decides (test x) (P x)) → ReadsBy Anything g read → ReadsBy Anything (only_if P kind g) (only_at test kind read)
 reads_only_if {A} P test kind g read decides r = record {
   found = λ b at x next le e.
       let p = bind_ok (read b at) (λ y. cond (test y.0) (Ok y) (fail kind at)) (x, next) e in
@@ -207,7 +207,7 @@ reads_only_if {A} P test kind g read decides r = record {
   ];
 }
 
-pub reads_up_to : (limit : ℕ) (g : Grammar ℕ) (read : List ℕ → ℕ → Result (ℕ × ℕ) DecodeError) → Reads Anything g read → Reads Anything (up_to limit g) (limited_at limit read)
+pub reads_up_to : (limit : ℕ) (g : Grammar ℕ) (read : List ℕ → ℕ → Result (ℕ × ℕ) DecodeError) → ReadsBy Anything g read → ReadsBy Anything (up_to limit g) (limited_at limit read)
 reads_up_to limit g read r = record {
   found = λ b at x next le e.
       let p = bind_ok (read b at) (λ y. cond (ltb limit y.0) (fail Limit at) (Ok y)) (x, next) e in
@@ -245,7 +245,7 @@ reads_up_to limit g read r = record {
   ];
 }
 
-pub reads_times : {A : Type 0} (n : ℕ) (g : Grammar A) (read : List ℕ → ℕ → Result (A × ℕ) DecodeError) → Reads Anything g read → Reads Anything (times n g) (times_at n read)
+pub reads_times : {A : Type 0} (n : ℕ) (g : Grammar A) (read : List ℕ → ℕ → Result (A × ℕ) DecodeError) → ReadsBy Anything g read → ReadsBy Anything (times n g) (times_at n read)
 reads_times zero g read r = reads_gives []
 reads_times (suc n) g read r = reads_then Anything g (λ x. times n g then λ xs. gives (x ∷ xs)) read (λ x b at. times_at n read b at >>= λ xs. Ok (x ∷ xs.0, xs.1)) r (λ x.
     reads_then Anything (times n g) (λ xs. gives (x ∷ xs)) (times_at n read) (λ xs b at. Ok (x ∷ xs, at)) (reads_times n g read r) (λ xs. reads_gives (x ∷ xs)))
@@ -306,14 +306,14 @@ ends_again b at n k inner kind le (inr h) = elim (cases_Bool (is_truncated inner
 ]
 
 -- how a window's reading ended
-closed_ok : {A : Type 0} (whole : Bool) (end : ℕ) (r : Result (A × ℕ) DecodeError) (x : A) (next : ℕ) → closed whole end r ≡ Ok (x, next) → (r ≡ Ok (x, next)) × (next ≡ end)
+closed_ok : {A : Type 0} (whole : Bool) (end : ℕ) (r : Result (A × ℕ) DecodeError) (x : A) (next : ℕ) → closed_window whole end r ≡ Ok (x, next) → (r ≡ Ok (x, next)) × (next ≡ end)
 closed_ok {A} whole end (Ok y) x next e = elim (chosen (eqb y.1 end) (Ok y) (fail SectionSize y.1) (Ok (x, next)) e) [
   | inl h ↦ let p = ok_is y (x, next) h.1 in (ap succeed p, (let q : y.1 ≡ next = ap (λ (z : A × ℕ). z.1) p in sym q ∙ eqb-true _ _ h.0))
   | inr h ↦ absurd cc
 ]
 closed_ok whole end (Err d) x next e = absurd cc
 
-closed_err : {A : Type 0} (whole : Bool) (end : ℕ) (r : Result (A × ℕ) DecodeError) (d : DecodeError) → closed whole end r ≡ Err d
+closed_err : {A : Type 0} (whole : Bool) (end : ℕ) (r : Result (A × ℕ) DecodeError) (d : DecodeError) → closed_window whole end r ≡ Err d
     → ((inner : DecodeError) × (r ≡ Err inner) × (outer_fault whole inner ≡ d)) ⊎ ((x : A) × (next : ℕ) × (r ≡ Ok (x, next)) × (next ≡ end → ⊥) × (d.kind ≡ SectionSize) × (d.offset ≡ next))
 closed_err {A} whole end (Ok y) d e = elim (chosen (eqb y.1 end) (Ok y) (fail SectionSize y.1) (Err d) e) [
   | inl h ↦ absurd cc
@@ -321,7 +321,7 @@ closed_err {A} whole end (Ok y) d e = elim (chosen (eqb y.1 end) (Ok y) (fail Se
 ]
 closed_err {A} whole end (Err inner) d e = inl (inner, refl, err_is {A = A × ℕ} _ d e)
 
-pub reads_exactly : {A : Type 0} (n : ℕ) (g : Grammar A) (read : List ℕ → ℕ → Result (A × ℕ) DecodeError) → Reads Anything g read → Reads Anything (exactly n g) (exactly_at n read)
+pub reads_exactly : {A : Type 0} (n : ℕ) (g : Grammar A) (read : List ℕ → ℕ → Result (A × ℕ) DecodeError) → ReadsBy Anything g read → ReadsBy Anything (exactly n g) (exactly_at n read)
 reads_exactly {A} n g read r = record {
   found = λ b at x next le e.
       let p = closed_ok _ (at + n) (read (take (at + n) b) at) x next e in
@@ -356,12 +356,12 @@ reads_exactly {A} n g read r = record {
       elim h [
         | inl p ↦
             let one = r.stops w at p.0 k inner_le (subst (λ (v : List ℕ). g.breaks v p.0 k) (sym (window b at n)) p.1) in
-            ap (closed (leb (at + n) (length b)) (at + n)) one ∙ ap (λ (d : DecodeError). stop {A = A × ℕ} d) (ends_again b at n (at + k) p.0 kind le p.2)
+            ap (closed_window (leb (at + n) (length b)) (at + n)) one ∙ ap (λ (d : DecodeError). stop {A = A × ℕ} d) (ends_again b at n (at + k) p.0 kind le p.2)
         | inr p ↦
             let front : drop at w ≡ p.1 ++ p.2 = window b at n ∙ p.3 in
             let one = r.only w at p.0 p.1 p.2 inner_le front tt p.4 in
             let other : eqb (at + length p.1) (at + n) ≡ false = ne_eqb _ _ (λ same. (let lt = p.5 in omega arith)) in
-            ap (closed (leb (at + n) (length b)) (at + n)) one
+            ap (closed_window (leb (at + n) (length b)) (at + n)) one
             ∙ cond-false (eqb (at + length p.1) (at + n)) (Ok (p.0, at + length p.1)) (fail SectionSize (at + length p.1)) other
             ∙ ap (λ (c : FaultKind). fail c (at + length p.1)) (sym p.6) ∙ fails_at kind (at + length p.1) (at + k) (omega (arith, p.7))
       ];
@@ -382,7 +382,7 @@ closed_from_err {A} whole end len (Ok y) d e = elim (chosen whole (Ok (y.0, end)
 ]
 closed_from_err {A} whole end len (Err inner) d e = inl (inner, refl, err_is {A = A × ℕ} _ d e)
 
-pub reads_exactly_from : {A : Type 0} (n : ℕ) (g : Grammar A) (read : List ℕ → ℕ → Result (A × ℕ) DecodeError) → Reads Anything g read → Reads Anything (exactly_from n g) (exactly_from_at n read)
+pub reads_exactly_from : {A : Type 0} (n : ℕ) (g : Grammar A) (read : List ℕ → ℕ → Result (A × ℕ) DecodeError) → ReadsBy Anything g read → ReadsBy Anything (exactly_from n g) (exactly_from_at n read)
 reads_exactly_from {A} n g read r = record {
   found = λ b at x next le e.
       let w = take (at + n) b in

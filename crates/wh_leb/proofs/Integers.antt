@@ -8,7 +8,7 @@ use Rattle.wh_model.specs.declared.faults.FaultKind.TheVariants.{Leb}
 use Rattle.wh_model.specs.declared.faults.DecodeError.{DecodeError}
 use Rattle.wh_model.specs.Grammar.{Grammar, up_to, times, this_byte, exact_byte}
 use Rattle.wh_model.specs.Leb.{IsUnsigned, BreaksUnsigned, IsSigned, BreaksSigned, unsigned, signed, u32, s32, s64, vec, vec_up_to}
-use Rattle.wh_leb.specs.Reading.{fail, Reads, Reader, Anything, unsigned_of, signed_of, u32_at, s32_at, s64_at, one_at, limited_at, times_at, vec_at, vec_up_to_at}
+use Rattle.wh_leb.specs.Reading.{fail, ReadsBy, Reader, Anything, unsigned_of, signed_of, u32_at, s32_at, s64_at, one_at, limited_at, times_at, vec_at, vec_up_to_at}
 use Rattle.wh_leb.proofs.Combinators.{bind_ok, bind_err, chosen, ok_is, err_is, after, fails_at, reads_then, reads_one_of, reads_up_to, reads_times}
 
 -- ---- unsigned
@@ -96,7 +96,7 @@ unsigned_stops bits (b ∷ bs) at kind k (inr h) =
     let goes : (ltb 127 b && ltb 7 bits) ≡ true = and_from (ltb 127 b) (ltb 7 bits) (lt-ltb 127 b (let s = h.0 in omega arith)) (lt-ltb 7 bits h.1) in
     rw (goes, unsigned_stops (bits - 7) bs (at + 1) kind h.2 h.4) (fails_at kind (at + 1 + h.2) (at + k) (omega (arith, h.3)))
 
-pub reads_unsigned : (bits : ℕ) → Reads Anything (unsigned bits) (λ b at. unsigned_of bits (drop at b) at)
+pub reads_unsigned : (bits : ℕ) → ReadsBy Anything (unsigned bits) (λ b at. unsigned_of bits (drop at b) at)
 reads_unsigned bits = record {
   found = λ b at n next le e.
       let f = unsigned_found bits (drop at b) at n next e in
@@ -108,7 +108,7 @@ reads_unsigned bits = record {
   stops = λ b at kind k le w. unsigned_stops bits (drop at b) at kind k w;
 }
 
-pub reads_u32 : Reads Anything u32 u32_at
+pub reads_u32 : ReadsBy Anything u32 u32_at
 unfolding u32_at
 reads_u32 = reads_unsigned 32
 
@@ -261,7 +261,7 @@ signed_stops bits (b ∷ bs) at kind k (inr h) =
     let goes : (ltb 127 b && ltb 7 bits) ≡ true = and_from (ltb 127 b) (ltb 7 bits) (lt-ltb 127 b (let s = h.0 in omega arith)) (lt-ltb 7 bits h.1) in
     rw (goes, signed_stops (bits - 7) bs (at + 1) kind h.2 h.4) (fails_at kind (at + 1 + h.2) (at + k) (omega (arith, h.3)))
 
-pub reads_signed : (bits : ℕ) → Reads Anything (signed bits) (λ b at. signed_of bits (drop at b) at)
+pub reads_signed : (bits : ℕ) → ReadsBy Anything (signed bits) (λ b at. signed_of bits (drop at b) at)
 reads_signed bits = record {
   found = λ b at n next le e.
       let f = signed_found bits (drop at b) at n next e in
@@ -273,21 +273,21 @@ reads_signed bits = record {
   stops = λ b at kind k le w. signed_stops bits (drop at b) at kind k w;
 }
 
-pub reads_s32 : Reads Anything s32 s32_at
+pub reads_s32 : ReadsBy Anything s32 s32_at
 unfolding s32_at
 reads_s32 = reads_signed 32
 
-pub reads_s64 : Reads Anything s64 s64_at
+pub reads_s64 : ReadsBy Anything s64 s64_at
 unfolding s64_at
 reads_s64 = reads_signed 64
 
 -- ---- vectors, and a byte that is known
 
-pub reads_vec : {A : Type 0} (g : Grammar A) (read : Reader A) → Reads Anything g read → Reads Anything (vec g) (vec_at read)
+pub reads_vec : {A : Type 0} (g : Grammar A) (read : Reader A) → ReadsBy Anything g read → ReadsBy Anything (vec g) (vec_at read)
 reads_vec g read r = reads_then Anything u32 (λ n. times n g) u32_at (λ n. times_at n read) reads_u32 (λ n. reads_times n g read r)
 
-pub reads_vec_up_to : {A : Type 0} (limit : ℕ) (g : Grammar A) (read : Reader A) → Reads Anything g read → Reads Anything (vec_up_to limit g) (vec_up_to_at limit read)
+pub reads_vec_up_to : {A : Type 0} (limit : ℕ) (g : Grammar A) (read : Reader A) → ReadsBy Anything g read → ReadsBy Anything (vec_up_to limit g) (vec_up_to_at limit read)
 reads_vec_up_to limit g read r = reads_then Anything (up_to limit u32) (λ n. times n g) (limited_at limit u32_at) (λ n. times_at n read) (reads_up_to limit u32 u32_at reads_u32) (λ n. reads_times n g read r)
 
-pub reads_byte : (kind : FaultKind) (c : ℕ) → Reads Anything (this_byte kind c) (one_at (exact_byte kind c))
+pub reads_byte : (kind : FaultKind) (c : ℕ) → ReadsBy Anything (this_byte kind c) (one_at (exact_byte kind c))
 reads_byte kind c = reads_one_of (exact_byte kind c)

@@ -4,10 +4,10 @@ use Rattle.std.specs.Prelude.{IfOk, IfErr}
 use Rattle.wh_model.specs.declared.faults.FaultKind.TheVariants.{Memory}
 use Rattle.wh_model.specs.declared.faults.DecodeError.{DecodeError}
 use Rattle.wh_model.specs.Grammar.{Grammar}
-use Rattle.wh_leb.specs.Reading.{Reads, Anything, Gives, Found, Broken, Complete}
+use Rattle.wh_leb.specs.Reading.{ReadsBy, Anything, Gives, IsFound, Broken, Complete}
 
-module _ {A : Type 0} (g : Grammar A) (read : List ℕ → ℕ → Result (A × ℕ) DecodeError) (law : Reads Anything g read) (b : List ℕ) (at : ℕ) (le : at ≤ length b) where
-  pub is_found : (r : Result (A × ℕ) DecodeError) → r ≡ read b at → IfOk r (λ x. Found g b at x.0 x.1)
+module _ {A : Type 0} (g : Grammar A) (read : List ℕ → ℕ → Result (A × ℕ) DecodeError) (law : ReadsBy Anything g read) (b : List ℕ) (at : ℕ) (le : at ≤ length b) where
+  pub is_found : (r : Result (A × ℕ) DecodeError) → r ≡ read b at → IfOk r (λ x. IsFound g b at x.0 x.1)
   is_found (Ok x) e = law.found b at x.0 x.1 le (sym e)
   is_found (Err d) e = tt
 
@@ -19,8 +19,8 @@ module _ {A : Type 0} (g : Grammar A) (read : List ℕ → ℕ → Result (A × 
   is_complete r e x t u parts w = e ∙ law.only b at x t u le parts tt w
 
 -- the same of a reader that may run out of memory
-module _ {X A : Type 0} (view : X → A × ℕ) (g : Grammar A) (read : List ℕ → ℕ → Result (A × ℕ) DecodeError) (law : Reads Anything g read) (b : List ℕ) (at : ℕ) (le : at ≤ length b) where
-  pub gives_found : (r : Result X DecodeError) → Gives view r (read b at) → IfOk r (λ x. Found g b at (view x).0 (view x).1)
+module _ {X A : Type 0} (view : X → A × ℕ) (g : Grammar A) (read : List ℕ → ℕ → Result (A × ℕ) DecodeError) (law : ReadsBy Anything g read) (b : List ℕ) (at : ℕ) (le : at ≤ length b) where
+  pub gives_found : (r : Result X DecodeError) → Gives view r (read b at) → IfOk r (λ x. IsFound g b at (view x).0 (view x).1)
   gives_found (Ok x) e = law.found b at (view x).0 (view x).1 le e
   gives_found (Err d) e = tt
 

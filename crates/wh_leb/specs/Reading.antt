@@ -20,7 +20,7 @@ Gives view (Err e) read = e.kind ≢ Memory → read ≡ Err e
 
 -- Reading a production from a place: what is found is derived within the limits, what is derived within them and
 -- followed so is found, a fault is a break, and a break is that fault.
-pub record Reads {A : Type 0} (Follows : List ℕ → Type 0) (g : Grammar A)
+pub record ReadsBy {A : Type 0} (Follows : List ℕ → Type 0) (g : Grammar A)
     (read : List ℕ → ℕ → Result (A × ℕ) DecodeError) : Type 0 where
   pub found : (b : List ℕ) (at : ℕ) (x : A) (next : ℕ) → at ≤ length b → read b at ≡ Ok (x, next)
       → (t : List ℕ) × (drop at b ≡ t ++ drop next b) × (next ≡ at + length t) × g.within x t
@@ -74,8 +74,8 @@ head_of table (n ∷ b) at = with_next (table n) at
 abbrev pub one_at : {A : Type 0} → (ℕ → Result A FaultKind) → List ℕ → ℕ → Result (A × ℕ) DecodeError
 one_at table b at = head_of table (drop at b) at
 
-abbrev pub bytes_at : ℕ → List ℕ → ℕ → Result (List ℕ × ℕ) DecodeError
-bytes_at n b at = if nat_lt (length b) (at + n) then fail Truncated (length b) else Ok (take n (drop at b), at + n)
+abbrev pub read_bytes_at : ℕ → List ℕ → ℕ → Result (List ℕ × ℕ) DecodeError
+read_bytes_at n b at = if nat_lt (length b) (at + n) then fail Truncated (length b) else Ok (take n (drop at b), at + n)
 
 abbrev pub only_at : {A : Type 0} → (A → Bool) → FaultKind → (List ℕ → ℕ → Result (A × ℕ) DecodeError) → List ℕ → ℕ
     → Result (A × ℕ) DecodeError
@@ -117,13 +117,13 @@ is_truncated _ = false
 abbrev pub outer_fault : Bool → DecodeError → DecodeError
 outer_fault whole e = if is_truncated e.kind && whole then (record { kind = SectionSize; offset = e.offset }) else e
 
-abbrev pub closed : {A : Type 0} → Bool → ℕ → Result (A × ℕ) DecodeError → Result (A × ℕ) DecodeError
-closed whole end (Ok x) = if x.1 == end then Ok x else fail SectionSize x.1
-closed whole end (Err e) = Err (outer_fault whole e)
+abbrev pub closed_window : {A : Type 0} → Bool → ℕ → Result (A × ℕ) DecodeError → Result (A × ℕ) DecodeError
+closed_window whole end (Ok x) = if x.1 == end then Ok x else fail SectionSize x.1
+closed_window whole end (Err e) = Err (outer_fault whole e)
 
 abbrev pub exactly_at : {A : Type 0} → ℕ → (List ℕ → ℕ → Result (A × ℕ) DecodeError) → List ℕ → ℕ
     → Result (A × ℕ) DecodeError
-exactly_at n read b at = closed (nat_le (at + n) (length b)) (at + n) (read (take (at + n) b) at)
+exactly_at n read b at = closed_window (nat_le (at + n) (length b)) (at + n) (read (take (at + n) b) at)
 
 abbrev pub closed_from : {A : Type 0} → Bool → ℕ → ℕ → Result (A × ℕ) DecodeError → Result (A × ℕ) DecodeError
 closed_from whole end len (Ok x) = if whole then Ok (x.0, end) else fail Truncated len
@@ -136,8 +136,8 @@ exactly_from_at n read b at = closed_from (nat_le (at + n) (length b)) (at + n) 
 -- ---- what callers are told
 
 -- what a caller is told of a reader: the value was derived by the bytes up to the next place; or which break it is
-abbrev pub Found : {A : Type 0} → Grammar A → List ℕ → ℕ → A → ℕ → Type 0
-Found g b at x next = (t : List ℕ) × (drop at b ≡ t ++ drop next b) × (next ≡ at + length t) × g.within x t
+abbrev pub IsFound : {A : Type 0} → Grammar A → List ℕ → ℕ → A → ℕ → Type 0
+IsFound g b at x next = (t : List ℕ) × (drop at b ≡ t ++ drop next b) × (next ≡ at + length t) × g.within x t
 
 abbrev pub Broken : {A : Type 0} → Grammar A → List ℕ → ℕ → DecodeError → Type 0
 Broken g b at e = (k : ℕ) × (e.offset ≡ at + k) × g.breaks (drop at b) e.kind k

@@ -5,7 +5,7 @@
 
 ghost use Rattle.std.specs.Prelude.{◌≡◌, ◌<◌, ◌≤◌, ◌+◌, ◌-◌, ◌^◌, ◌≤ℤ◌, ◌<ℤ◌, pos, neg_ℤ, length, drop, IfOk, IfErr, Err};
 ghost use Rattle.wh_model.specs.Leb.{u32, s32, s64};
-ghost use Rattle.wh_leb.specs.Reading.{unsigned_of, signed_of, u32_at, s32_at, s64_at, Found, Broken, Complete};
+ghost use Rattle.wh_leb.specs.Reading.{unsigned_of, signed_of, u32_at, s32_at, s64_at, IsFound, Broken, Complete};
 
 use wh_model::{DecodeError, FaultKind};
 
@@ -81,7 +81,7 @@ fn word(bytes: &[u8], at: usize) -> Result<(u32, usize), DecodeError>
 pub fn read_u32(bytes: &[u8], at: usize) -> Result<(u32, usize), DecodeError>
     requires { at ≤ length bytes.now }
     // The bytes up to the next place spell the number.
-    ensures found { IfOk result (λ x. Found u32 bytes.now at x.0 x.1) }
+    ensures found { IfOk result (λ x. IsFound u32 bytes.now at x.0 x.1) }
     // What spells a number is read, whatever follows it.
     ensures only { Complete u32 bytes.now at result }
     // Where the bytes break, and in which way.
@@ -108,7 +108,7 @@ fn s32(bytes: &[u8], at: usize) -> Result<(i32, usize), DecodeError>
 pub fn read_s32(bytes: &[u8], at: usize) -> Result<(i32, usize), DecodeError>
     requires { at ≤ length bytes.now }
     // The bytes up to the next place spell the number.
-    ensures found { IfOk result (λ x. Found s32 bytes.now at x.0 x.1) }
+    ensures found { IfOk result (λ x. IsFound s32 bytes.now at x.0 x.1) }
     // What spells a number is read, whatever follows it.
     ensures only { Complete s32 bytes.now at result }
     // Where the bytes break, and in which way.
@@ -134,7 +134,7 @@ fn s64(bytes: &[u8], at: usize) -> Result<(i64, usize), DecodeError>
 pub fn read_s64(bytes: &[u8], at: usize) -> Result<(i64, usize), DecodeError>
     requires { at ≤ length bytes.now }
     // The bytes up to the next place spell the number.
-    ensures found { IfOk result (λ x. Found s64 bytes.now at x.0 x.1) }
+    ensures found { IfOk result (λ x. IsFound s64 bytes.now at x.0 x.1) }
     // What spells a number is read, whatever follows it.
     ensures only { Complete s64 bytes.now at result }
     // Where the bytes break, and in which way.

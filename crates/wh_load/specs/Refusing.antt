@@ -8,17 +8,17 @@ use Rattle.wh_model.specs.Validity.{Valid}
 use Rattle.wh_model.specs.Heights.{Fits}
 use Rattle.wh_model.specs.Accepting.{IsModule}
 use Rattle.wh_syntax.specs.View.{view_module}
-use Rattle.wh_imports.specs.Joined.{Joined}
+use Rattle.wh_imports.specs.Joined.{LinkedState}
 use Rattle.wh_imports.specs.Refusing as linking
 use Rattle.wh_load.specs.declared.error.LoadError.{LoadError}
 use Rattle.wh_load.specs.declared.error.LoadError.TheVariants.{Decode, Valid as Invalid, Link}
 
 -- the module that was linked
-abbrev pub view_linked : Joined → Module
+abbrev pub view_linked : LinkedState → Module
 view_linked linked = view_module linked.valid.decoded
 
 -- what is wrong with the bytes, or with the module that they spell, but for want of memory
 abbrev pub RefusesBytes : List ℕ → LoadError → Type 0
 RefusesBytes bytes (Decode e) = e.kind ≢ NoRoom → IsBroken bytes e.kind e.offset
 RefusesBytes bytes (Invalid e) = (m : Module) × IsModule bytes m × (e.kind ≢ NoRoomToCheck → ¬ (Valid m × Fits m))
-RefusesBytes bytes (Link e) = (m : Module) × IsModule bytes m × Valid m × Fits m × linking.Refuses m e
+RefusesBytes bytes (Link e) = (m : Module) × IsModule bytes m × Valid m × Fits m × linking.RefusesLink m e

@@ -4,7 +4,7 @@ pub mod Locals
 pub mod Memories
 pub mod HostSteps
 pub mod Lookups
-pub mod Turning
+pub mod ExecutingLemmas
 pub mod Dispatching
 pub mod Hosted
 pub mod OwnCalls

@@ -1,12 +1,12 @@
 pub mod Held
 pub mod Program
 pub mod Reading
-pub mod Turns
+pub mod Executing
 pub mod Alone
 pub mod Hosting
 pub mod Entering
 pub mod Runs
 pub mod Opening
 pub mod Waiting
-pub mod Went
+pub mod Stepping
 pub mod Looking

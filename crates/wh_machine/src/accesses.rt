@@ -3,48 +3,48 @@
 ghost use Rattle.std.specs.Prelude.{◌≡◌, ℕ, ◌^◌, ◌<◌, List, ◌∷◌, length};
 ghost use Rattle.wh_model.specs.declared.memory.Grown.TheVariants.{Done, Refused};
 ghost use Rattle.wh_syntax.specs.declared.instr.Instr.TheVariants.{GlobalGet, GlobalSet, Load, Store as StoreAt, MemorySize, MemoryGrow};
-ghost use Rattle.wh_machine.specs.Alone.{IsNextInStore, InStore, IsNextInMemory, InMemory, FoundInMemory};
+ghost use Rattle.wh_machine.specs.Alone.{ComesNextInStore, IsExecInStore, ComesNextInMemory, IsExecInMemory, FoundReadyInMemory};
 ghost use Rattle.wh_machine.specs.Waiting.{IsUncharged};
 
 use crate::bytes::{Loaded, read, write};
 use crate::instructions::advance;
-use crate::machine::{Stack, Turn};
-use wh_control::{Store, Words};
+use crate::machine::{Exec, Stack};
+use wh_control::{Store, ValueStack};
 use wh_linmem::LinearMem;
 use wh_model::{Got, Grown, LoadOp, StoreOp, Trap};
 
 /// `global.get`
 #[inline(always)]
-pub fn turn_global_get(stack: &mut Stack, store: &Store, global: u32) -> Turn
-    requires { IsNextInStore stack.old store.now (GlobalGet global) }
-    ensures { InStore stack.old store.now (GlobalGet global) result stack.new store.now }
+pub fn exec_global_get(stack: &mut Stack, store: &Store, global: u32) -> Exec
+    requires { ComesNextInStore stack.old store.now (GlobalGet global) }
+    ensures { IsExecInStore stack.old store.now (GlobalGet global) result stack.new store.now }
 {
     stack.words.push(store.globals[global as usize]);
     advance(stack);
-    Turn::Charged
+    Exec::Charged
 }
 
 /// `global.set`
 #[inline(always)]
-pub fn turn_global_set(stack: &mut Stack, store: &mut Store, global: u32) -> Turn
-    requires { IsNextInStore stack.old store.old (GlobalSet global) }
-    ensures { InStore stack.old store.old (GlobalSet global) result stack.new store.new }
+pub fn exec_global_set(stack: &mut Stack, store: &mut Store, global: u32) -> Exec
+    requires { ComesNextInStore stack.old store.old (GlobalSet global) }
+    ensures { IsExecInStore stack.old store.old (GlobalSet global) result stack.new store.new }
 {
     store.globals[global as usize] = stack.words.pop();
     advance(stack);
-    Turn::Charged
+    Exec::Charged
 }
 
 /// `memory.size`, in pages of 65536 bytes
 #[inline(always)]
-pub fn turn_memory_size<M: LinearMem>(stack: &mut Stack, memory: &M) -> Turn
-    requires { IsNextInMemory stack.old (M.bytes memory.now) (M.limit memory.now) MemorySize }
-    ensures { InMemory (M.ready memory.now) stack.old (M.bytes memory.now) (M.limit memory.now)
-        MemorySize result stack.new (M.bytes memory.now) }
+pub fn exec_memory_size<M: LinearMem>(stack: &mut Stack, memory: &M) -> Exec
+    requires { ComesNextInMemory stack.old (M.bytes memory.now) (M.limit memory.now) MemorySize }
+    ensures { IsExecInMemory (M.ready memory.now) stack.old (M.bytes memory.now)
+        (M.limit memory.now) MemorySize result stack.new (M.bytes memory.now) }
 {
     stack.words.push(u64::from(memory.size()));
     advance(stack);
-    Turn::Charged
+    Exec::Charged
 }
 
 /// The word that `memory.grow` pushes: how many pages there were, or 4294967295 where it was refused.
@@ -62,9 +62,9 @@ fn answer_word(grown: Grown) -> u64
 
 /// `memory.grow`, which answers how many pages there were, or 4294967295 where that many more would pass the limit.
 #[inline(always)]
-pub fn turn_memory_grow<M: LinearMem>(stack: &mut Stack, memory: &mut M) -> Turn
-    requires { IsNextInMemory stack.old (M.bytes memory.old) (M.limit memory.old) MemoryGrow }
-    ensures turned { InMemory (M.ready memory.old) stack.old (M.bytes memory.old)
+pub fn exec_memory_grow<M: LinearMem>(stack: &mut Stack, memory: &mut M) -> Exec
+    requires { ComesNextInMemory stack.old (M.bytes memory.old) (M.limit memory.old) MemoryGrow }
+    ensures turned { IsExecInMemory (M.ready memory.old) stack.old (M.bytes memory.old)
         (M.limit memory.old) MemoryGrow result stack.new (M.bytes memory.new) }
     ensures keeps { M.keeps memory.old memory.new }
     ensures waits { IsUncharged result → memory.new ≡ memory.old }
@@ -75,12 +75,12 @@ pub fn turn_memory_grow<M: LinearMem>(stack: &mut Stack, memory: &mut M) -> Turn
     let answer = answer_word(memory.grow(count));
     stack.words.push(answer);
     advance(stack);
-    Turn::Charged
+    Exec::Charged
 }
 
 /// The word beneath the topmost one.
 #[inline(always)]
-pub fn second(words: &Words) -> u64
+pub fn second(words: &ValueStack) -> u64
     requires { 1 < length words.now }
     ensures { (x y : ℕ) (rest : List ℕ) → words.now ≡ x ∷ y ∷ rest → result ≡ y }
 {
@@ -90,18 +90,18 @@ pub fn second(words: &Words) -> u64
 /// A load by this operator, from the topmost word plus the offset, which isn't wrapped. It traps where the bytes aren't
 /// all in the memory; where they aren't at hand nothing changes.
 #[inline(always)]
-pub fn turn_load<M: LinearMem>(
+pub fn exec_load<M: LinearMem>(
     stack: &mut Stack,
     memory: &mut M,
     op: LoadOp,
     align: u32,
     offset: u32,
-) -> Turn
-    requires { IsNextInMemory stack.old (M.bytes memory.old) (M.limit memory.old)
+) -> Exec
+    requires { ComesNextInMemory stack.old (M.bytes memory.old) (M.limit memory.old)
         (Load op align offset) }
-    ensures turned { InMemory (M.ready memory.old) stack.old (M.bytes memory.old)
+    ensures turned { IsExecInMemory (M.ready memory.old) stack.old (M.bytes memory.old)
         (M.limit memory.old) (Load op align offset) result stack.new (M.bytes memory.new) }
-    ensures found { FoundInMemory (M.ready memory.old) stack.old (M.bytes memory.old)
+    ensures found { FoundReadyInMemory (M.ready memory.old) stack.old (M.bytes memory.old)
         (M.limit memory.old) (Load op align offset) result }
     ensures keeps { M.keeps memory.old memory.new }
     ensures waits { IsUncharged result → memory.new ≡ memory.old }
@@ -113,28 +113,28 @@ pub fn turn_load<M: LinearMem>(
             let _ = stack.words.pop();
             stack.words.push(number);
             advance(stack);
-            Turn::Charged
+            Exec::Charged
         }
-        Loaded::Trap => Turn::Trapped(Trap::OutOfBounds),
-        Loaded::NotReady(need) => Turn::NotReady(need),
+        Loaded::Trap => Exec::Trapped(Trap::OutOfBounds),
+        Loaded::NotReady(need) => Exec::NotReady(need),
     }
 }
 
 /// A store of the topmost word by this operator, to the word beneath it plus the offset, which isn't wrapped. It traps
 /// where the bytes aren't all in the memory; where they aren't at hand nothing changes.
 #[inline(always)]
-pub fn turn_store<M: LinearMem>(
+pub fn exec_store<M: LinearMem>(
     stack: &mut Stack,
     memory: &mut M,
     op: StoreOp,
     align: u32,
     offset: u32,
-) -> Turn
-    requires { IsNextInMemory stack.old (M.bytes memory.old) (M.limit memory.old)
+) -> Exec
+    requires { ComesNextInMemory stack.old (M.bytes memory.old) (M.limit memory.old)
         (StoreAt op align offset) }
-    ensures turned { InMemory (M.ready memory.old) stack.old (M.bytes memory.old)
+    ensures turned { IsExecInMemory (M.ready memory.old) stack.old (M.bytes memory.old)
         (M.limit memory.old) (StoreAt op align offset) result stack.new (M.bytes memory.new) }
-    ensures found { FoundInMemory (M.ready memory.old) stack.old (M.bytes memory.old)
+    ensures found { FoundReadyInMemory (M.ready memory.old) stack.old (M.bytes memory.old)
         (M.limit memory.old) (StoreAt op align offset) result }
     ensures keeps { M.keeps memory.old memory.new }
     ensures waits { IsUncharged result → memory.new ≡ memory.old }
@@ -147,9 +147,9 @@ pub fn turn_store<M: LinearMem>(
             let _ = stack.words.pop();
             let _ = stack.words.pop();
             advance(stack);
-            Turn::Charged
+            Exec::Charged
         }
-        Got::Trap => Turn::Trapped(Trap::OutOfBounds),
-        Got::NotReady(need) => Turn::NotReady(need),
+        Got::Trap => Exec::Trapped(Trap::OutOfBounds),
+        Got::NotReady(need) => Exec::NotReady(need),
     }
 }

@@ -8,8 +8,8 @@ ghost use Rattle.wh_machine.specs.Waiting.{EmitWaits, IsUncharged};
 
 use crate::bytes::{Emitted, emit, put};
 use crate::instructions::advance;
-use crate::machine::{Stack, Turn};
-use wh_control::{Store, Words};
+use crate::machine::{Exec, Stack};
+use wh_control::{Store, ValueStack};
 use wh_linmem::LinearMem;
 use wh_model::{HostFunc, Trap};
 
@@ -21,7 +21,7 @@ pub const OUTPUT_ROOM: usize = 65536;
 
 /// `input`: the word of that index, or 0.
 #[inline(always)]
-pub fn host_input(words: &mut Words, inputs: &[u64])
+pub fn host_input(words: &mut ValueStack, inputs: &[u64])
     requires { (i : ℕ) × (rest : List ℕ) × (words.old ≡ i ∷ rest) }
     ensures { (i : ℕ) (rest : List ℕ) → words.old ≡ i ∷ rest
         → (words.new ≡ get_or inputs.now i 0 ∷ rest) × (get_or inputs.now i 0 < 2 ^ 64) }
@@ -37,7 +37,7 @@ pub fn host_input(words: &mut Words, inputs: &[u64])
 
 /// `put`: whether there was room for its 8 bytes.
 #[inline(always)]
-pub fn host_put(words: &mut Words, store: &mut Store) -> bool
+pub fn host_put(words: &mut ValueStack, store: &mut Store) -> bool
     requires operand { (x : ℕ) × (rest : List ℕ) × (words.old ≡ x ∷ rest) }
     requires small { length store.old.output.items ≤ output_room }
     requires capacity { output_room ≤ vec_capacity store.old.output }
@@ -54,7 +54,7 @@ pub fn host_put(words: &mut Words, store: &mut Store) -> bool
 
 /// `emit`: whether its bytes were appended to the output. Where they are awaited the operands are put back.
 #[inline(always)]
-pub fn host_emit<M: LinearMem>(words: &mut Words, store: &mut Store, memory: &mut M) -> Emitted
+pub fn host_emit<M: LinearMem>(words: &mut ValueStack, store: &mut Store, memory: &mut M) -> Emitted
     requires operands { (count i : ℕ) × (rest : List ℕ) × (words.old ≡ count ∷ i ∷ rest)
         × (count < 2 ^ 32) × (i < 2 ^ 32) }
     requires small { length store.old.output.items ≤ output_room }
@@ -89,7 +89,7 @@ pub fn call_host<M: LinearMem>(
     stack: &mut Stack,
     store: &mut Store,
     memory: &mut M,
-) -> Turn
+) -> Exec
     requires operands { HasOperands func stack.old.words }
     requires place { stack.old.frame.place + 1 < 2 ^ 64 }
     requires small { length store.old.output.items ≤ output_room }
@@ -104,22 +104,22 @@ pub fn call_host<M: LinearMem>(
         HostFunc::Input => {
             host_input(&mut stack.words, &store.inputs);
             advance(stack);
-            Turn::Charged
+            Exec::Charged
         }
         HostFunc::Put => {
             if !host_put(&mut stack.words, store) {
-                return Turn::Trapped(Trap::HostFull);
+                return Exec::Trapped(Trap::HostFull);
             }
             advance(stack);
-            Turn::Charged
+            Exec::Charged
         }
         HostFunc::Emit => match host_emit(&mut stack.words, store, memory) {
             Emitted::Done => {
                 advance(stack);
-                Turn::Charged
+                Exec::Charged
             }
-            Emitted::Trap(trap) => Turn::Trapped(trap),
-            Emitted::NotReady(need) => Turn::NotReady(need),
+            Emitted::Trap(trap) => Exec::Trapped(trap),
+            Emitted::NotReady(need) => Exec::NotReady(need),
         },
     }
 }

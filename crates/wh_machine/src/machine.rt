@@ -1,11 +1,11 @@
 //! What a machine is made of.
 
 ghost use Rattle.std.specs.Prelude.{IsSome};
-ghost use Rattle.wh_machine.specs.Held.{Held, stack_in};
+ghost use Rattle.wh_machine.specs.Held.{MachineState, stack_in};
 
 use std::marker::Model;
-use wh_bodies::{Entry, SideTable};
-use wh_control::{Frame, Frames, Words};
+use wh_bodies::{BranchEntry, SideTable};
+use wh_control::{CallFrame, CallStack, ValueStack};
 use wh_model::{HostFunc, Need, Trap};
 use wh_syntax::{Instr, Module};
 
@@ -28,20 +28,20 @@ pub struct Code<'a> {
     /// The labels of its `br_table`s.
     pub labels: &'a [u32],
     /// Beside each instruction where it leads to.
-    pub entries: &'a [Entry],
+    pub entries: &'a [BranchEntry],
     /// Where the labels of `br_table`s lead to.
-    pub pool: &'a [Entry],
+    pub pool: &'a [BranchEntry],
 }
 
 /// The words and the frames of calls.
 #[derive(Drop)]
 pub struct Stack {
     /// Their words.
-    pub words: Words,
+    pub words: ValueStack,
     /// The frame of the innermost one.
-    pub frame: Frame,
+    pub frame: CallFrame,
     /// Those that wait for it.
-    pub waiting: Frames,
+    pub waiting: CallStack,
 }
 
 /// A call that runs, or has ended: its words and frames, and whether it runs.
@@ -54,7 +54,7 @@ pub struct Machine {
 }
 
 impl Model for Machine {
-    ghost Value = { Held };
+    ghost Value = { MachineState };
 
     ghost view = { λ m. record { stack = stack_in m.stack; running = m.running } };
 
@@ -76,7 +76,7 @@ pub enum Stepped {
 
 /// What one instruction came to.
 #[derive(Clone, Copy, Debug, PartialEq, Eq)]
-pub enum Turn {
+pub enum Exec {
     /// It was free, and the same function goes on.
     Free,
     /// It was charged, and the same function goes on.

@@ -5,16 +5,16 @@ ghost use Rattle.std.specs.List.{AllByRecursion};
 ghost use Rattle.wh_control.specs.Represents.{Func};
 ghost use Rattle.wh_control.specs.Moves.{begun};
 ghost use Rattle.wh_control.specs.Parts.{funcs_in};
-ghost use Rattle.wh_machine.specs.Opening.{CanBegin, Begins};
+ghost use Rattle.wh_machine.specs.Opening.{CanBegin, BeginsCall};
 ghost use Rattle.wh_machine.specs.Program.{parts_in};
 ghost use Rattle.wh_machine.specs.Runs.{linked_parts, IsSettledIn};
-ghost use Rattle.wh_machine.specs.Turns.{calls_of};
+ghost use Rattle.wh_machine.specs.Executing.{calls_of};
 
 use crate::control::{code_of, frame_size};
 use crate::machine::{Machine, Program, Stack};
 use crate::stepping::{program_of, settle};
 use std::alloc::{AllocError, Global};
-use wh_control::{Frame, Frames, Words};
+use wh_control::{CallFrame, CallStack, ValueStack};
 use wh_imports::Linked;
 
 impl Machine {
@@ -25,9 +25,9 @@ impl Machine {
     pub fn new(alloc: Global) -> Result<Machine, AllocError>
         ensures { IfOk result (λ m. m.running ≡ false) }
     {
-        let words = Words::reserve(alloc)?;
-        let waiting = Frames::reserve(alloc)?;
-        let frame = Frame {
+        let words = ValueStack::reserve(alloc)?;
+        let waiting = CallStack::reserve(alloc)?;
+        let frame = CallFrame {
             func: 0,
             base: 0,
             operands: 0,
@@ -89,7 +89,7 @@ fn open(program: &Program<'_>, stack: &mut Stack, func: usize, args: &[u64])
     stack.words.push_all(args);
     stack.words.push_zeros(locals);
     stack.waiting.clear();
-    stack.frame = Frame {
+    stack.frame = CallFrame {
         func,
         base: 0,
         operands: params + locals,
@@ -97,11 +97,11 @@ fn open(program: &Program<'_>, stack: &mut Stack, func: usize, args: &[u64])
     };
 }
 
-/// Begins a call of one of the module's own functions: what its invocation is, and all uncharged reductions after it
+/// BeginsCall a call of one of the module's own functions: what its invocation is, and all uncharged reductions after it
 /// (4.4.7, 4.5.5). The arguments are numbers of the bits of their types. Whatever the machine did before is given up.
 pub fn begin(linked: &Linked, machine: &mut Machine, func: u32, args: &[u64])
     requires { CanBegin (linked_parts linked.now) func args.now }
-    ensures begun { Begins (linked_parts linked.now) func args.now machine.new }
+    ensures begun { BeginsCall (linked_parts linked.now) func args.now machine.new }
     ensures settled { IsSettledIn (linked_parts linked.now) machine.new }
 {
     let program = program_of(linked);

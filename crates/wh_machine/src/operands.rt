@@ -4,13 +4,13 @@ ghost use Rattle.std.specs.Prelude.{◌≡◌, ◌≢◌, ℕ, ◌^◌, ◌<◌,
 ghost use Rattle.wh_model.specs.Numbers as numbers;
 ghost use Rattle.wh_model.specs.Numbers.{bits};
 
-use wh_control::Words;
+use wh_control::ValueStack;
 use wh_intops::{binop, convert, relop, testop, unop};
 use wh_model::{BinaryOp, CompareOp, ConvertOp, TestOp, Trap, UnaryOp, ValType};
 
 /// `drop`
 #[inline(always)]
-pub fn drop_top(words: &mut Words)
+pub fn drop_top(words: &mut ValueStack)
     requires { (x : ℕ) × (rest : List ℕ) × (words.old ≡ x ∷ rest) }
     ensures { (x : ℕ) (rest : List ℕ) → words.old ≡ x ∷ rest → words.new ≡ rest }
 {
@@ -19,7 +19,7 @@ pub fn drop_top(words: &mut Words)
 
 /// `select`
 #[inline(always)]
-pub fn select(words: &mut Words)
+pub fn select(words: &mut ValueStack)
     requires { (i w v : ℕ) × (rest : List ℕ) × (words.old ≡ i ∷ w ∷ v ∷ rest) }
     ensures { (i w v : ℕ) (rest : List ℕ) → words.old ≡ i ∷ w ∷ v ∷ rest
         → ((i ≢ 0) × (words.new ≡ v ∷ rest)) ⊎ ((i ≡ 0) × (words.new ≡ w ∷ rest)) }
@@ -32,7 +32,7 @@ pub fn select(words: &mut Words)
 
 /// A unary operator of this type.
 #[inline(always)]
-pub fn unary(words: &mut Words, width: ValType, op: UnaryOp)
+pub fn unary(words: &mut ValueStack, width: ValType, op: UnaryOp)
     requires { (x : ℕ) × (rest : List ℕ) × (words.old ≡ x ∷ rest) × (x < 2 ^ bits width) }
     ensures { (x : ℕ) (rest : List ℕ) → words.old ≡ x ∷ rest
         → (r : ℕ) × (words.new ≡ r ∷ rest) × (r ≡ numbers.unary width op x) × (r < 2 ^ bits width) }
@@ -43,7 +43,7 @@ pub fn unary(words: &mut Words, width: ValType, op: UnaryOp)
 
 /// A test.
 #[inline(always)]
-pub fn test(words: &mut Words, op: TestOp)
+pub fn test(words: &mut ValueStack, op: TestOp)
     requires { (x : ℕ) × (rest : List ℕ) × (words.old ≡ x ∷ rest) }
     ensures { (x : ℕ) (rest : List ℕ) → words.old ≡ x ∷ rest
         → (r : ℕ) × (words.new ≡ r ∷ rest) × (r ≡ numbers.test op x) × (r < 2 ^ 32) }
@@ -54,7 +54,7 @@ pub fn test(words: &mut Words, op: TestOp)
 
 /// A comparison of this type.
 #[inline(always)]
-pub fn compare(words: &mut Words, width: ValType, op: CompareOp)
+pub fn compare(words: &mut ValueStack, width: ValType, op: CompareOp)
     requires { (y x : ℕ) × (rest : List ℕ) × (words.old ≡ y ∷ x ∷ rest) × (y < 2 ^ bits width)
         × (x < 2 ^ bits width) }
     ensures { (y x : ℕ) (rest : List ℕ) → words.old ≡ y ∷ x ∷ rest
@@ -70,7 +70,7 @@ pub fn compare(words: &mut Words, width: ValType, op: CompareOp)
 /// # Errors
 /// Its trap.
 #[inline(always)]
-pub fn binary(words: &mut Words, width: ValType, op: BinaryOp) -> Result<(), Trap>
+pub fn binary(words: &mut ValueStack, width: ValType, op: BinaryOp) -> Result<(), Trap>
     requires { (y x : ℕ) × (rest : List ℕ) × (words.old ≡ y ∷ x ∷ rest) × (y < 2 ^ bits width)
         × (x < 2 ^ bits width) }
     ensures ok { IfOk result
@@ -94,7 +94,7 @@ pub fn binary(words: &mut Words, width: ValType, op: BinaryOp) -> Result<(), Tra
 
 /// A conversion.
 #[inline(always)]
-pub fn conversion(words: &mut Words, op: ConvertOp)
+pub fn conversion(words: &mut ValueStack, op: ConvertOp)
     requires { (x : ℕ) × (rest : List ℕ) × (words.old ≡ x ∷ rest)
         × (x < 2 ^ bits (numbers.operand_type op)) }
     ensures { (x : ℕ) (rest : List ℕ) → words.old ≡ x ∷ rest

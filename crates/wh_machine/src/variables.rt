@@ -3,11 +3,11 @@
 ghost use Rattle.std.specs.Prelude.{◌≡◌, ℕ, ◌<◌, List, ◌∷◌, Some, length, reverse, slice_get, slice_set};
 ghost use Rattle.wh_control.specs.Represents.{most_words};
 
-use wh_control::Words;
+use wh_control::ValueStack;
 
 /// `local.get`, where the local is the word at this place.
 #[inline(always)]
-pub fn local_get(words: &mut Words, place: usize)
+pub fn local_get(words: &mut ValueStack, place: usize)
     requires there { place < length words.old }
     requires room { length words.old < most_words }
     ensures { (w : ℕ) × (slice_get (reverse words.old) place ≡ Some w)
@@ -19,7 +19,7 @@ pub fn local_get(words: &mut Words, place: usize)
 
 /// `local.set`
 #[inline(always)]
-pub fn local_set(words: &mut Words, place: usize)
+pub fn local_set(words: &mut ValueStack, place: usize)
     requires { (w : ℕ) × (rest : List ℕ) × (words.old ≡ w ∷ rest) × (place < length rest) }
     ensures { (w : ℕ) (rest : List ℕ) → words.old ≡ w ∷ rest
         → words.new ≡ reverse (slice_set (reverse rest) place w) }
@@ -30,7 +30,7 @@ pub fn local_set(words: &mut Words, place: usize)
 
 /// `local.tee`
 #[inline(always)]
-pub fn local_tee(words: &mut Words, place: usize)
+pub fn local_tee(words: &mut ValueStack, place: usize)
     requires { (w : ℕ) × (rest : List ℕ) × (words.old ≡ w ∷ rest) × (place < length words.old) }
     ensures { (w : ℕ) (rest : List ℕ) → words.old ≡ w ∷ rest
         → words.new ≡ reverse (slice_set (reverse words.old) place w) }

@@ -2,7 +2,7 @@
 
 use anyhow::{Result, bail};
 use std::alloc::Global;
-use wh_alone::{Alone, Outcome, call_alone};
+use wh_alone::{CallResult, Outcome, call_module};
 use wh_initial::Parameters;
 use wh_model::Trap;
 
@@ -17,7 +17,7 @@ struct Case {
     func: u32,
     address: u64,
     fuel: u64,
-    wanted: Alone,
+    wanted: CallResult,
 }
 
 /// All the ways in which a call comes to something.
@@ -26,7 +26,7 @@ const CASES: [Case; 5] = [
         func: 1,
         address: 4,
         fuel: 6,
-        wanted: Alone::Call {
+        wanted: CallResult::Call {
             started: 2,
             outcome: Outcome::Returned(Some(184)),
             charges: 6,
@@ -36,7 +36,7 @@ const CASES: [Case; 5] = [
         func: 1,
         address: 65533,
         fuel: 6,
-        wanted: Alone::Call {
+        wanted: CallResult::Call {
             started: 2,
             outcome: Outcome::Trapped(Trap::OutOfBounds),
             charges: 2,
@@ -46,7 +46,7 @@ const CASES: [Case; 5] = [
         func: 1,
         address: 4,
         fuel: 5,
-        wanted: Alone::Call {
+        wanted: CallResult::Call {
             started: 2,
             outcome: Outcome::OutOfFuel,
             charges: 5,
@@ -56,25 +56,25 @@ const CASES: [Case; 5] = [
         func: 2,
         address: 4,
         fuel: 6,
-        wanted: Alone::NoCall(2),
+        wanted: CallResult::NoCall(2),
     },
     Case {
         func: 1,
         address: 4,
         fuel: 1,
-        wanted: Alone::Start(Outcome::OutOfFuel, 1),
+        wanted: CallResult::Start(Outcome::OutOfFuel, 1),
     },
 ];
 
 /// What the call comes to where `base` is 100.
-fn came_to(alloc: Global, bytes: &[u8], case: &Case) -> Result<Alone> {
+fn came_to(alloc: Global, bytes: &[u8], case: &Case) -> Result<CallResult> {
     let parameters = Parameters {
         base: 100,
         salt: 0,
         inputs: Vec::new(alloc),
         page_limit: 1,
     };
-    match call_alone(
+    match call_module(
         alloc,
         bytes,
         parameters,

@@ -2,7 +2,7 @@
 use Rattle.std.proofs.Common.{◌≡◌, ℕ, suc, ◌≤◌, List, ◌++◌, refl, ap, subst, arith}
 use Rattle.wh_model.specs.Syntax.{Code, return, plain, nothing, join}
 use Rattle.wh_model.specs.Store.{Value, Instance, Store}
-use Rattle.wh_model.specs.Configuration.{Term, code, label, frame, Config, config, trapped, Takes, Block, hole, inner}
+use Rattle.wh_model.specs.Configuration.{Term, code, label, frame, Config, config, trapped, TakesOperands, Block, hole, inner}
 use Rattle.wh_model.specs.Execution.{pure, traps, invoke, Jumps}
 use Rattle.wh_model.specs.Reduction.{Reduces, base, in_label, in_frame, trap_label, trap_frame, leave_label, leave_frame, branch, returns}
 use Rattle.wh_model.proofs.OneRule.{takes_same, base_same, jumps_same, jump_not_base}
@@ -75,7 +75,7 @@ reduces_same (branch b j z) (trap_label y) = absurd (jump_waits b j (omega arith
 reduces_same (branch b j z) leave_label = absurd (done_not_jump b j)
 reduces_same (branch {n = n} {s = s} {f = f} {rest = o1} {us = us1} {dropped = d1} {vs = vs} {next = next} {is = is} b j z) (branch {rest = o2} {us = us2} {dropped = d2} c k w) =
     let r = jump_context b c j k in
-    let h = takes_same n n o2 us1 d1 us2 d2 refl (subst (λ o. Takes n o us1 d1) r.2 z) w in
+    let h = takes_same n n o2 us1 d1 us2 d2 refl (subst (λ o. TakesOperands n o us1 d1) r.2 z) w in
     (refl, ap (λ u. config s f (code (u ++ vs) (join next is))) h.0)
 reduces_same (in_frame {n = n} {f = f} {vs = vs} {is = is} x) (in_frame y) = let r = reduces_same x y in (r.0, ap (in_frame_of vs n f is) r.1)
 reduces_same (in_frame {n = n} {f = f} {vs = vs} {is = is} x) (trap_frame y) = let r = reduces_same x y in (r.0, ap (in_frame_of vs n f is) r.1)
@@ -93,5 +93,5 @@ reduces_same (returns b z) (in_frame y) = absurd (return_waits b y)
 reduces_same (returns b z) (trap_frame y) = absurd (return_waits b y)
 reduces_same (returns b z) (leave_frame p) = elim b [ ]
 reduces_same (returns {n = n} {s = s} {f = f} {operands = o1} {us = us1} {dropped = d1} {vs = vs} {is = is} b z) (returns {operands = o2} {us = us2} {dropped = d2} c w) =
-    let h = takes_same n n o2 us1 d1 us2 d2 refl (subst (λ o. Takes n o us1 d1) (return_context b c) z) w in
+    let h = takes_same n n o2 us1 d1 us2 d2 refl (subst (λ o. TakesOperands n o us1 d1) (return_context b c) z) w in
     (refl, ap (λ u. config s f (code (u ++ vs) is)) h.0)

@@ -4,7 +4,7 @@ use Rattle.std.proofs.Common.{◌≡◌, ℕ, suc, List, [], ◌∷◌, ◌++◌
 use Rattle.wh_model.specs.declared.Trap.{Trap}
 use Rattle.wh_model.specs.Syntax.{Code, nothing, join}
 use Rattle.wh_model.specs.Store.{Value, FuncInst, Instance, Store}
-use Rattle.wh_model.specs.Configuration.{Term, code, label, frame, Block, hole, inner, Config, config, trapped, Takes}
+use Rattle.wh_model.specs.Configuration.{Term, code, label, frame, Block, hole, inner, Config, config, trapped, TakesOperands}
 use Rattle.wh_model.specs.Execution.{Rewrites, const_i32, const_i64, unary_op, binary_op, test_op, compare_op, convert_op, drop_top, select_first, select_second, do_nothing, enter_block, enter_loop, then_true, then_false, if_true, if_false, br_if_not, Traps, never_return, no_number, load_beyond, store_beyond, no_entry, empty_entry, other_type, Calls, by_call, by_indirect, Invokes, enter, too_deep, input, put, put_full, emit, emit_long, emit_beyond, emit_full, Base, pure, traps, get_local, set_local, tee_local, get_global, set_global, load_bytes, store_bytes, size_pages, grow_pages, grow_too_far, invoke, Jumps, by_br, by_br_if, by_br_table}
 use Rattle.wh_model.specs.Reduction.{Reduces, base, in_label, in_frame, trap_label, trap_frame, leave_label, leave_frame, branch, returns}
 use Rattle.wh_model.specs.Focus.{Label, Activation, Focused, running, finished, stopped, inside, awaited, plug}
@@ -123,7 +123,7 @@ module _ (inst : Instance) where
   base_down n ls ws e (grow_too_far {n = m} {vs = vs} p) = (refl, (m, vs, refl, inr (p, refl)))
   base_down n {f = f} {vs = vs} {is = js} ls ws e (invoke {c = r} x p) = calls_down n f ls ws (focus r n ls ws) x (invokes_down n ls ws vs js e p)
 
-  jump_down : (s : Store) (n : ℕ) (f : List Value) {l : ℕ} {vs rest us dropped : List Value} {is : Code} (ls all ks : List Label) (t : Label) (ws : List Activation) → all ≡ ks ++ t ∷ ls → length ks ≡ l → Jumps vs is l rest → Takes t.carries rest us dropped
+  jump_down : (s : Store) (n : ℕ) (f : List Value) {l : ℕ} {vs rest us dropped : List Value} {is : Code} (ls all ks : List Label) (t : Label) (ws : List Activation) → all ≡ ks ++ t ∷ ls → length ks ≡ l → Jumps vs is l rest → TakesOperands t.carries rest us dropped
       → Steps inst (running s (record { operands = vs; code = is; labels = all; locals = f; results = n }) ws) 1 (running s (record { operands = us ++ t.beneath; code = join t.next t.after_end; labels = ls; locals = f; results = n }) ws)
   jump_down s n f {us = us} {dropped = dropped} ls all ks t ws e k by_br z = (refl, (ks, ls, t, e, k, us, dropped, z, refl))
   jump_down s n f {us = us} {dropped = dropped} ls all ks t ws e k (by_br_if {i = i} {vs = vs} p) z = (refl, (i, vs, refl, inl (p, (ks, ls, t, e, k, us, dropped, z, refl))))

@@ -15,7 +15,7 @@ use Rattle.wh_model.specs.Memory.{reading, writing}
 abbrev pub CallAsks : Store → FuncInst → List Value → Need → Type 0
 CallAsks s (host Emit) operands need =
     (i n : ℕ) × (vs : List Value) × (operands ≡ value I32 n ∷ value I32 i ∷ vs) × (n ≤ most_emitted)
-        × (i + n ≤ length s.bytes)
+    × (i + n ≤ length s.bytes)
     × (length s.output + n ≤ output_room) × (need ≡ reading i n)
 CallAsks s h operands need = ⊥
 
@@ -26,12 +26,12 @@ OpAsks inst s (load op align offset) operands need =
     × (need ≡ reading (i + offset) (load_type op).1)
 OpAsks inst s (store op align offset) operands need =
     (v : Value) × (i : ℕ) × (vs : List Value) × (operands ≡ v ∷ value I32 i ∷ vs)
-        × (i + offset + (store_type op).1 ≤ length s.bytes)
+    × (i + offset + (store_type op).1 ≤ length s.bytes)
     × (need ≡ writing (i + offset) (store_type op).1)
 OpAsks inst s (call x) operands need = (h : FuncInst) × (slice_get inst.funcs x ≡ Some h) × CallAsks s h operands need
 OpAsks inst s (call_indirect y) operands need =
     (i x : ℕ) × (h : FuncInst) × (vs : List Value) × (operands ≡ value I32 i ∷ vs)
-        × (slice_get s.table i ≡ Some (Some x))
+    × (slice_get s.table i ≡ Some (Some x))
     × (slice_get inst.funcs x ≡ Some h) × (slice_get inst.types y ≡ Some (signature h)) × CallAsks s h vs need
 OpAsks inst s op operands need = ⊥
 

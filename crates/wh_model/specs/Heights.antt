@@ -86,8 +86,8 @@ greatest c floor height (if_then t first rest) = let low = lowered floor height 
     max height (max (greatest (under t c) low low first) (greatest c floor (low + operands t) rest))
 greatest c floor height (if_else t first second rest) = let low = lowered floor height 1 in
     max height
-        (max (greatest (under t c) low low first)
-            (max (greatest (under t c) low low second) (greatest c floor (low + operands t) rest)))
+    (max (greatest (under t c) low low first)
+    (max (greatest (under t c) low low second) (greatest c floor (low + operands t) rest)))
 
 -- the greatest height in a function's body, whose label carries its result
 abbrev pub body_height : Context → FuncType → Body → ℕ

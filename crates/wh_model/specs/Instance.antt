@@ -47,7 +47,7 @@ abbrev pub Imported : List FuncType → Parameters → List Import → List Func
 Imported types p [] fs vs = (fs ≡ []) × (vs ≡ [])
 Imported types p (i ∷ is) fs vs =
     ((h : HostFunc) × (rest : List FuncInst) × ImportsFunc types i h × (fs ≡ host h ∷ rest)
-        × Imported types p is rest vs)
+    × Imported types p is rest vs)
     ⊎ ((v : Value) × (rest : List Value) × ImportsGlobal p i v × (vs ≡ v ∷ rest) × Imported types p is fs rest)
 
 -- ---- the module's own functions and globals (4.5.3)

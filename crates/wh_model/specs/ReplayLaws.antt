@@ -176,7 +176,7 @@ abbrev pub CutOfThree : Type 0
 CutOfThree =
     (x y z : ℕ)
     → cut_up 4094 (x ∷ y ∷ z ∷ []) ≡ record { at = 4094; items = x ∷ y ∷ [] } ∷ record { at = 4096; items = z ∷ [] }
-        ∷ []
+    ∷ []
 
 -- they end where the segments may
 abbrev pub FragmentsWithin : Type 0

@@ -12,7 +12,7 @@ abbrev pub invoked : Store → List ValType → List ValType → Code → List V
 invoked s params results body args =
     config s []
     (called (record { params = params; results = results }) (record { locals = []; code = body }) (reverse args) []
-        nothing)
+    nothing)
 
 -- it is done with these values after so many charges
 abbrev pub Done : Instance → Config → Store → List Value → ℕ → Type 0

@@ -9,14 +9,14 @@ use Rattle.wh_model.specs.Heights.{Fits}
 use Rattle.wh_model.specs.declared.faults.ImportFault.{ImportFault}
 use Rattle.wh_model.specs.Linking.{Links, IsFirstFault}
 use Rattle.wh_host_model.specs.Script.{refused_reply, unlinked_reply}
-use Rattle.wh_host_model.specs.Requests.{Request, keep_module, Asks, IsHex}
+use Rattle.wh_host_model.specs.Requests.{Request, keep_module, AsksRequest, IsHex}
 use Rattle.wh_model.specs.Accepting.{IsModule}
 use Rattle.wh_host_model.specs.Replies.{Modules, with_module, ModuleReply, taken, kept, refused, invalid, unlinked, Reply, LineReply, skipped, too_long, no_request, asked, Replies, AgreeAt, same, both_invalid, Agree}
 use Rattle.wh_model.proofs.LinkingLemmas.{one_first_fault, links_no_fault}
 use Rattle.wh_script.proofs.Hex.{one_hex}
 use Rattle.wh_script.proofs.Words.{one_module_line}
 
-one_request : (line : List ℕ) (r s : Request) → Asks line r → Asks line s → r ≡ s
+one_request : (line : List ℕ) (r s : Request) → AsksRequest line r → AsksRequest line s → r ≡ s
 one_request line (keep_module n b) (keep_module m c) p q =
     let same = one_module_line line n p.0 m q.0 p.1 q.1 in
     let bytes = one_hex q.0 b c (subst (λ word. IsHex word b) same.1 p.2) q.2 in

@@ -3,16 +3,16 @@ use Rattle.std.proofs.Common.{◌≡◌, ℕ, List, Bor, refl, subst}
 use Rattle.wh_script.specs.declared.command.Command.{Command}
 use Rattle.wh_script.specs.declared.command.Command.TheVariants.{Module}
 use Rattle.wh_host_model.specs.Script.{IsModuleLine}
-use Rattle.wh_host_model.specs.Requests.{Request, keep_module, Asks, IsHex}
+use Rattle.wh_host_model.specs.Requests.{Request, keep_module, AsksRequest, IsHex}
 use Rattle.wh_script.specs.Commands.{Means}
 
 -- a line that is no module line, or whose word is no bytes, asks for nothing
-pub asks_nothing : (line : List ℕ) → ((name word bytes : List ℕ) → IsModuleLine line name word → IsHex word bytes → ⊥) → (request : Request) → Asks line request → ⊥
+pub asks_nothing : (line : List ℕ) → ((name word bytes : List ℕ) → IsModuleLine line name word → IsHex word bytes → ⊥) → (request : Request) → AsksRequest line request → ⊥
 asks_nothing line h (keep_module name bytes) asks = h name asks.0 bytes asks.1 asks.2
 
 -- what holds of the parts of each module line holds of what a line asks for
 pub asks_alone : (line : List ℕ) (command : Command) → ((name word bytes : List ℕ) → IsModuleLine line name word → IsHex word bytes → Means command (keep_module name bytes))
-    → (request : Request) → Asks line request → Means command request
+    → (request : Request) → AsksRequest line request → Means command request
 asks_alone line command h (keep_module name bytes) asks = h name asks.0 bytes asks.1 asks.2
 
 -- a command is one to keep a module

@@ -13,7 +13,7 @@ use Rattle.wh_model.specs.declared.faults.ImportFault.{ImportFault}
 use Rattle.wh_model.specs.declared.faults.ImportFault.TheVariants.{UnknownImport, ImportType}
 use Rattle.wh_model.specs.Linking.{HasItem, IsKnown, LacksItem}
 use Rattle.wh_host_model.specs.Script.{is_skipped, longest_line, in_module, error_reply, kept_reply, refused_reply, invalid_reply, unlinked_reply}
-use Rattle.wh_host_model.specs.Requests.{IsDigit, numeral, lower, upper, IsHex, Request, keep_module, Asks}
+use Rattle.wh_host_model.specs.Requests.{IsDigit, numeral, lower, upper, IsHex, Request, keep_module, AsksRequest}
 use Rattle.wh_model.specs.Accepting.{IsModule}
 use Rattle.wh_host_model.specs.Replies.{Modules, no_modules, with_module, ModuleReply, taken, kept, refused, invalid, unlinked, Reply, LineReply, skipped, too_long, no_request, asked, Replies, AreReplies}
 
@@ -113,19 +113,19 @@ module _ (some_meaning : (b : List ℕ) → AreBytes b → ((m : Module) × Spel
 
   -- ---- a line
 
-  of_request : (before : Modules) (number : ℕ) (line : List ℕ) (r : Request) → Asks line r → NotNone ((text : List ℕ) × (after : Modules) × Reply before number r text after)
+  of_request : (before : Modules) (number : ℕ) (line : List ℕ) (r : Request) → AsksRequest line r → NotNone ((text : List ℕ) × (after : Modules) × Reply before number r text after)
   of_request before number line (keep_module name bytes) (word, is_line, hex) = of_name before number name bytes (before name) refl (are_bytes word bytes hex)
 
   abbrev LineText : Modules → ℕ → List ℕ → Type 0
   LineText before number line = (text : List ℕ) × (after : Modules) × LineReply Reply before number line text after
 
-  of_short : (before : Modules) (number : ℕ) (line : List ℕ) → is_skipped line ≡ false → length line ≤ longest_line → ((r : Request) × Asks line r) ⊎ ¬ ((r : Request) × Asks line r) → NotNone (LineText before number line)
+  of_short : (before : Modules) (number : ℕ) (line : List ℕ) → is_skipped line ≡ false → length line ≤ longest_line → ((r : Request) × AsksRequest line r) ⊎ ¬ ((r : Request) × AsksRequest line r) → NotNone (LineText before number line)
   of_short before number line e few (inl (r, asks)) = and_then (of_request before number line r asks) (λ g. there_is (g.0, g.1, asked r e few asks g.2))
   of_short before number line e few (inr none) = there_is (error_reply 1 number, before, no_request e (λ r asks. none (r, asks)) refl refl)
 
   of_long : (before : Modules) (number : ℕ) (line : List ℕ) → is_skipped line ≡ false → (longest_line < length line) ⊎ ¬ (longest_line < length line) → NotNone (LineText before number line)
   of_long before number line e (inl long) = there_is (error_reply 1 number, before, too_long e long refl refl)
-  of_long before number line e (inr short) = and_then (either ((r : Request) × Asks line r)) (of_short before number line e (at_most longest_line (length line) short))
+  of_long before number line e (inr short) = and_then (either ((r : Request) × AsksRequest line r)) (of_short before number line e (at_most longest_line (length line) short))
 
   of_line : (before : Modules) (number : ℕ) (line : List ℕ) (b : Bool) → is_skipped line ≡ b → NotNone (LineText before number line)
   of_line before number line true e = there_is ([], before, skipped e refl refl)

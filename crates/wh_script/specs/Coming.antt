@@ -19,7 +19,7 @@ abbrev pub coming : Lines → Option (List ℕ) → Option (List ℕ)
 coming l known = prepend_known (unread l) known
 
 -- the unread bytes lie in the chunk, and the chunk has room
-pub record Within (l : Lines) : Type 0 where
+pub record IsInChunk (l : Lines) : Type 0 where
   pub next : l.next ≤ l.end
   pub end : l.end ≤ vec_len l.chunk
   pub room : 0 < vec_len l.chunk
@@ -31,7 +31,7 @@ pub record Holds (held : List ℕ) (is_long : Bool) (line : List ℕ) : Type 0 w
       → MatchBool is_long (longest_line < length line) ((held ≡ line) × (length line ≤ longest_line))
 
 -- old has a piece of the line and then, if it was the line's last, its newline; the rest is to come
-pub record Takes (old new : Lines) (is_last : Bool) (piece : List ℕ) : Type 0 where
+pub record TakesPiece (old new : Lines) (is_last : Bool) (piece : List ℕ) : Type 0 where
   pub free : All (λ b. b ≢ 10) piece
   pub some : is_last ≡ false → 0 < length piece
   pub cut : unread old ≡ piece ++ (if is_last then 10 ∷ [] else []) ++ unread new

@@ -6,10 +6,10 @@ ghost use Rattle.std.specs.Char.{is_ascii_hexdigit};
 ghost use Rattle.std.specs.List.{All, AllPass};
 ghost use Rattle.wh_host_model.specs.Script as spec;
 ghost use Rattle.wh_host_model.specs.Script.{IsName, IsWord};
-ghost use Rattle.wh_host_model.specs.Requests.{Request, Asks, IsHex};
+ghost use Rattle.wh_host_model.specs.Requests.{Request, AsksRequest, IsHex};
 ghost use Rattle.wh_script.specs.Commands.{Means, Finds};
 
-use crate::fault::Complaint;
+use crate::fault::LineError;
 use memchr::memchr;
 
 const LONGEST_NAME: usize = 32;
@@ -79,28 +79,28 @@ fn at_space(line: &[u8]) -> Option<(&[u8], &[u8])>
 ///
 /// # Errors
 /// `Syntax` where the line holds a byte above 127, has not the shape of a command, or a `HEX` isn't bytes in hexadecimal.
-pub fn parse(line: &[u8]) -> Result<Command<'_>, Complaint>
+pub fn parse(line: &[u8]) -> Result<Command<'_>, LineError>
     // The line asks for what the command that is found means.
     ensures found { IfOk result
-        (λ command. (request : Request) × Asks line.now request × Means command request) }
+        (λ command. (request : Request) × AsksRequest line.now request × Means command request) }
     // What the line asks for is found.
-    ensures only { (request : Request) → Asks line.now request → Finds result request }
-    ensures err { IfErr result (λ e. e ≡ Complaint.Syntax) }
+    ensures only { (request : Request) → AsksRequest line.now request → Finds result request }
+    ensures err { IfErr result (λ e. e ≡ LineError.Syntax) }
 {
     let Some(words) = line.strip_prefix(b"module ") else {
-        return Err(Complaint::Syntax);
+        return Err(LineError::Syntax);
     };
     let Some((name, hex)) = at_space(words) else {
-        return Err(Complaint::Syntax);
+        return Err(LineError::Syntax);
     };
     if !is_name(name) || !is_word(hex) || !is_hex(hex) {
-        return Err(Complaint::Syntax);
+        return Err(LineError::Syntax);
     }
     let Ok(name) = str::from_utf8(name) else {
-        return Err(Complaint::Syntax);
+        return Err(LineError::Syntax);
     };
     let Ok(hex) = str::from_utf8(hex) else {
-        return Err(Complaint::Syntax);
+        return Err(LineError::Syntax);
     };
     Ok(Command::Module { name, hex })
 }

@@ -14,7 +14,7 @@ ghost use Rattle.wh_script.specs.Replies.{modules_of, Sent, Obeys, Answers};
 ghost use Rattle.wh_script.specs.Runs.{Runs};
 
 use crate::command::{Command, parse};
-use crate::fault::{Complaint, ScriptFault};
+use crate::fault::{LineError, ScriptFault};
 use crate::lines::{Line, Lines};
 use std::alloc::{AllocError, Global};
 use std::collections::BTreeMap;
@@ -84,11 +84,11 @@ impl Engine {
     ) -> Result<(), ScriptFault>
         ensures { (line : List ℕ) → IsKind kind held.now line
             → Answers self.old self.new number line (W.contents writer.old) (W.contents writer.new)
-                result }
+            result }
     {
         match kind {
             Line::End | Line::Skipped => Ok(()),
-            Line::TooLong => self.complain(writer, Complaint::Syntax, number),
+            Line::TooLong => self.complain(writer, LineError::Syntax, number),
             Line::Kept => match parse(held) {
                 Ok(command) => self.obey(writer, command, number),
                 Err(complaint) => self.complain(writer, complaint, number),
@@ -104,7 +104,7 @@ impl Engine {
     ) -> Result<(), ScriptFault>
         ensures { (request : Request) → Means command.entry request
             → Obeys self.old self.new number request (W.contents writer.old) (W.contents writer.new)
-                result }
+            result }
     {
         match command {
             Command::Module { name, hex } => self.module(writer, name, hex, number),
@@ -120,10 +120,10 @@ impl Engine {
     ) -> Result<(), ScriptFault>
         ensures { (bytes : List ℕ) → IsHex hex.now bytes
             → Obeys self.old self.new number (keep_module name.now bytes) (W.contents writer.old)
-                (W.contents writer.new) result }
+            (W.contents writer.new) result }
     {
         if self.modules.contains_key(name) {
-            return self.complain(writer, Complaint::NameTaken, number);
+            return self.complain(writer, LineError::NameTaken, number);
         }
         self.new_module(writer, name, hex, number)
     }
@@ -139,15 +139,15 @@ impl Engine {
         requires { modules_of self.old name.now ≡ None }
         ensures { (bytes : List ℕ) → IsHex hex.now bytes
             → Obeys self.old self.new number (keep_module name.now bytes) (W.contents writer.old)
-                (W.contents writer.new) result }
+            (W.contents writer.new) result }
     {
         let Ok(bytes) = hex::decode(self.alloc, hex) else {
-            return self.complain(writer, Complaint::Memory, number);
+            return self.complain(writer, LineError::Memory, number);
         };
         match load(self.alloc, &bytes) {
             Ok(linked) => {
                 if self.keep(name, linked).is_err() {
-                    return self.complain(writer, Complaint::Memory, number);
+                    return self.complain(writer, LineError::Memory, number);
                 }
                 self.say_kept(writer, name)
             }
@@ -158,7 +158,7 @@ impl Engine {
     fn keep(&mut self, name: &str, linked: Linked) -> Result<(), AllocError>
         ensures kept { OnOk result
             (modules_of self.new
-                ≡ with_module (modules_of self.old) name.now (view_linked linked)) }
+            ≡ with_module (modules_of self.old) name.now (view_linked linked)) }
         ensures same { OnErr result (modules_of self.new ≡ modules_of self.old) }
     {
         let name = String::from_str(self.alloc, name)?;
@@ -217,8 +217,8 @@ impl Engine {
         requires { string_bytes self.old.reply ≡ [] }
         ensures said { OnOk result
             (string_bytes self.new.reply
-                ≡ invalid_reply name.now (valid_number error.kind)
-                    (place_of error.func error.instr)) }
+            ≡ invalid_reply name.now (valid_number error.kind)
+            (place_of error.func error.instr)) }
         ensures names { modules_of self.new ≡ modules_of self.old }
     {
         let kind = error.kind.number();
@@ -252,7 +252,7 @@ impl Engine {
     fn complain<W: Write>(
         &mut self,
         writer: &mut W,
-        complaint: Complaint,
+        complaint: LineError,
         line: u64,
     ) -> Result<(), ScriptFault>
         ensures sent { Sent (W.contents writer.old) (W.contents writer.new) result

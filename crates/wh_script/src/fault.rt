@@ -7,7 +7,7 @@ use thiserror::Error;
 
 /// Why a line can't be obeyed. The causes are looked at in this order; the script goes on with the next line.
 #[derive(Clone, Copy, Debug, PartialEq, Eq, Error)]
-pub enum Complaint {
+pub enum LineError {
     /// The line is too long, holds a byte above 127, or has not the shape of a command.
     #[error("the line is no command")]
     Syntax,
@@ -25,17 +25,17 @@ pub enum Complaint {
     Memory,
 }
 
-impl Complaint {
+impl LineError {
     /// The number by which replies name the cause, 1 to 5.
     pub fn number(self) -> u8
         ensures { result ≡ complaint_number self }
     {
         match self {
-            Complaint::Syntax => 1,
-            Complaint::NoName => 2,
-            Complaint::NameTaken => 3,
-            Complaint::File => 4,
-            Complaint::Memory => 5,
+            LineError::Syntax => 1,
+            LineError::NoName => 2,
+            LineError::NameTaken => 3,
+            LineError::File => 4,
+            LineError::Memory => 5,
         }
     }
 }

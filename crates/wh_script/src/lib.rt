@@ -7,7 +7,7 @@
 //! |---|---|
 //! | `module NAME HEX` | `module NAME ok`; or `module NAME refused D3 at 7`, the decoder's fault and its offset; `.. refused V1 func 0 instr 4` or `.. refused V6 module`, the validator's; `.. refused L1 import 0`, the linker's; `.. refused L3` |
 //!
-//! A line that can't be obeyed is answered `error C1 line 4`, with the number of the line; `Complaint` lists the causes.
+//! A line that can't be obeyed is answered `error C1 line 4`, with the number of the line; `LineError` lists the causes.
 //!
 //! Proved: over a reader and a writer whose bytes are known, what `run_script` writes are the replies to the lines of the
 //! script, in order and each under the number of its line, and nothing else; where the reader or the writer fails, or

@@ -4,7 +4,7 @@ ghost use Rattle.std.specs.Prelude.{◌≡◌, ◌≢◌, ℕ, ◌+◌, ◌<◌,
 ghost use Rattle.std.specs.Bool.{MatchBool, OnTrue};
 ghost use Rattle.std.specs.List.{All};
 ghost use Rattle.std.specs.Io.KnownBytes.{Consumes, Keeps, IsAtEnd};
-ghost use Rattle.wh_script.specs.Coming.{unread, coming, Within, Holds, Takes, IsKind, ReadsLine, FailsAt};
+ghost use Rattle.wh_script.specs.Coming.{unread, coming, IsInChunk, Holds, TakesPiece, IsKind, ReadsLine, FailsAt};
 
 use crate::fault::ScriptFault;
 use memchr::memchr;
@@ -45,7 +45,7 @@ impl Lines {
     /// # Errors
     /// `Memory` where it is refused.
     pub fn new(alloc: Global) -> Result<Lines, ScriptFault>
-        ensures within { IfOk result (λ lines. Within lines) }
+        ensures within { IfOk result (λ lines. IsInChunk lines) }
         ensures empty { IfOk result (λ lines. unread lines ≡ []) }
         ensures err { IfErr result (λ e. e ≡ ScriptFault.Memory) }
     {
@@ -79,14 +79,14 @@ impl Lines {
     /// `Script` where the reader fails; `Memory` only if room that was reserved is refused after all, or where the pieces of
     /// the line can't be counted.
     pub fn read<R: Read>(&mut self, reader: &mut R) -> Result<Line, ScriptFault>
-        requires { Within self.old }
+        requires { IsInChunk self.old }
         // It is the first of the lines to come, and what is said of it is so.
         ensures line { IfOk result (λ kind. ReadsLine (coming self.old (R.remaining reader.old))
             (coming self.new (R.remaining reader.new)) kind self.new.line.items) }
         // Where the reader failed, no whole line was lost.
         ensures failed { FailsAt (coming self.old (R.remaining reader.old)) (R.remaining reader.new)
             result }
-        ensures within { OnOk result (Within self.new) }
+        ensures within { OnOk result (IsInChunk self.new) }
         ensures err { IfErr result (λ e. e ≢ ScriptFault.Output) }
     {
         self.line.clear();
@@ -121,16 +121,16 @@ impl Lines {
 
     /// Whether more of the script is to come; then some of it lies in the chunk.
     fn has_more<R: Read>(&mut self, reader: &mut R) -> Result<bool, ScriptFault>
-        requires { Within self.old }
+        requires { IsInChunk self.old }
         ensures bytes { OnOk result
             (Consumes (coming self.old (R.remaining reader.old))
-                (coming self.new (R.remaining reader.new)) []) }
+            (coming self.new (R.remaining reader.new)) []) }
         ensures none { OnErr result
             (Consumes (coming self.old (R.remaining reader.old)) (R.remaining reader.new) []) }
         ensures more { IfOk result
             (λ more. MatchBool more (self.new.next < self.new.end)
-                (IsAtEnd (coming self.new (R.remaining reader.new)))) }
-        ensures within { OnOk result (Within self.new) }
+            (IsAtEnd (coming self.new (R.remaining reader.new)))) }
+        ensures within { OnOk result (IsInChunk self.new) }
         ensures line { (self.new.line ≡ self.old.line) × (self.new.is_long ≡ self.old.is_long) }
         ensures err { IfErr result (λ e. e ≡ ScriptFault.Script) }
     {
@@ -143,14 +143,14 @@ impl Lines {
 
     /// Reads more of the script; false at its end.
     fn fill<R: Read>(&mut self, reader: &mut R) -> Result<bool, ScriptFault>
-        requires { Within self.old }
+        requires { IsInChunk self.old }
         ensures bytes { OnOk result
             (Consumes (R.remaining reader.old) (R.remaining reader.new) (unread self.new)) }
         ensures none { OnErr result (Keeps (R.remaining reader.old) (R.remaining reader.new)) }
         ensures more { IfOk result
             (λ more. MatchBool more (self.new.next < self.new.end)
-                (IsAtEnd (R.remaining reader.new) × (unread self.new ≡ []))) }
-        ensures within { OnOk result (Within self.new) }
+            (IsAtEnd (R.remaining reader.new) × (unread self.new ≡ []))) }
+        ensures within { OnOk result (IsInChunk self.new) }
         ensures line { (self.new.line ≡ self.old.line) × (self.new.is_long ≡ self.old.is_long) }
         ensures err { IfErr result (λ e. e ≡ ScriptFault.Script) }
     {
@@ -168,13 +168,13 @@ impl Lines {
         Err(ScriptFault::Script)
     }
 
-    /// Takes what there is of the line; true where that is up to its newline.
+    /// TakesPiece what there is of the line; true where that is up to its newline.
     fn take(&mut self) -> Result<bool, ScriptFault>
-        requires within { Within self.old }
+        requires within { IsInChunk self.old }
         requires some { self.old.next < self.old.end }
         ensures piece { IfOk result
-            (λ is_last. (piece : List ℕ) × Takes self.old self.new is_last piece) }
-        ensures within { OnOk result (Within self.new) }
+            (λ is_last. (piece : List ℕ) × TakesPiece self.old self.new is_last piece) }
+        ensures within { OnOk result (IsInChunk self.new) }
         ensures err { IfErr result (λ e. e ≡ ScriptFault.Memory) }
     {
         let rest = &self.chunk[self.next..self.end];

@@ -15,7 +15,7 @@ use Rattle.wh_validate.specs.Blaming.{with_bodies}
 use Rattle.wh_validate.specs.Gathering.{HasValidOutline, IsAround}
 use Rattle.wh_validate.specs.Sizing.{IsTable}
 use Rattle.wh_validate.specs.Naming.{NamesTypeOf, NamesType}
-use Rattle.wh_validate.specs.Parts.{IsGlobal, IsExport, IsElement, IsSegment}
+use Rattle.wh_validate.specs.Parts.{IsGlobal, IsExport, IsValidElement, IsSegment}
 use Rattle.wh_validate.proofs.Lists.{recursion_each}
 
 -- ---- one context
@@ -118,7 +118,7 @@ outline_of m bs both =
     }
 
 around_of : (m : Module) (bs : List model.Body) (c : Context) → IsValidIn (with_bodies (view_module m) bs) c → IsAround m c (imported_globals (map view_import m.imports.items))
-unfolding IsGlobal IsElement IsSegment IsExport
+unfolding IsGlobal IsValidElement IsSegment IsExport
 around_of m bs c valid =
     let seen = imported_globals (map view_import m.imports.items) in
     record {
@@ -126,7 +126,7 @@ around_of m bs c valid =
       exports = from_mapped (IsExport c) (λ e. Exported c e.kind e.index) view_export (λ e p. p) m.exports.items valid.exports;
       names = valid.names;
       start = valid.start;
-      elements = from_mapped (IsElement c) (ValidElement c) view_element (λ e p. p) m.elements.items valid.elements;
+      elements = from_mapped (IsValidElement c) (ValidElement c) view_element (λ e p. p) m.elements.items valid.elements;
       segments = from_mapped (IsSegment c) (ValidData c) view_data (λ d p. p) m.segments.items valid.segments;
     }
 

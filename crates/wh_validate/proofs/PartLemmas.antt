@@ -11,7 +11,7 @@ use Rattle.wh_syntax.specs.declared.module.Element.{Element}
 use Rattle.wh_syntax.specs.declared.module.Data.{Data}
 use Rattle.wh_bodies.specs.declared.context.Context.{Context as Given}
 use Rattle.wh_bodies.specs.Views.{view_context, type_at}
-use Rattle.wh_validate.specs.Parts.{IsElement, IsSegment}
+use Rattle.wh_validate.specs.Parts.{IsValidElement, IsSegment}
 use Rattle.wh_validate.proofs.Lists.{item_at, item_below, take_whole, each_recursion, recursion_each, get_mapped}
 use Rattle.wh_validate.proofs.Deciding.{Same}
 
@@ -33,8 +33,8 @@ funcs_same c xs =
       recursion_each (λ x. x < length c.funcs.now) (HasFunc (view_context c)) (λ x h. item_below types c.funcs.now x h.0 h.1) xs,
     )
 
-pub element_same : (c : Given) (e : Element) → Same ((e.table < length c.tables.now) × (Offset c e.offset × All (λ x. x < length c.funcs.now) e.init.items)) (IsElement (view_context c) e)
-unfolding IsElement
+pub element_same : (c : Given) (e : Element) → Same ((e.table < length c.tables.now) × (Offset c e.offset × All (λ x. x < length c.funcs.now) e.init.items)) (IsValidElement (view_context c) e)
+unfolding IsValidElement
 element_same c e = (
   λ p. (item_at view_table c.tables.now e.table p.0, (offset_same c e.offset).0 p.1.0, (funcs_same c e.init.items).0 p.1.1),
   λ p. (item_below view_table c.tables.now e.table p.0.0 p.0.1, ((offset_same c e.offset).1 p.1, (funcs_same c e.init.items).1 p.2)),

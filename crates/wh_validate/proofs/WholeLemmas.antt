@@ -20,8 +20,8 @@ use Rattle.wh_validate.specs.declared.whole.Gathered.{Gathered}
 use Rattle.wh_validate.specs.Gathering.{HasValidOutline, IsGathered, IsAround}
 use Rattle.wh_validate.specs.Sizing.{IsTable}
 use Rattle.wh_validate.specs.Naming.{NamesTypeOf, NamesType}
-use Rattle.wh_validate.specs.Parts.{IsGlobal, IsExport, IsElement, IsSegment}
-use Rattle.wh_validate.specs.Soundness.{Checked, IsSound}
+use Rattle.wh_validate.specs.Parts.{IsGlobal, IsExport, IsValidElement, IsSegment}
+use Rattle.wh_validate.specs.Soundness.{Checked, IsChecked}
 use Rattle.wh_validate.proofs.Lists.{each_recursion}
 use Rattle.wh_validate.specs.declared.error.ValidError.{ValidError}
 use Rattle.wh_model.specs.declared.faults.ValidKind.TheVariants.{Memory}
@@ -101,7 +101,7 @@ module _ (m : Module) (g : Gathered) (c : Given) (outline : HasValidOutline m) (
       ∙ ap (map view_global_type) (take-append_seam imported (map (λ x. x.global_type) m.globals.items)) ∙ brought
 
   is_valid : (ts : List Table) → IsAround m (view_context c) (map view_global_type (take g.imported_globals c.globals.now)) → Checked (view_context c) m.funcs.items (map view_body m.bodies.items) ts → IsValidIn (view_module m) (view_context c)
-  unfolding IsGlobal IsElement IsSegment IsExport
+  unfolding IsGlobal IsValidElement IsSegment IsExport
   is_valid ts around checked = record {
     context = is_context;
     types = each_mapped (λ t. ValidType (view_type t)) ValidType view_type (λ t p. p) m.types.items outline.types;
@@ -111,7 +111,7 @@ module _ (m : Module) (g : Gathered) (c : Given) (outline : HasValidOutline m) (
     memories = each_mapped (λ l. WithinBound most_pages (view_limits l)) (WithinBound most_pages) view_limits (λ l p. p) m.memories.items outline.memories;
     one_memory = few_mapped view_limits m.memories.items 1 outline.one_memory;
     globals = each_mapped (IsGlobal (map view_global_type (take g.imported_globals c.globals.now))) (ValidGlobal (map view_import m.imports.items)) view_global (λ x p. subst (λ w. ConstantOf w x.init x.global_type.value) seen_imported p) m.globals.items around.globals;
-    elements = each_mapped (IsElement (view_context c)) (ValidElement (view_context c)) view_element (λ e p. p) m.elements.items around.elements;
+    elements = each_mapped (IsValidElement (view_context c)) (ValidElement (view_context c)) view_element (λ e p. p) m.elements.items around.elements;
     segments = each_mapped (IsSegment (view_context c)) (ValidData (view_context c)) view_data (λ d p. p) m.segments.items around.segments;
     start = around.start;
     exports = each_mapped (IsExport (view_context c)) (λ e. Exported (view_context c) e.kind e.index) view_export (λ e p. p) m.exports.items around.exports;
@@ -129,13 +129,13 @@ module _ (m : Module) (g : Gathered) (c : Given) (outline : HasValidOutline m) (
     one_memory = few_mapped view_limits m.memories.items 1 outline.one_memory;
   }
 
-  pub is_sound : (ts : List Table) → IsAround m (view_context c) (map view_global_type (take g.imported_globals c.globals.now)) → Checked (view_context c) m.funcs.items (map view_body m.bodies.items) ts → IsSound (view_module m) ts
+  pub is_sound : (ts : List Table) → IsAround m (view_context c) (map view_global_type (take g.imported_globals c.globals.now)) → Checked (view_context c) m.funcs.items (map view_body m.bodies.items) ts → IsChecked (view_module m) ts
   is_sound ts around checked = record { context = view_context c; valid = is_valid ts around checked; fits = does_fit ts checked; checked = checked }
 
 -- the same of bodies that were checked, if they were; and if they were refused, the module isn't valid, or doesn't fit
 module _ {V : Type 0} (tables_of : V → List Table) (m : Module) (g : Gathered) (c : Given) (fs : List ℕ) (bs : List Body) (outline : HasValidOutline m) (gathered : IsGathered m g) (types : c.types.now ≡ m.types.items) (funcs : c.funcs.now ≡ g.indices.funcs.items)
     (tables : c.tables.now ≡ m.tables.items) (memories : c.memories.now ≡ m.memories.items) (globals : c.globals.now ≡ g.indices.globals.items) (ef : fs ≡ m.funcs.items) (eb : bs ≡ m.bodies.items) where
-  pub ok_turned : (r : Result V ValidError) → IsAround m (view_context c) (map view_global_type (take g.imported_globals c.globals.now)) → IfOk r (λ v. Checked (view_context c) fs (map view_body bs) (tables_of v)) → IfOk r (λ v. IsSound (view_module m) (tables_of v))
+  pub ok_turned : (r : Result V ValidError) → IsAround m (view_context c) (map view_global_type (take g.imported_globals c.globals.now)) → IfOk r (λ v. Checked (view_context c) fs (map view_body bs) (tables_of v)) → IfOk r (λ v. IsChecked (view_module m) (tables_of v))
   ok_turned (Ok v) around checked =
       is_sound m g c outline gathered types funcs tables memories globals (tables_of v) around
       (subst (λ w. Checked (view_context c) m.funcs.items (map view_body w) (tables_of v)) eb (subst (λ w. Checked (view_context c) w (map view_body bs) (tables_of v)) ef checked))

@@ -7,7 +7,7 @@ use Rattle.wh_model.specs.Typing.{Context}
 use Rattle.wh_validate.specs.Sizing.{IsTable}
 use Rattle.wh_syntax.specs.declared.module.Module.{Module}
 use Rattle.wh_syntax.specs.View.{view_import, view_type, view_table, view_limits, view_global_type, view_export}
-use Rattle.wh_validate.specs.Parts.{IsGlobal, IsExport, IsElement, IsSegment}
+use Rattle.wh_validate.specs.Parts.{IsGlobal, IsExport, IsValidElement, IsSegment}
 use Rattle.wh_validate.specs.declared.whole.Gathered.{Gathered}
 use Rattle.wh_validate.specs.Naming.{NamesType}
 
@@ -36,5 +36,5 @@ pub record IsAround (m : Module) (c : Context) (seen : List GlobalType) : Type 0
   pub exports : All (IsExport c) m.exports.items
   pub names : DifferentNames (map view_export m.exports.items)
   pub start : ValidStart c m.start
-  pub elements : All (IsElement c) m.elements.items
+  pub elements : All (IsValidElement c) m.elements.items
   pub segments : All (IsSegment c) m.segments.items

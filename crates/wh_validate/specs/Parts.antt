@@ -14,8 +14,8 @@ use Rattle.wh_syntax.specs.declared.module.Export.{Export}
 unfoldable pub IsGlobal : List model.GlobalType → Global → Type 0
 IsGlobal seen g = ConstantOf seen g.init g.global_type.value
 
-unfoldable pub IsElement : Context → Element → Type 0
-IsElement c e = ValidElement c (view_element e)
+unfoldable pub IsValidElement : Context → Element → Type 0
+IsValidElement c e = ValidElement c (view_element e)
 
 unfoldable pub IsSegment : Context → Data → Type 0
 IsSegment c d = ValidData c (view_data d)

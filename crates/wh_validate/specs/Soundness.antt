@@ -14,7 +14,7 @@ Checked c (x ∷ xs) bs ts = (b : Body) × (rest : List Body) × (f : FuncType) 
     × Checked c xs rest more
 
 -- the module is valid and fits in a context, and these are its bodies' tables there
-pub record IsSound (m : Module) (tables : List Table) : Type 0 where
+pub record IsChecked (m : Module) (tables : List Table) : Type 0 where
   pub context : Context
   pub valid : IsValidIn m context
   pub fits : FitsIn m context

@@ -32,17 +32,17 @@ pub fn check_bodies(
     requires same_count { length bodies.now ≡ length funcs.now }
     ensures checked { IfOk result
         (λ tables. Checked (view_context context.now) funcs.now (map view_body bodies.now)
-            (map view_side tables.items)) }
+        (map view_side tables.items)) }
     ensures complete { IfErr result
         (λ e. e.kind ≢ ValidKind.Memory
-            → ¬
-                (ValidBodies (view_context context.now) funcs.now (map view_body bodies.now)
-                    × FitBodies (view_context context.now) funcs.now
-                        (map view_body bodies.now))) }
+        → ¬
+        (ValidBodies (view_context context.now) funcs.now (map view_body bodies.now)
+        × FitBodies (view_context context.now) funcs.now
+        (map view_body bodies.now))) }
     ensures blames { IfErr result
         (λ e. e.kind ≢ ValidKind.Memory
-            → Blames (view_context context.now) imported funcs.now (map view_body bodies.now)
-                e.func e.instr e.kind) }
+        → Blames (view_context context.now) imported funcs.now (map view_body bodies.now)
+        e.func e.instr e.kind) }
 {
     let mut tables = Vec::new(alloc);
     for at in 0..funcs.len() {

@@ -68,7 +68,7 @@ fn check_global(
 ) -> Result<(), ValidKind>
     ensures decides { Decides result
         (slice_get (map view_global_type (take seen globals.now)) index
-            ≡ Some (record { value = wanted; mutability = Mutability.Const })) }
+        ≡ Some (record { value = wanted; mutability = Mutability.Const })) }
     ensures err { IfErr result (λ k. k ≢ ValidKind.Memory) }
 {
     let index = index as usize;

@@ -33,8 +33,11 @@ impl ValidError {
     /// A fault in the body of the function that stands so far behind the imported ones.
     pub fn in_body(imported: usize, at: usize, fault: BodyFault) -> ValidError
         ensures { result
-            ≡ record { func = Some (min (imported + at) (2 ^ 32 - 1)); instr = fault.instr;
-                kind = fault.kind } }
+            ≡ record {
+              func = Some (min (imported + at) (2 ^ 32 - 1));
+              instr = fault.instr;
+              kind = fault.kind;
+            } }
     {
         let func = u32::try_from(imported.saturating_add(at)).unwrap_or(u32::MAX);
         ValidError {

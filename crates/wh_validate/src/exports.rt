@@ -44,7 +44,7 @@ fn add_name<'a>(names: &mut BTreeMap<&'a str, ()>, name: &'a str) -> Result<(), 
         ((q : List ℕ) → has_name names.new q ≡ (bytes_eq name.now q || has_name names.old q)) }
     ensures err { IfErr result
         (λ k. k ≢ ValidKind.Memory
-            → (k ≡ ValidKind.DuplicateExport) × (has_name names.old name.now ≡ true)) }
+        → (k ≡ ValidKind.DuplicateExport) × (has_name names.old name.now ≡ true)) }
 {
     match names.insert(name, ()) {
         Ok(None) => Ok(()),
@@ -64,7 +64,7 @@ pub fn check_exports(
 ) -> Result<(), ValidKind>
     ensures decides { Decides result
         (All (IsExport (view_context context.now)) exports.now
-            × DifferentNames (map view_export exports.now)) }
+        × DifferentNames (map view_export exports.now)) }
 {
     let mut names = BTreeMap::new(alloc);
     for export in exports {

@@ -71,7 +71,7 @@ pub fn imported(alloc: Heap, types: &[FuncType], imports: &[Import]) -> Result<I
         (λ i. i.funcs.items ≡ imported_funcs (map view_import imports.now)) }
     ensures globals { IfOk result
         (λ i. map view_global_type i.globals.items
-            ≡ imported_globals (map view_import imports.now)) }
+        ≡ imported_globals (map view_import imports.now)) }
     ensures decides { Decides result (All (λ i. NamesType (length types.now) i) imports.now) }
     ensures err { IfErr result (λ k. k ≢ ValidKind.Memory → k ≡ ValidKind.Index) }
 {

@@ -8,7 +8,7 @@ ghost use Rattle.wh_model.specs.Heights.{no_type};
 ghost use Rattle.std.specs.Bool.{MatchBool};
 ghost use Rattle.wh_bodies.specs.Views.{view_context};
 ghost use Rattle.wh_validate.specs.Deciding.{Decides};
-ghost use Rattle.wh_validate.specs.Parts.{IsGlobal, IsElement, IsSegment};
+ghost use Rattle.wh_validate.specs.Parts.{IsGlobal, IsValidElement, IsSegment};
 
 use crate::constants::check_constant;
 use crate::indices::{check_index, check_indices};
@@ -34,9 +34,9 @@ fn check_global(global: &Global, globals: &[GlobalType], imported: usize) -> Res
 ///
 /// # Errors
 /// `Index` where it names another; else as `check_constant`'s.
-#[tactic(auto, unfolding(crate::specs::Parts::IsElement))]
+#[tactic(auto, unfolding(crate::specs::Parts::IsValidElement))]
 fn check_element(context: &Context<'_>, element: &Element) -> Result<(), ValidKind>
-    ensures decides { Decides result (IsElement (view_context context.now) element.now) }
+    ensures decides { Decides result (IsValidElement (view_context context.now) element.now) }
     ensures err { IfErr result (λ k. k ≢ ValidKind.Memory) }
 {
     check_index(context.tables, element.table)?;
@@ -91,7 +91,8 @@ pub fn check_globals(
 /// # Errors
 /// As `check_element`'s, of the first that isn't.
 pub fn check_elements(context: &Context<'_>, elements: &[Element]) -> Result<(), ValidKind>
-    ensures decides { Decides result (All (IsElement (view_context context.now)) elements.now) }
+    ensures decides { Decides result
+        (All (IsValidElement (view_context context.now)) elements.now) }
     ensures err { IfErr result (λ k. k ≢ ValidKind.Memory) }
 {
     for element in elements {

@@ -47,7 +47,7 @@ fn is_table(limits: Limits) -> bool
 pub fn check_memories(memories: &[Limits]) -> Result<(), ValidKind>
     ensures decides { Decides result
         ((length memories.now ≤ 1)
-            × All (λ l. WithinBound most_pages (view_limits l)) memories.now) }
+        × All (λ l. WithinBound most_pages (view_limits l)) memories.now) }
     ensures err { IfErr result (λ k. k ≡ ValidKind.Limits) }
 {
     match memories {

@@ -7,8 +7,8 @@ ghost use Rattle.wh_model.specs.Heights.{Fits};
 ghost use Rattle.wh_syntax.specs.View.{view_module, view_global_type};
 ghost use Rattle.wh_bodies.specs.Views.{view_context, view_side};
 ghost use Rattle.wh_validate.specs.Blaming.{BlamesRightly};
-ghost use Rattle.wh_validate.specs.Soundness.{IsSound};
-ghost use Rattle.wh_validate.specs.Validated.{Validated, stored_valid};
+ghost use Rattle.wh_validate.specs.Soundness.{IsChecked};
+ghost use Rattle.wh_validate.specs.Validated.{ValidModuleState, stored_valid};
 ghost use Rattle.wh_validate.specs.Gathering.{HasValidOutline, IsGathered, IsAround};
 ghost use Rattle.wh_validate.specs.Deciding.{Decides};
 
@@ -34,13 +34,13 @@ pub struct ValidModule {
 }
 
 impl Model for ValidModule {
-    ghost Value = { Validated };
+    ghost Value = { ValidModuleState };
 
     ghost coded = { stored_valid };
 
     ghost view = { λ v. record { decoded = v.decoded; tables = v.tables.items } };
 
-    ghost invariant = { λ v. IsSound (view_module v.decoded) (map view_side v.tables.items) };
+    ghost invariant = { λ v. IsChecked (view_module v.decoded) (map view_side v.tables.items) };
 }
 
 impl ValidModule {
@@ -48,7 +48,7 @@ impl ValidModule {
     pub fn module(&self) -> &Module
         ensures same { result.now ≡ self.now.decoded }
         // It is valid, it fits, and its bodies have their tables.
-        ensures sound { IsSound (view_module result.now) (map view_side self.now.tables) }
+        ensures sound { IsChecked (view_module result.now) (map view_side self.now.tables) }
     {
         &self.decoded
     }
@@ -100,7 +100,7 @@ fn check_around(
     requires named { AllByRecursion (λ x. x < length context.now.types.now) context.now.funcs.now }
     ensures decides { Decides result
         (IsAround decoded.now (view_context context.now)
-            (map view_global_type (take imported_globals context.now.globals.now))) }
+        (map view_global_type (take imported_globals context.now.globals.now))) }
 {
     check_globals(&decoded.globals, context.globals, imported_globals)?;
     check_exports(alloc, context, &decoded.exports)?;
@@ -112,13 +112,13 @@ fn check_around(
 /// Everything, and where the branches of each body lead.
 fn check_whole(alloc: Global, decoded: &Module) -> Result<Vec<SideTable>, ValidError>
     ensures sound { IfOk result
-        (λ tables. IsSound (view_module decoded.now) (map view_side tables.items)) }
+        (λ tables. IsChecked (view_module decoded.now) (map view_side tables.items)) }
     ensures complete { IfErr result
         (λ e. e.kind ≢ ValidKind.Memory
-            → ¬ (Valid (view_module decoded.now) × Fits (view_module decoded.now))) }
+        → ¬ (Valid (view_module decoded.now) × Fits (view_module decoded.now))) }
     ensures blames { IfErr result
         (λ e. e.kind ≢ ValidKind.Memory
-            → BlamesRightly (view_module decoded.now) e.func e.instr e.kind) }
+        → BlamesRightly (view_module decoded.now) e.func e.instr e.kind) }
 {
     let gathered = match gather(alloc, decoded) {
         Ok(gathered) => gathered,
@@ -160,12 +160,12 @@ pub fn validate(alloc: Global, decoded: Module) -> Result<ValidModule, ValidErro
     // Unless memory was refused, a module that is refused isn't valid, or passes a limit.
     ensures complete { IfErr result
         (λ e. e.kind ≢ ValidKind.Memory
-            → ¬ (Valid (view_module decoded) × Fits (view_module decoded))) }
+        → ¬ (Valid (view_module decoded) × Fits (view_module decoded))) }
     // A fault that names a function names one whose body isn't valid or passes a limit, and one of its instructions, and is
     // one that bodies have. Where a fault names no function, no bodies would make the module valid and within the limits.
     ensures blames { IfErr result
         (λ e. e.kind ≢ ValidKind.Memory
-            → BlamesRightly (view_module decoded) e.func e.instr e.kind) }
+        → BlamesRightly (view_module decoded) e.func e.instr e.kind) }
     // It is the module that was given.
     ensures same { IfOk result (λ v. v.decoded ≡ decoded) }
 {

@@ -3,7 +3,7 @@ use Rattle.std.specs.Bool.{MatchBool}
 use Rattle.wh_syntax.specs.declared.module.Module.{Module}
 use Rattle.wh_syntax.specs.View.{view_module}
 use Rattle.wh_bodies.specs.Views.{view_side}
-use Rattle.wh_validate.specs.Soundness.{IsSound}
+use Rattle.wh_validate.specs.Soundness.{IsChecked}
 use Rattle.wh_alone.specs.Alone.{Arguments}
 use Rattle.wh_alone.proofs.Callable.{refused_low, refused_high, type_there, calls_at}
 use Rattle.wh_alone.proofs.arguments.can_call.Goals as goal
@@ -29,7 +29,7 @@ pub func_type_at-func_type-requires : goal.func_type_at-func_type-requires
 func_type_at-func_type-requires c =
     let l = c.args.linked.now in
     let same = c.module-module.ensures.same in
-    let sound = subst (λ m. IsSound (view_module m) (map view_side l.valid.tables)) same c.module-module.ensures.sound in
+    let sound = subst (λ m. IsChecked (view_module m) (map view_side l.valid.tables)) same c.module-module.ensures.sound in
     let at = ap (λ (m : Module). slice_get m.funcs.items c.in-Some.place) (sym same) ∙ ap (λ xs. slice_get xs c.in-Some.place) (sym c.deref-2.ensures.value) ∙ c.index_at.ensures in
     let low = type_there l sound c.in-Some.place c.index_at.result at in
     let types = ap (λ (m : Module). length m.types.items) same in
@@ -40,7 +40,7 @@ pub returns : goal.returns
 returns c cx inst is =
     let l = c.args.linked.now in
     let same = c.module-module.ensures.same in
-    let sound = subst (λ m. IsSound (view_module m) (map view_side l.valid.tables)) same c.module-module.ensures.sound in
+    let sound = subst (λ m. IsChecked (view_module m) (map view_side l.valid.tables)) same c.module-module.ensures.sound in
     let at = ap (λ (m : Module). slice_get m.funcs.items c.in-Some.place) (sym same) ∙ ap (λ xs. slice_get xs c.in-Some.place) (sym c.deref-2.ensures.value) ∙ c.index_at.ensures in
     let typed = ap (λ (m : Module). slice_get m.types.items c.index_at.result) (sym same) ∙ ap (λ xs. slice_get xs c.index_at.result) (sym c.deref.ensures.value) ∙ c.func_type_at-func_type.ensures in
     let high = c.in-Some.ensures.0 in

@@ -1,6 +1,6 @@
 use Rattle.std.proofs.Common.{◌+◌, ◌≤◌, length, drop, sym, ap, subst, ◌∙◌}
 use Rattle.wh_model.specs.Store.{written}
-use Rattle.wh_flatmem.specs.Flat.{Flat}
+use Rattle.wh_flatmem.specs.Flat.{FlatMemoryState}
 use Rattle.wh_alone.specs.Alone.{written_over}
 use Rattle.wh_alone.proofs.Pieces.{piece_fits, piece_written, length_same}
 use Rattle.wh_alone.proofs.segments.write_segments.Goals as goal
@@ -20,10 +20,10 @@ loop-at-preserved c =
     let fits = piece_fits c.args.memory.now.bytes now r.0 c.args.places.now c.args.segments.now c.loop-at.at place d r.1 r.2 c.loop-at.invariant.size c.place_at.ensures c.segment_at-segment.ensures in
     record {
       bytes = λ ps pieces within.
-          ap (λ (m : Flat). written_over m.bytes (drop (c.loop-at.at + 1) ps)) c.write.ensures
+          ap (λ (m : FlatMemoryState). written_over m.bytes (drop (c.loop-at.at + 1) ps)) c.write.ensures
           ∙ ap (λ bs. written_over (written now place bs) (drop (c.loop-at.at + 1) ps)) c.as_slice.ensures.value
           ∙ piece_written now ps c.args.places.now c.args.segments.now c.loop-at.at place d pieces c.place_at.ensures c.segment_at-segment.ensures
           ∙ c.loop-at.invariant.bytes ps pieces within;
-      size = ap (λ (m : Flat). length m.bytes) c.write.ensures ∙ ap (λ bs. length (written now place bs)) c.as_slice.ensures.value ∙ length_same now place d.init.items fits ∙ c.loop-at.invariant.size;
-      limit = ap (λ (m : Flat). m.limit) c.write.ensures ∙ c.loop-at.invariant.limit;
+      size = ap (λ (m : FlatMemoryState). length m.bytes) c.write.ensures ∙ ap (λ bs. length (written now place bs)) c.as_slice.ensures.value ∙ length_same now place d.init.items fits ∙ c.loop-at.invariant.size;
+      limit = ap (λ (m : FlatMemoryState). m.limit) c.write.ensures ∙ c.loop-at.invariant.limit;
     }

@@ -1,7 +1,7 @@
 use Rattle.std.proofs.Common.{rules, ◌≡◌, ◌<◌, length, slice_index_or, map, subst, sym}
 use Rattle.wh_model.specs.Linking.{ImportsItem, LacksItem}
 use Rattle.wh_syntax.specs.View.{view_type, view_import, view_module}
-use Rattle.wh_imports.specs.Refusing.{Refuses}
+use Rattle.wh_imports.specs.Refusing.{RefusesLink}
 use Rattle.wh_imports.proofs.ResolvingLemmas.{stands_at, refuses, has_more, resolved_more}
 use Rattle.wh_imports.proofs.linked.resolve.Goals as goal
 
@@ -14,7 +14,7 @@ returns-in-Err-clause-err c =
     let at : x ≡ slice_index_or imports c.loop-at.at x = search rules in
     let fault = c.in-Err.ensures.err in
     let lacks = subst (λ ts. LacksItem (map view_type ts) (view_import x) fault.0) c.deref.ensures.value fault.1 in
-    subst (Refuses m) (sym fault.2) (refuses m (view_import x) fault.0 c.loop-at.at (stands_at view_import imports c.loop-at.at x lt at) lacks c.loop-at.invariant.has)
+    subst (RefusesLink m) (sym fault.2) (refuses m (view_import x) fault.0 c.loop-at.at (stands_at view_import imports c.loop-at.at x lt at) lacks c.loop-at.invariant.has)
 
 pub loop-at-preserved : goal.loop-at-preserved
 loop-at-preserved c =

@@ -6,7 +6,7 @@ use Rattle.wh_machine.proofs.Seeing.{host_looks}
 use Rattle.wh_machine.proofs.Finding.{own_asks_nothing, before_call}
 use Rattle.wh_machine.proofs.Hosted.{has_operands}
 use Rattle.wh_machine.proofs.OwnCalls.{own_named}
-use Rattle.wh_machine.proofs.Turning.{here}
+use Rattle.wh_machine.proofs.ExecutingLemmas.{here}
 use Rattle.wh_machine.proofs.asking.asks_call.Goals as goal
 
 pub returns-then-index-program : goal.returns-then-index-program

@@ -5,20 +5,20 @@ use Rattle.wh_control.proofs.Constructs.{at_now}
 use Rattle.wh_machine.specs.declared.calling.Element.{Element}
 use Rattle.wh_machine.specs.declared.calling.Element.TheVariants.{Func}
 use Rattle.wh_machine.specs.declared.machine.Stack.{Stack}
-use Rattle.wh_machine.specs.Entering.{IsElement}
+use Rattle.wh_machine.specs.Entering.{HasElement}
 use Rattle.wh_machine.specs.Looking.{Looks}
 use Rattle.wh_machine.specs.Program.{parts_in}
-use Rattle.wh_machine.specs.Turns.{IsReady}
+use Rattle.wh_machine.specs.Executing.{IsReady}
 use Rattle.wh_machine.proofs.Seeing.{host_looks, index_there, unnamed_asks_nothing, own_entry_asks_nothing, mistyped_asks_nothing, no_entry}
 use Rattle.wh_machine.proofs.Finding.{before_indirect, back}
 use Rattle.wh_machine.proofs.Hosted.{has_operands}
 use Rattle.wh_machine.proofs.OwnCalls.{wanted_there}
-use Rattle.wh_machine.proofs.Turning.{here}
+use Rattle.wh_machine.proofs.ExecutingLemmas.{here}
 use Rattle.wh_machine.proofs.asking.asks_call_indirect.Goals as goal
 
 -- the function that the table names at the topmost word
-named : {table seen : List (Option ℕ)} {w top x : ℕ} (e : Element) → top ≡ w → seen ≡ table → IsElement seen top e → e ≡ Func x → slice_get table w ≡ Some (Some x)
-named {table} {seen} {w} {top} {x} e is same at func = ap (slice_get table) (sym is) ∙ ap (λ t. slice_get t top) (sym same) ∙ subst (IsElement seen top) func at
+named : {table seen : List (Option ℕ)} {w top x : ℕ} (e : Element) → top ≡ w → seen ≡ table → HasElement seen top e → e ≡ Func x → slice_get table w ≡ Some (Some x)
+named {table} {seen} {w} {top} {x} e is same at func = ap (slice_get table) (sym is) ∙ ap (λ t. slice_get t top) (sym same) ∙ subst (HasElement seen top) func at
 
 pub top-requires : goal.top-requires
 top-requires g c = let l = ap length (index_there c.args.type_index c.requires.1).2 in omega (arith, l)

@@ -7,11 +7,11 @@ use Rattle.wh_control.specs.Parts.{funcs_in}
 use Rattle.wh_machine.specs.Program.{parts_in}
 use Rattle.wh_machine.specs.declared.machine.Stack.{Stack}
 use Rattle.wh_machine.specs.Entering.{pushed}
-use Rattle.wh_machine.specs.Turns.{calls_of, Turned}
+use Rattle.wh_machine.specs.Executing.{calls_of, IsExec}
 use Rattle.wh_machine.proofs.Finding.{rests_here, before_indirect, host_found}
 use Rattle.wh_machine.proofs.Hosted.{has_operands, host_turned, host_waits, host_wants}
 use Rattle.wh_machine.proofs.OwnCalls.{table_named, wanted_there}
-use Rattle.wh_machine.proofs.Turning.{here, place_fits, words_fit}
+use Rattle.wh_machine.proofs.ExecutingLemmas.{here, place_fits, words_fit}
 use Rattle.wh_machine.proofs.calling.host_by_table.Goals as goal
 
 -- the index is put back on the words that it was taken from
@@ -120,7 +120,7 @@ returns-in_default g c = record {
       let y = c.args.type_index in
       let flat = g.M.LinearMem.bytes c.args.memory.now in
       let most = g.M.LinearMem.limit c.args.memory.now in
-      subst (λ b. Turned p (g.M.LinearMem.ready c.args.memory.now) (pushed m w) k flat most c.call_host.result c.call_host.new.stack c.call_host.new.store b) (sym c.call_host.ensures.bytes)
+      subst (λ b. IsExec p (g.M.LinearMem.ready c.args.memory.now) (pushed m w) k flat most c.call_host.result c.call_host.new.stack c.call_host.new.store b) (sym c.call_host.ensures.bytes)
       (host_turned c.args.func c.call_host.result p (g.M.LinearMem.ready c.args.memory.now) (pushed m w) k flat most (call_indirect y) m.words c.call_host.new.stack c.call_host.new.store r.sound
       (before_indirect p m code k flat most w x y c.args.func r entry at c.if-not-host_has_type.ensures) c.call_host.ensures.turned c.in_default.not-NotReady);
   found =

@@ -1,16 +1,16 @@
 use Rattle.std.proofs.Common.{◌+◌, ℕ, sym, ap, subst, ◌∙◌, length, slice_get, refl}
 use Rattle.wh_model.specs.Syntax.{call_indirect}
 use Rattle.wh_model.specs.Store.{own}
-use Rattle.wh_control.specs.Represents.{Represents}
+use Rattle.wh_control.specs.Represents.{RepresentsCalls}
 use Rattle.wh_control.specs.Moves.{entered}
 use Rattle.wh_control.proofs.Constructs.{at_now}
 use Rattle.wh_control.proofs.Calling.{own_at, indirect_stops, indirect_next, indirect_room}
 use Rattle.wh_control.specs.Parts.{funcs_in}
 use Rattle.wh_machine.specs.Program.{parts_in}
 use Rattle.wh_machine.specs.Entering.{pushed}
-use Rattle.wh_machine.specs.Turns.{calls_of}
+use Rattle.wh_machine.specs.Executing.{calls_of}
 use Rattle.wh_machine.proofs.OwnCalls.{entered_room, table_named, table_own, wanted_there}
-use Rattle.wh_machine.proofs.Turning.{here, place_fits, one_step, room_after}
+use Rattle.wh_machine.proofs.ExecutingLemmas.{here, place_fits, one_step, room_after}
 use Rattle.wh_machine.proofs.calling.own_by_table.Goals as goal
 
 pub own_has_type-requires-clause-wanted : goal.own_has_type-requires-clause-wanted
@@ -90,7 +90,7 @@ returns-then-enter_own c code k flat most w r entry =
       (λ cx inst out s a ws st.
           let next = (indirect_next cx inst p.hosts (funcs_in p) out (calls_of pm) s m.frame a ws st.instance.program st.running y x c.args.func g.0 (here r) w m.words refl (table_named st w x entry) refl g.1
           (ap (λ ts. slice_get ts y) st.instance.types ∙ c.if-not-own_has_type.ensures g.0 g.1)).0 e.0 in
-          (s, next.0, one_step 1 next.1, subst (λ z. Represents cx (funcs_in p) out z s next.0) (sym (e.1 g.0 g.1)) next.2, st.store)),
+          (s, next.0, one_step 1 next.1, subst (λ z. RepresentsCalls cx (funcs_in p) out z s next.0) (sym (e.1 g.0 g.1)) next.2, st.store)),
       λ z. cc,
     )
 

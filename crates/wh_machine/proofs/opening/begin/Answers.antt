@@ -1,6 +1,6 @@
 use Rattle.std.proofs.Common.{◌-◌, refl, sym, subst, arith, length}
 use Rattle.wh_machine.specs.Program.{parts_in}
-use Rattle.wh_machine.specs.Opening.{CanBegin, Begins}
+use Rattle.wh_machine.specs.Opening.{CanBegin, BeginsCall}
 use Rattle.wh_machine.specs.Runs.{IsSettledIn}
 use Rattle.wh_machine.proofs.Reaching.{func_now}
 use Rattle.wh_machine.proofs.Running.{running_with}
@@ -52,7 +52,7 @@ returns-clause-begun c =
     let q = parts_in c.program_of-program.result in
     let m = running_with c.settle-machine-inside.new.stack c.settle-machine-inside.result in
     let opens = opens_with q c.args.func c.args.args.now c.open.new.stack (c.args.func - length q.hosts) refl c.open.ensures in
-    subst (λ z. Begins z c.args.func c.args.args.now m) c.program_of-program.ensures.parts
+    subst (λ z. BeginsCall z c.args.func c.args.args.now m) c.program_of-program.ensures.parts
     (begins_so q c.args.func c.args.args.now c.open.new.stack c.settle-machine-inside.new.stack c.settle-machine-inside.result opens c.settle-machine-inside.ensures)
 
 pub returns-clause-settled : goal.returns-clause-settled

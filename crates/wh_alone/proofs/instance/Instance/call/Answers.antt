@@ -4,7 +4,7 @@ use Rattle.wh_syntax.specs.declared.module.Module.{Module}
 use Rattle.wh_alone.specs.declared.outcome.Stage.{Stage}
 use Rattle.wh_alone.specs.declared.outcome.Stage.TheVariants.{Fresh, Starting, Idle, Calling, Dead}
 use Rattle.wh_alone.specs.Kept.{Kept}
-use Rattle.wh_alone.specs.Journal.{Plain, IsSomewhere, GoesOn, Called, GivenUp}
+use Rattle.wh_alone.specs.Journal.{InstanceState, IsSomewhere, GoesOnWith, CallEnds, GivenUp}
 use Rattle.wh_alone.specs.Stages.{IsOpen, IsNoCall}
 use Rattle.wh_model.specs.Replay.{store_at}
 use Rattle.wh_alone.specs.Stages.{after_call}
@@ -15,7 +15,7 @@ use Rattle.wh_alone.proofs.instance.Instance.call.Goals as goal
 pub returns-then-not-can_call-clause-err : goal.returns-then-not-can_call-clause-err
 returns-then-not-can_call-clause-err c =
     let k : Kept = record { linked = c.self.inside.linked; store = c.self.inside.store; memory = c.self.inside.memory; machine = c.self.inside.machine } in
-    ((ap (λ (i : Plain). i.stage) (sym c.self.view_is) ∙ c.in-Idle.is, subst (λ (i : Plain). IsNoCall i.kept c.args.func c.args.args.now) c.self.view_is (λ cx inst is h. c.if-not-can_call.ensures cx inst is h)), refl)
+    ((ap (λ (i : InstanceState). i.stage) (sym c.self.view_is) ∙ c.in-Idle.is, subst (λ (i : InstanceState). IsNoCall i.kept c.args.func c.args.args.now) c.self.view_is (λ cx inst is h. c.if-not-can_call.ensures cx inst is h)), refl)
 
 pub call-outcome-requires : goal.call-outcome-requires
 call-outcome-requires c =
@@ -38,5 +38,5 @@ returns-clause-ok c =
     let k2 : Kept = record { linked = c.self.inside.linked; store = c.call-outcome.new.store; memory = c.call-outcome.new.memory; machine = c.call-outcome.new.machine } in
     let r = c.call-outcome.result in
     let called = call_comes k k2 c.args.func c.args.args.now c.args.fuel r.1 r.0 refl (λ cx inst is. c.if-not-can_call.ensures cx inst is) c.call-outcome.ensures in
-    subst (λ (i : Plain). Called i c.args.func c.args.args.now c.args.fuel r.0 r.1 (record_of k2 c.stage_after_call-self-inside.result)) (at_stage k c.self.inside.stage Idle c.args.self.now c.in-Idle.is c.self.view_is)
-    (subst (λ s. Called (record_of k Idle) c.args.func c.args.args.now c.args.fuel r.0 r.1 (record_of k2 s)) (sym c.stage_after_call-self-inside.ensures) called)
+    subst (λ (i : InstanceState). CallEnds i c.args.func c.args.args.now c.args.fuel r.0 r.1 (record_of k2 c.stage_after_call-self-inside.result)) (at_stage k c.self.inside.stage Idle c.args.self.now c.in-Idle.is c.self.view_is)
+    (subst (λ s. CallEnds (record_of k Idle) c.args.func c.args.args.now c.args.fuel r.0 r.1 (record_of k2 s)) (sym c.stage_after_call-self-inside.ensures) called)

@@ -4,7 +4,7 @@ use Rattle.wh_syntax.specs.declared.module.Module.{Module}
 use Rattle.wh_alone.specs.declared.outcome.Stage.{Stage}
 use Rattle.wh_alone.specs.declared.outcome.Stage.TheVariants.{Fresh, Starting, Idle, Calling, Dead}
 use Rattle.wh_alone.specs.Kept.{Kept}
-use Rattle.wh_alone.specs.Journal.{Plain, IsSomewhere, GoesOn, Called, GivenUp}
+use Rattle.wh_alone.specs.Journal.{InstanceState, IsSomewhere, GoesOnWith, CallEnds, GivenUp}
 use Rattle.wh_alone.specs.Stages.{IsOpen, IsNoCall}
 use Rattle.wh_alone.proofs.Moving.{fresh_up, starting_up, calling_up, somewhere_up}
 use Rattle.wh_alone.proofs.Present.{record_of, at_stage}
@@ -26,12 +26,12 @@ invariant_of-self-in-Calling c =
 pub returns-in-Calling-clause-some : goal.returns-in-Calling-clause-some
 returns-in-Calling-clause-some c e =
     let k : Kept = record { linked = c.self.inside.linked; store = c.self.inside.store; memory = c.self.inside.memory; machine = c.self.inside.machine } in
-    subst (λ (i : Plain). IsOpen i.stage × GivenUp i (record_of k Idle)) (at_stage k c.self.inside.stage Calling c.args.self.now c.in-Calling.is c.self.view_is) (tt, calling_up k)
+    subst (λ (i : InstanceState). IsOpen i.stage × GivenUp i (record_of k Idle)) (at_stage k c.self.inside.stage Calling c.args.self.now c.in-Calling.is c.self.view_is) (tt, calling_up k)
 
 pub returns-in-Fresh-clause-some : goal.returns-in-Fresh-clause-some
 returns-in-Fresh-clause-some c true_is =
     let k : Kept = record { linked = c.self.inside.linked; store = c.self.inside.store; memory = c.self.inside.memory; machine = c.self.inside.machine } in
     ⊎_elim
-    (λ e. subst (λ (i : Plain). IsOpen i.stage × GivenUp i (record_of k Dead)) (at_stage k c.self.inside.stage Fresh c.args.self.now e c.self.view_is) (tt, fresh_up k))
-    (λ e. subst (λ (i : Plain). IsOpen i.stage × GivenUp i (record_of k Dead)) (at_stage k c.self.inside.stage Starting c.args.self.now e c.self.view_is) (tt, starting_up k))
+    (λ e. subst (λ (i : InstanceState). IsOpen i.stage × GivenUp i (record_of k Dead)) (at_stage k c.self.inside.stage Fresh c.args.self.now e c.self.view_is) (tt, fresh_up k))
+    (λ e. subst (λ (i : InstanceState). IsOpen i.stage × GivenUp i (record_of k Dead)) (at_stage k c.self.inside.stage Starting c.args.self.now e c.self.view_is) (tt, starting_up k))
     c.in-Fresh.is

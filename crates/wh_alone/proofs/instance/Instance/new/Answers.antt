@@ -4,13 +4,13 @@ use Rattle.wh_model.specs.Replay.{with_pieces}
 use Rattle.wh_syntax.specs.declared.module.Module.{Module}
 use Rattle.wh_syntax.specs.View.{view_module}
 use Rattle.wh_bodies.specs.Views.{view_side}
-use Rattle.wh_validate.specs.Soundness.{IsSound}
+use Rattle.wh_validate.specs.Soundness.{IsChecked}
 use Rattle.wh_imports.specs.Resolving.{IsResolved}
 use Rattle.wh_initial.specs.Given.{view_parameters}
 use Rattle.wh_initial.specs.Begins.{first_store}
-use Rattle.wh_machine.specs.Runs.{linked_parts, StoreStands}
+use Rattle.wh_machine.specs.Runs.{linked_parts, RepresentsInstance}
 use Rattle.wh_alone.specs.Kept.{Kept}
-use Rattle.wh_alone.specs.Journal.{IsAt}
+use Rattle.wh_alone.specs.Journal.{IsAtStanding}
 use Rattle.wh_alone.specs.Beginnings.{IsFresh}
 use Rattle.wh_alone.proofs.Present.{record_of}
 use Rattle.wh_alone.proofs.Fresh.{begun_at}
@@ -32,7 +32,7 @@ invariant_of-result c =
     let p = view_parameters c.args.parameters in
     let b = c.in-Ok.ensures.ok in
     let same = c.module.ensures.same in
-    let sound = subst (λ m. IsSound (view_module m) (map view_side l.valid.tables)) same c.module.ensures.sound in
+    let sound = subst (λ m. IsChecked (view_module m) (map view_side l.valid.tables)) same c.module.ensures.sound in
     let resolved = subst (λ m. IsResolved (view_module m) l.funcs l.globals) same c.module.ensures.resolved in
     let flat = c.in-Ok-new-2.memory.bytes in
     let flat2 = c.write_segments.new.memory.bytes in
@@ -40,7 +40,7 @@ invariant_of-result c =
     let written = c.write_segments.ensures.bytes b.segments ready.0 ready.1 in
     let limit = c.write_segments.ensures.limit ∙ c.in-Ok-new-2.ensures.limit in
     let first = first_store (view_module l.valid.decoded) p b.globals b.elements in
-    let around = subst (λ n. StoreStands (linked_parts l) c.in-Ok.begun.store flat2 n sound.context b.inst (with_pieces first (fragments b.segments))) (sym limit) (stands_written l sound resolved p c.in-Ok.begun b flat flat2 c.in-Ok-new-2.ensures.bytes written) in
+    let around = subst (λ n. RepresentsInstance (linked_parts l) c.in-Ok.begun.store flat2 n sound.context b.inst (with_pieces first (fragments b.segments))) (sym limit) (stands_written l sound resolved p c.in-Ok.begun b flat flat2 c.in-Ok-new-2.ensures.bytes written) in
     let k : Kept = record { linked = l; store = c.in-Ok.begun.store; memory = c.write_segments.new.memory; machine = c.in-Ok-new.machine } in
     let base : p.base < 2 ^ 32 = search rules in
     let salt : p.salt < 2 ^ 64 = search rules in
@@ -48,7 +48,7 @@ invariant_of-result c =
     let start = c.module-2.result.now.start in
     let x = begun_at k (view_module l.valid.decoded) p b.inst first (fragments b.segments) start refl given b.is_initial (sound.context, around) (ap (λ (m : Module). m.start) (sym c.module-2.ensures.same))
     (λ y e. start_called (view_module l.valid.decoded) (linked_parts l) sound.context b.inst y sound.valid around.instance (ap (λ (m : Module). m.start) (sym c.module-2.ensures.same) ∙ e)) in
-    let is_at = subst (λ s. IsAt (record_of k s) (view_module l.valid.decoded) p x.ended x.current x.z) (sym c.first_stage-stage.ensures) x.is_at in
+    let is_at = subst (λ s. IsAtStanding (record_of k s) (view_module l.valid.decoded) p x.ended x.current x.z) (sym c.first_stage-stage.ensures) x.is_at in
     record { m = view_module l.valid.decoded; p = p; ended = x.ended; current = x.current; z = x.z; is_at = is_at }
 
 pub returns-clause-ok : goal.returns-clause-ok
@@ -57,7 +57,7 @@ returns-clause-ok c =
     let p = view_parameters c.args.parameters in
     let b = c.in-Ok.ensures.ok in
     let same = c.module.ensures.same in
-    let sound = subst (λ m. IsSound (view_module m) (map view_side l.valid.tables)) same c.module.ensures.sound in
+    let sound = subst (λ m. IsChecked (view_module m) (map view_side l.valid.tables)) same c.module.ensures.sound in
     let resolved = subst (λ m. IsResolved (view_module m) l.funcs l.globals) same c.module.ensures.resolved in
     let flat = c.in-Ok-new-2.memory.bytes in
     let flat2 = c.write_segments.new.memory.bytes in
@@ -65,7 +65,7 @@ returns-clause-ok c =
     let written = c.write_segments.ensures.bytes b.segments ready.0 ready.1 in
     let limit = c.write_segments.ensures.limit ∙ c.in-Ok-new-2.ensures.limit in
     let first = first_store (view_module l.valid.decoded) p b.globals b.elements in
-    let around = subst (λ n. StoreStands (linked_parts l) c.in-Ok.begun.store flat2 n sound.context b.inst (with_pieces first (fragments b.segments))) (sym limit) (stands_written l sound resolved p c.in-Ok.begun b flat flat2 c.in-Ok-new-2.ensures.bytes written) in
+    let around = subst (λ n. RepresentsInstance (linked_parts l) c.in-Ok.begun.store flat2 n sound.context b.inst (with_pieces first (fragments b.segments))) (sym limit) (stands_written l sound resolved p c.in-Ok.begun b flat flat2 c.in-Ok-new-2.ensures.bytes written) in
     let k : Kept = record { linked = l; store = c.in-Ok.begun.store; memory = c.write_segments.new.memory; machine = c.in-Ok-new.machine } in
     let base : p.base < 2 ^ 32 = search rules in
     let salt : p.salt < 2 ^ 64 = search rules in
@@ -73,5 +73,5 @@ returns-clause-ok c =
     let start = c.module-2.result.now.start in
     let x = begun_at k (view_module l.valid.decoded) p b.inst first (fragments b.segments) start refl given b.is_initial (sound.context, around) (ap (λ (m : Module). m.start) (sym c.module-2.ensures.same))
     (λ y e. start_called (view_module l.valid.decoded) (linked_parts l) sound.context b.inst y sound.valid around.instance (ap (λ (m : Module). m.start) (sym c.module-2.ensures.same) ∙ e)) in
-    let is_at = subst (λ s. IsAt (record_of k s) (view_module l.valid.decoded) p x.ended x.current x.z) (sym c.first_stage-stage.ensures) x.is_at in
+    let is_at = subst (λ s. IsAtStanding (record_of k s) (view_module l.valid.decoded) p x.ended x.current x.z) (sym c.first_stage-stage.ensures) x.is_at in
     record { m = view_module l.valid.decoded; accepted = c.in_ok-linked.ensures.ok; ended = x.ended; current = x.current; z = x.z; is_at = is_at; fresh = subst (λ s. IsFresh s x.ended x.current) (ap (λ (m : Module). m.start) c.module-2.ensures.same) x.fresh }

@@ -4,7 +4,7 @@ use Rattle.wh_syntax.specs.declared.module.Module.{Module}
 use Rattle.wh_alone.specs.declared.outcome.Stage.{Stage}
 use Rattle.wh_alone.specs.declared.outcome.Stage.TheVariants.{Fresh, Starting, Idle, Calling, Dead}
 use Rattle.wh_alone.specs.Kept.{Kept}
-use Rattle.wh_alone.specs.Journal.{Plain, IsSomewhere, GoesOn, Called, GivenUp}
+use Rattle.wh_alone.specs.Journal.{InstanceState, IsSomewhere, GoesOnWith, CallEnds, GivenUp}
 use Rattle.wh_alone.specs.Stages.{IsOpen, IsNoCall}
 use Rattle.wh_alone.specs.Stages.{after_start, after_call}
 use Rattle.wh_alone.proofs.Moving.{start_comes, starting_on, calling_on, somewhere_on}
@@ -44,8 +44,8 @@ returns-in-Some-clause-some c =
     let k : Kept = record { linked = c.self.inside.linked; store = c.self.inside.store; memory = c.self.inside.memory; machine = c.self.inside.machine } in
     let k2 : Kept = record { linked = c.self.inside.linked; store = c.call-outcome.new.store; memory = c.call-outcome.new.memory; machine = c.call-outcome.new.machine } in
     let r = c.call-outcome.result in
-    subst (λ (i : Plain). IsOpen i.stage × GoesOn i c.args.fuel r.0 r.1 (record_of k2 c.stage_after_start-self-inside.result)) (at_stage k c.self.inside.stage Fresh c.args.self.now c.in-Fresh.is c.self.view_is)
-    (tt, subst (λ s. GoesOn (record_of k Fresh) c.args.fuel r.0 r.1 (record_of k2 s)) (sym c.stage_after_start-self-inside.ensures) (start_comes k k2 c.in-Some.func c.args.fuel r.1 r.0 refl (ap (λ (m : Module). m.start) (sym c.module.ensures.same) ∙ c.in-Some.is) c.call-outcome.ensures))
+    subst (λ (i : InstanceState). IsOpen i.stage × GoesOnWith i c.args.fuel r.0 r.1 (record_of k2 c.stage_after_start-self-inside.result)) (at_stage k c.self.inside.stage Fresh c.args.self.now c.in-Fresh.is c.self.view_is)
+    (tt, subst (λ s. GoesOnWith (record_of k Fresh) c.args.fuel r.0 r.1 (record_of k2 s)) (sym c.stage_after_start-self-inside.ensures) (start_comes k k2 c.in-Some.func c.args.fuel r.1 r.0 refl (ap (λ (m : Module). m.start) (sym c.module.ensures.same) ∙ c.in-Some.is) c.call-outcome.ensures))
 
 pub invariant_of-self-in-Starting : goal.invariant_of-self-in-Starting
 invariant_of-self-in-Starting c =
@@ -60,8 +60,8 @@ returns-in-Starting-clause-some c =
     let k : Kept = record { linked = c.self.inside.linked; store = c.self.inside.store; memory = c.self.inside.memory; machine = c.self.inside.machine } in
     let k2 : Kept = record { linked = c.self.inside.linked; store = c.run_on-outcome.new.store; memory = c.run_on-outcome.new.memory; machine = c.run_on-outcome.new.machine } in
     let r = c.run_on-outcome.result in
-    subst (λ (i : Plain). IsOpen i.stage × GoesOn i c.args.fuel r.0 r.1 (record_of k2 c.stage_after_start-self-inside-in-Starting.result)) (at_stage k c.self.inside.stage Starting c.args.self.now c.in-Starting.is c.self.view_is)
-    (tt, subst (λ s. GoesOn (record_of k Starting) c.args.fuel r.0 r.1 (record_of k2 s)) (sym c.stage_after_start-self-inside-in-Starting.ensures) (starting_on k k2 c.args.fuel r.1 r.0 refl c.run_on-outcome.ensures))
+    subst (λ (i : InstanceState). IsOpen i.stage × GoesOnWith i c.args.fuel r.0 r.1 (record_of k2 c.stage_after_start-self-inside-in-Starting.result)) (at_stage k c.self.inside.stage Starting c.args.self.now c.in-Starting.is c.self.view_is)
+    (tt, subst (λ s. GoesOnWith (record_of k Starting) c.args.fuel r.0 r.1 (record_of k2 s)) (sym c.stage_after_start-self-inside-in-Starting.ensures) (starting_on k k2 c.args.fuel r.1 r.0 refl c.run_on-outcome.ensures))
 
 pub invariant_of-self-in-Calling : goal.invariant_of-self-in-Calling
 invariant_of-self-in-Calling c =
@@ -76,5 +76,5 @@ returns-in-Calling-clause-some c =
     let k : Kept = record { linked = c.self.inside.linked; store = c.self.inside.store; memory = c.self.inside.memory; machine = c.self.inside.machine } in
     let k2 : Kept = record { linked = c.self.inside.linked; store = c.run_on-outcome-in-Calling.new.store; memory = c.run_on-outcome-in-Calling.new.memory; machine = c.run_on-outcome-in-Calling.new.machine } in
     let r = c.run_on-outcome-in-Calling.result in
-    subst (λ (i : Plain). IsOpen i.stage × GoesOn i c.args.fuel r.0 r.1 (record_of k2 c.stage_after_call-self-inside.result)) (at_stage k c.self.inside.stage Calling c.args.self.now c.in-Calling.is c.self.view_is)
-    (tt, subst (λ s. GoesOn (record_of k Calling) c.args.fuel r.0 r.1 (record_of k2 s)) (sym c.stage_after_call-self-inside.ensures) (calling_on k k2 c.args.fuel r.1 r.0 refl c.run_on-outcome-in-Calling.ensures))
+    subst (λ (i : InstanceState). IsOpen i.stage × GoesOnWith i c.args.fuel r.0 r.1 (record_of k2 c.stage_after_call-self-inside.result)) (at_stage k c.self.inside.stage Calling c.args.self.now c.in-Calling.is c.self.view_is)
+    (tt, subst (λ s. GoesOnWith (record_of k Calling) c.args.fuel r.0 r.1 (record_of k2 s)) (sym c.stage_after_call-self-inside.ensures) (calling_on k k2 c.args.fuel r.1 r.0 refl c.run_on-outcome-in-Calling.ensures))
