@@ -13,6 +13,6 @@ mod instance;
 mod outcome;
 mod segments;
 
-pub use alone::call_alone;
+pub use alone::call_module;
 pub use instance::Instance;
-pub use outcome::{Alone, CallError, Outcome, Refused, Stage};
+pub use outcome::{CallError, CallResult, Outcome, Refused, Stage};

@@ -42,7 +42,7 @@ beneath_all floor os h = drop_none (length os - floor) os (omega arith)
 pub record Stays (k n : Known) : Type 0 where
   pub floor : n.floor ≡ k.floor
   pub within : n.floor ≤ length n.types
-  pub known_beneath : known_beneath n.floor n.types ≡ known_beneath k.floor k.types
+  pub beneath : known_beneath n.floor n.types ≡ known_beneath k.floor k.types
   pub small : length k.types ≤ 256 → length n.types ≤ 256
 
 pub stay : (k : Known) → k.floor ≤ length k.types → Stays k k

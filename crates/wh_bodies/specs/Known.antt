@@ -24,7 +24,7 @@ known o = record { types = reverse o.types.items; floor = o.floor; dead = o.dead
 abbrev pub above : ℕ → List (Option ValType) → List (Option ValType)
 above floor types = take (length types - floor) types
 
--- and those known_beneath it
+-- and those beneath it
 abbrev pub known_beneath : ℕ → List (Option ValType) → List (Option ValType)
 known_beneath floor types = drop (length types - floor) types
 

@@ -19,4 +19,4 @@ mod table;
 pub use body::check_body;
 pub use context::Context;
 pub use fault::BodyFault;
-pub use table::{Entry, SideTable};
+pub use table::{BranchEntry, SideTable};

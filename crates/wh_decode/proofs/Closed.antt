@@ -1,4 +1,4 @@
--- A window that is closed_window, seen by a view of what was read in it.
+-- A window that is closed, seen by a view of what was read in it.
 use Rattle.std.proofs.Common.{◌≡◌, ℕ, Bool, true, false, cond, Result, Ok, Err, refl, ap}
 use Rattle.std.specs.Prelude.{◌==◌}
 use Rattle.wh_model.specs.declared.faults.FaultKind.TheVariants.{Memory, SectionSize}

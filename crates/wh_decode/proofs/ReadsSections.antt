@@ -43,7 +43,7 @@ byte_is kind c n x e = elim (chosen (eqb n c) (Ok tt) (Err kind) (Ok x) e) [
   | inr h ↦ absurd cc
 ]
 
--- what begins_with with this byte
+-- what begins with this byte
 begins_this : {A : Type 0} (kind : FaultKind) (c : ℕ) (g : Unit {0} → Grammar A) (y : A) (b : List ℕ) → ((this_byte kind c) then g).within y b → BeginsWith c b
 begins_this kind c g y b w =
     let front : b ≡ w.4.0 ∷ w.2 = w.3 ∙ ap (λ (t : List ℕ). t ++ w.2) w.4.1 in
@@ -129,7 +129,7 @@ skip_only b at names t u le e w none =
     let r = skip_reads (length b - at) b at names t u le e w (omega (arith, length-drop at b, ap length e, length-append t u)) in
     r.2 ∙ skip_ends r.0 b (at + length t) (λ h. none (subst (λ (v : List ℕ). BeginsWith 0 v) (after b at t u e) h))
 
--- the custom sections that what is behind begins_with with are custom sections
+-- the custom sections that what is behind begins with are custom sections
 abbrev pub Drops : {A : Type 0} → Grammar A → Type 0
 Drops {A} g = (y : A) (b : List ℕ) → g.within y b → (names : List (List ℕ)) × (t u : List ℕ) × (b ≡ t ++ u) × Each custom.within names t × g.within y u × (BeginsWith 0 u → ⊥)
 

@@ -78,7 +78,7 @@ impl FramePool {
         })
     }
 
-    /// TakesFrame a free frame, one that was given back where there is one. It holds the bytes that it had: those that
+    /// Takes a free frame, one that was given back where there is one. It holds the bytes that it had: those that
     /// were last written to it, or zeros where it was never taken. `NoFrame` where none is free. It takes no memory.
     pub fn take(&mut self) -> Result<u32, FrameError>
         ensures takes { IfOk result (λ frame. TakesFrame self.old frame self.new) }

@@ -15,7 +15,7 @@ mod segments;
 mod sizes;
 mod table;
 
-pub use beginning::initial;
-pub use error::InitialError;
-pub use outcome::Initial;
+pub use beginning::instantiate;
+pub use error::InstantiateError;
+pub use outcome::Instantiated;
 pub use parameters::Parameters;

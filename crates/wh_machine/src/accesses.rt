@@ -64,7 +64,7 @@ fn answer_word(grown: Grown) -> u64
 #[inline(always)]
 pub fn exec_memory_grow<M: LinearMem>(stack: &mut Stack, memory: &mut M) -> Exec
     requires { ComesNextInMemory stack.old (M.bytes memory.old) (M.limit memory.old) MemoryGrow }
-    ensures turned { IsExecInMemory (M.ready memory.old) stack.old (M.bytes memory.old)
+    ensures executed { IsExecInMemory (M.ready memory.old) stack.old (M.bytes memory.old)
         (M.limit memory.old) MemoryGrow result stack.new (M.bytes memory.new) }
     ensures keeps { M.keeps memory.old memory.new }
     ensures waits { IsUncharged result → memory.new ≡ memory.old }
@@ -99,7 +99,7 @@ pub fn exec_load<M: LinearMem>(
 ) -> Exec
     requires { ComesNextInMemory stack.old (M.bytes memory.old) (M.limit memory.old)
         (Load op align offset) }
-    ensures turned { IsExecInMemory (M.ready memory.old) stack.old (M.bytes memory.old)
+    ensures executed { IsExecInMemory (M.ready memory.old) stack.old (M.bytes memory.old)
         (M.limit memory.old) (Load op align offset) result stack.new (M.bytes memory.new) }
     ensures found { FoundReadyInMemory (M.ready memory.old) stack.old (M.bytes memory.old)
         (M.limit memory.old) (Load op align offset) result }
@@ -132,7 +132,7 @@ pub fn exec_store<M: LinearMem>(
 ) -> Exec
     requires { ComesNextInMemory stack.old (M.bytes memory.old) (M.limit memory.old)
         (StoreAt op align offset) }
-    ensures turned { IsExecInMemory (M.ready memory.old) stack.old (M.bytes memory.old)
+    ensures executed { IsExecInMemory (M.ready memory.old) stack.old (M.bytes memory.old)
         (M.limit memory.old) (StoreAt op align offset) result stack.new (M.bytes memory.new) }
     ensures found { FoundReadyInMemory (M.ready memory.old) stack.old (M.bytes memory.old)
         (M.limit memory.old) (StoreAt op align offset) result }

@@ -94,7 +94,7 @@ pub fn call_host<M: LinearMem>(
     requires place { stack.old.frame.place + 1 < 2 ^ 64 }
     requires small { length store.old.output.items ≤ output_room }
     requires capacity { output_room ≤ vec_capacity store.old.output }
-    ensures turned { HostTurn func (M.ready memory.old) (M.bytes memory.old) stack.old store.old
+    ensures executed { HostTurn func (M.ready memory.old) (M.bytes memory.old) stack.old store.old
         result stack.new store.new }
     ensures bytes { M.bytes memory.new ≡ M.bytes memory.old }
     ensures keeps { M.keeps memory.old memory.new }

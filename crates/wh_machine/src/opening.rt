@@ -97,7 +97,7 @@ fn open(program: &Program<'_>, stack: &mut Stack, func: usize, args: &[u64])
     };
 }
 
-/// BeginsCall a call of one of the module's own functions: what its invocation is, and all uncharged reductions after it
+/// Begins a call of one of the module's own functions: what its invocation is, and all uncharged reductions after it
 /// (4.4.7, 4.5.5). The arguments are numbers of the bits of their types. Whatever the machine did before is given up.
 pub fn begin(linked: &Linked, machine: &mut Machine, func: u32, args: &[u64])
     requires { CanBegin (linked_parts linked.now) func args.now }

@@ -23,5 +23,5 @@ mod lines;
 
 pub use command::{Command, parse};
 pub use engine::run_script;
-pub use fault::{Complaint, ScriptFault};
+pub use fault::{LineError, ScriptFault};
 pub use laws::one_text;

@@ -168,7 +168,7 @@ impl Lines {
         Err(ScriptFault::Script)
     }
 
-    /// TakesPiece what there is of the line; true where that is up to its newline.
+    /// Takes what there is of the line; true where that is up to its newline.
     fn take(&mut self) -> Result<bool, ScriptFault>
         requires within { IsInChunk self.old }
         requires some { self.old.next < self.old.end }

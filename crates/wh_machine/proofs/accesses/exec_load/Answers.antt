@@ -22,8 +22,8 @@ pop-requires g c = let l = ap length (load_index c.args.op c.args.align c.args.o
 pub advance-requires : goal.advance-requires
 advance-requires g c = place_fits c.requires.3
 
-pub returns-in-Value-clause-turned : goal.returns-in-Value-clause-turned
-returns-in-Value-clause-turned g c p code k r =
+pub returns-in-Value-clause-executed : goal.returns-in-Value-clause-executed
+returns-in-Value-clause-executed g c p code k r =
     let ready = g.M.LinearMem.ready c.args.memory.now in
     let flat2 = g.M.LinearMem.bytes c.read.new.memory in
     let e = c.top.ensures c.pop.result c.pop.new.self c.pop.ensures.taken in
@@ -32,13 +32,13 @@ returns-in-Value-clause-turned g c p code k r =
     (subst (λ words. StepsTo r words k flat2) (sym c.push.ensures)
     (load_steps c.args.op c.args.align c.args.offset r ready c.pop.result (c.top.result + c.from.result) c.in-Value.number c.pop.new.self flat2 c.pop.ensures.taken (omega (arith, e, f)) c.in-Value.ensures.reads c.in-Value.ensures.bytes))
 
-pub returns-in-Trap-clause-turned : goal.returns-in-Trap-clause-turned
-returns-in-Trap-clause-turned g c p code k r =
+pub returns-in-Trap-clause-executed : goal.returns-in-Trap-clause-executed
+returns-in-Trap-clause-executed g c p code k r =
     let f = c.from.ensures in
     load_stops c.args.op c.args.align c.args.offset r (g.M.LinearMem.ready c.args.memory.now) c.top.result (c.top.result + c.from.result) c.args.stack.now (g.M.LinearMem.bytes c.read.new.memory) c.top.ensures (omega (arith, f)) c.in-Trap.ensures.reads c.in-Trap.ensures.bytes
 
-pub returns-in-NotReady-clause-turned : goal.returns-in-NotReady-clause-turned
-returns-in-NotReady-clause-turned g c p code k r =
+pub returns-in-NotReady-clause-executed : goal.returns-in-NotReady-clause-executed
+returns-in-NotReady-clause-executed g c p code k r =
     let f = c.from.ensures in
     load_waits c.args.op c.args.align c.args.offset r (g.M.LinearMem.ready c.args.memory.now) c.top.result (c.top.result + c.from.result) c.in-NotReady.need (g.M.LinearMem.bytes c.read.new.memory) c.top.ensures (omega (arith, f)) c.in-NotReady.ensures.reads c.in-NotReady.ensures.bytes
 

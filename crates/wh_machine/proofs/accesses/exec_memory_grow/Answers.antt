@@ -17,8 +17,8 @@ overflow_cast-count g c =
 pub advance-requires : goal.advance-requires
 advance-requires g c = place_fits c.requires.3
 
-pub returns-clause-turned : goal.returns-clause-turned
-returns-clause-turned g c p code k r =
+pub returns-clause-executed : goal.returns-clause-executed
+returns-clause-executed g c p code k r =
     let flat2 = g.M.LinearMem.bytes c.grow.new.self in
     charged_turn r (g.M.LinearMem.ready c.args.memory.now) c.advance.new.stack c.push.new.self k flat2 c.advance.ensures
     (subst (λ words. StepsTo r words k flat2) (sym c.push.ensures)

@@ -36,8 +36,8 @@ pop-requires-in-Value g c =
 pub advance-requires : goal.advance-requires
 advance-requires g c = place_fits c.requires.3
 
-pub returns-in-Value-clause-turned : goal.returns-in-Value-clause-turned
-returns-in-Value-clause-turned g c p code k r =
+pub returns-in-Value-clause-executed : goal.returns-in-Value-clause-executed
+returns-in-Value-clause-executed g c p code k r =
     let ready = g.M.LinearMem.ready c.args.memory.now in
     let flat = g.M.LinearMem.bytes c.args.memory.now in
     let flat2 = g.M.LinearMem.bytes c.write.new.memory in
@@ -52,13 +52,13 @@ returns-in-Value-clause-turned g c p code k r =
     (store_steps c.args.op c.args.align c.args.offset r ready x i at c.pop-in-Value.new.self flat2 both (omega (arith, e, f))
     (subst (λ w. Stores ready flat at (bytes_of (store_type c.args.op).1 w) Value flat2) top c.in-Value.ensures.stores))
 
-pub returns-in-Trap-clause-turned : goal.returns-in-Trap-clause-turned
-returns-in-Trap-clause-turned g c p code k r =
+pub returns-in-Trap-clause-executed : goal.returns-in-Trap-clause-executed
+returns-in-Trap-clause-executed g c p code k r =
     let f = c.from.ensures in
     store_stops c.args.op c.args.align c.args.offset r (g.M.LinearMem.ready c.args.memory.now) c.top-word.result c.second.result (c.second.result + c.from.result) c.args.stack.now (g.M.LinearMem.bytes c.write.new.memory) c.second.ensures (omega (arith, f)) c.in-Trap.ensures.stores
 
-pub returns-in-NotReady-clause-turned : goal.returns-in-NotReady-clause-turned
-returns-in-NotReady-clause-turned g c p code k r =
+pub returns-in-NotReady-clause-executed : goal.returns-in-NotReady-clause-executed
+returns-in-NotReady-clause-executed g c p code k r =
     let f = c.from.ensures in
     store_waits c.args.op c.args.align c.args.offset r (g.M.LinearMem.ready c.args.memory.now) c.top-word.result c.second.result (c.second.result + c.from.result) c.in-NotReady.need (g.M.LinearMem.bytes c.write.new.memory) c.second.ensures (omega (arith, f)) c.in-NotReady.ensures.stores
 

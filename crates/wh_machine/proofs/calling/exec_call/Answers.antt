@@ -8,7 +8,7 @@ use Rattle.wh_control.specs.Parts.{funcs_in}
 use Rattle.wh_machine.specs.Program.{parts_in}
 use Rattle.wh_machine.specs.Executing.{calls_of, IsExec}
 use Rattle.wh_machine.proofs.Finding.{rests_here, own_asks_nothing, before_call, host_found}
-use Rattle.wh_machine.proofs.Hosted.{has_operands, call_turned}
+use Rattle.wh_machine.proofs.Hosted.{has_operands, call_executed}
 use Rattle.wh_machine.proofs.OwnCalls.{own_named, entered_room}
 use Rattle.wh_machine.proofs.ExecutingLemmas.{here, place_fits, one_step, room_after}
 use Rattle.wh_machine.proofs.calling.exec_call.Goals as goal
@@ -25,8 +25,8 @@ call_host-requires-clause-operands g c =
 pub call_host-requires-clause-place : goal.call_host-requires-clause-place
 call_host-requires-clause-place g c = place_fits c.requires.1
 
-pub returns-then-index-imported-clause-turned : goal.returns-then-index-imported-clause-turned
-returns-then-index-imported-clause-turned g c =
+pub returns-then-index-imported-clause-executed : goal.returns-then-index-imported-clause-executed
+returns-then-index-imported-clause-executed g c =
     let code = c.requires.0 in
     let r = c.requires.1 in
     let p = parts_in c.args.program.now in
@@ -35,8 +35,8 @@ returns-then-index-imported-clause-turned g c =
     let flat = g.M.LinearMem.bytes c.args.memory.now in
     let most = g.M.LinearMem.limit c.args.memory.now in
     subst (λ b. IsExec p (g.M.LinearMem.ready c.args.memory.now) m k flat most c.call_host.result c.call_host.new.stack c.call_host.new.store b) (sym c.call_host.ensures.bytes)
-    (call_turned c.host_at.result c.call_host.result p (g.M.LinearMem.ready c.args.memory.now) m k flat most (call c.args.func) c.call_host.new.stack c.call_host.new.store r.sound
-    (before_call p m code k flat most c.args.func c.host_at.result r c.host_at.ensures) c.call_host.ensures.turned)
+    (call_executed c.host_at.result c.call_host.result p (g.M.LinearMem.ready c.args.memory.now) m k flat most (call c.args.func) c.call_host.new.stack c.call_host.new.store r.sound
+    (before_call p m code k flat most c.args.func c.host_at.result r c.host_at.ensures) c.call_host.ensures.executed)
 
 pub enter_own-requires-clause-there : goal.enter_own-requires-clause-there
 enter_own-requires-clause-there g c =
@@ -67,8 +67,8 @@ enter_own-requires-clause-room g c h at shallow =
 pub enter_own-requires-clause-place : goal.enter_own-requires-clause-place
 enter_own-requires-clause-place g c = place_fits c.requires.1
 
-pub returns-then-enter_own-clause-turned : goal.returns-then-enter_own-clause-turned
-returns-then-enter_own-clause-turned g c =
+pub returns-then-enter_own-clause-executed : goal.returns-then-enter_own-clause-executed
+returns-then-enter_own-clause-executed g c =
     let code = c.requires.0 in
     let r = c.requires.1 in
     let p = parts_in c.args.program.now in
@@ -83,8 +83,8 @@ returns-then-enter_own-clause-turned g c =
       λ z. cc,
     )
 
-pub returns-clause-turned : goal.returns-clause-turned
-returns-clause-turned g c =
+pub returns-clause-executed : goal.returns-clause-executed
+returns-clause-executed g c =
     let code = c.requires.0 in
     let r = c.requires.1 in
     let p = parts_in c.args.program.now in
@@ -104,7 +104,7 @@ returns-then-index-imported-clause-found g c =
     let k = c.args.store.now in
     let flat = g.M.LinearMem.bytes c.args.memory.now in
     let most = g.M.LinearMem.limit c.args.memory.now in
-    host_found c.host_at.result c.call_host.result p (g.M.LinearMem.ready c.args.memory.now) m k flat most (call c.args.func) m.words c.call_host.new.stack c.call_host.new.store (rests_here r tt) (before_call p m code k flat most c.args.func c.host_at.result r c.host_at.ensures) c.call_host.ensures.turned
+    host_found c.host_at.result c.call_host.result p (g.M.LinearMem.ready c.args.memory.now) m k flat most (call c.args.func) m.words c.call_host.new.stack c.call_host.new.store (rests_here r tt) (before_call p m code k flat most c.args.func c.host_at.result r c.host_at.ensures) c.call_host.ensures.executed
 
 pub returns-then-enter_own-clause-found : goal.returns-then-enter_own-clause-found
 returns-then-enter_own-clause-found g c =

@@ -21,8 +21,8 @@ pop-index-requires g c =
     let z = ap length o.words in
     omega (arith, z)
 
-pub returns-in-Outside-clause-turned : goal.returns-in-Outside-clause-turned
-returns-in-Outside-clause-turned g c =
+pub returns-in-Outside-clause-executed : goal.returns-in-Outside-clause-executed
+returns-in-Outside-clause-executed g c =
     let code = c.requires.0 in
     let r = c.requires.1 in
     let m = c.args.stack.now in (
@@ -32,8 +32,8 @@ returns-in-Outside-clause-turned g c =
       refl,
     )
 
-pub returns-in-Empty-clause-turned : goal.returns-in-Empty-clause-turned
-returns-in-Empty-clause-turned g c =
+pub returns-in-Empty-clause-executed : goal.returns-in-Empty-clause-executed
+returns-in-Empty-clause-executed g c =
     let code = c.requires.0 in
     let r = c.requires.1 in
     let m = c.args.stack.now in (
@@ -43,8 +43,8 @@ returns-in-Empty-clause-turned g c =
       refl,
     )
 
-pub returns-then-func-program-clause-turned : goal.returns-then-func-program-clause-turned
-returns-then-func-program-clause-turned g c =
+pub returns-then-func-program-clause-executed : goal.returns-then-func-program-clause-executed
+returns-then-func-program-clause-executed g c =
     let code = c.requires.0 in
     let r = c.requires.1 in
     let p = parts_in c.args.program.now in
@@ -54,7 +54,7 @@ returns-then-func-program-clause-turned g c =
     let most = g.M.LinearMem.limit c.args.memory.now in
     let e = back m c.pop-index.new.self c.pop-index.result c.pop-index.ensures.taken in
     let entry = ap (λ t. slice_get t c.pop-index.result) (sym c.deref.ensures.value) ∙ c.in-Func.ensures in
-    subst (λ z. IsExec p (g.M.LinearMem.ready c.args.memory.now) z k flat most c.host_by_table.result c.host_by_table.new.stack c.host_by_table.new.store (g.M.LinearMem.bytes c.host_by_table.new.memory)) (sym e) c.host_by_table.ensures.turned
+    subst (λ z. IsExec p (g.M.LinearMem.ready c.args.memory.now) z k flat most c.host_by_table.result c.host_by_table.new.stack c.host_by_table.new.store (g.M.LinearMem.bytes c.host_by_table.new.memory)) (sym e) c.host_by_table.ensures.executed
 
 pub own_by_table-requires : goal.own_by_table-requires
 own_by_table-requires g c =
@@ -69,8 +69,8 @@ own_by_table-requires g c =
     let same : c.in-Func.func ≡ length p.hosts + (c.in-Func.func - length p.hosts) = omega (arith, low) in
     (c.requires.0, k, flat, most, c.pop-index.result, subst (λ z. IsReady p c.requires.0 z k flat most (CallIndirect c.args.type_index)) e c.requires.1, entry ∙ ap (λ x. Some (Some x)) same)
 
-pub returns-else-func-program-clause-turned : goal.returns-else-func-program-clause-turned
-returns-else-func-program-clause-turned g c =
+pub returns-else-func-program-clause-executed : goal.returns-else-func-program-clause-executed
+returns-else-func-program-clause-executed g c =
     let code = c.requires.0 in
     let r = c.requires.1 in
     let p = parts_in c.args.program.now in

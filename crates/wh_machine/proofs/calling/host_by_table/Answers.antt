@@ -9,7 +9,7 @@ use Rattle.wh_machine.specs.declared.machine.Stack.{Stack}
 use Rattle.wh_machine.specs.Entering.{pushed}
 use Rattle.wh_machine.specs.Executing.{calls_of, IsExec}
 use Rattle.wh_machine.proofs.Finding.{rests_here, before_indirect, host_found}
-use Rattle.wh_machine.proofs.Hosted.{has_operands, host_turned, host_waits, host_wants}
+use Rattle.wh_machine.proofs.Hosted.{has_operands, host_executed, host_waits, host_wants}
 use Rattle.wh_machine.proofs.OwnCalls.{table_named, wanted_there}
 use Rattle.wh_machine.proofs.ExecutingLemmas.{here, place_fits, words_fit}
 use Rattle.wh_machine.proofs.calling.host_by_table.Goals as goal
@@ -31,8 +31,8 @@ host_has_type-requires g c =
     let ty = (at_now st.running (call_indirect y) (here r)).op_type in
     wanted_there st y ty.1 ty.3
 
-pub returns-then-not-host_has_type-clause-turned : goal.returns-then-not-host_has_type-clause-turned
-returns-then-not-host_has_type-clause-turned g c =
+pub returns-then-not-host_has_type-clause-executed : goal.returns-then-not-host_has_type-clause-executed
+returns-then-not-host_has_type-clause-executed g c =
     let code = c.requires.0 in
     let x = c.requires.1 in
     let r = c.requires.2 in
@@ -76,13 +76,13 @@ push-requires g c =
     let u = r.sound in
     let st = u.stands in
     let pm = pushed m w in
-    let same = host_waits c.args.func c.in-NotReady.need _ _ m c.args.store.now c.call_host.new.stack c.call_host.new.store c.in-NotReady.ensures.turned in
+    let same = host_waits c.args.func c.in-NotReady.need _ _ m c.args.store.now c.call_host.new.stack c.call_host.new.store c.in-NotReady.ensures.executed in
     let k = words_fit st in
     let n = ap (λ (z : Stack). length z.words) same.0 in
     omega (arith, k, n)
 
-pub returns-in-NotReady-clause-turned : goal.returns-in-NotReady-clause-turned
-returns-in-NotReady-clause-turned g c =
+pub returns-in-NotReady-clause-executed : goal.returns-in-NotReady-clause-executed
+returns-in-NotReady-clause-executed g c =
     let code = c.requires.0 in
     let x = c.requires.1 in
     let r = c.requires.2 in
@@ -96,7 +96,7 @@ returns-in-NotReady-clause-turned g c =
     let flat = g.M.LinearMem.bytes c.args.memory.now in
     let most = g.M.LinearMem.limit c.args.memory.now in
     let need = c.in-NotReady.need in
-    let h = c.in-NotReady.ensures.turned in
+    let h = c.in-NotReady.ensures.executed in
     let same = host_waits c.args.func need (g.M.LinearMem.ready c.args.memory.now) flat m k c.call_host.new.stack c.call_host.new.store h in (
       put_back m c.call_host.new.stack w c.push.new.self same.0 c.push.ensures,
       same.1,
@@ -107,7 +107,7 @@ returns-in-NotReady-clause-turned g c =
 
 pub returns-in_default : goal.returns-in_default
 returns-in_default g c = record {
-  turned =
+  executed =
       let code = c.requires.0 in
       let x = c.requires.1 in
       let r = c.requires.2 in
@@ -121,8 +121,8 @@ returns-in_default g c = record {
       let flat = g.M.LinearMem.bytes c.args.memory.now in
       let most = g.M.LinearMem.limit c.args.memory.now in
       subst (λ b. IsExec p (g.M.LinearMem.ready c.args.memory.now) (pushed m w) k flat most c.call_host.result c.call_host.new.stack c.call_host.new.store b) (sym c.call_host.ensures.bytes)
-      (host_turned c.args.func c.call_host.result p (g.M.LinearMem.ready c.args.memory.now) (pushed m w) k flat most (call_indirect y) m.words c.call_host.new.stack c.call_host.new.store r.sound
-      (before_indirect p m code k flat most w x y c.args.func r entry at c.if-not-host_has_type.ensures) c.call_host.ensures.turned c.in_default.not-NotReady);
+      (host_executed c.args.func c.call_host.result p (g.M.LinearMem.ready c.args.memory.now) (pushed m w) k flat most (call_indirect y) m.words c.call_host.new.stack c.call_host.new.store r.sound
+      (before_indirect p m code k flat most w x y c.args.func r entry at c.if-not-host_has_type.ensures) c.call_host.ensures.executed c.in_default.not-NotReady);
   found =
       let code = c.requires.0 in
       let x = c.requires.1 in
@@ -137,7 +137,7 @@ returns-in_default g c = record {
       let flat = g.M.LinearMem.bytes c.args.memory.now in
       let most = g.M.LinearMem.limit c.args.memory.now in
       host_found c.args.func c.call_host.result p (g.M.LinearMem.ready c.args.memory.now) (pushed m w) k flat most (call_indirect y) m.words c.call_host.new.stack c.call_host.new.store (rests_here r tt)
-      (before_indirect p m code k flat most w x y c.args.func r entry at c.if-not-host_has_type.ensures) c.call_host.ensures.turned;
+      (before_indirect p m code k flat most w x y c.args.func r entry at c.if-not-host_has_type.ensures) c.call_host.ensures.executed;
   keeps = c.call_host.ensures.keeps;
   waits = c.call_host.ensures.waits;
 }
