@@ -63,7 +63,7 @@ pub fn operands(opcode: Opcode, bytes: &[u8], at: usize) -> Result<(Instr, usize
     requires other { opcode ≢ Opcode.BrTable }
     ensures exact { (labels : List ℕ)
         → Gives (λ found. (instr_of labels found.0, found.1)) result
-            (operands_at opcode bytes.now at) }
+        (operands_at opcode bytes.now at) }
     ensures in_pool { IfOk result (λ found. (labels : List ℕ) → InPool labels found.0) }
     ensures further { IfOk result (λ found. at ≤ found.1) }
     ensures inside { IfOk result (λ found. found.1 ≤ length bytes.now) }

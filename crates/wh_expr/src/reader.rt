@@ -110,8 +110,8 @@ fn instruction(
 fn advance(stack: &mut Vec<Open>, instr: Instr) -> Result<bool, AllocError>
     ensures { IfOk result
         (λ ended. (labels : List ℕ)
-            → Advances ended (after_instr (reverse stack.old.items) (instr_of labels instr))
-                (reverse stack.new.items)) }
+        → Advances ended (after_instr (reverse stack.old.items) (instr_of labels instr))
+        (reverse stack.new.items)) }
 {
     match instr {
         Instr::Block(_) | Instr::Loop(_) => stack.push(Open::Other)?,
@@ -131,8 +131,8 @@ fn advance(stack: &mut Vec<Open>, instr: Instr) -> Result<bool, AllocError>
 fn advance_at(stack: &mut Vec<Open>, instr: Instr, at: usize) -> Result<bool, DecodeError>
     ensures ok { IfOk result
         (λ ended. (labels : List ℕ)
-            → Advances ended (after_instr (reverse stack.old.items) (instr_of labels instr))
-                (reverse stack.new.items)) }
+        → Advances ended (after_instr (reverse stack.old.items) (instr_of labels instr))
+        (reverse stack.new.items)) }
     ensures err { IfErr result (λ e. e.kind ≡ FaultKind.Memory) }
 {
     match advance(stack, instr) {

@@ -26,7 +26,7 @@ impl Model for Expr {
     ghost view = { λ e. nested (map (instr_of e.labels.items) e.instrs.items) };
 
     ghost invariant = { λ e. (map (instr_of e.labels.items) e.instrs.items
-            ≡ expression (nested (map (instr_of e.labels.items) e.instrs.items)))
+        ≡ expression (nested (map (instr_of e.labels.items) e.instrs.items)))
         × AllByRecursion (InPool e.labels.items) e.instrs.items };
 }
 
