@@ -6,7 +6,7 @@ import os, re, subprocess, tempfile
 
 HERE = os.path.dirname(os.path.abspath(__file__))
 PROGRAM = HERE + "/out/wasmhost"
-SOURCE = HERE + "/../wh_cases/modules/refuse_memory.c"
+SOURCE = HERE + "/../test_decode/modules/refuse_memory.c"
 GIVES_7 = "0061736d010000000105016000017f03020100070501016600000a0601040041070b"
 IMPORTS_ALL = "0061736d01000000010f0360017f017e60017e0060027f7f00023f0504686f73740473616c74037e0004686f737404656d6974000204686f737405696e707574000004686f73740462617365037f0004686f7374037075740001"
 SCRIPT = f"""# each line's reply, where no memory is refused, is worked out by hand below

@@ -1,11 +1,11 @@
 -- What an instance over a flat memory begins with.
 use Rattle.std.proofs.Common.{◌≡◌, ℕ, ◌*◌, List, [], ◌∷◌, length, map, replicate, refl, sym, ap, subst, ◌∙◌}
 use Rattle.std.proofs.lemmas.List.{length-replicate}
-use Rattle.wh_model.specs.Syntax as model
-use Rattle.wh_model.specs.Typing.{Context}
-use Rattle.wh_model.specs.Store.{Instance, Store}
-use Rattle.wh_model.specs.Instance.{Parameters, Within, fragments, first_size}
-use Rattle.wh_model.specs.Replay.{with_pieces}
+use Rattle.wh_model.specs.Format.Syntax as model
+use Rattle.wh_model.specs.Validity.Typing.{Context}
+use Rattle.wh_model.specs.Execution.Store.{Instance, Store}
+use Rattle.wh_model.specs.Execution.Instance.{Parameters, Within, fragments, first_size}
+use Rattle.wh_model.specs.Execution.Replay.{with_pieces}
 use Rattle.wh_model.proofs.Fragments.{fragments_write}
 use Rattle.wh_syntax.specs.declared.module.Data.{Data}
 use Rattle.wh_syntax.specs.View.{view_module, view_data}

@@ -4,11 +4,11 @@ use Rattle.std.specs.Bool.{MatchBool}
 use Rattle.std.specs.List.{AllByRecursion}
 use Rattle.std.proofs.lemmas.Option.{slice_get_within}
 use Rattle.std.proofs.lemmas.List.{length-map}
-use Rattle.wh_model.specs.Syntax as model
-use Rattle.wh_model.specs.Syntax.{Body}
-use Rattle.wh_model.specs.Typing.{Context}
-use Rattle.wh_model.specs.Heights.{no_type}
-use Rattle.wh_model.specs.Store.{own, Instance}
+use Rattle.wh_model.specs.Format.Syntax as model
+use Rattle.wh_model.specs.Format.Syntax.{Body}
+use Rattle.wh_model.specs.Validity.Typing.{Context}
+use Rattle.wh_model.specs.Validity.Heights.{no_type}
+use Rattle.wh_model.specs.Execution.Store.{own, Instance}
 use Rattle.wh_syntax.specs.declared.module.FuncType.{FuncType}
 use Rattle.wh_syntax.specs.View.{view_module, view_type}
 use Rattle.wh_bodies.specs.Table.{Table}

@@ -2,12 +2,12 @@
 use Rattle.std.proofs.Common.{◌≡◌, true, ℕ, ◌+◌, ◌≤◌, List, [], Option, slice_get, map, refl, sym, ap, subst, ◌∙◌, arith}
 use Rattle.wh_model.specs.declared.ValType.{ValType}
 use Rattle.wh_model.specs.declared.memory.Need.{Need}
-use Rattle.wh_model.specs.Syntax.{nothing}
-use Rattle.wh_model.specs.Typing.{Context}
-use Rattle.wh_model.specs.Store.{Value, Instance, Store}
-use Rattle.wh_model.specs.Configuration.{code, Config, config, trapped, store_of}
-use Rattle.wh_model.specs.Reduction.{IsSettled, After}
-use Rattle.wh_model.specs.Focus.{Focused, running, finished, stopped, plug}
+use Rattle.wh_model.specs.Format.Syntax.{nothing}
+use Rattle.wh_model.specs.Validity.Typing.{Context}
+use Rattle.wh_model.specs.Execution.Store.{Value, Instance, Store}
+use Rattle.wh_model.specs.Execution.Configuration.{code, Config, config, trapped, store_of}
+use Rattle.wh_model.specs.Execution.Reduction.{IsSettled, After}
+use Rattle.wh_model.specs.Focus.Focused.{Focused, running, finished, stopped, plug}
 use Rattle.wh_model.proofs.Chains.{after_joins}
 use Rattle.wh_model.proofs.Taken.{takes_after}
 use Rattle.wh_imports.specs.Joined.{LinkedState}

@@ -2,8 +2,8 @@
 use Rattle.std.proofs.Common.{◌≡◌, ◌⊎◌, inl, inr, ⊎_elim, Bool, true, false, List, [], ◌∷◌, ◌++◌, append-nil, refl, sym, subst, ◌∙◌}
 use Rattle.std.specs.Bool.{MatchBool}
 use Rattle.std.specs.List.{AllByRecursion}
-use Rattle.wh_model.specs.Syntax.{Module}
-use Rattle.wh_model.specs.Replay.{Outcome, returned, stopped, cancelled, dead, pending, Call, fails, NamesFunction, IsDead, IsNotDead, IsJournal}
+use Rattle.wh_model.specs.Format.Syntax.{Module}
+use Rattle.wh_model.specs.Execution.Replay.{Outcome, returned, stopped, cancelled, dead, pending, Call, fails, NamesFunction, IsDead, IsNotDead, IsJournal}
 use Rattle.wh_alone.specs.Journal.{HasStarted, IsJournalOf}
 
 none_behind : (o : Outcome) → MatchBool (fails o) (AllByRecursion IsDead []) (AllByRecursion IsNotDead [])

@@ -2,10 +2,10 @@
 use Rattle.std.proofs.Common.{◌≡◌, ℕ, zero, suc, ◌+◌, ◌^◌, ◌<◌, ◌≤◌, List, [], ◌∷◌, length, map, drop, Some, slice_get, refl, sym, ap, subst, ◌∙◌, arith}
 use Rattle.std.specs.List.{AllByRecursion}
 use Rattle.wh_model.specs.declared.ValType.{ValType}
-use Rattle.wh_model.specs.Numbers.{bits}
-use Rattle.wh_model.specs.Store.{Value, value, type_of, Store, written}
-use Rattle.wh_model.specs.Instance.{Piece, Within}
-use Rattle.wh_model.specs.Replay.{with_pieces}
+use Rattle.wh_model.specs.Execution.Numbers.{bits}
+use Rattle.wh_model.specs.Execution.Store.{Value, value, type_of, Store, written}
+use Rattle.wh_model.specs.Execution.Instance.{Piece, Within}
+use Rattle.wh_model.specs.Execution.Replay.{with_pieces}
 use Rattle.wh_model.proofs.Fragments.{length-written}
 use Rattle.wh_control.specs.Represents.{bits_of, InRange}
 use Rattle.wh_alone.specs.Alone.{Arguments, written_over}

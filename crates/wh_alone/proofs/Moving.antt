@@ -2,15 +2,15 @@
 use Rattle.std.proofs.Common.{◌≡◌, ◌⊎◌, inl, inr, Bool, true, false, if◌then◌else◌, ℕ, ◌+◌, ◌≤◌, List, [], ◌∷◌, ◌++◌, length, append-nil, append_assoc, Option, Some, None, slice_get, map, reverse, refl, sym, ap, subst, ◌∙◌, arith}
 use Rattle.std.specs.List.{AllByRecursion}
 use Rattle.wh_model.specs.declared.ValType.{ValType}
-use Rattle.wh_model.specs.Syntax.{nothing, FuncType, Module}
-use Rattle.wh_model.specs.Typing.{Context, operand}
-use Rattle.wh_model.specs.Store.{Value, type_of, own, Instance, Store}
-use Rattle.wh_model.specs.Configuration.{code, called, Config, config, store_of}
-use Rattle.wh_model.specs.Reduction.{After}
-use Rattle.wh_model.specs.Instance.{Parameters, AreGiven, Piece, IsInitial, begins}
-use Rattle.wh_model.specs.Histories.{Past, none_yet, one_more}
-use Rattle.wh_model.specs.Replay as model
-use Rattle.wh_model.specs.Replay.{Call, returned, stopped, cancelled, pending, dead, with_pieces, Invocation, Stands, is_invoked, is_under_way, Ends, has_returned, has_trapped, was_cancelled, Standing, idle, running, store_at, Replays, at_rest, at_work, Replay}
+use Rattle.wh_model.specs.Format.Syntax.{nothing, FuncType, Module}
+use Rattle.wh_model.specs.Validity.Typing.{Context, operand}
+use Rattle.wh_model.specs.Execution.Store.{Value, type_of, own, Instance, Store}
+use Rattle.wh_model.specs.Execution.Configuration.{code, called, Config, config, store_of}
+use Rattle.wh_model.specs.Execution.Reduction.{After}
+use Rattle.wh_model.specs.Execution.Instance.{Parameters, AreGiven, Piece, IsInitial, begins}
+use Rattle.wh_model.specs.Execution.Histories.{Past, none_yet, one_more}
+use Rattle.wh_model.specs.Execution.Replay as model
+use Rattle.wh_model.specs.Execution.Replay.{Call, returned, stopped, cancelled, pending, dead, with_pieces, Invocation, Stands, is_invoked, is_under_way, Ends, has_returned, has_trapped, was_cancelled, Standing, idle, running, store_at, Replays, at_rest, at_work, Replay}
 use Rattle.wh_model.proofs.Histories.{past_then, replays_then}
 use Rattle.wh_model.proofs.Journals.{functions_same, cancelled_stays}
 use Rattle.wh_syntax.specs.View.{view_module}

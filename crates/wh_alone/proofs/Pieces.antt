@@ -1,7 +1,7 @@
 -- Which piece is written at a time.
 use Rattle.std.proofs.Common.{◌≡◌, ℕ, ◌+◌, ◌≤◌, List, length, map, drop, Some, slice_get, sym, ap, ◌∙◌, arith}
-use Rattle.wh_model.specs.Store.{written}
-use Rattle.wh_model.specs.Instance.{Piece, Within}
+use Rattle.wh_model.specs.Execution.Store.{written}
+use Rattle.wh_model.specs.Execution.Instance.{Piece, Within}
 use Rattle.wh_syntax.specs.declared.module.Data.{Data}
 use Rattle.wh_alone.specs.Alone.{ArePieces, written_over}
 use Rattle.wh_alone.proofs.Lists.{mapped_from, mapped_to, within_at, written_step, length_kept}

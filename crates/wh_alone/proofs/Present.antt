@@ -1,9 +1,9 @@
 -- What is known of an instance by its stage.
 use Rattle.std.proofs.Common.{◌≡◌, ℕ, List, [], ◌∷◌, ◌++◌, Option, Some, None, slice_get, map, sym, ap, subst, ◌∙◌}
-use Rattle.wh_model.specs.Syntax.{Module}
-use Rattle.wh_model.specs.Store.{own, Instance, Store}
-use Rattle.wh_model.specs.Instance.{Piece}
-use Rattle.wh_model.specs.Replay.{Call, Standing, store_at}
+use Rattle.wh_model.specs.Format.Syntax.{Module}
+use Rattle.wh_model.specs.Execution.Store.{own, Instance, Store}
+use Rattle.wh_model.specs.Execution.Instance.{Piece}
+use Rattle.wh_model.specs.Execution.Replay.{Call, Standing, store_at}
 use Rattle.wh_syntax.specs.View.{view_module}
 use Rattle.wh_control.specs.Represents.{bits_of, result_of}
 use Rattle.wh_machine.specs.Opening.{IsOwnCall}

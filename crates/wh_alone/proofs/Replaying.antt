@@ -1,12 +1,12 @@
 -- One call of a module, as a journal.
 use Rattle.std.proofs.Common.{◌≡◌, ◌≤◌, ◌+◌, true, false, ℕ, List, [], ◌∷◌, ◌++◌, Option, Some, None, map, refl, sym, ap, subst, ◌∙◌, arith}
 use Rattle.std.specs.List.{AllByRecursion}
-use Rattle.wh_model.specs.Syntax.{Module}
-use Rattle.wh_model.specs.Store.{Value, Instance, Store}
-use Rattle.wh_model.specs.Instance.{Parameters, AreGiven, Piece, IsInitial, begins}
-use Rattle.wh_model.specs.Replay as model
-use Rattle.wh_model.specs.Replay.{Call, returned, stopped, cancelled, dead, pending, with_pieces, is_invoked, is_under_way, Standing, store_at, Stands, Replays, at_rest, at_work, Replay}
-use Rattle.wh_model.specs.ReplayLaws.{WithinFuel}
+use Rattle.wh_model.specs.Format.Syntax.{Module}
+use Rattle.wh_model.specs.Execution.Store.{Value, Instance, Store}
+use Rattle.wh_model.specs.Execution.Instance.{Parameters, AreGiven, Piece, IsInitial, begins}
+use Rattle.wh_model.specs.Execution.Replay as model
+use Rattle.wh_model.specs.Execution.Replay.{Call, returned, stopped, cancelled, dead, pending, with_pieces, is_invoked, is_under_way, Standing, store_at, Stands, Replays, at_rest, at_work, Replay}
+use Rattle.wh_model.specs.Laws.ReplayLaws.{WithinFuel}
 use Rattle.wh_model.proofs.Histories.{replays_then}
 use Rattle.wh_model.proofs.Journals.{fuel_suffices}
 use Rattle.wh_control.specs.Represents.{bits_of}
@@ -19,7 +19,7 @@ use Rattle.wh_alone.specs.declared.outcome.Stage.{Stage}
 use Rattle.wh_alone.specs.declared.outcome.Stage.TheVariants as stages
 use Rattle.wh_alone.specs.declared.outcome.Refused.{Refused}
 use Rattle.wh_alone.specs.declared.outcome.Refused.TheVariants as refusals
-use Rattle.wh_model.specs.Accepting.{IsAccepted}
+use Rattle.wh_model.specs.Linking.Accepting.{IsAccepted}
 use Rattle.wh_alone.specs.Alone.{HasCall}
 use Rattle.wh_alone.specs.Kept.{Kept, HasStore}
 use Rattle.wh_alone.specs.Journal.{InstanceState, IsOutcome, HasResults, ended_as, open_as, listed, IsInvoked, IsUnderWay, IsStage, IsJournalOf, IsAtStanding, further, called_so, GoesOnWith, CallEnds}

@@ -1,21 +1,21 @@
 -- What a call of a module comes to, from its bytes.
 use Rattle.std.specs.Prelude.{◌≡◌, ◌≢◌, ⊤, true, false, Option, ℕ, ◌^◌, ◌<◌, ◌≤◌, List, [], ◌∷◌, slice_get, map, reverse}
 use Rattle.wh_model.specs.declared.faults.FaultKind.TheVariants.{Memory as NoRoom}
-use Rattle.wh_model.specs.Syntax.{nothing, FuncType, Body, Module}
-use Rattle.wh_model.specs.Typing.{Context}
-use Rattle.wh_model.specs.Validity.{Valid, IsValidIn}
-use Rattle.wh_model.specs.Heights.{Fits}
-use Rattle.wh_model.specs.Spelling.{IsBroken}
+use Rattle.wh_model.specs.Format.Syntax.{nothing, FuncType, Body, Module}
+use Rattle.wh_model.specs.Validity.Typing.{Context}
+use Rattle.wh_model.specs.Validity.Valid.{Valid, IsValidIn}
+use Rattle.wh_model.specs.Validity.Heights.{Fits}
+use Rattle.wh_model.specs.Format.Spelling.{IsBroken}
 use Rattle.wh_model.specs.declared.ValType.{ValType}
-use Rattle.wh_model.specs.Numbers.{bits}
-use Rattle.wh_model.specs.Instance.{Parameters, Piece, IsInitial, begins}
-use Rattle.wh_model.specs.Replay.{with_pieces}
-use Rattle.wh_model.specs.Store.{Value, Instance, Store, written}
+use Rattle.wh_model.specs.Execution.Numbers.{bits}
+use Rattle.wh_model.specs.Execution.Instance.{Parameters, Piece, IsInitial, begins}
+use Rattle.wh_model.specs.Execution.Replay.{with_pieces}
+use Rattle.wh_model.specs.Execution.Store.{Value, Instance, Store, written}
 use Rattle.wh_syntax.specs.declared.module.Data.{Data}
-use Rattle.wh_model.specs.Configuration.{Term, code, frame, called, Config, config, trapped}
-use Rattle.wh_model.specs.Reduction.{After}
-use Rattle.wh_model.specs.Linking.{Links}
-use Rattle.wh_model.specs.Accepting.{IsModule}
+use Rattle.wh_model.specs.Execution.Configuration.{Term, code, frame, called, Config, config, trapped}
+use Rattle.wh_model.specs.Execution.Reduction.{After}
+use Rattle.wh_model.specs.Linking.Imports.{Links}
+use Rattle.wh_model.specs.Linking.Accepting.{IsModule}
 use Rattle.wh_model.specs.declared.faults.ValidKind.TheVariants.{Memory as NoRoomToCheck}
 use Rattle.wh_syntax.specs.View.{view_module}
 use Rattle.wh_imports.specs.Joined.{LinkedState}
@@ -32,7 +32,7 @@ use Rattle.wh_alone.specs.declared.outcome.Outcome.{Outcome}
 use Rattle.wh_alone.specs.declared.outcome.Outcome.TheVariants.{Returned, Trapped, OutOfFuel}
 use Rattle.wh_alone.specs.declared.outcome.CallError.{CallError}
 use Rattle.wh_alone.specs.declared.outcome.CallError.TheVariants.{Load, Initial, Memory}
-use Rattle.wh_model.specs.Accepting.{IsAccepted}
+use Rattle.wh_model.specs.Linking.Accepting.{IsAccepted}
 use Rattle.wh_load.specs.Refusing.{RefusesBytes}
 
 -- why there is no instance; of memory nothing is said

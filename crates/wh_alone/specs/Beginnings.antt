@@ -1,9 +1,9 @@
 -- What an instance begins with: its start function is to be called, or there is none and it has started.
 use Rattle.std.specs.Prelude.{◌≡◌, ℕ, List, [], ◌∷◌, Option, Some, None}
-use Rattle.wh_model.specs.Syntax.{Module}
-use Rattle.wh_model.specs.Instance.{Parameters}
-use Rattle.wh_model.specs.Replay.{Call, returned, pending, Standing}
-use Rattle.wh_model.specs.Accepting.{IsAccepted}
+use Rattle.wh_model.specs.Format.Syntax.{Module}
+use Rattle.wh_model.specs.Execution.Instance.{Parameters}
+use Rattle.wh_model.specs.Execution.Replay.{Call, returned, pending, Standing}
+use Rattle.wh_model.specs.Linking.Accepting.{IsAccepted}
 use Rattle.wh_alone.specs.Journal.{InstanceState, IsAtStanding}
 
 -- the start that has written so many fragments, where there is no start function

@@ -1,14 +1,14 @@
 -- Where an instance is, by the journal of its calls.
 use Rattle.std.specs.Prelude.{◌≡◌, ℕ, ◌+◌, true, false, List, [], ◌∷◌, ◌++◌, length, Option, Some, None, slice_get, map, reverse}
 use Rattle.std.specs.List.{AllByRecursion}
-use Rattle.wh_model.specs.Syntax.{FuncType, Body, Module}
-use Rattle.wh_model.specs.Store.{Value, type_of, own, Instance, Store}
-use Rattle.wh_model.specs.Configuration.{Config}
-use Rattle.wh_model.specs.Reduction.{After, IsNext}
-use Rattle.wh_model.specs.Instance.{Parameters, AreGiven, Piece, IsInitial, begins}
-use Rattle.wh_model.specs.Histories.{Past}
-use Rattle.wh_model.specs.Replay as model
-use Rattle.wh_model.specs.Replay.{Call, returned, stopped, cancelled, dead, pending, with_pieces, Invocation, Standing, idle, running, store_at, fails, IsJournal}
+use Rattle.wh_model.specs.Format.Syntax.{FuncType, Body, Module}
+use Rattle.wh_model.specs.Execution.Store.{Value, type_of, own, Instance, Store}
+use Rattle.wh_model.specs.Execution.Configuration.{Config}
+use Rattle.wh_model.specs.Execution.Reduction.{After, IsNext}
+use Rattle.wh_model.specs.Execution.Instance.{Parameters, AreGiven, Piece, IsInitial, begins}
+use Rattle.wh_model.specs.Execution.Histories.{Past}
+use Rattle.wh_model.specs.Execution.Replay as model
+use Rattle.wh_model.specs.Execution.Replay.{Call, returned, stopped, cancelled, dead, pending, with_pieces, Invocation, Standing, idle, running, store_at, fails, IsJournal}
 use Rattle.wh_syntax.specs.View.{view_module}
 use Rattle.wh_control.specs.Represents.{bits_of, result_of}
 use Rattle.wh_machine.specs.Runs.{linked_parts, IsSettledIn}

@@ -1,11 +1,11 @@
 -- What is kept of an instance, and what a run over it comes to.
 use Rattle.std.specs.Prelude.{◌≡◌, ℕ, ◌≤◌, List, [], Option, slice_get, map, reverse, true}
 use Rattle.wh_model.specs.declared.ValType.{ValType}
-use Rattle.wh_model.specs.Syntax.{nothing, FuncType, Body}
-use Rattle.wh_model.specs.Typing.{Context, operand}
-use Rattle.wh_model.specs.Store.{Value, type_of, Instance, Store}
-use Rattle.wh_model.specs.Configuration.{code, called, Config, config, trapped, store_of}
-use Rattle.wh_model.specs.Reduction.{IsSettled, After, IsNext}
+use Rattle.wh_model.specs.Format.Syntax.{nothing, FuncType, Body}
+use Rattle.wh_model.specs.Validity.Typing.{Context, operand}
+use Rattle.wh_model.specs.Execution.Store.{Value, type_of, Instance, Store}
+use Rattle.wh_model.specs.Execution.Configuration.{code, called, Config, config, trapped, store_of}
+use Rattle.wh_model.specs.Execution.Reduction.{IsSettled, After, IsNext}
 use Rattle.wh_imports.specs.Joined.{LinkedState}
 use Rattle.wh_control.specs.Represents.{bits_of, result_of}
 use Rattle.wh_control.specs.declared.store.Store as stored

@@ -1,16 +1,16 @@
 -- One call of a module, from its bytes to what it comes to.
 use Rattle.std.specs.Prelude.{◌≡◌, ℕ, ◌≤◌, List, [], ◌∷◌, Option, Some, map}
-use Rattle.wh_model.specs.Syntax.{Module}
-use Rattle.wh_model.specs.Instance.{Parameters, Piece, IsInitial, begins}
-use Rattle.wh_model.specs.Replay as model
-use Rattle.wh_model.specs.Replay.{Call, returned, Standing, store_at, Replay}
-use Rattle.wh_model.specs.Store.{Value, Instance, Store}
+use Rattle.wh_model.specs.Format.Syntax.{Module}
+use Rattle.wh_model.specs.Execution.Instance.{Parameters, Piece, IsInitial, begins}
+use Rattle.wh_model.specs.Execution.Replay as model
+use Rattle.wh_model.specs.Execution.Replay.{Call, returned, Standing, store_at, Replay}
+use Rattle.wh_model.specs.Execution.Store.{Value, Instance, Store}
 use Rattle.wh_control.specs.Represents.{bits_of}
 use Rattle.wh_alone.specs.declared.outcome.Outcome.{Outcome}
 use Rattle.wh_alone.specs.declared.outcome.Outcome.TheVariants.{Returned}
 use Rattle.wh_alone.specs.declared.outcome.CallResult.{CallResult}
 use Rattle.wh_alone.specs.declared.outcome.CallResult.TheVariants.{Start, NoCall, Call as Called}
-use Rattle.wh_model.specs.Accepting.{IsAccepted}
+use Rattle.wh_model.specs.Linking.Accepting.{IsAccepted}
 use Rattle.wh_alone.specs.Alone.{HasCall}
 use Rattle.wh_alone.specs.Kept.{HasStore}
 use Rattle.wh_alone.specs.Journal.{InstanceState, IsOutcome, HasResults}

@@ -1,7 +1,7 @@
 -- Stages of an instance.
 use Rattle.std.specs.Prelude.{◌≡◌, ℕ, List, Option, Some, None}
-use Rattle.wh_model.specs.Typing.{Context}
-use Rattle.wh_model.specs.Store.{Instance}
+use Rattle.wh_model.specs.Validity.Typing.{Context}
+use Rattle.wh_model.specs.Execution.Store.{Instance}
 use Rattle.wh_control.specs.Parts.{IsInstance}
 use Rattle.wh_machine.specs.Runs.{linked_parts}
 use Rattle.wh_alone.specs.declared.outcome.Outcome.{Outcome}

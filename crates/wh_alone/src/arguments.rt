@@ -3,9 +3,9 @@
 ghost use Rattle.std.specs.Prelude.{◌≡◌, ◌<◌, ◌^◌, length, slice_get, Some};
 ghost use Rattle.std.specs.Bool.{MatchBool};
 ghost use Rattle.std.specs.List.{AllByRecursion};
-ghost use Rattle.wh_model.specs.Numbers.{bits};
-ghost use Rattle.wh_model.specs.Typing.{Context};
-ghost use Rattle.wh_model.specs.Store.{Instance};
+ghost use Rattle.wh_model.specs.Execution.Numbers.{bits};
+ghost use Rattle.wh_model.specs.Validity.Typing.{Context};
+ghost use Rattle.wh_model.specs.Execution.Store.{Instance};
 ghost use Rattle.wh_control.specs.Parts.{IsInstance};
 ghost use Rattle.wh_machine.specs.Runs.{linked_parts};
 ghost use Rattle.wh_alone.specs.Alone.{Arguments, HasCall};

@@ -1,7 +1,7 @@
 //! Data segments, written to a memory.
 
 ghost use Rattle.std.specs.Prelude.{◌≡◌, ◌<◌, List, length, slice_get, Some};
-ghost use Rattle.wh_model.specs.Instance.{Piece, Within};
+ghost use Rattle.wh_model.specs.Execution.Instance.{Piece, Within};
 ghost use Rattle.wh_syntax.specs.declared.module.Data.{Data};
 ghost use Rattle.wh_alone.specs.Alone.{ArePieces, written_over};
 

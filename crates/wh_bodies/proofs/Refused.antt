@@ -3,10 +3,10 @@ use Rattle.std.proofs.Common.{◌≡◌, ℕ, ◌+◌, ◌≤◌, List, [], ◌�
 use Rattle.std.specs.Prelude.{slice_get}
 use Rattle.wh_model.specs.declared.ValType.{ValType}
 use Rattle.wh_model.specs.declared.Open.TheVariants.{Other}
-use Rattle.wh_model.specs.Syntax.{Code, Instr, end_mark, flatten, expression, FuncType, Body}
-use Rattle.wh_model.specs.Typing.{Context, operand, HasType}
-use Rattle.wh_model.specs.Validity.{ValidBody}
-use Rattle.wh_model.specs.Heights.{operands, greatest, body_height}
+use Rattle.wh_model.specs.Format.Syntax.{Code, Instr, end_mark, flatten, expression, FuncType, Body}
+use Rattle.wh_model.specs.Validity.Typing.{Context, operand, HasType}
+use Rattle.wh_model.specs.Validity.Valid.{ValidBody}
+use Rattle.wh_model.specs.Validity.Heights.{operands, greatest, body_height}
 use Rattle.wh_bodies.specs.declared.fault.BodyFault.{BodyFault}
 use Rattle.wh_bodies.specs.declared.marks.Mark.{Mark}
 use Rattle.wh_bodies.specs.Marks.{all_marks}

@@ -1,7 +1,7 @@
 -- Faults of modules that were decoded: their numbers, which are this project's own, where they lie, and how a check
 -- answers.
 use Rattle.std.specs.Prelude.{◌≡◌, ◌≢◌, ℕ, ◌<◌, length, Result, Ok, Err}
-use Rattle.wh_model.specs.Syntax.{expression, Body}
+use Rattle.wh_model.specs.Format.Syntax.{expression, Body}
 use Rattle.wh_model.specs.declared.faults.ValidKind.{ValidKind}
 use Rattle.wh_model.specs.declared.faults.ValidKind.TheVariants.{BadType, Index, Align, Arity, Const, DuplicateExport, Start, Limits, Height, ConstImmutable, Memory}
 

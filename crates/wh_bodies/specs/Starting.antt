@@ -7,8 +7,8 @@ use Rattle.wh_bodies.specs.declared.fault.BodyFault.{BodyFault}
 use Rattle.wh_bodies.specs.declared.labels.Label.{Label}
 use Rattle.wh_bodies.specs.declared.marks.Mark.{Mark}
 use Rattle.wh_bodies.specs.Known.{Known}
-use Rattle.wh_model.specs.Syntax.{Instr}
-use Rattle.wh_model.specs.Typing.{Context}
+use Rattle.wh_model.specs.Format.Syntax.{Instr}
+use Rattle.wh_model.specs.Validity.Typing.{Context}
 use Rattle.wh_bodies.specs.Marks.{all_marks}
 use Rattle.wh_bodies.specs.Stepping.{State, run}
 

@@ -1,8 +1,8 @@
 -- What the definitions see of the code's values.
 use Rattle.std.specs.Prelude.{ℕ, List, [], map, reverse, ◌++◌, slice_get, unwrap_or, None}
-use Rattle.wh_model.specs.Syntax.{FuncType}
-use Rattle.wh_model.specs.Typing as model
-use Rattle.wh_model.specs.Heights.{no_type}
+use Rattle.wh_model.specs.Format.Syntax.{FuncType}
+use Rattle.wh_model.specs.Validity.Typing as model
+use Rattle.wh_model.specs.Validity.Heights.{no_type}
 use Rattle.wh_syntax.specs.View.{view_type, view_limits, view_table, view_global_type}
 use Rattle.wh_bodies.specs.declared.context.Context.{Context}
 use Rattle.wh_bodies.specs.declared.context.Around.{Around}

@@ -9,8 +9,8 @@ ghost use Rattle.wh_bodies.specs.Marks.{all_marks};
 ghost use Rattle.wh_bodies.specs.Faults.{IsOfBody, HasInstr};
 ghost use Rattle.wh_bodies.specs.Table.{table_of};
 ghost use Rattle.wh_bodies.specs.Views.{view_around, view_context, view_side, state_of};
-ghost use Rattle.wh_model.specs.Validity.{ValidBody};
-ghost use Rattle.wh_model.specs.Heights.{FitsBody};
+ghost use Rattle.wh_model.specs.Validity.Valid.{ValidBody};
+ghost use Rattle.wh_model.specs.Validity.Heights.{FitsBody};
 ghost use Rattle.wh_syntax.specs.View.{view_type, view_body};
 
 use crate::context::{Around, Context};

@@ -2,9 +2,9 @@
 
 ghost use Rattle.std.specs.Prelude.{◌≡◌, ◌+◌, ◌<◌, ◌++◌, ℕ, List, length, slice_get, Ok, ◌∷◌, []};
 ghost use Rattle.std.specs.List.{AllByRecursion};
-ghost use Rattle.wh_model.specs.Typing.{load_type, store_type, conversion_type};
+ghost use Rattle.wh_model.specs.Validity.Typing.{load_type, store_type, conversion_type};
 ghost use Rattle.wh_model.specs.declared.ValType.TheVariants.{I32};
-ghost use Rattle.wh_model.specs.Syntax.{global_set, load, store, call, call_indirect};
+ghost use Rattle.wh_model.specs.Format.Syntax.{global_set, load, store, call, call_indirect};
 ghost use Rattle.wh_syntax.specs.Shown.{instr_of};
 ghost use Rattle.wh_bodies.specs.Known.{known, pass};
 ghost use Rattle.wh_bodies.specs.Stepping.{found, straight, control, memory, variable, numeric, load_exponent, store_exponent};

@@ -2,7 +2,7 @@
 
 ghost use Rattle.std.specs.Prelude.{◌≡◌, ◌<◌, ◌≤◌, List, [], ◌∷◌, length, reverse, IfOk, IfSome, IfNone};
 ghost use Rattle.std.specs.Vec.{vec_capacity};
-ghost use Rattle.wh_model.specs.Execution.{call_depth};
+ghost use Rattle.wh_model.specs.Execution.Rules.{call_depth};
 ghost use Rattle.wh_control.specs.Stored.{stored_frames};
 ghost use Rattle.wh_control.specs.declared.frame.CallFrame.{CallFrame};
 

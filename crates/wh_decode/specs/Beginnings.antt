@@ -1,7 +1,7 @@
 -- Parts of the reading of sections that the code takes one by one.
 use Rattle.std.specs.Prelude.{◌≡◌, ◌≢◌, ℕ, Result, Ok, Err}
 use Rattle.wh_model.specs.declared.faults.FaultKind.TheVariants.{Memory, UnknownByte}
-use Rattle.wh_model.specs.Grammar.{exact_byte}
+use Rattle.wh_model.specs.Format.Grammar.{exact_byte}
 use Rattle.wh_model.specs.declared.faults.DecodeError.{DecodeError}
 use Rattle.wh_leb.specs.Reading.{◌>>=◌, one_at, u32_at, Reader}
 

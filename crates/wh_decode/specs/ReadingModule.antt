@@ -4,10 +4,10 @@ use Rattle.std.specs.Str.{is_utf8}
 use Rattle.std.proofs.Math.ListN.{replicate}
 use Rattle.wh_model.specs.declared.faults.FaultKind.TheVariants.{Magic, Version, UnknownByte, Utf8, Limit, CountMismatch, SectionOrder}
 use Rattle.wh_model.specs.declared.ValType.{ValType}
-use Rattle.wh_model.specs.Grammar.{exact_byte}
-use Rattle.wh_model.specs.Syntax.{FuncType, Limits, GlobalType, ImportDesc, of_func, of_global, Import, Global, Export, Element, Data, Body, Code, Module, empty_module}
-use Rattle.wh_model.specs.Opcodes.{value_type, mutability, imported_mutability, limits_flag, export_kind, import_kind}
-use Rattle.wh_model.specs.Limits.{most_bytes, most_types, most_params, most_imports, most_functions, most_globals, most_exports, most_elements, most_segments, most_locals, most_instructions}
+use Rattle.wh_model.specs.Format.Grammar.{exact_byte}
+use Rattle.wh_model.specs.Format.Syntax.{FuncType, Limits, GlobalType, ImportDesc, of_func, of_global, Import, Global, Export, Element, Data, Body, Code, Module, empty_module}
+use Rattle.wh_model.specs.Format.Opcodes.{value_type, mutability, imported_mutability, limits_flag, export_kind, import_kind}
+use Rattle.wh_model.specs.Format.Limits.{most_bytes, most_types, most_params, most_imports, most_functions, most_globals, most_exports, most_elements, most_segments, most_locals, most_instructions}
 use Rattle.wh_model.specs.declared.faults.DecodeError.{DecodeError}
 use Rattle.wh_leb.specs.Reading.{◌>>=◌, fail, one_at, read_bytes_at, only_at, limited_at, times_at, exactly_at, exactly_from_at, u32_at, Reader, vec_at, vec_up_to_at}
 use Rattle.wh_expr.specs.ReadingCode.{code_at}

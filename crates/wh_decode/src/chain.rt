@@ -2,7 +2,7 @@
 //! the sections before it.
 
 ghost use Rattle.std.specs.Prelude.{◌≡◌, ◌<◌, ◌≤◌, ◌^◌, length, drop, IfOk, nat_eq};
-ghost use Rattle.wh_model.specs.Syntax.{empty_module};
+ghost use Rattle.wh_model.specs.Format.Syntax.{empty_module};
 ghost use Rattle.wh_leb.specs.Reading.{Gives};
 ghost use Rattle.wh_syntax.specs.View.{view_module};
 ghost use Rattle.wh_decode.specs.ReadingModule.{preamble_at, types_at, imports_at, functions_at, tables_at, memories_at, globals_at, exports_at, start_at, elements_at, code_section_at, data_at, end_at, end_of};

@@ -2,8 +2,8 @@
 
 ghost use Rattle.std.specs.Prelude.{◌≡◌, ◌⊎◌, ℕ, List};
 ghost use Rattle.wh_model.specs.declared.faults.FaultKind.{FaultKind};
-ghost use Rattle.wh_model.specs.Syntax.{Module};
-ghost use Rattle.wh_model.specs.Spelling.{AreBytes, Spells, Small, IsBroken};
+ghost use Rattle.wh_model.specs.Format.Syntax.{Module};
+ghost use Rattle.wh_model.specs.Format.Spelling.{AreBytes, Spells, Small, IsBroken};
 
 /// Bytes have exactly one meaning: one fault, of one kind and at one offset, or one module within the limits, and never
 /// both. The function does nothing; what it ensures is the law.

@@ -2,8 +2,8 @@
 #![tactic(auto)]
 
 ghost use Rattle.std.specs.Prelude.{◌≢◌, ℕ, IfOk, IfErr, Ok};
-ghost use Rattle.wh_model.specs.Syntax as model;
-ghost use Rattle.wh_model.specs.Spelling.{Spells, Small, IsBroken};
+ghost use Rattle.wh_model.specs.Format.Syntax as model;
+ghost use Rattle.wh_model.specs.Format.Spelling.{Spells, Small, IsBroken};
 ghost use Rattle.wh_leb.specs.Reading.{Gives};
 ghost use Rattle.wh_syntax.specs.View.{view_module};
 ghost use Rattle.wh_decode.specs.ReadingModule.{module_of};

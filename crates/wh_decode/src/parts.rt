@@ -3,7 +3,7 @@
 ghost use Rattle.std.specs.Prelude.{◌≡◌, ◌<◌, ◌≤◌, ◌^◌, ◌+◌, length, IfOk, IfErr, None};
 ghost use Rattle.std.specs.Prelude.{string_bytes};
 ghost use Rattle.std.specs.Str.{is_utf8};
-ghost use Rattle.wh_model.specs.Opcodes.{imported_mutability, export_kind, import_kind};
+ghost use Rattle.wh_model.specs.Format.Opcodes.{imported_mutability, export_kind, import_kind};
 ghost use Rattle.wh_leb.specs.Reading.{one_at, only_at, read_bytes_at, times_at, vec_at, u32_at, Gives};
 ghost use Rattle.wh_syntax.specs.View.{view_desc, view_import, view_global, view_export, view_element, view_data};
 ghost use Rattle.wh_decode.specs.ReadingModule.{name_at, importdesc_by_at, importdesc_at, import_at, global_at, export_at, element_at, byte_vector_at, segment_at};

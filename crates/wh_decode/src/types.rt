@@ -1,8 +1,8 @@
 //! Types (section 5.3 of the standard).
 
 ghost use Rattle.std.specs.Prelude.{◌≡◌, ◌<◌, ◌≤◌, ◌++◌, ◌∷◌, [], length, IfOk, IfErr, OnOk};
-ghost use Rattle.wh_model.specs.Grammar.{exact_byte};
-ghost use Rattle.wh_model.specs.Opcodes.{value_type, mutability, limits_flag};
+ghost use Rattle.wh_model.specs.Format.Grammar.{exact_byte};
+ghost use Rattle.wh_model.specs.Format.Opcodes.{value_type, mutability, limits_flag};
 ghost use Rattle.wh_leb.specs.Reading.{one_at, times_at, u32_at, Gives};
 ghost use Rattle.wh_syntax.specs.View.{view_type, view_limits, view_table, view_global_type};
 ghost use Rattle.wh_decode.specs.ReadingModule.{functype_at, limits_by_at, limits_at, tabletype_at, globaltype_at};

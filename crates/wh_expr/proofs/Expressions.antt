@@ -5,11 +5,11 @@ use Rattle.wh_model.specs.declared.faults.FaultKind.{FaultKind}
 use Rattle.wh_model.specs.declared.faults.FaultKind.TheVariants.{Limit}
 use Rattle.wh_model.specs.declared.faults.DecodeError.{DecodeError}
 use Rattle.wh_model.specs.declared.Open.{Open}
-use Rattle.wh_model.specs.Grammar.{HeadBreaks, Each}
-use Rattle.wh_model.specs.Syntax.{Code, nothing, Instr, end_mark, flatten, expression}
-use Rattle.wh_model.specs.Limits.{depth, most_nested, FewInstructions}
-use Rattle.wh_model.specs.Instructions.{instr, next_instr, NextBreaks, Front, in_body, expr}
-use Rattle.wh_model.specs.Nested.{nested}
+use Rattle.wh_model.specs.Format.Grammar.{HeadBreaks, Each}
+use Rattle.wh_model.specs.Format.Syntax.{Code, nothing, Instr, end_mark, flatten, expression}
+use Rattle.wh_model.specs.Format.Limits.{depth, most_nested, FewInstructions}
+use Rattle.wh_model.specs.Format.Instructions.{instr, next_instr, NextBreaks, Front, in_body, expr}
+use Rattle.wh_model.specs.Focus.Nested.{nested}
 use Rattle.wh_model.proofs.Nesting.{nested-expression}
 use Rattle.wh_leb.specs.Reading.{◌>>=◌, ReadsBy, Anything, head_of, with_front}
 use Rattle.wh_leb.proofs.Combinators.{bind_ok, bind_err, ok_is, succeed, fails_at, after, inside, head_fault, head_stops, with_front-with_front, with_front-nil}

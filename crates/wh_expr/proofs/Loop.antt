@@ -4,7 +4,7 @@ use Rattle.std.specs.List.{AllByRecursion}
 use Rattle.std.proofs.lemmas.List.{map_push}
 use Rattle.wh_model.specs.declared.faults.FaultKind.TheVariants.{Limit}
 use Rattle.wh_model.specs.declared.Open.{Open}
-use Rattle.wh_model.specs.Syntax as model
+use Rattle.wh_model.specs.Format.Syntax as model
 use Rattle.wh_model.specs.declared.faults.DecodeError.{DecodeError}
 use Rattle.wh_leb.specs.Reading.{◌>>=◌, head_of, with_front}
 use Rattle.wh_leb.proofs.Combinators.{with_front-with_front}

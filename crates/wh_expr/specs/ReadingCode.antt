@@ -7,12 +7,12 @@ use Rattle.wh_model.specs.declared.Open.{Open}
 use Rattle.wh_model.specs.declared.Open.TheVariants.{Then, Other}
 use Rattle.wh_model.specs.declared.Opcode.{Opcode}
 use Rattle.wh_model.specs.declared.Opcode.TheVariants.{Unreachable, Nop, Block, Loop, If, Else, End, Br, BrIf, BrTable, Return, Call, CallIndirect, Drop, Select, LocalGet, LocalSet, LocalTee, GlobalGet, GlobalSet, Load, Store, MemorySize, MemoryGrow, I32Const, I64Const, Test, Compare, Unary, Binary, Convert}
-use Rattle.wh_model.specs.Grammar.{exact_byte}
-use Rattle.wh_model.specs.Syntax.{Op, unreachable, nop, br, br_if, br_table, return, call, call_indirect, drop_operand, select, local_get, local_set, local_tee, global_get, global_set, load, store, memory_size, memory_grow, i32_const, i64_const, test, comparison, unary, binary, conversion, Code, Instr, single, block_start, loop_start, if_start, else_mark, end_mark}
-use Rattle.wh_model.specs.Opcodes.{block_type, opcode}
-use Rattle.wh_model.specs.Limits.{most_labels}
-use Rattle.wh_model.specs.Instructions.{may_come}
-use Rattle.wh_model.specs.Nested.{nested}
+use Rattle.wh_model.specs.Format.Grammar.{exact_byte}
+use Rattle.wh_model.specs.Format.Syntax.{Op, unreachable, nop, br, br_if, br_table, return, call, call_indirect, drop_operand, select, local_get, local_set, local_tee, global_get, global_set, load, store, memory_size, memory_grow, i32_const, i64_const, test, comparison, unary, binary, conversion, Code, Instr, single, block_start, loop_start, if_start, else_mark, end_mark}
+use Rattle.wh_model.specs.Format.Opcodes.{block_type, opcode}
+use Rattle.wh_model.specs.Format.Limits.{most_labels}
+use Rattle.wh_model.specs.Format.Instructions.{may_come}
+use Rattle.wh_model.specs.Focus.Nested.{nested}
 use Rattle.wh_leb.specs.Reading.{◌>>=◌, head_of, one_at, u32_at, s32_at, s64_at, Reader, vec_up_to_at}
 
 abbrev pub with_index_at : (ℕ → Op) → Reader Instr

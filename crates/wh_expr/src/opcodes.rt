@@ -1,7 +1,7 @@
 //! What a byte stands for where an instruction begins.
 
 ghost use Rattle.std.specs.Prelude.{◌≡◌, ◌<◌};
-ghost use Rattle.wh_model.specs.Opcodes.{operator_from, control_opcode, variable_opcode, memory_opcode, single_opcode, numeric_opcode, opcode, is_float_opcode};
+ghost use Rattle.wh_model.specs.Format.Opcodes.{operator_from, control_opcode, variable_opcode, memory_opcode, single_opcode, numeric_opcode, opcode, is_float_opcode};
 
 use wh_model::{
     BinaryOp, CompareOp, ConvertOp, FaultKind, LoadOp, Opcode, StoreOp, TestOp, UnaryOp, ValType,
@@ -186,7 +186,7 @@ fn is_float(byte: u8) -> bool
 }
 
 /// The opcode, or why there is none.
-#[tactic(auto, unfolding(wh_model::specs::Opcodes::opcode))]
+#[tactic(auto, unfolding(wh_model::specs::Format::Opcodes::opcode))]
 pub fn opcode_of(byte: u8) -> Result<Opcode, FaultKind>
     ensures { result ≡ opcode byte }
 {

@@ -1,8 +1,8 @@
 //! What stands behind an opcode.
 
 ghost use Rattle.std.specs.Prelude.{◌≡◌, ◌≢◌, ℕ, ◌≤◌, List, length, IfOk};
-ghost use Rattle.wh_model.specs.Grammar.{exact_byte};
-ghost use Rattle.wh_model.specs.Opcodes.{block_type};
+ghost use Rattle.wh_model.specs.Format.Grammar.{exact_byte};
+ghost use Rattle.wh_model.specs.Format.Opcodes.{block_type};
 ghost use Rattle.wh_leb.specs.Reading.{one_at, Gives};
 ghost use Rattle.wh_syntax.specs.Shown.{instr_of, InPool};
 ghost use Rattle.wh_expr.specs.ReadingCode.{operands_at};

@@ -2,10 +2,10 @@
 
 ghost use Rattle.std.specs.Prelude.{◌≡◌, ◌≢◌, ℕ, ◌<◌, ◌≤◌, ◌+◌, ◌-◌, ◌^◌, ◌++◌, ◌∷◌, [], List, length, drop, reverse, map, IfOk, IfErr, Ok, Err, OnOk, Option, Some};
 ghost use Rattle.std.specs.List.{AllByRecursion};
-ghost use Rattle.wh_model.specs.Syntax.{Code};
-ghost use Rattle.wh_model.specs.Syntax as model;
-ghost use Rattle.wh_model.specs.Opcodes.{opcode};
-ghost use Rattle.wh_model.specs.Instructions.{allowed, may_come, expr};
+ghost use Rattle.wh_model.specs.Format.Syntax.{Code};
+ghost use Rattle.wh_model.specs.Format.Syntax as model;
+ghost use Rattle.wh_model.specs.Format.Opcodes.{opcode};
+ghost use Rattle.wh_model.specs.Format.Instructions.{allowed, may_come, expr};
 ghost use Rattle.wh_leb.specs.Reading.{one_at, head_of, Gives, IsFound, Broken};
 ghost use Rattle.wh_syntax.specs.Shown.{instr_of, InPool};
 ghost use Rattle.wh_expr.specs.ReadingCode.{instr_at, operands_at, after_instr, code_from, most_from, code_at};

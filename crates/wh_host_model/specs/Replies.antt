@@ -3,14 +3,14 @@ use Rattle.std.specs.Prelude.{◌≡◌, ◌≢◌, ℕ, ◌+◌, ◌<◌, ◌�
 use Rattle.wh_model.specs.declared.faults.FaultKind.{FaultKind}
 use Rattle.wh_model.specs.declared.faults.ValidKind.{ValidKind}
 use Rattle.wh_model.specs.declared.faults.ValidKind.TheVariants.{Memory as NoRoomToCheck}
-use Rattle.wh_model.specs.Numbering.{fault_number, valid_number, import_number}
-use Rattle.wh_model.specs.Syntax.{Module}
-use Rattle.wh_model.specs.Spelling.{IsBroken}
-use Rattle.wh_model.specs.Validity.{Valid}
-use Rattle.wh_model.specs.Heights.{Fits}
+use Rattle.wh_model.specs.Format.Numbering.{fault_number, valid_number, import_number}
+use Rattle.wh_model.specs.Format.Syntax.{Module}
+use Rattle.wh_model.specs.Format.Spelling.{IsBroken}
+use Rattle.wh_model.specs.Validity.Valid.{Valid}
+use Rattle.wh_model.specs.Validity.Heights.{Fits}
 use Rattle.wh_model.specs.declared.faults.ImportFault.{ImportFault}
-use Rattle.wh_model.specs.Linking.{Links, IsFirstFault}
-use Rattle.wh_model.specs.Accepting.{IsModule}
+use Rattle.wh_model.specs.Linking.Imports.{Links, IsFirstFault}
+use Rattle.wh_model.specs.Linking.Accepting.{IsModule}
 use Rattle.wh_host_model.specs.Script.{is_skipped, longest_line, Place, error_reply, kept_reply, refused_reply, invalid_reply, unlinked_reply, no_link_memory_reply}
 use Rattle.wh_host_model.specs.Requests.{Request, keep_module, AsksRequest}
 

@@ -1,7 +1,7 @@
 -- What an error says of a module.
 use Rattle.std.specs.Prelude.{⊤}
-use Rattle.wh_model.specs.Syntax.{Module}
-use Rattle.wh_model.specs.Linking.{IsFirstFault}
+use Rattle.wh_model.specs.Format.Syntax.{Module}
+use Rattle.wh_model.specs.Linking.Imports.{IsFirstFault}
 use Rattle.wh_imports.specs.declared.error.LinkError.{LinkError}
 use Rattle.wh_imports.specs.declared.error.LinkError.TheVariants.{NoItem, Memory}
 

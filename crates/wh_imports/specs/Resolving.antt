@@ -1,13 +1,13 @@
 -- What imports are resolved to.
 use Rattle.std.specs.Prelude.{◌≡◌, List, [], ◌∷◌, ◌++◌, map}
 use Rattle.wh_model.specs.declared.host.HostFunc.{HostFunc}
-use Rattle.wh_model.specs.Syntax.{FuncType, Import, Module}
-use Rattle.wh_model.specs.Store.{host}
-use Rattle.wh_model.specs.Instance.{Parameters, Imported}
+use Rattle.wh_model.specs.Format.Syntax.{FuncType, Import, Module}
+use Rattle.wh_model.specs.Execution.Store.{host}
+use Rattle.wh_model.specs.Execution.Instance.{Parameters, Imported}
 use Rattle.wh_model.specs.declared.host.HostGlobal.{HostGlobal}
 use Rattle.wh_model.specs.declared.host.HostItem.{HostItem}
 use Rattle.wh_model.specs.declared.host.HostItem.TheVariants.{Func, Global}
-use Rattle.wh_model.specs.Linking.{value_of}
+use Rattle.wh_model.specs.Linking.Imports.{value_of}
 
 -- where imports are these functions and, whatever the owner of an instance gives it, the values of these globals
 abbrev pub AreResolved : List FuncType → List Import → List HostFunc → List HostGlobal → Type 0

@@ -2,8 +2,8 @@
 use Rattle.std.specs.Prelude.{◌≡◌, ℕ, List, Some, slice_get}
 use Rattle.wh_model.specs.declared.ValType.{ValType}
 use Rattle.wh_model.specs.declared.ValType.TheVariants.{I32, I64}
-use Rattle.wh_model.specs.Syntax.{FuncType, ImportDesc, of_func, of_global}
-use Rattle.wh_model.specs.Store.{host, signature}
+use Rattle.wh_model.specs.Format.Syntax.{FuncType, ImportDesc, of_func, of_global}
+use Rattle.wh_model.specs.Execution.Store.{host, signature}
 use Rattle.wh_model.specs.declared.host.HostGlobal.{HostGlobal}
 use Rattle.wh_model.specs.declared.host.HostGlobal.TheVariants.{Base, Salt}
 use Rattle.wh_model.specs.declared.host.HostItem.{HostItem}

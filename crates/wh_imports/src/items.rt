@@ -2,9 +2,9 @@
 
 ghost use Rattle.std.specs.Prelude.{◌≡◌, ◌↔◌, IsTrue, map, codes, IfOk, IfErr, IfSome, IfNone};
 ghost use Rattle.std.specs.String.{string_bytes};
-ghost use Rattle.wh_model.specs.Store.{host, signature};
+ghost use Rattle.wh_model.specs.Execution.Store.{host, signature};
 ghost use Rattle.wh_model.specs.declared.faults.ImportFault.{ImportFault};
-ghost use Rattle.wh_model.specs.Linking.{item_name, ImportsItem, IsKnown, LacksItem};
+ghost use Rattle.wh_model.specs.Linking.Imports.{item_name, ImportsItem, IsKnown, LacksItem};
 ghost use Rattle.wh_syntax.specs.View.{view_type, view_import, view_desc};
 ghost use Rattle.wh_imports.specs.Typed.{global_type, IsTyped};
 

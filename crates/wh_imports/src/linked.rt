@@ -1,7 +1,7 @@
 //! Whole modules, linked.
 
 ghost use Rattle.std.specs.Prelude.{◌≡◌, map, OnOk, IfOk, IfErr};
-ghost use Rattle.wh_model.specs.Linking.{Links};
+ghost use Rattle.wh_model.specs.Linking.Imports.{Links};
 ghost use Rattle.wh_syntax.specs.View.{view_module};
 ghost use Rattle.wh_bodies.specs.Views.{view_side};
 ghost use Rattle.wh_validate.specs.Soundness.{IsChecked};

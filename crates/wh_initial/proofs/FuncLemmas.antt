@@ -2,11 +2,11 @@
 use Rattle.std.proofs.Common.{◌≡◌, ◌∙◌, ℕ, zero, suc, ◌+◌, ◌<◌, List, [], ◌∷◌, ◌++◌, length, map, take, drop, replicate, slice_get, Option, Some, None, inl, inr, refl, sym, ap, subst, arith}
 use Rattle.std.specs.List.{AllByRecursion}
 use Rattle.std.proofs.lemmas.Option.{slice_get_within}
-use Rattle.wh_model.specs.Syntax.{FuncType, Body, Import}
-use Rattle.wh_model.specs.Typing.{Context}
-use Rattle.wh_model.specs.Validity.{Name, HasFunc, imported_funcs, func_first}
-use Rattle.wh_model.specs.Store.{Value, FuncInst, own, written}
-use Rattle.wh_model.specs.Instance.{Parameters, Imported, Defined, Piece, filled}
+use Rattle.wh_model.specs.Format.Syntax.{FuncType, Body, Import}
+use Rattle.wh_model.specs.Validity.Typing.{Context}
+use Rattle.wh_model.specs.Validity.Valid.{Name, HasFunc, imported_funcs, func_first}
+use Rattle.wh_model.specs.Execution.Store.{Value, FuncInst, own, written}
+use Rattle.wh_model.specs.Execution.Instance.{Parameters, Imported, Defined, Piece, filled}
 use Rattle.wh_bodies.specs.Table.{Table}
 use Rattle.wh_validate.specs.Soundness.{Checked}
 

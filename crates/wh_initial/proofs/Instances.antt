@@ -3,14 +3,14 @@ use Rattle.std.proofs.Common.{◌≡◌, ℕ, ◌<◌, List, [], ◌∷◌, ◌+
 use Rattle.std.proofs.lemmas.Option.{slice_get_within}
 use Rattle.std.proofs.lemmas.List.{length-map, map-append}
 use Rattle.std.specs.List.{AllByRecursion}
-use Rattle.wh_model.specs.Syntax.{of_func, FuncType, Import, ImportDesc, Body}
-use Rattle.wh_model.specs.Typing.{Context}
-use Rattle.wh_model.specs.Heights.{no_type}
-use Rattle.wh_model.specs.Validity.{Name, imported_funcs, func_first}
-use Rattle.wh_model.specs.Store.{Value, FuncInst, own, host, signature, Instance}
-use Rattle.wh_model.specs.Instance.{Parameters, Piece, Imported, Defined, Prepares}
+use Rattle.wh_model.specs.Format.Syntax.{of_func, FuncType, Import, ImportDesc, Body}
+use Rattle.wh_model.specs.Validity.Typing.{Context}
+use Rattle.wh_model.specs.Validity.Heights.{no_type}
+use Rattle.wh_model.specs.Validity.Valid.{Name, imported_funcs, func_first}
+use Rattle.wh_model.specs.Execution.Store.{Value, FuncInst, own, host, signature, Instance}
+use Rattle.wh_model.specs.Execution.Instance.{Parameters, Piece, Imported, Defined, Prepares}
 use Rattle.wh_model.proofs.Instance.{imported_same}
-use Rattle.wh_model.specs.Linking.{value_of}
+use Rattle.wh_model.specs.Linking.Imports.{value_of}
 use Rattle.wh_syntax.specs.View.{view_module}
 use Rattle.wh_bodies.specs.Table.{Table, table_of}
 use Rattle.wh_bodies.specs.Views.{view_side, type_at}

@@ -4,12 +4,12 @@ use Rattle.std.specs.List.{AllByRecursion}
 use Rattle.std.proofs.lemmas.List.{map-append, length-map}
 use Rattle.wh_model.specs.declared.host.HostFunc.{HostFunc}
 use Rattle.wh_model.specs.declared.ValType.TheVariants.{I32}
-use Rattle.wh_model.specs.Typing.{Context}
-use Rattle.wh_model.specs.Validity.{imported_globals, imported_funcs, IsContext}
-use Rattle.wh_model.specs.Store.{Value, type_of, host, Instance}
-use Rattle.wh_model.specs.Instance.{Parameters, Defined, Placed, Piece, Within, filled, last_size, Prepares, needs_more, out_of_bounds, in_bounds}
+use Rattle.wh_model.specs.Validity.Typing.{Context}
+use Rattle.wh_model.specs.Validity.Valid.{imported_globals, imported_funcs, IsContext}
+use Rattle.wh_model.specs.Execution.Store.{Value, type_of, host, Instance}
+use Rattle.wh_model.specs.Execution.Instance.{Parameters, Defined, Placed, Piece, Within, filled, last_size, Prepares, needs_more, out_of_bounds, in_bounds}
 use Rattle.wh_model.specs.declared.host.HostGlobal.{HostGlobal}
-use Rattle.wh_model.specs.Linking.{value_of}
+use Rattle.wh_model.specs.Linking.Imports.{value_of}
 use Rattle.wh_control.specs.Represents.{bits_of, InRange}
 use Rattle.wh_syntax.specs.declared.module.Module.{Module}
 use Rattle.wh_syntax.specs.View.{view_module}

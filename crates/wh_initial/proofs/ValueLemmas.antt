@@ -4,17 +4,17 @@ use Rattle.std.specs.List.{AllByRecursion}
 use Rattle.wh_model.specs.declared.ValType.{ValType}
 use Rattle.wh_model.specs.declared.ValType.TheVariants.{I32, I64}
 use Rattle.wh_model.specs.declared.Mutability.TheVariants.{Const}
-use Rattle.wh_model.specs.Numbers as numbers
-use Rattle.wh_model.specs.Numbers.{unsigned}
+use Rattle.wh_model.specs.Execution.Numbers as numbers
+use Rattle.wh_model.specs.Execution.Numbers.{unsigned}
 use Rattle.wh_model.proofs.Numbers.{unsigned-lt}
-use Rattle.wh_model.specs.Syntax.{i32_const, i64_const, global_get, Code, nothing, plain, GlobalType, FuncType, Import}
-use Rattle.wh_model.specs.Syntax as model
-use Rattle.wh_model.specs.Validity.{ConstantOf, imported_globals, global_first}
-use Rattle.wh_model.specs.Store.{Value, value, type_of, FuncInst}
-use Rattle.wh_model.specs.Instance.{Parameters, Imported, Evaluates, Begun}
+use Rattle.wh_model.specs.Format.Syntax.{i32_const, i64_const, global_get, Code, nothing, plain, GlobalType, FuncType, Import}
+use Rattle.wh_model.specs.Format.Syntax as model
+use Rattle.wh_model.specs.Validity.Valid.{ConstantOf, imported_globals, global_first}
+use Rattle.wh_model.specs.Execution.Store.{Value, value, type_of, FuncInst}
+use Rattle.wh_model.specs.Execution.Instance.{Parameters, Imported, Evaluates, Begun}
 use Rattle.wh_model.specs.declared.host.HostGlobal.{HostGlobal}
 use Rattle.wh_model.specs.declared.host.HostGlobal.TheVariants.{Base, Salt}
-use Rattle.wh_model.specs.Linking.{value_of}
+use Rattle.wh_model.specs.Linking.Imports.{value_of}
 use Rattle.wh_control.specs.Represents.{bits_of, InRange}
 use Rattle.wh_syntax.specs.declared.module.Global.{Global}
 use Rattle.wh_syntax.specs.View.{view_global}

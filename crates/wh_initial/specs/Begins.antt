@@ -2,11 +2,11 @@
 use Rattle.std.specs.Prelude.{◌≡◌, ◌*◌, ◌≤◌, List, [], None, map, replicate, ⊤}
 use Rattle.std.specs.List.{AllByRecursion}
 use Rattle.std.specs.Vec.{vec_capacity}
-use Rattle.wh_model.specs.Syntax.{Module}
-use Rattle.wh_model.specs.Typing.{Context}
-use Rattle.wh_model.specs.Validity.{IsContext}
-use Rattle.wh_model.specs.Store.{Value, Instance, Store, output_room}
-use Rattle.wh_model.specs.Instance.{Parameters, Piece, Within, filled, fragments, first_size, Prepares, IsInitial, memory_min, segment_bounds, begins}
+use Rattle.wh_model.specs.Format.Syntax.{Module}
+use Rattle.wh_model.specs.Validity.Typing.{Context}
+use Rattle.wh_model.specs.Validity.Valid.{IsContext}
+use Rattle.wh_model.specs.Execution.Store.{Value, Instance, Store, output_room}
+use Rattle.wh_model.specs.Execution.Instance.{Parameters, Piece, Within, filled, fragments, first_size, Prepares, IsInitial, memory_min, segment_bounds, begins}
 use Rattle.wh_control.specs.Represents.{bits_of, InRange}
 use Rattle.wh_control.specs.Storage.{RepresentsStore}
 use Rattle.wh_initial.specs.declared.outcome.Instantiated.{Instantiated}

@@ -2,8 +2,8 @@
 use Rattle.std.specs.Prelude.{◌≡◌, ℕ, ◌+◌, ◌*◌, ◌<◌, ◌≤◌, List, [], None, length, map, replicate, ⊤}
 use Rattle.std.specs.List.{All}
 use Rattle.std.specs.Vec.{vec_capacity}
-use Rattle.wh_model.specs.Store.{output_room}
-use Rattle.wh_model.specs.Instance.{Parameters, filled, first_size, last_size}
+use Rattle.wh_model.specs.Execution.Store.{output_room}
+use Rattle.wh_model.specs.Execution.Instance.{Parameters, filled, first_size, last_size}
 use Rattle.wh_model.specs.declared.host.HostGlobal.{HostGlobal}
 use Rattle.wh_syntax.specs.declared.module.Module.{Module}
 use Rattle.wh_syntax.specs.declared.module.Element.{Element}

@@ -1,10 +1,10 @@
 -- The words of constant expressions (3.3.7), of globals and of segments: values without their types.
 use Rattle.std.specs.Prelude.{◌≡◌, ℕ, ◌^◌, ◌<◌, ◌⊎◌, List, ◌++◌, length, map, slice_index, ℤ}
-use Rattle.wh_model.specs.Numbers.{unsigned}
-use Rattle.wh_model.specs.Syntax.{Op, i32_const, i64_const, global_get, Code, nothing, plain}
-use Rattle.wh_model.specs.Instance.{Parameters, Piece}
+use Rattle.wh_model.specs.Execution.Numbers.{unsigned}
+use Rattle.wh_model.specs.Format.Syntax.{Op, i32_const, i64_const, global_get, Code, nothing, plain}
+use Rattle.wh_model.specs.Execution.Instance.{Parameters, Piece}
 use Rattle.wh_model.specs.declared.host.HostGlobal.{HostGlobal}
-use Rattle.wh_model.specs.Linking.{value_of}
+use Rattle.wh_model.specs.Linking.Imports.{value_of}
 use Rattle.wh_syntax.specs.declared.instr.Instr.{Instr}
 use Rattle.wh_syntax.specs.declared.instr.Instr.TheVariants.{I32Const, I64Const, GlobalGet}
 use Rattle.wh_syntax.specs.declared.module.Global.{Global}

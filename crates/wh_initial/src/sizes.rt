@@ -1,7 +1,7 @@
 //! The sizes of the table and of the memory (2.3.4, 4.5.3).
 
 ghost use Rattle.std.specs.Prelude.{◌≡◌, map};
-ghost use Rattle.wh_model.specs.Instance as model;
+ghost use Rattle.wh_model.specs.Execution.Instance as model;
 ghost use Rattle.wh_syntax.specs.View.{view_limits, view_table};
 
 use wh_syntax::{Limits, TableType};

@@ -2,8 +2,8 @@
 
 ghost use Rattle.std.specs.Prelude.{◌≡◌, ◌+◌, ◌≤◌, None, Some, map, replicate, length, IfOk, IfErr};
 ghost use Rattle.std.specs.List.{All};
-ghost use Rattle.wh_model.specs.Store.{written};
-ghost use Rattle.wh_model.specs.Instance.{filled};
+ghost use Rattle.wh_model.specs.Execution.Store.{written};
+ghost use Rattle.wh_model.specs.Execution.Instance.{filled};
 ghost use Rattle.wh_initial.specs.Words.{word_in, IsOffset, element_piece};
 
 use crate::constants::offset_of;

@@ -6,7 +6,7 @@ use Rattle.std.proofs.lemmas.Bool.{cases_lt, cond-true}
 use Rattle.std.proofs.lemmas.Int.{ints, quot-rem, to_z-of_z}
 use Rattle.std.specs.Prelude.{int_div, int_rem, int_lt}
 use Rattle.wh_model.proofs.Numbers.{signed-low, signed-high, signed-bounds, bits-pos}
-use Rattle.wh_model.specs.Numbers.{bits, signed, unsigned, quotient, idiv_s, irem_u, irem_s}
+use Rattle.wh_model.specs.Execution.Numbers.{bits, signed, unsigned, quotient, idiv_s, irem_u, irem_s}
 use Rattle.wh_model.specs.declared.Trap.TheVariants.{DivideByZero, Overflow}
 use Rattle.wh_model.specs.declared.ValType.{ValType}
 use Rattle.wh_model.specs.declared.ValType.TheVariants.{I32, I64}

@@ -10,8 +10,8 @@
 #![tactic(auto)]
 
 ghost use Rattle.std.specs.Prelude.{◌≡◌, ◌-◌, ◌<◌, ◌^◌, ◌%◌, IfOk, pos, neg_ℤ};
-ghost use Rattle.wh_model.specs.Numbers.{bits, signed, unsigned, unary, binary, test, compare, convert, operand_type, result_type};
-ghost use Rattle.wh_model.specs.Numbers.{iadd, isub, imul, idiv_s, idiv_u, irem_s, irem_u, ishl, ishr_s, ishr_u, irotl, irotr, iclz, ictz};
+ghost use Rattle.wh_model.specs.Execution.Numbers.{bits, signed, unsigned, unary, binary, test, compare, convert, operand_type, result_type};
+ghost use Rattle.wh_model.specs.Execution.Numbers.{iadd, isub, imul, idiv_s, idiv_u, irem_s, irem_u, ishl, ishr_s, ishr_u, irotl, irotr, iclz, ictz};
 
 use wh_model::{BinaryOp, CompareOp, ConvertOp, TestOp, Trap, UnaryOp, ValType};
 
@@ -19,7 +19,7 @@ use wh_model::{BinaryOp, CompareOp, ConvertOp, TestOp, Trap, UnaryOp, ValType};
 ///
 /// The operand is below 2^N at the type's N.
 #[inline]
-#[tactic(auto, using(crate::proofs::Words::count_results), unfolding(wh_model::specs::Numbers::unary))]
+#[tactic(auto, using(crate::proofs::Words::count_results), unfolding(wh_model::specs::Execution::Numbers::unary))]
 pub fn unop(width: ValType, op: UnaryOp, operand: u64) -> u64
     requires { operand < 2 ^ bits width }
     ensures value { result ≡ unary width op operand }
@@ -38,7 +38,7 @@ pub fn unop(width: ValType, op: UnaryOp, operand: u64) -> u64
 /// A division or a remainder by 0 is [`Trap::DivideByZero`], whatever the dividend, and the signed division of the
 /// least number by -1 is [`Trap::Overflow`]; the remainder of that division is 0. The other operators never trap.
 #[inline]
-#[tactic(auto, using(crate::proofs::Words::results), unfolding(wh_model::specs::Numbers::binary))]
+#[tactic(auto, using(crate::proofs::Words::results), unfolding(wh_model::specs::Execution::Numbers::binary))]
 pub fn binop(width: ValType, op: BinaryOp, left: u64, right: u64) -> Result<u64, Trap>
     requires left_fits { left < 2 ^ bits width }
     requires right_fits { right < 2 ^ bits width }
@@ -66,7 +66,7 @@ pub fn binop(width: ValType, op: BinaryOp, left: u64, right: u64) -> Result<u64,
 
 /// A test of one integer, of either type (`ieqz` of the standard, 4.3.2), with an i32 result: 1 if it holds, else 0.
 #[inline]
-#[tactic(auto, unfolding(wh_model::specs::Numbers::test, wh_model::specs::Numbers::truth))]
+#[tactic(auto, unfolding(wh_model::specs::Execution::Numbers::test, wh_model::specs::Execution::Numbers::truth))]
 pub fn testop(op: TestOp, operand: u64) -> u64
     ensures value { result ≡ test op operand }
     ensures fits { result < 2 ^ 32 }
@@ -81,7 +81,7 @@ pub fn testop(op: TestOp, operand: u64) -> u64
 ///
 /// The operands are below 2^N at the type's N.
 #[inline]
-#[tactic(auto, unfolding(wh_model::specs::Numbers::compare, wh_model::specs::Numbers::holds, wh_model::specs::Numbers::truth))]
+#[tactic(auto, unfolding(wh_model::specs::Execution::Numbers::compare, wh_model::specs::Execution::Numbers::holds, wh_model::specs::Execution::Numbers::truth))]
 pub fn relop(width: ValType, op: CompareOp, left: u64, right: u64) -> u64
     requires left_fits { left < 2 ^ bits width }
     requires right_fits { right < 2 ^ bits width }
@@ -107,7 +107,7 @@ pub fn relop(width: ValType, op: CompareOp, left: u64, right: u64) -> u64
 /// The operand is below 2^N at the N of the type that the conversion takes, and the result at that of the type that
 /// it gives.
 #[inline]
-#[tactic(auto, unfolding(wh_model::specs::Numbers::convert, wh_model::specs::Numbers::wrap, wh_model::specs::Numbers::extend_s, wh_model::specs::Numbers::extend_u))]
+#[tactic(auto, unfolding(wh_model::specs::Execution::Numbers::convert, wh_model::specs::Execution::Numbers::wrap, wh_model::specs::Execution::Numbers::extend_s, wh_model::specs::Execution::Numbers::extend_u))]
 pub fn convert(op: ConvertOp, operand: u64) -> u64
     requires { operand < 2 ^ bits (operand_type op) }
     ensures value { result ≡ convert op operand }
@@ -146,7 +146,7 @@ fn mul(width: ValType, left: u64, right: u64) -> u64
 }
 
 #[inline]
-#[tactic(auto, unfolding(wh_model::specs::Numbers::idiv_u))]
+#[tactic(auto, unfolding(wh_model::specs::Execution::Numbers::idiv_u))]
 fn div_u(left: u64, right: u64) -> Result<u64, Trap>
     ensures { result ≡ idiv_u left right }
 {
@@ -219,7 +219,7 @@ fn shr_s(width: ValType, left: u64, right: u64) -> u64
 }
 
 #[inline]
-#[tactic(auto, unfolding(wh_model::specs::Numbers::ishr_u))]
+#[tactic(auto, unfolding(wh_model::specs::Execution::Numbers::ishr_u))]
 fn shr_u(width: ValType, left: u64, right: u64) -> u64
     ensures { result ≡ ishr_u (bits width) left right }
 {

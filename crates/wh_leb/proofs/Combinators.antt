@@ -7,7 +7,7 @@ use Rattle.std.proofs.Math.Seq.{drop-append_seam}
 use Rattle.wh_model.specs.declared.faults.FaultKind.{FaultKind}
 use Rattle.wh_model.specs.declared.faults.FaultKind.TheVariants.{Truncated, SectionSize, Limit}
 use Rattle.wh_model.specs.declared.faults.DecodeError.{DecodeError}
-use Rattle.wh_model.specs.Grammar.{Grammar, gives, ◌>>=◌ as ◌then◌, one_of, bytes, only_if, up_to, times, exactly, exactly_from, EndsAs, HeadBreaks}
+use Rattle.wh_model.specs.Format.Grammar.{Grammar, gives, ◌>>=◌ as ◌then◌, one_of, bytes, only_if, up_to, times, exactly, exactly_from, EndsAs, HeadBreaks}
 use Rattle.wh_leb.specs.Reading.{◌>>=◌, fail, ReadsBy, Anything, with_next, head_of, one_at, read_bytes_at, only_at, limited_at, times_at, is_truncated, outer_fault, closed_window, exactly_at, closed_from, exactly_from_at, with_front}
 
 -- the value of a step that did not fail

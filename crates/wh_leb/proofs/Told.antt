@@ -3,7 +3,7 @@ use Rattle.std.proofs.Common.{◌≡◌, ◌≢◌, ℕ, ◌≤◌, ◌+◌, ◌
 use Rattle.std.specs.Prelude.{IfOk, IfErr}
 use Rattle.wh_model.specs.declared.faults.FaultKind.TheVariants.{Memory}
 use Rattle.wh_model.specs.declared.faults.DecodeError.{DecodeError}
-use Rattle.wh_model.specs.Grammar.{Grammar}
+use Rattle.wh_model.specs.Format.Grammar.{Grammar}
 use Rattle.wh_leb.specs.Reading.{ReadsBy, Anything, Gives, IsFound, Broken, Complete}
 
 module _ {A : Type 0} (g : Grammar A) (read : List ℕ → ℕ → Result (A × ℕ) DecodeError) (law : ReadsBy Anything g read) (b : List ℕ) (at : ℕ) (le : at ≤ length b) where

@@ -3,7 +3,7 @@ use Rattle.std.specs.Prelude.{◌≡◌, ◌≢◌, ℕ, zero, suc, ◌+◌, ◌
 use Rattle.wh_model.specs.declared.faults.FaultKind.{FaultKind}
 use Rattle.wh_model.specs.declared.faults.FaultKind.TheVariants.{Truncated, SectionSize, Limit, Leb, Memory}
 use Rattle.wh_model.specs.declared.faults.DecodeError.{DecodeError}
-use Rattle.wh_model.specs.Grammar.{Grammar}
+use Rattle.wh_model.specs.Format.Grammar.{Grammar}
 
 infixl 10 ◌>>=◌
 abbrev pub ◌>>=◌ : {A B : Type 0} → Result A DecodeError → (A → Result B DecodeError) → Result B DecodeError

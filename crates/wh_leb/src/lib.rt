@@ -4,7 +4,7 @@
 #![tactic(auto)]
 
 ghost use Rattle.std.specs.Prelude.{◌≡◌, ◌<◌, ◌≤◌, ◌+◌, ◌-◌, ◌^◌, ◌≤ℤ◌, ◌<ℤ◌, pos, neg_ℤ, length, drop, IfOk, IfErr, Err};
-ghost use Rattle.wh_model.specs.Leb.{u32, s32, s64};
+ghost use Rattle.wh_model.specs.Format.Leb.{u32, s32, s64};
 ghost use Rattle.wh_leb.specs.Reading.{unsigned_of, signed_of, u32_at, s32_at, s64_at, IsFound, Broken, Complete};
 
 use wh_model::{DecodeError, FaultKind};

@@ -8,7 +8,7 @@ ghost use Rattle.std.specs.Bool.{MatchBool};
 ghost use Rattle.std.specs.Prelude.{◌≡◌, ◌≤◌, ◌*◌, ℕ, List, length, IsTrue, IsFalse};
 ghost use Rattle.wh_model.specs.declared.memory.Got.TheVariants.{Value};
 ghost use Rattle.wh_model.specs.declared.memory.Need.{Need};
-ghost use Rattle.wh_model.specs.Memory.{IsWaiting, Loads, Stores, Grows};
+ghost use Rattle.wh_model.specs.Execution.Memory.{IsWaiting, Loads, Stores, Grows};
 
 use wh_model::{Got, Grown, Need};
 

@@ -2,11 +2,11 @@
 use Rattle.std.specs.Prelude.{◌≢◌, ℕ, List}
 use Rattle.wh_model.specs.declared.faults.FaultKind.TheVariants.{Memory as NoRoom}
 use Rattle.wh_model.specs.declared.faults.ValidKind.TheVariants.{Memory as NoRoomToCheck}
-use Rattle.wh_model.specs.Syntax.{Module}
-use Rattle.wh_model.specs.Spelling.{IsBroken}
-use Rattle.wh_model.specs.Validity.{Valid}
-use Rattle.wh_model.specs.Heights.{Fits}
-use Rattle.wh_model.specs.Accepting.{IsModule}
+use Rattle.wh_model.specs.Format.Syntax.{Module}
+use Rattle.wh_model.specs.Format.Spelling.{IsBroken}
+use Rattle.wh_model.specs.Validity.Valid.{Valid}
+use Rattle.wh_model.specs.Validity.Heights.{Fits}
+use Rattle.wh_model.specs.Linking.Accepting.{IsModule}
 use Rattle.wh_syntax.specs.View.{view_module}
 use Rattle.wh_imports.specs.Joined.{LinkedState}
 use Rattle.wh_imports.specs.Refusing as linking

@@ -6,7 +6,7 @@
 #![tactic(auto)]
 
 ghost use Rattle.std.specs.Prelude.{IfOk, IfErr};
-ghost use Rattle.wh_model.specs.Accepting.{IsAccepted};
+ghost use Rattle.wh_model.specs.Linking.Accepting.{IsAccepted};
 ghost use Rattle.wh_load.specs.Refusing.{view_linked, RefusesBytes};
 
 mod error;

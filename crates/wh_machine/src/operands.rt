@@ -1,8 +1,8 @@
 //! Instructions on operands alone (4.4.1, 4.4.2).
 
 ghost use Rattle.std.specs.Prelude.{◌≡◌, ◌≢◌, ℕ, ◌^◌, ◌<◌, ◌⊎◌, List, ◌∷◌, Ok, Err, IfOk, IfErr};
-ghost use Rattle.wh_model.specs.Numbers as numbers;
-ghost use Rattle.wh_model.specs.Numbers.{bits};
+ghost use Rattle.wh_model.specs.Execution.Numbers as numbers;
+ghost use Rattle.wh_model.specs.Execution.Numbers.{bits};
 
 use wh_control::ValueStack;
 use wh_intops::{binop, convert, relop, testop, unop};

@@ -1,15 +1,15 @@
 -- Fragments lie in one page each, and together they are the segments.
 use Rattle.std.proofs.Common.{◌≡◌, ℕ, zero, suc, ◌+◌, ◌*◌, ◌%◌, ◌==◌, ◌<◌, ◌≤◌, map, Bool, true, false, List, [], ◌∷◌, ◌++◌, length, refl, sym, ap, subst, arith, ◌∙◌, if◌then◌else◌, take-append-drop, length-append, length-take, length-drop}
 use Rattle.std.specs.List.{AllByRecursion}
-use Rattle.wh_model.specs.Store.{Store, written}
+use Rattle.wh_model.specs.Execution.Store.{Store, written}
 use Rattle.std.proofs.lemmas.Bool.{eqb-true}
 use Rattle.std.proofs.lemmas.List.{length-replicate}
-use Rattle.wh_model.specs.Instance.{Piece, Placed, onto_piece, cut_up, fragments, Within}
-use Rattle.wh_model.specs.Replay.{with_pieces}
-use Rattle.wh_model.specs.Instance.{begins, first_size, IsInitial, needs_more, out_of_bounds, in_bounds, Parameters, Beginning}
-use Rattle.wh_model.specs.Syntax.{Module}
-use Rattle.wh_model.specs.Store.{Instance}
-use Rattle.wh_model.specs.ReplayLaws.{InOnePage, FragmentsInPages, FragmentsWithin, FragmentsWrite, LaterAtMultiples, CutAtMultiples, CutOfThree, BeginningWrites}
+use Rattle.wh_model.specs.Execution.Instance.{Piece, Placed, onto_piece, cut_up, fragments, Within}
+use Rattle.wh_model.specs.Execution.Replay.{with_pieces}
+use Rattle.wh_model.specs.Execution.Instance.{begins, first_size, IsInitial, needs_more, out_of_bounds, in_bounds, Parameters, Beginning}
+use Rattle.wh_model.specs.Format.Syntax.{Module}
+use Rattle.wh_model.specs.Execution.Store.{Instance}
+use Rattle.wh_model.specs.Laws.ReplayLaws.{InOnePage, FragmentsInPages, FragmentsWithin, FragmentsWrite, LaterAtMultiples, CutAtMultiples, CutOfThree, BeginningWrites}
 
 -- ---- writing
 

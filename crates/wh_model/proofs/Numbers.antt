@@ -6,7 +6,7 @@ use Rattle.std.proofs.lemmas.Nat.{shr_below, mul-add-lt, mod_low, shr_high, div-
 use Rattle.std.proofs.lemmas.Bool.{cases_lt}
 use Rattle.std.proofs.lemmas.Bool.Decides.{nat_tests}
 use Rattle.std.proofs.lemmas.Int.{ints}
-use Rattle.wh_model.specs.Numbers.{bits, signed, unsigned, iadd, isub, imul, idiv_u, quotient, idiv_s, irem_u, irem_s, ishl, ishr_u, ishr_s, irotl, irotr, count_below, iclz, ictz, ipopcnt, wrap, extend_u, extend_s, truth, unary, binary, test, holds, compare, operand_type, result_type, convert}
+use Rattle.wh_model.specs.Execution.Numbers.{bits, signed, unsigned, iadd, isub, imul, idiv_u, quotient, idiv_s, irem_u, irem_s, ishl, ishr_u, ishr_s, irotl, irotr, count_below, iclz, ictz, ipopcnt, wrap, extend_u, extend_s, truth, unary, binary, test, holds, compare, operand_type, result_type, convert}
 use Rattle.wh_model.specs.declared.Trap.{Trap}
 use Rattle.wh_model.specs.declared.Trap.TheVariants.{DivideByZero, Overflow}
 use Rattle.wh_model.specs.declared.ValType.{ValType}

@@ -7,13 +7,13 @@ use Rattle.wh_model.specs.declared.BinaryOp.TheVariants.{Add, DivS, RemS}
 use Rattle.wh_model.specs.declared.Trap.{Trap}
 use Rattle.wh_model.specs.declared.Trap.TheVariants.{DivideByZero, Overflow, OutOfBounds}
 use Rattle.wh_model.specs.declared.LoadOp.TheVariants.{I32Load}
-use Rattle.wh_model.specs.Numbers as numbers
-use Rattle.wh_model.specs.Numbers.{unsigned, signed, quotient, idiv_s, irem_s}
-use Rattle.wh_model.specs.Syntax.{Code, nothing, plain, block, loop, i32_const, br, br_table, local_get, return, binary, load}
-use Rattle.wh_model.specs.Store.{Value, value, Instance, Store, number, bytes_at}
-use Rattle.wh_model.specs.Focus.{Focused, running, finished, stopped, activation, plug}
-use Rattle.wh_model.specs.FocusSteps.{Steps, FocusedLeads, rests, steps}
-use Rattle.wh_model.specs.Worked.{invoked, Done, Trapped, StandsForFuel}
+use Rattle.wh_model.specs.Execution.Numbers as numbers
+use Rattle.wh_model.specs.Execution.Numbers.{unsigned, signed, quotient, idiv_s, irem_s}
+use Rattle.wh_model.specs.Format.Syntax.{Code, nothing, plain, block, loop, i32_const, br, br_table, local_get, return, binary, load}
+use Rattle.wh_model.specs.Execution.Store.{Value, value, Instance, Store, number, bytes_at}
+use Rattle.wh_model.specs.Focus.Focused.{Focused, running, finished, stopped, activation, plug}
+use Rattle.wh_model.specs.Focus.FocusSteps.{Steps, FocusedLeads, rests, steps}
+use Rattle.wh_model.specs.Laws.Worked.{invoked, Done, Trapped, StandsForFuel}
 use Rattle.wh_model.proofs.Agrees.{after_agrees}
 use Rattle.wh_model.proofs.StepsReduce.{steps_reduce}
 

@@ -5,13 +5,13 @@ use Rattle.wh_model.specs.declared.BinaryOp.TheVariants.{Add}
 use Rattle.wh_model.specs.declared.LoadOp.TheVariants.{I32Load}
 use Rattle.wh_model.specs.declared.StoreOp.TheVariants.{I32Store}
 use Rattle.wh_model.specs.declared.Trap.TheVariants.{CallDepth}
-use Rattle.wh_model.specs.Numbers as numbers
-use Rattle.wh_model.specs.Numbers.{unsigned, iadd}
-use Rattle.wh_model.specs.Syntax.{Code, nothing, plain, i32_const, load, store, call, binary, FuncType, Body}
-use Rattle.wh_model.specs.Store.{value, own, Instance, Store, number, bytes_of, bytes_at, written}
-use Rattle.wh_model.specs.Focus.{Activation, Focused, running, finished, stopped, activation}
-use Rattle.wh_model.specs.FocusSteps.{FocusedLeads, rests, steps}
-use Rattle.wh_model.specs.Worked.{invoked, Done, Trapped}
+use Rattle.wh_model.specs.Execution.Numbers as numbers
+use Rattle.wh_model.specs.Execution.Numbers.{unsigned, iadd}
+use Rattle.wh_model.specs.Format.Syntax.{Code, nothing, plain, i32_const, load, store, call, binary, FuncType, Body}
+use Rattle.wh_model.specs.Execution.Store.{value, own, Instance, Store, number, bytes_of, bytes_at, written}
+use Rattle.wh_model.specs.Focus.Focused.{Activation, Focused, running, finished, stopped, activation}
+use Rattle.wh_model.specs.Focus.FocusSteps.{FocusedLeads, rests, steps}
+use Rattle.wh_model.specs.Laws.Worked.{invoked, Done, Trapped}
 use Rattle.wh_model.proofs.Agrees.{after_agrees}
 
 -- i32.const 0, i32.const 0, i32.load, i32.const 1, i32.add, i32.store, call 0

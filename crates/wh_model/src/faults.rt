@@ -1,7 +1,7 @@
 //! What is wrong with a module: with its bytes, with what they spell, or with what it imports.
 
 ghost use Rattle.std.specs.Prelude.{◌≡◌};
-ghost use Rattle.wh_model.specs.Numbering.{fault_number, valid_number, import_number};
+ghost use Rattle.wh_model.specs.Format.Numbering.{fault_number, valid_number, import_number};
 
 use thiserror::Error;
 

@@ -1,9 +1,9 @@
 //! Laws of the definitions alone.
 
-ghost use Rattle.wh_model.specs.Laws.{OneReduction, SmallCharges, UnchargedEnd, Settles, OneAfter, AfterJoins, AfterSplits, OneNeed};
-ghost use Rattle.wh_model.specs.FocusLaws.{Agrees, AfterAgrees, ChargedSettles};
-ghost use Rattle.wh_model.specs.ReplayLaws.{OneBeginning, OneEnd, OneStanding, HistoryBefore, HistorySplits, JournalGrows, StartIsCalled, FuelSuffices, ArgumentsFit, RunningGoesOn, OthersWait, DeadDoNothing, ReturnedHasWritten, PiecesInOrder, CancelledStays, DoneReplays, TrappedReplays, FuelReplays, FragmentsInPages, FragmentsWithin, CutAtMultiples, CutOfThree, FragmentsWrite, BeginningWrites};
-ghost use Rattle.wh_model.specs.LinkingLaws.{OneFirstFault, LinksWithoutFault, SomeBeginning};
+ghost use Rattle.wh_model.specs.Laws.ReductionLaws.{OneReduction, SmallCharges, UnchargedEnd, Settles, OneAfter, AfterJoins, AfterSplits, OneNeed};
+ghost use Rattle.wh_model.specs.Laws.FocusLaws.{Agrees, AfterAgrees, ChargedSettles};
+ghost use Rattle.wh_model.specs.Laws.ReplayLaws.{OneBeginning, OneEnd, OneStanding, HistoryBefore, HistorySplits, JournalGrows, StartIsCalled, FuelSuffices, ArgumentsFit, RunningGoesOn, OthersWait, DeadDoNothing, ReturnedHasWritten, PiecesInOrder, CancelledStays, DoneReplays, TrappedReplays, FuelReplays, FragmentsInPages, FragmentsWithin, CutAtMultiples, CutOfThree, FragmentsWrite, BeginningWrites};
+ghost use Rattle.wh_model.specs.Laws.LinkingLaws.{OneFirstFault, LinksWithoutFault, SomeBeginning};
 
 /// What holds of reduction. The function does nothing; what it ensures are the laws.
 pub fn execution_holds()

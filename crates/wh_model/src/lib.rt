@@ -5,7 +5,7 @@
 #![tactic(auto)]
 
 ghost use Rattle.std.specs.Prelude.{◌≡◌};
-ghost use Rattle.wh_model.specs.Numbering.{trap_number};
+ghost use Rattle.wh_model.specs.Format.Numbering.{trap_number};
 
 mod faults;
 mod host;

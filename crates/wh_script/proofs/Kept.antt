@@ -3,7 +3,7 @@ use Rattle.std.proofs.Common.{◌≡◌, ℕ, Bool, true, false, cond, List, Opt
 use Rattle.std.specs.Prelude.{option_map, if◌then◌else◌}
 use Rattle.std.specs.Map.{update}
 use mathlib.Core.Path.{fun_ext}
-use Rattle.wh_model.specs.Syntax.{Module}
+use Rattle.wh_model.specs.Format.Syntax.{Module}
 use Rattle.wh_host_model.specs.Replies.{with_module}
 
 seen_cond : {X : Type 0} (view : X → Module) (b : Bool) (x : X) (y : Option X) → option_map view (cond b (Some x) y) ≡ (if b then Some (view x) else option_map view y)

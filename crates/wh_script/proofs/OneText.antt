@@ -1,16 +1,16 @@
 -- A script has one text of replies, where no memory is wanted, but for the faults of the validator.
 use Rattle.std.proofs.Common.{◌≡◌, ℕ, ◌+◌, List, [], ◌∷◌, sym, ap, subst, ◌∙◌, arith}
 use Rattle.wh_model.specs.declared.faults.FaultKind.{FaultKind}
-use Rattle.wh_model.specs.Numbering.{fault_number, import_number}
-use Rattle.wh_model.specs.Syntax.{Module}
-use Rattle.wh_model.specs.Spelling.{Spells, Small, IsBroken}
-use Rattle.wh_model.specs.Validity.{Valid}
-use Rattle.wh_model.specs.Heights.{Fits}
+use Rattle.wh_model.specs.Format.Numbering.{fault_number, import_number}
+use Rattle.wh_model.specs.Format.Syntax.{Module}
+use Rattle.wh_model.specs.Format.Spelling.{Spells, Small, IsBroken}
+use Rattle.wh_model.specs.Validity.Valid.{Valid}
+use Rattle.wh_model.specs.Validity.Heights.{Fits}
 use Rattle.wh_model.specs.declared.faults.ImportFault.{ImportFault}
-use Rattle.wh_model.specs.Linking.{Links, IsFirstFault}
+use Rattle.wh_model.specs.Linking.Imports.{Links, IsFirstFault}
 use Rattle.wh_host_model.specs.Script.{refused_reply, unlinked_reply}
 use Rattle.wh_host_model.specs.Requests.{Request, keep_module, AsksRequest, IsHex}
-use Rattle.wh_model.specs.Accepting.{IsModule}
+use Rattle.wh_model.specs.Linking.Accepting.{IsModule}
 use Rattle.wh_host_model.specs.Replies.{Modules, with_module, ModuleReply, taken, kept, refused, invalid, unlinked, Reply, LineReply, skipped, too_long, no_request, asked, Replies, AgreeAt, same, both_invalid, Agree}
 use Rattle.wh_model.proofs.LinkingLemmas.{one_first_fault, links_no_fault}
 use Rattle.wh_script.proofs.Hex.{one_hex}

@@ -2,14 +2,14 @@
 use Rattle.std.proofs.Common.{◌≡◌, ◌≢◌, ℕ, ◌⊎◌, inl, inr, List, None, refl, ap, arith}
 use Rattle.wh_model.specs.declared.faults.FaultKind.{FaultKind}
 use Rattle.wh_model.specs.declared.faults.FaultKind.TheVariants.{Magic, Version, Truncated, SectionOrder, SectionSize, Leb, Utf8, UnknownByte, Float, Unsupported, Limit, CountMismatch, Memory as NoRoom}
-use Rattle.wh_model.specs.Numbering.{fault_number, valid_number}
-use Rattle.wh_model.specs.Spelling.{IsBroken}
-use Rattle.wh_model.specs.Syntax.{Module}
-use Rattle.wh_model.specs.Validity.{Valid}
-use Rattle.wh_model.specs.Heights.{Fits}
+use Rattle.wh_model.specs.Format.Numbering.{fault_number, valid_number}
+use Rattle.wh_model.specs.Format.Spelling.{IsBroken}
+use Rattle.wh_model.specs.Format.Syntax.{Module}
+use Rattle.wh_model.specs.Validity.Valid.{Valid}
+use Rattle.wh_model.specs.Validity.Heights.{Fits}
 use Rattle.wh_host_model.specs.Script.{Place, refused_reply, invalid_reply}
 use Rattle.wh_host_model.specs.Requests.{keep_module}
-use Rattle.wh_model.specs.Accepting.{IsModule}
+use Rattle.wh_model.specs.Linking.Accepting.{IsModule}
 use Rattle.wh_host_model.specs.Replies.{Modules, IsValidFault, refused, invalid, unlinked, by_decoder, by_validator, by_linker, ReplyOrWant}
 use Rattle.wh_model.specs.declared.faults.ValidKind.{ValidKind}
 use Rattle.wh_model.specs.declared.faults.ValidKind.TheVariants.{BadType, Index, Align, Arity, Const, DuplicateExport, Start, Limits, Height, ConstImmutable, Memory as NoRoomToCheck}

@@ -4,17 +4,17 @@ use Rattle.std.proofs.Common.{◌≡◌, ◌⊎◌, inl, inr, ℕ, zero, suc, �
 use Rattle.std.specs.List.{AllByRecursion}
 use Rattle.wh_model.specs.declared.faults.FaultKind.{FaultKind}
 use Rattle.wh_model.specs.declared.faults.ValidKind.TheVariants.{BadType}
-use Rattle.wh_model.specs.Numbering.{fault_number, import_number}
-use Rattle.wh_model.specs.Syntax.{FuncType, Import, Module}
-use Rattle.wh_model.specs.Spelling.{AreBytes, Spells, Small, IsBroken}
-use Rattle.wh_model.specs.Validity.{Valid}
-use Rattle.wh_model.specs.Heights.{Fits}
+use Rattle.wh_model.specs.Format.Numbering.{fault_number, import_number}
+use Rattle.wh_model.specs.Format.Syntax.{FuncType, Import, Module}
+use Rattle.wh_model.specs.Format.Spelling.{AreBytes, Spells, Small, IsBroken}
+use Rattle.wh_model.specs.Validity.Valid.{Valid}
+use Rattle.wh_model.specs.Validity.Heights.{Fits}
 use Rattle.wh_model.specs.declared.faults.ImportFault.{ImportFault}
 use Rattle.wh_model.specs.declared.faults.ImportFault.TheVariants.{UnknownImport, ImportType}
-use Rattle.wh_model.specs.Linking.{HasItem, IsKnown, LacksItem}
+use Rattle.wh_model.specs.Linking.Imports.{HasItem, IsKnown, LacksItem}
 use Rattle.wh_host_model.specs.Script.{is_skipped, longest_line, in_module, error_reply, kept_reply, refused_reply, invalid_reply, unlinked_reply}
 use Rattle.wh_host_model.specs.Requests.{IsDigit, numeral, lower, upper, IsHex, Request, keep_module, AsksRequest}
-use Rattle.wh_model.specs.Accepting.{IsModule}
+use Rattle.wh_model.specs.Linking.Accepting.{IsModule}
 use Rattle.wh_host_model.specs.Replies.{Modules, no_modules, with_module, ModuleReply, taken, kept, refused, invalid, unlinked, Reply, LineReply, skipped, too_long, no_request, asked, Replies, AreReplies}
 
 -- ---- it can't be that there is none

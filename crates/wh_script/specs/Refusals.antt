@@ -1,6 +1,6 @@
 -- The text of a refusal.
 use Rattle.std.specs.Prelude.{ℕ, List, Option, None, Some}
-use Rattle.wh_model.specs.Numbering.{fault_number, valid_number, import_number}
+use Rattle.wh_model.specs.Format.Numbering.{fault_number, valid_number, import_number}
 use Rattle.wh_host_model.specs.Script.{Place, in_module, in_func, refused_reply, invalid_reply, unlinked_reply, no_link_memory_reply}
 use Rattle.wh_imports.specs.declared.error.LinkError.{LinkError}
 use Rattle.wh_imports.specs.declared.error.LinkError.TheVariants.{NoItem, Memory}

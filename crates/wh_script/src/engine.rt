@@ -3,7 +3,7 @@
 ghost use Rattle.std.specs.Prelude.{◌≡◌, ℕ, List, IfOk, [], IfErr, OnOk, OnErr, string_bytes};
 ghost use Rattle.wh_host_model.specs.Replies.{no_modules, with_module};
 ghost use Rattle.wh_host_model.specs.Requests.{Request, keep_module, IsHex};
-ghost use Rattle.wh_model.specs.Numbering.{valid_number};
+ghost use Rattle.wh_model.specs.Format.Numbering.{valid_number};
 ghost use Rattle.wh_host_model.specs.Script.{kept_reply, error_reply, invalid_reply};
 ghost use Rattle.wh_script.specs.Numbering.{complaint_number};
 ghost use Rattle.wh_load.specs.Refusing.{view_linked};

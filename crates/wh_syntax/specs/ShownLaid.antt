@@ -3,9 +3,9 @@ use Rattle.std.proofs.Common.{◌≡◌, ℕ, ◌+◌, List, [], ◌∷◌, ◌+
 use Rattle.std.specs.Prelude.{slice_index}
 use Rattle.std.proofs.lemmas.List.{take_at}
 use Rattle.std.proofs.Math.Seq.{drop-append_seam, get_or-append_seam}
-use Rattle.wh_model.specs.Syntax as model
-use Rattle.wh_model.specs.Syntax.{Op, unreachable, nop, br, br_if, br_table, return, call, call_indirect, drop_operand, select, local_get, local_set, local_tee, global_get, global_set, load, store, memory_size, memory_grow, i32_const, i64_const, test, comparison, unary, binary, conversion, single, block_start, loop_start, if_start, else_mark, end_mark, Code, expression}
-use Rattle.wh_model.specs.Nested.{nested}
+use Rattle.wh_model.specs.Format.Syntax as model
+use Rattle.wh_model.specs.Format.Syntax.{Op, unreachable, nop, br, br_if, br_table, return, call, call_indirect, drop_operand, select, local_get, local_set, local_tee, global_get, global_set, load, store, memory_size, memory_grow, i32_const, i64_const, test, comparison, unary, binary, conversion, single, block_start, loop_start, if_start, else_mark, end_mark, Code, expression}
+use Rattle.wh_model.specs.Focus.Nested.{nested}
 use Rattle.wh_model.proofs.Nesting.{nested-expression}
 use Rattle.wh_syntax.specs.Shown.{instr_of}
 use Rattle.wh_syntax.specs.Laid.{laid_instr, labels_of, laid_instrs, laid_labels}

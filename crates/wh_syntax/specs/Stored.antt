@@ -3,8 +3,8 @@ use Rattle.std.specs.Prelude.{ℕ, List, map}
 use Rattle.std.specs.Coded.{Coded, code_by, coded_list, coded_ℕ, coded×}
 use Rattle.wh_syntax.specs.declared.instr.Instr.{Instr}
 use Rattle.wh_syntax.specs.contracts.instr.Instr as instr_type
-use Rattle.wh_model.specs.Syntax.{Code, expression}
-use Rattle.wh_model.specs.Nested.{nested}
+use Rattle.wh_model.specs.Format.Syntax.{Code, expression}
+use Rattle.wh_model.specs.Focus.Nested.{nested}
 use Rattle.wh_syntax.specs.Laid.{laid_instrs, laid_labels}
 use Rattle.wh_syntax.specs.Shown.{instr_of}
 use Rattle.wh_syntax.specs.ShownLaid.{shown-laid}

@@ -1,8 +1,8 @@
 -- Which abstract syntax (section 2 of the standard) decoded modules stand for.
 use Rattle.std.specs.Prelude.{map}
 use Rattle.std.specs.String.{string_bytes}
-use Rattle.wh_model.specs.Syntax as model
-use Rattle.wh_model.specs.Syntax.{of_func, of_global}
+use Rattle.wh_model.specs.Format.Syntax as model
+use Rattle.wh_model.specs.Format.Syntax.{of_func, of_global}
 use Rattle.wh_syntax.specs.declared.module.FuncType.{FuncType}
 use Rattle.wh_syntax.specs.declared.module.Limits.{Limits}
 use Rattle.wh_syntax.specs.declared.module.TableType.{TableType}

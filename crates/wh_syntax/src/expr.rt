@@ -2,8 +2,8 @@
 
 ghost use Rattle.std.specs.Prelude.{◌≡◌, map};
 ghost use Rattle.std.specs.List.{AllByRecursion};
-ghost use Rattle.wh_model.specs.Syntax.{Code, expression};
-ghost use Rattle.wh_model.specs.Nested.{nested};
+ghost use Rattle.wh_model.specs.Format.Syntax.{Code, expression};
+ghost use Rattle.wh_model.specs.Focus.Nested.{nested};
 ghost use Rattle.wh_syntax.specs.Shown.{instr_of, InPool};
 ghost use Rattle.wh_syntax.specs.Stored.{stored_code};
 

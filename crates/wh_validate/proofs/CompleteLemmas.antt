@@ -2,10 +2,10 @@
 use Rattle.std.proofs.Common.{◌≡◌, ℕ, zero, suc, ◌<◌, ◌≤◌, List, [], ◌∷◌, ◌++◌, length, map, Some, slice_get, sym, ap, subst, arith, ◌∙◌, All}
 use Rattle.std.specs.List.{AllByRecursion}
 use Rattle.std.proofs.lemmas.List.{length-map}
-use Rattle.wh_model.specs.Syntax as model
-use Rattle.wh_model.specs.Typing.{Context}
-use Rattle.wh_model.specs.Validity.{func_first, ValidType, WithinBound, most_entries, most_pages, imported_funcs, imported_globals, Name, IsContext, ValidGlobal, ValidElement, ValidData, Exported, IsValidIn, Valid, ValidBodies}
-use Rattle.wh_model.specs.Heights.{FitsTable, FitsIn, Fits, FitBodies}
+use Rattle.wh_model.specs.Format.Syntax as model
+use Rattle.wh_model.specs.Validity.Typing.{Context}
+use Rattle.wh_model.specs.Validity.Valid.{func_first, ValidType, WithinBound, most_entries, most_pages, imported_funcs, imported_globals, Name, IsContext, ValidGlobal, ValidElement, ValidData, Exported, IsValidIn, Valid, ValidBodies}
+use Rattle.wh_model.specs.Validity.Heights.{FitsTable, FitsIn, Fits, FitBodies}
 use Rattle.wh_syntax.specs.declared.module.Module.{Module}
 use Rattle.wh_syntax.specs.declared.module.Import.{Import}
 use Rattle.wh_syntax.specs.declared.module.ImportDesc.{ImportDesc}

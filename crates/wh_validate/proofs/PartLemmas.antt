@@ -2,9 +2,9 @@
 use Rattle.std.proofs.Common.{◌≡◌, ℕ, ◌<◌, List, length, map, take, sym, subst, All, Some, slice_get, get_or, unwrap_or, ap, ◌∙◌}
 use Rattle.std.specs.List.{AllByRecursion}
 use Rattle.wh_model.specs.declared.ValType.TheVariants.{I32}
-use Rattle.wh_model.specs.Syntax.{Code}
-use Rattle.wh_model.specs.Heights.{no_type}
-use Rattle.wh_model.specs.Validity.{ConstantOf, HasFunc}
+use Rattle.wh_model.specs.Format.Syntax.{Code}
+use Rattle.wh_model.specs.Validity.Heights.{no_type}
+use Rattle.wh_model.specs.Validity.Valid.{ConstantOf, HasFunc}
 use Rattle.wh_syntax.specs.View.{view_global_type, view_table, view_limits, view_type}
 use Rattle.wh_syntax.specs.declared.module.FuncType.{FuncType as Func}
 use Rattle.wh_syntax.specs.declared.module.Element.{Element}

@@ -2,10 +2,10 @@
 -- instruction of it. Imported functions count first, and a number past those of 32 bits is named as the greatest. In no
 -- function: what is wrong isn't in the bodies.
 use Rattle.std.specs.Prelude.{◌≡◌, ℕ, ◌+◌, ◌-◌, ◌^◌, min, List, length, Option, Some, None, slice_get}
-use Rattle.wh_model.specs.Syntax.{FuncType, Body, Module}
-use Rattle.wh_model.specs.Typing.{Context}
-use Rattle.wh_model.specs.Validity.{ValidBody, IsContext, imported_funcs, Valid}
-use Rattle.wh_model.specs.Heights.{FitsBody, Fits}
+use Rattle.wh_model.specs.Format.Syntax.{FuncType, Body, Module}
+use Rattle.wh_model.specs.Validity.Typing.{Context}
+use Rattle.wh_model.specs.Validity.Valid.{ValidBody, IsContext, imported_funcs, Valid}
+use Rattle.wh_model.specs.Validity.Heights.{FitsBody, Fits}
 use Rattle.wh_model.specs.declared.faults.ValidKind.{ValidKind}
 use Rattle.wh_bodies.specs.Faults.{IsOfBody, HasInstr}
 

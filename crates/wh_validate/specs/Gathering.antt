@@ -1,9 +1,9 @@
 -- What is known of a module before its bodies are looked at.
 use Rattle.std.specs.Prelude.{◌≡◌, ◌<◌, ◌≤◌, ◌++◌, List, map, length}
 use Rattle.std.specs.List.{All}
-use Rattle.wh_model.specs.Validity.{ValidType, WithinBound, most_pages, imported_funcs, imported_globals, DifferentNames, ValidStart}
-use Rattle.wh_model.specs.Syntax.{GlobalType}
-use Rattle.wh_model.specs.Typing.{Context}
+use Rattle.wh_model.specs.Validity.Valid.{ValidType, WithinBound, most_pages, imported_funcs, imported_globals, DifferentNames, ValidStart}
+use Rattle.wh_model.specs.Format.Syntax.{GlobalType}
+use Rattle.wh_model.specs.Validity.Typing.{Context}
 use Rattle.wh_validate.specs.Sizing.{IsTable}
 use Rattle.wh_syntax.specs.declared.module.Module.{Module}
 use Rattle.wh_syntax.specs.View.{view_import, view_type, view_table, view_limits, view_global_type, view_export}

@@ -3,7 +3,7 @@ use Rattle.std.specs.Prelude.{◌≡◌, ℕ, List, Bool, is_some, map}
 use Rattle.std.specs.List.{list_any}
 use Rattle.std.specs.Str.{bytes_eq}
 use Rattle.std.specs.String.{string_bytes}
-use Rattle.wh_model.specs.Validity.{DifferentNames}
+use Rattle.wh_model.specs.Validity.Valid.{DifferentNames}
 use Rattle.wh_syntax.specs.View.{view_export}
 use Rattle.wh_syntax.specs.declared.module.Export.{Export}
 use Rattle.std.specs.Cmp.Lexicographic.{slice_cmp}

@@ -1,9 +1,9 @@
 -- The parts of a module as they stand in the code, each valid (3.4.4 to 3.4.8). They are names that loops over parts
 -- leave closed.
 use Rattle.std.specs.Prelude.{List}
-use Rattle.wh_model.specs.Syntax as model
-use Rattle.wh_model.specs.Typing.{Context}
-use Rattle.wh_model.specs.Validity.{ConstantOf, ValidElement, ValidData, Exported}
+use Rattle.wh_model.specs.Format.Syntax as model
+use Rattle.wh_model.specs.Validity.Typing.{Context}
+use Rattle.wh_model.specs.Validity.Valid.{ConstantOf, ValidElement, ValidData, Exported}
 use Rattle.wh_syntax.specs.View.{view_element, view_data}
 use Rattle.wh_syntax.specs.declared.module.Global.{Global}
 use Rattle.wh_syntax.specs.declared.module.Element.{Element}

@@ -1,9 +1,9 @@
 -- What is known of checked bodies (3.4.1): each is valid, fits, and has its table.
 use Rattle.std.specs.Prelude.{◌≡◌, ℕ, List, [], ◌∷◌, Some, slice_get}
-use Rattle.wh_model.specs.Syntax.{FuncType, Body, Module}
-use Rattle.wh_model.specs.Typing.{Context}
-use Rattle.wh_model.specs.Validity.{ValidBody, IsValidIn}
-use Rattle.wh_model.specs.Heights.{FitsBody, FitsIn}
+use Rattle.wh_model.specs.Format.Syntax.{FuncType, Body, Module}
+use Rattle.wh_model.specs.Validity.Typing.{Context}
+use Rattle.wh_model.specs.Validity.Valid.{ValidBody, IsValidIn}
+use Rattle.wh_model.specs.Validity.Heights.{FitsBody, FitsIn}
 use Rattle.wh_bodies.specs.Table.{Table, table_of}
 
 -- each body with its function's type and its table

@@ -3,8 +3,8 @@
 ghost use Rattle.std.specs.Prelude.{◌≡◌, ◌≢◌, ◌<◌, ◌++◌, ◌∷◌, [], map, length, IfOk, IfErr, OnOk};
 ghost use Rattle.std.specs.List.{All, AllByRecursion};
 ghost use Rattle.wh_syntax.specs.View.{view_body, view_type};
-ghost use Rattle.wh_model.specs.Validity.{ValidType, ValidBodies};
-ghost use Rattle.wh_model.specs.Heights.{FitBodies};
+ghost use Rattle.wh_model.specs.Validity.Valid.{ValidType, ValidBodies};
+ghost use Rattle.wh_model.specs.Validity.Heights.{FitBodies};
 ghost use Rattle.wh_bodies.specs.Views.{view_context, view_side};
 ghost use Rattle.wh_validate.specs.Blaming.{Blames};
 ghost use Rattle.wh_validate.specs.Soundness.{Checked};

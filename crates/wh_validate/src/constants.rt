@@ -1,7 +1,7 @@
 //! Constant expressions (3.3.7): one constant, or one global that is never written.
 
 ghost use Rattle.std.specs.Prelude.{◌≡◌, ◌≢◌, map, take, slice_get, Some, IfErr};
-ghost use Rattle.wh_model.specs.Validity.{ConstantOf};
+ghost use Rattle.wh_model.specs.Validity.Valid.{ConstantOf};
 ghost use Rattle.wh_syntax.specs.View.{view_global_type};
 ghost use Rattle.wh_validate.specs.Deciding.{Decides};
 ghost use Rattle.wh_validate.specs.Constants.{IsConstant};

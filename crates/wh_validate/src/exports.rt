@@ -3,7 +3,7 @@
 ghost use Rattle.std.specs.Prelude.{◌≡◌, ◌≢◌, ◌||◌, ℕ, List, true, false, map, OnOk, IfErr};
 ghost use Rattle.std.specs.Str.{bytes_eq};
 ghost use Rattle.std.specs.List.{All};
-ghost use Rattle.wh_model.specs.Validity.{DifferentNames};
+ghost use Rattle.wh_model.specs.Validity.Valid.{DifferentNames};
 ghost use Rattle.wh_syntax.specs.View.{view_export};
 ghost use Rattle.wh_bodies.specs.Views.{view_context};
 ghost use Rattle.wh_validate.specs.Deciding.{Decides};

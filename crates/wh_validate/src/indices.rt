@@ -2,7 +2,7 @@
 
 ghost use Rattle.std.specs.Prelude.{◌≡◌, ◌≢◌, ◌<◌, ◌++◌, ◌∷◌, [], map, length, OnOk, IfErr, IfOk};
 ghost use Rattle.std.specs.List.{All};
-ghost use Rattle.wh_model.specs.Validity.{imported_funcs, imported_globals};
+ghost use Rattle.wh_model.specs.Validity.Valid.{imported_funcs, imported_globals};
 ghost use Rattle.wh_syntax.specs.View.{view_import, view_global_type};
 ghost use Rattle.wh_validate.specs.Deciding.{Decides};
 ghost use Rattle.wh_validate.specs.Naming.{NamesType};

@@ -1,9 +1,9 @@
 //! A law of the definitions alone.
 
 ghost use Rattle.std.specs.Prelude.{◌≡◌};
-ghost use Rattle.wh_model.specs.Syntax.{Module};
-ghost use Rattle.wh_model.specs.Typing.{Context};
-ghost use Rattle.wh_model.specs.Validity.{IsContext};
+ghost use Rattle.wh_model.specs.Format.Syntax.{Module};
+ghost use Rattle.wh_model.specs.Validity.Typing.{Context};
+ghost use Rattle.wh_model.specs.Validity.Valid.{IsContext};
 
 /// A module has one context at most. The function does nothing; what it ensures is the law.
 pub fn one_context()

@@ -2,9 +2,9 @@
 
 ghost use Rattle.std.specs.Prelude.{◌≡◌, ◌≢◌, ◌<◌, map, take, length, IfErr};
 ghost use Rattle.std.specs.List.{All, AllByRecursion};
-ghost use Rattle.wh_model.specs.Validity.{ValidStart};
+ghost use Rattle.wh_model.specs.Validity.Valid.{ValidStart};
 ghost use Rattle.wh_syntax.specs.View.{view_global_type, view_type};
-ghost use Rattle.wh_model.specs.Heights.{no_type};
+ghost use Rattle.wh_model.specs.Validity.Heights.{no_type};
 ghost use Rattle.std.specs.Bool.{MatchBool};
 ghost use Rattle.wh_bodies.specs.Views.{view_context};
 ghost use Rattle.wh_validate.specs.Deciding.{Decides};

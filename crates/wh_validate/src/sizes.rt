@@ -3,7 +3,7 @@
 ghost use Rattle.std.specs.Prelude.{◌≡◌, ◌≤◌, length, IfErr};
 ghost use Rattle.std.specs.Bool.{MatchBool};
 ghost use Rattle.std.specs.List.{All};
-ghost use Rattle.wh_model.specs.Validity.{WithinBound, most_pages};
+ghost use Rattle.wh_model.specs.Validity.Valid.{WithinBound, most_pages};
 ghost use Rattle.wh_validate.specs.Sizing.{IsTable};
 ghost use Rattle.wh_syntax.specs.View.{view_limits, view_table};
 ghost use Rattle.wh_validate.specs.Deciding.{Decides};

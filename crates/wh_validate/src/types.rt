@@ -2,7 +2,7 @@
 
 ghost use Rattle.std.specs.Prelude.{◌≡◌, ◌<◌, IfErr};
 ghost use Rattle.std.specs.List.{All};
-ghost use Rattle.wh_model.specs.Validity.{ValidType};
+ghost use Rattle.wh_model.specs.Validity.Valid.{ValidType};
 ghost use Rattle.wh_syntax.specs.View.{view_type};
 ghost use Rattle.wh_validate.specs.Deciding.{Decides};
 

@@ -2,8 +2,8 @@
 
 ghost use Rattle.std.specs.Prelude.{◌≡◌, ◌≢◌, ◌<◌, map, take, length, OnOk, IfOk, IfErr};
 ghost use Rattle.std.specs.List.{AllByRecursion};
-ghost use Rattle.wh_model.specs.Validity.{Valid, imported_funcs, imported_globals};
-ghost use Rattle.wh_model.specs.Heights.{Fits};
+ghost use Rattle.wh_model.specs.Validity.Valid.{Valid, imported_funcs, imported_globals};
+ghost use Rattle.wh_model.specs.Validity.Heights.{Fits};
 ghost use Rattle.wh_syntax.specs.View.{view_module, view_global_type};
 ghost use Rattle.wh_bodies.specs.Views.{view_context, view_side};
 ghost use Rattle.wh_validate.specs.Blaming.{BlamesRightly};

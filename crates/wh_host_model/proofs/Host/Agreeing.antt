@@ -1,9 +1,9 @@
 -- A turn that isn't answered Frame is determined.
 use Rattle.std.proofs.Common.{◌≡◌, ◌≢◌, ℕ, ◌+◌, ◌<◌, true, false, List, [], ◌∷◌, ◌++◌, Option, Some, None, refl, sym, ap, subst, ◌∙◌, arith}
-use Rattle.wh_model.specs.Store.{Instance, Store}
-use Rattle.wh_model.specs.Configuration.{Term, config}
-use Rattle.wh_model.specs.Reduction.{stays, IsNext}
-use Rattle.wh_model.specs.Replay.{Outcome}
+use Rattle.wh_model.specs.Execution.Store.{Instance, Store}
+use Rattle.wh_model.specs.Execution.Configuration.{Term, config}
+use Rattle.wh_model.specs.Execution.Reduction.{stays, IsNext}
+use Rattle.wh_model.specs.Execution.Replay.{Outcome}
 use Rattle.wh_model.proofs.Journals.{invocation_same}
 use Rattle.wh_host_model.specs.declared.plain.TurnEnd.{TurnEnd}
 use Rattle.wh_host_model.specs.declared.plain.TurnEnd.TheVariants.{Again, Fuel, Frame, Ended}

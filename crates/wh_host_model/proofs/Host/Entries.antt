@@ -1,11 +1,11 @@
 -- Lists of calls, some ended and some open, as the journal has them.
 use Rattle.std.proofs.Common.{◌≡◌, ℕ, List, [], ◌∷◌, ◌++◌, map, refl, sym, ap, subst}
 use Rattle.std.specs.List.{AllByRecursion}
-use Rattle.wh_model.specs.Store.{Instance, Store}
-use Rattle.wh_model.specs.Configuration.{Config}
-use Rattle.wh_model.specs.Instance.{Piece}
-use Rattle.wh_model.specs.Replay.{dead, pending, Call, Invocation, never_began, Standing, idle, Stands, is_invoked, Waits, Replays, at_rest, at_work}
-use Rattle.wh_model.specs.Histories.{Past, none_yet, one_more}
+use Rattle.wh_model.specs.Execution.Store.{Instance, Store}
+use Rattle.wh_model.specs.Execution.Configuration.{Config}
+use Rattle.wh_model.specs.Execution.Instance.{Piece}
+use Rattle.wh_model.specs.Execution.Replay.{dead, pending, Call, Invocation, never_began, Standing, idle, Stands, is_invoked, Waits, Replays, at_rest, at_work}
+use Rattle.wh_model.specs.Execution.Histories.{Past, none_yet, one_more}
 use Rattle.wh_model.proofs.Histories.{past_then}
 use Rattle.wh_host_model.specs.Host.Worlds.{Entry, Rest, Doing, journal_calls, store_with, standing_with}
 use Rattle.wh_host_model.specs.Host.Answers.{ended_by, Faces}

@@ -2,13 +2,13 @@
 use Rattle.std.proofs.Common.{◌≡◌, ℕ, ◌≤◌, Option, List, [], ◌∷◌, refl, sym, subst, arith, length-append}
 use Rattle.std.specs.List.{AllByRecursion}
 use Rattle.wh_model.specs.declared.memory.Need.{Need}
-use Rattle.wh_model.specs.Syntax.{Module}
-use Rattle.wh_model.specs.Store.{Instance}
-use Rattle.wh_model.specs.Configuration.{Term, config}
-use Rattle.wh_model.specs.Asking.{Asks}
-use Rattle.wh_model.specs.Instance.{Parameters}
-use Rattle.wh_model.specs.Replay.{Call, Replays, Replay}
-use Rattle.wh_model.specs.ReplayLaws as laws
+use Rattle.wh_model.specs.Format.Syntax.{Module}
+use Rattle.wh_model.specs.Execution.Store.{Instance}
+use Rattle.wh_model.specs.Execution.Configuration.{Term, config}
+use Rattle.wh_model.specs.Execution.Asking.{Asks}
+use Rattle.wh_model.specs.Execution.Instance.{Parameters}
+use Rattle.wh_model.specs.Execution.Replay.{Call, Replays, Replay}
+use Rattle.wh_model.specs.Laws.ReplayLaws as laws
 use Rattle.wh_model.proofs.Histories.{replays_then}
 use Rattle.wh_model.proofs.Journals.{fuel_suffices}
 use Rattle.wh_host_model.specs.Host.Worlds.{Entry, Rest, Doing, Tenant, computing, journal, journal_calls, store_with, standing_with, standing_in, empty_world}

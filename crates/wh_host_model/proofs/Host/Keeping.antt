@@ -2,13 +2,13 @@
 use Rattle.std.proofs.Common.{◌≡◌, ◌≢◌, ℕ, suc, zero, ◌+◌, ◌<◌, ◌≤◌, ⊎_elim, false, Option, Some, None, List, [], ◌∷◌, ◌++◌, length, map, take, drop, min, refl, sym, ap, subst, ◌∙◌, arith, ℤ, append_assoc, length-append}
 use Rattle.std.specs.List.{AllByRecursion}
 use Rattle.wh_model.specs.declared.memory.Need.{Need}
-use Rattle.wh_model.specs.Syntax.{Module}
-use Rattle.wh_model.specs.Store.{Value, Instance, Store}
-use Rattle.wh_model.specs.Instance.{Piece, Parameters, AreGiven, IsInitial, begins}
-use Rattle.wh_model.specs.Replay as replays
-use Rattle.wh_model.specs.Replay.{Outcome, returned, stopped, cancelled, dead, pending, Call, with_pieces, Ends, Standing, idle, writing, running, store_at, Stands, has_pieces, is_invoked, is_under_way, Waits}
-use Rattle.wh_model.specs.Taking.{Writes}
-use Rattle.wh_model.specs.Histories.{Past, none_yet, one_more}
+use Rattle.wh_model.specs.Format.Syntax.{Module}
+use Rattle.wh_model.specs.Execution.Store.{Value, Instance, Store}
+use Rattle.wh_model.specs.Execution.Instance.{Piece, Parameters, AreGiven, IsInitial, begins}
+use Rattle.wh_model.specs.Execution.Replay as replays
+use Rattle.wh_model.specs.Execution.Replay.{Outcome, returned, stopped, cancelled, dead, pending, Call, with_pieces, Ends, Standing, idle, writing, running, store_at, Stands, has_pieces, is_invoked, is_under_way, Waits}
+use Rattle.wh_model.specs.Execution.Taking.{Writes}
+use Rattle.wh_model.specs.Execution.Histories.{Past, none_yet, one_more}
 use Rattle.wh_model.proofs.Journals.{pieces_then, cancelled_stays}
 use Rattle.std.proofs.lemmas.List.{take-append-drop, length-drop, length-take, length-map}
 use Rattle.std.proofs.Math.Seq.{take-append_seam, drop-append_seam}

@@ -2,12 +2,12 @@
 use Rattle.std.proofs.Common.{◌≡◌, ℕ, ◌+◌, ◌<◌, List, length, take, drop, refl, sym, ap, subst, ◌∙◌, arith}
 use Rattle.std.proofs.lemmas.List.{take-append-drop, length-drop}
 use Rattle.wh_model.specs.declared.memory.Need.{Need}
-use Rattle.wh_model.specs.Store.{Instance, Store}
-use Rattle.wh_model.specs.Configuration.{Config}
-use Rattle.wh_model.specs.Reduction.{After}
-use Rattle.wh_model.specs.Instance.{Piece}
-use Rattle.wh_model.specs.Replay.{Call, with_pieces, Invocation, Standing, writing, running, Stands, has_pieces, is_invoked, is_under_way}
-use Rattle.wh_model.specs.Taking.{Writes, wrote_all, wrote, Takes, took_all, took}
+use Rattle.wh_model.specs.Execution.Store.{Instance, Store}
+use Rattle.wh_model.specs.Execution.Configuration.{Config}
+use Rattle.wh_model.specs.Execution.Reduction.{After}
+use Rattle.wh_model.specs.Execution.Instance.{Piece}
+use Rattle.wh_model.specs.Execution.Replay.{Call, with_pieces, Invocation, Standing, writing, running, Stands, has_pieces, is_invoked, is_under_way}
+use Rattle.wh_model.specs.Execution.Taking.{Writes, wrote_all, wrote, Takes, took_all, took}
 use Rattle.wh_model.proofs.Chains.{after_joins}
 use Rattle.wh_model.proofs.Journals.{pieces_then}
 use Rattle.wh_model.proofs.Taken.{takes_after}

@@ -2,9 +2,9 @@
 use Rattle.std.proofs.Common.{◌≡◌, ◌≤◌, Bool, true, false, List, [], ◌∷◌, ◌++◌, map, refl, sym, subst}
 use Rattle.std.specs.Bool.{MatchBool}
 use Rattle.std.specs.List.{AllByRecursion}
-use Rattle.wh_model.specs.Syntax.{Module}
-use Rattle.wh_model.specs.Store.{Instance}
-use Rattle.wh_model.specs.Replay.{Outcome, returned, stopped, cancelled, dead, pending, Call, fails, NamesFunction, IsDead, IsNotDead, IsJournal}
+use Rattle.wh_model.specs.Format.Syntax.{Module}
+use Rattle.wh_model.specs.Execution.Store.{Instance}
+use Rattle.wh_model.specs.Execution.Replay.{Outcome, returned, stopped, cancelled, dead, pending, Call, fails, NamesFunction, IsDead, IsNotDead, IsJournal}
 use Rattle.wh_host_model.specs.Host.Worlds.{Entry, journal_calls}
 use Rattle.wh_host_model.specs.Host.Answers.{ended_by, dies}
 use Rattle.wh_host_model.specs.Host.Calls.{most_fuel}

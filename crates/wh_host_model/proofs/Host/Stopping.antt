@@ -3,12 +3,12 @@ use Rattle.std.proofs.Common.{◌≡◌, ℕ, zero, suc, ◌+◌, ◌<◌, ◌�
 use Rattle.std.proofs.lemmas.List.{reverse-reverse}
 use Rattle.wh_model.specs.declared.Trap.{Trap}
 use Rattle.wh_model.specs.declared.memory.Need.{Need}
-use Rattle.wh_model.specs.Syntax.{Code, nothing}
-use Rattle.wh_model.specs.Store.{Value, Instance, Store}
-use Rattle.wh_model.specs.Configuration.{Term, code, Config, config, trapped}
-use Rattle.wh_model.specs.Reduction.{Reduces, Leads, stays, goes_on, IsSettled, After, IsNext}
-use Rattle.wh_model.specs.Instance.{Piece}
-use Rattle.wh_model.specs.Replay.{returned, stopped, Call, with_pieces, Invocation}
+use Rattle.wh_model.specs.Format.Syntax.{Code, nothing}
+use Rattle.wh_model.specs.Execution.Store.{Value, Instance, Store}
+use Rattle.wh_model.specs.Execution.Configuration.{Term, code, Config, config, trapped}
+use Rattle.wh_model.specs.Execution.Reduction.{Reduces, Leads, stays, goes_on, IsSettled, After, IsNext}
+use Rattle.wh_model.specs.Execution.Instance.{Piece}
+use Rattle.wh_model.specs.Execution.Replay.{returned, stopped, Call, with_pieces, Invocation}
 use Rattle.wh_model.proofs.Chains.{after_joins, after_splits, one_after}
 use Rattle.wh_model.proofs.OneReduction.{done_stays, reduces_same}
 use Rattle.wh_model.proofs.Journals.{invocation_same}

@@ -2,7 +2,7 @@
 use Rattle.std.proofs.Common.{◌≡◌, ◌≢◌, ℕ, ◌+◌, ◌*◌, ◌-◌, ◌≤◌, ◌⊎◌, inl, inr, cond, map, true, false, Bool, List, [], ◌∷◌, Option, Some, None, length, slice_get, slice_set, get_or, zero, suc, refl, sym, ap, ◌∙◌, subst, arith, length-set}
 use Rattle.std.proofs.lemmas.List.{get_or-set_other}
 use Rattle.wh_model.specs.declared.memory.Need.{Need}
-use Rattle.wh_model.specs.Memory.{reading}
+use Rattle.wh_model.specs.Execution.Memory.{reading}
 use Rattle.wh_host_model.specs.Frames.{tally}
 use Rattle.wh_host_model.specs.declared.states.Slot.TheVariants.{Evicting, EvictVoid}
 use Rattle.wh_host_model.specs.Space.Kept.{EndsSoundly, EpochsSoundly, StandsSoundly, TouchesSoundly, WritesSoundly}

@@ -2,7 +2,7 @@
 use Rattle.std.proofs.Common.{◌≡◌, ℕ, ◌≤◌, ◌==◌, inl, inr, cond, nat_lt, map, true, false, Bool, List, [], ◌∷◌, Some, length, slice_get, zero, suc, refl, sym, ap, ◌∙◌, subst, arith}
 use Rattle.std.proofs.lemmas.Bool.Decides.{nat_tests}
 use Rattle.wh_model.specs.declared.memory.Need.{Need}
-use Rattle.wh_model.specs.Memory.{writing}
+use Rattle.wh_model.specs.Execution.Memory.{writing}
 use Rattle.wh_host_model.specs.Frames.{tally, one_if}
 use Rattle.wh_host_model.proofs.Tally.{one_same, one_other}
 use Rattle.wh_host_model.specs.declared.states.Slot.TheVariants.{Evicting, EvictVoid}

@@ -1,16 +1,16 @@
 -- How modules and instances come to a host, and how instances go.
 use Rattle.std.specs.Prelude.{◌≡◌, ◌≢◌, ℕ, ◌+◌, ◌-◌, ◌<◌, ◌≤◌, ◌⊎◌, false, List, [], ◌∷◌, ◌++◌, length, slice_get, Option, Some, None}
 use Rattle.wh_model.specs.declared.faults.FaultKind.{FaultKind}
-use Rattle.wh_model.specs.Syntax.{Module}
-use Rattle.wh_model.specs.Spelling.{IsBroken}
-use Rattle.wh_model.specs.Validity.{Valid}
-use Rattle.wh_model.specs.Heights.{Fits}
-use Rattle.wh_model.specs.Store.{Instance, Store}
-use Rattle.wh_model.specs.Instance.{AreGiven, Piece, IsInitial, memory_min, segment_bounds, begins}
-use Rattle.wh_model.specs.Replay.{Outcome, returned, pending}
+use Rattle.wh_model.specs.Format.Syntax.{Module}
+use Rattle.wh_model.specs.Format.Spelling.{IsBroken}
+use Rattle.wh_model.specs.Validity.Valid.{Valid}
+use Rattle.wh_model.specs.Validity.Heights.{Fits}
+use Rattle.wh_model.specs.Execution.Store.{Instance, Store}
+use Rattle.wh_model.specs.Execution.Instance.{AreGiven, Piece, IsInitial, memory_min, segment_bounds, begins}
+use Rattle.wh_model.specs.Execution.Replay.{Outcome, returned, pending}
 use Rattle.wh_model.specs.declared.faults.ImportFault.{ImportFault}
-use Rattle.wh_model.specs.Linking.{Links, IsFirstFault}
-use Rattle.wh_model.specs.Accepting.{IsModule}
+use Rattle.wh_model.specs.Linking.Imports.{Links, IsFirstFault}
+use Rattle.wh_model.specs.Linking.Accepting.{IsModule}
 use Rattle.wh_host_model.specs.Space.Parts.{Space, minima, spreads}
 use Rattle.wh_host_model.specs.Host.Spaces.{Arrives, Departs}
 use Rattle.wh_host_model.specs.Host.Worlds.{Params, Entry, Rest, Doing, resting, has_left, Tenant, Loaded, World, given_of, promised, with_tenant}

@@ -1,11 +1,11 @@
 -- What a turn of an instance does, and what it answers.
 use Rattle.std.specs.Prelude.{◌≡◌, ◌≢◌, ℕ, zero, ◌+◌, ◌<◌, Bool, true, false, List, [], ◌∷◌, ◌++◌, map, Option, Some, None}
 use Rattle.wh_model.specs.declared.memory.Need.{Need}
-use Rattle.wh_model.specs.Store.{Instance, Store}
-use Rattle.wh_model.specs.Configuration.{Term, config}
-use Rattle.wh_model.specs.Reduction.{IsNext}
-use Rattle.wh_model.specs.Asking.{Asks}
-use Rattle.wh_model.specs.Replay.{Outcome, dead, fails, Invocation}
+use Rattle.wh_model.specs.Execution.Store.{Instance, Store}
+use Rattle.wh_model.specs.Execution.Configuration.{Term, config}
+use Rattle.wh_model.specs.Execution.Reduction.{IsNext}
+use Rattle.wh_model.specs.Execution.Asking.{Asks}
+use Rattle.wh_model.specs.Execution.Replay.{Outcome, dead, fails, Invocation}
 use Rattle.wh_host_model.specs.declared.plain.SwapError.{SwapError}
 use Rattle.wh_host_model.specs.declared.plain.TurnEnd.{TurnEnd}
 use Rattle.wh_host_model.specs.declared.plain.TurnEnd.TheVariants.{Idle, Again, Fuel, Frame, Ended}

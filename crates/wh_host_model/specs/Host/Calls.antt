@@ -3,10 +3,10 @@ use Rattle.std.specs.Prelude.{◌≡◌, ◌≢◌, ℕ, ◌+◌, ◌-◌, ◌^�
 use Rattle.wh_model.specs.declared.ValType.{ValType}
 use Rattle.wh_model.specs.declared.ValType.TheVariants.{I32, I64}
 use Rattle.wh_model.specs.declared.ExternKind.TheVariants.{Func}
-use Rattle.wh_model.specs.Syntax.{FuncType, Body, Module}
-use Rattle.wh_model.specs.Numbers.{unsigned}
-use Rattle.wh_model.specs.Store.{Value, value, own, Instance}
-use Rattle.wh_model.specs.Replay.{Call, pending, cancelled}
+use Rattle.wh_model.specs.Format.Syntax.{FuncType, Body, Module}
+use Rattle.wh_model.specs.Execution.Numbers.{unsigned}
+use Rattle.wh_model.specs.Execution.Store.{Value, value, own, Instance}
+use Rattle.wh_model.specs.Execution.Replay.{Call, pending, cancelled}
 use Rattle.wh_host_model.specs.declared.plain.SwapError.{SwapError}
 use Rattle.wh_host_model.specs.Space.Parts.{Space}
 use Rattle.wh_host_model.specs.Space.Sight.{HasNoPins}

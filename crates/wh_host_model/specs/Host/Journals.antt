@@ -1,9 +1,9 @@
 -- What the calls of an instance are, in the order of its journal.
 use Rattle.std.specs.Prelude.{◌≡◌, ℕ, ◌≤◌, Bool, true, false, List, [], ◌∷◌, slice_get, Some, None}
 use Rattle.std.specs.List.{AllByRecursion}
-use Rattle.wh_model.specs.Syntax.{FuncType, Body, Module}
-use Rattle.wh_model.specs.Store.{own, Instance}
-use Rattle.wh_model.specs.Replay.{Outcome, returned, stopped, cancelled, dead, pending, Call, fails}
+use Rattle.wh_model.specs.Format.Syntax.{FuncType, Body, Module}
+use Rattle.wh_model.specs.Execution.Store.{own, Instance}
+use Rattle.wh_model.specs.Execution.Replay.{Outcome, returned, stopped, cancelled, dead, pending, Call, fails}
 use Rattle.wh_host_model.specs.Host.Worlds.{Entry}
 use Rattle.wh_host_model.specs.Host.Turns.{HaveTypes}
 use Rattle.wh_host_model.specs.Host.Calls.{most_fuel, AreArguments}

@@ -2,11 +2,11 @@
 use Rattle.std.specs.Prelude.{◌≡◌, ◌≢◌, ℕ, ◌≤◌, List, [], length, slice_get, Some}
 use Rattle.std.specs.List.{AllByRecursion}
 use Rattle.wh_model.specs.declared.memory.Need.{Need}
-use Rattle.wh_model.specs.Store.{Store}
-use Rattle.wh_model.specs.Instance.{Piece, begins, IsInitial}
-use Rattle.wh_model.specs.Replay.{Replay}
-use Rattle.wh_model.specs.Configuration.{Term, config}
-use Rattle.wh_model.specs.Asking.{Asks}
+use Rattle.wh_model.specs.Execution.Store.{Store}
+use Rattle.wh_model.specs.Execution.Instance.{Piece, begins, IsInitial}
+use Rattle.wh_model.specs.Execution.Replay.{Replay}
+use Rattle.wh_model.specs.Execution.Configuration.{Term, config}
+use Rattle.wh_model.specs.Execution.Asking.{Asks}
 use Rattle.wh_host_model.specs.declared.Tax.{Tax}
 use Rattle.wh_host_model.specs.declared.plain.TurnEnd.{TurnEnd}
 use Rattle.wh_host_model.specs.declared.plain.TurnEnd.TheVariants.{Again, Frame}

@@ -1,13 +1,13 @@
 -- For what the present call of an instance stands, and whether that is right.
 use Rattle.std.specs.Prelude.{◌≡◌, ◌≢◌, ◌<◌, ◌⊎◌, List, [], ◌∷◌, length, Option, Some, None}
 use Rattle.wh_model.specs.declared.memory.Need.{Need}
-use Rattle.wh_model.specs.Store.{Instance, Store}
-use Rattle.wh_model.specs.Configuration.{Term, config}
-use Rattle.wh_model.specs.Reduction.{IsNext}
-use Rattle.wh_model.specs.Asking.{Asks}
-use Rattle.wh_model.specs.Memory.{writing}
-use Rattle.wh_model.specs.Instance.{Piece}
-use Rattle.wh_model.specs.Replay.{Call}
+use Rattle.wh_model.specs.Execution.Store.{Instance, Store}
+use Rattle.wh_model.specs.Execution.Configuration.{Term, config}
+use Rattle.wh_model.specs.Execution.Reduction.{IsNext}
+use Rattle.wh_model.specs.Execution.Asking.{Asks}
+use Rattle.wh_model.specs.Execution.Memory.{writing}
+use Rattle.wh_model.specs.Execution.Instance.{Piece}
+use Rattle.wh_model.specs.Execution.Replay.{Call}
 use Rattle.wh_host_model.specs.Space.Parts.{Space, wants}
 use Rattle.wh_host_model.specs.Host.Worlds.{Entry, Doing, has_left, computing, Suspension, for_fuel, for_frame, Tenant, store_in}
 

@@ -3,15 +3,15 @@ use Rattle.std.specs.Prelude.{◌≡◌, ℕ, ◌+◌, ◌<◌, ◌≤◌, List,
 use Rattle.std.specs.List.{AllByRecursion}
 use Rattle.wh_model.specs.declared.Trap.{Trap}
 use Rattle.wh_model.specs.declared.memory.Need.{Need}
-use Rattle.wh_model.specs.Syntax.{nothing, FuncType, Body}
-use Rattle.wh_model.specs.Store.{Value, type_of, InRange, own, Instance}
-use Rattle.wh_model.specs.Configuration.{Term, code, Config, config, trapped}
-use Rattle.wh_model.specs.Reduction.{After, IsNext}
-use Rattle.wh_model.specs.Asking.{Asks}
-use Rattle.wh_model.specs.Memory.{writing}
-use Rattle.wh_model.specs.Instance.{Piece}
-use Rattle.wh_model.specs.Replay.{Outcome, returned, stopped, Call, Invocation}
-use Rattle.wh_model.specs.Taking.{Writes, Takes}
+use Rattle.wh_model.specs.Format.Syntax.{nothing, FuncType, Body}
+use Rattle.wh_model.specs.Execution.Store.{Value, type_of, InRange, own, Instance}
+use Rattle.wh_model.specs.Execution.Configuration.{Term, code, Config, config, trapped}
+use Rattle.wh_model.specs.Execution.Reduction.{After, IsNext}
+use Rattle.wh_model.specs.Execution.Asking.{Asks}
+use Rattle.wh_model.specs.Execution.Memory.{writing}
+use Rattle.wh_model.specs.Execution.Instance.{Piece}
+use Rattle.wh_model.specs.Execution.Replay.{Outcome, returned, stopped, Call, Invocation}
+use Rattle.wh_model.specs.Execution.Taking.{Writes, Takes}
 use Rattle.wh_host_model.specs.Host.Worlds.{Rest, Doing, resting, has_left, computing, store_with}
 
 -- The call is opened: all pieces that it has left are written, so many of them; and it is at its invocation with the

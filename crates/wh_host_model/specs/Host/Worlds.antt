@@ -1,10 +1,10 @@
 -- A host as its definitions see it: modules, instances and their calls, over one memory.
 use Rattle.std.specs.Prelude.{ℕ, ◌/◌, Bool, List, [], ◌++◌, map, get_or, slice_set, Option, None, ℤ}
-use Rattle.wh_model.specs.Syntax.{Module}
-use Rattle.wh_model.specs.Store.{Value, Instance, Store}
-use Rattle.wh_model.specs.Configuration.{Term, config}
-use Rattle.wh_model.specs.Instance.{Piece, Parameters}
-use Rattle.wh_model.specs.Replay.{Call, Standing, idle, writing, running}
+use Rattle.wh_model.specs.Format.Syntax.{Module}
+use Rattle.wh_model.specs.Execution.Store.{Value, Instance, Store}
+use Rattle.wh_model.specs.Execution.Configuration.{Term, config}
+use Rattle.wh_model.specs.Execution.Instance.{Piece, Parameters}
+use Rattle.wh_model.specs.Execution.Replay.{Call, Standing, idle, writing, running}
 use Rattle.wh_host_model.specs.declared.Tax.{Tax}
 use Rattle.wh_host_model.specs.declared.plain.SwapError.{SwapError}
 use Rattle.wh_host_model.specs.Space.Parts.{Space, Claimed, view, empty_space}

@@ -1,6 +1,6 @@
 -- What changes nobody's bytes, and what changes only one's own.
 use Rattle.std.specs.Prelude.{ℕ, ◌≡◌, ◌≢◌, ◌*◌, ◌≤◌, ◌++◌, replicate, false, Bool, List, [], Option, None, Some, length, get_or, slice_get}
-use Rattle.wh_model.specs.Memory.{writing}
+use Rattle.wh_model.specs.Execution.Memory.{writing}
 use Rattle.wh_host_model.specs.Frames.{tally, one_if}
 use Rattle.wh_host_model.specs.declared.states.Slot.TheVariants.{Evicting}
 use Rattle.wh_host_model.specs.declared.states.EvictEnd.{EvictEnd}

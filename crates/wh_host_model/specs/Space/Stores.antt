@@ -2,8 +2,8 @@
 -- And what a new epoch leaves.
 use Rattle.std.specs.Prelude.{ℕ, ◌≡◌, ◌≢◌, ◌-◌, ◌*◌, ◌≤◌, ◌++◌, cond, nat_lt, map, replicate, Bool, true, false, List, [], ◌∷◌, Option, Some, None, length, get_or, slice_get, slice_set}
 use Rattle.wh_model.specs.declared.memory.Need.{Need}
-use Rattle.wh_model.specs.Store.{written}
-use Rattle.wh_model.specs.Memory.{reading, writing}
+use Rattle.wh_model.specs.Execution.Store.{written}
+use Rattle.wh_model.specs.Execution.Memory.{reading, writing}
 use Rattle.wh_host_model.specs.Frames.{tally, one_if}
 use Rattle.wh_host_model.specs.declared.states.Page.TheVariants.{Untouched, Private}
 use Rattle.wh_host_model.specs.declared.states.Mark.{Mark}

@@ -1,6 +1,6 @@
 use Rattle.std.proofs.Common.{refl, [], reverse, arith}
-use Rattle.wh_model.specs.Syntax.{nothing}
-use Rattle.wh_model.specs.Configuration.{called, config}
+use Rattle.wh_model.specs.Format.Syntax.{nothing}
+use Rattle.wh_model.specs.Execution.Configuration.{called, config}
 use Rattle.wh_control.specs.Represents.{result_of}
 use Rattle.wh_alone.specs.Kept.{Kept}
 use Rattle.wh_alone.proofs.Ending.{ends_from}

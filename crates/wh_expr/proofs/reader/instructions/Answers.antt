@@ -2,7 +2,7 @@ use Rattle.std.proofs.Common.{◌+◌, ◌-◌, [], List, reverse, map, Ok, sym,
 use Rattle.std.proofs.lemmas.Result.{err_from_is_err_and}
 use Rattle.std.specs.List.{AllByRecursion}
 use Rattle.wh_model.specs.declared.Open.{Open}
-use Rattle.wh_model.specs.Syntax as model
+use Rattle.wh_model.specs.Format.Syntax as model
 use Rattle.wh_leb.specs.Reading.{with_front}
 use Rattle.wh_syntax.specs.declared.instr.Instr.{Instr}
 use Rattle.wh_syntax.specs.Shown.{instr_of, InPool}

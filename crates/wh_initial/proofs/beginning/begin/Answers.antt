@@ -1,5 +1,5 @@
 use Rattle.std.proofs.Common.{◌≡◌, ◌∙◌, ◌≤◌, map, sym, ap, subst, refl}
-use Rattle.wh_model.specs.Instance.{first_size, last_size}
+use Rattle.wh_model.specs.Execution.Instance.{first_size, last_size}
 use Rattle.wh_syntax.specs.View.{view_limits, view_table}
 use Rattle.wh_initial.specs.Given.{view_parameters}
 use Rattle.wh_initial.specs.InWords.{AllFit, first_entries, first_pages}

@@ -3,9 +3,9 @@ use Rattle.wh_machine.proofs.ExecutingLemmas.{place_fits}
 use Rattle.wh_machine.proofs.Accessing.{charged_turn, store_index, store_steps, store_stops, store_waits}
 use Rattle.wh_machine.proofs.Finding.{rests_here, store_had}
 use Rattle.wh_intops.proofs.Numerals.{length_bytes_of}
-use Rattle.wh_model.specs.Memory.{Stores}
-use Rattle.wh_model.specs.Store.{bytes_of}
-use Rattle.wh_model.specs.Typing.{store_type}
+use Rattle.wh_model.specs.Execution.Memory.{Stores}
+use Rattle.wh_model.specs.Execution.Store.{bytes_of}
+use Rattle.wh_model.specs.Validity.Typing.{store_type}
 use Rattle.wh_model.specs.declared.memory.Got.TheVariants.{Value}
 use Rattle.wh_machine.proofs.accesses.exec_store.Goals as goal
 

@@ -1,5 +1,5 @@
 use Rattle.std.proofs.Common.{◌-◌, ℕ, length, arith}
-use Rattle.wh_model.specs.Syntax.{call}
+use Rattle.wh_model.specs.Format.Syntax.{call}
 use Rattle.wh_control.proofs.Constructs.{at_now}
 use Rattle.wh_machine.specs.Program.{parts_in}
 use Rattle.wh_machine.proofs.Seeing.{host_looks}

@@ -1,5 +1,5 @@
 use Rattle.std.proofs.Common.{◌≡◌, ◌∷◌, ℕ, List, Option, Some, slice_get, ap, sym, subst, ◌∙◌, length, arith}
-use Rattle.wh_model.specs.Syntax.{call_indirect}
+use Rattle.wh_model.specs.Format.Syntax.{call_indirect}
 use Rattle.wh_syntax.specs.declared.instr.Instr.TheVariants.{CallIndirect}
 use Rattle.wh_control.proofs.Constructs.{at_now}
 use Rattle.wh_machine.specs.declared.calling.Element.{Element}

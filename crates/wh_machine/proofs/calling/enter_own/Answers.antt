@@ -1,5 +1,5 @@
 use Rattle.std.proofs.Common.{◌<◌, ◌+◌, arith, length}
-use Rattle.wh_model.specs.Execution.{call_depth}
+use Rattle.wh_model.specs.Execution.Rules.{call_depth}
 use Rattle.wh_machine.proofs.calling.enter_own.Goals as goal
 
 pub enter-requires-clause-params : goal.enter-requires-clause-params

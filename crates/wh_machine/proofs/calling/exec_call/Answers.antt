@@ -1,5 +1,5 @@
 use Rattle.std.proofs.Common.{◌-◌, ℕ, sym, subst, arith, length, refl}
-use Rattle.wh_model.specs.Syntax.{call}
+use Rattle.wh_model.specs.Format.Syntax.{call}
 use Rattle.wh_control.specs.Represents.{RepresentsCalls}
 use Rattle.wh_control.specs.Moves.{entered}
 use Rattle.wh_control.proofs.Constructs.{at_now}

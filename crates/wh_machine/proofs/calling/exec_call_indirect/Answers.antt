@@ -1,5 +1,5 @@
 use Rattle.std.proofs.Common.{◌≡◌, ◌+◌, ◌-◌, ℕ, sym, ap, subst, ◌∙◌, arith, length, slice_get, Some, refl}
-use Rattle.wh_model.specs.Syntax.{call_indirect}
+use Rattle.wh_model.specs.Format.Syntax.{call_indirect}
 use Rattle.wh_syntax.specs.declared.instr.Instr.TheVariants.{CallIndirect}
 use Rattle.wh_control.proofs.Constructs.{at_now}
 use Rattle.wh_control.proofs.Calling.{at_table, indirect_stops}

@@ -1,6 +1,6 @@
 use Rattle.std.proofs.Common.{◌≡◌, ◌∷◌, ℕ, List, sym, ap, subst, ◌∙◌, arith, length, slice_get, refl}
-use Rattle.wh_model.specs.Syntax.{call_indirect}
-use Rattle.wh_model.specs.Store.{host}
+use Rattle.wh_model.specs.Format.Syntax.{call_indirect}
+use Rattle.wh_model.specs.Execution.Store.{host}
 use Rattle.wh_control.proofs.Constructs.{at_now}
 use Rattle.wh_control.proofs.Calling.{host_at, indirect_stops}
 use Rattle.wh_control.specs.Parts.{funcs_in}

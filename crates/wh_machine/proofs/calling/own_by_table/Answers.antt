@@ -1,6 +1,6 @@
 use Rattle.std.proofs.Common.{◌+◌, ℕ, sym, ap, subst, ◌∙◌, length, slice_get, refl}
-use Rattle.wh_model.specs.Syntax.{call_indirect}
-use Rattle.wh_model.specs.Store.{own}
+use Rattle.wh_model.specs.Format.Syntax.{call_indirect}
+use Rattle.wh_model.specs.Execution.Store.{own}
 use Rattle.wh_control.specs.Represents.{RepresentsCalls}
 use Rattle.wh_control.specs.Moves.{entered}
 use Rattle.wh_control.proofs.Constructs.{at_now}

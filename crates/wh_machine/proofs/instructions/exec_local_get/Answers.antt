@@ -1,5 +1,5 @@
 use Rattle.std.proofs.Common.{◌∷◌, sym, subst, ◌+◌, arith, refl}
-use Rattle.wh_model.specs.Focus.{running}
+use Rattle.wh_model.specs.Focus.Focused.{running}
 use Rattle.wh_control.specs.Moves.{goes_to}
 use Rattle.wh_control.specs.Next.{Next}
 use Rattle.wh_control.specs.Represents.{bits_of}
@@ -9,7 +9,7 @@ use Rattle.wh_control.specs.Parts.{funcs_in}
 use Rattle.wh_machine.specs.Executing.{calls_of}
 use Rattle.wh_machine.proofs.ExecutingLemmas.{here, place_fits, charged_words, room_after, low_words}
 use Rattle.wh_syntax.specs.declared.instr.Instr.TheVariants.{LocalGet}
-use Rattle.wh_model.specs.Syntax.{local_get}
+use Rattle.wh_model.specs.Format.Syntax.{local_get}
 use Rattle.wh_machine.proofs.Locals.{local_needs, at_local, local_get_next}
 use Rattle.wh_machine.proofs.instructions.exec_local_get.Goals as goal
 

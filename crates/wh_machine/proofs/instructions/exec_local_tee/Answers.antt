@@ -1,5 +1,5 @@
 use Rattle.std.proofs.Common.{◌++◌, sym, ap, subst, ◌∙◌, ◌+◌, arith, refl}
-use Rattle.wh_model.specs.Focus.{running}
+use Rattle.wh_model.specs.Focus.Focused.{running}
 use Rattle.wh_control.specs.Moves.{goes_to}
 use Rattle.wh_control.specs.Next.{Next}
 use Rattle.wh_control.proofs.Room.{in_room}
@@ -9,7 +9,7 @@ use Rattle.wh_machine.proofs.Straight.{one}
 use Rattle.wh_machine.specs.Executing.{calls_of}
 use Rattle.wh_machine.proofs.ExecutingLemmas.{here, place_fits, charged_words, low_words}
 use Rattle.wh_syntax.specs.declared.instr.Instr.TheVariants.{LocalTee}
-use Rattle.wh_model.specs.Syntax.{local_tee}
+use Rattle.wh_model.specs.Format.Syntax.{local_tee}
 use Rattle.wh_machine.proofs.Locals.{local_needs, local_tee_next}
 use Rattle.wh_machine.proofs.instructions.exec_local_tee.Goals as goal
 

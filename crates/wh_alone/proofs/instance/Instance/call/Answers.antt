@@ -6,7 +6,7 @@ use Rattle.wh_alone.specs.declared.outcome.Stage.TheVariants.{Fresh, Starting, I
 use Rattle.wh_alone.specs.Kept.{Kept}
 use Rattle.wh_alone.specs.Journal.{InstanceState, IsSomewhere, GoesOnWith, CallEnds, GivenUp}
 use Rattle.wh_alone.specs.Stages.{IsOpen, IsNoCall}
-use Rattle.wh_model.specs.Replay.{store_at}
+use Rattle.wh_model.specs.Execution.Replay.{store_at}
 use Rattle.wh_alone.specs.Stages.{after_call}
 use Rattle.wh_alone.proofs.Moving.{call_comes, somewhere_called}
 use Rattle.wh_alone.proofs.Present.{record_of, at_stage}

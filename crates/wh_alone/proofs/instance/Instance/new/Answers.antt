@@ -1,6 +1,6 @@
 use Rattle.std.proofs.Common.{rules, ◌<◌, ◌^◌, map, refl, sym, ap, subst, ◌∙◌}
-use Rattle.wh_model.specs.Instance.{AreGiven, fragments}
-use Rattle.wh_model.specs.Replay.{with_pieces}
+use Rattle.wh_model.specs.Execution.Instance.{AreGiven, fragments}
+use Rattle.wh_model.specs.Execution.Replay.{with_pieces}
 use Rattle.wh_syntax.specs.declared.module.Module.{Module}
 use Rattle.wh_syntax.specs.View.{view_module}
 use Rattle.wh_bodies.specs.Views.{view_side}

@@ -1,7 +1,7 @@
 use Rattle.std.proofs.Common.{refl, sym, subst, inl, ◌∙◌}
 use Rattle.wh_host_model.specs.Script.{kept_reply}
 use Rattle.wh_host_model.specs.Replies.{kept}
-use Rattle.wh_model.specs.Accepting.{IsAccepted}
+use Rattle.wh_model.specs.Linking.Accepting.{IsAccepted}
 use Rattle.wh_load.specs.Refusing.{view_linked, RefusesBytes}
 use Rattle.wh_script.specs.Refusals.{refusal_reply}
 use Rattle.wh_script.specs.Replies.{modules_of}
