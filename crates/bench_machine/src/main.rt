@@ -15,11 +15,9 @@ use std::time::{CpuClock, Duration};
 use std::{env, fs};
 use wh_alone::{Instance, Outcome, Stage};
 use wh_initial::Parameters;
+use wh_model::MOST_WASM_PAGES;
 
 const ROUNDS: u32 = 3;
-
-/// As many pages as a memory of the standard may have.
-const MOST_PAGES: u32 = 65536;
 
 /// A call, and what it is to come to.
 #[derive(Clone, Copy)]
@@ -77,7 +75,7 @@ fn time_anew(
         base: 0,
         salt: 0,
         inputs: Vec::new(rt.alloc()),
-        page_limit: MOST_PAGES,
+        page_limit: MOST_WASM_PAGES,
     };
     match Instance::new(rt.alloc(), bytes, parameters) {
         Ok(mut instance) => time(rt, &mut instance, call),

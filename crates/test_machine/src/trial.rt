@@ -7,9 +7,7 @@ use std::alloc::Global;
 use std::fmt;
 use wh_alone::{CallError, Instance, Outcome};
 use wh_initial::Parameters;
-
-/// As many pages as a memory of the standard may have.
-const MOST_PAGES: u32 = 65536;
+use wh_model::MOST_WASM_PAGES;
 
 /// How many expectations agree with what came, and how many differ from it.
 #[derive(Clone, Copy)]
@@ -44,7 +42,7 @@ fn parameters_of(alloc: Global, lines: &[String]) -> Result<Parameters> {
     let mut base = 0;
     let mut salt = 0;
     let mut inputs = Vec::new(alloc);
-    let mut page_limit = MOST_PAGES;
+    let mut page_limit = MOST_WASM_PAGES;
     let mut called = false;
     for text in lines {
         match Line::parse(alloc, text).context(format_args!("{text}"))? {

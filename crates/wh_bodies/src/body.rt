@@ -21,10 +21,8 @@ use crate::operands::Operands;
 use crate::steps::{Checker, step};
 use crate::table::{BranchEntry, SideTable};
 use std::alloc::Global;
-use wh_model::{Open, ValType, ValidKind};
+use wh_model::{MOST_LOCALS, Open, ValType, ValidKind};
 use wh_syntax::{Body, FuncType, Instr};
-
-const MOST_LOCALS: usize = 256;
 
 /// An empty table with room for so many entries.
 fn room(alloc: Global, count: u32) -> Result<Vec<BranchEntry>, ValidKind>

@@ -5,9 +5,7 @@ ghost use Rattle.wh_bodies.specs.Known.{known, same_type, take_one, take_any, gi
 ghost use Rattle.wh_bodies.specs.Faults.{Checks, Yields};
 
 use crate::fault::push;
-use wh_model::{ValType, ValidKind};
-
-const MOST_HEIGHT: usize = 256;
+use wh_model::{MOST_HEIGHT, ValType, ValidKind};
 
 /// The types of the operands of a function, where `None` is a type that isn't known. Those above `floor` belong to the
 /// innermost sequence; where it is dead, any operands may lie between them and the floor.

@@ -8,9 +8,7 @@ ghost use Rattle.wh_control.specs.declared.frame.CallFrame.{CallFrame};
 
 use std::alloc::{AllocError, Global};
 use std::marker::Model;
-
-/// How many calls run at once at most (7.2).
-pub const CALL_DEPTH: usize = 128;
+use wh_model::CALL_DEPTH;
 
 /// A call of one of the module's own functions: where its words lie and its code goes on.
 #[derive(Clone, Copy, Debug, PartialEq, Eq)]

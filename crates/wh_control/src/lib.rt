@@ -7,6 +7,6 @@ mod frame;
 mod store;
 mod words;
 
-pub use frame::{CALL_DEPTH, CallFrame, CallStack};
+pub use frame::{CallFrame, CallStack};
 pub use store::Store;
 pub use words::{MOST_WORDS, ValueStack};

@@ -17,10 +17,7 @@ ghost use Rattle.wh_model.specs.Execution.Store.{bytes_at, written};
 use std::alloc::{AllocError, Global};
 use std::marker::Model;
 use wh_linmem::LinearMem;
-use wh_model::{Got, Grown, Need};
-
-// The bytes of a page.
-const PAGE: usize = 65536;
+use wh_model::{Got, Grown, Need, WASM_PAGE};
 
 /// A linear memory that is one list of bytes, all of them always at hand.
 ///
@@ -86,8 +83,8 @@ impl FlatMemory {
         ensures bytes { IfOk result (λ m. m.bytes ≡ replicate (pages * 65536) 0) }
         ensures limit { IfOk result (λ m. m.limit ≡ limit) }
     {
-        let mut bytes = Vec::with_capacity(alloc, limit as usize * PAGE)?;
-        bytes.resize(pages as usize * PAGE, 0)?;
+        let mut bytes = Vec::with_capacity(alloc, limit as usize * WASM_PAGE)?;
+        bytes.resize(pages as usize * WASM_PAGE, 0)?;
         Ok(FlatMemory {
             pages,
             limit,
@@ -205,7 +202,7 @@ impl LinearMem for FlatMemory {
             return Grown::Refused;
         }
         let before = self.pages;
-        let Ok(()) = self.bytes.resize((before + pages) as usize * PAGE, 0) else {
+        let Ok(()) = self.bytes.resize((before + pages) as usize * WASM_PAGE, 0) else {
             unreachable!()
         };
         self.pages = before + pages;

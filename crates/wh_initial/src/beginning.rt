@@ -18,12 +18,8 @@ use crate::table::first_table;
 use std::alloc::Global;
 use wh_control::Store;
 use wh_imports::Linked;
-use wh_model::HostGlobal;
+use wh_model::{HostGlobal, OUTPUT_ROOM, WASM_PAGE};
 use wh_syntax::Module;
-
-const PAGE: u64 = 65536;
-
-const OUTPUT_ROOM: usize = 65536;
 
 /// Whether all segments of a module end within its table and its memory, where the globals have these words.
 fn all_fit(decoded: &Module, globals: &[u64]) -> bool
@@ -32,7 +28,7 @@ fn all_fit(decoded: &Module, globals: &[u64]) -> bool
     ensures { IsTrue result ↔ AllFit decoded.now globals.now }
 {
     let entries = u64::from(first_entries(&decoded.tables));
-    let bytes = u64::from(first_pages(&decoded.memories)) * PAGE;
+    let bytes = u64::from(first_pages(&decoded.memories)) * WASM_PAGE as u64;
     elements_fit(&decoded.elements, globals, entries)
         && segments_fit(&decoded.segments, globals, bytes)
 }

@@ -4,9 +4,8 @@ ghost use Rattle.std.specs.Prelude.{◌≡◌, map};
 ghost use Rattle.wh_model.specs.Execution.Instance as model;
 ghost use Rattle.wh_syntax.specs.View.{view_limits, view_table};
 
+use wh_model::MOST_WASM_PAGES;
 use wh_syntax::{Limits, TableType};
-
-const MOST_PAGES: u32 = 65536;
 
 /// How many entries the table has at first; 0 where there is none.
 pub fn first_entries(tables: &[TableType]) -> u32
@@ -34,7 +33,7 @@ pub fn last_pages(memories: &[Limits], page_limit: u32) -> u32
     ensures { result ≡ model.last_size (map view_limits memories.now) page_limit }
 {
     match memories.first() {
-        Some(limits) => limits.max.unwrap_or(MOST_PAGES).min(page_limit),
+        Some(limits) => limits.max.unwrap_or(MOST_WASM_PAGES).min(page_limit),
         None => 0,
     }
 }

@@ -11,13 +11,7 @@ use crate::instructions::advance;
 use crate::machine::{Exec, Stack};
 use wh_control::{Store, ValueStack};
 use wh_linmem::LinearMem;
-use wh_model::{HostFunc, Trap};
-
-/// How many bytes one `emit` may append.
-pub const MOST_EMITTED: u64 = 4096;
-
-/// How many bytes the host keeps as output.
-pub const OUTPUT_ROOM: usize = 65536;
+use wh_model::{HostFunc, MOST_EMITTED, OUTPUT_ROOM, Trap};
 
 /// `input`: the word of that index, or 0.
 #[inline(always)]

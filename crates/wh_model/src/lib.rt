@@ -10,11 +10,15 @@ ghost use Rattle.wh_model.specs.Format.Numbering.{trap_number};
 mod faults;
 mod host;
 mod laws;
+mod limits;
 mod memory;
 
 pub use faults::{DecodeError, FaultKind, ImportFault, ValidKind};
 pub use host::{HostFunc, HostGlobal, HostItem};
 pub use laws::{execution_holds, focus_holds, journals_hold, linking_holds};
+pub use limits::{
+    CALL_DEPTH, MOST_EMITTED, MOST_HEIGHT, MOST_LOCALS, MOST_WASM_PAGES, OUTPUT_ROOM, WASM_PAGE,
+};
 pub use memory::{Got, Grown, Need};
 use thiserror::Error;
 

@@ -8,10 +8,8 @@ ghost use Rattle.wh_validate.specs.Sizing.{IsTable};
 ghost use Rattle.wh_syntax.specs.View.{view_limits, view_table};
 ghost use Rattle.wh_validate.specs.Deciding.{Decides};
 
-use wh_model::ValidKind;
+use wh_model::{MOST_WASM_PAGES, ValidKind};
 use wh_syntax::{Limits, TableType};
-
-const MOST_PAGES: u32 = 65536;
 
 const MOST_FIRST_ENTRIES: u32 = 4096;
 
@@ -62,7 +60,7 @@ fn is_memory(limits: Limits) -> bool
         (¬ (WithinBound most_pages (view_limits limits))) }
 {
     match limits.max {
-        None => limits.min <= MOST_PAGES,
-        Some(last) => limits.min <= last && last <= MOST_PAGES,
+        None => limits.min <= MOST_WASM_PAGES,
+        Some(last) => limits.min <= last && last <= MOST_WASM_PAGES,
     }
 }
