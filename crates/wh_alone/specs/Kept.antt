@@ -23,6 +23,11 @@ pub record Kept : Type 0 where
   pub memory : FlatMemoryState
   pub machine : Machine
 
+-- of these four
+abbrev pub kept_of : LinkedState → stored.Store → FlatMemoryState → Machine → Kept
+kept_of linked store memory machine =
+    record { linked = linked; store = store; memory = memory; machine = machine }
+
 -- store and memory are those of the instance with this store
 abbrev pub HasStore : Kept → Instance → Store → Type 0
 HasStore k inst s =

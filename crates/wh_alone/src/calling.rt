@@ -1,7 +1,7 @@
 //! Calls over a flat memory.
 
 ghost use Rattle.std.specs.Prelude.{◌≡◌};
-ghost use Rattle.wh_alone.specs.Kept.{StandsSomewhere, CanCall, ContinuesTo, InvocationEnds};
+ghost use Rattle.wh_alone.specs.Kept.{kept_of, StandsSomewhere, CanCall, ContinuesTo, InvocationEnds};
 ghost use Rattle.wh_alone.specs.Stages.{stage_at_first, after_start, after_call};
 
 use crate::outcome::{Outcome, Stage};
@@ -17,27 +17,9 @@ pub fn run_on(
     memory: &mut FlatMemory,
     fuel: u64,
 ) -> (Outcome, u64)
-    requires { StandsSomewhere
-        (record {
-          linked = linked.now;
-          store = store.old;
-          memory = memory.old;
-          machine = machine.old;
-        }) }
-    ensures { ContinuesTo
-        (record {
-          linked = linked.now;
-          store = store.old;
-          memory = memory.old;
-          machine = machine.old;
-        })
-        fuel result.0 result.1
-        (record {
-          linked = linked.now;
-          store = store.new;
-          memory = memory.new;
-          machine = machine.new;
-        }) }
+    requires { StandsSomewhere (kept_of linked.now store.old memory.old machine.old) }
+    ensures { ContinuesTo (kept_of linked.now store.old memory.old machine.old) fuel result.0
+        result.1 (kept_of linked.now store.new memory.new machine.new) }
 {
     let (stepped, charges) = run(linked, store, machine, memory, fuel);
     let outcome = match stepped {
@@ -58,28 +40,9 @@ pub fn call(
     args: &[u64],
     fuel: u64,
 ) -> (Outcome, u64)
-    requires { CanCall
-        (record {
-          linked = linked.now;
-          store = store.old;
-          memory = memory.old;
-          machine = machine.old;
-        })
-        func args.now }
-    ensures { InvocationEnds
-        (record {
-          linked = linked.now;
-          store = store.old;
-          memory = memory.old;
-          machine = machine.old;
-        })
-        func args.now fuel result.0 result.1
-        (record {
-          linked = linked.now;
-          store = store.new;
-          memory = memory.new;
-          machine = machine.new;
-        }) }
+    requires { CanCall (kept_of linked.now store.old memory.old machine.old) func args.now }
+    ensures { InvocationEnds (kept_of linked.now store.old memory.old machine.old) func
+        args.now fuel result.0 result.1 (kept_of linked.now store.new memory.new machine.new) }
 {
     begin(linked, machine, func, args);
     run_on(linked, store, machine, memory, fuel)

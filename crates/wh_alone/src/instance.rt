@@ -5,6 +5,7 @@ ghost use Rattle.wh_initial.specs.Given.{view_parameters};
 ghost use Rattle.wh_alone.specs.Exports.{Exports, LacksFunc};
 ghost use Rattle.wh_alone.specs.Stored.{stored_plain};
 ghost use Rattle.wh_alone.specs.Alone.{RefusesModule};
+ghost use Rattle.wh_alone.specs.Kept.{kept_of};
 ghost use Rattle.wh_alone.specs.Journal.{InstanceState, IsSomewhere, GoesOnWith, CallEnds, GivenUp};
 ghost use Rattle.wh_alone.specs.Stages.{IsOpen, RefusesCall};
 ghost use Rattle.wh_alone.specs.Beginnings.{BeginsInstance};
@@ -39,18 +40,11 @@ impl Model for Instance {
 
     ghost coded = { stored_plain };
 
-    ghost view = { λ i. record {
-      kept =
-          record { linked = i.linked; store = i.store; memory = i.memory; machine = i.machine };
-      stage = i.stage;
-    } };
+    ghost view = { λ i.
+        record { kept = kept_of i.linked i.store i.memory i.machine; stage = i.stage } };
 
     ghost invariant = { λ i. IsSomewhere
-        (record {
-          kept =
-              record { linked = i.linked; store = i.store; memory = i.memory; machine = i.machine };
-          stage = i.stage;
-        }) };
+        (record { kept = kept_of i.linked i.store i.memory i.machine; stage = i.stage }) };
 }
 
 impl Instance {
