@@ -59,7 +59,7 @@ impl Instance {
         ensures err { IfErr result (RefusesModule bytes.now (view_parameters parameters)) }
     {
         are_words(&parameters.inputs);
-        let linked = load(alloc, bytes).map_err(CallError::Load)?;
+        let linked = load(alloc, bytes)?;
         let begun = match instantiate(alloc, &linked, parameters) {
             Ok(begun) => begun,
             Err(error) => return Err(CallError::Initial(error)),

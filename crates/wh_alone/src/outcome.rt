@@ -1,5 +1,7 @@
 //! What a call comes to, and why there is no instance.
 
+ghost use Rattle.std.specs.Prelude.{◌≡◌};
+
 use thiserror::Error;
 use wh_initial::InstantiateError;
 use wh_load::LoadError;
@@ -76,4 +78,12 @@ pub enum CallError {
     /// A growth of memory was refused.
     #[error("a growth of memory was refused")]
     Memory,
+}
+
+impl From<LoadError> for CallError {
+    ghost from_gives = { λ error result. result ≡ CallError.Load error };
+
+    fn from(error: LoadError) -> CallError {
+        CallError::Load(error)
+    }
 }
