@@ -7,8 +7,8 @@ use Rattle.wh_initial.proofs.beginning.all_fit.Goals as goal
 pub returns-then-elements_fit : goal.returns-then-elements_fit
 returns-then-elements_fit c =
     let entries = c.from-entries.ensures ∙ c.first_entries.ensures ∙ ap (λ w. first_size (map view_table w)) c.deref.ensures.value in
-    let pages = c.from-bytes.ensures ∙ c.first_pages.ensures ∙ ap (λ w. first_size (map view_limits w)) c.deref-2.ensures.value in
-    both_decide c.args.decoded.now c.args.globals.now c.deref-3.result.now c.from-entries.result c.deref-3.ensures.value entries c.deref-then-elements_fit.result.now (c.from-bytes.result * 65536) c.elements_fit.result c.segments_fit.result
+    let pages = c.from.ensures ∙ c.first_pages.ensures ∙ ap (λ w. first_size (map view_limits w)) c.deref-2.ensures.value in
+    both_decide c.args.decoded.now c.args.globals.now c.deref-3.result.now c.from-entries.result c.deref-3.ensures.value entries c.deref-then-elements_fit.result.now (c.from.result * 65536) c.elements_fit.result c.segments_fit.result
     c.deref-then-elements_fit.ensures.value (ap (λ n. n * 65536) pages) c.if-elements_fit.true c.elements_fit.ensures c.segments_fit.ensures
 
 pub returns-else-elements_fit : goal.returns-else-elements_fit
