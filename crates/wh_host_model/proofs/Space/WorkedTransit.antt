@@ -2,7 +2,6 @@
 use Rattle.std.proofs.Common.{◌≡◌, ℕ, ◌+◌, ◌<◌, ◌≤◌, ◌++◌, inl, inr, List, Option, [], ◌∷◌, Some, None, true, false, Bool, length, slice_get, zero, suc, refl, sym, ap, ◌∙◌, subst, arith}
 use Rattle.wh_model.specs.declared.memory.Need.{Need}
 use Rattle.wh_host_model.specs.Frames.{tally, one_if}
-use Rattle.wh_host_model.proofs.Tally.{one_same}
 use Rattle.wh_host_model.specs.declared.Tax.{Tax}
 use Rattle.wh_host_model.specs.declared.states.Page.{Page}
 use Rattle.wh_host_model.specs.declared.states.Page.TheVariants.{Untouched, Private, Shared, Leaving, LeavingShared, Swapped}
@@ -19,6 +18,7 @@ use Rattle.wh_host_model.specs.Space.Places.{Exits, freed_by, released_mark, rel
 use Rattle.wh_host_model.specs.Space.Provide.{LacksFree, Provides, goes}
 use Rattle.wh_host_model.specs.Space.Parts.{Occupant, Space, kept_by, pages_of, sharers}
 use Rattle.wh_host_model.specs.Space.Stores.{Overwrites}
+use Rattle.wh_host_model.specs.Space.Breaks.{GetsFrame, standing_alone}
 use Rattle.wh_host_model.specs.Space.Ready.{Ready}
 use Rattle.wh_host_model.specs.Space.States.{count_of, lies_in, owns, page_at, shares}
 
@@ -139,10 +139,6 @@ begins tax =
     (third, (tenant 0 (Some third), refl, refl, refl), s1, reserves, few, 1, 0, 2, ((can, inr (full_touched tax)), inl payer), Private 2, Leaving 2, refl, refl, refl, refl, 0 ∷ [], refl, refl)
 
 -- It is written before the ticket is back: the ticket is void whatever the device says, no frame is free and no slot in use.
-empty_of : (xs : List ℕ) → ((f : ℕ) → tally (one_if f) xs ≤ 0) → xs ≡ []
-empty_of [] none = refl
-empty_of (x ∷ xs) none = absurd (let o = one_same x x refl in let z = none x in omega arith)
-
 void_uses : (s : Space) (j : ℕ) (wrote : Bool) (bytes : List ℕ) (end : _) (s2 : Space) → slice_get s.slots.uses 1 ≡ Some (EvictVoid j) → CommitsEvict s 1 wrote bytes end s2
     → (end ≡ Void) × (s2.pool ≡ s.pool) × (s2.slots.vacant ≡ s.slots.vacant ++ 1 ∷ [])
 void_uses s j wrote bytes end s2 void (inl (i, at_it, ends, is)) = (ends, ap (λ a. a.pool) is, ap (λ a. a.slots.vacant) is)
@@ -151,9 +147,18 @@ void_uses s j wrote bytes end s2 void (inr (i, p, f, at_it, page, there, on, res
 written_meanwhile : (tax : Tax) (s2 : Space) (wrote : Bool) (bytes : List ℕ) (end : _) (s3 : Space) → Overwrites (full_begun tax) 1 0 (9 ∷ []) s2 → CommitsEvict s2 1 wrote bytes end s3
     → (end ≡ Void) × (s3.pool.free ≡ []) × (length s3.slots.vacant ≡ 2)
 written_meanwhile tax s2 wrote bytes end s3 writes commits =
-    let void : slice_get s2.slots.uses 1 ≡ Some (EvictVoid 1) = ap (λ a. slice_get a.uses 1) writes.slots in
+    let s : Space = full_begun tax in
+    let each = writes.breaks in
+    let b = each.1 in
+    let page : Leaving 2 ≡ b.page = (let both : Some (Leaving 2) ≡ Some b.page = b.was in cc) in
+    let gets : (b.frame ≡ 2) × (b.mid ≡ s) = subst (λ x. GetsFrame s 1 x b.frame b.mid) (sym page) b.gets in
+    let slots : s2.slots ≡ (standing_alone s 1 0 b.frame).slots =
+    ap (λ (a : Space). a.slots) writes.fills.after ∙ (ap (λ (a : Space). a.slots) each.2 ∙ (ap (λ (a : Space). a.slots) b.after ∙ ap (λ m. (standing_alone m 1 0 b.frame).slots) gets.1)) in
+    let free : s2.pool.free ≡ [] =
+    ap (λ (a : Space). a.pool.free) writes.fills.after ∙ (ap (λ (a : Space). a.pool.free) each.2 ∙ (ap (λ (a : Space). a.pool.free) b.after ∙ ap (λ (m : Space). m.pool.free) gets.1)) in
+    let void : slice_get s2.slots.uses 1 ≡ Some (EvictVoid 1) = ap (λ a. slice_get a.uses 1) slots in
     let ends = void_uses s2 1 wrote bytes end s3 void commits in
-    (ends.0, ap (λ a. a.free) ends.1 ∙ empty_of s2.pool.free writes.free, ap length (ends.2 ∙ ap (λ a. a.vacant ++ 1 ∷ []) writes.slots))
+    (ends.0, ap (λ a. a.free) ends.1 ∙ free, ap length (ends.2 ∙ ap (λ a. a.vacant ++ 1 ∷ []) slots))
 
 -- The device fails: the page is as before, and no slot in use.
 device_fails : (tax : Tax) → (s2 : Space) × CommitsEvict (full_begun tax) 1 false [] Failed s2 × (page_at s2.tables 1 0 ≡ Some (Private 2)) × (length s2.slots.vacant ≡ 2)

@@ -11,7 +11,7 @@ use Rattle.wh_host_model.specs.Space.Sound.{IsSound}
 use Rattle.wh_host_model.specs.Space.Offers.{Offers}
 use Rattle.wh_host_model.specs.Space.Scanning.{Scans}
 use Rattle.wh_host_model.specs.Space.Tickets.{BeginsEvict, BeginsFetch, CommitsEvict, CommitsFetch, IsWritten, StandsForFrame}
-use Rattle.wh_host_model.specs.Space.Stores.{Epochs, Grew, Touches, ended, stood}
+use Rattle.wh_host_model.specs.Space.Stores.{Epochs, Grew, Overwrites, Touches, ended, stood}
 use Rattle.wh_host_model.specs.Space.Places.{Enters, Exits}
 use Rattle.wh_host_model.specs.Space.Provide.{FailsToProvide, Provides}
 
@@ -20,9 +20,10 @@ abbrev pub MayStandFor : Space → ℕ → Occupant → Need → Type 0
 MayStandFor s i t need =
     (t.live ≡ true) × (need.at + need.length ≤ 4096 * length (get_or s.tables i [])) × (need.length ≤ 4096)
 
--- One thing befalls the memory. A store isn't among them.
+-- One thing befalls the memory.
 pub data Befalls (hashes : List ℕ → ℕ) (s s2 : Space) : Type 0 where
   loads : (i first n : ℕ) → Touches s i first n s2 → Befalls hashes s s2
+  stores : (i at : ℕ) (given : List ℕ) → Overwrites s i at given s2 → Befalls hashes s s2
   new_epoch : Epochs s s2 → Befalls hashes s s2
   stands : (i : ℕ) (t : Occupant) (need : Option Need) → occupant_at s i t
       → ((want : Need) → need ≡ Some want → MayStandFor s i t want) → s2 ≡ stood s i need → Befalls hashes s s2

@@ -10,7 +10,7 @@ use Rattle.wh_host_model.specs.Space.States.{lies_in, owns, shares, count_of}
 use Rattle.wh_host_model.specs.Space.Parts.{Space, Occupant, Claimed, occupant_at, sharers, minima, spreads}
 use Rattle.wh_host_model.specs.Space.Errands.{ticket_of}
 use Rattle.wh_host_model.specs.Space.Moves.{unpinned_of}
-use Rattle.wh_host_model.specs.Space.Stores.{fewer_sharers}
+use Rattle.wh_host_model.specs.Space.Breaks.{fewer_sharers}
 use Rattle.wh_host_model.specs.Space.Tickets.{stays_occupant}
 
 -- the place is free, or the next one behind all

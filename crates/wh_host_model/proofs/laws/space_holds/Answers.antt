@@ -13,6 +13,7 @@ use Rattle.wh_host_model.proofs.Space.Enlarged.{grows_soundly, grows_by_zeros}
 use Rattle.wh_host_model.proofs.Space.Entered.{enters_soundly, enters_at_zeros}
 use Rattle.wh_host_model.proofs.Space.Exited.{exits_soundly}
 use Rattle.wh_host_model.proofs.Space.Chained.{empty_sound, fails_soundly, stays_sound, scans_soundly}
+use Rattle.wh_host_model.proofs.Space.Filled.{breaks_soundly, stores_soundly, stores_are_right}
 use Rattle.wh_host_model.proofs.laws.space_holds.Goals as goal
 
 pub returns-clause-ready_is_decided : goal.returns-clause-ready_is_decided
@@ -146,3 +147,12 @@ returns-clause-stays_sound c = stays_sound
 
 pub returns-clause-scans_soundly : goal.returns-clause-scans_soundly
 returns-clause-scans_soundly c = scans_soundly
+
+pub returns-clause-breaks_soundly : goal.returns-clause-breaks_soundly
+returns-clause-breaks_soundly c = breaks_soundly
+
+pub returns-clause-stores_soundly : goal.returns-clause-stores_soundly
+returns-clause-stores_soundly c = stores_soundly
+
+pub returns-clause-stores_are_right : goal.returns-clause-stores_are_right
+returns-clause-stores_are_right c = stores_are_right
