@@ -41,3 +41,5 @@ pub mod Broken
 pub mod BrokenOff
 pub mod BrokenEach
 pub mod Filled
+pub mod Blocks
+pub mod Filling

@@ -5,7 +5,7 @@ ghost use Rattle.wh_host_model.specs.Space.Laws.{ReadyIsDecided, NoBytesAreReady
 ghost use Rattle.wh_host_model.specs.Space.Sight.{OffersQuietly, WritesQuietly, StepsQuietly, GrowsAlone, GrowsByZeros, EntersAlone, EntersAtZeros, ExitsAlone, PinsEnd, GoneIsSkipped, WrittenIsVoid, ReleasedIsVoid, NothingNeedless};
 ghost use Rattle.wh_host_model.specs.Space.Kept.{TouchesSoundly, EpochsSoundly, WritesSoundly, StandsSoundly, EndsSoundly, CommitsEvictSoundly, OffersSoundly, BeginsFetchSoundly, CommitsFetchSoundly, GrowsSoundly, EntersSoundly, ExitsSoundly};
 ghost use Rattle.wh_host_model.specs.Space.Chain.{FailsSoundly, EmptyIsSound, StaysSound, ScansSoundly};
-ghost use Rattle.wh_host_model.specs.Space.Storing.{BreaksSoundly, StoresSoundly, StoresAreRight};
+ghost use Rattle.wh_host_model.specs.Space.Storing.{BreaksSoundly, SomeStore, StoresSoundly, StoresAreRight};
 
 /// What holds of linking and of what an instance begins with. The function does nothing; what it ensures are the laws.
 pub fn linking_holds()
@@ -63,4 +63,5 @@ pub fn space_holds()
     ensures breaks_soundly { BreaksSoundly }
     ensures stores_soundly { StoresSoundly }
     ensures stores_are_right { StoresAreRight }
+    ensures some_store { SomeStore }
 {}

@@ -22,7 +22,7 @@ use Rattle.wh_host_model.proofs.Space.Sums.{get_tally}
 use Rattle.wh_host_model.proofs.Space.Wanting.{among_all, among_row, few_pages}
 
 -- other frames
-refilled : Space → List (List ℕ) → Space
+unfoldable pub refilled : Space → List (List ℕ) → Space
 refilled s frames = record s { pool = record s.pool { frames = frames } }
 
 -- a frame that is shared isn't among those that are written
@@ -41,7 +41,7 @@ one_use s f sound = elim (cases_lt f (length s.pool.frames)) [
 none_written : (s : Space) (i : ℕ) (ps : List ℕ) (f : ℕ) → FramesAreSound s → among (owns f) s i ps ≤ count (owns f) s.tables → 1 ≤ sharers s f → among (owns f) s i ps ≡ 0
 none_written s i ps f sound most some = let e = one_use s f sound in omega arith
 
-filled_sound : (s : Space) (i at : ℕ) (given : List ℕ) (s2 : Space) → IsSound s → Fills s i at given s2 → IsSound s2
+pub filled_sound : (s : Space) (i at : ℕ) (given : List ℕ) (s2 : Space) → IsSound s → Fills s i at given s2 → IsSound s2
 unfolding refilled
 filled_sound s i at given s2 sound fills =
     let frames : List (List ℕ) = fills.frames in
@@ -98,7 +98,7 @@ row_same a b (x ∷ xs) held same =
     let es = row_same a b xs held (λ q y f at_it some. same (suc q) y f at_it some) in cc
 
 -- two rows are counted in all
-one_row : (w : Page → ℕ) (t : List (List Page)) (i : ℕ) → tally w (get_or t i []) ≤ count w t
+pub one_row : (w : Page → ℕ) (t : List (List Page)) (i : ℕ) → tally w (get_or t i []) ≤ count w t
 one_row w [] i = omega arith
 one_row w (xs ∷ t) zero = omega arith
 one_row w (xs ∷ t) (suc i) = let k = one_row w t i in omega arith

@@ -23,7 +23,7 @@ not_same : (f g : ℕ) → one_if f g ≡ 0 → g ≢ f
 not_same f g h e = let one = one_same f g (sym e) in omega arith
 
 -- a frame on which no page stands may be written
-other_frame : (b : Backing) (f : ℕ) (bytes : List ℕ) (x : Page) → owns f x ≡ 0 → shares f x ≡ 0 → page_bytes (record b { frames = slice_set b.frames f bytes }) x ≡ page_bytes b x
+pub other_frame : (b : Backing) (f : ℕ) (bytes : List ℕ) (x : Page) → owns f x ≡ 0 → shares f x ≡ 0 → page_bytes (record b { frames = slice_set b.frames f bytes }) x ≡ page_bytes b x
 other_frame b f bytes Untouched h c = refl
 other_frame b f bytes (Private g) h c = get_or-set_other b.frames f g bytes [] (not_same f g h)
 other_frame b f bytes (Shared g) h c = get_or-set_other b.frames f g bytes [] (not_same f g c)
@@ -32,7 +32,7 @@ other_frame b f bytes (LeavingShared g) h c = get_or-set_other b.frames f g byte
 other_frame b f bytes (Coming j) h c = refl
 other_frame b f bytes (Swapped j) h c = refl
 
-other_frames : (b : Backing) (f : ℕ) (bytes : List ℕ) (xs : List Page) → tally (owns f) xs ≡ 0 → tally (shares f) xs ≡ 0 → map (page_bytes (record b { frames = slice_set b.frames f bytes })) xs ≡ map (page_bytes b) xs
+pub other_frames : (b : Backing) (f : ℕ) (bytes : List ℕ) (xs : List Page) → tally (owns f) xs ≡ 0 → tally (shares f) xs ≡ 0 → map (page_bytes (record b { frames = slice_set b.frames f bytes })) xs ≡ map (page_bytes b) xs
 other_frames b f bytes [] h c = refl
 other_frames b f bytes (x ∷ xs) h c = let e = other_frame b f bytes x (omega arith) (omega arith) in let es = other_frames b f bytes xs (omega arith) (omega arith) in cc
 

@@ -14,6 +14,7 @@ use Rattle.wh_host_model.proofs.Space.Entered.{enters_soundly, enters_at_zeros}
 use Rattle.wh_host_model.proofs.Space.Exited.{exits_soundly}
 use Rattle.wh_host_model.proofs.Space.Chained.{empty_sound, fails_soundly, stays_sound, scans_soundly}
 use Rattle.wh_host_model.proofs.Space.Filled.{breaks_soundly, stores_soundly, stores_are_right}
+use Rattle.wh_host_model.proofs.Space.Filling.{some_store}
 use Rattle.wh_host_model.proofs.laws.space_holds.Goals as goal
 
 pub returns-clause-ready_is_decided : goal.returns-clause-ready_is_decided
@@ -156,3 +157,6 @@ returns-clause-stores_soundly c = stores_soundly
 
 pub returns-clause-stores_are_right : goal.returns-clause-stores_are_right
 returns-clause-stores_are_right c = stores_are_right
+
+pub returns-clause-some_store : goal.returns-clause-some_store
+returns-clause-some_store c = some_store
