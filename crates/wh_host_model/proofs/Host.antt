@@ -9,3 +9,4 @@ pub mod Stopping
 pub mod Agreeing
 pub mod Leaving
 pub mod Moving
+pub mod Apart

@@ -10,3 +10,4 @@ pub mod Happens
 pub mod Journals
 pub mod Standing
 pub mod Laws
+pub mod Apart

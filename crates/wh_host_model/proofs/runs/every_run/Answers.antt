@@ -1,5 +1,6 @@
 use Rattle.wh_host_model.proofs.Host.Holding.{memory_is_sound, places_are_right, instances_replay, charges_are_within, journals_are_in_order, suspensions_are_right, frame_is_lacking, again_is_ready}
 use Rattle.wh_host_model.proofs.Host.Agreeing.{one_turn}
+use Rattle.wh_host_model.proofs.Host.Apart.{no_bytes_reach_another}
 use Rattle.wh_host_model.proofs.runs.every_run.Goals as goal
 
 pub returns-clause-memory_is_sound : goal.returns-clause-memory_is_sound
@@ -28,3 +29,6 @@ returns-clause-again_is_ready c = again_is_ready
 
 pub returns-clause-one_turn : goal.returns-clause-one_turn
 returns-clause-one_turn c = one_turn
+
+pub returns-clause-no_bytes_reach_another : goal.returns-clause-no_bytes_reach_another
+returns-clause-no_bytes_reach_another c = no_bytes_reach_another
