@@ -10,3 +10,4 @@ pub mod Agreeing
 pub mod Leaving
 pub mod Moving
 pub mod Apart
+pub mod Bridges

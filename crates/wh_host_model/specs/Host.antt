@@ -10,4 +10,5 @@ pub mod Happens
 pub mod Journals
 pub mod Standing
 pub mod Laws
+pub mod Bridges
 pub mod Apart

@@ -40,7 +40,7 @@ pub frame_written : (b : Backing) (f : ℕ) (bytes : List ℕ) (tables : List (L
 frame_written b f bytes [] h c = refl
 frame_written b f bytes (xs ∷ tables) h c = let e = other_frames b f bytes xs (omega arith) (omega arith) in let es = frame_written b f bytes tables (omega arith) (omega arith) in cc
 
-prepared_bytes : (s s1 : Space) (i : ℕ) (need : Need) → Reserves s i need s1 → all_bytes s1 ≡ all_bytes s
+pub prepared_bytes : (s s1 : Space) (i : ℕ) (need : Need) → Reserves s i need s1 → all_bytes s1 ≡ all_bytes s
 prepared_bytes s s1 i need prepares = rw prepares.leaves refl
 
 same_leaving : (b : Backing) (old new : Page) → as_leaving old new → page_bytes b new ≡ page_bytes b old

@@ -68,6 +68,12 @@ abbrev pub Serves : Space → ℕ → Need → List Move → Space → Type 0
 Serves s i need [] s2 = s2 ≡ pinned s i need
 Serves s i need (move ∷ moves) s2 = (mid : Space) × Serves s i need moves mid × MovesOn mid i need move s2
 
+-- and what was read in each of them is what the slot held
+abbrev pub ServesTruly : Space → ℕ → Need → List Move → Space → Type 0
+ServesTruly s i need [] s2 = s2 ≡ pinned s i need
+ServesTruly s i need (move ∷ moves) s2 =
+    (mid : Space) × ServesTruly s i need moves mid × MovesOn mid i need move s2 × IsTrueTo mid i need move
+
 -- The step is made ready: after moves of which so many were pages that left, as many frames are earmarked as its
 -- writes want.
 abbrev pub Provides : Space → ℕ → Need → ℕ → Space → Type 0
@@ -80,6 +86,17 @@ Provides s i need n s2 =
 abbrev pub FailsToProvide : Space → ℕ → Need → Space → Type 0
 FailsToProvide s i need s2 =
     (moves : List Move) × (mid : Space) × Serves s i need moves mid
+    × ((s2 ≡ unpinned mid) ⊎ ((k : ℕ) × (slice_get mid.slots.uses k ≡ Some Vacant) × (s2 ≡ unpinned (with_held mid k []))))
+
+-- the same where the device tells what its slots hold
+abbrev pub ProvidesTruly : Space → ℕ → Need → ℕ → Space → Type 0
+ProvidesTruly s i need n s2 =
+    (moves : List Move) × (mid : Space) × ServesTruly s i need moves mid × (tally leaves moves ≡ n)
+    × IsServed mid i need × Earmarks mid i (frames_to_write mid i need) s2
+
+abbrev pub FailsTruly : Space → ℕ → Need → Space → Type 0
+FailsTruly s i need s2 =
+    (moves : List Move) × (mid : Space) × ServesTruly s i need moves mid
     × ((s2 ≡ unpinned mid) ⊎ ((k : ℕ) × (slice_get mid.slots.uses k ≡ Some Vacant) × (s2 ≡ unpinned (with_held mid k []))))
 
 -- no other instance has fewer pages than before, or it has its minimum still
