@@ -43,3 +43,6 @@ pub mod BrokenEach
 pub mod Filled
 pub mod Blocks
 pub mod Filling
+pub mod Pairing
+pub mod Passing
+pub mod Passed

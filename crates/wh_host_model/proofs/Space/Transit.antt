@@ -61,7 +61,7 @@ same_before b (Shared f) old e = absurd e
 same_before b (Coming k) old e = absurd e
 same_before b (Swapped k) old e = absurd e
 
-on_frame : (b : Backing) (page : Page) (f : ℕ) → frame_of page ≡ Some f → page_bytes b page ≡ get_or b.frames f []
+pub on_frame : (b : Backing) (page : Page) (f : ℕ) → frame_of page ≡ Some f → page_bytes b page ≡ get_or b.frames f []
 on_frame b Untouched f e = cc
 on_frame b (Private g) f e = let same : g ≡ f = cc in rw same refl
 on_frame b (Shared g) f e = let same : g ≡ f = cc in rw same refl

@@ -9,7 +9,7 @@ use Rattle.wh_host_model.specs.Space.Parts.{Claimed, Occupant, Space, all_bytes,
 use Rattle.wh_host_model.specs.Space.Errands.{tickets}
 use Rattle.wh_host_model.specs.Space.Sound.{IsSound}
 use Rattle.wh_host_model.specs.Space.Offers.{Offers}
-use Rattle.wh_host_model.specs.Space.Scanning.{Scans}
+use Rattle.wh_host_model.specs.Space.Scanning.{IsDistinct, IsFullPass, Scans}
 use Rattle.wh_host_model.specs.Space.Tickets.{BeginsEvict, BeginsFetch, CommitsEvict, CommitsFetch, IsWritten, StandsForFrame}
 use Rattle.wh_host_model.specs.Space.Stores.{Epochs, Grew, Overwrites, Touches, ended, stood}
 use Rattle.wh_host_model.specs.Space.Places.{Enters, Exits}
@@ -71,3 +71,9 @@ abbrev pub ScansSoundly : Type 0
 ScansSoundly =
     (hashes : List ℕ → ℕ) (s : Space) (pages : List (ℕ × ℕ)) (s2 : Space) → IsSound s → Scans hashes s pages s2
     → IsSound s2 × (all_bytes s2 ≡ all_bytes s)
+
+-- after a full pass as many frames are in use as there are distinct contents
+abbrev pub PassesFully : Type 0
+PassesFully =
+    (hashes : List ℕ → ℕ) (s : Space) (pages : List (ℕ × ℕ)) (s2 : Space) (all : List (List ℕ)) → IsSound s
+    → IsFullPass hashes s pages s2 → IsDistinct s2 all → length all + length s2.pool.free ≡ length s2.pool.frames

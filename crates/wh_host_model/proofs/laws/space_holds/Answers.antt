@@ -15,6 +15,7 @@ use Rattle.wh_host_model.proofs.Space.Exited.{exits_soundly}
 use Rattle.wh_host_model.proofs.Space.Chained.{empty_sound, fails_soundly, stays_sound, scans_soundly}
 use Rattle.wh_host_model.proofs.Space.Filled.{breaks_soundly, stores_soundly, stores_are_right}
 use Rattle.wh_host_model.proofs.Space.Filling.{some_store}
+use Rattle.wh_host_model.proofs.Space.Passed.{passes_fully}
 use Rattle.wh_host_model.proofs.laws.space_holds.Goals as goal
 
 pub returns-clause-ready_is_decided : goal.returns-clause-ready_is_decided
@@ -160,3 +161,6 @@ returns-clause-stores_are_right c = stores_are_right
 
 pub returns-clause-some_store : goal.returns-clause-some_store
 returns-clause-some_store c = some_store
+
+pub returns-clause-passes_fully : goal.returns-clause-passes_fully
+returns-clause-passes_fully c = passes_fully
