@@ -11,3 +11,4 @@ pub mod Leaving
 pub mod Moving
 pub mod Apart
 pub mod Bridges
+pub mod Progress

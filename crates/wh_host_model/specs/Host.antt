@@ -12,3 +12,4 @@ pub mod Standing
 pub mod Laws
 pub mod Bridges
 pub mod Apart
+pub mod Progress
