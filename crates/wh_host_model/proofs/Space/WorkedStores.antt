@@ -5,9 +5,13 @@ use Rattle.wh_host_model.specs.declared.Tax.{Tax}
 use Rattle.wh_host_model.specs.declared.states.Page.TheVariants.{Private, Shared}
 use Rattle.wh_host_model.specs.declared.states.Mark.TheVariants.{Plain, Sharers}
 use Rattle.wh_host_model.specs.declared.states.Slot.TheVariants.{Vacant}
-use Rattle.wh_host_model.specs.Space.Parts.{Occupant, Space, sharers}
+use Rattle.wh_host_model.specs.Space.Parts.{Occupant, Space, pages_of, sharers}
 use Rattle.wh_host_model.specs.Space.Breaks.{Breaks}
-use Rattle.wh_host_model.specs.Space.Stores.{Overwrites}
+use Rattle.wh_host_model.specs.Space.Claims.{active_of, weight_of}
+use Rattle.wh_host_model.specs.Space.Offers.{Offers, joined_to}
+use Rattle.wh_host_model.specs.Pages.{zero_page}
+use Rattle.wh_host_model.specs.declared.states.Offer.TheVariants.{Merged}
+use Rattle.wh_host_model.specs.Space.Stores.{Epochs, Overwrites}
 
 abbrev sharer : ℕ → Option Occupant
 sharer n = Some (record { number = n; live = true; shares = 100; min = 2; max = 16; stands = None; leaves = None })
@@ -74,3 +78,54 @@ breaks tax y ys h =
       refl,
       refl,
     )
+
+-- After a new epoch the second has one page that isn't touched: with a tax of three quarters it weighs four, of which a touched
+-- page would weigh one.
+weighs : (tax : Tax) (y : ℕ) (ys : List ℕ) (h : ℕ) → tax.num ≡ 3 → tax.den ≡ 4
+    → (s2 : Space) × Epochs (after tax y ys h) s2 × (pages_of s2 1 ≡ 1) × (active_of s2 1 ≡ 0) × (weight_of s2 1 ≡ 4)
+weighs tax y ys h num den =
+    let s2 : Space = record (after tax y ys h) { touched = (false ∷ []) ∷ (false ∷ []) ∷ (false ∷ []) ∷ [] } in
+    (s2, refl, refl, refl, rw (num, den) refl)
+
+-- The first stores the old byte again, and a scan offers its page: it is merged with the entry that stayed. One frame of four is in
+-- use, and three share it.
+abbrev again : Tax → List ℕ → ℕ → Space
+again tax ys h = record (after tax 1 ys h) { pool = record { frames = (1 ∷ ys) ∷ (1 ∷ ys) ∷ (1 ∷ ys) ∷ (1 ∷ ys) ∷ []; free = 1 ∷ 2 ∷ [] } }
+
+still_other : (ys : List ℕ) (f : ℕ) → f ≢ 3 → get_or ((1 ∷ ys) ∷ (1 ∷ ys) ∷ (1 ∷ ys) ∷ (1 ∷ ys) ∷ []) f [] ≡ get_or ((1 ∷ ys) ∷ (1 ∷ ys) ∷ (1 ∷ ys) ∷ (2 ∷ ys) ∷ []) f []
+still_other ys zero other = refl
+still_other ys (suc zero) other = refl
+still_other ys (suc (suc zero)) other = refl
+still_other ys (suc (suc (suc zero))) other = absurd (other refl)
+still_other ys (suc (suc (suc (suc f)))) other = refl
+
+still_long : (ys : List ℕ) (f : ℕ) → length (get_or ((1 ∷ ys) ∷ (1 ∷ ys) ∷ (1 ∷ ys) ∷ (1 ∷ ys) ∷ []) f []) ≡ length (get_or ((1 ∷ ys) ∷ (1 ∷ ys) ∷ (1 ∷ ys) ∷ (2 ∷ ys) ∷ []) f [])
+still_long ys zero = refl
+still_long ys (suc zero) = refl
+still_long ys (suc (suc zero)) = refl
+still_long ys (suc (suc (suc zero))) = refl
+still_long ys (suc (suc (suc (suc f)))) = refl
+
+stores_again : (tax : Tax) (ys : List ℕ) (h : ℕ) → Overwrites (after tax 1 ys h) 0 0 (1 ∷ []) (again tax ys h)
+stores_again tax ys h =
+    let s : Space = after tax 1 ys h in
+    let first : Breaks s 0 0 s = record { page = Private 3; was = refl; frame = 3; mid = s; gets = (refl, refl); after = refl } in
+    record {
+      mid = s;
+      breaks = (s, first, refl);
+      fills = record {
+        frames = (again tax ys h).pool.frames;
+        sees = refl;
+        many = refl;
+        whole = still_long ys;
+        others = λ f none. still_other ys f (λ e. (let o = one_same f 3 e in omega arith));
+        after = refl;
+      };
+    }
+
+merges_again : (tax : Tax) (hashes : List ℕ → ℕ) (ys : List ℕ) (h : ℕ) → 1 ∷ ys ≢ zero_page
+    → (s2 : Space) × Offers hashes (again tax ys h) 0 0 h Merged s2 × (s2.pool.free ≡ 1 ∷ 2 ∷ 3 ∷ []) × (sharers s2 0 ≡ 3) × (s2.marks ≡ Sharers h 3 ∷ Plain ∷ Plain ∷ Plain ∷ [])
+merges_again tax hashes ys h some =
+    let s : Space = again tax ys h in
+    let free : 1 ≤ 0 → ⊥ = λ less. omega arith in
+    (joined_to s 0 0 3 0 h 2, (3, 0, (refl, free), some, refl, inl (2, refl, refl)), refl, refl, refl)
