@@ -46,3 +46,4 @@ pub mod Filling
 pub mod Pairing
 pub mod Passing
 pub mod Passed
+pub mod WorkedRows

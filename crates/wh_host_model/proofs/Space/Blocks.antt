@@ -5,13 +5,13 @@ use Rattle.std.proofs.lemmas.List.{take-append-le, drop-append-le, drop-drop, le
 use Rattle.wh_model.specs.Store.{written}
 use Rattle.wh_host_model.specs.Space.States.{joined}
 
-written_before : (x y : List ℕ) (k : ℕ) (g : List ℕ) → k + length g ≤ length x → written (x ++ y) k g ≡ written x k g ++ y
+pub written_before : (x y : List ℕ) (k : ℕ) (g : List ℕ) → k + length g ≤ length x → written (x ++ y) k g ≡ written x k g ++ y
 written_before x y k g fits =
     let a = take-append-le k x y (omega arith) in
     let b = drop-append-le (k + length g) x y fits in
     rw (a, b) (ap (λ z. take k x ++ z) (sym (append_assoc g (drop (k + length g) x) y)) ∙ sym (append_assoc (take k x) (g ++ drop (k + length g) x) y))
 
-written_after : (x y : List ℕ) (k : ℕ) (g : List ℕ) → written (x ++ y) (length x + k) g ≡ x ++ written y k g
+pub written_after : (x y : List ℕ) (k : ℕ) (g : List ℕ) → written (x ++ y) (length x + k) g ≡ x ++ written y k g
 written_after x y k g =
     let e : (length x + k) + length g ≡ length x + (k + length g) = omega arith in
     let a = take-append-add x y k in

@@ -74,26 +74,32 @@ pays_above_minimum tax =
 abbrev over : Need
 over = record { at = 4092; length = 8; writes = true }
 
-abbrev shared : Tax → Space
-shared tax = record (both tax (Some over) (Shared 0 ∷ Shared 1 ∷ Untouched ∷ []) (Shared 0 ∷ Shared 1 ∷ Private 2 ∷ []) (true ∷ true ∷ false ∷ []) (3 ∷ []) (Sharers 7 2 ∷ Sharers 8 2 ∷ Plain ∷ Plain ∷ [])) {
-  pool = record { frames = [] ∷ [] ∷ [] ∷ [] ∷ []; free = 3 ∷ [] };
+abbrev shared : Tax → List ℕ → List ℕ → List ℕ → List ℕ → Space
+shared tax x y z free = record (both tax (Some over) (Shared 0 ∷ Shared 1 ∷ Untouched ∷ []) (Shared 0 ∷ Shared 1 ∷ Private 2 ∷ []) (true ∷ true ∷ false ∷ []) (3 ∷ []) (Sharers 7 2 ∷ Sharers 8 2 ∷ Plain ∷ Plain ∷ [])) {
+  pool = record { frames = x ∷ y ∷ z ∷ free ∷ []; free = 3 ∷ [] };
 }
 
-not_ready : (tax : Tax) → ¬ Ready (shared tax) 0 over
-not_ready tax ready = let enough : 2 ≤ 1 = ready.1 in omega arith
+not_ready : (tax : Tax) (x y z free : List ℕ) → ¬ Ready (shared tax x y z free) 0 over
+not_ready tax x y z free ready = let enough : 2 ≤ 1 = ready.1 in omega arith
 
-touched_all : (tax : Tax) (q : ℕ) → CanLeave (pinned (shared tax) 0 over) 1 q → IsTouched (pinned (shared tax) 0 over) 1 q × (0 ≤ q)
-touched_all tax zero can = (refl, omega arith)
-touched_all tax (suc zero) can = (refl, omega arith)
-touched_all tax (suc (suc zero)) can = (refl, omega arith)
-touched_all tax (suc (suc (suc q))) can = absurd (let z : 0 ≡ 1 = can.0 in omega arith)
+touched_all : (tax : Tax) (x y z free : List ℕ) (q : ℕ) → CanLeave (pinned (shared tax x y z free) 0 over) 1 q → IsTouched (pinned (shared tax x y z free) 0 over) 1 q × (0 ≤ q)
+touched_all tax x y z free zero can = (refl, omega arith)
+touched_all tax x y z free (suc zero) can = (refl, omega arith)
+touched_all tax x y z free (suc (suc zero)) can = (refl, omega arith)
+touched_all tax x y z free (suc (suc (suc q))) can = absurd (let z : 0 ≡ 1 = can.0 in omega arith)
 
 -- One page leaves, the second's first. Its frame keeps one sharer, so none is free that wasn't, and one is wanted. Then all four
 -- frames are free for nobody else, and one slot is in use.
-provided_by_one : (tax : Tax)
-    → (s2 : Space) × Provides (shared tax) 0 over 1 s2 × (s2.pool.free ≡ []) × (kept_by s2.pins 0 ≡ 3 ∷ []) × (length s2.slots.vacant ≡ 1) × (page_at s2.tables 1 0 ≡ Some (Swapped 1))
-provided_by_one tax =
-    let s : Space = shared tax in
+-- what is left then
+abbrev pub provided : Tax → List ℕ → List ℕ → List ℕ → List ℕ → Space
+provided tax x y z free =
+    let s2 : Space = evicted (pinned (shared tax x y z free) 0 over) 1 0 0 1 (0 ∷ []) in
+    record s2 { pool = record s2.pool { free = [] }; pins = Some (record { place = 0; pages = 0 ∷ 1 ∷ []; frames = 3 ∷ [] }) }
+
+provided_by_one : (tax : Tax) (x y z free : List ℕ)
+    → (s2 : Space) × (s2 ≡ provided tax x y z free) × Provides (shared tax x y z free) 0 over 1 s2 × (s2.pool.free ≡ []) × (kept_by s2.pins 0 ≡ 3 ∷ []) × (length s2.slots.vacant ≡ 1) × (page_at s2.tables 1 0 ≡ Some (Swapped 1))
+provided_by_one tax x y z free =
+    let s : Space = shared tax x y z free in
     let s1 : Space = pinned s 0 over in
     let s2 : Space = evicted s1 1 0 0 1 (0 ∷ []) in
     let s3 : Space = record s2 { pool = record s2.pool { free = [] }; pins = Some (record { place = 0; pages = 0 ∷ 1 ∷ []; frames = 3 ∷ [] }) } in
@@ -103,10 +109,10 @@ provided_by_one tax =
     let enough : 1 ≤ 1 = omega arith in
     let lacks : LacksFree s1 0 over = inr (refl, few) in
     let payer : IsPayer s1 1 = only_payer s1 1 ((tenant 1 None, refl, more), (0, can)) (second_pays s1 (Some over) None refl refl) in
-    let given : IsGiven s1 1 0 = (can, inr (touched_all tax)) in
+    let given : IsGiven s1 1 0 = (can, inr (touched_all tax x y z free)) in
     let leaves : Evicts s1 1 0 s2 = record { frame = 0; slot = 1; others = 0 ∷ []; vacant = refl; page = inr refl; leaves = refl } in
     let earmarks : Earmarks s2 0 1 s3 = record { frames = 3 ∷ []; others = []; many = refl; free = refl; leaves = refl } in
-    (s3, (goes ∷ [], s2, (s1, refl, (lacks, (1, 0, (given, inl payer), leaves))), refl, (refl, enough), earmarks), refl, refl, refl, refl)
+    (s3, refl, (goes ∷ [], s2, (s1, refl, (lacks, (1, 0, (given, inl payer), leaves))), refl, (refl, enough), earmarks), refl, refl, refl, refl)
 
 -- Five frames are in use. The first instance has two pages of its own, the second three, and the first is to store to its third:
 -- the second's first page is taken, and begins to leave by a slot.
