@@ -1,5 +1,6 @@
 -- After a full pass as many frames are in use as there are distinct contents.
-use Rattle.std.proofs.Common.{◌≡◌, ◌≢◌, ℕ, ◌+◌, ◌-◌, ◌<◌, ◌≤◌, ◌⊎◌, inl, inr, List, [], ◌∷◌, Some, None, length, slice_get, zero, suc, refl, sym, ap, ◌∙◌, subst, arith}
+use Rattle.std.proofs.Common.{◌≡◌, ◌≢◌, ℕ, ◌+◌, ◌-◌, ◌<◌, ◌≤◌, ◌⊎◌, inl, inr, List, [], ◌∷◌, Some, None, length, slice_get, zero, suc, refl, sym, ap, ◌∙◌, subst, arith, cond, ◌==◌, map, true, false, Bool}
+use Rattle.std.proofs.lemmas.Bool.Decides.{nat_tests}
 use Rattle.std.proofs.lemmas.Bool.{cases_lt}
 use Rattle.wh_host_model.specs.Pages.{zero_page}
 use Rattle.wh_host_model.specs.Frames.{tally, one_if}
@@ -10,7 +11,7 @@ use Rattle.wh_host_model.specs.declared.states.Mark.{Mark}
 use Rattle.wh_host_model.specs.declared.states.Mark.TheVariants.{Plain, Hint, Sharers}
 use Rattle.wh_host_model.specs.declared.states.Slot.{Slot}
 use Rattle.wh_host_model.specs.declared.states.Slot.TheVariants.{Vacant, Taken, Evicting, EvictVoid, Fetching, FetchVoid}
-use Rattle.wh_host_model.specs.Space.Chain.{PassesFully}
+use Rattle.wh_host_model.specs.Space.Chain.{ContentsAreListed, PassesFully}
 use Rattle.wh_host_model.specs.Space.Errands.{fetches_into, is_ticket}
 use Rattle.wh_host_model.specs.Space.Moves.{frame_of}
 use Rattle.wh_host_model.specs.Space.Parts.{Space, frame_bytes, kept, sharers}
@@ -209,3 +210,94 @@ passes_fully hashes s pages s2 all sound full distinct =
           let frees = list_sum (length s2.pool.frames) s2.pool.free (λ f past. (let z = scan.sound.frames.none f past in omega arith)) in
           let rest = rest_sum (length s2.pool.frames) (λ f. tally (one_if f) s2.pool.free) few in
           omega arith
+
+-- ---- the contents of the frames in use
+
+used_below : Space → ℕ → List ℕ
+used_below s zero = []
+used_below s (suc n) = cond (tally (one_if n) s.pool.free == 0) (n ∷ used_below s n) (used_below s n)
+
+test_none : (n : ℕ) → (n == 0) ≡ true → n ≡ 0
+test_none n e = grind (arith, nat_tests)
+
+test_some : (n : ℕ) → (n == 0) ≡ false → 1 ≤ n
+test_some n e = grind (arith, nat_tests)
+
+below_is : (s : Space) (n k f : ℕ) → slice_get (used_below s n) k ≡ Some f → (f < n) × (tally (one_if f) s.pool.free ≡ 0)
+unfolding used_below
+below_is s zero k f is = absurd (let bad : None ≡ Some f = is in cc bad)
+below_is s (suc n) k f is = go (λ k is. below_is s n k f is) (tally (one_if n) s.pool.free == 0) refl k is where
+  go : ((k : ℕ) → slice_get (used_below s n) k ≡ Some f → (f < n) × (tally (one_if f) s.pool.free ≡ 0)) → (b : Bool) → (tally (one_if n) s.pool.free == 0) ≡ b → (k : ℕ) → slice_get (cond b (n ∷ used_below s n) (used_below s n)) k ≡ Some f → (f < suc n) × (tally (one_if f) s.pool.free ≡ 0)
+  go more true test zero is = (let e : n ≡ f = cc in (omega (arith, e), subst (λ z. tally (one_if z) s.pool.free ≡ 0) e (test_none (tally (one_if n) s.pool.free) test)))
+  go more true test (suc k) is = (let r = more k is in (omega (arith, r.0), r.1))
+  go more false test k is = (let r = more k is in (omega (arith, r.0), r.1))
+
+below_has : (s : Space) (n f : ℕ) → f < n → tally (one_if f) s.pool.free ≡ 0 → (k : ℕ) × (slice_get (used_below s n) k ≡ Some f)
+unfolding used_below
+below_has s zero f less none = absurd (omega arith)
+below_has s (suc n) f less none = go (λ less. below_has s n f less none) (tally (one_if n) s.pool.free == 0) refl where
+  last : f ≢ n → f < n
+  last other = omega (arith, less, other)
+
+  go : (f < n → (k : ℕ) × (slice_get (used_below s n) k ≡ Some f)) → (b : Bool) → (tally (one_if n) s.pool.free == 0) ≡ b → (k : ℕ) × (slice_get (cond b (n ∷ used_below s n) (used_below s n)) k ≡ Some f)
+  go more true test = elim (here_or n f) [ inl same ↦ (0, ap Some (sym same)) | inr other ↦ (let r = more (last (λ e. other e)) in (suc r.0, r.1)) ]
+  go more false test = elim (here_or n f) [
+    | inl same ↦ absurd (let some = test_some (tally (one_if n) s.pool.free) test in let z : tally (one_if n) s.pool.free ≡ 0 = subst (λ z. tally (one_if z) s.pool.free ≡ 0) same none in omega arith)
+    | inr other ↦ more (last (λ e. other e))
+  ]
+
+below_once : (s : Space) (n j k f : ℕ) → slice_get (used_below s n) j ≡ Some f → slice_get (used_below s n) k ≡ Some f → j ≡ k
+unfolding used_below
+below_once s zero j k f a b = absurd (let bad : None ≡ Some f = a in cc bad)
+below_once s (suc n) j k f a b = go (λ j k a b. below_once s n j k f a b) (tally (one_if n) s.pool.free == 0) j k a b where
+  go : ((j k : ℕ) → slice_get (used_below s n) j ≡ Some f → slice_get (used_below s n) k ≡ Some f → j ≡ k) → (t : Bool) → (j k : ℕ) → slice_get (cond t (n ∷ used_below s n) (used_below s n)) j ≡ Some f → slice_get (cond t (n ∷ used_below s n) (used_below s n)) k ≡ Some f → j ≡ k
+  go more true zero zero a b = refl
+  go more true zero (suc k) a b = absurd (let e : n ≡ f = cc in let r = below_is s n k f b in let l = r.0 in omega arith)
+  go more true (suc j) zero a b = absurd (let e : n ≡ f = cc in let r = below_is s n j f a in let l = r.0 in omega arith)
+  go more true (suc j) (suc k) a b = ap suc (more j k a b)
+  go more false j k a b = more j k a b
+
+mapped_from : (s : Space) (fs : List ℕ) (k : ℕ) (bytes : List ℕ) → slice_get (map (frame_bytes s) fs) k ≡ Some bytes → (f : ℕ) × (slice_get fs k ≡ Some f) × (frame_bytes s f ≡ bytes)
+mapped_from s [] k bytes is = absurd (let bad : None ≡ Some bytes = is in cc bad)
+mapped_from s (f ∷ fs) zero bytes is = (f, refl, (let e : frame_bytes s f ≡ bytes = cc in e))
+mapped_from s (f ∷ fs) (suc k) bytes is = mapped_from s fs k bytes is
+
+mapped_to : (s : Space) (fs : List ℕ) (k f : ℕ) → slice_get fs k ≡ Some f → slice_get (map (frame_bytes s) fs) k ≡ Some (frame_bytes s f)
+mapped_to s [] k f is = absurd (let bad : None ≡ Some f = is in cc bad)
+mapped_to s (g ∷ fs) zero f is = (let e : g ≡ f = cc in ap (λ z. Some (frame_bytes s z)) e)
+mapped_to s (g ∷ fs) (suc k) f is = mapped_to s fs k f is
+
+frames_apart : (hashes : List ℕ → ℕ) (s : Space) (f g : ℕ) → IsScanning hashes s → ((i p : ℕ) → at resident (page_at s.tables i p) ≡ 1 → IsSettled hashes s i p) → IsInUse s f → IsInUse s g → frame_bytes s f ≡ frame_bytes s g → f ≡ g
+frames_apart hashes s f g scan settled a b same =
+    let x = content_of hashes s f scan settled a in
+    let y = content_of hashes s g scan settled b in
+    scan.sound.frames.apart f g (hashes (frame_bytes s f)) x.entry (subst (λ z. HasHash (slice_get s.marks g) (hashes z)) (sym same) y.entry)
+
+pub contents_are_listed : ContentsAreListed
+unfolding IsInUse
+contents_are_listed hashes s pages s2 sound full =
+    let scan0 : IsScanning hashes s = record { sound = sound; none_out = full.none_out; none_kept = full.none_kept; none_pinned = full.none_pinned; made_under = full.made_under; apart = full.apart } in
+    let done = pass hashes s pages s2 scan0 full.scans in
+    let scan = done.scanning in
+    let settled : (i p : ℕ) → at resident (page_at s2.tables i p) ≡ 1 → IsSettled hashes s2 i p = λ i p r. (let k = full.all i p (done.less i p r) in done.each k.0 i p k.1) in
+    let n : ℕ = length s2.pool.frames in
+    let fs : List ℕ = used_below s2 n in (
+      map (frame_bytes s2) fs,
+      record {
+        each = λ bytes. (
+          λ there.
+              (let m = mapped_from s2 fs there.0 bytes there.1 in
+              let c = content_of hashes s2 m.0 scan settled (below_is s2 n there.0 m.0 m.1) in
+              (subst (IsContent s2) m.2 c.content, λ z. c.some (m.2 ∙ z))),
+          λ content.
+              (let u = use_of hashes s2 bytes scan content.0 in
+              let k = below_has s2 n u.0 u.1.0 u.1.1 in
+              (k.0, mapped_to s2 fs k.0 u.0 k.1 ∙ ap Some u.2)),
+        );
+        once = λ j k bytes a b.
+            (let x = mapped_from s2 fs j bytes a in
+            let y = mapped_from s2 fs k bytes b in
+            let same = frames_apart hashes s2 x.0 y.0 scan settled (below_is s2 n j x.0 x.1) (below_is s2 n k y.0 y.1) (x.2 ∙ sym y.2) in
+            below_once s2 n j k y.0 (x.1 ∙ ap Some same) y.1);
+      },
+    )

@@ -5,7 +5,7 @@ use Rattle.wh_model.specs.Memory.{writing}
 use Rattle.wh_model.proofs.Fragments.{length-written}
 use Rattle.wh_host_model.specs.Pages.{zero_page}
 use Rattle.wh_host_model.specs.declared.Tax.{Tax}
-use Rattle.wh_host_model.specs.declared.states.Page.TheVariants.{Untouched, Private, Shared, Swapped}
+use Rattle.wh_host_model.specs.declared.states.Page.TheVariants.{Untouched, Private, Shared, LeavingShared, Swapped}
 use Rattle.wh_host_model.specs.declared.states.Mark.TheVariants.{Plain, Sharers}
 use Rattle.wh_host_model.specs.declared.states.Slot.TheVariants.{Vacant}
 use Rattle.wh_host_model.specs.Space.Breaks.{Breaks, BreaksEach}
@@ -14,7 +14,7 @@ use Rattle.wh_host_model.specs.Space.Ready.{frames_to_write, pages_of_need}
 use Rattle.wh_host_model.specs.Space.Stores.{Overwrites}
 use Rattle.wh_host_model.proofs.Tally.{one_same}
 use Rattle.wh_host_model.proofs.Space.Blocks.{written_after, written_before, written_parts}
-use Rattle.wh_host_model.proofs.Space.WorkedTransit.{provided}
+use Rattle.wh_host_model.proofs.Space.WorkedTransit.{last_sharer, provided}
 
 -- ---- two equal pages of one instance share a frame, and are written together
 
@@ -133,3 +133,21 @@ stores_over tax x y z free long long2 =
       refl,
       refl,
     )
+
+-- ---- a page that is leaving has a frame with another sharer, which is written
+
+-- the other gets its own frame, the free one; what comes of the ticket then is said by last_sharer_leaves
+sharing : Tax → List ℕ → ℕ → Space
+sharing tax x h = record (last_sharer tax x h) {
+  tables = (Shared 0 ∷ []) ∷ (LeavingShared 0 ∷ []) ∷ [];
+  pool = record { frames = x ∷ x ∷ []; free = 1 ∷ [] };
+  marks = Sharers h 2 ∷ Plain ∷ [];
+}
+
+other_stores : (tax : Tax) (x : List ℕ) (h : ℕ) → Breaks (sharing tax x h) 0 0 (last_sharer tax x h)
+unfolding sharing
+other_stores tax x h =
+    let s : Space = sharing tax x h in
+    let taken : Space = record s { pool = record { frames = x ∷ x ∷ []; free = [] }; marks = Sharers h 1 ∷ Plain ∷ [] } in
+    let some : 2 ≤ 2 = omega arith in
+    record { page = Shared 0; was = refl; frame = 1; mid = taken; gets = inr (some, inl ([], ([], [], refl, refl), refl)); after = refl }

@@ -226,7 +226,7 @@ released_meanwhile tax = (
 
 -- A page that is leaving had a frame with another sharer, which has its own frame since it was written. When the page is in its
 -- slot the old frame is free, and its entry forgotten.
-abbrev last_sharer : Tax → List ℕ → ℕ → Space
+abbrev pub last_sharer : Tax → List ℕ → ℕ → Space
 last_sharer tax x h = record (both tax None (Private 1 ∷ []) (LeavingShared 0 ∷ []) (true ∷ []) [] (Sharers h 1 ∷ Plain ∷ [])) {
   pool = record { frames = x ∷ x ∷ []; free = [] };
   slots = record { uses = Evicting 1 0 ∷ []; vacant = []; held = x ∷ [] };

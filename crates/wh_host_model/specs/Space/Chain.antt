@@ -77,3 +77,9 @@ abbrev pub PassesFully : Type 0
 PassesFully =
     (hashes : List ℕ → ℕ) (s : Space) (pages : List (ℕ × ℕ)) (s2 : Space) (all : List (List ℕ)) → IsSound s
     → IsFullPass hashes s pages s2 → IsDistinct s2 all → length all + length s2.pool.free ≡ length s2.pool.frames
+
+-- and these can be listed
+abbrev pub ContentsAreListed : Type 0
+ContentsAreListed =
+    (hashes : List ℕ → ℕ) (s : Space) (pages : List (ℕ × ℕ)) (s2 : Space) → IsSound s → IsFullPass hashes s pages s2
+    → (all : List (List ℕ)) × IsDistinct s2 all

@@ -15,7 +15,7 @@ use Rattle.wh_host_model.proofs.Space.Exited.{exits_soundly}
 use Rattle.wh_host_model.proofs.Space.Chained.{empty_sound, fails_soundly, stays_sound, scans_soundly}
 use Rattle.wh_host_model.proofs.Space.Filled.{breaks_soundly, stores_soundly, stores_are_right}
 use Rattle.wh_host_model.proofs.Space.Filling.{some_store}
-use Rattle.wh_host_model.proofs.Space.Passed.{passes_fully}
+use Rattle.wh_host_model.proofs.Space.Passed.{contents_are_listed, passes_fully}
 use Rattle.wh_host_model.proofs.laws.space_holds.Goals as goal
 
 pub returns-clause-ready_is_decided : goal.returns-clause-ready_is_decided
@@ -164,3 +164,6 @@ returns-clause-some_store c = some_store
 
 pub returns-clause-passes_fully : goal.returns-clause-passes_fully
 returns-clause-passes_fully c = passes_fully
+
+pub returns-clause-contents_are_listed : goal.returns-clause-contents_are_listed
+returns-clause-contents_are_listed c = contents_are_listed
