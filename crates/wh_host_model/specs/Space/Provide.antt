@@ -81,12 +81,16 @@ Provides s i need n s2 =
     (moves : List Move) × (mid : Space) × Serves s i need moves mid × (tally leaves moves ≡ n)
     × IsServed mid i need × Earmarks mid i (frames_to_write mid i need) s2
 
--- The device failed: the moves so far stay, and nothing is pinned or earmarked. A slot to which a write failed is
--- vacant and holds nothing that is known.
+-- Nothing is pinned or earmarked; and a slot to which a write failed, and which is vacant, holds nothing that is known.
+abbrev pub GivesUp : Space → Space → Type 0
+GivesUp s s2 =
+    (s2 ≡ unpinned s)
+    ⊎ ((k : ℕ) × (slice_get s.slots.uses k ≡ Some Vacant) × (s2 ≡ unpinned (with_held s k [])))
+
+-- the device failed: the moves so far stay
 abbrev pub FailsToProvide : Space → ℕ → Need → Space → Type 0
 FailsToProvide s i need s2 =
-    (moves : List Move) × (mid : Space) × Serves s i need moves mid
-    × ((s2 ≡ unpinned mid) ⊎ ((k : ℕ) × (slice_get mid.slots.uses k ≡ Some Vacant) × (s2 ≡ unpinned (with_held mid k []))))
+    (moves : List Move) × (mid : Space) × Serves s i need moves mid × GivesUp mid s2
 
 -- the same where the device tells what its slots hold
 abbrev pub ProvidesTruly : Space → ℕ → Need → ℕ → Space → Type 0
@@ -96,8 +100,7 @@ ProvidesTruly s i need n s2 =
 
 abbrev pub FailsTruly : Space → ℕ → Need → Space → Type 0
 FailsTruly s i need s2 =
-    (moves : List Move) × (mid : Space) × ServesTruly s i need moves mid
-    × ((s2 ≡ unpinned mid) ⊎ ((k : ℕ) × (slice_get mid.slots.uses k ≡ Some Vacant) × (s2 ≡ unpinned (with_held mid k []))))
+    (moves : List Move) × (mid : Space) × ServesTruly s i need moves mid × GivesUp mid s2
 
 -- no other instance has fewer pages than before, or it has its minimum still
 abbrev pub OthersKeepMinimum : Space → ℕ → Space → Type 0
