@@ -9,3 +9,6 @@ pub mod Stopping
 pub mod Agreeing
 pub mod Leaving
 pub mod Moving
+pub mod Apart
+pub mod Bridges
+pub mod Progress

@@ -35,3 +35,15 @@ pub mod Voided
 pub mod Entered
 pub mod Exited
 pub mod Chained
+pub mod Breaking
+pub mod Lending
+pub mod Broken
+pub mod BrokenOff
+pub mod BrokenEach
+pub mod Filled
+pub mod Blocks
+pub mod Filling
+pub mod Pairing
+pub mod Passing
+pub mod Passed
+pub mod WorkedRows

@@ -10,3 +10,6 @@ pub mod Happens
 pub mod Journals
 pub mod Standing
 pub mod Laws
+pub mod Bridges
+pub mod Apart
+pub mod Progress

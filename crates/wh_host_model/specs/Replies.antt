@@ -87,7 +87,8 @@ pub data LineReply (gets : Replying) (before : Modules) (number : ℕ) (line tex
   skipped : is_skipped line ≡ true → text ≡ [] → after ≡ before → LineReply gets before number line text after
   too_long : is_skipped line ≡ false → longest_line < length line → text ≡ error_reply 1 number → after ≡ before
       → LineReply gets before number line text after
-  no_request : is_skipped line ≡ false → ((request : Request) → AsksRequest line request → ⊥) → text ≡ error_reply 1 number
+  no_request : is_skipped line ≡ false → ((request : Request) → AsksRequest line request → ⊥)
+      → text ≡ error_reply 1 number
       → after ≡ before → LineReply gets before number line text after
   asked : (request : Request) → is_skipped line ≡ false → length line ≤ longest_line → AsksRequest line request
       → gets before number request text after → LineReply gets before number line text after

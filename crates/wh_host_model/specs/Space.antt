@@ -8,7 +8,9 @@ pub mod Claims
 pub mod Moves
 pub mod Offers
 pub mod Tickets
+pub mod Breaks
 pub mod Stores
+pub mod Storing
 pub mod Places
 pub mod Provide
 pub mod Scanning

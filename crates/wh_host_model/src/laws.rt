@@ -3,7 +3,8 @@
 ghost use Rattle.wh_host_model.specs.Space.Laws.{ReadyIsDecided, NoBytesAreReady, OneUseOfAFrame, SomePageCanBeTaken, SomeSlotIsVacant, EvictionKeepsAll, FetchKeepsSound, FetchKeepsBytes, MovesAreFew, ProvisionIsRight, BeginsEvictSoundly, BeginsEvictQuietly, BeginsFetchQuietly, CommitsEvictQuietly, CommitsFetchQuietly};
 ghost use Rattle.wh_host_model.specs.Space.Sight.{OffersQuietly, WritesQuietly, StepsQuietly, GrowsAlone, GrowsByZeros, EntersAlone, EntersAtZeros, ExitsAlone, PinsEnd, GoneIsSkipped, WrittenIsVoid, ReleasedIsVoid, NothingNeedless};
 ghost use Rattle.wh_host_model.specs.Space.Kept.{TouchesSoundly, EpochsSoundly, WritesSoundly, StandsSoundly, EndsSoundly, CommitsEvictSoundly, OffersSoundly, BeginsFetchSoundly, CommitsFetchSoundly, GrowsSoundly, EntersSoundly, ExitsSoundly};
-ghost use Rattle.wh_host_model.specs.Space.Chain.{FailsSoundly, EmptyIsSound, StaysSound, ScansSoundly};
+ghost use Rattle.wh_host_model.specs.Space.Chain.{FailsSoundly, EmptyIsSound, StaysSound, ScansSoundly, PassesFully, ContentsAreListed};
+ghost use Rattle.wh_host_model.specs.Space.Storing.{BreaksSoundly, SomeStore, StoresSoundly, StoresAreRight};
 
 /// What holds of the memory on which all instances lie. The function does nothing; what it ensures are the laws.
 pub fn space_holds()
@@ -51,4 +52,10 @@ pub fn space_holds()
     ensures empty_is_sound { EmptyIsSound }
     ensures stays_sound { StaysSound }
     ensures scans_soundly { ScansSoundly }
+    ensures passes_fully { PassesFully }
+    ensures contents_are_listed { ContentsAreListed }
+    ensures breaks_soundly { BreaksSoundly }
+    ensures stores_soundly { StoresSoundly }
+    ensures stores_are_right { StoresAreRight }
+    ensures some_store { SomeStore }
 {}

@@ -6,11 +6,13 @@
 ghost use Rattle.std.specs.Prelude.{◌≤◌, ◌<◌};
 
 mod laws;
+mod moves;
 mod plain;
 mod runs;
 mod states;
 
 pub use laws::space_holds;
+pub use moves::moves_hold;
 pub use plain::{InstId, SwapError, TurnEnd};
 pub use runs::every_run;
 pub use states::{EvictEnd, FetchEnd, Mark, Offer, Page, Slot};

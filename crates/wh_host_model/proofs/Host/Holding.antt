@@ -65,7 +65,7 @@ journals_are_in_order frames slots tax events w r i t x =
     let good = good_run events (empty_world frames slots tax) w (good_empty frames slots tax) r in
     let f = good.each i t x in
     let k = f.kept in
-    record { loaded = f.loaded; is_loaded = f.is_loaded; calls = k.order; few = let few = k.few in let n = length-append t.ended t.open_calls in omega (arith, few, n) }
+    record { loaded = f.loaded; is_loaded = f.is_loaded; calls = k.order; few = let few = k.few in let n = length-append t.ended t.open_calls in omega (arith, few, n); few_open = k.few_open }
 
 pub suspensions_are_right : SuspensionsAreRight
 suspensions_are_right frames slots tax events w r i t x =

@@ -1,5 +1,5 @@
 -- Each event that touches an instance keeps it what its journal comes to.
-use Rattle.std.proofs.Common.{◌≡◌, ◌≢◌, ℕ, suc, zero, ◌+◌, ◌<◌, ◌≤◌, ⊎_elim, false, Option, Some, None, List, [], ◌∷◌, ◌++◌, length, map, take, drop, min, refl, sym, ap, subst, ◌∙◌, arith, ℤ, append_assoc, length-append}
+use Rattle.std.proofs.Common.{◌≡◌, ◌≢◌, ℕ, suc, zero, ◌+◌, ◌-◌, ◌<◌, ◌≤◌, ⊎_elim, false, Option, Some, None, List, [], ◌∷◌, ◌++◌, length, map, take, drop, min, refl, sym, ap, subst, ◌∙◌, arith, ℤ, append_assoc, length-append}
 use Rattle.std.specs.List.{AllByRecursion}
 use Rattle.wh_model.specs.declared.memory.Need.{Need}
 use Rattle.wh_model.specs.Format.Syntax.{Module}
@@ -19,7 +19,7 @@ use Rattle.wh_host_model.specs.Host.Worlds.{Params, Rest, Doing, resting, has_le
 use Rattle.wh_host_model.specs.Host.Turns.{HaveTypes, Upshot, to_end, out_of_fuel, to_wait, to_go_on, Proceeds, returns, traps, writes_all, uses_fuel, waits, waits_to_write, has_had_its_turn}
 use Rattle.wh_host_model.specs.Host.Answers.{gone_further, ended_by, gone_on, Faces, Closes, faces_next, is_dead, at_frame, Turn, is_idle, has_ended, has_no_fuel, has_no_frame, can_go_on, keeps_its_fault}
 use Rattle.wh_host_model.specs.Host.Calls as requests
-use Rattle.wh_host_model.specs.Host.Calls.{most_fuel, most_calls, new_entry, TakesCall, more_fuel, StandsAfter, Refuels, has_more, Cancels, Retries, may_try}
+use Rattle.wh_host_model.specs.Host.Calls.{most_fuel, most_calls, most_open, open_count, new_entry, TakesCall, more_fuel, StandsAfter, Refuels, has_more, Cancels, Retries, may_try}
 use Rattle.wh_host_model.specs.Host.Admission.{start_entry, StartsAs, writes, runs, ends, rest_of}
 use Rattle.wh_host_model.specs.Host.Journals.{IsOpenCall, ReturnsTyped, HasEnded, InOrder, is_starting, has_started}
 use Rattle.wh_host_model.specs.Host.Standing.{NextAsks, a_piece, a_step, StandsDuly, FirstStandsDuly}
@@ -40,6 +40,7 @@ pub record Kept (m : Module) (p : Parameters) (t : Tenant) (bytes : List ℕ) (w
   pub now : Now t.inst s1 ps1 (journal_calls t.open_calls) (standing_with bytes t.rest t.doing)
   pub order : InOrder m t.inst t.dead t.ended t.open_calls
   pub few : length t.ended + length t.open_calls ≤ most_calls
+  pub few_open : open_count t ≤ most_open
   pub duly : FirstStandsDuly t.inst (store_with bytes t.rest) t.doing t.open_calls want t.stands_for
 
 -- what is known where a call is present
@@ -56,6 +57,7 @@ record Present (m : Module) (p : Parameters) (t : Tenant) (bytes : List ℕ) (wa
   waits : AllByRecursion Waits (journal_calls es)
   order : InOrder m t.inst t.dead t.ended (e ∷ es)
   few : length t.ended + suc (length es) ≤ most_calls
+  few_open : suc (length es) - (1 - min 1 (length t.ended)) ≤ most_open
   duly : StandsDuly t.inst (store_with bytes t.rest) t.doing e.call want t.stands_for
 
 present : {m : Module} {p : Parameters} {t : Tenant} {bytes : List ℕ} {want : Option Need} {e : Entry} {es : List Entry} → Kept m p t bytes want → t.open_calls ≡ e ∷ es → Present m p t bytes want e es
@@ -74,6 +76,7 @@ present {m = m} {t = t} {bytes = bytes} {want = want} k same =
       waits = now.2;
       order = subst (λ xs. InOrder m t.inst t.dead t.ended xs) same k.order;
       few = subst (λ xs. length t.ended + length xs ≤ most_calls) same k.few;
+      few_open = subst (λ xs. length xs - (1 - min 1 (length t.ended)) ≤ most_open) same k.few_open;
       duly = subst (λ xs. FirstStandsDuly t.inst (store_with bytes t.rest) t.doing xs want t.stands_for) same k.duly;
     }
 
@@ -97,6 +100,7 @@ closes_kept {t = t} {es = es} pr e2 s3 r end same h typed none (faces_next {d = 
   now = faces_now t.inst (view s3 t.place) r es d pr.waits f;
   order = order_ends e2 same h typed alive pr.order;
   few = let n = length-append t.ended (e2 ∷ []) in let few = pr.few in omega (arith, n, few);
+  few_open = let n = length-append t.ended (e2 ∷ []) in let few = pr.few_open in omega (arith, n, few);
   duly = duly_none t.inst (store_with (view s3 t.place) r) d es none;
 }
 closes_kept {t = t} {es = es} pr e2 s3 r end same h typed none (is_dead died) = record {
@@ -114,6 +118,7 @@ closes_kept {t = t} {es = es} pr e2 s3 r end same h typed none (is_dead died) = 
       let l = length-map es (λ w. ended_by w dead) in
       let few = pr.few in
       omega (arith, n, l, few);
+  few_open = omega arith;
   duly = (none, refl);
 }
 
@@ -213,6 +218,7 @@ on_kept {s2 = s2} {s3 = s3} {t = t} {e = e} k n {r = r} {d = d} o stands pr at d
   now = (pr.pending, subst (λ b. Stands t.inst pr.s1 pr.ps1 (gone_further e k n).call (standing_with b r d)) (sym leaves.view) at, pr.waits);
   order = order_on (gone_further e k n) (record { func = refl; args = refl; given = refl; fuel = λ h. h }) pr.pending pr.order;
   few = pr.few;
+  few_open = pr.few_open;
   duly =
       subst (λ w. StandsDuly t.inst (store_with (view s3 t.place) r) d (gone_further e k n).call w o) (sym leaves.wants)
       (subst (λ b. StandsDuly t.inst (store_with b r) d (gone_further e k n).call stands o) (sym leaves.view) duly);
@@ -298,6 +304,7 @@ refuel_kept {n = n} {t = t} {bytes = bytes} {want = want} k (has_more {e = e} {o
       now = (pr.pending, more_stands f le pr.stands, pr.waits);
       order = order_on (more_fuel e n) (record { func = refl; args = refl; given = refl; fuel = λ h. omega arith }) pr.pending pr.order;
       few = pr.few;
+      few_open = pr.few_open;
       duly = more_duly t.inst (store_with bytes t.rest) t.doing e.call want f le t.stands_for o pr.duly after;
     }
 
@@ -327,6 +334,7 @@ faulted_kept {t = t} {bytes = bytes} {want = want} {a = a} {b = b} k was from to
   now = k.now;
   order = k.order;
   few = k.few;
+  few_open = k.few_open;
   duly = first_faulted t.inst (store_with bytes t.rest) t.doing want t.open_calls a b from to (subst (λ o. FirstStandsDuly t.inst (store_with bytes t.rest) t.doing t.open_calls want o) was k.duly);
 }
 
@@ -344,10 +352,10 @@ idle_store b r (has_left ps) s e = absurd (cc e)
 idle_store b r (computing t) s e = absurd (cc e)
 
 accepted : {m : Module} {p : Parameters} {t : Tenant} (s : Space) (x : ℕ) (vs : List Value) (given : List ℤ) (fuel : ℕ) (d : Doing) → Kept m p t (view s t.place) (wants s t.place)
-    → IsOpenCall t.inst (new_entry x vs given fuel) → t.dead ≡ false → length t.ended + length t.open_calls < most_calls
+    → IsOpenCall t.inst (new_entry x vs given fuel) → t.dead ≡ false → length t.ended + length t.open_calls < most_calls → open_count t < most_open
     → (t.open_calls ≡ [] → Faces t.inst (store_in s t) (new_entry x vs given fuel ∷ []) d) → (t.open_calls ≢ [] → d ≡ t.doing)
     → (os : List Entry) → t.open_calls ≡ os → Kept m p (record t { doing = d; open_calls = os ++ new_entry x vs given fuel ∷ [] }) (view s t.place) (wants s t.place)
-accepted {m = m} {t = t} s x vs given fuel d k asked alive few first later [] none =
+accepted {m = m} {t = t} s x vs given fuel d k asked alive few room first later [] none =
     let now = subst (λ xs. Now t.inst k.s1 k.ps1 (journal_calls xs) (standing_with (view s t.place) t.rest t.doing)) none k.now in
     let store : store_with (view s t.place) t.rest ≡ k.s1 = idle_store (view s t.place) t.rest t.doing k.s1 now.1 in
     let faced = faces_now t.inst (view s t.place) t.rest (new_entry x vs given fuel ∷ []) d (new_waits x vs given fuel) (first none) in
@@ -363,9 +371,10 @@ accepted {m = m} {t = t} s x vs given fuel d k asked alive few first later [] no
       now = subst (λ z. Now t.inst z [] (journal_calls (new_entry x vs given fuel ∷ [])) (standing_with (view s t.place) t.rest d)) store faced;
       order = order_comes (new_entry x vs given fuel) alive asked (subst (λ xs. InOrder m t.inst t.dead t.ended xs) none k.order);
       few = omega (arith, few, ap length none);
+      few_open = omega arith;
       duly = subst (λ o. StandsDuly t.inst (store_in s t) d (new_entry x vs given fuel).call (wants s t.place) o) (sym duly.1) duly.0;
     }
-accepted {m = m} {t = t} s x vs given fuel d k asked alive few first later (e ∷ es) there =
+accepted {m = m} {t = t} s x vs given fuel d k asked alive few room first later (e ∷ es) there =
     let pr = present k there in
     let same : d ≡ t.doing = later (λ none. let no : e ∷ es ≡ [] = sym there ∙ none in cc no) in
     record {
@@ -383,6 +392,7 @@ accepted {m = m} {t = t} s x vs given fuel d k asked alive few first later (e �
       );
       order = order_comes (new_entry x vs given fuel) alive asked pr.order;
       few = let n = length-append es (new_entry x vs given fuel ∷ []) in let l = ap length there in omega (arith, few, n, l);
+      few_open = let n = length-append es (new_entry x vs given fuel ∷ []) in let l = ap length there in omega (arith, room, n, l);
       duly = subst (λ z. StandsDuly t.inst (store_in s t) z e.call (wants s t.place) t.stands_for) (sym same) pr.duly;
     }
 
@@ -394,7 +404,7 @@ accept_kept {m} {p = p} {t = t} {given = given} {fuel = fuel} s k a =
       asked = record { index = a.func; type = a.type; body = a.body; func = refl; is_own = let x = a.exports in x.is_own; arguments = a.fits; fuel = a.can_count };
       open_yet = refl;
     } in
-    subst (λ z. Kept m p z (view s t.place) (wants s t.place)) (sym a.after) (accepted s a.func a.vs given fuel a.doing k asked a.alive (omega (arith, few, n)) a.first a.later t.open_calls refl)
+    subst (λ z. Kept m p z (view s t.place) (wants s t.place)) (sym a.after) (accepted s a.func a.vs given fuel a.doing k asked a.alive (omega (arith, few, n)) a.few_open a.first a.later t.open_calls refl)
 
 -- ---- an instance begins
 
@@ -419,6 +429,7 @@ begins_kept m place of params p inst s ps fuel given initial low (writes some) =
   now = (refl, has_pieces (some_pieces ps some) refl, tt);
   order = is_starting (record { func = refl; args = refl; given = refl; fuel = low }) refl tt;
   few = omega arith;
+  few_open = omega arith;
   duly = refl;
 }
 begins_kept m place of params p inst s ps fuel given initial low (runs {x = x} {d = d} none start f) = record {
@@ -432,6 +443,7 @@ begins_kept m place of params p inst s ps fuel given initial low (runs {x = x} {
   now = faces_now inst s.bytes (rest_of s) (start_entry m.start fuel pending ∷ []) d (record { outcome = refl; fragments = refl; charges = refl }, tt) f;
   order = is_starting (record { func = refl; args = refl; given = refl; fuel = low }) refl tt;
   few = omega arith;
+  few_open = omega arith;
   duly = refl;
 }
 begins_kept m place of params p inst s ps fuel given initial low (ends none start) = record {
@@ -445,5 +457,6 @@ begins_kept m place of params p inst s ps fuel given initial low (ends none star
   now = (refl, refl);
   order = has_started (record { func = sym start; args = refl; given = refl; fuel = low }) tt refl (λ none. refl, λ some. absurd (some refl)) tt tt;
   few = omega arith;
+  few_open = omega arith;
   duly = (refl, refl);
 }

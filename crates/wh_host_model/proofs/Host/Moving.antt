@@ -85,7 +85,7 @@ settled_claims xs j n = record { each = settled_at xs j n }
 
 -- ---- pages in transit
 
-reserves_there : (s : Space) (i : ℕ) (need : Need) (s2 : Space) → Reserves s i need s2 → s2.occupants ≡ s.occupants
+pub reserves_there : (s : Space) (i : ℕ) (need : Need) (s2 : Space) → Reserves s i need s2 → s2.occupants ≡ s.occupants
 reserves_there s i need s2 r = ap (λ (a : Space). a.occupants) r.leaves
 
 pub begins_evict_alone : (s s2 : Space) (i k : ℕ) (bytes : List ℕ) → IsSound s → BeginsEvict s i (Some k) bytes s2 → AllLeftAlone s s2

@@ -15,7 +15,8 @@ use Rattle.wh_host_model.specs.Host.Worlds.{Entry, Params, Rest, Tenant, Loaded,
 use Rattle.wh_host_model.specs.Host.Answers.{Closes, faces_next, is_dead, Turn, is_idle, has_ended, has_no_fuel, has_no_frame, can_go_on, keeps_its_fault}
 use Rattle.wh_host_model.specs.Host.Calls.{TakesCall, Refuels, has_more, Cancels, Retries, may_try}
 use Rattle.wh_host_model.specs.Host.Calls as requests
-use Rattle.wh_host_model.specs.Host.Admission.{CanLoad, LoadsModule, LetsIn, LetsGo}
+use Rattle.wh_model.specs.Linking.Accepting.{IsAccepted}
+use Rattle.wh_host_model.specs.Host.Admission.{LoadsModule, LetsIn, LetsGo}
 use Rattle.wh_host_model.specs.Host.Events.{Event, turn, load, admit, invoke, refuel, cancel, retry, release, offer, evict_begin, evict_commit, fetch_begin, fetch_commit, provide, epoch}
 use Rattle.wh_host_model.specs.Host.Happens as happens
 use Rattle.wh_host_model.specs.Host.Happens.{IsLive, IsTurn, of_none, of_one, AwaitsFrame, AwaitsFrameFor, MovesPages, moved, has_failed, OnlyMoves, Happens, AllHappen}
@@ -38,7 +39,7 @@ IsOwned w = (place : ℕ) (c : Claimed) → claim w.space place ≡ Some c → (
 -- all instances; and no two lie at one place
 pub record IsGood (w : World) : Type 0 where
   pub sound : IsSound w.space
-  pub modules : (k : ℕ) (l : Loaded) → slice_get w.modules k ≡ Some l → CanLoad l.bytes l.m
+  pub modules : (k : ℕ) (l : Loaded) → slice_get w.modules k ≡ Some l → IsAccepted l.bytes l.m
   pub apart : (i j : ℕ) (a b : Tenant) → tenant w i ≡ Some a → tenant w j ≡ Some b → a.place ≡ b.place → i ≡ j
   pub owned : IsOwned w
   pub each : (i : ℕ) (t : Tenant) → tenant w i ≡ Some t → IsFine w.modules w.space i t
@@ -235,7 +236,7 @@ loads_good w w2 bytes number good l =
       modules = λ k x e.
           ⊎_elim
           (λ (h : slice_get w.modules k ≡ Some x). good.modules k x h)
-          (λ (h : new ≡ x). subst (λ (z : Loaded). CanLoad z.bytes z.m) h l.accepted)
+          (λ (h : new ≡ x). subst (λ (z : Loaded). IsAccepted z.bytes z.m) h l.accepted)
           (was_loaded w.modules new x k e);
       apart = good.apart;
       owned = good.owned;

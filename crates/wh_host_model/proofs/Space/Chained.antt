@@ -8,7 +8,7 @@ use Rattle.wh_host_model.proofs.Tally.{one_same, one_other}
 use Rattle.wh_host_model.proofs.PageLemmas.{length-zero_page}
 use Rattle.wh_host_model.specs.declared.states.Mark.TheVariants.{Plain}
 use Rattle.wh_host_model.specs.declared.states.Slot.TheVariants.{Vacant, FetchVoid}
-use Rattle.wh_host_model.specs.Space.Chain.{Befalls, EmptyIsSound, FailsSoundly, Follows, ScansSoundly, StaysSound, loads, new_epoch, stands, ends, offered, begins_evict, written, commits_evict, begins_fetch, commits_fetch, provides, fails, grows, enters, exits}
+use Rattle.wh_host_model.specs.Space.Chain.{Befalls, stores, EmptyIsSound, FailsSoundly, Follows, ScansSoundly, StaysSound, loads, new_epoch, stands, ends, offered, begins_evict, written, commits_evict, begins_fetch, commits_fetch, provides, fails, grows, enters, exits}
 use Rattle.wh_host_model.specs.Space.Errands.{fetches_into}
 use Rattle.wh_host_model.specs.Space.Sound.{HasHash, IsSound, IsUsed, LeavesBy, Names}
 use Rattle.wh_host_model.specs.Space.Parts.{all_bytes, Space, empty_space, numbers_below}
@@ -19,6 +19,7 @@ use Rattle.wh_host_model.proofs.Space.Enlarged.{grows_soundly}
 use Rattle.wh_host_model.proofs.Space.Entered.{enters_soundly}
 use Rattle.wh_host_model.proofs.Space.Exited.{exits_soundly}
 use Rattle.wh_host_model.proofs.Space.Merging.{offers_soundly}
+use Rattle.wh_host_model.proofs.Space.Filled.{stores_soundly}
 use Rattle.wh_host_model.proofs.Space.Quiet.{offers_quiet}
 use Rattle.wh_host_model.proofs.Space.Provided.{provision_is_right, serves_way}
 use Rattle.wh_host_model.proofs.Space.Reserved.{begin_evict_sound, is_sound_unpinned}
@@ -99,6 +100,7 @@ empty_sound frames slots tax =
 
 befalls_soundly : (hashes : List ℕ → ℕ) (s s2 : Space) → IsSound s → Befalls hashes s s2 → IsSound s2
 befalls_soundly hashes s s2 sound (loads i first n is) = touches_soundly s i first n s2 sound is
+befalls_soundly hashes s s2 sound (stores i at given is) = stores_soundly s i at given s2 sound is
 befalls_soundly hashes s s2 sound (new_epoch is) = epochs_soundly s s2 sound is
 befalls_soundly hashes s s2 sound (stands i t need was may is) = subst IsSound (sym is) (stands_soundly s i t need sound was may)
 befalls_soundly hashes s s2 sound (ends i t was is) = subst IsSound (sym is) (ends_soundly s i t sound was)

@@ -50,7 +50,7 @@ get_map g [] p x h = cc
 get_map g (y ∷ xs) zero x h = let e : y ≡ x = cc in cc
 get_map g (y ∷ xs) (suc p) x h = get_map g xs p x h
 
-at_contents : (b : Backing) (ts : List (List Page)) (i p : ℕ) (x : Page) → page_at ts i p ≡ Some x → page_at (contents b ts) i p ≡ Some (page_bytes b x)
+pub at_contents : (b : Backing) (ts : List (List Page)) (i p : ℕ) (x : Page) → page_at ts i p ≡ Some x → page_at (contents b ts) i p ≡ Some (page_bytes b x)
 at_contents b [] i p x h = cc
 at_contents b (t ∷ ts) zero p x h = get_map (page_bytes b) t p x h
 at_contents b (t ∷ ts) (suc i) p x h = at_contents b ts i p x h

@@ -63,7 +63,7 @@ below_two (suc n) g h w less less2 apart none =
           ]
 
 -- the frame that a page shares
-pub shared_frame : Page → Option ℕ
+unfoldable pub shared_frame : Page → Option ℕ
 shared_frame Untouched = None
 shared_frame (Private f) = None
 shared_frame (Shared f) = Some f
@@ -73,11 +73,11 @@ shared_frame (Coming k) = None
 shared_frame (Swapped k) = None
 
 -- copies of what one page shares, and of what two do
-pub single : Space → Option ℕ → ℕ
+unfoldable pub single : Space → Option ℕ → ℕ
 single s None = 0
 single s (Some f) = copies 1 (sharers s f)
 
-pub double : Space → Option ℕ → Option ℕ → ℕ
+unfoldable pub double : Space → Option ℕ → Option ℕ → ℕ
 double s None y = single s y
 double s (Some f) None = single s (Some f)
 double s (Some f) (Some g) = cond (f == g) (copies 2 (sharers s f)) (copies 1 (sharers s f) + copies 1 (sharers s g))

@@ -23,7 +23,7 @@ not_same : (f g : ℕ) → one_if f g ≡ 0 → g ≢ f
 not_same f g h e = let one = one_same f g (sym e) in omega arith
 
 -- a frame on which no page stands may be written
-other_frame : (b : Backing) (f : ℕ) (bytes : List ℕ) (x : Page) → owns f x ≡ 0 → shares f x ≡ 0 → page_bytes (record b { frames = slice_set b.frames f bytes }) x ≡ page_bytes b x
+pub other_frame : (b : Backing) (f : ℕ) (bytes : List ℕ) (x : Page) → owns f x ≡ 0 → shares f x ≡ 0 → page_bytes (record b { frames = slice_set b.frames f bytes }) x ≡ page_bytes b x
 other_frame b f bytes Untouched h c = refl
 other_frame b f bytes (Private g) h c = get_or-set_other b.frames f g bytes [] (not_same f g h)
 other_frame b f bytes (Shared g) h c = get_or-set_other b.frames f g bytes [] (not_same f g c)
@@ -32,7 +32,7 @@ other_frame b f bytes (LeavingShared g) h c = get_or-set_other b.frames f g byte
 other_frame b f bytes (Coming j) h c = refl
 other_frame b f bytes (Swapped j) h c = refl
 
-other_frames : (b : Backing) (f : ℕ) (bytes : List ℕ) (xs : List Page) → tally (owns f) xs ≡ 0 → tally (shares f) xs ≡ 0 → map (page_bytes (record b { frames = slice_set b.frames f bytes })) xs ≡ map (page_bytes b) xs
+pub other_frames : (b : Backing) (f : ℕ) (bytes : List ℕ) (xs : List Page) → tally (owns f) xs ≡ 0 → tally (shares f) xs ≡ 0 → map (page_bytes (record b { frames = slice_set b.frames f bytes })) xs ≡ map (page_bytes b) xs
 other_frames b f bytes [] h c = refl
 other_frames b f bytes (x ∷ xs) h c = let e = other_frame b f bytes x (omega arith) (omega arith) in let es = other_frames b f bytes xs (omega arith) (omega arith) in cc
 
@@ -40,7 +40,7 @@ pub frame_written : (b : Backing) (f : ℕ) (bytes : List ℕ) (tables : List (L
 frame_written b f bytes [] h c = refl
 frame_written b f bytes (xs ∷ tables) h c = let e = other_frames b f bytes xs (omega arith) (omega arith) in let es = frame_written b f bytes tables (omega arith) (omega arith) in cc
 
-prepared_bytes : (s s1 : Space) (i : ℕ) (need : Need) → Reserves s i need s1 → all_bytes s1 ≡ all_bytes s
+pub prepared_bytes : (s s1 : Space) (i : ℕ) (need : Need) → Reserves s i need s1 → all_bytes s1 ≡ all_bytes s
 prepared_bytes s s1 i need prepares = rw prepares.leaves refl
 
 same_leaving : (b : Backing) (old new : Page) → as_leaving old new → page_bytes b new ≡ page_bytes b old
@@ -61,7 +61,7 @@ same_before b (Shared f) old e = absurd e
 same_before b (Coming k) old e = absurd e
 same_before b (Swapped k) old e = absurd e
 
-on_frame : (b : Backing) (page : Page) (f : ℕ) → frame_of page ≡ Some f → page_bytes b page ≡ get_or b.frames f []
+pub on_frame : (b : Backing) (page : Page) (f : ℕ) → frame_of page ≡ Some f → page_bytes b page ≡ get_or b.frames f []
 on_frame b Untouched f e = cc
 on_frame b (Private g) f e = let same : g ≡ f = cc in rw same refl
 on_frame b (Shared g) f e = let same : g ≡ f = cc in rw same refl

@@ -12,12 +12,15 @@ use Rattle.wh_host_model.specs.Space.Tickets.{CommitsEvict}
 use Rattle.wh_host_model.specs.Space.Moves.{IsFirstSwapped, pinned}
 use Rattle.wh_host_model.specs.Space.Provide.{IsServed, Move, MovesOn, Serves, comes, goes, leaves}
 use Rattle.wh_host_model.specs.Space.Sight.{NothingNeedless, ReleasedIsVoid, WrittenIsVoid}
-use Rattle.wh_host_model.specs.Space.Parts.{Space}
+use Rattle.wh_host_model.specs.Space.Parts.{Slots, Space}
+use Rattle.wh_host_model.specs.declared.states.Page.{Page}
+use Rattle.wh_host_model.specs.declared.states.Page.TheVariants.{Untouched, Private, Shared, Leaving, LeavingShared, Coming, Swapped}
+use Rattle.wh_host_model.proofs.Space.BrokenEach.{map_voided, map_voided_none}
 use Rattle.wh_host_model.specs.Space.Ready.{among, pages_of_need}
 use Rattle.wh_host_model.specs.Space.States.{at, leaving, page_at, swapped, count_of, lies_in}
 use Rattle.wh_host_model.proofs.Space.Putting.{here_or}
 use Rattle.wh_host_model.specs.Space.Places.{released_use}
-use Rattle.wh_host_model.specs.Space.Stores.{voided}
+use Rattle.wh_host_model.specs.Space.Breaks.{BreaksEach, GetsFrame, LeavesSharers, voided}
 
 get_mapped : {X Y : Type 0} (g : X → Y) (xs : List X) (k : ℕ) (x : X) → slice_get xs k ≡ Some x → slice_get (map g xs) k ≡ Some (g x)
 get_mapped g [] k x h = cc
@@ -37,10 +40,34 @@ voided_is i p pages some =
     let there : nat_lt 0 (tally (one_if p) pages) ≡ true = lt_some (tally (one_if p) pages) some in
     rw (here, there) refl
 
+-- the tickets after a break, and after several
+sharers_uses : (s : Space) (i f g : ℕ) (mid : Space) → LeavesSharers s i f g mid → mid.slots ≡ s.slots
+sharers_uses s i f g mid (inl (one, e, is)) = ap (λ (a : Space). a.slots) is
+sharers_uses s i f g mid (inr (some, inl (rest, x, is))) = ap (λ (a : Space). a.slots) is
+sharers_uses s i f g mid (inr (some, inr (rest, x, is))) = ap (λ (a : Space). a.slots) is
+
+broken_uses : (s : Space) (i p g : ℕ) (page : Page) (mid : Space) → GetsFrame s i page g mid → mid.slots ≡ s.slots
+broken_uses s i p g Untouched mid (inl (rest, some, is)) = ap (λ (a : Space). a.slots) is
+broken_uses s i p g Untouched mid (inr (rest, some, is)) = ap (λ (a : Space). a.slots) is
+broken_uses s i p g (Private f) mid (e, is) = ap (λ (a : Space). a.slots) is
+broken_uses s i p g (Leaving f) mid (e, is) = ap (λ (a : Space). a.slots) is
+broken_uses s i p g (Shared f) mid left = sharers_uses s i f g mid left
+broken_uses s i p g (LeavingShared f) mid left = sharers_uses s i f g mid left
+broken_uses s i p g (Coming k) mid none = absurd none
+broken_uses s i p g (Swapped k) mid none = absurd none
+
+each_uses : (s : Space) (i : ℕ) (ps : List ℕ) (s2 : Space) → BreaksEach s i ps s2 → s2.slots.uses ≡ map (voided i ps) s.slots.uses
+each_uses s i [] s2 is = ap (λ (a : Space). a.slots.uses) is ∙ sym (map_voided_none i s.slots.uses)
+each_uses s i (p ∷ ps) s2 (mid, b, more) =
+    each_uses mid i ps s2 more
+    ∙ (ap (λ (a : Space). map (voided i ps) a.slots.uses) b.after
+    ∙ (ap (λ (a : Slots). map (voided i ps) (map (voided i (p ∷ [])) a.uses)) (broken_uses s i p b.frame b.page b.mid b.gets) ∙ map_voided i p ps s.slots.uses))
+
 pub written_is_void : WrittenIsVoid
 written_is_void s i p at given s2 k wrote bytes end s3 leaving writes member commits =
     let pages : List ℕ = pages_of_need (writing at (length given)) in
-    let uses : slice_get s2.slots.uses k ≡ Some (voided i pages (Evicting i p)) = ap (λ a. slice_get a.uses k) writes.slots ∙ get_mapped (voided i pages) s.slots.uses k (Evicting i p) leaving in
+    let all : s2.slots.uses ≡ map (voided i pages) s.slots.uses = ap (λ (a : Space). a.slots.uses) writes.fills.after ∙ each_uses s i pages writes.mid writes.breaks in
+    let uses : slice_get s2.slots.uses k ≡ Some (voided i pages (Evicting i p)) = ap (λ a. slice_get a k) all ∙ get_mapped (voided i pages) s.slots.uses k (Evicting i p) leaving in
     void_commit s2 k i wrote bytes end s3 (uses ∙ ap Some (voided_is i p pages member)) commits
 
 released_is : (i p n : ℕ) → released_use i n (Evicting i p) ≡ EvictVoid i

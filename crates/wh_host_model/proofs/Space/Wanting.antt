@@ -11,7 +11,7 @@ use Rattle.wh_host_model.specs.Space.States.{at, page_at, shares, resident, swap
 use Rattle.wh_host_model.proofs.Space.Sums.{below_le}
 
 -- one page, or this one and the next, or none
-pub OneOrTwo : List ℕ → Type 0
+unfoldable pub OneOrTwo : List ℕ → Type 0
 OneOrTwo ps = (ps ≡ []) ⊎ (((p : ℕ) × (ps ≡ p ∷ [])) ⊎ ((p : ℕ) × (ps ≡ p ∷ (p + 1) ∷ [])))
 
 one_or_two : (b : Bool) (p : ℕ) → OneOrTwo (cond b (p ∷ (p + 1) ∷ []) (p ∷ []))

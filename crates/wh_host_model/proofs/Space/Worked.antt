@@ -12,7 +12,7 @@ use Rattle.wh_host_model.specs.declared.states.Offer.TheVariants.{Hinted, Merged
 use Rattle.wh_host_model.specs.Space.Sound.{HasHash}
 use Rattle.wh_host_model.specs.Space.Parts.{Occupant, Space, sharers}
 use Rattle.wh_host_model.specs.Space.Offers.{Offers, hinted, joined_to, paired_with}
-use Rattle.wh_host_model.specs.Space.Stores.{fewer_sharers}
+use Rattle.wh_host_model.specs.Space.Breaks.{fewer_sharers}
 use Rattle.wh_host_model.specs.Space.Ready.{frames_in_all, frames_to_write, pages_of_need}
 
 -- an instance with shares 100, a minimum of 2 and a maximum of 16

@@ -1,16 +1,17 @@
 -- A store to a shared page, by hand.
-use Rattle.std.proofs.Common.{◌≡◌, ◌≢◌, ℕ, ◌≤◌, List, Option, [], ◌∷◌, Some, None, true, false, length, slice_get, get_or, zero, suc, refl, ap, arith}
-use Rattle.wh_host_model.specs.Frames.{tally, one_if}
-use Rattle.wh_host_model.proofs.Tally.{one_other}
+use Rattle.std.proofs.Common.{◌≡◌, ◌≢◌, ℕ, ◌≤◌, inl, inr, List, Option, [], ◌∷◌, Some, None, true, false, length, get_or, zero, suc, refl, arith}
+use Rattle.wh_host_model.proofs.Tally.{one_same}
 use Rattle.wh_host_model.specs.declared.Tax.{Tax}
 use Rattle.wh_host_model.specs.declared.states.Page.TheVariants.{Private, Shared}
-use Rattle.wh_host_model.specs.declared.states.Mark.{Mark}
 use Rattle.wh_host_model.specs.declared.states.Mark.TheVariants.{Plain, Sharers}
 use Rattle.wh_host_model.specs.declared.states.Slot.TheVariants.{Vacant}
-use Rattle.wh_host_model.specs.Space.Parts.{Occupant, Space, sharers, view}
-use Rattle.wh_host_model.specs.Space.Stores.{Overwrites, fewer_sharers}
-use Rattle.wh_host_model.specs.Space.Ready.{among}
-use Rattle.wh_host_model.specs.Space.States.{page_at, shares}
+use Rattle.wh_host_model.specs.Space.Parts.{Occupant, Space, pages_of, sharers}
+use Rattle.wh_host_model.specs.Space.Breaks.{Breaks}
+use Rattle.wh_host_model.specs.Space.Claims.{active_of, weight_of}
+use Rattle.wh_host_model.specs.Space.Offers.{Offers, joined_to}
+use Rattle.wh_host_model.specs.Pages.{zero_page}
+use Rattle.wh_host_model.specs.declared.states.Offer.TheVariants.{Merged}
+use Rattle.wh_host_model.specs.Space.Stores.{Epochs, Overwrites}
 
 abbrev sharer : ℕ → Option Occupant
 sharer n = Some (record { number = n; live = true; shares = 100; min = 2; max = 16; stands = None; leaves = None })
@@ -37,55 +38,94 @@ after tax y ys h = record (before tax y ys h) {
   marks = Sharers h 2 ∷ Plain ∷ Plain ∷ Plain ∷ [];
 }
 
-others_see : (tax : Tax) (y : ℕ) (ys : List ℕ) (h j : ℕ) → j ≢ 0 → view (after tax y ys h) j ≡ view (before tax y ys h) j
-others_see tax y ys h zero other = absurd (other refl)
-others_see tax y ys h (suc zero) other = refl
-others_see tax y ys h (suc (suc zero)) other = refl
-others_see tax y ys h (suc (suc (suc j))) other = refl
+-- among the frames that are written is only the first one's new one
+other_frame : (y : ℕ) (ys : List ℕ) (f : ℕ) → f ≢ 3 → get_or ((y ∷ ys) ∷ (y ∷ ys) ∷ (y ∷ ys) ∷ (2 ∷ ys) ∷ []) f [] ≡ get_or ((y ∷ ys) ∷ (y ∷ ys) ∷ (y ∷ ys) ∷ (y ∷ ys) ∷ []) f []
+other_frame y ys zero other = refl
+other_frame y ys (suc zero) other = refl
+other_frame y ys (suc (suc zero)) other = refl
+other_frame y ys (suc (suc (suc zero))) other = absurd (other refl)
+other_frame y ys (suc (suc (suc (suc f)))) other = refl
 
-other_rows : (tax : Tax) (y : ℕ) (ys : List ℕ) (h j : ℕ) → j ≢ 0 → get_or (after tax y ys h).tables j [] ≡ get_or (before tax y ys h).tables j []
-other_rows tax y ys h zero other = absurd (other refl)
-other_rows tax y ys h (suc zero) other = refl
-other_rows tax y ys h (suc (suc zero)) other = refl
-other_rows tax y ys h (suc (suc (suc j))) other = refl
+same_long : (y : ℕ) (ys : List ℕ) (f : ℕ) → length (get_or ((y ∷ ys) ∷ (y ∷ ys) ∷ (y ∷ ys) ∷ (2 ∷ ys) ∷ []) f []) ≡ length (get_or ((y ∷ ys) ∷ (y ∷ ys) ∷ (y ∷ ys) ∷ (y ∷ ys) ∷ []) f [])
+same_long y ys zero = refl
+same_long y ys (suc zero) = refl
+same_long y ys (suc (suc zero)) = refl
+same_long y ys (suc (suc (suc zero))) = refl
+same_long y ys (suc (suc (suc (suc f)))) = refl
 
-entries : (tax : Tax) (y : ℕ) (ys : List ℕ) (h f : ℕ) (m : Mark) → slice_get (before tax y ys h).marks f ≡ Some m
-    → slice_get (after tax y ys h).marks f ≡ Some (fewer_sharers (among (shares f) (before tax y ys h) 0 (0 ∷ [])) m)
-entries tax y ys h zero m e = (let k : Sharers h 3 ≡ m = cc in ap (λ a. Some (fewer_sharers 1 a)) k)
-entries tax y ys h (suc zero) m e = (let k : Plain ≡ m = cc in ap (λ a. Some (fewer_sharers 0 a)) k)
-entries tax y ys h (suc (suc zero)) m e = (let k : Plain ≡ m = cc in ap (λ a. Some (fewer_sharers 0 a)) k)
-entries tax y ys h (suc (suc (suc zero))) m e = (let k : Plain ≡ m = cc in ap (λ a. Some (fewer_sharers 0 a)) k)
-entries tax y ys h (suc (suc (suc (suc f)))) m e = cc
-
-own_page : (tax : Tax) (y : ℕ) (ys : List ℕ) (h p : ℕ) → 1 ≤ tally (one_if p) (0 ∷ []) → (f : ℕ) × (page_at (after tax y ys h).tables 0 p ≡ Some (Private f))
-own_page tax y ys h zero some = (3, refl)
-own_page tax y ys h (suc p) some = absurd (let o = one_other (suc p) 0 (λ e. omega arith) in omega arith)
-
-other_pages : (tax : Tax) (y : ℕ) (ys : List ℕ) (h p : ℕ) → tally (one_if p) (0 ∷ []) ≡ 0 → page_at (after tax y ys h).tables 0 p ≡ page_at (before tax y ys h).tables 0 p
-other_pages tax y ys h zero none = absurd (let z : 1 ≡ 0 = none in omega arith)
-other_pages tax y ys h (suc p) none = refl
+-- its page is broken off: it takes frame 3, and the entry has one sharer fewer
+abbrev between : Tax → ℕ → List ℕ → ℕ → Space
+between tax y ys h = record (after tax y ys h) { pool = record (after tax y ys h).pool { frames = (before tax y ys h).pool.frames } }
 
 breaks : (tax : Tax) (y : ℕ) (ys : List ℕ) (h : ℕ) → Overwrites (before tax y ys h) 0 0 (2 ∷ []) (after tax y ys h) × (length (after tax y ys h).pool.free ≡ 2) × (sharers (after tax y ys h) 0 ≡ 2)
-breaks tax y ys h = (
-  record {
-    sees = refl;
-    others = others_see tax y ys h;
-    own = own_page tax y ys h;
-    rest = other_pages tax y ys h;
-    tables = refl;
-    table = refl;
-    other_tables = other_rows tax y ys h;
-    slots = refl;
-    occupants = refl;
-    tax = refl;
-    touched = refl;
-    marks = entries tax y ys h;
-    frames = refl;
-    free = λ f. omega arith;
-    pinned = λ j. refl;
-    kept = λ j other. refl;
-    fewer = λ f. omega arith;
-  },
-  refl,
-  refl,
-)
+breaks tax y ys h =
+    let s : Space = before tax y ys h in
+    let taken : Space = record s { pool = record s.pool { free = 1 ∷ 2 ∷ [] }; marks = Sharers h 2 ∷ Plain ∷ Plain ∷ Plain ∷ [] } in
+    let some : 2 ≤ 3 = omega arith in
+    let first : Breaks s 0 0 (between tax y ys h) = record { page = Shared 0; was = refl; frame = 3; mid = taken; gets = inr (some, inl (1 ∷ 2 ∷ [], ([], 1 ∷ 2 ∷ [], refl, refl), refl)); after = refl } in (
+      record {
+        mid = between tax y ys h;
+        breaks = (between tax y ys h, first, refl);
+        fills = record {
+          frames = (after tax y ys h).pool.frames;
+          sees = refl;
+          many = refl;
+          whole = same_long y ys;
+          others = λ f none. other_frame y ys f (λ e. (let o = one_same f 3 e in omega arith));
+          after = refl;
+        };
+      },
+      refl,
+      refl,
+    )
+
+-- After a new epoch the second has one page that isn't touched: with a tax of three quarters it weighs four, of which a touched
+-- page would weigh one.
+weighs : (tax : Tax) (y : ℕ) (ys : List ℕ) (h : ℕ) → tax.num ≡ 3 → tax.den ≡ 4
+    → (s2 : Space) × Epochs (after tax y ys h) s2 × (pages_of s2 1 ≡ 1) × (active_of s2 1 ≡ 0) × (weight_of s2 1 ≡ 4)
+weighs tax y ys h num den =
+    let s2 : Space = record (after tax y ys h) { touched = (false ∷ []) ∷ (false ∷ []) ∷ (false ∷ []) ∷ [] } in
+    (s2, refl, refl, refl, rw (num, den) refl)
+
+-- The first stores the old byte again, and a scan offers its page: it is merged with the entry that stayed. One frame of four is in
+-- use, and three share it.
+abbrev again : Tax → List ℕ → ℕ → Space
+again tax ys h = record (after tax 1 ys h) { pool = record { frames = (1 ∷ ys) ∷ (1 ∷ ys) ∷ (1 ∷ ys) ∷ (1 ∷ ys) ∷ []; free = 1 ∷ 2 ∷ [] } }
+
+still_other : (ys : List ℕ) (f : ℕ) → f ≢ 3 → get_or ((1 ∷ ys) ∷ (1 ∷ ys) ∷ (1 ∷ ys) ∷ (1 ∷ ys) ∷ []) f [] ≡ get_or ((1 ∷ ys) ∷ (1 ∷ ys) ∷ (1 ∷ ys) ∷ (2 ∷ ys) ∷ []) f []
+still_other ys zero other = refl
+still_other ys (suc zero) other = refl
+still_other ys (suc (suc zero)) other = refl
+still_other ys (suc (suc (suc zero))) other = absurd (other refl)
+still_other ys (suc (suc (suc (suc f)))) other = refl
+
+still_long : (ys : List ℕ) (f : ℕ) → length (get_or ((1 ∷ ys) ∷ (1 ∷ ys) ∷ (1 ∷ ys) ∷ (1 ∷ ys) ∷ []) f []) ≡ length (get_or ((1 ∷ ys) ∷ (1 ∷ ys) ∷ (1 ∷ ys) ∷ (2 ∷ ys) ∷ []) f [])
+still_long ys zero = refl
+still_long ys (suc zero) = refl
+still_long ys (suc (suc zero)) = refl
+still_long ys (suc (suc (suc zero))) = refl
+still_long ys (suc (suc (suc (suc f)))) = refl
+
+stores_again : (tax : Tax) (ys : List ℕ) (h : ℕ) → Overwrites (after tax 1 ys h) 0 0 (1 ∷ []) (again tax ys h)
+stores_again tax ys h =
+    let s : Space = after tax 1 ys h in
+    let first : Breaks s 0 0 s = record { page = Private 3; was = refl; frame = 3; mid = s; gets = (refl, refl); after = refl } in
+    record {
+      mid = s;
+      breaks = (s, first, refl);
+      fills = record {
+        frames = (again tax ys h).pool.frames;
+        sees = refl;
+        many = refl;
+        whole = still_long ys;
+        others = λ f none. still_other ys f (λ e. (let o = one_same f 3 e in omega arith));
+        after = refl;
+      };
+    }
+
+merges_again : (tax : Tax) (hashes : List ℕ → ℕ) (ys : List ℕ) (h : ℕ) → 1 ∷ ys ≢ zero_page
+    → (s2 : Space) × Offers hashes (again tax ys h) 0 0 h Merged s2 × (s2.pool.free ≡ 1 ∷ 2 ∷ 3 ∷ []) × (sharers s2 0 ≡ 3) × (s2.marks ≡ Sharers h 3 ∷ Plain ∷ Plain ∷ Plain ∷ [])
+merges_again tax hashes ys h some =
+    let s : Space = again tax ys h in
+    let free : 1 ≤ 0 → ⊥ = λ less. omega arith in
+    (joined_to s 0 0 3 0 h 2, (3, 0, (refl, free), some, refl, inl (2, refl, refl)), refl, refl, refl)

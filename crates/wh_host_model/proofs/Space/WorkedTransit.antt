@@ -2,7 +2,6 @@
 use Rattle.std.proofs.Common.{◌≡◌, ℕ, ◌+◌, ◌<◌, ◌≤◌, ◌++◌, inl, inr, List, Option, [], ◌∷◌, Some, None, true, false, Bool, length, slice_get, zero, suc, refl, sym, ap, ◌∙◌, subst, arith}
 use Rattle.wh_model.specs.declared.memory.Need.{Need}
 use Rattle.wh_host_model.specs.Frames.{tally, one_if}
-use Rattle.wh_host_model.proofs.Tally.{one_same}
 use Rattle.wh_host_model.specs.declared.Tax.{Tax}
 use Rattle.wh_host_model.specs.declared.states.Page.{Page}
 use Rattle.wh_host_model.specs.declared.states.Page.TheVariants.{Untouched, Private, Shared, Leaving, LeavingShared, Swapped}
@@ -19,6 +18,7 @@ use Rattle.wh_host_model.specs.Space.Places.{Exits, freed_by, released_mark, rel
 use Rattle.wh_host_model.specs.Space.Provide.{LacksFree, Provides, goes}
 use Rattle.wh_host_model.specs.Space.Parts.{Occupant, Space, kept_by, pages_of, sharers}
 use Rattle.wh_host_model.specs.Space.Stores.{Overwrites}
+use Rattle.wh_host_model.specs.Space.Breaks.{GetsFrame, standing_alone}
 use Rattle.wh_host_model.specs.Space.Ready.{Ready}
 use Rattle.wh_host_model.specs.Space.States.{count_of, lies_in, owns, page_at, shares}
 
@@ -74,26 +74,32 @@ pays_above_minimum tax =
 abbrev over : Need
 over = record { at = 4092; length = 8; writes = true }
 
-abbrev shared : Tax → Space
-shared tax = record (both tax (Some over) (Shared 0 ∷ Shared 1 ∷ Untouched ∷ []) (Shared 0 ∷ Shared 1 ∷ Private 2 ∷ []) (true ∷ true ∷ false ∷ []) (3 ∷ []) (Sharers 7 2 ∷ Sharers 8 2 ∷ Plain ∷ Plain ∷ [])) {
-  pool = record { frames = [] ∷ [] ∷ [] ∷ [] ∷ []; free = 3 ∷ [] };
+abbrev shared : Tax → List ℕ → List ℕ → List ℕ → List ℕ → Space
+shared tax x y z free = record (both tax (Some over) (Shared 0 ∷ Shared 1 ∷ Untouched ∷ []) (Shared 0 ∷ Shared 1 ∷ Private 2 ∷ []) (true ∷ true ∷ false ∷ []) (3 ∷ []) (Sharers 7 2 ∷ Sharers 8 2 ∷ Plain ∷ Plain ∷ [])) {
+  pool = record { frames = x ∷ y ∷ z ∷ free ∷ []; free = 3 ∷ [] };
 }
 
-not_ready : (tax : Tax) → ¬ Ready (shared tax) 0 over
-not_ready tax ready = let enough : 2 ≤ 1 = ready.1 in omega arith
+not_ready : (tax : Tax) (x y z free : List ℕ) → ¬ Ready (shared tax x y z free) 0 over
+not_ready tax x y z free ready = let enough : 2 ≤ 1 = ready.1 in omega arith
 
-touched_all : (tax : Tax) (q : ℕ) → CanLeave (pinned (shared tax) 0 over) 1 q → IsTouched (pinned (shared tax) 0 over) 1 q × (0 ≤ q)
-touched_all tax zero can = (refl, omega arith)
-touched_all tax (suc zero) can = (refl, omega arith)
-touched_all tax (suc (suc zero)) can = (refl, omega arith)
-touched_all tax (suc (suc (suc q))) can = absurd (let z : 0 ≡ 1 = can.0 in omega arith)
+touched_all : (tax : Tax) (x y z free : List ℕ) (q : ℕ) → CanLeave (pinned (shared tax x y z free) 0 over) 1 q → IsTouched (pinned (shared tax x y z free) 0 over) 1 q × (0 ≤ q)
+touched_all tax x y z free zero can = (refl, omega arith)
+touched_all tax x y z free (suc zero) can = (refl, omega arith)
+touched_all tax x y z free (suc (suc zero)) can = (refl, omega arith)
+touched_all tax x y z free (suc (suc (suc q))) can = absurd (let z : 0 ≡ 1 = can.0 in omega arith)
 
 -- One page leaves, the second's first. Its frame keeps one sharer, so none is free that wasn't, and one is wanted. Then all four
 -- frames are free for nobody else, and one slot is in use.
-provided_by_one : (tax : Tax)
-    → (s2 : Space) × Provides (shared tax) 0 over 1 s2 × (s2.pool.free ≡ []) × (kept_by s2.pins 0 ≡ 3 ∷ []) × (length s2.slots.vacant ≡ 1) × (page_at s2.tables 1 0 ≡ Some (Swapped 1))
-provided_by_one tax =
-    let s : Space = shared tax in
+-- what is left then
+abbrev pub provided : Tax → List ℕ → List ℕ → List ℕ → List ℕ → Space
+provided tax x y z free =
+    let s2 : Space = evicted (pinned (shared tax x y z free) 0 over) 1 0 0 1 (0 ∷ []) in
+    record s2 { pool = record s2.pool { free = [] }; pins = Some (record { place = 0; pages = 0 ∷ 1 ∷ []; frames = 3 ∷ [] }) }
+
+provided_by_one : (tax : Tax) (x y z free : List ℕ)
+    → (s2 : Space) × (s2 ≡ provided tax x y z free) × Provides (shared tax x y z free) 0 over 1 s2 × (s2.pool.free ≡ []) × (kept_by s2.pins 0 ≡ 3 ∷ []) × (length s2.slots.vacant ≡ 1) × (page_at s2.tables 1 0 ≡ Some (Swapped 1))
+provided_by_one tax x y z free =
+    let s : Space = shared tax x y z free in
     let s1 : Space = pinned s 0 over in
     let s2 : Space = evicted s1 1 0 0 1 (0 ∷ []) in
     let s3 : Space = record s2 { pool = record s2.pool { free = [] }; pins = Some (record { place = 0; pages = 0 ∷ 1 ∷ []; frames = 3 ∷ [] }) } in
@@ -103,10 +109,10 @@ provided_by_one tax =
     let enough : 1 ≤ 1 = omega arith in
     let lacks : LacksFree s1 0 over = inr (refl, few) in
     let payer : IsPayer s1 1 = only_payer s1 1 ((tenant 1 None, refl, more), (0, can)) (second_pays s1 (Some over) None refl refl) in
-    let given : IsGiven s1 1 0 = (can, inr (touched_all tax)) in
+    let given : IsGiven s1 1 0 = (can, inr (touched_all tax x y z free)) in
     let leaves : Evicts s1 1 0 s2 = record { frame = 0; slot = 1; others = 0 ∷ []; vacant = refl; page = inr refl; leaves = refl } in
     let earmarks : Earmarks s2 0 1 s3 = record { frames = 3 ∷ []; others = []; many = refl; free = refl; leaves = refl } in
-    (s3, (goes ∷ [], s2, (s1, refl, (lacks, (1, 0, (given, inl payer), leaves))), refl, (refl, enough), earmarks), refl, refl, refl, refl)
+    (s3, refl, (goes ∷ [], s2, (s1, refl, (lacks, (1, 0, (given, inl payer), leaves))), refl, (refl, enough), earmarks), refl, refl, refl, refl)
 
 -- Five frames are in use. The first instance has two pages of its own, the second three, and the first is to store to its third:
 -- the second's first page is taken, and begins to leave by a slot.
@@ -139,10 +145,6 @@ begins tax =
     (third, (tenant 0 (Some third), refl, refl, refl), s1, reserves, few, 1, 0, 2, ((can, inr (full_touched tax)), inl payer), Private 2, Leaving 2, refl, refl, refl, refl, 0 ∷ [], refl, refl)
 
 -- It is written before the ticket is back: the ticket is void whatever the device says, no frame is free and no slot in use.
-empty_of : (xs : List ℕ) → ((f : ℕ) → tally (one_if f) xs ≤ 0) → xs ≡ []
-empty_of [] none = refl
-empty_of (x ∷ xs) none = absurd (let o = one_same x x refl in let z = none x in omega arith)
-
 void_uses : (s : Space) (j : ℕ) (wrote : Bool) (bytes : List ℕ) (end : _) (s2 : Space) → slice_get s.slots.uses 1 ≡ Some (EvictVoid j) → CommitsEvict s 1 wrote bytes end s2
     → (end ≡ Void) × (s2.pool ≡ s.pool) × (s2.slots.vacant ≡ s.slots.vacant ++ 1 ∷ [])
 void_uses s j wrote bytes end s2 void (inl (i, at_it, ends, is)) = (ends, ap (λ a. a.pool) is, ap (λ a. a.slots.vacant) is)
@@ -151,9 +153,18 @@ void_uses s j wrote bytes end s2 void (inr (i, p, f, at_it, page, there, on, res
 written_meanwhile : (tax : Tax) (s2 : Space) (wrote : Bool) (bytes : List ℕ) (end : _) (s3 : Space) → Overwrites (full_begun tax) 1 0 (9 ∷ []) s2 → CommitsEvict s2 1 wrote bytes end s3
     → (end ≡ Void) × (s3.pool.free ≡ []) × (length s3.slots.vacant ≡ 2)
 written_meanwhile tax s2 wrote bytes end s3 writes commits =
-    let void : slice_get s2.slots.uses 1 ≡ Some (EvictVoid 1) = ap (λ a. slice_get a.uses 1) writes.slots in
+    let s : Space = full_begun tax in
+    let each = writes.breaks in
+    let b = each.1 in
+    let page : Leaving 2 ≡ b.page = (let both : Some (Leaving 2) ≡ Some b.page = b.was in cc) in
+    let gets : (b.frame ≡ 2) × (b.mid ≡ s) = subst (λ x. GetsFrame s 1 x b.frame b.mid) (sym page) b.gets in
+    let slots : s2.slots ≡ (standing_alone s 1 0 b.frame).slots =
+    ap (λ (a : Space). a.slots) writes.fills.after ∙ (ap (λ (a : Space). a.slots) each.2 ∙ (ap (λ (a : Space). a.slots) b.after ∙ ap (λ m. (standing_alone m 1 0 b.frame).slots) gets.1)) in
+    let free : s2.pool.free ≡ [] =
+    ap (λ (a : Space). a.pool.free) writes.fills.after ∙ (ap (λ (a : Space). a.pool.free) each.2 ∙ (ap (λ (a : Space). a.pool.free) b.after ∙ ap (λ (m : Space). m.pool.free) gets.1)) in
+    let void : slice_get s2.slots.uses 1 ≡ Some (EvictVoid 1) = ap (λ a. slice_get a.uses 1) slots in
     let ends = void_uses s2 1 wrote bytes end s3 void commits in
-    (ends.0, ap (λ a. a.free) ends.1 ∙ empty_of s2.pool.free writes.free, ap length (ends.2 ∙ ap (λ a. a.vacant ++ 1 ∷ []) writes.slots))
+    (ends.0, ap (λ a. a.free) ends.1 ∙ free, ap length (ends.2 ∙ ap (λ a. a.vacant ++ 1 ∷ []) slots))
 
 -- The device fails: the page is as before, and no slot in use.
 device_fails : (tax : Tax) → (s2 : Space) × CommitsEvict (full_begun tax) 1 false [] Failed s2 × (page_at s2.tables 1 0 ≡ Some (Private 2)) × (length s2.slots.vacant ≡ 2)
@@ -215,7 +226,7 @@ released_meanwhile tax = (
 
 -- A page that is leaving had a frame with another sharer, which has its own frame since it was written. When the page is in its
 -- slot the old frame is free, and its entry forgotten.
-abbrev last_sharer : Tax → List ℕ → ℕ → Space
+abbrev pub last_sharer : Tax → List ℕ → ℕ → Space
 last_sharer tax x h = record (both tax None (Private 1 ∷ []) (LeavingShared 0 ∷ []) (true ∷ []) [] (Sharers h 1 ∷ Plain ∷ [])) {
   pool = record { frames = x ∷ x ∷ []; free = [] };
   slots = record { uses = Evicting 1 0 ∷ []; vacant = []; held = x ∷ [] };

@@ -10,7 +10,7 @@ use Rattle.wh_model.specs.Execution.Instance.{AreGiven, Piece, IsInitial, memory
 use Rattle.wh_model.specs.Execution.Replay.{Outcome, returned, pending}
 use Rattle.wh_model.specs.declared.faults.ImportFault.{ImportFault}
 use Rattle.wh_model.specs.Linking.Imports.{Links, IsFirstFault}
-use Rattle.wh_model.specs.Linking.Accepting.{IsModule}
+use Rattle.wh_model.specs.Linking.Accepting.{IsModule, IsAccepted}
 use Rattle.wh_host_model.specs.Space.Parts.{Space, minima, spreads}
 use Rattle.wh_host_model.specs.Host.Spaces.{Arrives, Departs}
 use Rattle.wh_host_model.specs.Host.Worlds.{Params, Entry, Rest, Doing, resting, has_left, Tenant, Loaded, World, given_of, promised, with_tenant}
@@ -21,13 +21,6 @@ use Rattle.wh_host_model.specs.Host.Calls.{most_fuel}
 
 abbrev pub most_modules : ℕ
 most_modules = 1024
-
--- the bytes spell the module, it is valid, it fits, and each import has its item
-pub record CanLoad (bytes : List ℕ) (m : Module) : Type 0 where
-  pub is_module : IsModule bytes m
-  pub valid : Valid m
-  pub fits : Fits m
-  pub links : Links m
 
 -- why a module isn't loaded
 pub data LoadFault : Type 0 where
@@ -41,7 +34,7 @@ RefusesLoad w bytes (broken kind offset) = IsBroken bytes kind offset
 RefusesLoad w bytes invalid = (m : Module) × IsModule bytes m × ¬ (Valid m × Fits m)
 RefusesLoad w bytes (unlinked fault place) =
     (m : Module) × IsModule bytes m × Valid m × Fits m × IsFirstFault m fault place
-RefusesLoad w bytes modules_full = (m : Module) × CanLoad bytes m × (most_modules ≤ length w.modules)
+RefusesLoad w bytes modules_full = (m : Module) × IsAccepted bytes m × (most_modules ≤ length w.modules)
 
 -- who may want memory, each where those before it are done: the decoder, the validator, the linker, and the host
 pub data LoadWant : Type 0 where
@@ -54,12 +47,12 @@ abbrev pub MayWant : World → List ℕ → LoadWant → Type 0
 MayWant w bytes decoder_wants = Unit {0}
 MayWant w bytes validator_wants = (m : Module) × IsModule bytes m
 MayWant w bytes linker_wants = (m : Module) × IsModule bytes m × Valid m × Fits m
-MayWant w bytes host_wants = (m : Module) × CanLoad bytes m × (length w.modules < most_modules)
+MayWant w bytes host_wants = (m : Module) × IsAccepted bytes m × (length w.modules < most_modules)
 
 -- it is loaded under the next number
 pub record LoadsModule (w : World) (bytes : List ℕ) (number : ℕ) (w2 : World) : Type 0 where
   pub m : Module
-  pub accepted : CanLoad bytes m
+  pub accepted : IsAccepted bytes m
   pub few : length w.modules < most_modules
   pub next : number ≡ length w.modules
   pub after : w2 ≡ record w { modules = w.modules ++ record { bytes = bytes; m = m } ∷ [] }

@@ -15,8 +15,8 @@ use Rattle.wh_host_model.specs.Space.Sound.{IsSound}
 use Rattle.wh_host_model.specs.Space.Ready.{Ready}
 use Rattle.wh_host_model.specs.Host.Worlds.{computing, Tenant, Loaded, World, given_of, promised, journal, journal_calls, store_in, standing_in, tenant, empty_world}
 use Rattle.wh_host_model.specs.Host.Answers.{Turn}
-use Rattle.wh_host_model.specs.Host.Calls.{most_calls}
-use Rattle.wh_host_model.specs.Host.Admission.{CanLoad}
+use Rattle.wh_host_model.specs.Host.Calls.{most_calls, most_open, open_count}
+use Rattle.wh_model.specs.Linking.Accepting.{IsAccepted}
 use Rattle.wh_host_model.specs.Host.Events.{Event}
 use Rattle.wh_host_model.specs.Host.Happens.{AllHappen}
 use Rattle.wh_host_model.specs.Host.Journals.{InOrder}
@@ -55,7 +55,7 @@ EachHas P w = (i : ℕ) (t : Tenant) → tenant w i ≡ Some t → P w t
 pub record IsReplayed (w : World) (t : Tenant) : Type 0 where
   pub loaded : Loaded
   pub is_loaded : slice_get w.modules t.of ≡ Some loaded
-  pub accepted : CanLoad loaded.bytes loaded.m
+  pub accepted : IsAccepted loaded.bytes loaded.m
   pub first : Store
   pub pieces : List Piece
   pub initial : IsInitial loaded.m (given_of t.params) (begins t.inst first pieces)
@@ -68,12 +68,13 @@ InstancesReplay = AfterEvents (EachHas IsReplayed)
 abbrev pub ChargesAreWithin : Type 0
 ChargesAreWithin = AfterEvents (EachHas (λ w t. AllByRecursion (λ e. e.call.charges ≤ e.call.fuel) (journal t)))
 
--- the calls are in order, with arguments as they were given and results of their types
+-- the calls are in order, with arguments as they were given and results of their types; not too many, nor too many open
 pub record HasJournal (w : World) (t : Tenant) : Type 0 where
   pub loaded : Loaded
   pub is_loaded : slice_get w.modules t.of ≡ Some loaded
   pub calls : InOrder loaded.m t.inst t.dead t.ended t.open_calls
   pub few : length (journal t) ≤ most_calls
+  pub few_open : open_count t ≤ most_open
 
 abbrev pub JournalsAreInOrder : Type 0
 JournalsAreInOrder = AfterEvents (EachHas HasJournal)

@@ -9,9 +9,9 @@ use Rattle.wh_host_model.specs.Space.Parts.{Claimed, Occupant, Space, all_bytes,
 use Rattle.wh_host_model.specs.Space.Errands.{tickets}
 use Rattle.wh_host_model.specs.Space.Sound.{IsSound}
 use Rattle.wh_host_model.specs.Space.Offers.{Offers}
-use Rattle.wh_host_model.specs.Space.Scanning.{Scans}
+use Rattle.wh_host_model.specs.Space.Scanning.{IsDistinct, IsFullPass, Scans}
 use Rattle.wh_host_model.specs.Space.Tickets.{BeginsEvict, BeginsFetch, CommitsEvict, CommitsFetch, IsWritten, StandsForFrame}
-use Rattle.wh_host_model.specs.Space.Stores.{Epochs, Grew, Touches, ended, stood}
+use Rattle.wh_host_model.specs.Space.Stores.{Epochs, Grew, Overwrites, Touches, ended, stood}
 use Rattle.wh_host_model.specs.Space.Places.{Enters, Exits}
 use Rattle.wh_host_model.specs.Space.Provide.{FailsToProvide, Provides}
 
@@ -20,9 +20,10 @@ abbrev pub MayStandFor : Space → ℕ → Occupant → Need → Type 0
 MayStandFor s i t need =
     (t.live ≡ true) × (need.at + need.length ≤ 4096 * length (get_or s.tables i [])) × (need.length ≤ 4096)
 
--- One thing befalls the memory. A store isn't among them.
+-- One thing befalls the memory.
 pub data Befalls (hashes : List ℕ → ℕ) (s s2 : Space) : Type 0 where
   loads : (i first n : ℕ) → Touches s i first n s2 → Befalls hashes s s2
+  stores : (i at : ℕ) (given : List ℕ) → Overwrites s i at given s2 → Befalls hashes s s2
   new_epoch : Epochs s s2 → Befalls hashes s s2
   stands : (i : ℕ) (t : Occupant) (need : Option Need) → occupant_at s i t
       → ((want : Need) → need ≡ Some want → MayStandFor s i t want) → s2 ≡ stood s i need → Befalls hashes s s2
@@ -70,3 +71,15 @@ abbrev pub ScansSoundly : Type 0
 ScansSoundly =
     (hashes : List ℕ → ℕ) (s : Space) (pages : List (ℕ × ℕ)) (s2 : Space) → IsSound s → Scans hashes s pages s2
     → IsSound s2 × (all_bytes s2 ≡ all_bytes s)
+
+-- after a full pass as many frames are in use as there are distinct contents
+abbrev pub PassesFully : Type 0
+PassesFully =
+    (hashes : List ℕ → ℕ) (s : Space) (pages : List (ℕ × ℕ)) (s2 : Space) (all : List (List ℕ)) → IsSound s
+    → IsFullPass hashes s pages s2 → IsDistinct s2 all → length all + length s2.pool.free ≡ length s2.pool.frames
+
+-- and these can be listed
+abbrev pub ContentsAreListed : Type 0
+ContentsAreListed =
+    (hashes : List ℕ → ℕ) (s : Space) (pages : List (ℕ × ℕ)) (s2 : Space) → IsSound s → IsFullPass hashes s pages s2
+    → (all : List (List ℕ)) × IsDistinct s2 all

@@ -29,7 +29,8 @@ WritesSoundly =
 abbrev pub StandsSoundly : Type 0
 StandsSoundly =
     (s : Space) (i : ℕ) (t : Occupant) (need : Option Need) → IsSound s → occupant_at s i t
-    → ((want : Need) → need ≡ Some want → (t.live ≡ true) × (want.at + want.length ≤ 4096 * length (get_or s.tables i [])) × (want.length ≤ 4096))
+    → ((want : Need) → need ≡ Some want
+    → (t.live ≡ true) × (want.at + want.length ≤ 4096 * length (get_or s.tables i [])) × (want.length ≤ 4096))
     → IsSound (stood s i need)
 
 -- the end of a step

@@ -42,7 +42,12 @@ abbrev pub evicted : Space → ℕ → ℕ → ℕ → ℕ → List ℕ → Spac
 evicted s j p f k vacant = record (departed s f) {
   tables = put s.tables j p (Swapped k);
   touched = put s.touched j p false;
-  slots = record { uses = slice_set s.slots.uses k Taken; vacant = vacant; held = slice_set s.slots.held k (frame_bytes s f) };
+  slots =
+      record {
+        uses = slice_set s.slots.uses k Taken;
+        vacant = vacant;
+        held = slice_set s.slots.held k (frame_bytes s f);
+      };
 }
 
 -- A page that stood on a frame lies in a slot, which was vacant.
@@ -93,7 +98,8 @@ unpinned_of s i = cond (has_pins s.pins i) (unpinned s) s
 
 -- the step's resident pages are pinned for the instance, and nothing else, and no frame is earmarked
 abbrev pub pinned : Space → ℕ → Need → Space
-pinned s i need = record (unpinned s) { pins = Some (record { place = i; pages = residents s i (pages_of_need need); frames = [] }) }
+pinned s i need =
+    record (unpinned s) { pins = Some (record { place = i; pages = residents s i (pages_of_need need); frames = [] }) }
 
 -- so many free frames are earmarked beside
 pub record Earmarks (s : Space) (i n : ℕ) (s2 : Space) : Type 0 where

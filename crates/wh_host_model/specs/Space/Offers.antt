@@ -47,10 +47,12 @@ hinted s i p g hash = record s { marks = slice_set s.marks g (Hint hash i p) }
 
 -- it has frame f with one more sharer, or with the page that was alone there
 abbrev pub joined_to : Space → ℕ → ℕ → ℕ → ℕ → ℕ → ℕ → Space
-joined_to s i p g f hash n = let s2 : Space = gives_up s i p g (Shared f) in record s2 { marks = slice_set s2.marks f (Sharers hash (n + 1)) }
+joined_to s i p g f hash n =
+    let s2 : Space = gives_up s i p g (Shared f) in record s2 { marks = slice_set s2.marks f (Sharers hash (n + 1)) }
 
 abbrev pub paired_with : Space → ℕ → ℕ → ℕ → ℕ → ℕ → ℕ → ℕ → Space
-paired_with s i p g f hash j q = let s2 : Space = joined_to s i p g f hash 1 in record s2 { tables = put s2.tables j q (Shared f) }
+paired_with s i p g f hash j q =
+    let s2 : Space = joined_to s i p g f hash 1 in record s2 { tables = put s2.tables j q (Shared f) }
 
 -- the page is gone, isn't alone on a frame, is leaving, or is pinned
 abbrev pub MayNotMerge : Space → ℕ → ℕ → Type 0

@@ -10,7 +10,7 @@ use Rattle.wh_host_model.specs.Space.States.{lies_in, owns, shares, count_of}
 use Rattle.wh_host_model.specs.Space.Parts.{Space, Occupant, Claimed, occupant_at, sharers, minima, spreads}
 use Rattle.wh_host_model.specs.Space.Errands.{ticket_of}
 use Rattle.wh_host_model.specs.Space.Moves.{unpinned_of}
-use Rattle.wh_host_model.specs.Space.Stores.{fewer_sharers}
+use Rattle.wh_host_model.specs.Space.Breaks.{fewer_sharers}
 use Rattle.wh_host_model.specs.Space.Tickets.{stays_occupant}
 
 -- the place is free, or the next one behind all
@@ -23,7 +23,8 @@ with_row xs i x = cond (nat_lt i (length xs)) (slice_set xs i x) (xs ++ x ∷ []
 
 -- who comes, by its claim
 abbrev pub newcomer : Claimed → Occupant
-newcomer c = record { number = c.number; live = true; shares = c.shares; min = c.min; max = c.max; stands = None; leaves = None }
+newcomer c =
+    record { number = c.number; live = true; shares = c.shares; min = c.min; max = c.max; stands = None; leaves = None }
 
 -- The frames suffice for all minima and the slots for all that may go beyond, with this claim too.
 abbrev pub HasRoomFor : Space → Claimed → Type 0
@@ -83,6 +84,8 @@ pub record Exits (s : Space) (i : ℕ) (s2 : Space) : Type 0 where
       → tally (one_if k) s2.slots.vacant ≡ tally (one_if k) s.slots.vacant + count_of (lies_in k) s.tables i
   pub uses : (k : ℕ) (x : Slot) → slice_get s.slots.uses k ≡ Some x
       → slice_get s2.slots.uses k ≡ Some (released_use i (count_of (lies_in k) s.tables i) x)
-  pub occupants : s2.occupants ≡ slice_set s.occupants i (stays_occupant (Some (record occupant { live = false; stands = None })) (tally (ticket_of i) s.slots.uses))
+  pub occupants : s2.occupants
+      ≡ slice_set s.occupants i
+      (stays_occupant (Some (record occupant { live = false; stands = None })) (tally (ticket_of i) s.slots.uses))
   pub pins : s2.pins ≡ (unpinned_of s i).pins
   pub tax : s2.tax ≡ s.tax

@@ -68,6 +68,12 @@ abbrev pub Serves : Space → ℕ → Need → List Move → Space → Type 0
 Serves s i need [] s2 = s2 ≡ pinned s i need
 Serves s i need (move ∷ moves) s2 = (mid : Space) × Serves s i need moves mid × MovesOn mid i need move s2
 
+-- and what was read in each of them is what the slot held
+abbrev pub ServesTruly : Space → ℕ → Need → List Move → Space → Type 0
+ServesTruly s i need [] s2 = s2 ≡ pinned s i need
+ServesTruly s i need (move ∷ moves) s2 =
+    (mid : Space) × ServesTruly s i need moves mid × MovesOn mid i need move s2 × IsTrueTo mid i need move
+
 -- The step is made ready: after moves of which so many were pages that left, as many frames are earmarked as its
 -- writes want.
 abbrev pub Provides : Space → ℕ → Need → ℕ → Space → Type 0
@@ -75,12 +81,26 @@ Provides s i need n s2 =
     (moves : List Move) × (mid : Space) × Serves s i need moves mid × (tally leaves moves ≡ n)
     × IsServed mid i need × Earmarks mid i (frames_to_write mid i need) s2
 
--- The device failed: the moves so far stay, and nothing is pinned or earmarked. A slot to which a write failed is
--- vacant and holds nothing that is known.
+-- Nothing is pinned or earmarked; and a slot to which a write failed, and which is vacant, holds nothing that is known.
+abbrev pub GivesUp : Space → Space → Type 0
+GivesUp s s2 =
+    (s2 ≡ unpinned s)
+    ⊎ ((k : ℕ) × (slice_get s.slots.uses k ≡ Some Vacant) × (s2 ≡ unpinned (with_held s k [])))
+
+-- the device failed: the moves so far stay
 abbrev pub FailsToProvide : Space → ℕ → Need → Space → Type 0
 FailsToProvide s i need s2 =
-    (moves : List Move) × (mid : Space) × Serves s i need moves mid
-    × ((s2 ≡ unpinned mid) ⊎ ((k : ℕ) × (slice_get mid.slots.uses k ≡ Some Vacant) × (s2 ≡ unpinned (with_held mid k []))))
+    (moves : List Move) × (mid : Space) × Serves s i need moves mid × GivesUp mid s2
+
+-- the same where the device tells what its slots hold
+abbrev pub ProvidesTruly : Space → ℕ → Need → ℕ → Space → Type 0
+ProvidesTruly s i need n s2 =
+    (moves : List Move) × (mid : Space) × ServesTruly s i need moves mid × (tally leaves moves ≡ n)
+    × IsServed mid i need × Earmarks mid i (frames_to_write mid i need) s2
+
+abbrev pub FailsTruly : Space → ℕ → Need → Space → Type 0
+FailsTruly s i need s2 =
+    (moves : List Move) × (mid : Space) × ServesTruly s i need moves mid × GivesUp mid s2
 
 -- no other instance has fewer pages than before, or it has its minimum still
 abbrev pub OthersKeepMinimum : Space → ℕ → Space → Type 0
@@ -93,7 +113,8 @@ pub record IsOnTheWay (s : Space) (i : ℕ) (need : Need) (n : ℕ) (s2 : Space)
   pub has_pages : HasPages s2 i need
   pub none_out : tickets s2 ≡ 0
   pub occupants : s2.occupants ≡ s.occupants
-  pub revoked : (n + count resident s2.tables) + among swapped s2 i (pages_of_need need) ≤ count resident s.tables + among swapped s i (pages_of_need need)
+  pub revoked : (n + count resident s2.tables) + among swapped s2 i (pages_of_need need) ≤ count resident s.tables
+      + among swapped s i (pages_of_need need)
   pub others : OthersKeepMinimum s i s2
 
 -- a number that falls with each move

@@ -81,7 +81,8 @@ GoneIsSkipped =
 -- an eviction whose page was written meanwhile is void, whatever the device says
 abbrev pub WrittenIsVoid : Type 0
 WrittenIsVoid =
-    (s : Space) (i p at : ℕ) (given : List ℕ) (s2 : Space) (k : ℕ) (wrote : Bool) (bytes : List ℕ) (end : EvictEnd) (s3 : Space)
+    (s : Space) (i p at : ℕ) (given : List ℕ) (s2 : Space) (k : ℕ) (wrote : Bool) (bytes : List ℕ) (end : EvictEnd)
+    (s3 : Space)
     → slice_get s.slots.uses k ≡ Some (Evicting i p) → Overwrites s i at given s2
     → 1 ≤ tally (one_if p) (pages_of_need (writing at (length given)))
     → CommitsEvict s2 k wrote bytes end s3 → end ≡ Void

@@ -16,7 +16,8 @@ use Rattle.wh_host_model.specs.Space.Errands.{fetches_into, ticket_of}
 -- how often frame f is free, earmarked, held by a fetch ticket, or a page's own
 abbrev pub holders : Space → ℕ → ℕ
 holders s f =
-    ((tally (one_if f) s.pool.free + tally (one_if f) (kept s.pins)) + tally (fetches_into f) s.slots.uses) + count (owns f) s.tables
+    ((tally (one_if f) s.pool.free + tally (one_if f) (kept s.pins)) + tally (fetches_into f) s.slots.uses)
+    + count (owns f) s.tables
 
 -- What the content table has of frame f is so: a hint names the page whose frame it is, a count is the number of pages
 -- that share the frame, and their bytes aren't all zero.

@@ -1,18 +1,14 @@
 -- What the steps of an instance leave: loads, stores and growth, and where it stands and no longer stands for a frame.
 -- And what a new epoch leaves.
-use Rattle.std.specs.Prelude.{ℕ, ◌≡◌, ◌≢◌, ◌-◌, ◌*◌, ◌≤◌, ◌++◌, cond, nat_lt, map, replicate, Bool, true, false, List, [], ◌∷◌, Option, Some, None, length, get_or, slice_get, slice_set}
+use Rattle.std.specs.Prelude.{ℕ, ◌≡◌, ◌*◌, ◌++◌, map, replicate, Bool, true, false, List, [], ◌∷◌, Option, Some, None, length, get_or, slice_set}
 use Rattle.wh_model.specs.declared.memory.Need.{Need}
 use Rattle.wh_model.specs.Execution.Store.{written}
 use Rattle.wh_model.specs.Execution.Memory.{reading, writing}
-use Rattle.wh_host_model.specs.Frames.{tally, one_if}
-use Rattle.wh_host_model.specs.declared.states.Page.TheVariants.{Untouched, Private}
-use Rattle.wh_host_model.specs.declared.states.Mark.{Mark}
-use Rattle.wh_host_model.specs.declared.states.Mark.TheVariants.{Plain, Hint, Sharers}
-use Rattle.wh_host_model.specs.declared.states.Slot.{Slot}
-use Rattle.wh_host_model.specs.declared.states.Slot.TheVariants.{Vacant, Taken, Evicting, EvictVoid, Fetching, FetchVoid}
-use Rattle.wh_host_model.specs.Space.States.{page_at, put, shares}
-use Rattle.wh_host_model.specs.Space.Parts.{Space, Occupant, view, pinned_by, kept_by}
+use Rattle.wh_host_model.specs.declared.states.Page.TheVariants.{Untouched}
+use Rattle.wh_host_model.specs.Space.States.{owns, put}
+use Rattle.wh_host_model.specs.Space.Parts.{Space, Occupant, view, frame_bytes}
 use Rattle.wh_host_model.specs.Space.Ready.{pages_of_need, among}
+use Rattle.wh_host_model.specs.Space.Breaks.{BreaksEach}
 use Rattle.wh_host_model.specs.Space.Moves.{unpinned_of}
 
 -- these pages of the instance at a place are touched
@@ -24,46 +20,23 @@ touching touched i (p ∷ ps) = put (touching touched i ps) i p true
 abbrev pub Touches : Space → ℕ → ℕ → ℕ → Space → Type 0
 Touches s i at n s2 = s2 ≡ record s { touched = touching s.touched i (pages_of_need (reading at n)) }
 
--- a ticket with which a page leaves that was written is void
-abbrev pub voided : ℕ → List ℕ → Slot → Slot
-voided i pages Vacant = Vacant
-voided i pages Taken = Taken
-voided i pages (Evicting j p) =
-    cond (nat_lt 0 (one_if i j)) (cond (nat_lt 0 (tally (one_if p) pages)) (EvictVoid j) (Evicting j p)) (Evicting j p)
-voided i pages (EvictVoid j) = EvictVoid j
-voided i pages (Fetching j p f) = Fetching j p f
-voided i pages (FetchVoid j f) = FetchVoid j f
-
--- so many sharers of the frame have left it: with the last one its entry goes. A hint outlives a write to its page
-abbrev pub fewer_sharers : ℕ → Mark → Mark
-fewer_sharers t Plain = Plain
-fewer_sharers t (Hint hash i p) = Hint hash i p
-fewer_sharers t (Sharers hash n) = cond (nat_lt t n) (Sharers hash (n - t)) Plain
-
--- The instance at place i wrote these bytes: only it sees them. The pages that were written have frames of their own,
--- and are touched; a ticket with which one of them was leaving is void. All other pages stand where they stood. Frames
--- were taken from the free ones and from those that were earmarked for the instance, and none was given back.
-pub record Overwrites (s : Space) (i at : ℕ) (given : List ℕ) (s2 : Space) : Type 0 where
+-- The instance at place i, whose pages here are alone on their frames, writes these bytes to them: it sees them. All
+-- other frames, and all else, are as they were.
+pub record Fills (s : Space) (i at : ℕ) (given : List ℕ) (s2 : Space) : Type 0 where
+  pub frames : List (List ℕ)
   pub sees : view s2 i ≡ written (view s i) at given
-  pub others : (j : ℕ) → j ≢ i → view s2 j ≡ view s j
-  pub own : (p : ℕ) → 1 ≤ tally (one_if p) (pages_of_need (writing at (length given))) → (f : ℕ)
-      × (page_at s2.tables i p ≡ Some (Private f))
-  pub rest : (p : ℕ) → tally (one_if p) (pages_of_need (writing at (length given))) ≡ 0
-      → page_at s2.tables i p ≡ page_at s.tables i p
-  pub tables : length s2.tables ≡ length s.tables
-  pub table : length (get_or s2.tables i []) ≡ length (get_or s.tables i [])
-  pub other_tables : (j : ℕ) → j ≢ i → get_or s2.tables j [] ≡ get_or s.tables j []
-  pub slots : s2.slots ≡ record s.slots { uses = map (voided i (pages_of_need (writing at (length given)))) s.slots.uses }
-  pub occupants : s2.occupants ≡ s.occupants
-  pub tax : s2.tax ≡ s.tax
-  pub touched : s2.touched ≡ touching s.touched i (pages_of_need (writing at (length given)))
-  pub marks : (f : ℕ) (m : Mark) → slice_get s.marks f ≡ Some m
-      → slice_get s2.marks f ≡ Some (fewer_sharers (among (shares f) s i (pages_of_need (writing at (length given)))) m)
-  pub frames : length s2.pool.frames ≡ length s.pool.frames
-  pub free : (f : ℕ) → tally (one_if f) s2.pool.free ≤ tally (one_if f) s.pool.free
-  pub pinned : (j : ℕ) → pinned_by s2.pins j ≡ pinned_by s.pins j
-  pub kept : (j : ℕ) → j ≢ i → kept_by s2.pins j ≡ kept_by s.pins j
-  pub fewer : (f : ℕ) → tally (one_if f) (kept_by s2.pins i) ≤ tally (one_if f) (kept_by s.pins i)
+  pub many : length frames ≡ length s.pool.frames
+  pub whole : (f : ℕ) → length (get_or frames f []) ≡ length (frame_bytes s f)
+  pub others : (f : ℕ) → among (owns f) s i (pages_of_need (writing at (length given))) ≡ 0
+      → get_or frames f [] ≡ frame_bytes s f
+  pub after : s2 ≡ record s { pool = record s.pool { frames = frames } }
+
+-- The instance at place i wrote these bytes: each page that is written is broken off from all others, the lower one
+-- first, and then has them.
+pub record Overwrites (s : Space) (i at : ℕ) (given : List ℕ) (s2 : Space) : Type 0 where
+  pub mid : Space
+  pub breaks : BreaksEach s i (pages_of_need (writing at (length given))) mid
+  pub fills : Fills mid i at given s2
 
 -- The instance at place i grew by so many pages of WebAssembly, sixteen of these pages each: they are untouched, also
 -- in this epoch.

@@ -32,7 +32,8 @@ abbrev pub with_slot : Space → ℕ → Slot → Space
 with_slot s k used = record s { slots = record s.slots { uses = slice_set s.slots.uses k used } }
 
 abbrev pub without_slot : Space → ℕ → Space
-without_slot s k = record s { slots = record s.slots { uses = slice_set s.slots.uses k Vacant; vacant = s.slots.vacant ++ k ∷ [] } }
+without_slot s k =
+    record s { slots = record s.slots { uses = slice_set s.slots.uses k Vacant; vacant = s.slots.vacant ++ k ∷ [] } }
 
 -- by this slot a page of the instance leaves, or none
 abbrev pub leaving_by : Option Occupant → Option ℕ → Option Occupant
@@ -90,7 +91,11 @@ stays_occupant None n = None
 stays_occupant (Some t) n = cond t.live (Some t) (cond (n == 0) None (Some t))
 
 abbrev pub settled : Space → ℕ → Space
-settled s i = record s { occupants = slice_set s.occupants i (stays_occupant (get_or s.occupants i None) (tally (ticket_of i) s.slots.uses)) }
+settled s i =
+    record s {
+      occupants = slice_set s.occupants i
+          (stays_occupant (get_or s.occupants i None) (tally (ticket_of i) s.slots.uses));
+    }
 
 -- the page as it was before it began to leave
 abbrev pub as_before : Page → Page → Type 0
@@ -117,15 +122,18 @@ sent_off s j p f k = let a : Space = with_leaving (with_slot (departed s f) k Ta
 
 -- it isn't, and is this page as before
 abbrev pub not_sent : Space → ℕ → ℕ → ℕ → Page → Space
-not_sent s j p k old = let a : Space = with_leaving (without_slot s k) j None in record a { tables = put a.tables j p old }
+not_sent s j p k old =
+    let a : Space = with_leaving (without_slot s k) j None in record a { tables = put a.tables j p old }
 
 -- The ticket of slot k comes back, with whether the device wrote it and with the bytes that it was given to write. It
 -- is void where the page was written or its instance released. Else the page is in the slot where the device wrote it
 -- and its frame has these bytes still; and else it is as before.
 abbrev pub CommitsEvict : Space → ℕ → Bool → List ℕ → EvictEnd → Space → Type 0
 CommitsEvict s k wrote bytes end s2 =
-    ((j : ℕ) × (slice_get s.slots.uses k ≡ Some (EvictVoid j)) × (end ≡ Void) × (s2 ≡ settled (with_leaving (without_slot s k) j None) j))
-    ⊎ ((j p f : ℕ) × (slice_get s.slots.uses k ≡ Some (Evicting j p)) × (page : Page) × (page_at s.tables j p ≡ Some page) × (frame_of page ≡ Some f)
+    ((j : ℕ) × (slice_get s.slots.uses k ≡ Some (EvictVoid j)) × (end ≡ Void)
+    × (s2 ≡ settled (with_leaving (without_slot s k) j None) j))
+    ⊎ ((j p f : ℕ) × (slice_get s.slots.uses k ≡ Some (Evicting j p)) × (page : Page)
+    × (page_at s.tables j p ≡ Some page) × (frame_of page ≡ Some f)
     × (((wrote ≡ true) × (bytes ≡ frame_bytes s f) × (end ≡ Evicted) × (s2 ≡ sent_off s j p f k))
     ⊎ ((((wrote ≡ true) × (bytes ≢ frame_bytes s f) × (end ≡ Void)) ⊎ ((wrote ≡ false) × (end ≡ Failed)))
     × (old : Page) × as_before page old × (s2 ≡ not_sent s j p k old))))
@@ -142,7 +150,8 @@ sent_for s i p f k others = let a : Space = with_slot s k (Fetching i p f) in re
 abbrev pub BeginsFetch : Space → ℕ → Option ℕ → Space → Type 0
 BeginsFetch s i None s2 =
     (((need : Need) → ¬ StandsForFrame s i need) × (s2 ≡ s))
-    ⊎ ((need : Need) × StandsForFrame s i need × Reserves s i need s2 × (((p : ℕ) → ¬ IsFirstSwapped s2 i need p) ⊎ (may_take s2 i ≡ 0)))
+    ⊎ ((need : Need) × StandsForFrame s i need × Reserves s i need s2
+    × (((p : ℕ) → ¬ IsFirstSwapped s2 i need p) ⊎ (may_take s2 i ≡ 0)))
 BeginsFetch s i (Some k) s2 =
     (need : Need) × StandsForFrame s i need × (s1 : Space) × Reserves s i need s1
     × (p f : ℕ) × IsFirstSwapped s1 i need p × (page_at s1.tables i p ≡ Some (Swapped k))
@@ -161,13 +170,15 @@ has_come s i p f k bytes = let a : Space = without_slot s k in record a {
 }
 
 abbrev pub not_come : Space → ℕ → ℕ → ℕ → ℕ → Space
-not_come s i p f k = let a : Space = with_slot (with_free s f) k Taken in record a { tables = put a.tables i p (Swapped k) }
+not_come s i p f k =
+    let a : Space = with_slot (with_free s f) k Taken in record a { tables = put a.tables i p (Swapped k) }
 
 -- The ticket of slot k comes back, with whether the device read it and with the bytes that were read. It is void where
 -- the instance was released.
 abbrev pub CommitsFetch : Space → ℕ → Bool → List ℕ → FetchEnd → Space → Type 0
 CommitsFetch s k read bytes end s2 =
-    ((i f : ℕ) × (slice_get s.slots.uses k ≡ Some (FetchVoid i f)) × (end ≡ FetchIsVoid) × (s2 ≡ settled (with_free (without_slot s k) f) i))
+    ((i f : ℕ) × (slice_get s.slots.uses k ≡ Some (FetchVoid i f)) × (end ≡ FetchIsVoid)
+    × (s2 ≡ settled (with_free (without_slot s k) f) i))
     ⊎ ((i p f : ℕ) × (slice_get s.slots.uses k ≡ Some (Fetching i p f))
     × (((read ≡ true) × (length bytes ≡ 4096) × (end ≡ Fetched) × (s2 ≡ has_come s i p f k bytes))
     ⊎ ((read ≡ false) × (end ≡ FetchHasFailed) × (s2 ≡ not_come s i p f k))))

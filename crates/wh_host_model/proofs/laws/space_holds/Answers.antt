@@ -13,6 +13,9 @@ use Rattle.wh_host_model.proofs.Space.Enlarged.{grows_soundly, grows_by_zeros}
 use Rattle.wh_host_model.proofs.Space.Entered.{enters_soundly, enters_at_zeros}
 use Rattle.wh_host_model.proofs.Space.Exited.{exits_soundly}
 use Rattle.wh_host_model.proofs.Space.Chained.{empty_sound, fails_soundly, stays_sound, scans_soundly}
+use Rattle.wh_host_model.proofs.Space.Filled.{breaks_soundly, stores_soundly, stores_are_right}
+use Rattle.wh_host_model.proofs.Space.Filling.{some_store}
+use Rattle.wh_host_model.proofs.Space.Passed.{contents_are_listed, passes_fully}
 use Rattle.wh_host_model.proofs.laws.space_holds.Goals as goal
 
 pub returns-clause-ready_is_decided : goal.returns-clause-ready_is_decided
@@ -146,3 +149,21 @@ returns-clause-stays_sound c = stays_sound
 
 pub returns-clause-scans_soundly : goal.returns-clause-scans_soundly
 returns-clause-scans_soundly c = scans_soundly
+
+pub returns-clause-breaks_soundly : goal.returns-clause-breaks_soundly
+returns-clause-breaks_soundly c = breaks_soundly
+
+pub returns-clause-stores_soundly : goal.returns-clause-stores_soundly
+returns-clause-stores_soundly c = stores_soundly
+
+pub returns-clause-stores_are_right : goal.returns-clause-stores_are_right
+returns-clause-stores_are_right c = stores_are_right
+
+pub returns-clause-some_store : goal.returns-clause-some_store
+returns-clause-some_store c = some_store
+
+pub returns-clause-passes_fully : goal.returns-clause-passes_fully
+returns-clause-passes_fully c = passes_fully
+
+pub returns-clause-contents_are_listed : goal.returns-clause-contents_are_listed
+returns-clause-contents_are_listed c = contents_are_listed

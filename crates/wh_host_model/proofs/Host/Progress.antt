@@ -1,0 +1,256 @@
+-- Which events can happen to any host that is reached.
+use Rattle.std.proofs.Common.{mod-lt, suc, zero, ◌≡◌, ◌≢◌, ℕ, ℤ, pos, negsuc, ◌^◌, ◌<◌, ◌≤◌, ◌⊎◌, inl, inr, Bool, true, false, Option, Some, None, List, [], ◌∷◌, length, map, reverse, slice_get, get_or, refl, sym, ap, subst, ◌∙◌, arith}
+use Rattle.std.proofs.lemmas.Bool.{cases_lt}
+use Rattle.std.specs.List.{AllByRecursion}
+use Rattle.wh_model.specs.declared.ValType.{ValType}
+use Rattle.wh_model.specs.declared.ValType.TheVariants.{I32, I64}
+use Rattle.wh_model.specs.Format.Syntax.{Module, nothing}
+use Rattle.wh_model.specs.Execution.Numbers.{unsigned}
+use Rattle.wh_model.specs.Execution.Store.{Instance, InRange, Store, Value, type_of}
+use Rattle.wh_model.specs.Execution.Configuration.{Term, called, config}
+use Rattle.wh_model.specs.Execution.Reduction.{stays}
+use Rattle.wh_model.specs.Execution.Replay.{cancelled, Invocation}
+use Rattle.wh_model.specs.Execution.Taking.{took_all}
+use Rattle.wh_host_model.specs.declared.plain.InstId.{InstId}
+use Rattle.wh_host_model.specs.declared.plain.SwapError.{SwapError}
+use Rattle.wh_host_model.specs.declared.plain.TurnEnd.TheVariants.{Fuel}
+use Rattle.wh_host_model.specs.Space.Parts.{Claimed, Occupant, Space, claim, claim_of, occupant_at, view, wants}
+use Rattle.wh_host_model.specs.Space.Sound.{IsSound}
+use Rattle.wh_host_model.specs.Space.Stores.{ended}
+use Rattle.wh_host_model.specs.Host.Spaces.{StandsAlone}
+use Rattle.wh_host_model.specs.Host.Worlds.{Doing, Entry, Suspension, Tenant, World, computing, empty_world, for_device, for_frame, for_fuel, resting, store_in, store_with, tenant, with_tenant}
+use Rattle.wh_host_model.specs.Host.Turns.{as_it_was, uses_fuel}
+use Rattle.wh_host_model.specs.Host.Answers.{Closes, Faces, dies, ended_by, faces_next, has_no_fuel, is_dead, is_idle}
+use Rattle.wh_host_model.specs.Host.Calls.{AreArguments, Cancels, IsArgument, Retries, StandsAfter, has_more, may_try, more_fuel}
+use Rattle.wh_host_model.specs.Host.Calls as requests
+use Rattle.wh_host_model.specs.Host.Admission.{decoder_wants}
+use Rattle.wh_host_model.specs.Host.Events.{Event, turn, load, admit, invoke, refuel, cancel, retry, release, offer, evict_begin, evict_commit, fetch_begin, fetch_commit, provide, epoch}
+use Rattle.wh_host_model.specs.Host.Happens.{AwaitsFrame, AwaitsFrameFor, Happens, IsLive, IsTurn, MovesPages, NoInstance, OnlyMoves, call_no_call, call_no_instance, call_ok, has_failed, is_cancelled, is_refueled, is_retried, load_wants_memory, moved, no_call_to_cancel, no_call_to_refuel, no_fault_to_retry, no_memory_to_load, no_one_to_cancel, no_one_to_refuel, no_one_to_retry, of_none, of_one}
+use Rattle.wh_host_model.specs.Host.Journals.{InOrder, IsAsked, IsOpenCall, is_starting, has_started}
+use Rattle.wh_host_model.specs.Host.Progress.{FuelTurnsHappen, IdleTurnsHappen, IsSimple, SimpleEventsHappen}
+use Rattle.wh_host_model.specs.Host.Standing.{FirstStandsDuly}
+use Rattle.wh_host_model.proofs.Host.Empty.{good_empty}
+use Rattle.wh_host_model.proofs.Host.Leaving.{alone_self, ended_alone}
+use Rattle.wh_host_model.proofs.Host.Running.{IsGood, good_run}
+use Rattle.wh_host_model.proofs.Host.Stopping.{is_settled}
+use Rattle.wh_host_model.proofs.Space.Putting.{here_or}
+
+-- ---- who lives
+
+one_tenant : (a b : Tenant) → Some a ≡ Some b → a ≡ b
+one_tenant a b e = cc e
+
+live_or_not : (w : World) (id : InstId) → ((t : Tenant) × IsLive w id t) ⊎ NoInstance w id
+live_or_not w id = go (tenant w id.number) refl where
+  go : (o : Option Tenant) → tenant w id.number ≡ o → ((t : Tenant) × IsLive w id t) ⊎ NoInstance w id
+  go None e = inr (λ t live. (let bad : None ≡ Some t = sym e ∙ live.0 in cc bad))
+  go (Some t) e = elim (here_or id.place t.place) [
+    | inl same ↦ inl (t, (e, same))
+    | inr other ↦ inr (λ u live. other (ap (λ (z : Tenant). z.place) (one_tenant t u (sym e ∙ live.0)) ∙ live.1))
+  ]
+
+calls_of : (es : List Entry) → (es ≡ []) ⊎ ((e : Entry) × (rest : List Entry) × (es ≡ e ∷ rest))
+calls_of [] = inl refl
+calls_of (e ∷ es) = inr (e, es, refl)
+
+-- ---- more fuel
+
+stands_after : (call : _) (o : Option Suspension) → (new : Option Suspension) × StandsAfter call o new
+stands_after call None = (None, refl)
+stands_after call (Some for_fuel) = elim (cases_lt call.charges call.fuel) [ inl more ↦ (None, inl (more, refl)) | inr none ↦ (Some for_fuel, inr (none, refl)) ]
+stands_after call (Some for_frame) = (Some for_frame, refl)
+stands_after call (Some (for_device x)) = (Some (for_device x), refl)
+
+refuels : (w : World) (id : InstId) (n : ℕ) → (w2 : World) × Happens w (refuel id n) w2
+refuels w id n = elim (live_or_not w id) [
+  | inr none ↦ (w, (call_no_instance, no_one_to_refuel none))
+  | inl (t, live) ↦ elim (calls_of t.open_calls) [
+    | inl empty ↦ (w, (call_no_call, no_call_to_refuel live empty))
+    | inr (e, es, there) ↦
+        (let o = stands_after (more_fuel e n).call t.stands_for in
+        (with_tenant w id.number (Some (record t { open_calls = more_fuel e n ∷ es; stands_for = o.0 })) w.space, (call_ok, is_refueled live (has_more there o.1))))
+  ]
+]
+
+-- ---- another try
+
+retries : (w : World) (id : InstId) → (w2 : World) × Happens w (retry id) w2
+retries w id = elim (live_or_not w id) [
+  | inr none ↦ (w, (call_no_instance, no_one_to_retry none))
+  | inl (t, live) ↦ elim (calls_of t.open_calls) [
+    | inl empty ↦ (w, (call_no_call, no_fault_to_retry live (never_empty t empty)))
+    | inr (e, es, there) ↦ go t live e es there t.stands_for refl
+  ]
+] where
+  never_empty : (t : Tenant) → t.open_calls ≡ [] → (t2 : Tenant) → Retries t t2 → ⊥
+  never_empty t empty t2 (may_try {e = e} {es = es} there stands) = (let bad : [] ≡ e ∷ es = sym empty ∙ there in cc bad)
+
+  never_so : (t : Tenant) → ((fault : SwapError) → t.stands_for ≢ Some (for_device fault)) → (t2 : Tenant) → Retries t t2 → ⊥
+  never_so t never t2 (may_try {fault = fault} there stands) = never fault stands
+
+  go : (t : Tenant) → IsLive w id t → (e : Entry) (es : List Entry) → t.open_calls ≡ e ∷ es → (o : Option Suspension) → t.stands_for ≡ o → (w2 : World) × Happens w (retry id) w2
+  go t live e es there None is = (w, (call_no_call, no_fault_to_retry live (never_so t (λ fault f. (let bad : None ≡ Some (for_device fault) = sym is ∙ f in cc bad)))))
+  go t live e es there (Some for_fuel) is = (w, (call_no_call, no_fault_to_retry live (never_so t (λ fault f. (let bad : Some for_fuel ≡ Some (for_device fault) = sym is ∙ f in cc bad)))))
+  go t live e es there (Some for_frame) is = (w, (call_no_call, no_fault_to_retry live (never_so t (λ fault f. (let bad : Some for_frame ≡ Some (for_device fault) = sym is ∙ f in cc bad)))))
+  go t live e es there (Some (for_device fault)) is = (with_tenant w id.number (Some (record t { stands_for = Some for_frame })) w.space, (call_ok, is_retried live (may_try there is)))
+
+-- ---- a cancelled call
+
+small : (N : ℕ) (n : ℤ) → 1 ≤ 2 ^ N → unsigned N n < 2 ^ N
+unfolding unsigned
+small N (pos n) some = mod-lt n (omega arith)
+small N (negsuc n) some = omega arith
+
+argument_fits : (t : ValType) (n : ℤ) (v : Value) → IsArgument t n v → (type_of v ≡ t) × InRange v
+argument_fits I32 n v a = (ap type_of a.2, subst InRange (sym a.2) (small 32 n (omega arith)))
+argument_fits I64 n v a = (ap type_of a.2, subst InRange (sym a.2) (small 64 n (omega arith)))
+
+arguments_fit : (ts : List ValType) (ns : List ℤ) (vs : List Value) → AreArguments ts ns vs → (map type_of vs ≡ ts) × AllByRecursion InRange vs
+arguments_fit [] [] vs a = (ap (map type_of) a, subst (AllByRecursion InRange) (sym a) tt)
+arguments_fit [] (n ∷ ns) vs a = absurd a
+arguments_fit (t ∷ ts) [] vs a = absurd a
+arguments_fit (t ∷ ts) (n ∷ ns) vs (v, rest, one, is, more) =
+    let first = argument_fits t n v one in
+    let others = arguments_fit ts ns rest more in
+    (ap (map type_of) is ∙ (let a = first.0 in let b = others.0 in cc), subst (AllByRecursion InRange) (sym is) (first.1, others.1))
+
+asked_faces : (inst : Instance) (s : Store) (e : Entry) → IsAsked inst e → (t : Term) × Invocation inst s e.call (config s [] t)
+asked_faces inst s e a =
+    let fits = arguments_fit a.type.params e.given e.call.args a.arguments in
+    (called a.type a.body (reverse e.call.args) [] nothing, record { index = a.index; type = a.type; body = a.body; calls = a.func; is_own = a.is_own; types = fits.0; fit = fits.1; begins = refl })
+
+some_faced : (inst : Instance) (s : Store) (es : List Entry) → AllByRecursion (IsOpenCall inst) es → (d : Doing) × Faces inst s es d
+some_faced inst s [] all = (resting, refl)
+some_faced inst s (e ∷ es) all = let f = asked_faces inst s e all.0.asked in (computing f.0, (f.0, refl, f.1))
+
+behind_open : {m : Module} {inst : Instance} {b : Bool} {ended es : List Entry} {e : Entry} → InOrder m inst b ended (e ∷ es) → AllByRecursion (IsOpenCall inst) es
+behind_open (is_starting st p rest) = rest
+behind_open (has_started st h f r es os) = os.1
+
+some_closing : (s : Space) (t : Tenant) (m : Module) (e : Entry) (es : List Entry) → InOrder m t.inst t.dead t.ended (e ∷ es) → (t2 : Tenant) × Closes s t (ended_by e cancelled) es t.rest t2
+some_closing s t m e es order = go (dies t.ended cancelled) refl where
+  go : (b : Bool) → dies t.ended cancelled ≡ b → (t2 : Tenant) × Closes s t (ended_by e cancelled) es t.rest t2
+  go true died = (_, is_dead died)
+  go false alive = (let f = some_faced t.inst (store_with (view s t.place) t.rest) es (behind_open order) in (_, faces_next alive f.1))
+
+claimed_there : (s : Space) (i : ℕ) (c : Claimed) → claim s i ≡ Some c → (t : Occupant) × occupant_at s i t × (t.live ≡ true)
+claimed_there s i c e = rows s.occupants i e where
+  live : (t : Occupant) (b : Bool) → t.live ≡ b → claim_of (Some t) ≡ Some c → t.live ≡ true
+  live t true is e = is
+  live t false is e = absurd (let z : claim_of (Some t) ≡ None = rw is refl in let bad : None ≡ Some c = sym z ∙ e in cc bad)
+
+  rows : (xs : List (Option Occupant)) (i : ℕ) → claim_of (get_or xs i None) ≡ Some c → (t : Occupant) × (slice_get xs i ≡ Some (Some t)) × (t.live ≡ true)
+  rows [] i e = absurd (let bad : None ≡ Some c = e in cc bad)
+  rows (None ∷ xs) zero e = absurd (let bad : None ≡ Some c = e in cc bad)
+  rows (Some t ∷ xs) zero e = (t, refl, live t t.live refl e)
+  rows (x ∷ xs) (suc i) e = rows xs i e
+
+cancels : (w : World) (id : InstId) → IsGood w → (w2 : World) × Happens w (cancel id) w2
+cancels w id good = elim (live_or_not w id) [
+  | inr none ↦ (w, (call_no_instance, no_one_to_cancel none))
+  | inl (t, live) ↦ elim (calls_of t.open_calls) [
+    | inl empty ↦ (w, (call_no_call, no_call_to_cancel live empty))
+    | inr (e, es, there) ↦
+        (let fine = good.each id.number t live.0 in
+        let who = claimed_there w.space t.place _ fine.claimed in
+        let ends = ended_alone w.space t.place who.0 good.sound who.1 who.2 in
+        let order = subst (λ xs. InOrder fine.loaded.m t.inst t.dead t.ended xs) there fine.kept.order in
+        let closed = some_closing (ended w.space t.place) t fine.loaded.m e es order in
+        (with_tenant w id.number (Some closed.0) (ended w.space t.place), (call_ok, is_cancelled live (requests.ends there ends.0 ends.1 closed.1))))
+  ]
+]
+
+-- ---- pages that may move
+
+only_moves_self : (w : World) → IsGood w → OnlyMoves w w
+only_moves_self w good = (w.space, alone_self w.space good.sound, refl)
+
+awaits_or_not : (t : Tenant) → AwaitsFrame t ⊎ ¬ AwaitsFrame t
+awaits_or_not t = go t.stands_for refl where
+  go : (o : Option Suspension) → t.stands_for ≡ o → (t.stands_for ≡ Some for_frame) ⊎ ¬ (t.stands_for ≡ Some for_frame)
+  go None e = inr (λ f. (let bad : None ≡ Some for_frame = sym e ∙ f in cc bad))
+  go (Some for_fuel) e = inr (λ f. (let bad : Some for_fuel ≡ Some for_frame = sym e ∙ f in cc bad))
+  go (Some for_frame) e = inl e
+  go (Some (for_device x)) e = inr (λ f. (let bad : Some (for_device x) ≡ Some for_frame = sym e ∙ f in cc bad))
+
+awaits_for : (call : ℕ) (t : Tenant) → AwaitsFrameFor call t ⊎ ¬ AwaitsFrameFor call t
+awaits_for call t = elim (awaits_or_not t) [
+  | inr none ↦ inr (λ a. none a.0)
+  | inl one ↦ elim (here_or call (length t.ended)) [ inl same ↦ inl (one, same) | inr other ↦ inr (λ a. other a.1) ]
+]
+
+moves_happen : (w : World) (id : InstId) (awaits : Tenant → Type 0) → ((t : Tenant) → awaits t ⊎ ¬ awaits t) → (fault : Option SwapError) → IsGood w → (w2 : World) × MovesPages w id awaits fault w2
+moves_happen w id awaits decide None good = (w, moved (alone_self w.space good.sound) (inl refl))
+moves_happen w id awaits decide (Some x) good = elim (live_or_not w id) [
+  | inr none ↦ (w, moved (alone_self w.space good.sound) (inr (λ t live. absurd (none t live))))
+  | inl (t, live) ↦ elim (decide t) [
+    | inl holds ↦ (_, has_failed (alone_self w.space good.sound) refl live holds)
+    | inr never ↦ (w, moved (alone_self w.space good.sound) (inr (λ u live2 a. never (subst awaits (sym (one_tenant t u (sym live.0 ∙ live2.0))) a))))
+  ]
+]
+
+-- ---- all of these
+
+simple : (w : World) (e : Event) → IsGood w → IsSimple e → (w2 : World) × Happens w e w2
+simple w (turn id q) good none = absurd none
+simple w (load bytes) good some = (w, (load_wants_memory decoder_wants, no_memory_to_load tt))
+simple w (admit k p) good none = absurd none
+simple w (invoke id name given fuel) good none = absurd none
+simple w (refuel id n) good some = refuels w id n
+simple w (cancel id) good some = cancels w id good
+simple w (retry id) good some = retries w id
+simple w (release id) good none = absurd none
+simple w (offer page hash) good some = (w, only_moves_self w good)
+simple w (evict_begin id) good some = (w, only_moves_self w good)
+simple w (evict_commit id call fault) good some = moves_happen w id (AwaitsFrameFor call) (awaits_for call) fault good
+simple w (fetch_begin id) good some = (w, only_moves_self w good)
+simple w (fetch_commit id call fault) good some = moves_happen w id (AwaitsFrameFor call) (awaits_for call) fault good
+simple w (provide id fault) good some = moves_happen w id AwaitsFrame awaits_or_not fault good
+simple w epoch good some = (w, only_moves_self w good)
+
+pub simple_events_happen : SimpleEventsHappen
+simple_events_happen frames slots tax events w r e some = simple w e (good_run events (empty_world frames slots tax) w (good_empty frames slots tax) r) some
+
+pub idle_turns_happen : IdleTurnsHappen
+idle_turns_happen frames slots tax events w r id q empty = elim (live_or_not w id) [
+  | inr none ↦ (w, of_none none)
+  | inl (t, live) ↦ (with_tenant w id.number (Some t) w.space, of_one live (is_idle (empty t live)))
+]
+
+-- ---- a turn of one that stands for fuel
+
+stands_alone : (s : Space) (i : ℕ) → IsSound s → wants s i ≡ None → StandsAlone i None s s
+stands_alone s i sound none = record {
+  steps = record { others = λ j other. record { view = refl; wants = refl; claim = refl }; claim = refl; sound = sound };
+  view = refl;
+  wants = none;
+  ready = λ need. (λ h. h, λ h. h);
+}
+
+fuel_turn : (w : World) (id : InstId) (q : ℕ) (t : Tenant) → IsGood w → IsLive w id t → t.stands_for ≡ Some for_fuel → (w2 : World) × IsTurn w id q Fuel w2
+fuel_turn w id q t good live stands =
+    let fine = good.each id.number t live.0 in
+    let duly = subst (λ o. FirstStandsDuly t.inst (store_in w.space t) t.doing t.open_calls (wants w.space t.place) o) stands fine.kept.duly in
+    elim (calls_of t.open_calls) [
+      | inl empty ↦ absurd (let d = subst (λ xs. FirstStandsDuly t.inst (store_in w.space t) t.doing xs (wants w.space t.place) (Some for_fuel)) empty duly in let bad = d.1 in cc bad)
+      | inr (e, es, there) ↦
+          (let d = subst (λ xs. FirstStandsDuly t.inst (store_in w.space t) t.doing xs (wants w.space t.place) (Some for_fuel)) there duly in
+          let term : Term = d.2.0 in
+          let used = d.1 in (
+            _,
+            of_one live (has_no_fuel there
+                (subst (λ x. Rattle.wh_host_model.specs.Host.Answers.ProceedsIn q w.space (record t { doing = x }) e Rattle.wh_host_model.specs.Host.Turns.out_of_fuel 0 0 w.space t.rest (computing term)) (sym d.2.1)
+                (uses_fuel (record {
+                  between = w.space;
+                  opened = config (store_in w.space t) [] term;
+                  opens = as_it_was (stays, is_settled d.2.2);
+                  takes = took_all;
+                  in_turn = omega arith;
+                  in_fuel = omega (arith, used);
+                }) d.2.2 (omega (arith, used))))
+                (stands_alone w.space t.place good.sound d.0) (λ some. absurd (omega arith))),
+          ))
+    ]
+
+pub fuel_turns_happen : FuelTurnsHappen
+fuel_turns_happen frames slots tax events w r id q t live stands = fuel_turn w id q t (good_run events (empty_world frames slots tax) w (good_empty frames slots tax) r) live stands

@@ -1,0 +1,24 @@
+//! The laws of what the memory's own moves are to a host.
+
+ghost use Rattle.wh_host_model.specs.Host.Bridges.{LoadsStep, StoresStep, GrowthSteps, StandsWell, EndsWell, EpochsLeaveAll, OffersLeaveAll, EvictionsBegin, WritesLeaveAll, EvictionsEnd, FetchesBegin, FetchesEnd, ProvisionsLeaveAll, FailuresLeaveAll, EntrantsArrive, ExitsDepart};
+
+/// What the moves of the memory on which all instances lie leave, in the words in which a host's events ask for it. The function does
+/// nothing; what it ensures are the laws.
+pub fn moves_hold()
+    ensures loads_step { LoadsStep }
+    ensures stores_step { StoresStep }
+    ensures growth_steps { GrowthSteps }
+    ensures stands_well { StandsWell }
+    ensures ends_well { EndsWell }
+    ensures epochs_leave_all { EpochsLeaveAll }
+    ensures offers_leave_all { OffersLeaveAll }
+    ensures evictions_begin { EvictionsBegin }
+    ensures writes_leave_all { WritesLeaveAll }
+    ensures evictions_end { EvictionsEnd }
+    ensures fetches_begin { FetchesBegin }
+    ensures fetches_end { FetchesEnd }
+    ensures provisions_leave_all { ProvisionsLeaveAll }
+    ensures failures_leave_all { FailuresLeaveAll }
+    ensures entrants_arrive { EntrantsArrive }
+    ensures exits_depart { ExitsDepart }
+{}
