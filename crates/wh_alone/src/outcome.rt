@@ -1,6 +1,7 @@
 //! What a call comes to, and why there is no instance.
 
 ghost use Rattle.std.specs.Prelude.{◌≡◌};
+ghost use Rattle.wh_alone.specs.declared.outcome.CallError.TheVariants.{Load};
 
 use thiserror::Error;
 use wh_initial::InstantiateError;
@@ -81,7 +82,7 @@ pub enum CallError {
 }
 
 impl From<LoadError> for CallError {
-    ghost from_gives = { λ error result. result ≡ CallError.Load error };
+    ghost from_gives = { λ error result. result ≡ Load error };
 
     fn from(error: LoadError) -> CallError {
         CallError::Load(error)
