@@ -1,0 +1,152 @@
+// The table as its caller sees it.
+
+ghost use Rattle.std.specs.Prelude.{◌≡◌, ◌↔◌, ◌+◌, ◌<◌, ◌≤◌, ◌++◌, [], ◌∷◌, true, false, IsTrue, IsFalse, Some, IfOk, length, replicate, slice_get, slice_set};
+ghost use Rattle.wh_host_model.specs.declared.states.Page.TheVariants.{Untouched};
+
+use crate::entry::Entry;
+use crate::rows::{LEAF, Rows};
+use std::alloc::{AllocError, Global};
+use std::marker::Model;
+use wh_host_model::Page;
+
+/// The pages of one instance in order, each with a mark that says whether it was touched in this epoch.
+///
+/// Room for as many pages as it may ever have is taken at once. A page is found by two look-ups, and takes 8 bytes.
+#[derive(Drop)]
+pub struct PageTable {
+    rows: Rows,
+    len: u32,
+    max: u32,
+}
+
+impl Model for PageTable {
+    ghost use Rattle.wh_pages.specs.Table.{Table};
+
+    ghost Value = { Table };
+
+    ghost use Rattle.wh_pages.specs.Parts.{table_of, HasRows};
+
+    ghost view = { table_of };
+
+    ghost invariant = { HasRows };
+}
+
+impl PageTable {
+    /// A table without pages, that may get `max` of them, up to 65536. All its room is taken here.
+    ///
+    /// # Errors
+    /// `AllocError` where room is refused. Nothing is left behind then.
+    pub fn new(alloc: Global, max: u32) -> Result<PageTable, AllocError>
+        requires { max ≤ 65536 }
+        ensures { IfOk result (λ table. table ≡ record { pages = []; touched = []; max = max }) }
+    {
+        let rows = Rows::new(alloc, max.div_ceil(LEAF))?;
+        Ok(PageTable { rows, len: 0, max })
+    }
+
+    /// How many pages there are.
+    pub fn len(&self) -> u32
+        ensures pages { result ≡ length self.now.pages }
+        ensures touched { result ≡ length self.now.touched }
+        ensures within { result ≤ self.now.max }
+    {
+        self.len
+    }
+
+    /// How many pages there may be, at most 65536.
+    pub fn max(&self) -> u32
+        ensures max { result ≡ self.now.max }
+        ensures most { result ≤ 65536 }
+    {
+        self.max
+    }
+
+    /// The page at this place.
+    pub fn page(&self, at: u32) -> Page
+        requires { at < length self.now.pages }
+        ensures { slice_get self.now.pages at ≡ Some result }
+    {
+        self.rows.get(at).page()
+    }
+
+    /// Whether the page at this place was touched in this epoch.
+    pub fn is_touched(&self, at: u32) -> bool
+        requires { at < length self.now.pages }
+        ensures { slice_get self.now.touched at ≡ Some result }
+    {
+        self.rows.get(at).touched
+    }
+
+    /// Puts a page at this place. Its mark stays.
+    pub fn set(&mut self, at: u32, page: Page)
+        requires { at < length self.old.pages }
+        ensures { self.new ≡ record self.old { pages = slice_set self.old.pages at page } }
+    {
+        let touched = self.rows.get(at).touched;
+        self.rows.set(at, Entry::new(page, touched));
+    }
+
+    /// Marks the page at this place as touched.
+    pub fn touch(&mut self, at: u32)
+        requires { at < length self.old.pages }
+        ensures { self.new ≡ record self.old { touched = slice_set self.old.touched at true } }
+    {
+        self.mark(at, true);
+    }
+
+    /// Begins a new epoch: no page is marked as touched any more. It goes over all pages.
+    pub fn clear_touched(&mut self)
+        ensures { self.new ≡ record self.old { touched = replicate (length self.old.pages) false } }
+    {
+        for at in 0..self.len() {
+            self.mark(at, false);
+        }
+    }
+
+    /// Adds so many untouched pages without marks, and says whether they fit. Where they do not, nothing changes.
+    /// It takes no memory.
+    pub fn grow(&mut self, count: u32) -> bool
+        ensures fits { IsTrue result ↔ (length self.old.pages + count ≤ self.old.max) }
+        ensures grown { IsTrue result → self.new ≡ record self.old {
+          pages = self.old.pages ++ replicate count Untouched;
+          touched = self.old.touched ++ replicate count false;
+        } }
+        ensures unchanged { IsFalse result → self.new ≡ self.old }
+    {
+        if count > self.max() - self.len() {
+            return false;
+        }
+        for _ in 0..count {
+            self.add();
+        }
+        true
+    }
+
+    /// Takes all pages away. The room stays.
+    pub fn clear(&mut self)
+        ensures { self.new ≡ record self.old { pages = []; touched = [] } }
+    {
+        self.len = 0;
+    }
+
+    // Gives the page at this place this mark.
+    fn mark(&mut self, at: u32, touched: bool)
+        requires { at < length self.old.pages }
+        ensures { self.new ≡ record self.old { touched = slice_set self.old.touched at touched } }
+    {
+        let entry = self.rows.get(at);
+        self.rows.set(at, Entry { touched, ..entry });
+    }
+
+    // Adds an untouched page without a mark.
+    fn add(&mut self)
+        requires { length self.old.pages < self.old.max }
+        ensures { self.new ≡ record self.old {
+          pages = self.old.pages ++ Untouched ∷ [];
+          touched = self.old.touched ++ false ∷ [];
+        } }
+    {
+        self.rows.set(self.len, Entry::blank());
+        self.len += 1;
+    }
+}
