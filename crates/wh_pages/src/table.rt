@@ -9,9 +9,11 @@ use std::alloc::{AllocError, Global};
 use std::marker::Model;
 use wh_host_model::Page;
 
-/// The pages of one instance in order, each with a mark that says whether it was touched in this epoch.
+/// The pages of one instance in order, each of 4096 bytes and with a mark that says whether it was
+/// touched in this epoch.
 ///
-/// Room for as many pages as it may ever have is taken at once. A page is found by two look-ups, and takes 8 bytes.
+/// Room for as many pages as there may ever be is taken at once: 8 bytes for each. A page is found by
+/// two index operations.
 #[derive(Drop)]
 pub struct PageTable {
     rows: Rows,
@@ -61,7 +63,7 @@ impl PageTable {
         self.max
     }
 
-    /// The page at this place.
+    /// The page at this place, which is below `len`.
     pub fn page(&self, at: u32) -> Page
         requires { at < length self.now.pages }
         ensures { slice_get self.now.pages at ≡ Some result }
@@ -69,7 +71,7 @@ impl PageTable {
         self.rows.get(at).page()
     }
 
-    /// Whether the page at this place was touched in this epoch.
+    /// Whether the page at this place, which is below `len`, was touched in this epoch.
     pub fn is_touched(&self, at: u32) -> bool
         requires { at < length self.now.pages }
         ensures { slice_get self.now.touched at ≡ Some result }
@@ -77,7 +79,7 @@ impl PageTable {
         self.rows.get(at).touched
     }
 
-    /// Puts a page at this place. Its mark stays.
+    /// Puts a page at this place, which is below `len`. The mark there stays.
     pub fn set(&mut self, at: u32, page: Page)
         requires { at < length self.old.pages }
         ensures { self.new ≡ record self.old { pages = slice_set self.old.pages at page } }
@@ -86,7 +88,7 @@ impl PageTable {
         self.rows.set(at, Entry::new(page, touched));
     }
 
-    /// Marks the page at this place as touched.
+    /// Marks the page at this place, which is below `len`, as touched.
     pub fn touch(&mut self, at: u32)
         requires { at < length self.old.pages }
         ensures { self.new ≡ record self.old { touched = slice_set self.old.touched at true } }
@@ -103,8 +105,8 @@ impl PageTable {
         }
     }
 
-    /// Adds so many untouched pages without marks, and says whether they fit. Where they do not, nothing changes.
-    /// It takes no memory.
+    /// Adds so many untouched pages without marks, and says whether they fit within `max`. Where they
+    /// don't, nothing changes. It takes no memory.
     pub fn grow(&mut self, count: u32) -> bool
         ensures fits { IsTrue result ↔ (length self.old.pages + count ≤ self.old.max) }
         ensures grown { IsTrue result → self.new ≡ record self.old {
