@@ -4,8 +4,8 @@ ghost use Rattle.wh_host_model.specs.Host.Laws.{MemoryIsSound, PlacesAreRight, I
 ghost use Rattle.wh_host_model.specs.Host.Apart.{NoBytesReachAnother};
 ghost use Rattle.wh_host_model.specs.Host.Progress.{SimpleEventsHappen, IdleTurnsHappen, FuelTurnsHappen};
 
-/// What holds of a host after every list of events from an empty one, and of what a turn answers. The function does nothing; what
-/// it ensures are the laws.
+/// What holds of a host after every list of events from an empty one, and of what a turn answers. The function does
+/// nothing; what it ensures are the laws.
 pub fn every_run()
     ensures memory_is_sound { MemoryIsSound }
     ensures places_are_right { PlacesAreRight }

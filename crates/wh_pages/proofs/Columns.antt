@@ -4,7 +4,7 @@ use Rattle.std.proofs.lemmas.List.{take-map, map-set}
 use Rattle.std.proofs.lemmas.Grind.{common_steps}
 use Rattle.std.proofs.lemmas.Option.{get_or_from_slice_get}
 use Rattle.wh_host_model.specs.declared.states.Page.{Page}
-use Rattle.wh_pages.specs.Table.{Table}
+use Rattle.wh_pages.specs.Table.{PageTableState}
 use Rattle.std.proofs.Math.Seq.{take-set-lt, map-set_same}
 
 -- a row is written
@@ -22,7 +22,7 @@ pub length-column : {X Y : Type 0} (f : X → Y) (rows : List X) (n : ℕ) → n
 length-column f rows n within = grind (arith, common_steps)
 
 -- the table with these columns
-abbrev pub table : List Page → List Bool → ℕ → Table
+abbrev pub table : List Page → List Bool → ℕ → PageTableState
 table p s m = record { pages = p; touched = s; max = m }
 
 pub same_table : (p q : List Page) (s t : List Bool) (m : ℕ) → p ≡ q → s ≡ t → table p s m ≡ table q t m

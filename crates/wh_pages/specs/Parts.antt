@@ -6,7 +6,7 @@ use Rattle.wh_pages.specs.declared.entry.Kind.{Kind}
 use Rattle.wh_pages.specs.declared.entry.Kind.TheVariants as kind
 use Rattle.wh_pages.specs.declared.entry.Entry.{Entry}
 use Rattle.wh_pages.specs.declared.table.PageTable.TheInside.{Inside}
-use Rattle.wh_pages.specs.Table.{Table}
+use Rattle.wh_pages.specs.Table.{PageTableState}
 
 -- the page of this kind, on this frame or in this slot
 abbrev pub page_in : Kind → ℕ → Page
@@ -23,8 +23,8 @@ abbrev pub page_of : Entry → Page
 page_of entry = page_in entry.kind entry.number
 
 -- the first entries are those of the pages
-abbrev pub table_of : Inside → Table
-table_of a = record {
+abbrev pub page_table_of : Inside → PageTableState
+page_table_of a = record {
   pages = map page_of (take a.len a.rows);
   touched = map (λ entry. entry.touched) (take a.len a.rows);
   max = a.max;

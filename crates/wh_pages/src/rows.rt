@@ -21,9 +21,9 @@ impl Model for Rows {
 
     ghost Value = { List Entry };
 
-    ghost use Rattle.wh_pages.specs.Leaves.{joined, HasWholeLeaves};
+    ghost use Rattle.wh_pages.specs.Leaves.{joined_leaves, HasWholeLeaves};
 
-    ghost view = { λ a. joined a.leaves.items };
+    ghost view = { λ a. joined_leaves a.leaves.items };
 
     ghost invariant = { λ a. HasWholeLeaves a.leaves.items };
 }

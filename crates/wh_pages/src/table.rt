@@ -22,13 +22,13 @@ pub struct PageTable {
 }
 
 impl Model for PageTable {
-    ghost use Rattle.wh_pages.specs.Table.{Table};
+    ghost use Rattle.wh_pages.specs.Table.{PageTableState};
 
-    ghost Value = { Table };
+    ghost Value = { PageTableState };
 
-    ghost use Rattle.wh_pages.specs.Parts.{table_of, HasRows};
+    ghost use Rattle.wh_pages.specs.Parts.{page_table_of, HasRows};
 
-    ghost view = { table_of };
+    ghost view = { page_table_of };
 
     ghost invariant = { HasRows };
 }

@@ -1,6 +1,6 @@
 use Rattle.std.proofs.Common.{◌≡◌, length, arith, rules}
 use Rattle.std.proofs.lemmas.List.Elements.{All-push}
-use Rattle.wh_pages.proofs.Leaves.{length-joined}
+use Rattle.wh_pages.proofs.Leaves.{length-joined_leaves}
 use Rattle.wh_pages.proofs.rows.Rows.new.Goals as goal
 
 pub loop-preserved : goal.loop-preserved
@@ -12,4 +12,4 @@ loop-preserved c =
     }
 
 pub returns : goal.returns
-returns c = omega (arith, length-joined c.loop.directory.items c.loop.invariant.whole, c.loop.invariant.count)
+returns c = omega (arith, length-joined_leaves c.loop.directory.items c.loop.invariant.whole, c.loop.invariant.count)
