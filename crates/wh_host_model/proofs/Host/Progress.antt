@@ -25,14 +25,15 @@ use Rattle.wh_host_model.specs.Host.Calls.{AreArguments, Cancels, IsArgument, Re
 use Rattle.wh_host_model.specs.Host.Calls as requests
 use Rattle.wh_host_model.specs.Host.Admission.{decoder_wants}
 use Rattle.wh_host_model.specs.Host.Events.{Event, turn, load, admit, invoke, refuel, cancel, retry, release, offer, evict_begin, evict_commit, fetch_begin, fetch_commit, provide, epoch}
-use Rattle.wh_host_model.specs.Host.Happens.{AwaitsFrame, AwaitsFrameFor, Happens, IsLive, IsTurn, MovesPages, NoInstance, OnlyMoves, call_no_call, call_no_instance, call_ok, has_failed, is_cancelled, is_refueled, is_retried, load_wants_memory, moved, no_call_to_cancel, no_call_to_refuel, no_fault_to_retry, no_memory_to_load, no_one_to_cancel, no_one_to_refuel, no_one_to_retry, of_none, of_one}
+use Rattle.wh_host_model.specs.Host.Happens.{AwaitsFrame, AwaitsFrameFor, Happens, IsLive, IsTurn, MovesPages, NoInstance, OnlyMoves, call_no_call, call_no_instance, call_ok, has_failed, is_cancelled, is_refueled, is_released, is_retried, load_wants_memory, moved, no_call_to_cancel, no_call_to_refuel, no_fault_to_retry, no_memory_to_load, no_one_to_cancel, no_one_to_refuel, no_one_to_release, no_one_to_retry, of_none, of_one}
 use Rattle.wh_host_model.specs.Host.Journals.{InOrder, IsAsked, IsOpenCall, is_starting, has_started}
 use Rattle.wh_host_model.specs.Host.Progress.{FuelTurnsHappen, IdleTurnsHappen, IsSimple, SimpleEventsHappen}
 use Rattle.wh_host_model.specs.Host.Standing.{FirstStandsDuly}
 use Rattle.wh_host_model.proofs.Host.Empty.{good_empty}
-use Rattle.wh_host_model.proofs.Host.Leaving.{alone_self, ended_alone}
+use Rattle.wh_host_model.proofs.Host.Leaving.{alone_self, ended_alone, exits_alone}
 use Rattle.wh_host_model.proofs.Host.Running.{IsGood, good_run}
 use Rattle.wh_host_model.proofs.Host.Stopping.{is_settled}
+use Rattle.wh_host_model.proofs.Space.Exiting.{some_exit}
 use Rattle.wh_host_model.proofs.Space.Putting.{here_or}
 
 -- ---- who lives
@@ -160,6 +161,28 @@ cancels w id good = elim (live_or_not w id) [
   ]
 ]
 
+-- ---- a release
+
+releases : (w : World) (id : InstId) → IsGood w → (w2 : World) × Happens w (release id) w2
+releases w id good = elim (live_or_not w id) [
+  | inr none ↦ (w, (None, no_one_to_release none))
+  | inl (t, live) ↦
+      (let fine = good.each id.number t live.0 in
+      let who = claimed_there w.space t.place _ fine.claimed in
+      let left = some_exit w.space t.place who.0 good.sound who.1 who.2 in (
+        with_tenant w id.number None left.0,
+        (
+          Some t.rest.output,
+          is_released live (record {
+            space = left.0;
+            departs = exits_alone w.space t.place left.0 good.sound left.1;
+            written = refl;
+            after = refl;
+          }),
+        ),
+      ))
+]
+
 -- ---- pages that may move
 
 only_moves_self : (w : World) → IsGood w → OnlyMoves w w
@@ -199,7 +222,7 @@ simple w (invoke id name given fuel) good none = absurd none
 simple w (refuel id n) good some = refuels w id n
 simple w (cancel id) good some = cancels w id good
 simple w (retry id) good some = retries w id
-simple w (release id) good none = absurd none
+simple w (release id) good some = releases w id good
 simple w (offer page hash) good some = (w, only_moves_self w good)
 simple w (evict_begin id) good some = (w, only_moves_self w good)
 simple w (evict_commit id call fault) good some = moves_happen w id (AwaitsFrameFor call) (awaits_for call) fault good

@@ -3,16 +3,15 @@ use Rattle.std.specs.Prelude.{◌≡◌, ℕ, [], Some}
 use Rattle.wh_host_model.specs.declared.plain.InstId.{InstId}
 use Rattle.wh_host_model.specs.declared.plain.TurnEnd.TheVariants.{Idle, Fuel}
 use Rattle.wh_host_model.specs.Host.Worlds.{Tenant, World, for_fuel}
-use Rattle.wh_host_model.specs.Host.Events.{Event, turn, admit, invoke, release}
+use Rattle.wh_host_model.specs.Host.Events.{Event, turn, admit, invoke}
 use Rattle.wh_host_model.specs.Host.Happens.{Happens, IsLive, IsTurn}
 use Rattle.wh_host_model.specs.Host.Laws.{AfterEvents}
 
--- a request that leaves the memory as it is, a cancelled call, or pages that may move
+-- a load, more fuel, an end, another try, a release, or pages that may move
 abbrev pub IsSimple : Event → Type 0
 IsSimple (turn id q) = ⊥
 IsSimple (admit k p) = ⊥
 IsSimple (invoke id name given fuel) = ⊥
-IsSimple (release id) = ⊥
 IsSimple other = Unit {0}
 
 -- it can happen, with some answer
