@@ -18,17 +18,18 @@ use Rattle.wh_host_model.specs.Space.Parts.{Claimed, Occupant, Space, claim, cla
 use Rattle.wh_host_model.specs.Space.Sound.{IsSound}
 use Rattle.wh_host_model.specs.Space.Stores.{ended}
 use Rattle.wh_host_model.specs.Host.Spaces.{StandsAlone}
-use Rattle.wh_host_model.specs.Host.Worlds.{Doing, Entry, Suspension, Tenant, World, computing, empty_world, for_device, for_frame, for_fuel, resting, store_in, store_with, tenant, with_tenant}
+use Rattle.wh_host_model.specs.Host.Worlds.{Doing, Entry, Params, Suspension, Tenant, World, computing, empty_world, for_device, for_frame, for_fuel, resting, store_in, store_with, tenant, with_tenant}
 use Rattle.wh_host_model.specs.Host.Turns.{as_it_was, uses_fuel}
 use Rattle.wh_host_model.specs.Host.Answers.{Closes, Faces, dies, ended_by, faces_next, has_no_fuel, is_dead, is_idle}
 use Rattle.wh_host_model.specs.Host.Calls.{AreArguments, Cancels, IsArgument, Retries, StandsAfter, has_more, may_try, more_fuel}
 use Rattle.wh_host_model.specs.Host.Calls as requests
 use Rattle.wh_host_model.specs.Host.Admission.{decoder_wants}
 use Rattle.wh_host_model.specs.Host.Events.{Event, turn, load, admit, invoke, refuel, cancel, retry, release, offer, evict_begin, evict_commit, fetch_begin, fetch_commit, provide, epoch}
-use Rattle.wh_host_model.specs.Host.Happens.{AwaitsFrame, AwaitsFrameFor, Happens, IsLive, IsTurn, MovesPages, NoInstance, OnlyMoves, call_no_call, call_no_instance, call_ok, has_failed, is_cancelled, is_refueled, is_released, is_retried, load_wants_memory, moved, no_call_to_cancel, no_call_to_refuel, no_fault_to_retry, no_memory_to_load, no_one_to_cancel, no_one_to_refuel, no_one_to_release, no_one_to_retry, of_none, of_one}
+use Rattle.wh_host_model.specs.Host.Happens.{AwaitsFrame, AwaitsFrameFor, Happens, IsLive, IsTurn, MovesPages, NoInstance, OnlyMoves, admit_refused, admit_wants_memory, has_no_instance, invoke_no_instance, invoke_refused, invoke_wants_memory, isnt_admitted, isnt_invoked, no_memory_to_admit, no_memory_to_invoke, call_no_call, call_no_instance, call_ok, has_failed, is_cancelled, is_refueled, is_released, is_retried, load_wants_memory, moved, no_call_to_cancel, no_call_to_refuel, no_fault_to_retry, no_memory_to_load, no_one_to_cancel, no_one_to_refuel, no_one_to_release, no_one_to_retry, of_none, of_one}
 use Rattle.wh_host_model.specs.Host.Journals.{InOrder, IsAsked, IsOpenCall, is_starting, has_started}
-use Rattle.wh_host_model.specs.Host.Progress.{FuelTurnsHappen, IdleTurnsHappen, IsSimple, SimpleEventsHappen}
+use Rattle.wh_host_model.specs.Host.Progress.{FuelTurnsHappen, IdleTurnsHappen, IsNoTurn, EventsHappen}
 use Rattle.wh_host_model.specs.Host.Standing.{FirstStandsDuly}
+use Rattle.wh_host_model.proofs.Host.Deciding.{first_to_admit, first_to_invoke}
 use Rattle.wh_host_model.proofs.Host.Empty.{good_empty}
 use Rattle.wh_host_model.proofs.Host.Leaving.{alone_self, ended_alone, exits_alone}
 use Rattle.wh_host_model.proofs.Host.Running.{IsGood, good_run}
@@ -161,6 +162,25 @@ cancels w id good = elim (live_or_not w id) [
   ]
 ]
 
+-- ---- an admission and a new call
+
+admits : (w : World) (k : ℕ) (p : Params) → IsGood w → (w2 : World) × Happens w (admit k p) w2
+admits w k p good = elim (first_to_admit w k p good.modules) [
+  | inl (fault, first) ↦ (w, (admit_refused fault, isnt_admitted first))
+  | inr none ↦ (w, (admit_wants_memory, no_memory_to_admit none))
+]
+
+invokes : (w : World) (id : InstId) (name : List ℕ) (given : List ℤ) (fuel : ℕ) → IsGood w → (w2 : World) × Happens w (invoke id name given fuel) w2
+invokes w id name given fuel good = elim (live_or_not w id) [
+  | inr none ↦ (w, (invoke_no_instance, has_no_instance none))
+  | inl (t, live) ↦
+      (let fine = good.each id.number t live.0 in
+      elim (first_to_invoke fine.loaded.m t name given) [
+        | inl (fault, first) ↦ (w, (invoke_refused fault, isnt_invoked live fine.is_loaded first))
+        | inr none ↦ (w, (invoke_wants_memory, no_memory_to_invoke live fine.is_loaded none))
+      ])
+]
+
 -- ---- a release
 
 releases : (w : World) (id : InstId) → IsGood w → (w2 : World) × Happens w (release id) w2
@@ -214,25 +234,25 @@ moves_happen w id awaits decide (Some x) good = elim (live_or_not w id) [
 
 -- ---- all of these
 
-simple : (w : World) (e : Event) → IsGood w → IsSimple e → (w2 : World) × Happens w e w2
-simple w (turn id q) good none = absurd none
-simple w (load bytes) good some = (w, (load_wants_memory decoder_wants, no_memory_to_load tt))
-simple w (admit k p) good none = absurd none
-simple w (invoke id name given fuel) good none = absurd none
-simple w (refuel id n) good some = refuels w id n
-simple w (cancel id) good some = cancels w id good
-simple w (retry id) good some = retries w id
-simple w (release id) good some = releases w id good
-simple w (offer page hash) good some = (w, only_moves_self w good)
-simple w (evict_begin id) good some = (w, only_moves_self w good)
-simple w (evict_commit id call fault) good some = moves_happen w id (AwaitsFrameFor call) (awaits_for call) fault good
-simple w (fetch_begin id) good some = (w, only_moves_self w good)
-simple w (fetch_commit id call fault) good some = moves_happen w id (AwaitsFrameFor call) (awaits_for call) fault good
-simple w (provide id fault) good some = moves_happen w id AwaitsFrame awaits_or_not fault good
-simple w epoch good some = (w, only_moves_self w good)
+happens : (w : World) (e : Event) → IsGood w → IsNoTurn e → (w2 : World) × Happens w e w2
+happens w (turn id q) good none = absurd none
+happens w (load bytes) good some = (w, (load_wants_memory decoder_wants, no_memory_to_load tt))
+happens w (admit k p) good some = admits w k p good
+happens w (invoke id name given fuel) good some = invokes w id name given fuel good
+happens w (refuel id n) good some = refuels w id n
+happens w (cancel id) good some = cancels w id good
+happens w (retry id) good some = retries w id
+happens w (release id) good some = releases w id good
+happens w (offer page hash) good some = (w, only_moves_self w good)
+happens w (evict_begin id) good some = (w, only_moves_self w good)
+happens w (evict_commit id call fault) good some = moves_happen w id (AwaitsFrameFor call) (awaits_for call) fault good
+happens w (fetch_begin id) good some = (w, only_moves_self w good)
+happens w (fetch_commit id call fault) good some = moves_happen w id (AwaitsFrameFor call) (awaits_for call) fault good
+happens w (provide id fault) good some = moves_happen w id AwaitsFrame awaits_or_not fault good
+happens w epoch good some = (w, only_moves_self w good)
 
-pub simple_events_happen : SimpleEventsHappen
-simple_events_happen frames slots tax events w r e some = simple w e (good_run events (empty_world frames slots tax) w (good_empty frames slots tax) r) some
+pub events_happen : EventsHappen
+events_happen frames slots tax events w r e some = happens w e (good_run events (empty_world frames slots tax) w (good_empty frames slots tax) r) some
 
 pub idle_turns_happen : IdleTurnsHappen
 idle_turns_happen frames slots tax events w r id q empty = elim (live_or_not w id) [

@@ -3,20 +3,18 @@ use Rattle.std.specs.Prelude.{◌≡◌, ℕ, [], Some}
 use Rattle.wh_host_model.specs.declared.plain.InstId.{InstId}
 use Rattle.wh_host_model.specs.declared.plain.TurnEnd.TheVariants.{Idle, Fuel}
 use Rattle.wh_host_model.specs.Host.Worlds.{Tenant, World, for_fuel}
-use Rattle.wh_host_model.specs.Host.Events.{Event, turn, admit, invoke}
+use Rattle.wh_host_model.specs.Host.Events.{Event, turn}
 use Rattle.wh_host_model.specs.Host.Happens.{Happens, IsLive, IsTurn}
 use Rattle.wh_host_model.specs.Host.Laws.{AfterEvents}
 
--- a load, more fuel, an end, another try, a release, or pages that may move
-abbrev pub IsSimple : Event → Type 0
-IsSimple (turn id q) = ⊥
-IsSimple (admit k p) = ⊥
-IsSimple (invoke id name given fuel) = ⊥
-IsSimple other = Unit {0}
+-- it is no turn
+abbrev pub IsNoTurn : Event → Type 0
+IsNoTurn (turn id q) = ⊥
+IsNoTurn other = Unit {0}
 
--- it can happen, with some answer
-abbrev pub SimpleEventsHappen : Type 0
-SimpleEventsHappen = AfterEvents (λ w. (e : Event) → IsSimple e → (w2 : World) × Happens w e w2)
+-- whatever is asked for but a turn can happen, with some answer
+abbrev pub EventsHappen : Type 0
+EventsHappen = AfterEvents (λ w. (e : Event) → IsNoTurn e → (w2 : World) × Happens w e w2)
 
 -- a turn of an instance that is gone or has no open call is answered Idle
 abbrev pub IdleTurnsHappen : Type 0
