@@ -165,7 +165,7 @@ argument_or_not I64 n = elim (at_most_z (negsuc 9223372036854775807) n) [
   | inl low ↦ elim (at_most_z n (pos 18446744073709551615)) [ inl high ↦ inl (value I64 (unsigned 64 n), (low, high, refl)) | inr lacks ↦ inr (λ a. lacks a.1.1) ]
 ]
 
-arguments_or_not : (ts : List ValType) (ns : List ℤ) → Decided ((vs : List Value) × AreArguments ts ns vs)
+pub arguments_or_not : (ts : List ValType) (ns : List ℤ) → Decided ((vs : List Value) × AreArguments ts ns vs)
 arguments_or_not [] [] = inl ([], refl)
 arguments_or_not [] (n ∷ ns) = inr (λ a. a.1)
 arguments_or_not (t ∷ ts) [] = inr (λ a. a.1)
@@ -211,7 +211,7 @@ named_or_not inst name R decide e = elim (same_words e.name name) [
 abbrev Exported : Module → Instance → List ℕ → (FuncType → Type 0) → Type 0
 Exported m inst name R = (x : ℕ) × (type : FuncType) × (body : Body) × ExportsOwn m inst name x type body × R type
 
-exported_or_not : (m : Module) (inst : Instance) (name : List ℕ) (R : FuncType → Type 0) → ((type : FuncType) → Decided (R type)) → Decided (Exported m inst name R)
+pub exported_or_not : (m : Module) (inst : Instance) (name : List ℕ) (R : FuncType → Type 0) → ((type : FuncType) → Decided (R type)) → Decided (Exported m inst name R)
 exported_or_not m inst name R decide = elim (found (Named inst name R) (named_or_not inst name R decide) m.exports) [
   | inl (k, e, is, (same, kind, (type, body, owned, so))) ↦
       inl (
