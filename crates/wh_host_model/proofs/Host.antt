@@ -11,4 +11,5 @@ pub mod Leaving
 pub mod Moving
 pub mod Apart
 pub mod Bridges
+pub mod Deciding
 pub mod Progress

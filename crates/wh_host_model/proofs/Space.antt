@@ -34,6 +34,7 @@ pub mod Settled
 pub mod Voided
 pub mod Entered
 pub mod Exited
+pub mod Exiting
 pub mod Chained
 pub mod Breaking
 pub mod Lending

@@ -2,7 +2,7 @@
 
 ghost use Rattle.wh_host_model.specs.Host.Laws.{MemoryIsSound, PlacesAreRight, InstancesReplay, ChargesAreWithin, JournalsAreInOrder, SuspensionsAreRight, FrameIsLacking, AgainIsReady, OneTurn};
 ghost use Rattle.wh_host_model.specs.Host.Apart.{NoBytesReachAnother};
-ghost use Rattle.wh_host_model.specs.Host.Progress.{SimpleEventsHappen, IdleTurnsHappen, FuelTurnsHappen};
+ghost use Rattle.wh_host_model.specs.Host.Progress.{EventsHappen, LoadsAreTaken, CallsAreTaken, IdleTurnsHappen, FuelTurnsHappen};
 
 /// What holds of a host after every list of events from an empty one, and of what a turn answers. The function does
 /// nothing; what it ensures are the laws.
@@ -17,7 +17,9 @@ pub fn every_run()
     ensures again_is_ready { AgainIsReady }
     ensures one_turn { OneTurn }
     ensures no_bytes_reach_another { NoBytesReachAnother }
-    ensures simple_events_happen { SimpleEventsHappen }
+    ensures events_happen { EventsHappen }
+    ensures loads_are_taken { LoadsAreTaken }
+    ensures calls_are_taken { CallsAreTaken }
     ensures idle_turns_happen { IdleTurnsHappen }
     ensures fuel_turns_happen { FuelTurnsHappen }
 {}

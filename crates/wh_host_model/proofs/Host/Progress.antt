@@ -1,10 +1,10 @@
 -- Which events can happen to any host that is reached.
-use Rattle.std.proofs.Common.{mod-lt, suc, zero, ◌≡◌, ◌≢◌, ℕ, ℤ, pos, negsuc, ◌^◌, ◌<◌, ◌≤◌, ◌⊎◌, inl, inr, Bool, true, false, Option, Some, None, List, [], ◌∷◌, length, map, reverse, slice_get, get_or, refl, sym, ap, subst, ◌∙◌, arith}
+use Rattle.std.proofs.Common.{mod-lt, suc, zero, ◌≡◌, ◌≢◌, ℕ, ℤ, pos, negsuc, ◌^◌, ◌<◌, ◌≤◌, ◌⊎◌, inl, inr, Bool, true, false, Option, Some, None, List, [], ◌∷◌, ◌++◌, length, map, reverse, slice_get, get_or, refl, sym, ap, subst, ◌∙◌, arith}
 use Rattle.std.proofs.lemmas.Bool.{cases_lt}
 use Rattle.std.specs.List.{AllByRecursion}
 use Rattle.wh_model.specs.declared.ValType.{ValType}
 use Rattle.wh_model.specs.declared.ValType.TheVariants.{I32, I64}
-use Rattle.wh_model.specs.Format.Syntax.{Module, nothing}
+use Rattle.wh_model.specs.Format.Syntax.{Body, FuncType, Module, nothing}
 use Rattle.wh_model.specs.Execution.Numbers.{unsigned}
 use Rattle.wh_model.specs.Execution.Store.{Instance, InRange, Store, Value, type_of}
 use Rattle.wh_model.specs.Execution.Configuration.{Term, called, config}
@@ -18,21 +18,23 @@ use Rattle.wh_host_model.specs.Space.Parts.{Claimed, Occupant, Space, claim, cla
 use Rattle.wh_host_model.specs.Space.Sound.{IsSound}
 use Rattle.wh_host_model.specs.Space.Stores.{ended}
 use Rattle.wh_host_model.specs.Host.Spaces.{StandsAlone}
-use Rattle.wh_host_model.specs.Host.Worlds.{Doing, Entry, Suspension, Tenant, World, computing, empty_world, for_device, for_frame, for_fuel, resting, store_in, store_with, tenant, with_tenant}
+use Rattle.wh_host_model.specs.Host.Worlds.{Doing, Entry, Params, Suspension, Tenant, World, computing, journal, empty_world, for_device, for_frame, for_fuel, resting, store_in, store_with, tenant, with_tenant}
 use Rattle.wh_host_model.specs.Host.Turns.{as_it_was, uses_fuel}
 use Rattle.wh_host_model.specs.Host.Answers.{Closes, Faces, dies, ended_by, faces_next, has_no_fuel, is_dead, is_idle}
-use Rattle.wh_host_model.specs.Host.Calls.{AreArguments, Cancels, IsArgument, Retries, StandsAfter, has_more, may_try, more_fuel}
+use Rattle.wh_host_model.specs.Host.Calls.{AreArguments, Cancels, ExportsOwn, IsArgument, Meets, Retries, StandsAfter, arguments, has_more, instance_dead, journal_full, may_try, more_fuel, most_calls, most_open, new_entry, open_count, queue_full}
 use Rattle.wh_host_model.specs.Host.Calls as requests
 use Rattle.wh_host_model.specs.Host.Admission.{decoder_wants}
 use Rattle.wh_host_model.specs.Host.Events.{Event, turn, load, admit, invoke, refuel, cancel, retry, release, offer, evict_begin, evict_commit, fetch_begin, fetch_commit, provide, epoch}
-use Rattle.wh_host_model.specs.Host.Happens.{AwaitsFrame, AwaitsFrameFor, Happens, IsLive, IsTurn, MovesPages, NoInstance, OnlyMoves, call_no_call, call_no_instance, call_ok, has_failed, is_cancelled, is_refueled, is_retried, load_wants_memory, moved, no_call_to_cancel, no_call_to_refuel, no_fault_to_retry, no_memory_to_load, no_one_to_cancel, no_one_to_refuel, no_one_to_retry, of_none, of_one}
+use Rattle.wh_host_model.specs.Host.Happens.{AwaitsFrame, AwaitsFrameFor, Happens, IsLive, IsTurn, MovesPages, NoInstance, OnlyMoves, admit_refused, admit_wants_memory, has_no_instance, invoke_no_instance, invoke_refused, invoke_wants_memory, isnt_admitted, isnt_invoked, no_memory_to_admit, no_memory_to_invoke, call_no_call, call_no_instance, call_ok, has_failed, is_cancelled, is_invoked, is_loaded, is_refueled, is_released, is_retried, load_wants_memory, moved, no_call_to_cancel, no_call_to_refuel, no_fault_to_retry, no_memory_to_load, no_one_to_cancel, no_one_to_refuel, no_one_to_release, no_one_to_retry, of_none, of_one}
 use Rattle.wh_host_model.specs.Host.Journals.{InOrder, IsAsked, IsOpenCall, is_starting, has_started}
-use Rattle.wh_host_model.specs.Host.Progress.{FuelTurnsHappen, IdleTurnsHappen, IsSimple, SimpleEventsHappen}
+use Rattle.wh_host_model.specs.Host.Progress.{CallsAreTaken, EventsHappen, FuelTurnsHappen, IdleTurnsHappen, IsNoTurn, LoadsAreTaken}
 use Rattle.wh_host_model.specs.Host.Standing.{FirstStandsDuly}
+use Rattle.wh_host_model.proofs.Host.Deciding.{arguments_or_not, exported_or_not, first_to_admit, first_to_invoke}
 use Rattle.wh_host_model.proofs.Host.Empty.{good_empty}
-use Rattle.wh_host_model.proofs.Host.Leaving.{alone_self, ended_alone}
+use Rattle.wh_host_model.proofs.Host.Leaving.{alone_self, ended_alone, exits_alone}
 use Rattle.wh_host_model.proofs.Host.Running.{IsGood, good_run}
 use Rattle.wh_host_model.proofs.Host.Stopping.{is_settled}
+use Rattle.wh_host_model.proofs.Space.Exiting.{some_exit}
 use Rattle.wh_host_model.proofs.Space.Putting.{here_or}
 
 -- ---- who lives
@@ -160,6 +162,104 @@ cancels w id good = elim (live_or_not w id) [
   ]
 ]
 
+-- ---- an admission and a new call
+
+admits : (w : World) (k : ℕ) (p : Params) → IsGood w → (w2 : World) × Happens w (admit k p) w2
+admits w k p good = elim (first_to_admit w k p good.modules) [
+  | inl (fault, first) ↦ (w, (admit_refused fault, isnt_admitted first))
+  | inr none ↦ (w, (admit_wants_memory, no_memory_to_admit none))
+]
+
+invokes : (w : World) (id : InstId) (name : List ℕ) (given : List ℤ) (fuel : ℕ) → IsGood w → (w2 : World) × Happens w (invoke id name given fuel) w2
+invokes w id name given fuel good = elim (live_or_not w id) [
+  | inr none ↦ (w, (invoke_no_instance, has_no_instance none))
+  | inl (t, live) ↦
+      (let fine = good.each id.number t live.0 in
+      elim (first_to_invoke fine.loaded.m t name given) [
+        | inl (fault, first) ↦ (w, (invoke_refused fault, isnt_invoked live fine.is_loaded first))
+        | inr none ↦ (w, (invoke_wants_memory, no_memory_to_invoke live fine.is_loaded none))
+      ])
+]
+
+-- ---- what is accepted
+
+pub loads_are_taken : LoadsAreTaken
+loads_are_taken frames slots tax events w r bytes m can few = (
+  length w.modules,
+  record w { modules = w.modules ++ record { bytes = bytes; m = m } ∷ [] },
+  is_loaded (record { m = m; accepted = can; few = few; next = refl; after = refl }),
+)
+
+lives : (b : Bool) → ¬ (b ≡ true) → b ≡ false
+lives true gone = absurd (gone refl)
+lives false gone = refl
+
+fits_export : (m : Module) (t : Tenant) (name : List ℕ) (given : List ℤ) → ¬ (Meets m t name given arguments)
+    → (x : ℕ) × (type : FuncType) × (body : Body) × (vs : List Value) × ExportsOwn m t.inst name x type body × AreArguments type.params given vs
+fits_export m t name given fits = elim (exported_or_not m t.inst name (λ type. (vs : List Value) × AreArguments type.params given vs) (λ type. arguments_or_not type.params given)) [
+  | inl (x, type, body, is, (vs, fit)) ↦ (x, type, body, vs, is, fit)
+  | inr lacks ↦ absurd (fits (λ x type body vs is fit. lacks (x, type, body, is, (vs, fit))))
+]
+
+-- what an instance does with a call behind its open ones
+faced_behind : (t : Tenant) (s : Store) (e : Entry) → IsAsked t.inst e → (d : Doing) × (t.open_calls ≡ [] → Faces t.inst s (e ∷ []) d) × (t.open_calls ≢ [] → d ≡ t.doing)
+faced_behind t s e asked = elim (calls_of t.open_calls) [
+  | inl empty ↦ (let f = asked_faces t.inst s e asked in (computing f.0, (λ none. (f.0, refl, f.1)), (λ some. absurd (some empty))))
+  | inr (first, es, there) ↦ (t.doing, (λ none. absurd (let bad : [] ≡ first ∷ es = sym none ∙ there in cc bad)), (λ some. refl))
+]
+
+below_most : (n most : ℕ) → ¬ (most ≤ n) → n < most
+below_most n most h = omega (arith, h)
+
+pub calls_are_taken : CallsAreTaken
+calls_are_taken frames slots tax events w r id name given fuel t l live is none count =
+    let found = fits_export l.m t name given (none arguments) in
+    let e = new_entry found.0 found.3 given fuel in
+    let asked : IsAsked t.inst e = record { index = found.0; type = found.1; body = found.2; func = refl; is_own = found.4.is_own; arguments = found.5; fuel = count } in
+    let d = faced_behind t (store_in w.space t) e asked in (
+      length (journal t),
+      with_tenant w id.number (Some (record t { doing = d.0; open_calls = t.open_calls ++ e ∷ [] })) w.space,
+      is_invoked live is (record {
+        func = found.0;
+        type = found.1;
+        body = found.2;
+        vs = found.3;
+        doing = d.0;
+        exports = found.4;
+        fits = found.5;
+        can_count = count;
+        few_open = below_most (open_count t) most_open (none queue_full);
+        alive = lives t.dead (none instance_dead);
+        few_calls = below_most (length (journal t)) most_calls (none journal_full);
+        place = refl;
+        first = d.1;
+        later = d.2;
+        after = refl;
+      }),
+    )
+
+-- ---- a release
+
+releases : (w : World) (id : InstId) → IsGood w → (w2 : World) × Happens w (release id) w2
+releases w id good = elim (live_or_not w id) [
+  | inr none ↦ (w, (None, no_one_to_release none))
+  | inl (t, live) ↦
+      (let fine = good.each id.number t live.0 in
+      let who = claimed_there w.space t.place _ fine.claimed in
+      let left = some_exit w.space t.place who.0 good.sound who.1 who.2 in (
+        with_tenant w id.number None left.0,
+        (
+          Some t.rest.output,
+          is_released live (record {
+            space = left.0;
+            departs = exits_alone w.space t.place left.0 good.sound left.1;
+            written = refl;
+            after = refl;
+          }),
+        ),
+      ))
+]
+
 -- ---- pages that may move
 
 only_moves_self : (w : World) → IsGood w → OnlyMoves w w
@@ -191,25 +291,25 @@ moves_happen w id awaits decide (Some x) good = elim (live_or_not w id) [
 
 -- ---- all of these
 
-simple : (w : World) (e : Event) → IsGood w → IsSimple e → (w2 : World) × Happens w e w2
-simple w (turn id q) good none = absurd none
-simple w (load bytes) good some = (w, (load_wants_memory decoder_wants, no_memory_to_load tt))
-simple w (admit k p) good none = absurd none
-simple w (invoke id name given fuel) good none = absurd none
-simple w (refuel id n) good some = refuels w id n
-simple w (cancel id) good some = cancels w id good
-simple w (retry id) good some = retries w id
-simple w (release id) good none = absurd none
-simple w (offer page hash) good some = (w, only_moves_self w good)
-simple w (evict_begin id) good some = (w, only_moves_self w good)
-simple w (evict_commit id call fault) good some = moves_happen w id (AwaitsFrameFor call) (awaits_for call) fault good
-simple w (fetch_begin id) good some = (w, only_moves_self w good)
-simple w (fetch_commit id call fault) good some = moves_happen w id (AwaitsFrameFor call) (awaits_for call) fault good
-simple w (provide id fault) good some = moves_happen w id AwaitsFrame awaits_or_not fault good
-simple w epoch good some = (w, only_moves_self w good)
+happens : (w : World) (e : Event) → IsGood w → IsNoTurn e → (w2 : World) × Happens w e w2
+happens w (turn id q) good none = absurd none
+happens w (load bytes) good some = (w, (load_wants_memory decoder_wants, no_memory_to_load tt))
+happens w (admit k p) good some = admits w k p good
+happens w (invoke id name given fuel) good some = invokes w id name given fuel good
+happens w (refuel id n) good some = refuels w id n
+happens w (cancel id) good some = cancels w id good
+happens w (retry id) good some = retries w id
+happens w (release id) good some = releases w id good
+happens w (offer page hash) good some = (w, only_moves_self w good)
+happens w (evict_begin id) good some = (w, only_moves_self w good)
+happens w (evict_commit id call fault) good some = moves_happen w id (AwaitsFrameFor call) (awaits_for call) fault good
+happens w (fetch_begin id) good some = (w, only_moves_self w good)
+happens w (fetch_commit id call fault) good some = moves_happen w id (AwaitsFrameFor call) (awaits_for call) fault good
+happens w (provide id fault) good some = moves_happen w id AwaitsFrame awaits_or_not fault good
+happens w epoch good some = (w, only_moves_self w good)
 
-pub simple_events_happen : SimpleEventsHappen
-simple_events_happen frames slots tax events w r e some = simple w e (good_run events (empty_world frames slots tax) w (good_empty frames slots tax) r) some
+pub events_happen : EventsHappen
+events_happen frames slots tax events w r e some = happens w e (good_run events (empty_world frames slots tax) w (good_empty frames slots tax) r) some
 
 pub idle_turns_happen : IdleTurnsHappen
 idle_turns_happen frames slots tax events w r id q empty = elim (live_or_not w id) [

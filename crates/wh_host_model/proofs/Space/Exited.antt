@@ -162,7 +162,7 @@ freed_sum n t m sum = go (nat_lt t n) refl where
   go true e = let l = less e in omega arith
   go false e = let l = most e in omega arith
 
-freed_less : (n t : ℕ) → freed_by t n ≤ t
+pub freed_less : (n t : ℕ) → freed_by t n ≤ t
 freed_less n t = go (nat_lt t n) where
   go : (b : Bool) → cond b 0 (min 1 t) ≤ t
   go true = omega arith

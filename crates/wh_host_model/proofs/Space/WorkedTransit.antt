@@ -1,5 +1,5 @@
 -- Provision, tickets and claims on small spaces, by hand.
-use Rattle.std.proofs.Common.{◌≡◌, ℕ, ◌+◌, ◌<◌, ◌≤◌, ◌++◌, inl, inr, List, Option, [], ◌∷◌, Some, None, true, false, Bool, length, slice_get, zero, suc, refl, sym, ap, ◌∙◌, subst, arith}
+use Rattle.std.proofs.Common.{◌≡◌, ℕ, ◌+◌, ◌<◌, ◌≤◌, ◌++◌, inl, inr, List, Option, [], ◌∷◌, Some, None, true, false, Bool, length, get_or, slice_get, zero, suc, refl, sym, ap, ◌∙◌, subst, arith}
 use Rattle.wh_model.specs.declared.memory.Need.{Need}
 use Rattle.wh_host_model.specs.Frames.{tally, one_if}
 use Rattle.wh_host_model.specs.declared.Tax.{Tax}
@@ -11,15 +11,15 @@ use Rattle.wh_host_model.specs.declared.states.Slot.{Slot}
 use Rattle.wh_host_model.specs.declared.states.Slot.TheVariants.{Vacant, Evicting, EvictVoid, FetchVoid}
 use Rattle.wh_host_model.specs.declared.states.EvictEnd.TheVariants.{Evicted, Void, Failed}
 use Rattle.wh_host_model.specs.declared.states.FetchEnd.TheVariants.{Void as FetchIsVoid}
-use Rattle.wh_host_model.specs.Space.Tickets.{BeginsEvict, CommitsEvict, CommitsFetch, Reserves, departing, not_sent, sent_off, settled, with_free, without_slot}
+use Rattle.wh_host_model.specs.Space.Tickets.{BeginsEvict, CommitsEvict, CommitsFetch, Reserves, departing, not_sent, sent_off, settled, with_free, with_leaving, without_slot}
 use Rattle.wh_host_model.specs.Space.Claims.{CanLeave, HasLess, IsEarlier, IsGiven, IsPayer, IsTouched, MayPay}
 use Rattle.wh_host_model.specs.Space.Moves.{Earmarks, Evicts, evicted, pinned, unpinned_of}
 use Rattle.wh_host_model.specs.Space.Places.{Exits, freed_by, released_mark, released_use}
 use Rattle.wh_host_model.specs.Space.Provide.{LacksFree, Provides, goes}
-use Rattle.wh_host_model.specs.Space.Parts.{Occupant, Space, kept_by, pages_of, sharers}
+use Rattle.wh_host_model.specs.Space.Parts.{Occupant, Space, frame_bytes, kept_by, pages_of, sharers}
 use Rattle.wh_host_model.specs.Space.Stores.{Overwrites}
 use Rattle.wh_host_model.specs.Space.Breaks.{GetsFrame, standing_alone}
-use Rattle.wh_host_model.specs.Space.Ready.{Ready}
+use Rattle.wh_host_model.specs.Space.Ready.{Ready, below}
 use Rattle.wh_host_model.specs.Space.States.{count_of, lies_in, owns, page_at, shares}
 
 -- where one alone may have to pay, it does
@@ -165,6 +165,55 @@ written_meanwhile tax s2 wrote bytes end s3 writes commits =
     let void : slice_get s2.slots.uses 1 ≡ Some (EvictVoid 1) = ap (λ a. slice_get a.uses 1) slots in
     let ends = void_uses s2 1 wrote bytes end s3 void commits in
     (ends.0, ap (λ a. a.free) ends.1 ∙ free, ap length (ends.2 ∙ ap (λ a. a.vacant ++ 1 ∷ []) slots))
+
+-- An eviction that begins again then takes the same page again, with the bytes that stand in its frame now.
+abbrev full_written : Tax → List (List ℕ) → Space
+full_written tax frames = record (full_pinned tax) { pool = record { frames = frames; free = [] } }
+
+still_touched : (tax : Tax) (frames : List (List ℕ)) (q : ℕ) → CanLeave (full_written tax frames) 1 q → IsTouched (full_written tax frames) 1 q × (0 ≤ q)
+still_touched tax frames zero can = (refl, omega arith)
+still_touched tax frames (suc zero) can = (refl, omega arith)
+still_touched tax frames (suc (suc zero)) can = (refl, omega arith)
+still_touched tax frames (suc (suc (suc q))) can = absurd (let z : 0 ≡ 1 = can.0 in omega arith)
+
+begins_again : (tax : Tax) (frames : List (List ℕ)) → BeginsEvict (full_written tax frames) 0 (Some 1) (get_or frames 2 []) (departing (full_written tax frames) 1 0 1 (0 ∷ []) (Leaving 2))
+begins_again tax frames =
+    let s1 : Space = full_written tax frames in
+    let can : CanLeave s1 1 0 = (refl, refl, (tenant 1 None, refl, refl)) in
+    let more : 2 < 3 = omega arith in
+    let few : 0 < 0 + (1 + below (length frames) (λ f. 0)) = omega arith in
+    let payer : IsPayer s1 1 = only_payer s1 1 ((tenant 1 None, refl, more), (0, can)) (second_pays s1 (Some third) None refl refl) in
+    let reserves : Reserves s1 0 third s1 = record { frames = []; others = []; many = omega arith; free = refl; leaves = refl } in
+    (third, (tenant 0 (Some third), refl, refl, refl), s1, reserves, few, 1, 0, 2, ((can, inr (still_touched tax frames)), inl payer), Private 2, Leaving 2, refl, refl, refl, refl, 0 ∷ [], refl, refl)
+
+-- what a store and the void ticket leave
+void_leaves : (s2 s3 : Space) (wrote : Bool) (bytes : List ℕ) (end : _) → slice_get s2.slots.uses 1 ≡ Some (EvictVoid 1) → CommitsEvict s2 1 wrote bytes end s3
+    → s3 ≡ settled (with_leaving (without_slot s2 1) 1 None) 1
+void_leaves s2 s3 wrote bytes end void (inl (j, at_it, ends, is)) =
+    let both : Some (EvictVoid j) ≡ Some (EvictVoid 1) = sym at_it ∙ void in
+    let same : j ≡ 1 = cc both in
+    is ∙ ap (λ z. settled (with_leaving (without_slot s2 1) z None) z) same
+void_leaves s2 s3 wrote bytes end void (inr (i, p, f, at_it, page, there, on, rest)) = absurd (let bad : Some (EvictVoid 1) ≡ Some (Evicting i p) = sym void ∙ at_it in cc)
+
+taken_again : (tax : Tax) (s2 : Space) (wrote : Bool) (bytes : List ℕ) (end : _) (s3 : Space) → Overwrites (full_begun tax) 1 0 (9 ∷ []) s2 → CommitsEvict s2 1 wrote bytes end s3
+    → (s4 : Space) × BeginsEvict s3 0 (Some 1) (frame_bytes s3 2) s4 × (page_at s3.tables 1 0 ≡ Some (Private 2)) × (page_at s4.tables 1 0 ≡ Some (Leaving 2))
+taken_again tax s2 wrote bytes end s3 writes commits =
+    let s : Space = full_begun tax in
+    let frames = writes.fills.frames in
+    let each = writes.breaks in
+    let b = each.1 in
+    let page : Leaving 2 ≡ b.page = (let both : Some (Leaving 2) ≡ Some b.page = b.was in cc) in
+    let gets : (b.frame ≡ 2) × (b.mid ≡ s) = subst (λ x. GetsFrame s 1 x b.frame b.mid) (sym page) b.gets in
+    let broken : writes.mid ≡ standing_alone s 1 0 2 = each.2 ∙ (b.after ∙ (ap (λ m. standing_alone m 1 0 b.frame) gets.1 ∙ ap (standing_alone s 1 0) gets.0)) in
+    let stored : s2 ≡ record (standing_alone s 1 0 2) { pool = record { frames = frames; free = [] } } =
+    writes.fills.after ∙ ap (λ (m : Space). record m { pool = record m.pool { frames = frames } }) broken in
+    let void : slice_get s2.slots.uses 1 ≡ Some (EvictVoid 1) = ap (λ (a : Space). slice_get a.slots.uses 1) stored in
+    let left : s3 ≡ full_written tax frames = void_leaves s2 s3 wrote bytes end void commits ∙ ap (λ a. settled (with_leaving (without_slot a 1) 1 None) 1) stored in (
+      departing (full_written tax frames) 1 0 1 (0 ∷ []) (Leaving 2),
+      subst (λ a. BeginsEvict a 0 (Some 1) (frame_bytes a 2) (departing (full_written tax frames) 1 0 1 (0 ∷ []) (Leaving 2))) (sym left) (begins_again tax frames),
+      ap (λ (a : Space). page_at a.tables 1 0) left,
+      refl,
+    )
 
 -- The device fails: the page is as before, and no slot in use.
 device_fails : (tax : Tax) → (s2 : Space) × CommitsEvict (full_begun tax) 1 false [] Failed s2 × (page_at s2.tables 1 0 ≡ Some (Private 2)) × (length s2.slots.vacant ≡ 2)

@@ -1,23 +1,38 @@
 -- Which events can happen to any host that is reached.
-use Rattle.std.specs.Prelude.{◌≡◌, ℕ, [], Some}
+use Rattle.std.specs.Prelude.{◌≡◌, ℕ, ◌<◌, ◌≤◌, List, [], length, slice_get, Some, ℤ}
+use Rattle.wh_model.specs.Format.Syntax.{Module}
 use Rattle.wh_host_model.specs.declared.plain.InstId.{InstId}
 use Rattle.wh_host_model.specs.declared.plain.TurnEnd.TheVariants.{Idle, Fuel}
-use Rattle.wh_host_model.specs.Host.Worlds.{Tenant, World, for_fuel}
-use Rattle.wh_host_model.specs.Host.Events.{Event, turn, admit, invoke, release}
-use Rattle.wh_host_model.specs.Host.Happens.{Happens, IsLive, IsTurn}
+use Rattle.wh_host_model.specs.Host.Worlds.{Tenant, Loaded, World, for_fuel}
+use Rattle.wh_host_model.specs.Host.Calls.{InvokeFault, Meets, most_fuel}
+use Rattle.wh_model.specs.Linking.Accepting.{IsAccepted}
+use Rattle.wh_host_model.specs.Host.Admission.{most_modules}
+use Rattle.wh_host_model.specs.Host.Events.{Event, turn}
+use Rattle.wh_host_model.specs.Host.Happens.{Happens, IsLive, IsTurn, IsLoad, load_ok, IsInvoke, invoke_ok}
 use Rattle.wh_host_model.specs.Host.Laws.{AfterEvents}
 
--- a request that leaves the memory as it is, a cancelled call, or pages that may move
-abbrev pub IsSimple : Event → Type 0
-IsSimple (turn id q) = ⊥
-IsSimple (admit k p) = ⊥
-IsSimple (invoke id name given fuel) = ⊥
-IsSimple (release id) = ⊥
-IsSimple other = Unit {0}
+-- it is no turn
+abbrev pub IsNoTurn : Event → Type 0
+IsNoTurn (turn id q) = ⊥
+IsNoTurn other = Unit {0}
 
--- it can happen, with some answer
-abbrev pub SimpleEventsHappen : Type 0
-SimpleEventsHappen = AfterEvents (λ w. (e : Event) → IsSimple e → (w2 : World) × Happens w e w2)
+-- whatever is asked for but a turn can happen, with some answer
+abbrev pub EventsHappen : Type 0
+EventsHappen = AfterEvents (λ w. (e : Event) → IsNoTurn e → (w2 : World) × Happens w e w2)
+
+-- a module that is right can be loaded, while there is room for one more
+abbrev pub LoadsAreTaken : Type 0
+LoadsAreTaken =
+    AfterEvents (λ w. (bytes : List ℕ) (m : Module) → IsAccepted bytes m → length w.modules < most_modules
+    → (number : ℕ) × (w2 : World) × IsLoad w bytes (load_ok number) w2)
+
+-- and a new call that meets no fault can be accepted
+abbrev pub CallsAreTaken : Type 0
+CallsAreTaken =
+    AfterEvents (λ w. (id : InstId) (name : List ℕ) (given : List ℤ) (fuel : ℕ) (t : Tenant) (l : Loaded)
+    → IsLive w id t → slice_get w.modules t.of ≡ Some l
+    → ((fault : InvokeFault) → ¬ (Meets l.m t name given fault)) → fuel ≤ most_fuel
+    → (at : ℕ) × (w2 : World) × IsInvoke w id name given fuel (invoke_ok at) w2)
 
 -- a turn of an instance that is gone or has no open call is answered Idle
 abbrev pub IdleTurnsHappen : Type 0

@@ -1,7 +1,7 @@
 use Rattle.wh_host_model.proofs.Host.Holding.{memory_is_sound, places_are_right, instances_replay, charges_are_within, journals_are_in_order, suspensions_are_right, frame_is_lacking, again_is_ready}
 use Rattle.wh_host_model.proofs.Host.Agreeing.{one_turn}
 use Rattle.wh_host_model.proofs.Host.Apart.{no_bytes_reach_another}
-use Rattle.wh_host_model.proofs.Host.Progress.{simple_events_happen, idle_turns_happen, fuel_turns_happen}
+use Rattle.wh_host_model.proofs.Host.Progress.{events_happen, loads_are_taken, calls_are_taken, idle_turns_happen, fuel_turns_happen}
 use Rattle.wh_host_model.proofs.runs.every_run.Goals as goal
 
 pub returns-clause-memory_is_sound : goal.returns-clause-memory_is_sound
@@ -34,8 +34,14 @@ returns-clause-one_turn c = one_turn
 pub returns-clause-no_bytes_reach_another : goal.returns-clause-no_bytes_reach_another
 returns-clause-no_bytes_reach_another c = no_bytes_reach_another
 
-pub returns-clause-simple_events_happen : goal.returns-clause-simple_events_happen
-returns-clause-simple_events_happen c = simple_events_happen
+pub returns-clause-events_happen : goal.returns-clause-events_happen
+returns-clause-events_happen c = events_happen
+
+pub returns-clause-loads_are_taken : goal.returns-clause-loads_are_taken
+returns-clause-loads_are_taken c = loads_are_taken
+
+pub returns-clause-calls_are_taken : goal.returns-clause-calls_are_taken
+returns-clause-calls_are_taken c = calls_are_taken
 
 pub returns-clause-idle_turns_happen : goal.returns-clause-idle_turns_happen
 returns-clause-idle_turns_happen c = idle_turns_happen
