@@ -2,7 +2,6 @@
 //! prints never depends on the time.
 #![tactic(auto)]
 
-
 use std::rt::Clock;
 use std::time::Instant;
 use std::{env, io};

@@ -14,8 +14,10 @@ falling first (suc count) = (first + count) ∷ falling first count
 abbrev pub pool_of : Inside → Pool
 pool_of a =
     let unused = a.limit - length a.frames.items in
-    record { frames = a.frames.items ++ replicate unused zero_page;
-        free = falling (length a.frames.items) unused ++ a.free.items }
+    record {
+      frames = a.frames.items ++ replicate unused zero_page;
+      free = falling (length a.frames.items) unused ++ a.free.items;
+    }
 
 -- of the frames that were taken, which are the first k, these were given back: none of them twice
 pub record GivenBack (k : ℕ) (back : List ℕ) : Type 0 where
