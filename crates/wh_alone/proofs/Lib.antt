@@ -1,6 +1,5 @@
 mod Replaying
 mod Beginning
-mod Callable
 mod Ending
 mod Fresh
 mod Journals

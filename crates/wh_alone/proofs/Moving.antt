@@ -1,5 +1,5 @@
 -- Where an instance is once its open call, or its next one, has come further.
-use Rattle.std.proofs.Common.{◌≡◌, ◌⊎◌, inl, inr, Bool, true, false, if◌then◌else◌, ℕ, ◌+◌, ◌≤◌, List, [], ◌∷◌, ◌++◌, length, append-nil, append_assoc, Option, Some, None, slice_get, map, reverse, refl, sym, ap, subst, ◌∙◌, arith}
+use Rattle.std.proofs.Common.{◌≡◌, ◌⊎◌, inl, inr, Bool, true, false, ℕ, ◌+◌, List, [], ◌∷◌, ◌++◌, length, append-nil, Option, Some, None, slice_get, map, reverse, refl, sym, ap, subst, ◌∙◌, arith}
 use Rattle.std.specs.List.{AllByRecursion}
 use Rattle.wh_model.specs.declared.ValType.{ValType}
 use Rattle.wh_model.specs.Format.Syntax.{nothing, FuncType, Module}
@@ -11,23 +11,23 @@ use Rattle.wh_model.specs.Execution.Instance.{Parameters, AreGiven, Piece, IsIni
 use Rattle.wh_model.specs.Execution.Histories.{Past, none_yet, one_more}
 use Rattle.wh_model.specs.Execution.Replay as model
 use Rattle.wh_model.specs.Execution.Replay.{Call, returned, stopped, cancelled, pending, dead, with_pieces, Invocation, Stands, is_invoked, is_under_way, Ends, has_returned, has_trapped, was_cancelled, Standing, idle, running, store_at, Replays, at_rest, at_work, Replay}
-use Rattle.wh_model.proofs.Histories.{past_then, replays_then}
+use Rattle.wh_model.proofs.Histories.{past_then}
 use Rattle.wh_model.proofs.Journals.{functions_same, cancelled_stays}
 use Rattle.wh_syntax.specs.View.{view_module}
 use Rattle.wh_control.specs.Represents.{bits_of, result_of, IsFunc}
 use Rattle.wh_control.proofs.Jumps.{all_at}
 use Rattle.wh_control.specs.Parts.{funcs_in, IsInstance}
 use Rattle.wh_machine.specs.Opening.{IsOwnCall}
-use Rattle.wh_machine.specs.Runs.{linked_parts, RepresentsInstance}
+use Rattle.wh_machine.specs.Runs.{linked_parts}
 use Rattle.wh_machine.proofs.Opened.{own_of}
 use Rattle.wh_imports.specs.Joined.{LinkedState}
 use Rattle.wh_alone.specs.declared.outcome.Outcome.{Outcome}
 use Rattle.wh_alone.specs.declared.outcome.Outcome.TheVariants.{Returned, Trapped, OutOfFuel}
 use Rattle.wh_alone.specs.declared.outcome.Stage.{Stage}
 use Rattle.wh_alone.specs.declared.outcome.Stage.TheVariants as stages
-use Rattle.wh_alone.specs.Alone.{HasCall}
+use Rattle.wh_call.specs.Arguments.{HasCall}
 use Rattle.wh_alone.specs.Kept.{Kept, HasStore, EndsBy, ContinuesTo, InvocationEnds}
-use Rattle.wh_alone.specs.Journal.{IsOutcome, HasResults, ended_as, open_as, listed, HasStarted, HasFailed, IsInvoked, IsUnderWay, IsStage, IsJournalOf, IsAtStanding, IsSomewhere, InstanceState, further, called_so, GoesOnWith, CallEnds, GivenUp}
+use Rattle.wh_alone.specs.Journal.{IsOutcome, HasResults, ended_as, open_as, HasStarted, HasFailed, IsInvoked, IsUnderWay, IsStage, IsJournalOf, IsAtStanding, IsSomewhere, InstanceState, further, called_so, GoesOnWith, CallEnds, GivenUp}
 use Rattle.wh_alone.specs.Stages.{after_start, after_call, IsOpen}
 use Rattle.wh_alone.proofs.Journals.{all_join, change_last, add_last, started_then}
 use Rattle.wh_alone.proofs.Ending.{ends_from}
@@ -174,7 +174,7 @@ comes_further {k2} {m} {p} {ended} {call} b starting fuel n (Trapped x) s2 invok
           (has_trapped refl b.written low (again fuel n (stopped x) i) after)
           (no_results b.inst call2 (λ vs e. cc)) store (failed_then k2 b.inst s2 starting ended call2 b.ps x refl begun),
     )
-comes_further {k2} {m} {p} {ended} {call} b starting fuel n OutOfFuel s2 invoked begun i (all, c2, after, next, is, machine, runs, settled) store =
+comes_further {k2} {m} {p} {ended} {call} b starting fuel n OutOfFuel s2 invoked begun i (all, (c2, after, next, is, machine, runs, settled)) store =
     let way : IsUnderWay k2 b.inst b.s b.ps (come_to call fuel n pending) (running c2) = record {
       first = invoked;
       at = c2;

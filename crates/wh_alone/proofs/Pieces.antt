@@ -4,7 +4,8 @@ use Rattle.wh_model.specs.Execution.Store.{written}
 use Rattle.wh_model.specs.Execution.Instance.{Piece, Within}
 use Rattle.wh_syntax.specs.declared.module.Data.{Data}
 use Rattle.wh_alone.specs.Alone.{ArePieces, written_over}
-use Rattle.wh_alone.proofs.Lists.{mapped_from, mapped_to, within_at, written_step, length_kept}
+use Rattle.wh_call.proofs.Lists.{mapped_from, mapped_to}
+use Rattle.wh_alone.proofs.Lists.{within_at, written_step, length_kept}
 
 -- the piece of this place
 pub piece_at : (ps : List Piece) (places : List ℕ) (segments : List Data) (i place : ℕ) (d : Data) → ArePieces ps places segments → slice_get places i ≡ Some place → slice_get segments i ≡ Some d

@@ -1,15 +1,15 @@
 -- What is known of an instance by its stage.
-use Rattle.std.proofs.Common.{◌≡◌, ℕ, List, [], ◌∷◌, ◌++◌, Option, Some, None, slice_get, map, sym, ap, subst, ◌∙◌}
+use Rattle.std.proofs.Common.{◌≡◌, ℕ, List, [], ◌∷◌, ◌++◌, Some, None, slice_get, map, sym, ap, subst, ◌∙◌}
 use Rattle.wh_model.specs.Format.Syntax.{Module}
 use Rattle.wh_model.specs.Execution.Store.{own, Instance, Store}
 use Rattle.wh_model.specs.Execution.Instance.{Piece}
 use Rattle.wh_model.specs.Execution.Replay.{Call, Standing, store_at}
 use Rattle.wh_syntax.specs.View.{view_module}
 use Rattle.wh_control.specs.Represents.{bits_of, result_of}
-use Rattle.wh_machine.specs.Opening.{IsOwnCall}
 use Rattle.wh_alone.specs.declared.outcome.Stage.{Stage}
 use Rattle.wh_alone.specs.declared.outcome.Stage.TheVariants as stages
-use Rattle.wh_alone.specs.Kept.{Kept, HasStore, StandsSomewhere, CanCall}
+use Rattle.wh_call.specs.Ends.{CanCall}
+use Rattle.wh_alone.specs.Kept.{Kept, HasStore, StandsSomewhere, setting_in, state_in}
 use Rattle.wh_alone.specs.Journal.{InstanceState, IsInvoked, IsUnderWay, IsJournalOf, IsSomewhere, listed}
 
 same_call : {call call2 : Call} → Some call ≡ Some call2 → call ≡ call2
@@ -37,7 +37,7 @@ face_of k w =
     let journal = subst (λ es. IsJournalOf w.m (es ++ st.1 ∷ [])) st.0 (subst (λ current. IsJournalOf w.m (w.ended ++ listed current)) st.2 at.journal) in
     record { call = st.1; inst = at.inst; s = at.s; ps = at.ps; z = w.z; invoked = st.3; store = at.store; start = journal.func ∙ ap (λ (m : Module). m.start) at.module_is }
 
-pub can_start : (k : Kept) (func : ℕ) → IsSomewhere (record { kept = k; stage = stages.Fresh }) → (view_module k.linked.valid.decoded).start ≡ Some func → CanCall k func []
+pub can_start : (k : Kept) (func : ℕ) → IsSomewhere (record { kept = k; stage = stages.Fresh }) → (view_module k.linked.valid.decoded).start ≡ Some func → CanCall (setting_in k) (state_in k) func []
 can_start k func w start =
     let f = face_of k w in
     let i = f.invoked.invocation in

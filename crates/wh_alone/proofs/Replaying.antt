@@ -1,15 +1,14 @@
 -- One call of a module, as a journal.
-use Rattle.std.proofs.Common.{◌≡◌, ◌≤◌, ◌+◌, true, false, ℕ, List, [], ◌∷◌, ◌++◌, Option, Some, None, map, refl, sym, ap, subst, ◌∙◌, arith}
+use Rattle.std.proofs.Common.{◌≡◌, ◌≤◌, false, ℕ, List, [], ◌∷◌, ◌++◌, Option, Some, None, refl, sym, ap, subst, arith}
 use Rattle.std.specs.List.{AllByRecursion}
 use Rattle.wh_model.specs.Format.Syntax.{Module}
-use Rattle.wh_model.specs.Execution.Store.{Value, Instance, Store}
+use Rattle.wh_model.specs.Execution.Store.{Instance, Store}
 use Rattle.wh_model.specs.Execution.Instance.{Parameters, AreGiven, Piece, IsInitial, begins}
 use Rattle.wh_model.specs.Execution.Replay as model
 use Rattle.wh_model.specs.Execution.Replay.{Call, returned, stopped, cancelled, dead, pending, with_pieces, is_invoked, is_under_way, Standing, store_at, Stands, Replays, at_rest, at_work, Replay}
 use Rattle.wh_model.specs.Laws.ReplayLaws.{WithinFuel}
 use Rattle.wh_model.proofs.Histories.{replays_then}
 use Rattle.wh_model.proofs.Journals.{fuel_suffices}
-use Rattle.wh_control.specs.Represents.{bits_of}
 use Rattle.wh_control.specs.Parts.{IsInstance}
 use Rattle.wh_machine.specs.Runs.{linked_parts}
 use Rattle.wh_alone.specs.declared.outcome.Outcome.{Outcome}
@@ -20,12 +19,12 @@ use Rattle.wh_alone.specs.declared.outcome.Stage.TheVariants as stages
 use Rattle.wh_alone.specs.declared.outcome.Refused.{Refused}
 use Rattle.wh_alone.specs.declared.outcome.Refused.TheVariants as refusals
 use Rattle.wh_model.specs.Linking.Accepting.{IsAccepted}
-use Rattle.wh_alone.specs.Alone.{HasCall}
+use Rattle.wh_call.specs.Arguments.{HasCall}
 use Rattle.wh_alone.specs.Kept.{Kept, HasStore}
-use Rattle.wh_alone.specs.Journal.{InstanceState, IsOutcome, HasResults, ended_as, open_as, listed, IsInvoked, IsUnderWay, IsStage, IsJournalOf, IsAtStanding, further, called_so, GoesOnWith, CallEnds}
+use Rattle.wh_alone.specs.Journal.{InstanceState, IsOutcome, HasResults, ended_as, open_as, listed, IsStage, IsJournalOf, IsAtStanding, further, called_so, GoesOnWith, CallEnds}
 use Rattle.wh_alone.specs.Stages.{IsOpen, RefusesCall}
 use Rattle.wh_alone.specs.Beginnings.{written_start, open_start, IsFresh, BeginsInstance}
-use Rattle.wh_alone.specs.Runs.{CameTo, IsCallOf, IsStopped, AloneFrom, RunsModule}
+use Rattle.wh_alone.specs.Runs.{CameTo, IsStopped, ShowsStore, RunsModule}
 
 -- ---- a journal replays
 
@@ -125,17 +124,21 @@ began_none bytes p i fuel b never = none_by b.m p i fuel b.m.start b.ended b.cur
 
 -- ---- what comes of it
 
+shows : {i : InstanceState} {inst : Instance} {s : Store} → HasStore i.kept inst s → ShowsStore i s
+shows (c, is) = record { bytes = sym is.store.bytes; globals = sym is.store.globals; table = sym is.store.table; inputs = sym is.store.inputs; output = sym is.store.output }
+
 pub stopped_start : (bytes : List ℕ) (p : Parameters) (i : InstanceState) (func : ℕ) (args : List ℕ) (fuel n : ℕ) (outcome : Outcome) (m : Module) → IsAccepted bytes m → Began m p i fuel outcome n → ((result : Option ℕ) → outcome ≡ Returned result → ⊥) → RunsModule bytes p func args fuel (alone.Start outcome n) i
 stopped_start bytes p i func args fuel n outcome m accepted b never =
     let at = b.is_at in
     record {
       m = m;
       accepted = accepted;
+      module_is = at.module_is;
       inst = at.inst;
       s = at.first;
       ps = at.pieces;
       initial = at.initial;
-      comes = (b.start, b.z, start_replays b.start b.start.outcome b.z at, at.store, b.came, stopped_by outcome never);
+      comes = (b.start, b.z, start_replays b.start b.start.outcome b.z at, shows at.store, b.came, stopped_by outcome never);
     }
   where
     stopped_by : (o : Outcome) → ((result : Option ℕ) → o ≡ Returned result → ⊥) → IsStopped o
@@ -166,11 +169,12 @@ no_call bytes p i func args fuel n result m e accepted b refuses =
     record {
       m = m;
       accepted = accepted;
+      module_is = at.module_is;
       inst = at.inst;
       s = at.first;
       ps = at.pieces;
       initial = at.initial;
-      comes = (b.start, b.z, replays_at i m p (b.start ∷ []) None b.z at, at.store, result, b.came, never e is refuses at.store.0 at.inst at.store.1.instance);
+      comes = (b.start, b.z, replays_at i m p (b.start ∷ []) None b.z at, shows at.store, result, b.came, never e is refuses at.store.0 at.inst at.store.1.instance);
     }
   where
     never : (e : Refused) → i.stage ≡ stages.Idle → RefusesCall i func args e → (c : _) (inst : Instance) → IsInstance (linked_parts i.kept.linked) c inst → ¬ (HasCall inst func args)
@@ -197,6 +201,7 @@ one_call bytes p i i2 func args fuel started n result outcome m accepted b calle
     record {
       m = m;
       accepted = accepted;
+      module_is = at.module_is;
       inst = at.inst;
       s = at.first;
       ps = at.pieces;
@@ -206,7 +211,7 @@ one_call bytes p i i2 func args fuel started n result outcome m accepted b calle
         call,
         r.2,
         replay,
-        at.store,
+        shows at.store,
         result,
         b.came,
         record { func_is = refl; args_are = r.3; fuel_is = refl; results = last_results at.inst call o refl at.results.1 },

@@ -1,17 +1,21 @@
 -- What is kept of an instance, and what a run over it comes to.
-use Rattle.std.specs.Prelude.{◌≡◌, ℕ, ◌≤◌, List, [], Option, slice_get, map, reverse, true}
+use Rattle.std.specs.Prelude.{◌≡◌, ℕ, List, [], Option, reverse}
 use Rattle.wh_model.specs.declared.ValType.{ValType}
 use Rattle.wh_model.specs.Format.Syntax.{nothing, FuncType, Body}
-use Rattle.wh_model.specs.Validity.Typing.{Context, operand}
-use Rattle.wh_model.specs.Execution.Store.{Value, type_of, Instance, Store}
-use Rattle.wh_model.specs.Execution.Configuration.{code, called, Config, config, trapped, store_of}
-use Rattle.wh_model.specs.Execution.Reduction.{IsSettled, After, IsNext}
+use Rattle.wh_model.specs.Validity.Typing.{Context}
+use Rattle.wh_model.specs.Execution.Store.{Value, Instance, Store}
+use Rattle.wh_model.specs.Execution.Configuration.{called, Config, config}
+use Rattle.wh_model.specs.Execution.Reduction.{IsSettled, After}
 use Rattle.wh_imports.specs.Joined.{LinkedState}
-use Rattle.wh_control.specs.Represents.{bits_of, result_of}
+use Rattle.wh_control.specs.Represents.{result_of}
 use Rattle.wh_control.specs.declared.store.Store as stored
 use Rattle.wh_machine.specs.declared.machine.Machine.{Machine}
 use Rattle.wh_machine.specs.Opening.{IsOwnCall}
-use Rattle.wh_machine.specs.Runs.{linked_parts, RepresentsInstance, RepresentsMachine, IsSettledIn, HasConfiguration}
+use Rattle.wh_machine.specs.Runs.{linked_parts, RepresentsInstance}
+use Rattle.wh_machine.specs.States.{CallState, Setting, HasConfiguration, StandsFor, setting_of, call_state}
+use Rattle.wh_call.specs.declared.calling.RunEnd.{RunEnd}
+use Rattle.wh_call.specs.declared.calling.RunEnd.TheVariants as run
+use Rattle.wh_call.specs.Ends.{EndsWithin, HasStoreIn}
 use Rattle.wh_flatmem.specs.Flat.{FlatMemoryState}
 use Rattle.wh_alone.specs.declared.outcome.Outcome.{Outcome}
 use Rattle.wh_alone.specs.declared.outcome.Outcome.TheVariants.{Returned, Trapped, OutOfFuel}
@@ -28,41 +32,43 @@ abbrev pub kept_of : LinkedState → stored.Store → FlatMemoryState → Machin
 kept_of linked store memory machine =
     record { linked = linked; store = store; memory = memory; machine = machine }
 
+-- the setting and the state in which a call runs: all bytes of a flat memory are always at hand
+abbrev pub flat_setting : LinkedState → ℕ → Setting FlatMemoryState
+flat_setting linked limit =
+    setting_of (linked_parts linked) (λ m. m.bytes) (λ m need. Unit {0}) (λ m m2. m2.limit ≡ m.limit) limit
+
+abbrev pub setting_in : Kept → Setting FlatMemoryState
+setting_in k = flat_setting k.linked k.memory.limit
+
+abbrev pub state_in : Kept → CallState FlatMemoryState
+state_in k = call_state k.machine k.store k.memory
+
 -- store and memory are those of the instance with this store
 abbrev pub HasStore : Kept → Instance → Store → Type 0
-HasStore k inst s =
-    (c : Context) × RepresentsInstance (linked_parts k.linked) k.store k.memory.bytes k.memory.limit c inst s
+HasStore k = HasStoreIn (setting_in k) (state_in k)
 
 -- and the machine stands for this configuration of it, of a call with this result
 abbrev pub StandsAt : Kept → Option ValType → Instance → Config → Type 0
-StandsAt k = RepresentsMachine (linked_parts k.linked) k.machine k.store k.memory.bytes k.memory.limit
+StandsAt k = StandsFor (setting_in k) (state_in k)
 
 -- it stands for some configuration
 abbrev pub StandsSomewhere : Kept → Type 0
-StandsSomewhere k = HasConfiguration (linked_parts k.linked) k.machine k.store k.memory.bytes k.memory.limit
+StandsSomewhere k = HasConfiguration (setting_in k) (state_in k)
 
--- there is such a function and such arguments, of an instance with this store and memory
-pub record CanCall (k : Kept) (func : ℕ) (args : List ℕ) : Type 0 where
-  pub context : Context
-  pub inst : Instance
-  pub s : Store
-  pub around : RepresentsInstance (linked_parts k.linked) k.store k.memory.bytes k.memory.limit context inst s
-  pub type : FuncType
-  pub body : Body
-  pub vs : List Value
-  pub suits : IsOwnCall inst func args type body vs
+-- the end of a run that is answered so: over a flat memory none waits for bytes
+abbrev pub run_end : Outcome → RunEnd
+run_end (Returned result) = run.Returned result
+run_end (Trapped x) = run.Trapped x
+run_end OutOfFuel = run.OutOfFuel
 
--- What a configuration of a call with this result comes to within this fuel. It is done, after so many charges, with
--- values of the result's type, of which the topmost is the answer; or it traps; or all fuel is taken, a charged
--- reduction is next, and the machine stands for where it is.
+abbrev pub IsAnswered : RunEnd → Type 0
+IsAnswered (run.NotReady need) = ⊥
+IsAnswered end = Unit {0}
+
+-- what a configuration of a call with this result comes to within this fuel, by the charges that lead there
 abbrev pub EndsBy : Kept → Option ValType → Instance → Config → ℕ → Outcome → ℕ → Store → Type 0
-EndsBy k2 out inst c fuel (Returned result) n s =
-    (n ≤ fuel) × (us : List Value) × (map type_of us ≡ operand out) × (result ≡ slice_get (map bits_of us) 0)
-    × After inst c n (config s [] (code us nothing))
-EndsBy k2 out inst c fuel (Trapped x) n s = (n ≤ fuel) × After inst c n (trapped s x)
-EndsBy k2 out inst c fuel OutOfFuel n s =
-    (n ≡ fuel) × (c2 : Config) × After inst c n c2 × IsNext inst c2 × (s ≡ store_of c2)
-    × StandsAt k2 out inst c2 × (k2.machine.running ≡ true) × IsSettledIn (linked_parts k2.linked) k2.machine
+EndsBy k2 out inst c fuel outcome n s =
+    EndsWithin (setting_in k2) (state_in k2) out inst (After inst c) fuel (run_end outcome) n s
 
 -- whatever configuration the machine stands for comes to that, and what it leaves is of the same instance
 abbrev pub ContinuesTo : Kept → ℕ → Outcome → ℕ → Kept → Type 0

@@ -1,6 +1,5 @@
 pub mod Alone
 pub mod Stored
-pub mod Exports
 pub mod Kept
 pub mod Journal
 pub mod Stages

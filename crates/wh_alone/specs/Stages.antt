@@ -11,7 +11,7 @@ use Rattle.wh_alone.specs.declared.outcome.Stage.TheVariants as stages
 use Rattle.wh_alone.specs.declared.outcome.Stage.TheVariants.{Fresh, Starting, Idle, Calling}
 use Rattle.wh_alone.specs.declared.outcome.Refused.{Refused}
 use Rattle.wh_alone.specs.declared.outcome.Refused.TheVariants.{Busy, Dead, NoCall}
-use Rattle.wh_alone.specs.Alone.{HasCall}
+use Rattle.wh_call.specs.Arguments.{HasCall}
 use Rattle.wh_alone.specs.Kept.{Kept}
 use Rattle.wh_alone.specs.Journal.{InstanceState}
 

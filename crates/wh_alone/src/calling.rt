@@ -1,13 +1,28 @@
 //! Calls over a flat memory.
 
 ghost use Rattle.std.specs.Prelude.{◌≡◌};
-ghost use Rattle.wh_alone.specs.Kept.{kept_of, StandsSomewhere, CanCall, ContinuesTo, InvocationEnds};
+ghost use Rattle.wh_call.specs.Ends.{CanCall};
+ghost use Rattle.wh_alone.specs.Kept.{kept_of, setting_in, state_in, run_end, IsAnswered, StandsSomewhere, ContinuesTo, InvocationEnds};
 ghost use Rattle.wh_alone.specs.Stages.{stage_at_first, after_start, after_call};
 
 use crate::outcome::{Outcome, Stage};
+use wh_call::RunEnd;
 use wh_flatmem::FlatMemory;
 use wh_imports::Linked;
-use wh_machine::{Machine, Stepped, Store, begin, run};
+use wh_machine::{Machine, Store};
+
+/// What a run is answered by that doesn't wait for bytes.
+fn outcome_of(end: RunEnd) -> Outcome
+    requires { IsAnswered end }
+    ensures { run_end result ≡ end }
+{
+    match end {
+        RunEnd::Returned(result) => Outcome::Returned(result),
+        RunEnd::Trapped(trap) => Outcome::Trapped(trap),
+        RunEnd::OutOfFuel => Outcome::OutOfFuel,
+        RunEnd::NotReady(_) => unreachable!(),
+    }
+}
 
 /// Lets the call that a machine stands for run with this fuel; how it has ended, and how many charges were taken.
 pub fn run_on(
@@ -21,13 +36,8 @@ pub fn run_on(
     ensures { ContinuesTo (kept_of linked.now store.old memory.old machine.old) fuel result.0
         result.1 (kept_of linked.now store.new memory.new machine.new) }
 {
-    let (stepped, charges) = run(linked, store, machine, memory, fuel);
-    let outcome = match stepped {
-        Stepped::Done => Outcome::Returned(machine.result()),
-        Stepped::Trapped(trap) => Outcome::Trapped(trap),
-        Stepped::Charged | Stepped::NotReady(_) => Outcome::OutOfFuel,
-    };
-    (outcome, charges)
+    let (end, charges) = wh_call::run_on(linked, store, machine, memory, fuel);
+    (outcome_of(end), charges)
 }
 
 /// Calls a function and lets it run with this fuel; how it has ended, and how many charges were taken.
@@ -40,12 +50,15 @@ pub fn call(
     args: &[u64],
     fuel: u64,
 ) -> (Outcome, u64)
-    requires { CanCall (kept_of linked.now store.old memory.old machine.old) func args.now }
+    requires { CanCall
+        (setting_in (kept_of linked.now store.old memory.old machine.old))
+        (state_in (kept_of linked.now store.old memory.old machine.old))
+        func args.now }
     ensures { InvocationEnds (kept_of linked.now store.old memory.old machine.old) func
         args.now fuel result.0 result.1 (kept_of linked.now store.new memory.new machine.new) }
 {
-    begin(linked, machine, func, args);
-    run_on(linked, store, machine, memory, fuel)
+    let (end, charges) = wh_call::call(linked, store, machine, memory, func, args, fuel);
+    (outcome_of(end), charges)
 }
 
 /// Where an instance is first, with this start function or none.

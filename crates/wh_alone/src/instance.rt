@@ -2,7 +2,7 @@
 
 ghost use Rattle.std.specs.Prelude.{◌≡◌, true, false, IfOk, IfErr, IfSome, IfNone};
 ghost use Rattle.wh_initial.specs.Given.{view_parameters};
-ghost use Rattle.wh_alone.specs.Exports.{Exports, LacksFunc};
+ghost use Rattle.wh_call.specs.Exports.{Exports, LacksFunc};
 ghost use Rattle.wh_alone.specs.Stored.{stored_plain};
 ghost use Rattle.wh_alone.specs.Alone.{RefusesModule};
 ghost use Rattle.wh_alone.specs.Kept.{kept_of};
@@ -10,13 +10,13 @@ ghost use Rattle.wh_alone.specs.Journal.{InstanceState, IsSomewhere, GoesOnWith,
 ghost use Rattle.wh_alone.specs.Stages.{IsOpen, RefusesCall};
 ghost use Rattle.wh_alone.specs.Beginnings.{BeginsInstance};
 
-use crate::arguments::{are_words, can_call};
 use crate::calling::{call, first_stage, run_on, stage_after_call, stage_after_start};
-use crate::exports::exported;
 use crate::outcome::{CallError, Outcome, Refused, Stage};
 use crate::segments::write_segments;
+use crate::words::are_words;
 use std::alloc::Global;
 use std::marker::Model;
+use wh_call::{can_call, exported};
 use wh_flatmem::FlatMemory;
 use wh_imports::Linked;
 use wh_initial::{Parameters, instantiate};

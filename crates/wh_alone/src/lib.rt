@@ -6,12 +6,11 @@
 #![tactic(auto)]
 
 mod alone;
-mod arguments;
 mod calling;
-mod exports;
 mod instance;
 mod outcome;
 mod segments;
+mod words;
 
 pub use alone::call_module;
 pub use instance::Instance;

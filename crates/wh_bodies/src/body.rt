@@ -14,7 +14,7 @@ ghost use Rattle.wh_model.specs.Validity.Heights.{FitsBody};
 ghost use Rattle.wh_syntax.specs.View.{view_type, view_body};
 
 use crate::context::{Around, Context};
-use crate::fault::{BodyFault, push};
+use crate::fault::BodyFault;
 use crate::labels::Label;
 use crate::marks::{Mark, all_marks};
 use crate::operands::Operands;
@@ -55,7 +55,7 @@ fn start(
         outer_dead: false,
     };
     let mut labels = Vec::new(alloc);
-    push(&mut labels, label)?;
+    labels.push(label)?;
     Ok(Checker {
         operands: Operands {
             types: Vec::new(alloc),

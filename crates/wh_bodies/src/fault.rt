@@ -1,7 +1,5 @@
 //! What is wrong with a body.
 
-ghost use Rattle.std.specs.Prelude.{◌≡◌, ◌++◌, ◌∷◌, [], OnOk, IfErr};
-
 use thiserror::Error;
 use wh_model::ValidKind;
 
@@ -13,15 +11,4 @@ pub struct BodyFault {
     pub instr: u32,
     /// What is wrong.
     pub kind: ValidKind,
-}
-
-/// Puts an item at the end of a list.
-pub fn push<T: Drop>(items: &mut Vec<T>, item: T) -> Result<(), ValidKind>
-    ensures ok { OnOk result (items.new.items ≡ items.old.items ++ item ∷ []) }
-    ensures err { IfErr result (λ k. k ≡ ValidKind.Memory) }
-{
-    match items.push(item) {
-        Ok(()) => Ok(()),
-        Err(_) => Err(ValidKind::Memory),
-    }
 }

@@ -4,7 +4,6 @@ ghost use Rattle.std.specs.Prelude.{◌≡◌, ◌<◌, reverse};
 ghost use Rattle.wh_bodies.specs.Known.{known, same_type, take_one, take_any, give_one, fall, take_all, give_all, pass, agreed, selected};
 ghost use Rattle.wh_bodies.specs.Faults.{Checks, Yields};
 
-use crate::fault::push;
 use wh_model::{MOST_HEIGHT, ValType, ValidKind};
 
 /// The types of the operands of a function, where `None` is a type that isn't known. Those above `floor` belong to the
@@ -65,7 +64,7 @@ pub fn give(operands: &mut Operands, of: Option<ValType>) -> Result<(), ValidKin
     ensures { Checks result (known operands.new) (give_one (known operands.old) of) }
 {
     if operands.types.len() < MOST_HEIGHT {
-        push(&mut operands.types, of)?;
+        operands.types.push(of)?;
         Ok(())
     } else {
         Err(ValidKind::Height)

@@ -1,5 +1,9 @@
 //! Why a module can't be linked.
 
+ghost use Rattle.std.specs.Prelude.{◌≡◌};
+ghost use Rattle.wh_imports.specs.declared.error.LinkError.TheVariants.{Memory};
+
+use std::alloc::AllocFailed;
 use thiserror::Error;
 use wh_model::ImportFault;
 
@@ -12,4 +16,13 @@ pub enum LinkError {
     /// A growth of memory was refused.
     #[error("a growth of memory was refused")]
     Memory,
+}
+
+// A growth that was refused.
+impl<T: Drop> From<AllocFailed<T>> for LinkError {
+    ghost from_gives = { λ failed error. error ≡ Memory };
+
+    fn from(_failed: AllocFailed<T>) -> LinkError {
+        LinkError::Memory
+    }
 }

@@ -90,14 +90,11 @@ impl Resolved {
             self.new.globals.items) }
         ensures err { IfErr result (λ e. e ≡ LinkError.Memory) }
     {
-        let pushed = match item {
-            HostItem::Func(func) => self.funcs.push(func).is_ok(),
-            HostItem::Global(global) => self.globals.push(global).is_ok(),
-        };
-        if pushed {
-            return Ok(());
+        match item {
+            HostItem::Func(func) => self.funcs.push(func)?,
+            HostItem::Global(global) => self.globals.push(global)?,
         }
-        Err(LinkError::Memory)
+        Ok(())
     }
 }
 

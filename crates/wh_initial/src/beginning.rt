@@ -8,7 +8,7 @@ ghost use Rattle.wh_initial.specs.Words.{IsOffset};
 ghost use Rattle.wh_initial.specs.InWords.{AllFit, IsPrepared, BeginsInWords, RefusesInWords};
 ghost use Rattle.wh_initial.specs.Begins.{Instantiates, RefusesInstance};
 
-use crate::error::{InstantiateError, with_room};
+use crate::error::InstantiateError;
 use crate::globals::first_globals;
 use crate::outcome::Instantiated;
 use crate::parameters::Parameters;
@@ -61,7 +61,7 @@ fn begin(
     }
     let entries = first_entries(&decoded.tables);
     let table = first_table(alloc, entries, &decoded.elements, &globals)?;
-    let output = with_room(alloc, OUTPUT_ROOM)?;
+    let output = Vec::with_capacity(alloc, OUTPUT_ROOM)?;
     Ok(Instantiated {
         store: Store {
             globals,

@@ -1,9 +1,9 @@
 //! Why a module has no instance.
 
-ghost use Rattle.std.specs.Prelude.{◌≡◌, ◌≤◌, ◌++◌, ◌∷◌, [], OnOk, IfOk, IfErr};
-ghost use Rattle.std.specs.Vec.{vec_capacity};
+ghost use Rattle.std.specs.Prelude.{◌≡◌};
+ghost use Rattle.wh_initial.specs.declared.error.InstantiateError.TheVariants.{Memory};
 
-use std::alloc::Global;
+use std::alloc::{AllocError, AllocFailed};
 use thiserror::Error;
 
 /// Why a module has no instance with what its owner gives.
@@ -20,31 +20,19 @@ pub enum InstantiateError {
     Memory,
 }
 
-/// An empty list with room for so many items.
-///
-/// # Errors
-/// `Memory` where that room was refused.
-pub fn with_room<T: Drop>(alloc: Global, count: usize) -> Result<Vec<T>, InstantiateError>
-    ensures ok { IfOk result (λ v. v.items ≡ []) }
-    ensures room { IfOk result (λ v. count ≤ vec_capacity v) }
-    ensures err { IfErr result (λ e. e ≡ InstantiateError.Memory) }
-{
-    match Vec::with_capacity(alloc, count) {
-        Ok(items) => Ok(items),
-        Err(_) => Err(InstantiateError::Memory),
+// A growth that was refused.
+impl<T: Drop> From<AllocFailed<T>> for InstantiateError {
+    ghost from_gives = { λ failed error. error ≡ Memory };
+
+    fn from(_failed: AllocFailed<T>) -> InstantiateError {
+        InstantiateError::Memory
     }
 }
 
-/// Puts an item at the end of a list.
-///
-/// # Errors
-/// `Memory` where a growth was refused.
-pub fn push<T: Drop>(items: &mut Vec<T>, item: T) -> Result<(), InstantiateError>
-    ensures ok { OnOk result (items.new.items ≡ items.old.items ++ item ∷ []) }
-    ensures err { IfErr result (λ e. e ≡ InstantiateError.Memory) }
-{
-    match items.push(item) {
-        Ok(()) => Ok(()),
-        Err(_) => Err(InstantiateError::Memory),
+impl From<AllocError> for InstantiateError {
+    ghost from_gives = { λ failed error. error ≡ Memory };
+
+    fn from(_failed: AllocError) -> InstantiateError {
+        InstantiateError::Memory
     }
 }

@@ -7,7 +7,7 @@ ghost use Rattle.wh_initial.specs.Words.{IsSeen, word_in, host_word, global_word
 ghost use Rattle.wh_initial.specs.Given.{view_parameters};
 
 use crate::constants::word_of;
-use crate::error::{InstantiateError, push, with_room};
+use crate::error::InstantiateError;
 use crate::parameters::Parameters;
 use std::alloc::Global as Heap;
 use wh_model::HostGlobal;
@@ -38,7 +38,7 @@ fn add_hosts(
     ensures err { IfErr result (λ e. e ≡ InstantiateError.Memory) }
 {
     for global in imported {
-        push(words, word_of_host(*global, parameters))?;
+        words.push(word_of_host(*global, parameters))?;
     }
     Ok(())
 }
@@ -56,7 +56,7 @@ fn add_own(words: &mut Vec<u64>, own: &[Global]) -> Result<(), InstantiateError>
     let imported = words.len();
     for global in own {
         let word = word_of(&global.init, &words[..imported]);
-        push(words, word)?;
+        words.push(word)?;
     }
     Ok(())
 }
@@ -77,7 +77,7 @@ pub fn first_globals(
         ≡ global_words (view_parameters parameters.now) imported.now own.now) }
     ensures err { IfErr result (λ e. e ≡ InstantiateError.Memory) }
 {
-    let mut words = with_room(alloc, imported.len() + own.len())?;
+    let mut words = Vec::with_capacity(alloc, imported.len() + own.len())?;
     add_hosts(&mut words, imported, parameters)?;
     add_own(&mut words, own)?;
     Ok(words)

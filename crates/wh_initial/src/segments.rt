@@ -5,7 +5,7 @@ ghost use Rattle.std.specs.List.{All};
 ghost use Rattle.wh_initial.specs.Words.{word_in, IsOffset};
 
 use crate::constants::offset_of;
-use crate::error::{InstantiateError, push, with_room};
+use crate::error::InstantiateError;
 use std::alloc::Global;
 use wh_syntax::{Data, Element};
 
@@ -67,9 +67,9 @@ pub fn segment_places(
         (λ places. places.items ≡ map (λ s. word_in globals.now s.offset) segments.now) }
     ensures err { IfErr result (λ e. e ≡ InstantiateError.Memory) }
 {
-    let mut places = with_room(alloc, segments.len())?;
+    let mut places = Vec::with_capacity(alloc, segments.len())?;
     for segment in segments {
-        push(&mut places, offset_of(&segment.offset, globals))?;
+        places.push(offset_of(&segment.offset, globals))?;
     }
     Ok(places)
 }

@@ -6,6 +6,7 @@ pub mod Alone
 pub mod Hosting
 pub mod Entering
 pub mod Runs
+pub mod States
 pub mod Opening
 pub mod Waiting
 pub mod Stepping

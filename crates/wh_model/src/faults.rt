@@ -2,7 +2,9 @@
 
 ghost use Rattle.std.specs.Prelude.{◌≡◌};
 ghost use Rattle.wh_model.specs.Format.Numbering.{fault_number, valid_number, import_number};
+ghost use Rattle.wh_model.specs.declared.faults.ValidKind.TheVariants.{Memory as NoRoom};
 
+use std::alloc::AllocFailed;
 use thiserror::Error;
 
 /// What is wrong with the bytes of a module. The standard says only which bytes are a module; these kinds, and
@@ -140,6 +142,15 @@ impl ValidKind {
             ValidKind::ConstImmutable => 10,
             ValidKind::Memory => 11,
         }
+    }
+}
+
+// A growth that was refused.
+impl<T: Drop> From<AllocFailed<T>> for ValidKind {
+    ghost from_gives = { λ failed kind. kind ≡ NoRoom };
+
+    fn from(_failed: AllocFailed<T>) -> ValidKind {
+        ValidKind::Memory
     }
 }
 

@@ -48,19 +48,9 @@ pub fn check_bodies(
     for at in 0..funcs.len() {
         let func_type = &context.types[funcs[at] as usize];
         match check_body(alloc, context, func_type, &bodies[at]) {
-            Ok(table) => add_table(&mut tables, table)?,
+            Ok(table) => tables.push(table)?,
             Err(fault) => return Err(ValidError::in_body(imported, at, fault)),
         }
     }
     Ok(tables)
-}
-
-fn add_table(tables: &mut Vec<SideTable>, table: SideTable) -> Result<(), ValidError>
-    ensures ok { OnOk result (tables.new.items ≡ tables.old.items ++ table ∷ []) }
-    ensures err { IfErr result (λ e. e.kind ≡ ValidKind.Memory) }
-{
-    match tables.push(table) {
-        Ok(()) => Ok(()),
-        Err(_) => Err(ValidError::of_module(ValidKind::Memory)),
-    }
 }

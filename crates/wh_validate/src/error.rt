@@ -1,7 +1,9 @@
 //! What is wrong with a module, and where.
 
 ghost use Rattle.std.specs.Prelude.{◌≡◌, ◌+◌, ◌-◌, ◌^◌, min, None, Some};
+ghost use Rattle.wh_model.specs.declared.faults.ValidKind.TheVariants.{Memory};
 
+use std::alloc::AllocFailed;
 use thiserror::Error;
 use wh_bodies::BodyFault;
 use wh_model::ValidKind;
@@ -45,5 +47,14 @@ impl ValidError {
             instr: fault.instr,
             kind: fault.kind,
         }
+    }
+}
+
+// A growth that was refused. It lies in no function.
+impl<T: Drop> From<AllocFailed<T>> for ValidError {
+    ghost from_gives = { λ failed error. error.kind ≡ Memory };
+
+    fn from(_failed: AllocFailed<T>) -> ValidError {
+        ValidError::of_module(ValidKind::Memory)
     }
 }

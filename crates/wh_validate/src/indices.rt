@@ -51,17 +51,6 @@ pub fn check_indices(count: usize, indices: &[u32]) -> Result<(), ValidKind>
     Ok(())
 }
 
-/// Puts an item at the end of a list.
-pub fn push<T: Drop>(items: &mut Vec<T>, item: T) -> Result<(), ValidKind>
-    ensures ok { OnOk result (items.new.items ≡ items.old.items ++ item ∷ []) }
-    ensures err { IfErr result (λ k. k ≡ ValidKind.Memory) }
-{
-    match items.push(item) {
-        Ok(()) => Ok(()),
-        Err(_) => Err(ValidKind::Memory),
-    }
-}
-
 /// What the imports bring, in order.
 ///
 /// # Errors
@@ -83,11 +72,11 @@ pub fn imported(alloc: Heap, types: &[FuncType], imports: &[Import]) -> Result<I
                 if func as usize >= types.len() {
                     return Err(ValidKind::Index);
                 }
-                push(&mut funcs, func)?;
+                funcs.push(func)?;
             }
             ImportDesc::Global(value) => {
                 let mutability = Mutability::Const;
-                push(&mut globals, GlobalType { value, mutability })?;
+                globals.push(GlobalType { value, mutability })?;
             }
         }
     }
@@ -112,7 +101,7 @@ pub fn add_globals(globals: &mut Vec<GlobalType>, own: &[Global]) -> Result<(), 
     ensures err { IfErr result (λ k. k ≡ ValidKind.Memory) }
 {
     for global in own {
-        push(globals, global.global_type)?;
+        globals.push(global.global_type)?;
     }
     Ok(())
 }

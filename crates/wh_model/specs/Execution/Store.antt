@@ -19,6 +19,10 @@ pub data Value : Type 0 where
 abbrev pub type_of : Value → ValType
 type_of (value t n) = t
 
+-- the number without its type
+abbrev pub bits_of : Value → ℕ
+bits_of (value t n) = n
+
 abbrev pub zero_of : ValType → Value
 zero_of t = value t 0
 

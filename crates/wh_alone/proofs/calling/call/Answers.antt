@@ -1,20 +1,22 @@
-use Rattle.std.proofs.Common.{refl, [], reverse, arith}
+use Rattle.std.proofs.Common.{[], reverse}
 use Rattle.wh_model.specs.Format.Syntax.{nothing}
 use Rattle.wh_model.specs.Execution.Configuration.{called, config}
 use Rattle.wh_control.specs.Represents.{result_of}
-use Rattle.wh_alone.specs.Kept.{Kept}
-use Rattle.wh_alone.proofs.Ending.{ends_from}
+use Rattle.wh_machine.specs.States.{call_state}
+use Rattle.wh_call.specs.Ends.{TakesTo}
+use Rattle.wh_alone.specs.Kept.{flat_setting}
+use Rattle.wh_alone.proofs.Ending.{answered, comes_by}
 use Rattle.wh_alone.proofs.calling.call.Goals as goal
 
-pub run_on-requires : goal.run_on-requires
-run_on-requires c =
+pub outcome_of-requires : goal.outcome_of-requires
+outcome_of-requires c =
     let r = c.requires in
-    let b = c.begin.ensures.begun c.args.store.now c.args.memory.now.bytes c.args.memory.now.limit r.context r.inst r.s r.type r.body r.vs r.around r.suits in
-    record { out = result_of r.type; inst = r.inst; cfg = b.0; stands = b.2; settled = c.begin.ensures.settled }
+    let x = c.call-end.ensures.ends r.context r.inst r.s r.type r.body r.vs r.around r.suits in
+    let w = flat_setting c.args.linked.now c.args.memory.now.limit in
+    answered c.args.linked.now c.args.memory.now.limit (call_state c.call-end.new.machine c.call-end.new.store c.call-end.new.memory) (result_of r.type) r.inst (TakesTo w r.inst c.args.memory.now x.0 c.call-end.new.memory) c.args.fuel c.call-end.result.0 c.call-end.result.1 x.2 x.3
 
 pub returns : goal.returns
 returns c cx inst s type body vs st u =
-    let b = c.begin.ensures.begun c.args.store.now c.args.memory.now.bytes c.args.memory.now.limit cx inst s type body vs st u in
-    let w = c.run_on.ensures (result_of type) inst b.0 b.2 b.1.1 in
-    let k2 : Kept = record { linked = c.args.linked.now; store = c.run_on.new.store; memory = c.run_on.new.memory; machine = c.run_on.new.machine } in
-    (w.0, ends_from k2 (result_of type) inst (config s [] (called type body (reverse vs) [] nothing)) b.0 0 c.args.fuel c.args.fuel c.run_on.result.1 c.run_on.result.1 c.run_on.result.0 w.0 (omega arith) (omega arith) b.1 w.1, w.2)
+    let x = c.call-end.ensures.ends cx inst s type body vs st u in
+    comes_by c.args.linked.now (call_state c.args.machine.now c.args.store.now c.args.memory.now) (call_state c.call-end.new.machine c.call-end.new.store c.call-end.new.memory) (result_of type) inst x.0 (config s [] (called type body (reverse vs) [] nothing)) c.args.fuel c.call-end.result.0 c.call-end.result.1 c.outcome_of.result
+    c.call-end.ensures.keeps c.outcome_of.ensures x.1 (x.2, x.3, x.4)

@@ -1,19 +1,18 @@
-use Rattle.std.proofs.Common.{refl, sym, subst, ⊎_elim}
-use Rattle.wh_alone.specs.declared.outcome.Outcome.TheVariants.{Returned, Trapped, OutOfFuel}
-use Rattle.wh_alone.proofs.Ending.{Answers, goes_by}
+use Rattle.wh_model.specs.Execution.Reduction.{stays}
+use Rattle.wh_machine.specs.States.{call_state}
+use Rattle.wh_call.specs.Ends.{TakesTo}
+use Rattle.wh_alone.specs.Kept.{flat_setting}
+use Rattle.wh_alone.proofs.Ending.{answered, comes_by}
 use Rattle.wh_alone.proofs.calling.run_on.Goals as goal
 
-pub returns-in-Done : goal.returns-in-Done
-returns-in-Done c =
-    goes_by c.args.linked.now c.args.store.now c.run-stepped.new.store c.args.memory.now c.run-stepped.new.memory c.args.machine.now c.run-stepped.new.machine c.args.fuel c.run-stepped.result.0 c.run-stepped.result.1 (Returned c.result.result) c.run-stepped.ensures.keeps c.run-stepped.ensures.went
-    (subst (λ z. Answers c.run-stepped.new.machine z (Returned c.result.result)) (sym c.in-Done.is) (c.result.result, c.result.ensures, refl))
+pub outcome_of-requires : goal.outcome_of-requires
+outcome_of-requires c =
+    let r = c.requires in
+    let x = c.run_on-end.ensures.ends r.out r.inst r.cfg r.stands in
+    let w = flat_setting c.args.linked.now c.args.memory.now.limit in
+    answered c.args.linked.now c.args.memory.now.limit (call_state c.run_on-end.new.machine c.run_on-end.new.store c.run_on-end.new.memory) r.out r.inst (TakesTo w r.inst c.args.memory.now r.cfg c.run_on-end.new.memory) c.args.fuel c.run_on-end.result.0 c.run_on-end.result.1 x.0 x.1
 
-pub returns-in-Trapped : goal.returns-in-Trapped
-returns-in-Trapped c =
-    goes_by c.args.linked.now c.args.store.now c.run-stepped.new.store c.args.memory.now c.run-stepped.new.memory c.args.machine.now c.run-stepped.new.machine c.args.fuel c.run-stepped.result.0 c.run-stepped.result.1 (Trapped c.in-Trapped.trap) c.run-stepped.ensures.keeps c.run-stepped.ensures.went
-    (subst (λ z. Answers c.run-stepped.new.machine z (Trapped c.in-Trapped.trap)) (sym c.in-Trapped.is) refl)
-
-pub returns-in-Charged : goal.returns-in-Charged
-returns-in-Charged c =
-    goes_by c.args.linked.now c.args.store.now c.run-stepped.new.store c.args.memory.now c.run-stepped.new.memory c.args.machine.now c.run-stepped.new.machine c.args.fuel c.run-stepped.result.0 c.run-stepped.result.1 OutOfFuel c.run-stepped.ensures.keeps c.run-stepped.ensures.went
-    (⊎_elim (λ e. subst (λ z. Answers c.run-stepped.new.machine z OutOfFuel) (sym e) refl) (λ (need, e). subst (λ z. Answers c.run-stepped.new.machine z OutOfFuel) (sym e) refl) c.in-Charged.is)
+pub returns : goal.returns
+returns c out inst cfg st settled =
+    comes_by c.args.linked.now (call_state c.args.machine.now c.args.store.now c.args.memory.now) (call_state c.run_on-end.new.machine c.run_on-end.new.store c.run_on-end.new.memory) out inst cfg cfg c.args.fuel c.run_on-end.result.0 c.run_on-end.result.1 c.outcome_of.result
+    c.run_on-end.ensures.keeps c.outcome_of.ensures (stays, settled) (c.run_on-end.ensures.ends out inst cfg st)

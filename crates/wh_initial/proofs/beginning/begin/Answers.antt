@@ -65,7 +65,7 @@ returns-clause-ok c =
       globals = own;
       table = table_is m c.args.imported.now p c.deref-9.result.now c.deref-8.result.now c.first_entries-entries.result c.in_ok-table.table.items (c.deref-9.ensures.value ∙ own) c.deref-8.ensures.value entries c.in_ok-table.ensures.ok;
       inputs = refl;
-      output = c.in_ok-output.ensures.ok;
-      room = c.in_ok-output.ensures.room;
+      output = c.in_ok-output.ensures.items;
+      room = c.in_ok-output.ensures.capacity;
       places = places_are m c.args.imported.now p c.deref-5.result.now c.deref-4.result.now c.in_ok-places.places.items (c.deref-5.ensures.value ∙ own) c.deref-4.ensures.value c.in_ok-places.ensures.ok;
     }

@@ -20,7 +20,7 @@ loop-at-preserved c =
     let same = c.requires.same_count in
     let more = one_more_checked context funcs bodies k x 0 c.index-bodies-at.result (view_type (get_or c.args.context.now.types.now x given)) (view_side c.in-Ok.table) (map view_side c.loop-at.tables.items) c.loop-at-test.true (omega (arith, c.loop-at-test.true, same)) refl c.index-bodies-at.is
     type c.in-Ok.ensures.valid c.in-Ok.ensures.fits c.in-Ok.ensures.table c.loop-at.invariant in
-    let items = ap (map view_side) c.in_ok-add_table-in-Ok.ensures.ok ∙ map-append view_side c.loop-at.tables.items (c.in-Ok.table ∷ []) in
+    let items = ap (map view_side) c.in_ok-push-in-Ok.ensures.items ∙ map-append view_side c.loop-at.tables.items (c.in-Ok.table ∷ []) in
     subst (λ w. Rests context funcs bodies (k + 1) w) (sym items) more
 
 pub returns-clause-checked : goal.returns-clause-checked

@@ -1,11 +1,8 @@
 use Rattle.std.proofs.Common.{refl, sym, ap, subst, ◌∙◌}
-use Rattle.wh_syntax.specs.View.{view_module}
-use Rattle.wh_syntax.specs.declared.module.Module.{Module}
-use Rattle.wh_alone.specs.declared.outcome.Stage.{Stage}
-use Rattle.wh_alone.specs.declared.outcome.Stage.TheVariants.{Fresh, Starting, Idle, Calling, Dead}
+use Rattle.wh_alone.specs.declared.outcome.Stage.TheVariants.{Idle}
 use Rattle.wh_alone.specs.Kept.{Kept}
-use Rattle.wh_alone.specs.Journal.{InstanceState, IsSomewhere, GoesOnWith, CallEnds, GivenUp}
-use Rattle.wh_alone.specs.Stages.{IsOpen, IsNoCall}
+use Rattle.wh_alone.specs.Journal.{InstanceState, IsSomewhere, CallEnds}
+use Rattle.wh_alone.specs.Stages.{IsNoCall}
 use Rattle.wh_model.specs.Execution.Replay.{store_at}
 use Rattle.wh_alone.specs.Stages.{after_call}
 use Rattle.wh_alone.proofs.Moving.{call_comes, somewhere_called}

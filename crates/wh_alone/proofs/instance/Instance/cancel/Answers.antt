@@ -1,11 +1,8 @@
-use Rattle.std.proofs.Common.{⊎_elim, refl, sym, ap, subst, ◌∙◌}
-use Rattle.wh_syntax.specs.View.{view_module}
-use Rattle.wh_syntax.specs.declared.module.Module.{Module}
-use Rattle.wh_alone.specs.declared.outcome.Stage.{Stage}
+use Rattle.std.proofs.Common.{⊎_elim, subst}
 use Rattle.wh_alone.specs.declared.outcome.Stage.TheVariants.{Fresh, Starting, Idle, Calling, Dead}
 use Rattle.wh_alone.specs.Kept.{Kept}
-use Rattle.wh_alone.specs.Journal.{InstanceState, IsSomewhere, GoesOnWith, CallEnds, GivenUp}
-use Rattle.wh_alone.specs.Stages.{IsOpen, IsNoCall}
+use Rattle.wh_alone.specs.Journal.{InstanceState, IsSomewhere, GivenUp}
+use Rattle.wh_alone.specs.Stages.{IsOpen}
 use Rattle.wh_alone.proofs.Moving.{fresh_up, starting_up, calling_up, somewhere_up}
 use Rattle.wh_alone.proofs.Present.{record_of, at_stage}
 use Rattle.wh_alone.proofs.instance.Instance.cancel.Goals as goal

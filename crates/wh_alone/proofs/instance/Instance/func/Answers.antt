@@ -1,7 +1,7 @@
 use Rattle.std.proofs.Common.{IfSome, IfNone, ap, subst, ◌∙◌}
 use Rattle.wh_syntax.specs.declared.module.Module.{Module}
 use Rattle.wh_alone.specs.Journal.{InstanceState}
-use Rattle.wh_alone.specs.Exports.{Exports, LacksFunc}
+use Rattle.wh_call.specs.Exports.{Exports, LacksFunc}
 use Rattle.wh_alone.proofs.instance.Instance.func.Goals as goal
 
 pub returns-clause-some : goal.returns-clause-some

@@ -1,11 +1,9 @@
 use Rattle.std.proofs.Common.{refl, sym, ap, subst, ◌∙◌}
-use Rattle.wh_syntax.specs.View.{view_module}
 use Rattle.wh_syntax.specs.declared.module.Module.{Module}
-use Rattle.wh_alone.specs.declared.outcome.Stage.{Stage}
-use Rattle.wh_alone.specs.declared.outcome.Stage.TheVariants.{Fresh, Starting, Idle, Calling, Dead}
+use Rattle.wh_alone.specs.declared.outcome.Stage.TheVariants.{Fresh, Starting, Calling}
 use Rattle.wh_alone.specs.Kept.{Kept}
-use Rattle.wh_alone.specs.Journal.{InstanceState, IsSomewhere, GoesOnWith, CallEnds, GivenUp}
-use Rattle.wh_alone.specs.Stages.{IsOpen, IsNoCall}
+use Rattle.wh_alone.specs.Journal.{InstanceState, IsSomewhere, GoesOnWith}
+use Rattle.wh_alone.specs.Stages.{IsOpen}
 use Rattle.wh_alone.specs.Stages.{after_start, after_call}
 use Rattle.wh_alone.proofs.Moving.{start_comes, starting_on, calling_on, somewhere_on}
 use Rattle.wh_alone.proofs.Present.{record_of, at_stage, can_start, has_start, starting_stands, calling_stands}

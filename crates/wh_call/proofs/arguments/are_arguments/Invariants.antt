@@ -1,6 +1,6 @@
 use Rattle.std.proofs.Common.{drop}
-use Rattle.wh_alone.specs.Alone.{Arguments}
-use Rattle.wh_alone.proofs.arguments.are_arguments.Given as goal
+use Rattle.wh_call.specs.Arguments.{Arguments}
+use Rattle.wh_call.proofs.arguments.are_arguments.Given as goal
 
 abbrev pub invariant-loop-at : goal.invariant-loop-at
 invariant-loop-at l = record {

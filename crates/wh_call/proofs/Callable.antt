@@ -22,8 +22,8 @@ use Rattle.wh_control.proofs.Places.{same_at}
 use Rattle.wh_control.specs.Parts.{ProgramParts, funcs_of, funcs_in, IsInstance}
 use Rattle.wh_machine.specs.Runs.{linked_parts}
 use Rattle.wh_machine.proofs.Lookups.{parts_of, all_of}
-use Rattle.wh_alone.specs.Alone.{Arguments, HasCall}
-use Rattle.wh_alone.proofs.Lists.{values_of, arguments_of, mapped_to}
+use Rattle.wh_call.specs.Arguments.{Arguments, HasCall}
+use Rattle.wh_call.proofs.Lists.{values_of, arguments_of, mapped_to}
 
 -- ---- the functions that a module defines
 

@@ -1,6 +1,6 @@
 use Rattle.std.proofs.Common.{refl, arith}
 use Rattle.std.proofs.lemmas.Option.{slice_get_within}
-use Rattle.wh_alone.proofs.exports.exported.Goals as goal
+use Rattle.wh_call.proofs.exports.exported.Goals as goal
 
 pub returns-then-is_func_of-clause-some : goal.returns-then-is_func_of-clause-some
 returns-then-is_func_of-clause-some c = (c.loop-at.at, c.export_at-export.result.now, c.export_at-export.ensures, c.if-is_func_of.ensures.0 refl, refl)

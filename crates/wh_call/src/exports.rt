@@ -1,7 +1,7 @@
 //! Exported functions, by their names.
 
 ghost use Rattle.std.specs.Prelude.{◌≡◌, ◌<◌, ◌↔◌, length, slice_get, Some, IsTrue, IfSome, IfNone};
-ghost use Rattle.wh_alone.specs.Exports.{IsFuncOf, Exports, LacksFunc};
+ghost use Rattle.wh_call.specs.Exports.{IsFuncOf, Exports, LacksFunc};
 
 use wh_model::ExternKind;
 use wh_syntax::Export;

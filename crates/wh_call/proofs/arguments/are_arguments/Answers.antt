@@ -1,5 +1,5 @@
-use Rattle.wh_alone.proofs.Lists.{same_length, one_more, one_less}
-use Rattle.wh_alone.proofs.arguments.are_arguments.Goals as goal
+use Rattle.wh_call.proofs.Lists.{same_length, one_more, one_less}
+use Rattle.wh_call.proofs.arguments.are_arguments.Goals as goal
 
 pub returns-then-params-args : goal.returns-then-params-args
 returns-then-params-args c h = let e = same_length c.args.params.now c.args.args.now h in let ne = c.if-params-args.true in absurd (ne e)

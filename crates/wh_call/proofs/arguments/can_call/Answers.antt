@@ -4,9 +4,9 @@ use Rattle.wh_syntax.specs.declared.module.Module.{Module}
 use Rattle.wh_syntax.specs.View.{view_module}
 use Rattle.wh_bodies.specs.Views.{view_side}
 use Rattle.wh_validate.specs.Soundness.{IsChecked}
-use Rattle.wh_alone.specs.Alone.{Arguments}
-use Rattle.wh_alone.proofs.Callable.{refused_low, refused_high, type_there, calls_at}
-use Rattle.wh_alone.proofs.arguments.can_call.Goals as goal
+use Rattle.wh_call.specs.Arguments.{Arguments}
+use Rattle.wh_call.proofs.Callable.{refused_low, refused_high, type_there, calls_at}
+use Rattle.wh_call.proofs.arguments.can_call.Goals as goal
 
 pub returns-in_default : goal.returns-in_default
 returns-in_default c cx inst is h =

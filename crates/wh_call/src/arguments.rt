@@ -2,22 +2,16 @@
 
 ghost use Rattle.std.specs.Prelude.{◌≡◌, ◌<◌, ◌^◌, length, slice_get, Some};
 ghost use Rattle.std.specs.Bool.{MatchBool};
-ghost use Rattle.std.specs.List.{AllByRecursion};
 ghost use Rattle.wh_model.specs.Execution.Numbers.{bits};
 ghost use Rattle.wh_model.specs.Validity.Typing.{Context};
 ghost use Rattle.wh_model.specs.Execution.Store.{Instance};
 ghost use Rattle.wh_control.specs.Parts.{IsInstance};
 ghost use Rattle.wh_machine.specs.Runs.{linked_parts};
-ghost use Rattle.wh_alone.specs.Alone.{Arguments, HasCall};
+ghost use Rattle.wh_call.specs.Arguments.{Arguments, HasCall};
 
 use wh_imports::Linked;
 use wh_model::ValType;
 use wh_syntax::FuncType;
-
-/// Words are numbers of 64 bits, as the definitions want of what `input` reads. The function does nothing.
-pub fn are_words(words: &[u64])
-    ensures { AllByRecursion (λ n. n < 2 ^ 64) words.now }
-{}
 
 /// Whether a word is a number of the bits of a type.
 fn fits(val_type: ValType, word: u64) -> bool

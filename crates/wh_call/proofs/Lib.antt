@@ -1,0 +1,3 @@
+mod Callable
+mod Ending
+pub mod Lists
