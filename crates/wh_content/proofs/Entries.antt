@@ -1,0 +1,33 @@
+-- One mark among those of all frames.
+use Rattle.std.proofs.Common.{◌≡◌, ◌⊎◌, ℕ, ◌<◌, List, Option, Some, length, slice_get, slice_set, sym, ◌∙◌, inl, inr, subst}
+use Rattle.std.proofs.lemmas.Bool.{cases_eq}
+use Rattle.wh_host_model.specs.declared.states.Mark.{Mark}
+use Rattle.wh_host_model.specs.Space.Sound.{HasHash}
+use Rattle.wh_host_model.proofs.Space.Putting.{set_same, set_other}
+use Rattle.wh_content.specs.Marks.{AreApart, IsOnlyWith}
+
+-- what is at j after x was put at i
+pub at_put : {X : Type 0} (P : Option X → Type 0) (xs : List X) (i j : ℕ) (x : X) → i < length xs → P (slice_get (slice_set xs i x) j)
+    → ((j ≡ i) × P (Some x)) ⊎ ((j ≡ i → ⊥) × P (slice_get xs j))
+at_put P xs i j x within p =
+    elim (cases_eq j i) [
+      | inl same ↦ inl (same, subst P (set_same xs i x within) (subst (λ k. P (slice_get (slice_set xs i x) k)) same p))
+      | inr other ↦ inr (other, subst P (set_other xs i j x other) p)
+    ]
+
+-- the hashes stay apart where a mark is put whose hash no other frame has
+pub apart_put : (marks : List Mark) (f : ℕ) (mark : Mark) → AreApart marks → f < length marks
+    → ((hash : ℕ) → HasHash (Some mark) hash → IsOnlyWith marks f hash) → AreApart (slice_set marks f mark)
+apart_put marks f mark apart within only a hash has b also =
+    let first = at_put (λ m. HasHash m hash) marks f a mark within has in
+    let second = at_put (λ m. HasHash m hash) marks f b mark within also in
+    elim first [
+      | inl here ↦ elim second [
+        | inl there ↦ there.0 ∙ sym here.0
+        | inr there ↦ only hash here.1 b there.1 ∙ sym here.0
+      ]
+      | inr here ↦ elim second [
+        | inl there ↦ there.0 ∙ sym (only hash there.1 a here.1)
+        | inr there ↦ apart a hash here.1 b there.1
+      ]
+    ]
