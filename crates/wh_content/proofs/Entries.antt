@@ -1,7 +1,8 @@
 -- One mark among those of all frames.
-use Rattle.std.proofs.Common.{◌≡◌, ◌⊎◌, ℕ, ◌<◌, List, Option, Some, length, slice_get, slice_set, sym, ◌∙◌, inl, inr, subst}
+use Rattle.std.proofs.Common.{◌≡◌, ◌⊎◌, ℕ, ◌<◌, List, Option, Some, None, length, slice_get, slice_set, sym, ◌∙◌, inl, inr, subst}
 use Rattle.std.proofs.lemmas.Bool.{cases_eq}
 use Rattle.wh_host_model.specs.declared.states.Mark.{Mark}
+use Rattle.wh_host_model.specs.declared.states.Mark.TheVariants.{Plain, Hint, Sharers}
 use Rattle.wh_host_model.specs.Space.Sound.{HasHash}
 use Rattle.wh_host_model.proofs.Space.Putting.{set_same, set_other}
 use Rattle.wh_content.specs.Marks.{AreApart, IsOnlyWith}
@@ -13,6 +14,22 @@ at_put P xs i j x within p =
     elim (cases_eq j i) [
       | inl same ↦ inl (same, subst P (set_same xs i x within) (subst (λ k. P (slice_get (slice_set xs i x) k)) same p))
       | inr other ↦ inr (other, subst P (set_other xs i j x other) p)
+    ]
+
+-- a mark has one hash
+pub one_hash : (mark : Option Mark) (h k : ℕ) → HasHash mark h → HasHash mark k → h ≡ k
+one_hash None h k has also = absurd has
+one_hash (Some Plain) h k has also = absurd has
+one_hash (Some (Hint hash i p)) h k has also = sym has ∙ also
+one_hash (Some (Sharers hash n)) h k has also = sym has ∙ also
+
+-- no other frame has the hash of a mark once f has none
+pub only_plain : (marks : List Mark) (f hash h : ℕ) (mark : Mark) → f < length marks → IsOnlyWith marks f hash → HasHash (Some mark) hash
+    → HasHash (Some mark) h → IsOnlyWith (slice_set marks f Plain) f h
+only_plain marks f hash h mark within only has also g is =
+    elim (at_put (λ m. HasHash m h) marks f g Plain within is) [
+      | inl here ↦ here.0
+      | inr other ↦ only g (subst (HasHash (slice_get marks g)) (one_hash (Some mark) h hash also has) other.1)
     ]
 
 -- the hashes stay apart where a mark is put whose hash no other frame has

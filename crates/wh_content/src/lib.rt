@@ -1,6 +1,7 @@
 //! The content table: which frame has the bytes of a hash.
 #![tactic(auto)]
 
+mod chains;
 mod entry;
 mod table;
 

@@ -1,14 +1,18 @@
 // The table as its caller sees it.
 
-ghost use Rattle.std.specs.Prelude.{◌≡◌, ◌<◌, Some, IfOk, IfSome, IfNone, length, get_or, replicate, slice_get, slice_set};
+ghost use Rattle.std.specs.Prelude.{◌≡◌, ◌+◌, ◌<◌, ◌%◌, Some, IfOk, IfSome, IfNone, length, get_or, replicate, slice_get, slice_set};
 ghost use Rattle.wh_content.specs.Marks.{frame_of_entry, mark_of_entry, IsOnlyWith, IsWithout};
 ghost use Rattle.wh_host_model.specs.Space.Breaks.{fewer_sharers};
+ghost use Rattle.wh_host_model.specs.Space.Sound.{HasHash};
 ghost use Rattle.wh_host_model.specs.declared.states.Mark.TheVariants.{Plain, Hint, Sharers};
 
-use crate::entry::{Entry, entry_under};
+use crate::chains::Chains;
+use crate::entry::{Entry, entry_under, hash_of};
 use std::alloc::{AllocError, Global};
 use std::marker::Model;
 use wh_host_model::Mark;
+
+const _: () = prove!(size_of::<Mark>() <= 24);
 
 /// What is known of the content of each frame: at most one entry for a frame, and at most one under
 /// a hash.
@@ -16,7 +20,10 @@ use wh_host_model::Mark;
 /// All room is taken at once. Then no method takes memory, and none fails.
 #[derive(Drop)]
 pub struct Table {
+    frames: u32,
     marks: Vec<Mark>,
+    // As many chains as frames. Their heads are the places behind the frames.
+    chains: Chains,
 }
 
 impl Model for Table {
@@ -25,15 +32,23 @@ impl Model for Table {
 
     ghost Value = { List Mark };
 
-    ghost use Rattle.wh_content.specs.Parts.{HasMarks};
+    ghost use Rattle.wh_content.specs.Parts.{IsIndexed};
 
     ghost view = { λ a. a.marks.items };
 
-    ghost invariant = { HasMarks };
+    ghost invariant = { IsIndexed };
+}
+
+// The head of the chain for this hash, where there are so many frames.
+fn head_of(frames: u32, hash: u64) -> usize
+    requires { 0 < frames }
+    ensures { result ≡ frames + hash % frames }
+{
+    frames as usize + (hash % frames as u64) as usize
 }
 
 impl Table {
-    /// A table for so many frames, without entries. All its room is taken here.
+    /// A table for so many frames, without entries. All its room is taken here: 32 bytes a frame.
     ///
     /// # Errors
     /// `AllocError` where room is refused. Nothing is left behind then.
@@ -41,7 +56,12 @@ impl Table {
         ensures { IfOk result (λ table. table ≡ replicate frames Plain) }
     {
         let marks = vec![in alloc; Mark::Plain; frames as usize]?;
-        Ok(Table { marks })
+        let chains = Chains::new(alloc, frames as usize * 2)?;
+        Ok(Table {
+            frames,
+            marks,
+            chains,
+        })
     }
 
     /// What there is of this frame, which is one of the table's.
@@ -59,10 +79,15 @@ impl Table {
         ensures only { IfSome result (λ entry. IsOnlyWith self.now (frame_of_entry entry) hash) }
         ensures none { IfNone result (IsWithout self.now hash) }
     {
-        for frame in 0..self.marks.len() as u32 {
+        if self.frames == 0 {
+            return None;
+        }
+        let mut place = head_of(self.frames, hash);
+        while let Some(frame) = self.chains.next(place) {
             if let Some(entry) = entry_under(hash, frame, self.mark(frame)) {
                 return Some(entry);
             }
+            place = frame as usize;
         }
         None
     }
@@ -75,7 +100,7 @@ impl Table {
         requires alone { IsOnlyWith self.old frame hash }
         ensures { self.new ≡ slice_set self.old frame (Hint hash place page) }
     {
-        self.marks[frame as usize] = Mark::Hint { hash, place, page };
+        self.put(frame, hash, Mark::Hint { hash, place, page });
     }
 
     /// Says that so many pages share this frame, which is one of the table's, under the hash. No
@@ -85,10 +110,11 @@ impl Table {
         requires alone { IsOnlyWith self.old frame hash }
         ensures { self.new ≡ slice_set self.old frame (Sharers hash sharers) }
     {
-        self.marks[frame as usize] = Mark::Sharers {
+        let mark = Mark::Sharers {
             hash,
             count: sharers,
         };
+        self.put(frame, hash, mark);
     }
 
     /// Says that one page fewer shares this frame, which is one of the table's. With the last one its
@@ -116,6 +142,24 @@ impl Table {
         requires { frame < length self.old }
         ensures { self.new ≡ slice_set self.old frame Plain }
     {
+        let Some(hash) = hash_of(self.marks[frame as usize]) else {
+            return;
+        };
+        let place = self.chains.behind(head_of(self.frames, hash), frame);
+        self.chains.remove(place, frame);
         self.marks[frame as usize] = Mark::Plain;
+    }
+
+    // Puts a mark with this hash, which no other frame has.
+    fn put(&mut self, frame: u32, hash: u64, mark: Mark)
+        requires within { frame < length self.old }
+        requires alone { IsOnlyWith self.old frame hash }
+        requires hash { HasHash (Some mark) hash }
+        ensures { self.new ≡ slice_set self.old frame mark }
+    {
+        self.forget_frame(frame);
+        let place = self.chains.behind(head_of(self.frames, hash), frame);
+        self.chains.insert(place, frame);
+        self.marks[frame as usize] = mark;
     }
 }
