@@ -30,4 +30,5 @@ pub record LeadsOn (count : ℕ) (marks : List Mark) (bucket place link : ℕ) :
 
 -- the links from all places of all buckets do
 pub record AreChains (count : ℕ) (marks : List Mark) (links : List ℕ) : Type 0 where
-  pub each : (bucket place : ℕ) → bucket < count → IsPlace count marks bucket place → LeadsOn count marks bucket place (slice_index links place)
+  pub each : (bucket place : ℕ) → bucket < count → IsPlace count marks bucket place
+      → LeadsOn count marks bucket place (slice_index links place)

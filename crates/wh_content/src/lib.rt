@@ -51,6 +51,13 @@ mod tests {
     }
 
     #[test]
+    fn a_table_may_have_no_frames(rt: HostRuntime) -> Result<(), Fail> {
+        let table = Table::new(rt.alloc(), 0)?;
+        assert_eq!(rt; table.look(7), None);
+        Ok(())
+    }
+
+    #[test]
     fn a_frame_has_one_entry(rt: HostRuntime) -> Result<(), Fail> {
         let mut table = Table::new(rt.alloc(), 3)?;
         table.set_hint(2, 1, 0, 0);

@@ -92,9 +92,9 @@ impl Table {
         None
     }
 
-    /// Makes this page, of the instance at this place, the hint of the hash, on this frame, which is
-    /// one of the table's. No other frame has an entry under the hash. An entry that this frame had
-    /// goes.
+    /// Makes this page, of the instance at this place, the hint of the hash, on this frame, which
+    /// is one of the table's. No other frame has an entry under the hash. An entry that this frame
+    /// had goes.
     pub fn set_hint(&mut self, frame: u32, hash: u64, place: u32, page: u32)
         requires within { frame < length self.old }
         requires alone { IsOnlyWith self.old frame hash }
@@ -117,8 +117,8 @@ impl Table {
         self.put(frame, hash, mark);
     }
 
-    /// Says that one page fewer shares this frame, which is one of the table's. With the last one its
-    /// entry goes. A hint stays.
+    /// Says that one page fewer shares this frame, which is one of the table's. With the last one
+    /// its entry goes. A hint stays.
     pub fn drop_sharer(&mut self, frame: u32)
         requires { frame < length self.old }
         ensures { self.new

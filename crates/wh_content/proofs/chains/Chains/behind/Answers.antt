@@ -6,5 +6,8 @@ pub loop-next-preserved : goal.loop-next-preserved
 loop-next-preserved c = record {
   behind = c.if-next-frame.false;
   within = omega arith;
-  place = λ count bucket marks chains below head. inl (led_on count bucket c.loop-next.place c.in-Some.next marks c.args.self.now chains below (c.loop-next.invariant.place count bucket marks chains below head) c.in-Some.ensures.link);
+  place = λ count bucket marks chains below head.
+      let at = c.loop-next.invariant.place count bucket marks chains below head in
+      inl (led_on count marks c.args.self.now chains bucket c.loop-next.place below at c.in-Some.next
+      c.in-Some.ensures.link);
 }

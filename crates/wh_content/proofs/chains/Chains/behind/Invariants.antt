@@ -8,7 +8,8 @@ abbrev pub invariant-loop-next : goal.invariant-loop-next
 invariant-loop-next l = record {
   behind : l.fn.frame < l.place;
   within : l.place < length l.fn.self;
-  place : (count bucket : ℕ) (marks : List Mark) → AreChains count marks l.fn.self → bucket < count → IsPlace count marks bucket l.fn.head → IsPlace count marks bucket l.place;
+  place : (count bucket : ℕ) (marks : List Mark) → AreChains count marks l.fn.self → bucket < count
+      → IsPlace count marks bucket l.fn.head → IsPlace count marks bucket l.place;
 }
 
 abbrev pub decreases-loop-next : goal.decreases-loop-next

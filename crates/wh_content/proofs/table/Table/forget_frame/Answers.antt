@@ -21,8 +21,9 @@ invariant_of-self c =
       many = simp length-set inv.many;
       apart = apart_put marks f Plain inv.apart within (λ h has. absurd has);
       places = rw c.remove.ensures.removed (simp length-set inv.places);
-      chains = rw c.remove.ensures.removed (removed n (hash % n) c.behind-place.result f marks a.chains inv.many (omega (arith, inv.many)) below inv.chains
-          (hash, (rw found c.in-Some.ensures.some), refl)
+      chains = rw c.remove.ensures.removed (removed n (hash % n) c.behind-place.result f marks a.chains inv.many
+          (omega (arith, inv.many)) below inv.chains (hash, (rw found c.in-Some.ensures.some), refl)
           (c.behind-place.ensures.place n (hash % n) marks inv.chains below (inr c.head_of.ensures))
-          c.behind-place.ensures.behind c.behind-place.ensures.within c.behind-place.ensures.last c.remove.ensures.falls);
+          c.behind-place.ensures.behind c.behind-place.ensures.within c.behind-place.ensures.last
+          c.remove.ensures.falls);
     }
