@@ -7,8 +7,8 @@ ghost use Rattle.wh_host_model.specs.declared.states.Mark.{Mark};
 use std::alloc::{AllocError, Global};
 use std::marker::Model;
 
-// At each place a link to a frame before it, or none. The places are the frames and, behind them,
-// the heads of the chains.
+// At each place a link to a frame before it, or none. The first places are those of the frames, by
+// their numbers, and behind them come the heads of the chains.
 #[derive(Drop)]
 pub struct Chains {
     // The number of the frame and 1, or 0.
@@ -68,7 +68,8 @@ impl Chains {
         place
     }
 
-    // Puts a frame into a chain, after this place.
+    // Puts a frame into a chain: the link at this place leads to it now, and from it to where that
+    // led.
     pub fn insert(&mut self, place: usize, frame: u32)
         requires within { place < length self.old }
         requires before { frame < place }
@@ -81,7 +82,8 @@ impl Chains {
         self.links[place] = frame + 1;
     }
 
-    // Takes a frame, which comes after this place, out of its chain.
+    // Takes a frame, to which the link at this place leads, out of its chain. It tells the caller
+    // that links fall.
     pub fn remove(&mut self, place: usize, frame: u32)
         requires within { place < length self.old }
         requires before { frame < place }
