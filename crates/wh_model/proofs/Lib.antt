@@ -20,3 +20,8 @@ pub mod WorkedDepth
 pub mod Fragments
 pub mod Asked
 pub mod Taken
+pub mod StoreTypingLemmas
+pub mod MemoryTypingLemmas
+pub mod TermTypingLemmas
+pub mod PreservationLemmas
+pub mod SoundnessLemmas
