@@ -25,3 +25,7 @@ pub mod MemoryTypingLemmas
 pub mod TermTypingLemmas
 pub mod PreservationLemmas
 pub mod SoundnessLemmas
+pub mod ProgressLemmas
+pub mod StuckLemmas
+pub mod BeginsTypedLemmas
+pub mod SoundReplayLemmas

@@ -1,8 +1,8 @@
 -- Bytes of a memory: numbers that are read stay in range, and a memory that is written or grows keeps its type.
-use Rattle.std.proofs.Common.{◌≡◌, ℕ, zero, suc, ◌+◌, ◌*◌, ◌-◌, ◌/◌, ◌%◌, ◌^◌, ◌<◌, ◌≤◌, List, [], ◌∷◌, ◌++◌, length, take, drop, replicate, refl, sym, ap, subst, arith, ◌∙◌, mod-lt, length-append}
+use Rattle.std.proofs.Common.{◌≡◌, ℕ, zero, suc, ◌+◌, ◌*◌, ◌-◌, ◌/◌, ◌^◌, ◌<◌, ◌≤◌, List, [], ◌∷◌, ◌++◌, length, take, drop, replicate, refl, ap, arith, ◌∙◌, mod-lt, length-append}
 use Rattle.std.proofs.Math.Nat.{pow-suc}
 use Rattle.std.proofs.lemmas.List.{length-replicate}
-use Rattle.std.specs.List.{AllByRecursion, slice_range}
+use Rattle.std.specs.List.{AllByRecursion}
 use Rattle.wh_model.specs.declared.LoadOp.{LoadOp}
 use Rattle.wh_model.specs.declared.LoadOp.TheVariants.{I32Load, I64Load, I32Load8S, I32Load8U, I32Load16S, I32Load16U, I64Load8S, I64Load8U, I64Load16S, I64Load16U, I64Load32S, I64Load32U}
 use Rattle.wh_model.specs.Format.Syntax.{Limits}
@@ -10,7 +10,7 @@ use Rattle.wh_model.specs.Validity.Typing.{Context, load_type}
 use Rattle.wh_model.specs.Validity.Valid.{most_pages}
 use Rattle.wh_model.specs.Execution.Numbers.{bits, extend_u}
 use Rattle.wh_model.specs.Execution.Store.{Instance, pages, number, bytes_of, bytes_at, written, loaded}
-use Rattle.wh_model.specs.Execution.Instance.{first_size, last_size}
+use Rattle.wh_model.specs.Execution.Instance.{last_size}
 use Rattle.wh_model.specs.Soundness.StoreTyping.{IsByte, MemoryType, InstanceType}
 use Rattle.wh_model.proofs.Fragments.{length-written}
 use Rattle.wh_model.proofs.Numbers.{extend_s-lt}

@@ -1,5 +1,5 @@
 -- What an instruction does keeps types.
-use Rattle.std.proofs.Common.{◌≡◌, ℕ, zero, suc, ◌+◌, ◌^◌, ◌<◌, ◌≤◌, List, [], ◌∷◌, ◌++◌, length, map, reverse, Option, Some, None, option_map, slice_get, slice_set, get_or, refl, sym, ap, subst, arith, ◌∙◌, length-append, Ok}
+use Rattle.std.proofs.Common.{◌≡◌, ℕ, zero, suc, ◌+◌, ◌^◌, ◌<◌, ◌≤◌, List, [], ◌∷◌, ◌++◌, length, map, reverse, Option, Some, None, option_map, slice_get, get_or, refl, sym, ap, subst, arith, ◌∙◌, length-append, Ok}
 use Rattle.std.specs.Prelude.{IfOk}
 use Rattle.std.specs.List.{AllByRecursion}
 use Rattle.std.proofs.lemmas.List.{length-reverse, reverse-reverse}
@@ -9,18 +9,18 @@ use Rattle.wh_model.specs.declared.ValType.TheVariants.{I32, I64}
 use Rattle.wh_model.specs.declared.BinaryOp.{BinaryOp}
 use Rattle.wh_model.specs.declared.ConvertOp.{ConvertOp}
 use Rattle.wh_model.specs.declared.ConvertOp.TheVariants.{WrapI64, ExtendI32S, ExtendI32U}
-use Rattle.wh_model.specs.Format.Syntax.{Code, nothing, loop, FuncType, GlobalType}
-use Rattle.wh_model.specs.Validity.Typing.{Context, under, operand, load_type, store_type, conversion_type, HasType, no_more, then_loop}
+use Rattle.wh_model.specs.Format.Syntax.{Code, FuncType, GlobalType}
+use Rattle.wh_model.specs.Validity.Typing.{Context, operand, load_type, store_type, conversion_type, HasType, no_more, then_loop}
 use Rattle.wh_model.specs.Execution.Numbers.{bits, binary, operand_type, result_type}
-use Rattle.wh_model.specs.Execution.Store.{Value, value, type_of, InRange, FuncInst, own, host, signature, Instance, Store, number, bytes_of, bytes_at, output_room}
+use Rattle.wh_model.specs.Execution.Store.{Value, value, InRange, FuncInst, signature, Instance, Store, number, bytes_of, bytes_at, output_room}
 use Rattle.wh_model.specs.Execution.Configuration.{Term, arity, Config}
 use Rattle.wh_model.specs.Execution.Rules.{Rewrites, const_i32, const_i64, unary_op, binary_op, test_op, compare_op, convert_op, drop_top, select_first, select_second, do_nothing, enter_block, enter_loop, then_true, then_false, if_true, if_false, br_if_not, Calls, by_call, by_indirect, Invokes, enter, too_deep, input, put, put_full, emit, emit_long, emit_beyond, emit_full, Base, pure, traps, get_local, set_local, tee_local, get_global, set_global, load_bytes, store_bytes, size_pages, grow_pages, grow_too_far, invoke}
 use Rattle.wh_model.specs.Soundness.StoreTyping.{IsOfType, AreOfTypes, FuncInstType, InstanceType, MemoryType, StoreType}
 use Rattle.wh_model.specs.Soundness.TermTyping.{IsInside, TermType, ConfigType}
 use Rattle.wh_model.proofs.Numbers.{unsigned-lt, unary-lt, binary-lt, test-lt, compare-lt, convert-lt}
-use Rattle.wh_model.proofs.StoreTypingLemmas.{types_length, types_append, types_parted, types_get, types_set, types_zeros, types_reverse}
+use Rattle.wh_model.proofs.StoreTypingLemmas.{types_append, types_parted, types_get, types_set, types_zeros, types_reverse}
 use Rattle.wh_model.proofs.MemoryTypingLemmas.{number_at, loaded_fits, bytes_of_bytes, length-bytes_of, few_at, pages_fit, memory_written, memory_grown}
-use Rattle.wh_model.proofs.TermTypingLemmas.{parts, taking, giving, Stands, stands, arity_length, gives_all}
+use Rattle.wh_model.proofs.TermTypingLemmas.{parts, taking, giving, stands, arity_length, gives_all}
 
 -- ---- instructions over operands alone
 
@@ -109,7 +109,7 @@ some_in : {A B : Type 0} (v : A → B) (o : Option A) (y : B) → option_map v o
 some_in v None y e = absurd (cc e)
 some_in v (Some x) y e = (x, refl, cc e)
 
-each_get : {X : Type 0} (P : X → Type 0) (xs : List X) (k : ℕ) (x : X) → slice_get xs k ≡ Some x → AllByRecursion P xs → P x
+pub each_get : {X : Type 0} (P : X → Type 0) (xs : List X) (k : ℕ) (x : X) → slice_get xs k ≡ Some x → AllByRecursion P xs → P x
 each_get P [] k x e h = absurd (cc e)
 each_get P (y ∷ ys) zero x e h = let same : y ≡ x = cc e in subst P same h.0
 each_get P (y ∷ ys) (suc k) x e h = each_get P ys k x e h.1
@@ -180,7 +180,7 @@ more_output m inst s bytes n t few room =
       output = rw (length-append s.output bytes) (omega (arith, few, room));
     }
 
-invokes_keep : {d : ℕ} {s : Store} {f vs : List Value} {h : FuncInst} {is : Code} {b : Config} → Invokes d s f h vs is b → (m c : Context) (inst : Instance) (outs : List ValType)
+pub invokes_keep : {d : ℕ} {s : Store} {f vs : List Value} {h : FuncInst} {is : Code} {b : Config} → Invokes d s f h vs is b → (m c : Context) (inst : Instance) (outs : List ValType)
     → StoreType m inst s → AreOfTypes f c.locals → CallTyped m c h vs is outs → ConfigType m inst c b outs
 invokes_keep (enter {type = type} {body = body} {operands = operands} {args = args} {vs = vs} {is = is} takes low) m c inst outs st ls x =
     let valid = x.is_func in
@@ -209,7 +209,7 @@ invokes_keep (emit_full few within room) m c inst outs st ls x = st
 
 -- ---- instructions that look at the store or the locals
 
-global_at : (m c : Context) (x : ℕ) (g : GlobalType) → IsInside m c → slice_get c.globals x ≡ Some g → slice_get (map (λ (k : GlobalType). k.value) m.globals) x ≡ Some g.value
+pub global_at : (m c : Context) (x : ℕ) (g : GlobalType) → IsInside m c → slice_get c.globals x ≡ Some g → slice_get (map (λ (k : GlobalType). k.value) m.globals) x ≡ Some g.value
 global_at m c x g inside at =
     slice_get-map (λ (k : GlobalType). k.value) m.globals x ∙ ap (λ gs. option_map (λ (k : GlobalType). k.value) (slice_get gs x)) (sym inside.4) ∙ ap (λ o. option_map (λ (k : GlobalType). k.value) o) at
 
@@ -220,7 +220,7 @@ value_there ts vs x t v type at h =
     let same : y.0 ≡ v = let there = sym y.1 ∙ at in cc there in
     subst (IsOfType t) same y.2
 
-stored_memory : (m : Context) (inst : Instance) (s : Store) (bytes : List ℕ) → StoreType m inst s → MemoryType m inst bytes → StoreType m inst (record s { bytes = bytes })
+pub stored_memory : (m : Context) (inst : Instance) (s : Store) (bytes : List ℕ) → StoreType m inst s → MemoryType m inst bytes → StoreType m inst (record s { bytes = bytes })
 stored_memory m inst s bytes t h =
     record { memory = h; globals = t.globals; entries = t.entries; table = t.table; inputs = t.inputs; output = t.output }
 

@@ -1,9 +1,9 @@
 -- Reductions keep types, in every context.
-use Rattle.std.proofs.Common.{◌≡◌, ℕ, zero, suc, ◌≤◌, List, [], ◌∷◌, ◌++◌, length, Option, Some, None, slice_get, get_or, refl, sym, ap, subst, arith, ◌∙◌, append_assoc}
+use Rattle.std.proofs.Common.{◌≡◌, ℕ, zero, suc, List, [], ◌∷◌, ◌++◌, Option, Some, slice_get, get_or, refl, sym, ap, subst, ◌∙◌, append_assoc}
 use Rattle.std.specs.List.{AllByRecursion}
 use Rattle.wh_model.specs.declared.ValType.{ValType}
-use Rattle.wh_model.specs.declared.ValType.TheVariants.{I32, I64}
-use Rattle.wh_model.specs.Format.Syntax.{Code, nothing, join}
+use Rattle.wh_model.specs.declared.ValType.TheVariants.{I32}
+use Rattle.wh_model.specs.Format.Syntax.{Code}
 use Rattle.wh_model.specs.Validity.Typing.{Context, under, operand, HasType}
 use Rattle.wh_model.specs.Execution.Store.{Value, value, Instance, Store}
 use Rattle.wh_model.specs.Execution.Configuration.{Term, Config, config, trapped, arity, TakesOperands}
@@ -14,7 +14,7 @@ use Rattle.wh_model.specs.Soundness.TermTyping.{frame_context, IsInside, TermTyp
 use Rattle.wh_model.specs.Laws.SoundnessLaws.{Preservation}
 use Rattle.wh_model.proofs.Typing.{composed, framed}
 use Rattle.wh_model.proofs.StoreTypingLemmas.{types_append, types_parted}
-use Rattle.wh_model.proofs.TermTypingLemmas.{parts, taking, Stands, stands, arity_length, Inside, block_typed, drop_at}
+use Rattle.wh_model.proofs.TermTypingLemmas.{parts, taking, stands, arity_length, block_typed, drop_at}
 use Rattle.wh_model.proofs.PreservationLemmas.{base_keeps}
 
 -- ---- branches

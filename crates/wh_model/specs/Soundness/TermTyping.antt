@@ -1,5 +1,5 @@
 -- Typing of instructions under way and of configurations: the standard's appendix on soundness.
-use Rattle.std.specs.Prelude.{◌≡◌, ℕ, List, [], ◌++◌, Option, None}
+use Rattle.std.specs.Prelude.{◌≡◌, List, [], ◌++◌, Option, None}
 use Rattle.wh_model.specs.declared.ValType.{ValType}
 use Rattle.wh_model.specs.Format.Syntax.{nothing}
 use Rattle.wh_model.specs.Validity.Typing.{Context, under, operand, HasType}
