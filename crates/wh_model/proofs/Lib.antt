@@ -29,3 +29,4 @@ pub mod ProgressLemmas
 pub mod StuckLemmas
 pub mod BeginsTypedLemmas
 pub mod SoundReplayLemmas
+pub mod SpelledBytesLemmas

@@ -4,8 +4,8 @@ use Rattle.std.specs.List.{AllByRecursion}
 use Rattle.wh_model.specs.declared.ValType.{ValType}
 use Rattle.wh_model.specs.Format.Syntax.{nothing, FuncType, Module}
 use Rattle.wh_model.specs.Validity.Typing.{Context}
-use Rattle.wh_model.specs.Validity.Valid.{IsValidIn}
-use Rattle.wh_model.specs.Linking.Accepting.{IsModule}
+use Rattle.wh_model.specs.Validity.Valid.{IsContext, IsValidIn}
+use Rattle.wh_model.specs.Linking.Accepting.{IsModule, IsAccepted}
 use Rattle.wh_model.specs.Execution.Store.{FuncInst, signature, Instance, Store}
 use Rattle.wh_model.specs.Execution.Configuration.{code, Config, config, trapped}
 use Rattle.wh_model.specs.Execution.Reduction.{Reduces, Leads}
@@ -113,3 +113,12 @@ NoCallSticks =
     → IsValidIn m c → HasBytes m → IsInitial m p (begins inst s ps) → Replay m p calls (idle s2)
     → Invocation inst s2 call a → Leads inst a n b
     → (type : FuncType) × HasFuncType inst call type × (IsFinal b (reverse type.results) ⊎ GoesFurther inst b)
+
+-- so it is of each module whose bytes are accepted
+abbrev pub AcceptedSoundness : Type 0
+AcceptedSoundness =
+    (bytes : List ℕ) (m : Module) (p : Parameters) (inst : Instance) (s : Store) (ps : List Piece) (calls : List Call)
+    (z : Standing)
+    → IsAccepted bytes m → IsInitial m p (begins inst s ps) → Replay m p calls z
+    → (c : Context) × IsContext m c × AllByRecursion (λ call. EndsAs inst call call.outcome) calls
+    × StandsAs c inst calls z
