@@ -187,10 +187,10 @@ begins_in {m = m} {p = p} {inst = inst} (in_bounds {globals = globals} {elements
     let entries = length-replicate {A = Option ℕ} (first_size m.tables) None in
     let imported = imported_typed m.types p m.imports r.hosts r.imported given r.imports in
     let values : AreOfTypes globals (map (λ g. g.value) c.globals) =
-        subst (λ w. AreOfTypes w (map (λ g. g.value) c.globals)) (sym r.globals_are)
-        (subst (λ w. AreOfTypes (r.imported ++ r.begun) (map (λ g. g.value) w)) (sym context.globals)
-        (subst (AreOfTypes (r.imported ++ r.begun)) (sym (map-append (λ (g : GlobalType). g.value) (imported_globals m.imports) (map (λ g. g.type) m.globals)))
-        (types_append r.imported r.begun _ _ imported (begun_typed m.imports r.imported m.globals r.begun imported valid.globals r.begins)))) in
+    subst (λ w. AreOfTypes w (map (λ g. g.value) c.globals)) (sym r.globals_are)
+    (subst (λ w. AreOfTypes (r.imported ++ r.begun) (map (λ g. g.value) w)) (sym context.globals)
+    (subst (AreOfTypes (r.imported ++ r.begun)) (sym (map-append (λ (g : GlobalType). g.value) (imported_globals m.imports) (map (λ g. g.type) m.globals)))
+    (types_append r.imported r.begun _ _ imported (begun_typed m.imports r.imported m.globals r.begun imported valid.globals r.begins)))) in
     let written_entries = placed_items (AllByRecursion (HasFunc c)) globals _ elements r.elements_at (element_items c m.elements valid.elements) in
     let items = placed_items (AllByRecursion IsByte) globals _ segments r.segments_at (data_items m.segments bytes) in
     let store : Store = record {
@@ -204,7 +204,7 @@ begins_in {m = m} {p = p} {inst = inst} (in_bounds {globals = globals} {elements
         types = r.types ∙ sym context.types;
         signatures = ap (map signature) r.funcs ∙ named_all m.types p m.imports m.funcs c.funcs m.bodies r.hosts r.owns r.imported context.funcs r.imports r.defines;
         funcs = subst (AllByRecursion (FuncInstType c)) (sym r.funcs)
-        (each_append (FuncInstType c) r.hosts r.owns (hosts_typed c m.types p m.imports r.hosts r.imported r.imports) (owns_typed c m.types m.funcs m.bodies r.owns context.types valid.bodies r.defines));
+            (each_append (FuncInstType c) r.hosts r.owns (hosts_typed c m.types p m.imports r.hosts r.imported r.imports) (owns_typed c m.types m.funcs m.bodies r.owns context.types valid.bodies r.defines));
         page_limit = low;
       },
       record {
@@ -213,7 +213,7 @@ begins_in {m = m} {p = p} {inst = inst} (in_bounds {globals = globals} {elements
         entries = filled_length (replicate (first_size m.tables) None) elements (subst (λ n. Within n elements) (sym entries) in_table) ∙ entries ∙ ap first_size (sym context.tables);
         table = filled_typed c (replicate (first_size m.tables) None) elements (each_replicate (EntryType c) (first_size m.tables) None tt) written_entries;
         inputs = given.inputs;
-        output = omega arith;
+        output = (omega arith, tt);
       },
       pieces_typed store (fragments segments) (subst (λ n. Within n (fragments segments)) (sym count) (fragments_within (first_size m.memories * 65536) segments in_memory)) (fragments_bytes segments items),
     )

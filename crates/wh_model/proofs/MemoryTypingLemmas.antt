@@ -2,7 +2,7 @@
 use Rattle.std.proofs.Common.{◌≡◌, ℕ, zero, suc, ◌+◌, ◌*◌, ◌-◌, ◌/◌, ◌^◌, ◌<◌, ◌≤◌, List, [], ◌∷◌, ◌++◌, length, take, drop, replicate, refl, ap, arith, ◌∙◌, mod-lt, length-append}
 use Rattle.std.proofs.Math.Nat.{pow-suc}
 use Rattle.std.proofs.lemmas.List.{length-replicate}
-use Rattle.std.specs.List.{AllByRecursion}
+use Rattle.std.specs.List.{AllByRecursion, slice_range}
 use Rattle.wh_model.specs.declared.LoadOp.{LoadOp}
 use Rattle.wh_model.specs.declared.LoadOp.TheVariants.{I32Load, I64Load, I32Load8S, I32Load8U, I32Load16S, I32Load16U, I64Load8S, I64Load8U, I64Load16S, I64Load16U, I64Load32S, I64Load32U}
 use Rattle.wh_model.specs.Format.Syntax.{Limits}
@@ -41,6 +41,9 @@ module _ {X : Type 0} (P : X → Type 0) where
       each_append (take at old) (given ++ drop (at + length given) old) (each_take at old g)
       (each_append given (drop (at + length given) old) h (each_drop (at + length given) old g))
 
+  pub each_at : (xs : List X) (at k : ℕ) → AllByRecursion P xs → AllByRecursion P (slice_range xs at (at + k))
+  each_at xs at k h = each_take (at + k - at) (drop at xs) (each_drop at xs h)
+
 -- ---- numbers of bytes
 
 some_power : (k : ℕ) → 0 < 256 ^ k
@@ -66,7 +69,7 @@ few_at bytes at k = let e : at + k - at ≡ k = omega arith in rw e (length-take
 -- a number that is read in k bytes
 pub number_at : (bytes : List ℕ) (at k : ℕ) → AllByRecursion IsByte bytes → number (bytes_at bytes at k) < 256 ^ k
 number_at bytes at k h =
-    number-lt k (bytes_at bytes at k) (few_at bytes at k) (each_take IsByte (at + k - at) (drop at bytes) (each_drop IsByte at bytes h))
+    number-lt k (bytes_at bytes at k) (few_at bytes at k) (each_at IsByte bytes at k h)
 
 -- what a load makes of it is a number of its type
 pub loaded_fits : (op : LoadOp) (n : ℕ) → n < 256 ^ (load_type op).1 → loaded op n < 2 ^ bits (load_type op).0

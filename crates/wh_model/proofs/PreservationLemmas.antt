@@ -15,11 +15,11 @@ use Rattle.wh_model.specs.Execution.Numbers.{bits, binary, operand_type, result_
 use Rattle.wh_model.specs.Execution.Store.{Value, value, InRange, FuncInst, signature, Instance, Store, number, bytes_of, bytes_at, output_room}
 use Rattle.wh_model.specs.Execution.Configuration.{Term, arity, Config}
 use Rattle.wh_model.specs.Execution.Rules.{Rewrites, const_i32, const_i64, unary_op, binary_op, test_op, compare_op, convert_op, drop_top, select_first, select_second, do_nothing, enter_block, enter_loop, then_true, then_false, if_true, if_false, br_if_not, Calls, by_call, by_indirect, Invokes, enter, too_deep, input, put, put_full, emit, emit_long, emit_beyond, emit_full, Base, pure, traps, get_local, set_local, tee_local, get_global, set_global, load_bytes, store_bytes, size_pages, grow_pages, grow_too_far, invoke}
-use Rattle.wh_model.specs.Soundness.StoreTyping.{IsOfType, AreOfTypes, FuncInstType, InstanceType, MemoryType, StoreType}
+use Rattle.wh_model.specs.Soundness.StoreTyping.{IsByte, IsOfType, AreOfTypes, FuncInstType, InstanceType, MemoryType, StoreType}
 use Rattle.wh_model.specs.Soundness.TermTyping.{IsInside, TermType, ConfigType}
 use Rattle.wh_model.proofs.Numbers.{unsigned-lt, unary-lt, binary-lt, test-lt, compare-lt, convert-lt}
 use Rattle.wh_model.proofs.StoreTypingLemmas.{types_append, types_parted, types_get, types_set, types_zeros, types_reverse}
-use Rattle.wh_model.proofs.MemoryTypingLemmas.{number_at, loaded_fits, bytes_of_bytes, length-bytes_of, few_at, pages_fit, memory_written, memory_grown}
+use Rattle.wh_model.proofs.MemoryTypingLemmas.{each_append, each_at, number_at, loaded_fits, bytes_of_bytes, length-bytes_of, few_at, pages_fit, memory_written, memory_grown}
 use Rattle.wh_model.proofs.TermTypingLemmas.{parts, taking, giving, stands, arity_length, gives_all}
 
 -- ---- instructions over operands alone
@@ -117,9 +117,10 @@ each_get P (y ∷ ys) (suc k) x e h = each_get P ys k x e h.1
 -- a function instance has the type that its index has in the context
 pub func_typed : (m : Context) (inst : Instance) (x : ℕ) (h : FuncInst) → InstanceType m inst → slice_get inst.funcs x ≡ Some h
     → (slice_get m.funcs x ≡ Some (signature h)) × FuncInstType m h
-func_typed m inst x h i at =
-    (ap (λ ts. slice_get ts x) (sym i.signatures) ∙ slice_get-map signature inst.funcs x ∙ ap (λ o. option_map signature o) at,
-    each_get (FuncInstType m) inst.funcs x h at i.funcs)
+func_typed m inst x h i at = (
+  ap (λ ts. slice_get ts x) (sym i.signatures) ∙ slice_get-map signature inst.funcs x ∙ ap (λ o. option_map signature o) at,
+  each_get (FuncInstType m) inst.funcs x h at i.funcs,
+)
 
 -- and each type there has its instance
 pub func_there : (m : Context) (inst : Instance) (x : ℕ) (type : FuncType) → InstanceType m inst → slice_get m.funcs x ≡ Some type
@@ -168,16 +169,16 @@ word_at (w ∷ ws) zero h = h.0
 word_at (w ∷ ws) (suc i) h = word_at ws i h.1
 
 -- more output, as far as there is room
-more_output : (m : Context) (inst : Instance) (s : Store) (bytes : List ℕ) (n : ℕ) → StoreType m inst s → length bytes ≤ n → length s.output + n ≤ output_room
+more_output : (m : Context) (inst : Instance) (s : Store) (bytes : List ℕ) (n : ℕ) → StoreType m inst s → length bytes ≤ n → AllByRecursion IsByte bytes → length s.output + n ≤ output_room
     → StoreType m inst (record s { output = s.output ++ bytes })
-more_output m inst s bytes n t few room =
+more_output m inst s bytes n t few all room =
     record {
       memory = t.memory;
       globals = t.globals;
       entries = t.entries;
       table = t.table;
       inputs = t.inputs;
-      output = rw (length-append s.output bytes) (omega (arith, few, room));
+      output = (rw (length-append s.output bytes) (omega (arith, few, room)), each_append IsByte s.output bytes t.output.1 all);
     }
 
 pub invokes_keep : {d : ℕ} {s : Store} {f vs : List Value} {h : FuncInst} {is : Code} {b : Config} → Invokes d s f h vs is b → (m c : Context) (inst : Instance) (outs : List ValType)
@@ -191,18 +192,25 @@ invokes_keep (enter {type = type} {body = body} {operands = operands} {args = ar
     let inside = record m { locals = type.params ++ body.locals; labels = []; result = t } in (
       st,
       ls,
-      (x.below, type.params ++ body.locals, t, cut.1, count, types_append (reverse args) _ type.params body.locals given (types_zeros body.locals),
-          ([], operand t, t, tt, count, no_more, ([], tt, valid.2), gives_all inside (operand t)),
-          giving c is x.below outs (ap reverse valid.1 ∙ reverse_operand t) x.goes),
+      (
+        x.below,
+        type.params ++ body.locals,
+        t,
+        cut.1,
+        count,
+        types_append (reverse args) _ type.params body.locals given (types_zeros body.locals),
+        ([], operand t, t, tt, count, no_more, ([], tt, valid.2), gives_all inside (operand t)),
+        giving c is x.below outs (ap reverse valid.1 ∙ reverse_operand t) x.goes,
+      ),
     )
 invokes_keep (too_deep takes high) m c inst outs st ls x = st
 invokes_keep (input {i = i} {vs = vs}) m c inst outs st ls x = (st, ls, (I64 ∷ x.below, ((refl, word_at _ i st.inputs), x.over.1), x.goes))
 invokes_keep {s = s} (put {n = n} room) m c inst outs st ls x =
     let count = length-bytes_of 8 n in
-    (more_output m inst s (bytes_of 8 n) 8 st (omega (arith, count)) room, ls, (x.below, x.over.1, x.goes))
+    (more_output m inst s (bytes_of 8 n) 8 st (omega (arith, count)) (bytes_of_bytes 8 n) room, ls, (x.below, x.over.1, x.goes))
 invokes_keep (put_full room) m c inst outs st ls x = st
 invokes_keep {s = s} (emit {i = i} {n = n} few within room) m c inst outs st ls x =
-    (more_output m inst s (bytes_at s.bytes i n) n st (few_at s.bytes i n) room, ls, (x.below, x.over.1.1, x.goes))
+    (more_output m inst s (bytes_at s.bytes i n) n st (few_at s.bytes i n) (each_at IsByte s.bytes i n st.memory.1) room, ls, (x.below, x.over.1.1, x.goes))
 invokes_keep (emit_long many) m c inst outs st ls x = st
 invokes_keep (emit_beyond few beyond) m c inst outs st ls x = st
 invokes_keep (emit_full few within room) m c inst outs st ls x = st

@@ -54,14 +54,14 @@ MemoryType c inst bytes =
     × AllByRecursion IsByte bytes
 
 -- The memory is as its type says, each global has a value of its type, the table has as many entries as it declares;
--- and the host's part: words to be read, and no more output than there is room for.
+-- and the host's part: words of 64 bits to be read, and output of bytes, no more than there is room for.
 pub record StoreType (c : Context) (inst : Instance) (s : Store) : Type 0 where
   pub memory : MemoryType c inst s.bytes
   pub globals : AreOfTypes s.globals (map (λ g. g.value) c.globals)
   pub entries : length s.table ≡ first_size c.tables
   pub table : AllByRecursion (EntryType c) s.table
   pub inputs : AllByRecursion (λ n. n < 2 ^ 64) s.inputs
-  pub output : length s.output ≤ output_room
+  pub output : (length s.output ≤ output_room) × AllByRecursion IsByte s.output
 
 -- bytes that are to be written, within the memory
 abbrev pub PieceType : Store → Piece → Type 0
