@@ -27,6 +27,7 @@ pub mod PreservationLemmas
 pub mod SoundnessLemmas
 pub mod ProgressLemmas
 pub mod StuckLemmas
+pub mod StoresExtendLemmas
 pub mod BeginsTypedLemmas
 pub mod SoundReplayLemmas
 pub mod SpelledBytesLemmas

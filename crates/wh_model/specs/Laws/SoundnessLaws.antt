@@ -7,11 +7,11 @@ use Rattle.wh_model.specs.Validity.Typing.{Context}
 use Rattle.wh_model.specs.Validity.Valid.{IsContext, IsValidIn}
 use Rattle.wh_model.specs.Linking.Accepting.{IsModule, IsAccepted}
 use Rattle.wh_model.specs.Execution.Store.{FuncInst, signature, Instance, Store}
-use Rattle.wh_model.specs.Execution.Configuration.{code, Config, config, trapped}
+use Rattle.wh_model.specs.Execution.Configuration.{code, Config, config, trapped, store_of}
 use Rattle.wh_model.specs.Execution.Reduction.{Reduces, Leads}
 use Rattle.wh_model.specs.Execution.Instance.{Parameters, AreGiven, Piece, begins, IsInitial}
 use Rattle.wh_model.specs.Execution.Replay.{Outcome, returned, stopped, cancelled, dead, pending, Call, Invocation, Standing, idle, writing, running, Replay}
-use Rattle.wh_model.specs.Soundness.StoreTyping.{AreOfTypes, InstanceType, StoreType, PieceType, HasBytes}
+use Rattle.wh_model.specs.Soundness.StoreTyping.{AreOfTypes, InstanceType, StoreType, StoreExtends, PieceType, HasBytes}
 use Rattle.wh_model.specs.Soundness.TermTyping.{IsInside, ConfigType, ThreadType}
 
 -- ---- reduction
@@ -49,6 +49,11 @@ abbrev pub NeverStuck : Type 0
 NeverStuck = (m : Context) (inst : Instance) (n : ℕ) (a b : Config) (outs : List ValType)
     → InstanceType m inst → ThreadType m inst a outs → Leads inst a n b
     → ThreadType m inst b outs × (IsFinal b outs ⊎ GoesFurther inst b)
+
+-- and stores only extend
+abbrev pub StoresExtend : Type 0
+StoresExtend = (m : Context) (inst : Instance) (n : ℕ) (a b : Config) (outs : List ValType)
+    → InstanceType m inst → ThreadType m inst a outs → Leads inst a n b → StoreExtends m (store_of a) (store_of b)
 
 -- ---- instantiation
 

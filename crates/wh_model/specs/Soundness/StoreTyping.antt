@@ -1,9 +1,10 @@
 -- Typing of values, of a module's instance and of its store: section 4.2 of the standard and its appendix on
 -- soundness. A store here has one instance, so the types of all that it has stand in the module's context.
-use Rattle.std.specs.Prelude.{◌≡◌, ℕ, ◌+◌, ◌*◌, ◌^◌, ◌<◌, ◌≤◌, List, [], ◌∷◌, length, map, Option, Some, None}
+use Rattle.std.specs.Prelude.{◌≡◌, ℕ, ◌+◌, ◌*◌, ◌^◌, ◌<◌, ◌≤◌, List, [], ◌∷◌, ◌++◌, length, map, Option, Some, None, slice_get}
 use Rattle.std.specs.List.{AllByRecursion}
 use Rattle.wh_model.specs.declared.ValType.{ValType}
-use Rattle.wh_model.specs.Format.Syntax.{Data, Module}
+use Rattle.wh_model.specs.declared.Mutability.TheVariants.{Const}
+use Rattle.wh_model.specs.Format.Syntax.{GlobalType, Data, Module}
 use Rattle.wh_model.specs.Validity.Typing.{Context}
 use Rattle.wh_model.specs.Validity.Valid.{ValidBody, HasFunc, most_pages}
 use Rattle.wh_model.specs.Execution.Store.{Value, type_of, InRange, FuncInst, own, host, signature, Instance, Store, output_room}
@@ -62,6 +63,16 @@ pub record StoreType (c : Context) (inst : Instance) (s : Store) : Type 0 where
   pub table : AllByRecursion (EntryType c) s.table
   pub inputs : AllByRecursion (λ n. n < 2 ^ 64) s.inputs
   pub output : (length s.output ≤ output_room) × AllByRecursion IsByte s.output
+
+-- What may become of a store: the table and the words to be read stay, and so does the value of a global that is never
+-- written; the memory has no fewer bytes, and output comes behind the one that was there.
+pub record StoreExtends (c : Context) (before after : Store) : Type 0 where
+  pub table : after.table ≡ before.table
+  pub inputs : after.inputs ≡ before.inputs
+  pub constants : (x : ℕ) (g : GlobalType) → slice_get c.globals x ≡ Some g → g.mutability ≡ Const
+      → slice_get after.globals x ≡ slice_get before.globals x
+  pub memory : length before.bytes ≤ length after.bytes
+  pub output : (more : List ℕ) × (after.output ≡ before.output ++ more)
 
 -- bytes that are to be written, within the memory
 abbrev pub PieceType : Store → Piece → Type 0
