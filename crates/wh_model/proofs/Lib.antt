@@ -23,6 +23,7 @@ pub mod Taken
 pub mod StoreTypingLemmas
 pub mod MemoryTypingLemmas
 pub mod TermTypingLemmas
+pub mod RewritesTypedLemmas
 pub mod PreservationLemmas
 pub mod SoundnessLemmas
 pub mod ProgressLemmas

@@ -36,7 +36,8 @@ module _ {X : Type 0} (P : X → Type 0) where
   each_replicate zero x h = tt
   each_replicate (suc n) x h = (h, each_replicate n x h)
 
-  pub each_written : (old : List X) (at : ℕ) (given : List X) → AllByRecursion P old → AllByRecursion P given → AllByRecursion P (written old at given)
+  pub each_written : (old : List X) (at : ℕ) (given : List X) → AllByRecursion P old → AllByRecursion P given
+      → AllByRecursion P (written old at given)
   each_written old at given g h =
       each_append (take at old) (given ++ drop (at + length given) old) (each_take at old g)
       (each_append given (drop (at + length given) old) h (each_drop (at + length given) old g))
@@ -107,14 +108,16 @@ most_last (l ∷ ls) = omega arith
 pub limit_small : (c : Context) (inst : Instance) → InstanceType c inst → inst.page_limit ≤ 65536
 limit_small c inst i = let low = i.page_limit in let most = most_last c.memories in omega (arith, low, most)
 
-pub pages_fit : (c : Context) (inst : Instance) (bytes : List ℕ) → InstanceType c inst → MemoryType c inst bytes → pages bytes < 2 ^ 32
+pub pages_fit : (c : Context) (inst : Instance) (bytes : List ℕ) → InstanceType c inst → MemoryType c inst bytes
+    → pages bytes < 2 ^ 32
 pages_fit c inst bytes i h =
     let same = pages_of bytes h.0.0 h.0.1 in
     let low = h.0.3 in
     let small = limit_small c inst i in
     omega (arith, same, low, small)
 
-pub memory_written : (c : Context) (inst : Instance) (bytes : List ℕ) (at : ℕ) (given : List ℕ) → MemoryType c inst bytes
+pub memory_written : (c : Context) (inst : Instance) (bytes : List ℕ) (at : ℕ) (given : List ℕ)
+    → MemoryType c inst bytes
     → at + length given ≤ length bytes → AllByRecursion IsByte given → MemoryType c inst (written bytes at given)
 memory_written c inst bytes at given h within all =
     ((h.0.0, length-written bytes given at within ∙ h.0.1, h.0.2, h.0.3), each_written IsByte bytes at given h.1 all)
@@ -125,5 +128,10 @@ memory_grown c inst bytes n h room =
     let same = pages_of bytes h.0.0 h.0.1 in
     let is = h.0.1 in
     let first = h.0.2 in
-    let count : length (bytes ++ replicate (n * 65536) 0) ≡ (h.0.0 + n) * 65536 = rw (length-append bytes (replicate (n * 65536) 0), length-replicate {A = ℕ} (n * 65536) 0) (omega (arith, is)) in
-    ((h.0.0 + n, count, omega (arith, first), omega (arith, same, room)), each_append IsByte bytes (replicate (n * 65536) 0) h.1 (each_replicate IsByte (n * 65536) 0 (omega arith)))
+    let count : length (bytes ++ replicate (n * 65536) 0) ≡ (h.0.0 + n) * 65536 =
+    rw (length-append bytes (replicate (n * 65536) 0), length-replicate {A = ℕ} (n * 65536) 0)
+    (omega (arith, is)) in (
+      (h.0.0 + n, count, omega (arith, first), omega (arith, same, room)),
+      each_append IsByte bytes
+          (replicate (n * 65536) 0) h.1 (each_replicate IsByte (n * 65536) 0 (omega arith)),
+    )

@@ -30,7 +30,8 @@ types_length [] (t ∷ ts) h = absurd h
 types_length (v ∷ vs) [] h = absurd h
 types_length (v ∷ vs) (t ∷ ts) h = ap suc (types_length vs ts h.1)
 
-pub types_append : (us vs : List Value) (ts rs : List ValType) → AreOfTypes us ts → AreOfTypes vs rs → AreOfTypes (us ++ vs) (ts ++ rs)
+pub types_append : (us vs : List Value) (ts rs : List ValType) → AreOfTypes us ts → AreOfTypes vs rs
+    → AreOfTypes (us ++ vs) (ts ++ rs)
 types_append [] vs [] rs g h = h
 types_append [] vs (t ∷ ts) rs g h = absurd g
 types_append (u ∷ us) vs [] rs g h = absurd g
@@ -41,9 +42,11 @@ pub types_split : (ts rs : List ValType) (vs : List Value) → AreOfTypes vs (ts
     → (us ws : List Value) × (vs ≡ us ++ ws) × AreOfTypes us ts × AreOfTypes ws rs
 types_split [] rs vs h = ([], vs, refl, tt, h)
 types_split (t ∷ ts) rs [] h = absurd h
-types_split (t ∷ ts) rs (v ∷ vs) h = let x = types_split ts rs vs h.1 in (v ∷ x.0, x.1, ap (λ w. v ∷ w) x.2, (h.0, x.3), x.4)
+types_split (t ∷ ts) rs (v ∷ vs) h =
+    let x = types_split ts rs vs h.1 in (v ∷ x.0, x.1, ap (λ w. v ∷ w) x.2, (h.0, x.3), x.4)
 
-pub types_parted : (us ws : List Value) (ts rs : List ValType) → length us ≡ length ts → AreOfTypes (us ++ ws) (ts ++ rs)
+pub types_parted : (us ws : List Value) (ts rs : List ValType) → length us ≡ length ts
+    → AreOfTypes (us ++ ws) (ts ++ rs)
     → AreOfTypes us ts × AreOfTypes ws rs
 types_parted [] ws [] rs e h = (tt, h)
 types_parted [] ws (t ∷ ts) rs e h = absurd (omega arith)
@@ -57,7 +60,8 @@ types_get (r ∷ ts) [] x t e h = absurd h
 types_get (r ∷ ts) (v ∷ vs) zero t e h = let same : r ≡ t = cc e in (v, refl, subst (λ w. IsOfType w v) same h.0)
 types_get (r ∷ ts) (v ∷ vs) (suc x) t e h = types_get ts vs x t e h.1
 
-pub types_set : (ts : List ValType) (vs : List Value) (x : ℕ) (t : ValType) (v : Value) → slice_get ts x ≡ Some t → IsOfType t v
+pub types_set : (ts : List ValType) (vs : List Value) (x : ℕ) (t : ValType) (v : Value) → slice_get ts x ≡ Some t
+    → IsOfType t v
     → AreOfTypes vs ts → AreOfTypes (slice_set vs x v) ts
 types_set [] vs x t v e i h = absurd (cc e)
 types_set (r ∷ ts) [] x t v e i h = absurd h
@@ -74,10 +78,12 @@ types_reverse [] [] h = tt
 types_reverse [] (t ∷ ts) h = absurd h
 types_reverse (v ∷ vs) [] h = absurd h
 types_reverse (v ∷ vs) (t ∷ ts) h =
-    rw (reverse_onto vs v [], reverse_onto ts t []) (types_append (reverse vs) (v ∷ []) (reverse ts) (t ∷ []) (types_reverse vs ts h.1) (h.0, tt))
+    rw (reverse_onto vs v [], reverse_onto ts t [])
+    (types_append (reverse vs) (v ∷ []) (reverse ts) (t ∷ []) (types_reverse vs ts h.1) (h.0, tt))
 
 -- values of given types, as calls from outside say it
-pub types_given : (vs : List Value) (ts : List ValType) → map type_of vs ≡ ts → AllByRecursion InRange vs → AreOfTypes vs ts
+pub types_given : (vs : List Value) (ts : List ValType) → map type_of vs ≡ ts → AllByRecursion InRange vs
+    → AreOfTypes vs ts
 types_given [] [] e h = tt
 types_given [] (t ∷ ts) e h = absurd (cc e)
 types_given (v ∷ vs) [] e h = absurd (cc e)

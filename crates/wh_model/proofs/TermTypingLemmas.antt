@@ -1,4 +1,4 @@
--- Typing taken apart: what the type of a sequence says of its first instruction, and that of a term of its innermost one.
+-- Typing taken apart: what the type of a sequence says of its first instruction, and a term's of its innermost one.
 use Rattle.std.proofs.Common.{◌≡◌, ℕ, zero, suc, ◌≤◌, List, [], ◌∷◌, ◌++◌, length, drop, Option, Some, None, slice_get, refl, subst, arith}
 use Rattle.std.proofs.lemmas.List.{append-nil}
 use Rattle.wh_model.specs.declared.ValType.{ValType}
@@ -15,12 +15,16 @@ use Rattle.wh_model.specs.Soundness.TermTyping.{TermType}
 -- what the type of a sequence says of its first instruction
 abbrev pub Parts : Context → Code → List ValType → List ValType → Type 0
 Parts c nothing ins outs = ins ≡ outs
-Parts c (plain op rest) ins outs = (a b below : List ValType) × (ins ≡ a ++ below) × OpType c op a b × HasType c rest (b ++ below) outs
+Parts c (plain op rest) ins outs =
+    (a b below : List ValType) × (ins ≡ a ++ below) × OpType c op a b × HasType c rest (b ++ below) outs
 Parts c (block t body rest) ins outs = HasType (under t c) body [] (operand t) × HasType c rest (operand t ++ ins) outs
-Parts c (loop t body rest) ins outs = HasType (under None c) body [] (operand t) × HasType c rest (operand t ++ ins) outs
-Parts c (if_then t first rest) ins outs = (below : List ValType) × (ins ≡ I32 ∷ below) × HasType (under t c) first [] (operand t)
+Parts c (loop t body rest) ins outs =
+    HasType (under None c) body [] (operand t) × HasType c rest (operand t ++ ins) outs
+Parts c (if_then t first rest) ins outs =
+    (below : List ValType) × (ins ≡ I32 ∷ below) × HasType (under t c) first [] (operand t)
     × HasType (under t c) nothing [] (operand t) × HasType c rest (operand t ++ below) outs
-Parts c (if_else t first second rest) ins outs = (below : List ValType) × (ins ≡ I32 ∷ below) × HasType (under t c) first [] (operand t)
+Parts c (if_else t first second rest) ins outs =
+    (below : List ValType) × (ins ≡ I32 ∷ below) × HasType (under t c) first [] (operand t)
     × HasType (under t c) second [] (operand t) × HasType c rest (operand t ++ below) outs
 
 pub parts : {c : Context} {is : Code} {ins outs : List ValType} → HasType c is ins outs → Parts c is ins outs
@@ -32,10 +36,12 @@ parts (then_if {below = below} p n r) = (below, refl, p, n, r)
 parts (then_if_else {below = below} p n r) = (below, refl, p, n, r)
 
 -- the same over types that are equal
-pub taking : (vs : List Value) (below : List ValType) {x y : List ValType} → x ≡ y → AreOfTypes vs (x ++ below) → AreOfTypes vs (y ++ below)
+pub taking : (vs : List Value) (below : List ValType) {x y : List ValType} → x ≡ y → AreOfTypes vs (x ++ below)
+    → AreOfTypes vs (y ++ below)
 taking vs below e h = subst (λ w. AreOfTypes vs (w ++ below)) e h
 
-pub giving : (c : Context) (is : Code) (below outs : List ValType) {x y : List ValType} → x ≡ y → HasType c is (x ++ below) outs → HasType c is (y ++ below) outs
+pub giving : (c : Context) (is : Code) (below outs : List ValType) {x y : List ValType} → x ≡ y
+    → HasType c is (x ++ below) outs → HasType c is (y ++ below) outs
 giving c is below outs e h = subst (λ w. HasType c is (w ++ below) outs) e h
 
 -- an instruction without a body over its operands
@@ -47,7 +53,8 @@ pub record Stands (c : Context) (op : Op) (rest : Code) (vs : List Value) (outs 
   pub over : AreOfTypes vs (ins ++ below)
   pub goes : HasType c rest (gives ++ below) outs
 
-pub stands : {c : Context} {op : Op} {rest : Code} {ins outs : List ValType} (vs : List Value) → AreOfTypes vs ins → HasType c (plain op rest) ins outs → Stands c op rest vs outs
+pub stands : {c : Context} {op : Op} {rest : Code} {ins outs : List ValType} (vs : List Value) → AreOfTypes vs ins
+    → HasType c (plain op rest) ins outs → Stands c op rest vs outs
 stands vs h t =
     let x = parts t in
     record { ins = x.0; gives = x.1; below = x.2; is_op = x.4; over = subst (λ w. AreOfTypes vs w) x.3 h; goes = x.5 }
@@ -64,7 +71,8 @@ gives_all c ts = subst (λ w. HasType c nothing (ts ++ []) w) (append-nil ts) no
 
 -- ---- block contexts
 
-pub drop_at : {X : Type 0} (k : ℕ) (xs : List X) (y : X) (ys : List X) → drop k xs ≡ y ∷ ys → (slice_get xs k ≡ Some y) × (drop (suc k) xs ≡ ys)
+pub drop_at : {X : Type 0} (k : ℕ) (xs : List X) (y : X) (ys : List X) → drop k xs ≡ y ∷ ys → (slice_get xs k ≡ Some y)
+    × (drop (suc k) xs ≡ ys)
 drop_at zero [] y ys e = absurd (cc e)
 drop_at zero (x ∷ xs) y ys e = (cc e, cc e)
 drop_at (suc k) [] y ys e = absurd (cc e)
@@ -87,8 +95,18 @@ pub record Inside (k : ℕ) (c : Context) (vs : List Value) (is : Code) : Type 0
   pub result : around.result ≡ c.result
   pub labels : drop k around.labels ≡ c.labels
 
-pub block_typed : {k : ℕ} {t : Term} {vs : List Value} {is : Code} → Block k t vs is → (m c : Context) (outs : List ValType) → TermType m c t outs → Inside k c vs is
-block_typed hole m c outs (ins, over, goes) = record { around = c; ins = ins; outs = outs; over = over; goes = goes; result = refl; labels = refl }
+pub block_typed : {k : ℕ} {t : Term} {vs : List Value} {is : Code} → Block k t vs is
+    → (m c : Context) (outs : List ValType) → TermType m c t outs → Inside k c vs is
+block_typed hole m c outs (ins, over, goes) =
+    record { around = c; ins = ins; outs = outs; over = over; goes = goes; result = refl; labels = refl }
 block_typed (inner {k = k} b) m c outs (below, ends, takes, over, n, next, inside, behind) =
     let x = block_typed b m (under takes c) ends inside in
-    record { around = x.around; ins = x.ins; outs = x.outs; over = x.over; goes = x.goes; result = x.result; labels = (drop_at k x.around.labels takes c.labels x.labels).1 }
+    record {
+      around = x.around;
+      ins = x.ins;
+      outs = x.outs;
+      over = x.over;
+      goes = x.goes;
+      result = x.result;
+      labels = (drop_at k x.around.labels takes c.labels x.labels).1;
+    }
