@@ -1,3 +1,3 @@
--- Typing of what runs (the standard's appendix on soundness): tools of the laws of soundness.
+-- Typing of what runs (7.5). The laws of soundness are said in these words.
 pub mod StoreTyping
 pub mod TermTyping

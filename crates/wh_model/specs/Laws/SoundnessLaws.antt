@@ -1,4 +1,4 @@
--- What is valid never gets stuck: the standard's appendix on soundness, of a module in its context, and of journals.
+-- What is valid never gets stuck: the theorems of section 7.5 of the standard, and what follows for journals.
 use Rattle.std.specs.Prelude.{◌≡◌, ◌≢◌, ◌⊎◌, ℕ, List, [], ◌∷◌, ◌++◌, Some, None, slice_get, reverse}
 use Rattle.std.specs.List.{AllByRecursion}
 use Rattle.wh_model.specs.declared.ValType.{ValType}

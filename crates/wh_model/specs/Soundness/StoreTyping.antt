@@ -1,5 +1,5 @@
--- Typing of values, of a module's instance and of its store: section 4.2 of the standard and its appendix on
--- soundness. A store here has one instance, so the types of all that it has stand in the module's context.
+-- Typing of values, of a module's instance and of its store: section 4.2 of the standard and section 7.5, its appendix
+-- on soundness. A store here has one instance, so the types of all that it has stand in the module's context.
 use Rattle.std.specs.Prelude.{◌≡◌, ℕ, ◌+◌, ◌*◌, ◌^◌, ◌<◌, ◌≤◌, List, [], ◌∷◌, ◌++◌, length, map, Option, Some, None, slice_get}
 use Rattle.std.specs.List.{AllByRecursion}
 use Rattle.wh_model.specs.declared.ValType.{ValType}

@@ -1,4 +1,4 @@
--- Typing of instructions under way and of configurations: the standard's appendix on soundness.
+-- Typing of instructions under way and of configurations: section 7.5 of the standard.
 use Rattle.std.specs.Prelude.{◌≡◌, List, [], ◌++◌, Option, None}
 use Rattle.wh_model.specs.declared.ValType.{ValType}
 use Rattle.wh_model.specs.Format.Syntax.{nothing}
