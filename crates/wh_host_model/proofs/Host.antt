@@ -5,6 +5,7 @@ pub mod Keeping
 pub mod Running
 pub mod Empty
 pub mod Holding
+pub mod StuckLemmas
 pub mod Stopping
 pub mod Agreeing
 pub mod Leaving

@@ -10,6 +10,7 @@ pub mod Happens
 pub mod Journals
 pub mod Standing
 pub mod Laws
+pub mod Stuck
 pub mod Bridges
 pub mod Apart
 pub mod Progress

@@ -1,6 +1,7 @@
 //! The law over every run.
 
 ghost use Rattle.wh_host_model.specs.Host.Laws.{MemoryIsSound, PlacesAreRight, InstancesReplay, ChargesAreWithin, JournalsAreInOrder, SuspensionsAreRight, FrameIsLacking, AgainIsReady, OneTurn};
+ghost use Rattle.wh_host_model.specs.Host.Stuck.{NoCallIsStuck};
 ghost use Rattle.wh_host_model.specs.Host.Apart.{NoBytesReachAnother};
 ghost use Rattle.wh_host_model.specs.Host.Progress.{EventsHappen, LoadsAreTaken, CallsAreTaken, IdleTurnsHappen, FuelTurnsHappen};
 
@@ -10,6 +11,7 @@ pub fn every_run()
     ensures memory_is_sound { MemoryIsSound }
     ensures places_are_right { PlacesAreRight }
     ensures instances_replay { InstancesReplay }
+    ensures no_call_is_stuck { NoCallIsStuck }
     ensures charges_are_within { ChargesAreWithin }
     ensures journals_are_in_order { JournalsAreInOrder }
     ensures suspensions_are_right { SuspensionsAreRight }

@@ -63,7 +63,8 @@ defined_of c types (x ∷ xs) bs e (b, more, is, f, at, body, rest) =
 
 -- ---- constant expressions
 
-some_in : {A B : Type 0} (v : A → B) (o : Option A) (y : B) → option_map v o ≡ Some y → (x : A) × (o ≡ Some x) × (v x ≡ y)
+-- an option that a function leads to some value has a value that it leads there
+pub some_in : {A B : Type 0} (v : A → B) (o : Option A) (y : B) → option_map v o ≡ Some y → (x : A) × (o ≡ Some x) × (v x ≡ y)
 some_in v None y e = absurd (cc e)
 some_in v (Some x) y e = (x, refl, cc e)
 

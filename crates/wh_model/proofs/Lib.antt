@@ -20,3 +20,15 @@ pub mod WorkedDepth
 pub mod Fragments
 pub mod Asked
 pub mod Taken
+pub mod StoreTypingLemmas
+pub mod MemoryTypingLemmas
+pub mod TermTypingLemmas
+pub mod RewritesTypedLemmas
+pub mod PreservationLemmas
+pub mod SoundnessLemmas
+pub mod ProgressLemmas
+pub mod StuckLemmas
+pub mod StoresExtendLemmas
+pub mod BeginsTypedLemmas
+pub mod SoundReplayLemmas
+pub mod SpelledBytesLemmas

@@ -3,4 +3,5 @@ pub mod ReductionLaws
 pub mod FocusLaws
 pub mod ReplayLaws
 pub mod LinkingLaws
+pub mod SoundnessLaws
 pub mod Worked

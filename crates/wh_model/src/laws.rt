@@ -3,6 +3,7 @@
 ghost use Rattle.wh_model.specs.Laws.ReductionLaws.{OneReduction, SmallCharges, UnchargedEnd, Settles, OneAfter, AfterJoins, AfterSplits, OneNeed};
 ghost use Rattle.wh_model.specs.Laws.FocusLaws.{Agrees, AfterAgrees, ChargedSettles};
 ghost use Rattle.wh_model.specs.Laws.ReplayLaws.{OneBeginning, OneEnd, OneStanding, HistoryBefore, HistorySplits, JournalGrows, StartIsCalled, FuelSuffices, ArgumentsFit, RunningGoesOn, OthersWait, DeadDoNothing, ReturnedHasWritten, PiecesInOrder, CancelledStays, DoneReplays, TrappedReplays, FuelReplays, FragmentsInPages, FragmentsWithin, CutAtMultiples, CutOfThree, FragmentsWrite, BeginningWrites};
+ghost use Rattle.wh_model.specs.Laws.SoundnessLaws.{Preservation, ThreadPreservation, Progress, NeverStuck, StoresExtend, BeginsTyped, SpelledHasBytes, ReplaySoundness, NoCallSticks, AcceptedSoundness};
 ghost use Rattle.wh_model.specs.Laws.LinkingLaws.{OneFirstFault, LinksWithoutFault, SomeBeginning};
 
 /// What holds of reduction. The function does nothing; what it ensures are the laws.
@@ -58,4 +59,18 @@ pub fn linking_holds()
     ensures one_first_fault { OneFirstFault }
     ensures links_without_fault { LinksWithoutFault }
     ensures some_beginning { SomeBeginning }
+{}
+
+/// What is valid never gets stuck. The function does nothing; what it ensures are the laws.
+pub fn soundness_holds()
+    ensures preservation { Preservation }
+    ensures thread_preservation { ThreadPreservation }
+    ensures progress { Progress }
+    ensures never_stuck { NeverStuck }
+    ensures stores_extend { StoresExtend }
+    ensures begins_typed { BeginsTyped }
+    ensures spelled_has_bytes { SpelledHasBytes }
+    ensures replay_soundness { ReplaySoundness }
+    ensures no_call_sticks { NoCallSticks }
+    ensures accepted_soundness { AcceptedSoundness }
 {}

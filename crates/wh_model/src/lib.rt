@@ -15,7 +15,7 @@ mod memory;
 
 pub use faults::{DecodeError, FaultKind, ImportFault, ValidKind};
 pub use host::{HostFunc, HostGlobal, HostItem};
-pub use laws::{execution_holds, focus_holds, journals_hold, linking_holds};
+pub use laws::{execution_holds, focus_holds, journals_hold, linking_holds, soundness_holds};
 pub use limits::{
     CALL_DEPTH, MOST_EMITTED, MOST_HEIGHT, MOST_LOCALS, MOST_WASM_PAGES, OUTPUT_ROOM, WASM_PAGE,
 };

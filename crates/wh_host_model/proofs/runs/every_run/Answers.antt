@@ -1,3 +1,4 @@
+use Rattle.wh_host_model.proofs.Host.StuckLemmas.{no_call_is_stuck}
 use Rattle.wh_host_model.proofs.Host.Holding.{memory_is_sound, places_are_right, instances_replay, charges_are_within, journals_are_in_order, suspensions_are_right, frame_is_lacking, again_is_ready}
 use Rattle.wh_host_model.proofs.Host.Agreeing.{one_turn}
 use Rattle.wh_host_model.proofs.Host.Apart.{no_bytes_reach_another}
@@ -12,6 +13,9 @@ returns-clause-places_are_right c = places_are_right
 
 pub returns-clause-instances_replay : goal.returns-clause-instances_replay
 returns-clause-instances_replay c = instances_replay
+
+pub returns-clause-no_call_is_stuck : goal.returns-clause-no_call_is_stuck
+returns-clause-no_call_is_stuck c = no_call_is_stuck
 
 pub returns-clause-charges_are_within : goal.returns-clause-charges_are_within
 returns-clause-charges_are_within c = charges_are_within
