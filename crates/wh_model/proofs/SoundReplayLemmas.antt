@@ -15,7 +15,7 @@ use Rattle.wh_model.specs.Execution.Instance.{Piece}
 use Rattle.wh_model.specs.Execution.Replay.{pending, Call, with_pieces, Invocation, Standing, idle, writing, running, store_at, Stands, has_pieces, is_invoked, is_under_way, Ends, has_returned, has_trapped, has_written, was_cancelled, never_began, Waits, Replays, at_rest, ended, at_work}
 use Rattle.wh_model.specs.Soundness.StoreTyping.{AreOfTypes, InstanceType, StoreType, PieceType}
 use Rattle.wh_model.specs.Soundness.TermTyping.{frame_context, ThreadType}
-use Rattle.wh_model.specs.Laws.SoundnessLaws.{IsFinal, GoesFurther, HasFuncType, HasArguments, EndsAs, StandsAs, ReplaySoundness, NoCallSticks}
+use Rattle.wh_model.specs.Laws.SoundnessLaws.{IsFinal, GoesFurther, HasFuncType, HasArguments, HasTypedEnd, StandsAs, ReplaySoundness, NoCallSticks}
 use Rattle.wh_model.proofs.Fragments.{length-written}
 use Rattle.wh_model.proofs.Journals.{from_beginning, not_open}
 use Rattle.wh_model.proofs.StoreTypingLemmas.{types_given, types_length, types_reverse}
@@ -159,7 +159,7 @@ open_arguments {inst = inst} {call = call} (is_under_way {c2 = b} p q x after ne
 
 ends_as : {inst : Instance} {s s2 : Store} {ps : List Piece} {call : Call} → Ends inst s ps call s2 → (c : Context)
     → InstanceType c inst → StoreType c inst s → AllByRecursion (PieceType s) ps
-    → (call.fragments < length ps → HasArguments inst call) → StoreType c inst s2 × EndsAs inst call call.outcome
+    → (call.fragments < length ps → HasArguments inst call) → StoreType c inst s2 × HasTypedEnd inst call call.outcome
 ends_as {inst = inst} {s = s} {s2 = s2} {ps = ps} {call = call}
     (has_returned {vs = vs} {c = a} is all_written within x after) c i st all first =
     let t = (pieces_written c inst s ps st all).0 in
@@ -172,20 +172,20 @@ ends_as {inst = inst} {s = s} {s2 = s2} {ps = ps} {call = call}
     subst (AreOfTypes vs) (reverse-reverse r.type.results)
     (subst (λ w. AreOfTypes w (reverse (reverse r.type.results))) (reverse-reverse vs)
     (types_reverse (reverse vs) (reverse r.type.results) final)) in
-    (h.0, subst (EndsAs inst call) (sym is) (inr (r.type, r.is_func, r.args, results)))
+    (h.0, subst (HasTypedEnd inst call) (sym is) (inr (r.type, r.is_func, r.args, results)))
 ends_as {inst = inst} {s = s} {s2 = s2} {ps = ps} {call = call}
     (has_trapped {x = y} {c = a} is all_written within x after) c i st all first =
     let t = (pieces_written c inst s ps st all).0 in
     let r = after_runs c inst call call.charges a (trapped s2 y) i
     (invocation_runs c inst (with_pieces s ps) call a i t x) after in
-    (r.typed, subst (EndsAs inst call) (sym is) (has_arguments c inst call (trapped s2 y) r))
+    (r.typed, subst (HasTypedEnd inst call) (sym is) (has_arguments c inst call (trapped s2 y) r))
 ends_as {inst = inst} {s = s} {ps = ps} {call = call} (has_written is none all_written free) c i st all first =
-    ((pieces_written c inst s ps st all).0, subst (EndsAs inst call) (sym is) (inl (none, refl)))
+    ((pieces_written c inst s ps st all).0, subst (HasTypedEnd inst call) (sym is) (inl (none, refl)))
 ends_as {inst = inst} {call = call} (was_cancelled {z = z} is at) c i st all first =
     let h = stands_as at c i st all in
-    (open_store c inst call z h, subst (EndsAs inst call) (sym is) (open_arguments at c first h))
+    (open_store c inst call z h, subst (HasTypedEnd inst call) (sym is) (open_arguments at c first h))
 ends_as {inst = inst} {call = call} (never_began is none free) c i st all first =
-    (st, subst (EndsAs inst call) (sym is) tt)
+    (st, subst (HasTypedEnd inst call) (sym is) tt)
 
 -- ---- journals
 
@@ -205,9 +205,9 @@ stands_later c inst before calls (running a) p
     (call, type, (before ∷ past, waiting, ap (λ w. before ∷ w) is, ends_not, (p, all)), is_func, args, typed, further)
 
 waiting_ends : (inst : Instance) (calls : List Call) → AllByRecursion Waits calls
-    → AllByRecursion (λ call. EndsAs inst call call.outcome) calls
+    → AllByRecursion (λ call. HasTypedEnd inst call call.outcome) calls
 waiting_ends inst [] all = tt
-waiting_ends inst (call ∷ calls) all = (subst (EndsAs inst call) (sym all.0.outcome) tt, waiting_ends inst calls all.1)
+waiting_ends inst (call ∷ calls) all = (subst (HasTypedEnd inst call) (sym all.0.outcome) tt, waiting_ends inst calls all.1)
 
 abbrev FirstHasArguments : Instance → List Piece → List Call → Type 0
 FirstHasArguments inst ps [] = Unit {0}
@@ -220,7 +220,7 @@ no_first inst (call ∷ calls) = λ low. absurd (omega (arith, low))
 replays_typed : {inst : Instance} {s : Store} {ps : List Piece} {calls : List Call} {z : Standing}
     → Replays inst s ps calls z → (c : Context) → InstanceType c inst → StoreType c inst s
     → AllByRecursion (PieceType s) ps
-    → FirstHasArguments inst ps calls → AllByRecursion (λ call. EndsAs inst call call.outcome) calls
+    → FirstHasArguments inst ps calls → AllByRecursion (λ call. HasTypedEnd inst call call.outcome) calls
     × StandsAs c inst calls z
 replays_typed at_rest c i st all first = (tt, st)
 replays_typed {inst = inst} (ended {call = call} {calls = calls} {z = z} x r) c i st all first =
@@ -228,7 +228,7 @@ replays_typed {inst = inst} (ended {call = call} {calls = calls} {z = z} x r) c 
     let rest = replays_typed r c i e.0 tt (no_first inst calls) in
     ((e.1, rest.0), stands_later c inst call calls z (not_open x) rest.1)
 replays_typed {inst = inst} (at_work {call = call} {calls = calls} {z = z} p x waits) c i st all first = (
-  (subst (EndsAs inst call) (sym p) tt, waiting_ends inst calls waits),
+  (subst (HasTypedEnd inst call) (sym p) tt, waiting_ends inst calls waits),
   stands_first c inst call calls z p
       (stands_as x c i st all),
 )

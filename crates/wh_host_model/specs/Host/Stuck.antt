@@ -3,7 +3,7 @@ use Rattle.std.specs.Prelude.{◌≡◌, slice_get, Some}
 use Rattle.std.specs.List.{AllByRecursion}
 use Rattle.wh_model.specs.Validity.Typing.{Context}
 use Rattle.wh_model.specs.Validity.Valid.{IsContext}
-use Rattle.wh_model.specs.Laws.SoundnessLaws.{EndsAs, StandsAs}
+use Rattle.wh_model.specs.Laws.SoundnessLaws.{HasTypedEnd, StandsAs}
 use Rattle.wh_host_model.specs.Host.Worlds.{Tenant, Loaded, World, journal, journal_calls, standing_in}
 use Rattle.wh_host_model.specs.Host.Laws.{AfterEvents, EachHas}
 
@@ -14,7 +14,7 @@ pub record IsSoundlyRun (w : World) (t : Tenant) : Type 0 where
   pub is_loaded : slice_get w.modules t.of ≡ Some loaded
   pub context : Context
   pub is_context : IsContext loaded.m context
-  pub calls : AllByRecursion (λ call. EndsAs t.inst call call.outcome) (journal_calls (journal t))
+  pub calls : AllByRecursion (λ call. HasTypedEnd t.inst call call.outcome) (journal_calls (journal t))
   pub standing : StandsAs context t.inst (journal_calls (journal t)) (standing_in w.space t)
 
 abbrev pub NoCallIsStuck : Type 0

@@ -80,13 +80,13 @@ HasArguments inst call = ((call.func ≡ None) × (call.args ≡ []))
     ⊎ ((type : FuncType) × HasFuncType inst call type × AreOfTypes call.args type.params)
 
 -- what a call shows that has ended so: it got a value for each parameter, and gave values of its function's results
-abbrev pub EndsAs : Instance → Call → Outcome → Type 0
-EndsAs inst call (returned vs) = ((call.func ≡ None) × (vs ≡ []))
+abbrev pub HasTypedEnd : Instance → Call → Outcome → Type 0
+HasTypedEnd inst call (returned vs) = ((call.func ≡ None) × (vs ≡ []))
     ⊎ ((type : FuncType) × HasFuncType inst call type × AreOfTypes call.args type.params × AreOfTypes vs type.results)
-EndsAs inst call (stopped trap) = HasArguments inst call
-EndsAs inst call cancelled = HasArguments inst call
-EndsAs inst call dead = Unit {0}
-EndsAs inst call pending = Unit {0}
+HasTypedEnd inst call (stopped trap) = HasArguments inst call
+HasTypedEnd inst call cancelled = HasArguments inst call
+HasTypedEnd inst call dead = Unit {0}
+HasTypedEnd inst call pending = Unit {0}
 
 abbrev pub IsFirstOpen : List Call → Call → Type 0
 IsFirstOpen calls call =
@@ -108,7 +108,7 @@ ReplaySoundness =
     (m : Module) (c : Context) (p : Parameters) (inst : Instance) (s : Store) (ps : List Piece) (calls : List Call)
     (z : Standing)
     → IsValidIn m c → HasBytes m → IsInitial m p (begins inst s ps) → Replay m p calls z
-    → AllByRecursion (λ call. EndsAs inst call call.outcome) calls × StandsAs c inst calls z
+    → AllByRecursion (λ call. HasTypedEnd inst call call.outcome) calls × StandsAs c inst calls z
 
 -- and whatever function is called next, nothing that the call leads to is stuck
 abbrev pub NoCallSticks : Type 0
@@ -125,5 +125,5 @@ AcceptedSoundness =
     (bytes : List ℕ) (m : Module) (p : Parameters) (inst : Instance) (s : Store) (ps : List Piece) (calls : List Call)
     (z : Standing)
     → IsAccepted bytes m → IsInitial m p (begins inst s ps) → Replay m p calls z
-    → (c : Context) × IsContext m c × AllByRecursion (λ call. EndsAs inst call call.outcome) calls
+    → (c : Context) × IsContext m c × AllByRecursion (λ call. HasTypedEnd inst call call.outcome) calls
     × StandsAs c inst calls z
