@@ -1,0 +1,31 @@
+-- What the steps of an instance leave.
+use Rattle.std.specs.Prelude.{ℕ, ◌≡◌, ◌≤◌, List, [], ◌∷◌, Option, Some, None}
+use Rattle.wh_model.specs.declared.memory.Got.{Got}
+use Rattle.wh_model.specs.declared.memory.Got.TheVariants.{Value, Trap, NotReady}
+use Rattle.wh_host_model.specs.declared.states.Page.TheVariants.{Private}
+use Rattle.wh_host_model.specs.Space.Parts.{Space}
+use Rattle.wh_host_model.specs.Space.Breaks.{Breaks}
+use Rattle.wh_host_model.specs.Space.Ready.{IsAtHand, frames_for, may_take}
+use Rattle.wh_host_model.specs.Space.States.{page_at}
+use Rattle.wh_host_model.specs.Space.Stores.{Overwrites, Touches}
+
+-- a load of so many bytes
+abbrev pub LeavesLoad : Space → ℕ → ℕ → ℕ → Got → Space → Type 0
+LeavesLoad s i at n Value s2 = Touches s i at n s2
+LeavesLoad s i at n Trap s2 = s2 ≡ s
+LeavesLoad s i at n (NotReady need) s2 = s2 ≡ s
+
+-- a store of these bytes
+abbrev pub LeavesStore : Space → ℕ → ℕ → List ℕ → Got → Space → Type 0
+LeavesStore s i at given Value s2 = Overwrites s i at given s2
+LeavesStore s i at given Trap s2 = s2 ≡ s
+LeavesStore s i at given (NotReady need) s2 = s2 ≡ s
+
+-- the page can be written at once
+abbrev pub CanBreak : Space → ℕ → ℕ → Type 0
+CanBreak s i p = IsAtHand (page_at s.tables i p) × (frames_for s i (p ∷ []) ≤ may_take s i)
+
+-- the page was broken off, and stands alone on this frame; or it can't be, and nothing changed
+abbrev pub Owns : Space → ℕ → ℕ → Option ℕ → Space → Type 0
+Owns s i p None s2 = (¬ CanBreak s i p) × (s2 ≡ s)
+Owns s i p (Some f) s2 = CanBreak s i p × Breaks s i p s2 × (page_at s2.tables i p ≡ Some (Private f))

@@ -1,0 +1,31 @@
+// The memory as its callers see it.
+
+use crate::tenant::Tenant;
+use std::marker::Model;
+use wh_content::Table;
+use wh_frames::FramePool;
+use wh_host_model::Tax;
+use wh_pages::PageTable;
+
+/// The memory of all instances, by their places, on one pool of frames.
+#[derive(Drop)]
+pub struct Memory {
+    pub(crate) tenants: Vec<Option<Tenant>>,
+    pub(crate) tables: Vec<PageTable>,
+    pub(crate) pool: FramePool,
+    pub(crate) content: Table,
+    pub(crate) slots: u32,
+    pub(crate) tax: Tax,
+}
+
+impl Model for Memory {
+    ghost use Rattle.wh_host_model.specs.Space.Parts.{Space};
+
+    ghost Value = { Space };
+
+    ghost use Rattle.wh_space.specs.Parts.{space_of, IsWell};
+
+    ghost view = { space_of };
+
+    ghost invariant = { IsWell };
+}

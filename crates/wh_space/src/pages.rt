@@ -1,0 +1,60 @@
+// The page tables of all instances.
+
+ghost use Rattle.std.specs.Prelude.{◌≡◌, ◌<◌, [], Some, MatchBool, true, length, get_or};
+ghost use Rattle.wh_host_model.specs.Space.Ready.{IsAtHand};
+ghost use Rattle.wh_host_model.specs.Space.States.{page_at, put};
+ghost use Rattle.wh_host_model.specs.declared.states.Page.TheVariants.{Private};
+ghost use Rattle.wh_space.specs.Pages.{limits_in, marks_in, pages_in};
+
+use wh_host_model::Page;
+use wh_pages::PageTable;
+
+// How many pages the instance at a place has.
+pub fn len_at(tables: &Vec<PageTable>, place: usize) -> u32
+    ensures { result ≡ length (get_or (pages_in tables.now.items) place []) }
+{
+    if place < tables.len() {
+        tables[place].len()
+    } else {
+        0
+    }
+}
+
+// The page of this number of the instance at a place.
+pub fn page_of(tables: &Vec<PageTable>, place: usize, number: u32) -> Page
+    requires { number < length (get_or (pages_in tables.now.items) place []) }
+    ensures { page_at (pages_in tables.now.items) place number ≡ Some result }
+{
+    tables[place].page(number)
+}
+
+// Whether the page is untouched or resident.
+pub fn is_near(page: Page) -> bool
+    ensures { MatchBool result (IsAtHand (Some page)) (¬ IsAtHand (Some page)) }
+{
+    !matches!(page, Page::Coming(_) | Page::Swapped(_))
+}
+
+// Marks a page as touched.
+pub fn touch(tables: &mut Vec<PageTable>, place: usize, number: u32)
+    requires { number < length (get_or (pages_in tables.old.items) place []) }
+    ensures pages { pages_in tables.new.items ≡ pages_in tables.old.items }
+    ensures marks { marks_in tables.new.items ≡ put (marks_in tables.old.items) place number true }
+    ensures limits { limits_in tables.new.items ≡ limits_in tables.old.items }
+{
+    let table = &mut tables[place];
+    table.touch(number);
+}
+
+// Points a page to a frame of its own, and marks it as touched.
+pub fn stand_alone(tables: &mut Vec<PageTable>, place: usize, number: u32, frame: u32)
+    requires { number < length (get_or (pages_in tables.old.items) place []) }
+    ensures pages { pages_in tables.new.items
+      ≡ put (pages_in tables.old.items) place number (Private frame) }
+    ensures marks { marks_in tables.new.items ≡ put (marks_in tables.old.items) place number true }
+    ensures limits { limits_in tables.new.items ≡ limits_in tables.old.items }
+{
+    let table = &mut tables[place];
+    table.set(number, Page::Private(frame));
+    table.touch(number);
+}
