@@ -1,3 +1,6 @@
 pub mod Tables
 pub mod Wellness
 pub mod Loading
+pub mod Owning
+pub mod Wants
+pub mod Storing

@@ -1,5 +1,5 @@
 -- How loads end.
-use Rattle.std.proofs.Common.{◌≡◌, ℕ, ◌+◌, ◌*◌, ◌-◌, ◌<◌, ◌≤◌, ◌++◌, Bool, true, false, List, [], ◌∷◌, length, get_or, take, drop, refl, sym, ◌∙◌, subst, ap, arith}
+use Rattle.std.proofs.Common.{◌≡◌, ℕ, ◌+◌, ◌*◌, ◌-◌, ◌<◌, ◌≤◌, ◌++◌, Bool, true, false, List, [], ◌∷◌, length, get_or, take, drop, slice_get, Option, None, zero, suc, refl, sym, ◌∙◌, subst, ap, arith}
 use Rattle.std.specs.Bool.{MatchBool}
 use Rattle.std.specs.List.{All}
 use Rattle.std.proofs.lemmas.List.Elements.{All-cons, All-head, All-nil, All-tail}
@@ -53,3 +53,12 @@ is_true false P which is = absurd (which is)
 -- two parts are the whole
 pub read_over : (bytes : List ℕ) (k a b n first second : ℕ) → first ≡ k → second ≡ k + a → a + b ≡ n → bytes_at bytes first a ++ bytes_at bytes second b ≡ bytes_at bytes k n
 read_over bytes k a b n first second here there whole = rw (here, there, ← whole) (sym (read_parts bytes k a b))
+
+-- a page that isn't in the table isn't at hand
+none_past : {X : Type 0} (xs : List X) (p : ℕ) → length xs ≤ p → slice_get xs p ≡ None
+none_past [] p past = refl
+none_past (x ∷ xs) zero past = absurd (omega arith)
+none_past (x ∷ xs) (suc p) past = none_past xs p (omega arith)
+
+pub beyond : (s : Space) (i p : ℕ) → length (get_or s.tables i []) ≤ p → ¬ Hand s i p
+beyond s i p past hand = let none = none_past (get_or s.tables i []) p past in absurd (let k = rw none at hand in omega arith)

@@ -1,9 +1,11 @@
 -- What the steps of an instance leave.
-use Rattle.std.specs.Prelude.{ℕ, ◌≡◌, ◌≤◌, List, [], ◌∷◌, Option, Some, None}
+use Rattle.std.specs.Prelude.{ℕ, ◌≡◌, ◌≤◌, cond, Bool, List, [], ◌∷◌, Option, Some, None}
+use Rattle.std.specs.List.{All}
 use Rattle.wh_model.specs.declared.memory.Got.{Got}
 use Rattle.wh_model.specs.declared.memory.Got.TheVariants.{Value, Trap, NotReady}
-use Rattle.wh_host_model.specs.declared.states.Page.TheVariants.{Private}
-use Rattle.wh_host_model.specs.Space.Parts.{Space}
+use Rattle.wh_host_model.specs.declared.states.Page.{Page}
+use Rattle.wh_host_model.specs.declared.states.Page.TheVariants.{Untouched, Private, Shared, Leaving, LeavingShared, Coming, Swapped}
+use Rattle.wh_host_model.specs.Space.Parts.{Space, sharers}
 use Rattle.wh_host_model.specs.Space.Breaks.{Breaks}
 use Rattle.wh_host_model.specs.Space.Ready.{IsAtHand, frames_for, may_take}
 use Rattle.wh_host_model.specs.Space.States.{page_at}
@@ -20,6 +22,32 @@ abbrev pub LeavesStore : Space → ℕ → ℕ → List ℕ → Got → Space �
 LeavesStore s i at given Value s2 = Overwrites s i at given s2
 LeavesStore s i at given Trap s2 = s2 ≡ s
 LeavesStore s i at given (NotReady need) s2 = s2 ≡ s
+
+-- a step that reads these pages, or writes them, can be taken
+abbrev pub CanStep : Space → ℕ → Bool → List ℕ → Type 0
+CanStep s i writes pages =
+    All (λ p. IsAtHand (page_at s.tables i p)) pages × (cond writes (frames_for s i pages) 0 ≤ may_take s i)
+
+-- the frame that a page shares
+abbrev pub frame_shared : Page → Option ℕ
+frame_shared Untouched = None
+frame_shared (Private f) = None
+frame_shared (Shared f) = Some f
+frame_shared (Leaving f) = None
+frame_shared (LeavingShared f) = Some f
+frame_shared (Coming k) = None
+frame_shared (Swapped k) = None
+
+-- two pages share a frame with nobody else
+pub record SharesAlone (s : Space) (i p q : ℕ) : Type 0 where
+  pub frame : ℕ
+  pub first : Page
+  pub second : Page
+  pub here : page_at s.tables i p ≡ Some first
+  pub there : page_at s.tables i q ≡ Some second
+  pub shared : frame_shared first ≡ Some frame
+  pub also : frame_shared second ≡ Some frame
+  pub alone : sharers s frame ≡ 2
 
 -- the page can be written at once
 abbrev pub CanBreak : Space → ℕ → ℕ → Type 0

@@ -1,10 +1,13 @@
 //! The memory on which all instances lie: their pages on one pool of frames.
 #![tactic(auto)]
 
+mod breaks;
 mod frames;
 mod loads;
 mod memory;
 mod pages;
+mod ready;
+mod stores;
 mod tenant;
 
 pub use memory::Memory;

@@ -21,13 +21,13 @@ use Rattle.wh_host_model.proofs.Space.Rows.{bytes_at as row_bytes}
 
 -- ---- the frame under a page is taken
 
-owned_taken : (s : Space) (f : ℕ) → FramesAreSound s → 1 ≤ count (owns f) s.tables → IsTaken s.pool f
+pub owned_taken : (s : Space) (f : ℕ) → FramesAreSound s → 1 ≤ count (owns f) s.tables → IsTaken s.pool f
 owned_taken s f sound some = elim (cases_lt f (length s.pool.frames)) [
   | inl within ↦ (let e = sound.one f within in (within, omega arith))
   | inr past ↦ absurd (let e = sound.none f past in omega arith)
 ]
 
-shared_taken : (s : Space) (f : ℕ) → FramesAreSound s → 1 ≤ sharers s f → IsTaken s.pool f
+pub shared_taken : (s : Space) (f : ℕ) → FramesAreSound s → 1 ≤ sharers s f → IsTaken s.pool f
 shared_taken s f sound some = elim (cases_lt f (length s.pool.frames)) [
   | inl within ↦ (let e = sound.one f within in (within, omega arith))
   | inr past ↦ absurd (let e = sound.none f past in omega arith)
