@@ -4,3 +4,5 @@ pub mod Loading
 pub mod Owning
 pub mod Wants
 pub mod Storing
+pub mod Growing
+pub mod Keeping

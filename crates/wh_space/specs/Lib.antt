@@ -1,3 +1,4 @@
-pub mod Parts
 pub mod Pages
+pub mod Parts
 pub mod Steps
+pub mod Views

@@ -1,15 +1,17 @@
 -- What the steps of an instance leave.
-use Rattle.std.specs.Prelude.{ℕ, ◌≡◌, ◌≤◌, cond, Bool, List, [], ◌∷◌, Option, Some, None}
+use Rattle.std.specs.Prelude.{ℕ, ◌≡◌, ◌≤◌, ◌/◌, cond, Bool, List, [], ◌∷◌, Option, Some, None}
 use Rattle.std.specs.List.{All}
 use Rattle.wh_model.specs.declared.memory.Got.{Got}
 use Rattle.wh_model.specs.declared.memory.Got.TheVariants.{Value, Trap, NotReady}
+use Rattle.wh_model.specs.declared.memory.Grown.{Grown}
+use Rattle.wh_model.specs.declared.memory.Grown.TheVariants.{Done, Refused}
 use Rattle.wh_host_model.specs.declared.states.Page.{Page}
 use Rattle.wh_host_model.specs.declared.states.Page.TheVariants.{Untouched, Private, Shared, Leaving, LeavingShared, Coming, Swapped}
-use Rattle.wh_host_model.specs.Space.Parts.{Space, sharers}
+use Rattle.wh_host_model.specs.Space.Parts.{Claimed, Space, claim, sharers}
 use Rattle.wh_host_model.specs.Space.Breaks.{Breaks}
 use Rattle.wh_host_model.specs.Space.Ready.{IsAtHand, frames_for, may_take}
 use Rattle.wh_host_model.specs.Space.States.{page_at}
-use Rattle.wh_host_model.specs.Space.Stores.{Overwrites, Touches}
+use Rattle.wh_host_model.specs.Space.Stores.{Grew, Overwrites, Touches}
 
 -- a load of so many bytes
 abbrev pub LeavesLoad : Space → ℕ → ℕ → ℕ → Got → Space → Type 0
@@ -22,6 +24,19 @@ abbrev pub LeavesStore : Space → ℕ → ℕ → List ℕ → Got → Space �
 LeavesStore s i at given Value s2 = Overwrites s i at given s2
 LeavesStore s i at given Trap s2 = s2 ≡ s
 LeavesStore s i at given (NotReady need) s2 = s2 ≡ s
+
+-- a growth by so many pages of WebAssembly
+abbrev pub LeavesGrowth : Space → ℕ → ℕ → Grown → Space → Type 0
+LeavesGrowth s i n (Done pages) s2 = Grew s i n s2
+LeavesGrowth s i n Refused s2 = s2 ≡ s
+
+-- to how many pages of WebAssembly the instance at a place may grow
+abbrev pub limit_by : Option Claimed → ℕ
+limit_by None = 0
+limit_by (Some c) = c.max / 16
+
+abbrev pub page_limit : Space → ℕ → ℕ
+page_limit s i = limit_by (claim s i)
 
 -- a step that reads these pages, or writes them, can be taken
 abbrev pub CanStep : Space → ℕ → Bool → List ℕ → Type 0

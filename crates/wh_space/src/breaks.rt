@@ -1,6 +1,6 @@
 // Pages that are broken off from all others, to be written.
 
-ghost use Rattle.std.specs.Prelude.{◌≡◌, ◌<◌, ◌≤◌, [], Some, length, get_or};
+ghost use Rattle.std.specs.Prelude.{◌≡◌, ◌<◌, ◌≤◌, [], Some, IfSome, IfNone, length, get_or};
 ghost use Rattle.wh_host_model.specs.Space.Parts.{sharers};
 ghost use Rattle.wh_host_model.specs.Space.States.{at, owns, page_at, shares};
 ghost use Rattle.wh_host_model.specs.declared.states.Page.TheVariants.{Untouched};
@@ -107,5 +107,20 @@ impl Memory {
             Page::Coming(_) => None,
             Page::Swapped(_) => None,
         }
+    }
+
+    // The frame on which a page stands alone already, and then the page is marked as touched; or none, and nothing is
+    // done.
+    #[inline(always)]
+    pub(crate) fn own_quickly(&mut self, place: usize, number: u32) -> Option<u32>
+        requires { number < length (get_or self.old.tables place []) }
+        ensures some { IfSome result (λ frame. Owns self.old place number (Some frame) self.new) }
+        ensures none { IfNone result (self.new ≡ self.old) }
+    {
+        let Page::Private(frame) = page_of(&self.tables, place, number) else {
+            return None;
+        };
+        self.keep_own(place, number, frame);
+        Some(frame)
     }
 }

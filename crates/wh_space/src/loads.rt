@@ -8,6 +8,8 @@ ghost use Rattle.wh_host_model.specs.Space.Ready.{IsAtHand, Ready};
 ghost use Rattle.wh_host_model.specs.Space.States.{Backing, page_at, page_bytes, put};
 ghost use Rattle.wh_model.specs.Execution.Memory.{Loads};
 ghost use Rattle.wh_model.specs.Execution.Store.{bytes_at};
+ghost use Rattle.wh_host_model.specs.Space.Stores.{Touches};
+ghost use Rattle.wh_model.specs.declared.memory.Got.TheVariants.{Value};
 ghost use Rattle.wh_space.specs.Steps.{LeavesLoad};
 
 use crate::frames::{frame_under, read_frame};
@@ -149,5 +151,27 @@ impl Memory {
                 writes: false,
             })
         }
+    }
+
+    /// Reads bytes as `load` does, where they lie on one page that is at hand. Where they don't nothing is done, and the
+    /// answer is false.
+    #[inline(always)]
+    pub fn quick_load(&mut self, place: usize, at: u64, into: &mut [u8]) -> bool
+        requires few { length into.old ≤ 4096 }
+        ensures loads { IsTrue result → Loads (Ready self.old place) (view self.old place)
+            at into.old Value into.new }
+        ensures leaves { IsTrue result → Touches self.old place at (length into.old) self.new }
+        ensures unchanged { IsFalse result → self.new ≡ self.old }
+        ensures left { IsFalse result → into.new ≡ into.old }
+    {
+        let _ = &self.tax;
+        let offset = (at % 4096) as usize;
+        if into.is_empty() || offset + into.len() > 4096 {
+            return false;
+        }
+        if !self.fits(place, at, into.len()) {
+            return false;
+        }
+        self.load_inside(place, (at / 4096) as u32, offset, into)
     }
 }

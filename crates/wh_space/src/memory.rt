@@ -1,5 +1,7 @@
 // The memory as its callers see it.
 
+ghost use Rattle.wh_host_model.specs.Space.Sound.{IsSound};
+
 use crate::tenant::Tenant;
 use std::marker::Model;
 use wh_content::Table;
@@ -28,4 +30,14 @@ impl Model for Memory {
     ghost view = { space_of };
 
     ghost invariant = { IsWell };
+}
+
+impl Memory {
+    /// What always holds of the memory.
+    #[inline(always)]
+    pub fn known(&self)
+        ensures sound { IsSound self.now }
+    {
+        let _ = &self.tax;
+    }
 }

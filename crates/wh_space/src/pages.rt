@@ -1,9 +1,9 @@
 // The page tables of all instances.
 
-ghost use Rattle.std.specs.Prelude.{◌≡◌, ◌<◌, [], Some, MatchBool, true, length, get_or};
+ghost use Rattle.std.specs.Prelude.{◌≡◌, ◌+◌, ◌<◌, ◌≤◌, ◌++◌, [], Some, MatchBool, true, false, length, get_or, replicate, slice_set};
 ghost use Rattle.wh_host_model.specs.Space.Ready.{IsAtHand};
 ghost use Rattle.wh_host_model.specs.Space.States.{page_at, put};
-ghost use Rattle.wh_host_model.specs.declared.states.Page.TheVariants.{Private};
+ghost use Rattle.wh_host_model.specs.declared.states.Page.TheVariants.{Private, Untouched};
 ghost use Rattle.wh_space.specs.Pages.{limits_in, marks_in, pages_in};
 
 use wh_host_model::Page;
@@ -57,4 +57,19 @@ pub fn stand_alone(tables: &mut Vec<PageTable>, place: usize, number: u32, frame
     let table = &mut tables[place];
     table.set(number, Page::Private(frame));
     table.touch(number);
+}
+
+// Adds untouched pages, for which there is room.
+pub fn grow_at(tables: &mut Vec<PageTable>, place: usize, count: u32)
+    requires there { place < length tables.old.items }
+    requires room { length (get_or (pages_in tables.old.items) place []) + count
+        ≤ get_or (limits_in tables.old.items) place 0 }
+    ensures pages { pages_in tables.new.items ≡ slice_set (pages_in tables.old.items) place
+        (get_or (pages_in tables.old.items) place [] ++ replicate count Untouched) }
+    ensures marks { marks_in tables.new.items ≡ slice_set (marks_in tables.old.items) place
+        (get_or (marks_in tables.old.items) place [] ++ replicate count false) }
+    ensures limits { limits_in tables.new.items ≡ limits_in tables.old.items }
+{
+    let table = &mut tables[place];
+    let _ = table.grow(count);
 }

@@ -1,13 +1,14 @@
 // What an instance writes.
 
-ghost use Rattle.std.specs.Prelude.{◌≡◌, ◌+◌, ◌*◌, ◌%◌, ◌^◌, ◌<◌, ◌≤◌, [], Some, length, get_or, slice_set};
+ghost use Rattle.std.specs.Prelude.{◌≡◌, ◌+◌, ◌*◌, ◌%◌, ◌^◌, ◌<◌, ◌≤◌, [], Some, IsTrue, IsFalse, length, get_or, slice_set};
 ghost use Rattle.wh_host_model.specs.Space.Parts.{frame_bytes, view};
 ghost use Rattle.wh_host_model.specs.Space.Ready.{Ready};
 ghost use Rattle.wh_host_model.specs.Space.States.{page_at};
-ghost use Rattle.wh_host_model.specs.Space.Stores.{Fills};
+ghost use Rattle.wh_host_model.specs.Space.Stores.{Fills, Overwrites};
 ghost use Rattle.wh_host_model.specs.declared.states.Page.TheVariants.{Private};
 ghost use Rattle.wh_model.specs.Execution.Memory.{Stores};
 ghost use Rattle.wh_model.specs.Execution.Store.{written};
+ghost use Rattle.wh_model.specs.declared.memory.Got.TheVariants.{Value};
 ghost use Rattle.wh_space.specs.Steps.{LeavesStore};
 
 use crate::frames::write_frame;
@@ -95,5 +96,31 @@ impl Memory {
                 writes: true,
             })
         }
+    }
+
+    /// Writes bytes as `store` does, where they go to one page that has a frame of its own. Where they don't nothing is
+    /// done, and the answer is false.
+    #[inline(always)]
+    pub fn quick_store(&mut self, place: usize, at: u64, given: &[u8]) -> bool
+        requires few { length given.now ≤ 4096 }
+        ensures stores { IsTrue result → Stores (Ready self.old place) (view self.old place)
+            at given.now Value (view self.new place) }
+        ensures leaves { IsTrue result → Overwrites self.old place at given.now self.new }
+        ensures unchanged { IsFalse result → self.new ≡ self.old }
+    {
+        let _ = &self.tax;
+        let offset = (at % 4096) as usize;
+        if given.is_empty() || offset + given.len() > 4096 {
+            return false;
+        }
+        if !self.fits(place, at, given.len()) {
+            return false;
+        }
+        let number = (at / 4096) as u32;
+        let Some(frame) = self.own_quickly(place, number) else {
+            return false;
+        };
+        self.write_own(place, number, frame, offset, given);
+        true
     }
 }
