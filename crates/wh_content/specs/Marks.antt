@@ -1,0 +1,28 @@
+-- Which frame has an entry under a hash.
+use Rattle.std.specs.Prelude.{ℕ, ◌≡◌, List, slice_get}
+use Rattle.wh_host_model.specs.declared.states.Mark.{Mark}
+use Rattle.wh_host_model.specs.declared.states.Mark.TheVariants.{Hint, Sharers}
+use Rattle.wh_host_model.specs.Space.Sound.{HasHash}
+use Rattle.wh_content.specs.declared.entry.Entry.{Entry}
+use Rattle.wh_content.specs.declared.entry.Entry.TheVariants as entry
+
+-- the frame of an entry, and its mark, with the hash under which it was found
+abbrev pub frame_of_entry : Entry → ℕ
+frame_of_entry (entry.Hint frame place page) = frame
+frame_of_entry (entry.Shared frame sharers) = frame
+
+abbrev pub mark_of_entry : ℕ → Entry → Mark
+mark_of_entry hash (entry.Hint frame place page) = Hint hash place page
+mark_of_entry hash (entry.Shared frame sharers) = Sharers hash sharers
+
+-- no frame but this one has an entry under the hash
+abbrev pub IsOnlyWith : List Mark → ℕ → ℕ → Type 0
+IsOnlyWith marks frame hash = (other : ℕ) → HasHash (slice_get marks other) hash → other ≡ frame
+
+-- no frame has one
+abbrev pub IsWithout : List Mark → ℕ → Type 0
+IsWithout marks hash = (frame : ℕ) → ¬ HasHash (slice_get marks frame) hash
+
+-- no two frames have entries under one hash
+abbrev pub AreApart : List Mark → Type 0
+AreApart marks = (frame hash : ℕ) → HasHash (slice_get marks frame) hash → IsOnlyWith marks frame hash

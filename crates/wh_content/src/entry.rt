@@ -1,0 +1,49 @@
+// What a look-up finds.
+
+ghost use Rattle.std.specs.Prelude.{◌≡◌, IfSome, IfNone, Some};
+ghost use Rattle.wh_content.specs.Marks.{frame_of_entry, mark_of_entry};
+ghost use Rattle.wh_host_model.specs.Space.Sound.{HasHash};
+ghost use Rattle.wh_host_model.specs.declared.states.Mark.TheVariants.{Plain};
+
+use wh_host_model::Mark;
+
+/// The entry under a hash.
+#[derive(Clone, Copy, Debug, PartialEq, Eq)]
+pub enum Entry {
+    /// A frame, and the page whose own it is, of the instance at a place.
+    Hint { frame: u32, place: u32, page: u32 },
+    /// A frame, and how many pages share it.
+    Shared { frame: u32, sharers: u32 },
+}
+
+// The entry of the frame with this mark, if it has one under this hash.
+pub fn entry_under(hash: u64, frame: u32, mark: Mark) -> Option<Entry>
+    ensures frame { IfSome result (λ entry. frame_of_entry entry ≡ frame) }
+    ensures mark { IfSome result (λ entry. mark_of_entry hash entry ≡ mark) }
+    ensures none { IfNone result (¬ HasHash (Some mark) hash) }
+{
+    match mark {
+        Mark::Hint {
+            hash: own,
+            place,
+            page,
+        } if own == hash => Some(Entry::Hint { frame, place, page }),
+        Mark::Sharers { hash: own, count } if own == hash => Some(Entry::Shared {
+            frame,
+            sharers: count,
+        }),
+        _ => None,
+    }
+}
+
+// The hash under which a frame with this mark has its entry.
+pub fn hash_of(mark: Mark) -> Option<u64>
+    ensures some { IfSome result (λ hash. HasHash (Some mark) hash) }
+    ensures none { IfNone result (mark ≡ Plain) }
+{
+    match mark {
+        Mark::Plain => None,
+        Mark::Hint { hash, .. } => Some(hash),
+        Mark::Sharers { hash, .. } => Some(hash),
+    }
+}

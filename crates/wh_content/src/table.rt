@@ -1,0 +1,165 @@
+// The table as its caller sees it.
+
+ghost use Rattle.std.specs.Prelude.{◌≡◌, ◌+◌, ◌<◌, ◌%◌, Some, IfOk, IfSome, IfNone, length, get_or, replicate, slice_get, slice_set};
+ghost use Rattle.wh_content.specs.Marks.{frame_of_entry, mark_of_entry, IsOnlyWith, IsWithout};
+ghost use Rattle.wh_host_model.specs.Space.Breaks.{fewer_sharers};
+ghost use Rattle.wh_host_model.specs.Space.Sound.{HasHash};
+ghost use Rattle.wh_host_model.specs.declared.states.Mark.TheVariants.{Plain, Hint, Sharers};
+
+use crate::chains::Chains;
+use crate::entry::{Entry, entry_under, hash_of};
+use std::alloc::{AllocError, Global};
+use std::marker::Model;
+use wh_host_model::Mark;
+
+const _: () = prove!(size_of::<Mark>() <= 24);
+
+/// What is known of the content of each frame: at most one entry for a frame, and at most one under
+/// a hash.
+///
+/// All room is taken at once. Then no method takes memory, and none fails.
+#[derive(Drop)]
+pub struct Table {
+    frames: u32,
+    marks: Vec<Mark>,
+    // As many chains as frames. Their heads are the places behind the frames.
+    chains: Chains,
+}
+
+impl Model for Table {
+    ghost use Rattle.std.specs.Prelude.{List};
+    ghost use Rattle.wh_host_model.specs.declared.states.Mark.{Mark};
+
+    ghost Value = { List Mark };
+
+    ghost use Rattle.wh_content.specs.Parts.{IsIndexed};
+
+    ghost view = { λ a. a.marks.items };
+
+    ghost invariant = { IsIndexed };
+}
+
+// The head of the chain for this hash, where there are so many frames.
+fn head_of(frames: u32, hash: u64) -> usize
+    requires { 0 < frames }
+    ensures { result ≡ frames + hash % frames }
+{
+    frames as usize + (hash % frames as u64) as usize
+}
+
+impl Table {
+    /// A table for so many frames, without entries. All its room is taken here: 32 bytes a frame.
+    ///
+    /// # Errors
+    /// `AllocError` where room is refused. Nothing is left behind then.
+    pub fn new(alloc: Global, frames: u32) -> Result<Table, AllocError>
+        ensures { IfOk result (λ table. table ≡ replicate frames Plain) }
+    {
+        let marks = vec![in alloc; Mark::Plain; frames as usize]?;
+        let chains = Chains::new(alloc, frames as usize * 2)?;
+        Ok(Table {
+            frames,
+            marks,
+            chains,
+        })
+    }
+
+    /// What there is of this frame, which is one of the table's.
+    pub fn mark(&self, frame: u32) -> Mark
+        requires { frame < length self.now }
+        ensures { slice_get self.now frame ≡ Some result }
+    {
+        self.marks[frame as usize]
+    }
+
+    /// The entry under this hash, if there is one.
+    pub fn look(&self, hash: u64) -> Option<Entry>
+        ensures found { IfSome result (λ entry.
+            slice_get self.now (frame_of_entry entry) ≡ Some (mark_of_entry hash entry)) }
+        ensures only { IfSome result (λ entry. IsOnlyWith self.now (frame_of_entry entry) hash) }
+        ensures none { IfNone result (IsWithout self.now hash) }
+    {
+        if self.frames == 0 {
+            return None;
+        }
+        let mut place = head_of(self.frames, hash);
+        while let Some(frame) = self.chains.next(place) {
+            if let Some(entry) = entry_under(hash, frame, self.mark(frame)) {
+                return Some(entry);
+            }
+            place = frame as usize;
+        }
+        None
+    }
+
+    /// Makes this page, of the instance at this place, the hint of the hash, on this frame, which
+    /// is one of the table's. No other frame has an entry under the hash. An entry that this frame
+    /// had goes.
+    pub fn set_hint(&mut self, frame: u32, hash: u64, place: u32, page: u32)
+        requires within { frame < length self.old }
+        requires alone { IsOnlyWith self.old frame hash }
+        ensures { self.new ≡ slice_set self.old frame (Hint hash place page) }
+    {
+        self.put(frame, hash, Mark::Hint { hash, place, page });
+    }
+
+    /// Says that so many pages share this frame, which is one of the table's, under the hash. No
+    /// other frame has an entry under the hash. An entry that this frame had goes.
+    pub fn share(&mut self, frame: u32, hash: u64, sharers: u32)
+        requires within { frame < length self.old }
+        requires alone { IsOnlyWith self.old frame hash }
+        ensures { self.new ≡ slice_set self.old frame (Sharers hash sharers) }
+    {
+        let mark = Mark::Sharers {
+            hash,
+            count: sharers,
+        };
+        self.put(frame, hash, mark);
+    }
+
+    /// Says that one page fewer shares this frame, which is one of the table's. With the last one
+    /// its entry goes. A hint stays.
+    pub fn drop_sharer(&mut self, frame: u32)
+        requires { frame < length self.old }
+        ensures { self.new
+            ≡ slice_set self.old frame (fewer_sharers 1 (get_or self.old frame Plain)) }
+    {
+        let Mark::Sharers { hash, count } = self.marks[frame as usize] else {
+            return;
+        };
+        if count > 1 {
+            self.marks[frame as usize] = Mark::Sharers {
+                hash,
+                count: count - 1,
+            };
+        } else {
+            self.forget_frame(frame);
+        }
+    }
+
+    /// Forgets what there is of this frame, which is one of the table's.
+    pub fn forget_frame(&mut self, frame: u32)
+        requires { frame < length self.old }
+        ensures { self.new ≡ slice_set self.old frame Plain }
+    {
+        let Some(hash) = hash_of(self.marks[frame as usize]) else {
+            return;
+        };
+        let place = self.chains.behind(head_of(self.frames, hash), frame);
+        self.chains.remove(place, frame);
+        self.marks[frame as usize] = Mark::Plain;
+    }
+
+    // Puts a mark with this hash, which no other frame has.
+    fn put(&mut self, frame: u32, hash: u64, mark: Mark)
+        requires within { frame < length self.old }
+        requires alone { IsOnlyWith self.old frame hash }
+        requires hash { HasHash (Some mark) hash }
+        ensures { self.new ≡ slice_set self.old frame mark }
+    {
+        self.forget_frame(frame);
+        let place = self.chains.behind(head_of(self.frames, hash), frame);
+        self.chains.insert(place, frame);
+        self.marks[frame as usize] = mark;
+    }
+}
