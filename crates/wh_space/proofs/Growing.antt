@@ -12,29 +12,29 @@ use Rattle.wh_host_model.proofs.Space.Putting.{get_or_is}
 use Rattle.wh_host_model.proofs.Space.Rooms.{get_there}
 use Rattle.wh_host_model.proofs.Space.Rows.{past_there}
 use Rattle.wh_space.specs.declared.memory.Memory.TheInside.{Inside}
-use Rattle.wh_space.specs.declared.tenant.Tenant.{Tenant}
+use Rattle.wh_space.specs.declared.guest.Guest.{Guest}
 use Rattle.wh_space.specs.Pages.{limits_in, marks_in, pages_in}
 use Rattle.wh_space.specs.Parts.{IsWell, occupant_of, space_of}
 use Rattle.wh_space.specs.Steps.{limit_by, page_limit}
 use Rattle.wh_space.proofs.Wellness.{well}
 
--- the occupant who a tenant stands for
-abbrev pub occupant : Tenant → Occupant
+-- the occupant who a guest stands for
+abbrev pub occupant : Guest → Occupant
 occupant t = record { number = t.number; live = true; shares = t.shares; min = t.min; max = t.max; stands = t.stands; leaves = None }
 
 -- somebody is there, or nobody
-pub record IsThere (tenants : List (Option Tenant)) (i : ℕ) : Type 0 where
-  pub tenant : Tenant
-  pub there : slice_get tenants i ≡ Some (Some tenant)
-  pub occupies : slice_get (map occupant_of tenants) i ≡ Some (Some (occupant tenant))
+pub record IsThere (guests : List (Option Guest)) (i : ℕ) : Type 0 where
+  pub guest : Guest
+  pub there : slice_get guests i ≡ Some (Some guest)
+  pub occupies : slice_get (map occupant_of guests) i ≡ Some (Some (occupant guest))
 
-pub somebody : (tenants : List (Option Tenant)) (i : ℕ) → IsThere tenants i ⊎ (get_or (map occupant_of tenants) i None ≡ None)
+pub somebody : (guests : List (Option Guest)) (i : ℕ) → IsThere guests i ⊎ (get_or (map occupant_of guests) i None ≡ None)
 somebody [] i = inr refl
-somebody (None ∷ tenants) zero = inr refl
-somebody (Some t ∷ tenants) zero = inl (record { tenant = t; there = refl; occupies = refl })
-somebody (x ∷ tenants) (suc i) =
-    elim (somebody tenants i) [
-      | inl here ↦ inl (record { tenant = here.tenant; there = here.there; occupies = here.occupies })
+somebody (None ∷ guests) zero = inr refl
+somebody (Some t ∷ guests) zero = inl (record { guest = t; there = refl; occupies = refl })
+somebody (x ∷ guests) (suc i) =
+    elim (somebody guests i) [
+      | inl here ↦ inl (record { guest = here.guest; there = here.there; occupies = here.occupies })
       | inr none ↦ inr none
     ]
 
@@ -59,17 +59,17 @@ none_there s i sound none =
       | inr past ↦ (let l = sound.occupants.tables in past_there s.tables i (omega arith))
     ]
 
-pub limit_at : (a : Inside) (i : ℕ) (here : IsThere a.tenants.items i) → page_limit (space_of a) i ≡ here.tenant.max / 16
-limit_at a i here = ap (λ (o : Option Occupant). limit_by (claim_of o)) (get_or_is (map occupant_of a.tenants.items) i (Some (occupant here.tenant)) None here.occupies)
+pub limit_at : (a : Inside) (i : ℕ) (here : IsThere a.guests.items i) → page_limit (space_of a) i ≡ here.guest.max / 16
+limit_at a i here = ap (λ (o : Option Occupant). limit_by (claim_of o)) (get_or_is (map occupant_of a.guests.items) i (Some (occupant here.guest)) None here.occupies)
 
-pub limit_nowhere : (a : Inside) (i : ℕ) → get_or (map occupant_of a.tenants.items) i None ≡ None → page_limit (space_of a) i ≡ 0
+pub limit_nowhere : (a : Inside) (i : ℕ) → get_or (map occupant_of a.guests.items) i None ≡ None → page_limit (space_of a) i ≡ 0
 limit_nowhere a i none = ap (λ (o : Option Occupant). limit_by (claim_of o)) none
 
 pub size_within : (a : Inside) (i n : ℕ) → IsSound (space_of a) → length (get_or (pages_in a.tables.items) i []) ≡ 16 * n → n ≤ page_limit (space_of a) i
 size_within a i n sound long =
-    elim (somebody a.tenants.items i) [
+    elim (somebody a.guests.items i) [
       | inl here ↦
-          (let has = sound.occupants.have i (Some (occupant here.tenant)) here.occupies in
+          (let has = sound.occupants.have i (Some (occupant here.guest)) here.occupies in
           let most = has.2 in
           let limit = limit_at a i here in
           omega arith)
@@ -77,25 +77,25 @@ size_within a i n sound long =
     ]
 
 -- who may grow is there
-pub grower : (a : Inside) (i : ℕ) → 1 ≤ page_limit (space_of a) i → IsThere a.tenants.items i
-grower a i some = elim (somebody a.tenants.items i) [ inl here ↦ here | inr none ↦ absurd (let z = limit_nowhere a i none in omega arith) ]
+pub grower : (a : Inside) (i : ℕ) → 1 ≤ page_limit (space_of a) i → IsThere a.guests.items i
+grower a i some = elim (somebody a.guests.items i) [ inl here ↦ here | inr none ↦ absurd (let z = limit_nowhere a i none in omega arith) ]
 
 -- ---- what it grew to
 
-pub grew_well : (a b : Inside) (i n : ℕ) (here : IsThere a.tenants.items i) → IsWell a → b.tenants ≡ a.tenants → limits_in b.tables.items ≡ limits_in a.tables.items → Grew (space_of a) i n (space_of b)
-    → length (get_or (pages_in a.tables.items) i []) + 16 * n ≤ here.tenant.max → IsWell b
-grew_well a b i n here was tenants limits grew fits = well a b was tenants limits (grows_soundly (space_of a) i n (occupant here.tenant) (space_of b) was.sound here.occupies refl fits grew)
+pub grew_well : (a b : Inside) (i n : ℕ) (here : IsThere a.guests.items i) → IsWell a → b.guests ≡ a.guests → limits_in b.tables.items ≡ limits_in a.tables.items → Grew (space_of a) i n (space_of b)
+    → length (get_or (pages_in a.tables.items) i []) + 16 * n ≤ here.guest.max → IsWell b
+grew_well a b i n here was guests limits grew fits = well a b was guests limits (grows_soundly (space_of a) i n (occupant here.guest) (space_of b) was.sound here.occupies refl fits grew)
 
 -- there is somebody, and room for so many pages more
 pub record CanGrow (a : Inside) (i n : ℕ) : Type 0 where
-  pub here : IsThere a.tenants.items i
-  pub room : length (get_or (pages_in a.tables.items) i []) + 16 * n ≤ here.tenant.max
+  pub here : IsThere a.guests.items i
+  pub room : length (get_or (pages_in a.tables.items) i []) + 16 * n ≤ here.guest.max
   pub few : 16 * n ≤ 65536
 
 pub can_grow : (a : Inside) (i before n : ℕ) → IsWell a → length (get_or (pages_in a.tables.items) i []) ≡ 16 * before → 1 ≤ n → before + n ≤ page_limit (space_of a) i → CanGrow a i n
 can_grow a i before n was long some fits =
     let here = grower a i (omega arith) in
     let limit = limit_at a i here in
-    let has = was.sound.occupants.have i (Some (occupant here.tenant)) here.occupies in
+    let has = was.sound.occupants.have i (Some (occupant here.guest)) here.occupies in
     let most = has.4 in
     record { here = here; room = omega arith; few = omega arith }

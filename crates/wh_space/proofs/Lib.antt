@@ -6,3 +6,4 @@ pub mod Wants
 pub mod Storing
 pub mod Growing
 pub mod Keeping
+pub mod Entering

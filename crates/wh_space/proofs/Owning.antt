@@ -139,17 +139,17 @@ pub record IsOwned (a b : Inside) (i p g : ℕ) : Type 0 where
   pub breaks : Breaks (space_of a) i p (space_of b)
   pub page : page_at (space_of b).tables i p ≡ Some (Private g)
 
-pub owned_by : (a b : Inside) (i p g : ℕ) (x : Page) → IsWell a → b.tenants ≡ a.tenants → b.slots ≡ a.slots → b.tax ≡ a.tax
+pub owned_by : (a b : Inside) (i p g : ℕ) (x : Page) → IsWell a → b.guests ≡ a.guests → b.slots ≡ a.slots → b.tax ≡ a.tax
     → pages_in b.tables.items ≡ put (pages_in a.tables.items) i p (Private g) → marks_in b.tables.items ≡ put (marks_in a.tables.items) i p true
     → limits_in b.tables.items ≡ limits_in a.tables.items → page_at (pages_in a.tables.items) i p ≡ Some x
     → GetsFrame (space_of a) i x g (record (space_of a) { pool = b.pool; marks = b.content }) → IsOwned a b i p g
-owned_by a b i p g x was tenants slots tax pages marks limits there gets =
+owned_by a b i p g x was guests slots tax pages marks limits there gets =
     let s : Space = space_of a in
     let mid : Space = record s { pool = b.pool; marks = b.content } in
-    let after : space_of b ≡ standing_alone mid i p g = rw (pages, marks, tenants, slots, tax, voided_vacant i (p ∷ []) a.slots) refl in
+    let after : space_of b ≡ standing_alone mid i p g = rw (pages, marks, guests, slots, tax, voided_vacant i (p ∷ []) a.slots) refl in
     let breaks : Breaks s i p (space_of b) = record { page = x; was = there; frame = g; mid = mid; gets = gets; after = after } in
     record {
-      well = well a b was tenants limits (breaks_soundly s i p (space_of b) was.sound breaks).0;
+      well = well a b was guests limits (breaks_soundly s i p (space_of b) was.sound breaks).0;
       breaks = breaks;
       page = ap (λ (t : List (List Page)). page_at t i p) pages ∙ put_this (pages_in a.tables.items) i p x (Private g) there;
     }

@@ -6,12 +6,12 @@ use Rattle.wh_host_model.specs.Space.Sound.{IsSound}
 use Rattle.wh_host_model.specs.Space.States.{put}
 use Rattle.wh_host_model.proofs.Space.Steady.{touched_soundly}
 use Rattle.wh_space.specs.declared.memory.Memory.TheInside.{Inside}
-use Rattle.wh_space.specs.declared.tenant.Tenant.{Tenant}
+use Rattle.wh_space.specs.declared.guest.Guest.{Guest}
 use Rattle.wh_space.specs.Pages.{limits_in, marks_in, pages_in}
 use Rattle.wh_space.specs.Parts.{IsWell, space_of}
 
--- the same tenants, and tables with the same limits
-pub well : (a b : Inside) → IsWell a → b.tenants ≡ a.tenants → limits_in b.tables.items ≡ limits_in a.tables.items → IsSound (space_of b) → IsWell b
+-- the same guests, and tables with the same limits
+pub well : (a b : Inside) → IsWell a → b.guests ≡ a.guests → limits_in b.tables.items ≡ limits_in a.tables.items → IsSound (space_of b) → IsWell b
 well a b was same limits sound = record {
   sound = sound;
   limits = λ i t is. ap (λ l. slice_get l i) limits ∙ was.limits i t (sym (ap (λ (z : _). slice_get z.items i) same) ∙ is);

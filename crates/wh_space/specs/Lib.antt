@@ -1,3 +1,4 @@
+pub mod Arrivals
 pub mod Pages
 pub mod Parts
 pub mod Steps

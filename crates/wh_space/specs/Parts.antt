@@ -3,12 +3,12 @@ use Rattle.std.specs.Prelude.{ℕ, ◌≡◌, List, [], Option, Some, None, true
 use Rattle.wh_host_model.specs.declared.states.Slot.TheVariants.{Vacant}
 use Rattle.wh_host_model.specs.Space.Parts.{Occupant, Slots, Space, numbers_below}
 use Rattle.wh_host_model.specs.Space.Sound.{IsSound}
-use Rattle.wh_space.specs.declared.tenant.Tenant.{Tenant}
+use Rattle.wh_space.specs.declared.guest.Guest.{Guest}
 use Rattle.wh_space.specs.declared.memory.Memory.TheInside.{Inside}
 use Rattle.wh_space.specs.Pages.{limits_in, marks_in, pages_in}
 
 -- who has a place
-abbrev pub occupant_of : Option Tenant → Option Occupant
+abbrev pub occupant_of : Option Guest → Option Occupant
 occupant_of None = None
 occupant_of (Some t) =
     Some (record {
@@ -27,7 +27,7 @@ vacant_slots slots = record { uses = replicate slots Vacant; vacant = numbers_be
 
 abbrev pub space_of : Inside → Space
 space_of a = record {
-  occupants = map occupant_of a.tenants.items;
+  occupants = map occupant_of a.guests.items;
   tables = pages_in a.tables.items;
   touched = marks_in a.tables.items;
   pool = a.pool;
@@ -40,5 +40,5 @@ space_of a = record {
 -- the memory is sound, and each instance's table has room for its maximum
 pub record IsWell (a : Inside) : Type 0 where
   pub sound : IsSound (space_of a)
-  pub limits : (i : ℕ) (t : Tenant) → slice_get a.tenants.items i ≡ Some (Some t)
+  pub limits : (i : ℕ) (t : Guest) → slice_get a.guests.items i ≡ Some (Some t)
       → slice_get (limits_in a.tables.items) i ≡ Some t.max

@@ -22,11 +22,11 @@ impl Memory {
     pub fn limit(&self, place: usize) -> u32
         ensures { result ≡ page_limit self.now place }
     {
-        if place >= self.tenants.len() {
+        if place >= self.guests.len() {
             return 0;
         }
-        match self.tenants[place] {
-            Some(tenant) => tenant.max / 16,
+        match self.guests[place] {
+            Some(guest) => guest.max / 16,
             None => 0,
         }
     }

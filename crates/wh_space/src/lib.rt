@@ -1,6 +1,7 @@
 //! The memory on which all instances lie: their pages on one pool of frames.
 #![tactic(auto)]
 
+mod arrivals;
 mod breaks;
 mod frames;
 mod growth;
@@ -9,9 +10,9 @@ mod memory;
 mod pages;
 mod ready;
 mod stores;
-mod tenant;
+mod guest;
 mod view;
 
 pub use memory::Memory;
-pub use tenant::Tenant;
+pub use guest::Promise;
 pub use view::View;

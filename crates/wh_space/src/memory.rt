@@ -2,7 +2,7 @@
 
 ghost use Rattle.wh_host_model.specs.Space.Sound.{IsSound};
 
-use crate::tenant::Tenant;
+use crate::guest::Guest;
 use std::marker::Model;
 use wh_content::Table;
 use wh_frames::FramePool;
@@ -12,7 +12,7 @@ use wh_pages::PageTable;
 /// The memory of all instances, by their places, on one pool of frames.
 #[derive(Drop)]
 pub struct Memory {
-    pub(crate) tenants: Vec<Option<Tenant>>,
+    pub(crate) guests: Vec<Option<Guest>>,
     pub(crate) tables: Vec<PageTable>,
     pub(crate) pool: FramePool,
     pub(crate) content: Table,

@@ -34,7 +34,7 @@ pub grow_at-requires-clause-room : goal.grow_at-requires-clause-room
 grow_at-requires-clause-room c =
     let k = can c in
     let room = k.room in
-    let limit = get_or_is (limits_in c.self.inside.tables.items) c.args.place k.here.tenant.max 0 (c.self.invariant.limits c.args.place k.here.tenant k.here.there) in
+    let limit = get_or_is (limits_in c.self.inside.tables.items) c.args.place k.here.guest.max 0 (c.self.invariant.limits c.args.place k.here.guest k.here.there) in
     omega arith
 
 grew : (c : goal.After-grow_at) → Grew (space_of c.self.inside) c.args.place c.args.pages (space_of (record c.self.inside { tables = c.grow_at.new.tables }))
@@ -57,6 +57,6 @@ returns-clause-grows c =
     let b : Inside = record a { tables = c.grow_at.new.tables } in
     let k = also c in
     let limit = ap (λ (z : Space). page_limit z c.args.place) c.self.view_is in
-    let seen = grows_by_zeros (space_of a) c.args.place c.args.pages (occupant k.here.tenant) (space_of b) c.self.invariant.sound k.here.occupies (grew c) in
+    let seen = grows_by_zeros (space_of a) c.args.place c.args.pages (occupant k.here.guest) (space_of b) c.self.invariant.sound k.here.occupies (grew c) in
     let turned : 65536 * c.args.pages ≡ c.args.pages * 65536 = omega arith in
     (c.size-before.ensures.bytes, omega arith, seen ∙ (ap (λ (z : Space). view z c.args.place ++ replicate (65536 * c.args.pages) 0) c.self.view_is ∙ ap (λ (z : ℕ). view c.args.self.now c.args.place ++ replicate z 0) turned))
