@@ -63,26 +63,28 @@ entered a b i p size was may guests tables pool content slots tax =
       fits = may.fits;
       fresh = may.fresh;
       leaves = rw (occupants, pages, marks, pool, content, slots, tax) refl;
-    } in
-    (enters, record {
-      sound = enters_soundly s i (claimed p) size (space_of b) was.sound enters;
-      limits = λ j t is.
-          (let most = free_within s i may.free in
-          let l = length-map a.guests.items occupant_of in
-          let m = length-map a.tables.items (λ (t : PageTableState). t.max) in
-          let n = length-map a.tables.items (λ (t : PageTableState). t.pages) in
-          let o = was.sound.occupants.tables in
-          let there : i ≤ length a.guests.items = omega arith in
-          let within : i ≤ length (limits_in a.tables.items) = omega arith in
-          let now : limits_in b.tables.items ≡ with_row (limits_in a.tables.items) i p.max = ap limits_in tables ∙ map_row (λ t. t.max) a.tables.items i (table_for p size) in
-          let is2 : slice_get (with_row a.guests.items i (Some (guest_of p))) j ≡ Some (Some t) = ap (λ (z : List (Option Guest)). slice_get z j) (sym guests) ∙ is in
-          elim (here_or i j) [
-            | inr other ↦
-                ap (λ (z : List ℕ). slice_get z j) now ∙ (row_other (limits_in a.tables.items) i j p.max within (λ e. other e)
-                ∙ was.limits j t (sym (row_other a.guests.items i j (Some (guest_of p)) there (λ e. other e)) ∙ is2))
-            | inl same ↦
-                (let both : Some (Some (guest_of p)) ≡ Some (Some t) = sym (row_same a.guests.items i (Some (guest_of p)) there) ∙ subst (λ (z : ℕ). slice_get (with_row a.guests.items i (Some (guest_of p))) z ≡ Some (Some t)) same is2 in
-                let one : guest_of p ≡ t = cc in
-                ap (λ (z : List ℕ). slice_get z j) now ∙ (ap (λ (z : ℕ). slice_get (with_row (limits_in a.tables.items) i p.max) z) same ∙ (row_same (limits_in a.tables.items) i p.max within ∙ ap (λ (g : Guest). Some g.max) one)))
-          ]);
-    })
+    } in (
+      enters,
+      record {
+        sound = enters_soundly s i (claimed p) size (space_of b) was.sound enters;
+        limits = λ j t is.
+            (let most = free_within s i may.free in
+            let l = length-map a.guests.items occupant_of in
+            let m = length-map a.tables.items (λ (t : PageTableState). t.max) in
+            let n = length-map a.tables.items (λ (t : PageTableState). t.pages) in
+            let o = was.sound.occupants.tables in
+            let there : i ≤ length a.guests.items = omega arith in
+            let within : i ≤ length (limits_in a.tables.items) = omega arith in
+            let now : limits_in b.tables.items ≡ with_row (limits_in a.tables.items) i p.max = ap limits_in tables ∙ map_row (λ t. t.max) a.tables.items i (table_for p size) in
+            let is2 : slice_get (with_row a.guests.items i (Some (guest_of p))) j ≡ Some (Some t) = ap (λ (z : List (Option Guest)). slice_get z j) (sym guests) ∙ is in
+            elim (here_or i j) [
+              | inr other ↦
+                  ap (λ (z : List ℕ). slice_get z j) now ∙ (row_other (limits_in a.tables.items) i j p.max within (λ e. other e)
+                  ∙ was.limits j t (sym (row_other a.guests.items i j (Some (guest_of p)) there (λ e. other e)) ∙ is2))
+              | inl same ↦
+                  (let both : Some (Some (guest_of p)) ≡ Some (Some t) = sym (row_same a.guests.items i (Some (guest_of p)) there) ∙ subst (λ (z : ℕ). slice_get (with_row a.guests.items i (Some (guest_of p))) z ≡ Some (Some t)) same is2 in
+                  let one : guest_of p ≡ t = cc in
+                  ap (λ (z : List ℕ). slice_get z j) now ∙ (ap (λ (z : ℕ). slice_get (with_row (limits_in a.tables.items) i p.max) z) same ∙ (row_same (limits_in a.tables.items) i p.max within ∙ ap (λ (g : Guest). Some g.max) one)))
+            ]);
+      },
+    )

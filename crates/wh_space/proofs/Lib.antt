@@ -7,3 +7,4 @@ pub mod Storing
 pub mod Growing
 pub mod Keeping
 pub mod Entering
+pub mod Summing

@@ -106,8 +106,11 @@ cannot_copy s i p f x sound there one more none can =
 pub takes_free : (s : Space) (i g : ℕ) (bytes : List ℕ) (marks : List Mark) (taken pool : Pool) → PoolTakes s.pool g taken → pool ≡ record taken { frames = slice_set taken.frames g bytes }
     → TakesFrame (record s { marks = marks }) i g bytes (record s { pool = pool; marks = marks })
 takes_free s i g bytes marks taken pool takes is =
-    inl (taken.free, (taken.free, [], takes.free, sym (append-nil taken.free)),
-    ap (λ (z : Pool). record s { pool = z; marks = marks }) (is ∙ ap (λ (z : List (List ℕ)). record { frames = slice_set z g bytes; free = taken.free }) takes.frames))
+    inl (
+      taken.free,
+      (taken.free, [], takes.free, sym (append-nil taken.free)),
+      ap (λ (z : Pool). record s { pool = z; marks = marks }) (is ∙ ap (λ (z : List (List ℕ)). record { frames = slice_set z g bytes; free = taken.free }) takes.frames),
+    )
 
 pub keeps_own : (s : Space) (i f : ℕ) (x : Page) → owns f x ≡ 1 → GetsFrame s i x f s
 keeps_own s i f Untouched one = absurd (omega arith)

@@ -46,8 +46,10 @@ fn write_bytes(bytes: &mut [u8; 4096], offset: usize, given: &[u8])
 pub fn write_frame(pool: &mut FramePool, frame: u32, offset: usize, given: &[u8])
     requires taken { IsTaken pool.old frame }
     requires inside { offset + length given.now ≤ 4096 }
-    ensures { pool.new ≡ record pool.old { frames = slice_set pool.old.frames frame
-      (written (get_or pool.old.frames frame []) offset given.now) } }
+    ensures { pool.new ≡ record pool.old {
+      frames = slice_set pool.old.frames frame
+          (written (get_or pool.old.frames frame []) offset given.now);
+    } }
 {
     write_bytes(pool.bytes_mut(frame), offset, given);
 }
@@ -65,8 +67,10 @@ pub fn clear_frame(pool: &mut FramePool, frame: u32)
 pub fn copy_frame(pool: &mut FramePool, from: u32, to: u32)
     requires from { IsTaken pool.old from }
     requires to { IsTaken pool.old to }
-    ensures { pool.new ≡ record pool.old { frames = slice_set pool.old.frames to
-      (get_or pool.old.frames from []) } }
+    ensures { pool.new ≡ record pool.old {
+      frames = slice_set pool.old.frames to
+          (get_or pool.old.frames from []);
+    } }
 {
     let bytes = *pool.bytes(from);
     *pool.bytes_mut(to) = bytes;

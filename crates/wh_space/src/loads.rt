@@ -52,7 +52,7 @@ impl Memory {
     #[inline(always)]
     pub(crate) fn fits(&self, place: usize, at: u64, count: usize) -> bool
         ensures fits { IsTrue result
-          ↔ (at + count ≤ 4096 * length (get_or self.now.tables place [])) }
+            ↔ (at + count ≤ 4096 * length (get_or self.now.tables place [])) }
         ensures few { length (get_or self.now.tables place []) < 2 ^ 32 }
     {
         let pages = len_at(&self.tables, place);

@@ -50,7 +50,7 @@ pub fn touch(tables: &mut Vec<PageTable>, place: usize, number: u32)
 pub fn stand_alone(tables: &mut Vec<PageTable>, place: usize, number: u32, frame: u32)
     requires { number < length (get_or (pages_in tables.old.items) place []) }
     ensures pages { pages_in tables.new.items
-      ≡ put (pages_in tables.old.items) place number (Private frame) }
+        ≡ put (pages_in tables.old.items) place number (Private frame) }
     ensures marks { marks_in tables.new.items ≡ put (marks_in tables.old.items) place number true }
     ensures limits { limits_in tables.new.items ≡ limits_in tables.old.items }
 {

@@ -74,10 +74,11 @@ impl<'a> LinearMem for View<'a> {
     ghost keeps_same = { λ v. (refl, refl, keeps_all v.place v.memory.now) };
 
     ghost keeps_more = { λ a b c first second. (
-        first.0 ∙ second.0,
-        second.1 ∙ first.1,
-        keeps_on a.place b.place a.memory.now b.memory.now c.memory.now
-            first.1 first.2 second.2) };
+      first.0 ∙ second.0,
+      second.1 ∙ first.1,
+      keeps_on a.place b.place a.memory.now b.memory.now c.memory.now
+          first.1 first.2 second.2,
+    ) };
 
     ghost keeps_limit = { λ a b keeps.
         keeps_page_limit a.place b.place a.memory.now b.memory.now keeps.1 keeps.2 };

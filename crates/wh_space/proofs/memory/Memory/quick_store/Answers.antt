@@ -36,4 +36,3 @@ returns-clause-stores c =
     let within : k % 4096 + length given ≤ 4096 = omega (arith, c.if-offset-given-gt4096.false) in
     λ yes. stored s c.write_own.new.self c.args.place k given ((k / 4096) ∷ []) sound (c.fits.ensures.fits.0 c.if-not-fits.false)
     (on_one_page k (length given) some within) (can_step_one s c.args.place (k / 4096) c.in-Some.ensures.some.0) (over c)
-

@@ -31,9 +31,9 @@ returns c =
         alone = (let two : c.sharers_of.result ≡ 2 = grind (arith, nat_tests) in sym many ∙ two);
       },
       λ (a : SharesAlone s c.args.place c.args.number (c.args.number + 1)). (
-        let page = same_page s.tables c.args.place c.args.number a.first c.page_of.result a.here c.page_of.ensures in
-        let frame : Some a.frame ≡ Some c.in-Some.frame = sym a.shared ∙ (ap frame_shared page ∙ shared) in
-        let one : a.frame ≡ c.in-Some.frame = cc in
-        let two : c.sharers_of.result ≡ 2 = many ∙ (ap (sharers s) (sym one) ∙ a.alone) in
-        grind (arith, nat_tests)),
+          let page = same_page s.tables c.args.place c.args.number a.first c.page_of.result a.here c.page_of.ensures in
+          let frame : Some a.frame ≡ Some c.in-Some.frame = sym a.shared ∙ (ap frame_shared page ∙ shared) in
+          let one : a.frame ≡ c.in-Some.frame = cc in
+          let two : c.sharers_of.result ≡ 2 = many ∙ (ap (sharers s) (sym one) ∙ a.alone) in
+          grind (arith, nat_tests)),
     )

@@ -45,6 +45,7 @@ returns-in_default c =
     let s = space_of c.self.inside in
     let x = is_sharer s c.args.place c.args.number c.args.frame c.self.invariant.sound (rw (← c.self.view_is) at c.requires.shares) in
     let empty : s.pool.free ≡ [] = (search rules) in
-    let none : length s.pool.free ≡ 0 = rw empty refl in
-    (rw (← c.self.view_is) (cannot_copy s c.args.place c.args.number c.args.frame x.page c.self.invariant.sound x.there x.one (rw (← c.self.view_is) at c.requires.several) (omega arith)),
-    ap (λ (p : Pool). record s { pool = p }) c.in_default.ensures.unchanged ∙ c.self.view_is)
+    let none : length s.pool.free ≡ 0 = rw empty refl in (
+      rw (← c.self.view_is) (cannot_copy s c.args.place c.args.number c.args.frame x.page c.self.invariant.sound x.there x.one (rw (← c.self.view_is) at c.requires.several) (omega arith)),
+      ap (λ (p : Pool). record s { pool = p }) c.in_default.ensures.unchanged ∙ c.self.view_is,
+    )
