@@ -1,12 +1,10 @@
 -- An instance that comes to a place.
-use Rattle.std.proofs.Common.{◌≡◌, ◌≢◌, ◌⊎◌, inl, inr, ℕ, ◌*◌, ◌+◌, ◌<◌, ◌≤◌, ◌++◌, cond, nat_lt, Bool, true, false, List, [], ◌∷◌, Option, Some, None, length, map, replicate, slice_get, slice_set, zero, suc, refl, sym, ◌∙◌, ap, subst, arith}
+use Rattle.std.proofs.Common.{◌≡◌, ◌≢◌, inl, inr, ℕ, ◌*◌, ◌≤◌, ◌++◌, cond, nat_lt, Bool, true, false, List, [], ◌∷◌, Option, Some, None, length, map, replicate, slice_get, slice_set, zero, suc, refl, sym, ◌∙◌, ap, subst, arith}
 use Rattle.std.proofs.lemmas.List.{length-map}
 use Rattle.wh_pages.specs.Table.{PageTableState}
-use Rattle.wh_host_model.specs.declared.states.Page.{Page}
 use Rattle.wh_host_model.specs.declared.states.Page.TheVariants.{Untouched}
 use Rattle.wh_host_model.specs.Space.Parts.{Occupant, Space, occupant_at}
 use Rattle.wh_host_model.specs.Space.Places.{Enters, HasRoomFor, IsFreePlace, newcomer, with_row}
-use Rattle.wh_host_model.specs.Space.Sound.{IsSound}
 use Rattle.wh_host_model.proofs.Space.Entered.{enters_soundly, free_within}
 use Rattle.wh_host_model.proofs.Space.Putting.{here_or}
 use Rattle.wh_host_model.proofs.Space.Rows.{row_other, row_same}

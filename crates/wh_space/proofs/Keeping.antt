@@ -1,5 +1,5 @@
 -- What steps leave of all else.
-use Rattle.std.proofs.Common.{◌≡◌, ◌≢◌, ℕ, ◌+◌, ◌*◌, ◌≤◌, ◌++◌, List, [], ◌∷◌, Option, Some, None, length, get_or, map, replicate, refl, sym, ◌∙◌, ap, subst, arith, nat_lt, cond, Bool, true, false}
+use Rattle.std.proofs.Common.{◌≡◌, ℕ, List, [], ◌∷◌, Option, length, get_or, map, refl, sym, ◌∙◌, ap, subst, nat_lt, cond, Bool, true, false}
 use Rattle.std.specs.Bool.{IsFalse, IsTrue}
 use Rattle.wh_model.specs.declared.memory.Got.{Got}
 use Rattle.wh_model.specs.declared.memory.Got.TheVariants.{Value, Trap, NotReady}
@@ -10,11 +10,11 @@ use Rattle.wh_host_model.specs.declared.states.Slot.{Slot}
 use Rattle.wh_host_model.specs.declared.states.Slot.TheVariants.{Vacant, Taken, Evicting, EvictVoid, Fetching, FetchVoid}
 use Rattle.wh_host_model.specs.Frames.{tally, one_if}
 use Rattle.wh_host_model.specs.Space.Breaks.{voided}
-use Rattle.wh_host_model.specs.Space.Errands.{Errand, Pass, errand_for, pass_of}
-use Rattle.wh_host_model.specs.Space.Parts.{Occupant, Slots, Space, claim_of, kept_by, pinned_by, view}
+use Rattle.wh_host_model.specs.Space.Errands.{Errand, errand_for, pass_of}
+use Rattle.wh_host_model.specs.Space.Parts.{Slots, Space, kept_by, pinned_by, view}
 use Rattle.wh_host_model.specs.Space.Sound.{IsSound}
 use Rattle.wh_host_model.specs.Space.States.{joined}
-use Rattle.wh_host_model.specs.Space.Stores.{Grew, Overwrites, Touches}
+use Rattle.wh_host_model.specs.Space.Stores.{Overwrites, Touches}
 use Rattle.wh_host_model.proofs.Space.Filled.{stores_are_right, stores_soundly}
 use Rattle.wh_host_model.proofs.Space.Quiet.{grew_own, steps_quiet}
 use Rattle.wh_host_model.proofs.Space.Steady.{touches_soundly}

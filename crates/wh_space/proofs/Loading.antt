@@ -1,13 +1,13 @@
 -- How loads end.
-use Rattle.std.proofs.Common.{◌≡◌, ℕ, ◌+◌, ◌*◌, ◌-◌, ◌<◌, ◌≤◌, ◌++◌, Bool, true, false, List, [], ◌∷◌, length, get_or, take, drop, slice_get, Option, None, zero, suc, refl, sym, ◌∙◌, subst, ap, arith}
+use Rattle.std.proofs.Common.{◌≡◌, ℕ, ◌+◌, ◌*◌, ◌-◌, ◌≤◌, ◌++◌, Bool, true, false, List, [], ◌∷◌, length, get_or, slice_get, None, zero, suc, refl, sym, subst, arith}
 use Rattle.std.specs.Bool.{MatchBool}
 use Rattle.std.specs.List.{All}
 use Rattle.std.proofs.lemmas.List.Elements.{All-cons, All-head, All-nil, All-tail}
-use Rattle.wh_model.specs.declared.memory.Got.TheVariants.{Value, Trap, NotReady}
+use Rattle.wh_model.specs.declared.memory.Got.TheVariants.{Value, NotReady}
 use Rattle.wh_model.specs.Execution.Memory.{Loads, reading}
 use Rattle.wh_model.specs.Execution.Store.{bytes_at}
 use Rattle.wh_host_model.specs.Space.Parts.{Space, view}
-use Rattle.wh_host_model.specs.Space.Ready.{IsAtHand, Ready, may_take, pages_of_need}
+use Rattle.wh_host_model.specs.Space.Ready.{IsAtHand, Ready, pages_of_need}
 use Rattle.wh_host_model.specs.Space.Sound.{IsSound}
 use Rattle.wh_host_model.specs.Space.States.{page_at}
 use Rattle.wh_host_model.proofs.Space.Reading.{read_parts, view_length}

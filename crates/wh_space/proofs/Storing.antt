@@ -1,18 +1,16 @@
 -- How stores end.
-use Rattle.std.proofs.Common.{◌≡◌, ◌≢◌, ℕ, ◌+◌, ◌*◌, ◌≤◌, ◌<◌, ◌++◌, ◌⊎◌, inl, inr, List, [], ◌∷◌, Option, Some, None, true, length, get_or, slice_get, zero, suc, length-set, refl, sym, ◌∙◌, ap, subst, arith}
+use Rattle.std.proofs.Common.{◌≡◌, ◌≢◌, ℕ, ◌+◌, ◌*◌, ◌≤◌, List, [], ◌∷◌, Some, true, length, get_or, zero, suc, length-set, refl, sym, ◌∙◌, ap, subst, arith}
 use Rattle.std.specs.List.{All}
 use Rattle.std.proofs.lemmas.List.Elements.{All-head, All-tail}
 use Rattle.wh_model.specs.declared.memory.Got.TheVariants.{Value, NotReady}
 use Rattle.wh_model.specs.Execution.Memory.{Stores, writing}
-use Rattle.wh_host_model.specs.declared.states.Page.{Page}
 use Rattle.wh_host_model.specs.declared.states.Page.TheVariants.{Private}
 use Rattle.wh_host_model.specs.Space.Breaks.{Breaks, BreaksEach}
 use Rattle.wh_host_model.specs.Space.Parts.{Space, sharers, view}
-use Rattle.wh_host_model.specs.Space.Ready.{IsAtHand, Ready, frames_for, may_take, pages_of_need}
+use Rattle.wh_host_model.specs.Space.Ready.{IsAtHand, Ready, may_take, pages_of_need}
 use Rattle.wh_host_model.specs.Space.Sound.{IsSound}
 use Rattle.wh_host_model.specs.Space.States.{count, page_at, put, shares, untouched}
 use Rattle.wh_host_model.specs.Space.Stores.{Fills, Overwrites}
-use Rattle.wh_host_model.proofs.Space.BrokenOff.{IsBroken}
 use Rattle.wh_host_model.proofs.Space.BrokenEach.{broken_off}
 use Rattle.wh_host_model.proofs.Space.Breaking.{broke}
 use Rattle.wh_host_model.proofs.Space.Counting.{double, frames_one_page, frames_two_pages, shared_frame, single}

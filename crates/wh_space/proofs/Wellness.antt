@@ -1,13 +1,8 @@
 -- What keeps the memory well.
-use Rattle.std.proofs.Common.{◌≡◌, ℕ, List, ◌∙◌, sym, ap, subst, true, map, Some, slice_get, refl}
-use Rattle.wh_pages.specs.Table.{PageTableState}
-use Rattle.wh_host_model.specs.Space.Parts.{Space, view, backing}
+use Rattle.std.proofs.Common.{◌≡◌, ◌∙◌, sym, ap, slice_get}
 use Rattle.wh_host_model.specs.Space.Sound.{IsSound}
-use Rattle.wh_host_model.specs.Space.States.{put}
-use Rattle.wh_host_model.proofs.Space.Steady.{touched_soundly}
 use Rattle.wh_space.specs.declared.memory.Memory.TheInside.{Inside}
-use Rattle.wh_space.specs.declared.guest.Guest.{Guest}
-use Rattle.wh_space.specs.Pages.{limits_in, marks_in, pages_in}
+use Rattle.wh_space.specs.Pages.{limits_in}
 use Rattle.wh_space.specs.Parts.{IsWell, space_of}
 
 -- the same guests, and tables with the same limits

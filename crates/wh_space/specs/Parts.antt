@@ -1,5 +1,5 @@
 -- What the parts of the memory stand for.
-use Rattle.std.specs.Prelude.{ℕ, ◌≡◌, List, [], Option, Some, None, true, map, replicate, slice_get}
+use Rattle.std.specs.Prelude.{ℕ, ◌≡◌, [], Option, Some, None, true, map, replicate, slice_get}
 use Rattle.wh_host_model.specs.declared.states.Slot.TheVariants.{Vacant}
 use Rattle.wh_host_model.specs.Space.Parts.{Occupant, Slots, Space, numbers_below}
 use Rattle.wh_host_model.specs.Space.Sound.{IsSound}

@@ -1,7 +1,7 @@
 use Rattle.std.proofs.Common.{[], ◌∙◌, ap, sym, get_or, length}
 use Rattle.wh_model.specs.Execution.Store.{bytes_at}
 use Rattle.wh_host_model.specs.declared.states.Page.{Page}
-use Rattle.wh_host_model.specs.Space.States.{Backing, page_bytes}
+use Rattle.wh_host_model.specs.Space.States.{page_bytes}
 use Rattle.wh_host_model.proofs.Space.Transit.{on_frame}
 use Rattle.wh_host_model.proofs.Space.Reading.{read_zeros}
 use Rattle.wh_space.proofs.loads.read_page.Goals as goal

@@ -1,4 +1,4 @@
-use Rattle.std.proofs.Common.{ap, ◌∙◌}
+use Rattle.std.proofs.Common.{ap}
 use Rattle.wh_pages.specs.Table.{PageTableState}
 use Rattle.wh_space.proofs.Tables.{column_put, column_stays}
 use Rattle.wh_space.proofs.pages.touch.Goals as goal

@@ -1,4 +1,4 @@
-use Rattle.std.proofs.Common.{◌≡◌, ◌+◌, ◌-◌, take, map}
+use Rattle.std.proofs.Common.{◌≡◌, take, map}
 use Rattle.wh_host_model.specs.Frames.{tally}
 use Rattle.wh_host_model.specs.Space.Parts.{of_occupant}
 use Rattle.wh_space.specs.Parts.{occupant_of}

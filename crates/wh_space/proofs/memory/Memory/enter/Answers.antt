@@ -1,4 +1,4 @@
-use Rattle.std.proofs.Common.{◌≡◌, Some, refl, ap, ◌∙◌, ◌*◌, subst, sym}
+use Rattle.std.proofs.Common.{◌≡◌, Some, refl, subst, sym}
 use Rattle.wh_host_model.specs.Space.Parts.{Space}
 use Rattle.wh_host_model.specs.Space.Places.{with_row}
 use Rattle.wh_space.specs.declared.memory.Memory.TheInside.{Inside}

@@ -1,13 +1,12 @@
-use Rattle.std.proofs.Common.{◌≡◌, ◌≤◌, ◌+◌, ◌*◌, ◌/◌, ◌++◌, List, ℕ, Some, length, get_or, [], replicate, ap, sym, refl, ◌∙◌, subst, arith}
+use Rattle.std.proofs.Common.{◌≡◌, ◌*◌, ◌++◌, ℕ, length, get_or, [], replicate, ap, sym, refl, ◌∙◌, arith}
 use Rattle.std.proofs.lemmas.List.{append-nil}
 use Rattle.wh_host_model.specs.Space.Parts.{Space, view}
-use Rattle.wh_host_model.specs.Space.Sound.{IsSound}
 use Rattle.wh_host_model.specs.Space.Stores.{Grew}
 use Rattle.wh_host_model.proofs.Space.Enlarged.{grows_by_zeros}
 use Rattle.wh_host_model.proofs.Space.Putting.{get_or_is}
 use Rattle.wh_space.specs.declared.memory.Memory.TheInside.{Inside}
 use Rattle.wh_space.specs.Pages.{limits_in}
-use Rattle.wh_space.specs.Parts.{IsWell, space_of}
+use Rattle.wh_space.specs.Parts.{space_of}
 use Rattle.wh_space.specs.Steps.{page_limit}
 use Rattle.wh_space.proofs.Growing.{CanGrow, can_grow, grew_well, occupant, size_within}
 use Rattle.wh_space.proofs.memory.Memory.grow.Goals as goal

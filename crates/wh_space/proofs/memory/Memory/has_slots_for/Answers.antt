@@ -1,4 +1,4 @@
-use Rattle.std.proofs.Common.{◌≡◌, ◌≤◌, ◌<◌, length, replicate, arith}
+use Rattle.std.proofs.Common.{arith}
 use Rattle.std.proofs.lemmas.List.{length-replicate}
 use Rattle.wh_host_model.specs.declared.states.Slot.TheVariants.{Vacant}
 use Rattle.wh_space.proofs.memory.Memory.has_slots_for.Goals as goal

@@ -1,5 +1,5 @@
-use Rattle.std.proofs.Common.{◌≡◌, ◌<◌, ◌∙◌, length, Some, slice_get, subst, sym, ap, arith, rules}
-use Rattle.wh_host_model.specs.Space.Parts.{Occupant, Space, occupant_at}
+use Rattle.std.proofs.Common.{◌<◌, ◌∙◌, slice_get, ap, arith}
+use Rattle.wh_host_model.specs.Space.Parts.{Space}
 use Rattle.wh_space.proofs.Summing.{guest_at}
 use Rattle.wh_space.proofs.memory.Memory.is_fresh.Goals as goal
 

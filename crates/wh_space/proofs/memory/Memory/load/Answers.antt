@@ -1,6 +1,5 @@
-use Rattle.std.proofs.Common.{◌≡◌, ◌≤◌, ◌<◌, ◌+◌, List, ℕ, [], ◌∷◌, ◌/◌, ◌%◌, length, refl, ap, subst, sym, arith, rules}
+use Rattle.std.proofs.Common.{◌≡◌, ◌≤◌, ◌+◌, List, ℕ, [], ◌∷◌, ◌/◌, ◌%◌, length, refl, subst, sym, arith, rules}
 use Rattle.std.proofs.lemmas.Grind.{common_steps}
-use Rattle.std.specs.List.{All}
 use Rattle.std.proofs.lemmas.List.Elements.{All-nil}
 use Rattle.wh_model.specs.declared.memory.Got.TheVariants.{NotReady}
 use Rattle.wh_model.specs.Execution.Memory.{Loads, reading}
@@ -8,7 +7,7 @@ use Rattle.wh_host_model.specs.Space.Parts.{view}
 use Rattle.wh_host_model.specs.Space.Ready.{Ready}
 use Rattle.wh_host_model.specs.Space.Sound.{IsSound}
 use Rattle.wh_host_model.proofs.Space.Reading.{on_no_page, on_one_page, view_length}
-use Rattle.wh_space.proofs.Loading.{Hand, first_away, got_nothing, got_value, one_hand, read_none}
+use Rattle.wh_space.proofs.Loading.{Hand, first_away, got_nothing, got_value, read_none}
 use Rattle.wh_space.proofs.memory.Memory.load.Goals as goal
 
 pub returns-then-not-fits-clause-loads : goal.returns-then-not-fits-clause-loads

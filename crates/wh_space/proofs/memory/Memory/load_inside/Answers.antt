@@ -1,4 +1,4 @@
-use Rattle.std.proofs.Common.{◌∙◌, ap, sym, refl, subst, ◌≡◌, true, length}
+use Rattle.std.proofs.Common.{◌∙◌, sym, refl, subst, ◌≡◌, true, length}
 use Rattle.wh_host_model.specs.Space.Parts.{Space, backing}
 use Rattle.wh_host_model.specs.Space.Sound.{IsSound}
 use Rattle.wh_host_model.specs.Space.States.{put}

@@ -1,8 +1,8 @@
-use Rattle.std.proofs.Common.{◌≡◌, ◌≤◌, ℕ, List, [], None, Some, length, replicate, refl, sym, ap, ◌∙◌, subst, arith}
+use Rattle.std.proofs.Common.{◌≡◌, ◌≤◌, ℕ, None, Some, length, replicate, refl, sym, ap, ◌∙◌, subst, arith}
 use Rattle.std.proofs.lemmas.List.{length-replicate}
 use Rattle.wh_host_model.specs.Frames.{Pool, tally, one_if}
 use Rattle.wh_host_model.specs.Pages.{zero_page}
-use Rattle.wh_host_model.specs.Space.Parts.{Space, empty_space}
+use Rattle.wh_host_model.specs.Space.Parts.{empty_space}
 use Rattle.wh_host_model.specs.Space.Sound.{IsSound}
 use Rattle.wh_host_model.proofs.Space.Chained.{empty_in_order}
 use Rattle.wh_space.specs.declared.memory.Memory.TheInside.{Inside}

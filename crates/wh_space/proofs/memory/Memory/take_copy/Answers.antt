@@ -1,6 +1,6 @@
 use Rattle.std.proofs.Common.{refl, ◌≡◌, ◌≤◌, ◌∷◌, [], length, ap, arith, length-append, ◌∙◌, rules}
 use Rattle.wh_host_model.specs.Frames.{Pool}
-use Rattle.wh_host_model.specs.Space.Parts.{Space, sharers}
+use Rattle.wh_host_model.specs.Space.Parts.{sharers}
 use Rattle.wh_space.specs.Parts.{space_of}
 use Rattle.wh_space.proofs.Owning.{IsOwned, IsSharer, can_copy, cannot_copy, copy_leaves, is_sharer, owned_by}
 use Rattle.wh_space.proofs.memory.Memory.take_copy.Goals as goal

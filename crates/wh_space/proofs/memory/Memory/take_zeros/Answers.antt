@@ -1,4 +1,4 @@
-use Rattle.std.proofs.Common.{refl, ◌≡◌, ◌≤◌, ◌∷◌, [], Some, length, ap, arith, length-append}
+use Rattle.std.proofs.Common.{refl, ◌≡◌, ◌∷◌, [], Some, length, ap, arith, length-append}
 use Rattle.wh_host_model.specs.declared.states.Page.TheVariants.{Untouched}
 use Rattle.wh_host_model.specs.Pages.{zero_page}
 use Rattle.wh_host_model.specs.Space.States.{page_at}

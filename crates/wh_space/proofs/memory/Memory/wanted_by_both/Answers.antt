@@ -1,6 +1,5 @@
-use Rattle.std.proofs.Common.{refl, ◌≡◌, ◌+◌, ◌≤◌, ◌<◌, ◌∷◌, List, [], get_or, length, subst, rules, arith}
+use Rattle.std.proofs.Common.{◌+◌, List, [], get_or, subst, rules, arith}
 use Rattle.wh_host_model.specs.Space.Sound.{IsSound}
-use Rattle.wh_host_model.specs.Space.Ready.{frames_for}
 use Rattle.wh_host_model.specs.declared.states.Page.{Page}
 use Rattle.wh_host_model.proofs.Space.Rooms.{get_there}
 use Rattle.wh_space.specs.Steps.{SharesAlone}

@@ -1,7 +1,5 @@
-use Rattle.std.proofs.Common.{refl, ◌≡◌, ◌*◌, ◌+◌, List, ℕ, subst, sym, slice_set}
+use Rattle.std.proofs.Common.{refl, ◌*◌, ◌+◌}
 use Rattle.wh_host_model.specs.declared.states.Page.TheVariants.{Private}
-use Rattle.wh_host_model.specs.Space.Parts.{Space, frame_bytes}
-use Rattle.wh_host_model.specs.Space.States.{page_at}
 use Rattle.wh_host_model.specs.Space.Stores.{Fills}
 use Rattle.wh_host_model.proofs.Space.Filled.{filled_sound}
 use Rattle.wh_host_model.proofs.Space.Reading.{taken_under}

@@ -1,4 +1,4 @@
-use Rattle.std.proofs.Common.{refl, length}
+use Rattle.std.proofs.Common.{refl}
 use Rattle.wh_space.proofs.Keeping.{keeps_growth}
 use Rattle.wh_space.proofs.view.ViewLinearMem.grow.Goals as goal
 
