@@ -8,3 +8,4 @@ pub mod Growing
 pub mod Keeping
 pub mod Entering
 pub mod Summing
+pub mod Stood

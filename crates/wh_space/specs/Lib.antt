@@ -1,4 +1,5 @@
 pub mod Arrivals
+pub mod Guests
 pub mod Pages
 pub mod Parts
 pub mod Steps

@@ -13,6 +13,7 @@ mod memory;
 mod pages;
 mod ready;
 mod room;
+mod standing;
 mod stores;
 mod view;
 
