@@ -1,11 +1,9 @@
 -- An instance that stands for a frame, or doesn't.
-use Rattle.std.proofs.Common.{◌≡◌, ◌≢◌, ℕ, ◌+◌, ◌*◌, ◌<◌, ◌≤◌, inl, inr, List, [], ◌∷◌, Option, Some, None, true, length, get_or, map, slice_get, slice_set, zero, suc, refl, sym, ◌∙◌, ap, subst, arith}
-use Rattle.std.proofs.lemmas.List.{length-map}
+use Rattle.std.proofs.Common.{◌≡◌, ℕ, ◌+◌, ◌*◌, ◌≤◌, List, [], ◌∷◌, Option, Some, None, true, length, get_or, map, slice_get, slice_set, zero, suc, refl, sym, ◌∙◌, ap, subst}
 use Rattle.wh_model.specs.declared.memory.Need.{Need}
 use Rattle.wh_host_model.specs.Space.Parts.{Occupant, Space, occupant_at}
 use Rattle.wh_host_model.specs.Space.Sound.{IsSound}
 use Rattle.wh_host_model.specs.Space.Stores.{standing_for, stood}
-use Rattle.wh_host_model.proofs.Space.Putting.{here_or, set_other, set_same, there_of}
 use Rattle.wh_host_model.proofs.Space.Steady.{stands_soundly}
 use Rattle.wh_space.specs.declared.guest.Guest.{Guest}
 use Rattle.wh_space.specs.declared.memory.Memory.TheInside.{Inside}
@@ -55,10 +53,12 @@ stood_well a b i need t was there may guests tables pool content slots tax =
     let s : Space = space_of a in
     let occupants = ap (map occupant_of) guests ∙ stood_occupants a.guests.items i need in
     let is : space_of b ≡ stood s i need = rw (occupants, tables, pool, content, slots, tax) refl in
-    let sound = stands_soundly s i t need was.sound there (λ want e. (live a.guests.items i t there, (may want e).0, (may want e).1)) in
-    (record {
-      sound = subst IsSound (sym is) sound;
-      limits = λ j g at_it.
-          (let k = was_there a.guests.items i j need g (ap (λ (z : List (Option Guest)). slice_get z j) (sym guests) ∙ at_it) in
-          rw tables (was.limits j k.0 k.1 ∙ ap Some k.2));
-    }, is)
+    let sound = stands_soundly s i t need was.sound there (λ want e. (live a.guests.items i t there, (may want e).0, (may want e).1)) in (
+      record {
+        sound = subst IsSound (sym is) sound;
+        limits = λ j g at_it.
+            (let k = was_there a.guests.items i j need g (ap (λ (z : List (Option Guest)). slice_get z j) (sym guests) ∙ at_it) in
+            rw tables (was.limits j k.0 k.1 ∙ ap Some k.2));
+      },
+      is,
+    )

@@ -1,5 +1,5 @@
 -- The page tables of all instances, by place.
-use Rattle.std.specs.Prelude.{ℕ, Bool, List, map}
+use Rattle.std.specs.Prelude.{ℕ, Bool, false, List, length, map, replicate}
 use Rattle.wh_host_model.specs.declared.states.Page.{Page}
 use Rattle.wh_pages.specs.Table.{PageTableState}
 
@@ -12,3 +12,7 @@ marks_in tables = map (λ table. table.touched) tables
 
 abbrev pub limits_in : List PageTableState → List ℕ
 limits_in tables = map (λ table. table.max) tables
+
+-- a table in a new epoch
+abbrev pub unmarked : PageTableState → PageTableState
+unmarked table = record table { touched = replicate (length table.pages) false }

@@ -5,6 +5,7 @@ ghost use Rattle.std.specs.Prelude.{◌≡◌};
 
 mod arrivals;
 mod breaks;
+mod epochs;
 mod frames;
 mod growth;
 mod guest;

@@ -1,10 +1,10 @@
 // The page tables of all instances.
 
-ghost use Rattle.std.specs.Prelude.{◌≡◌, ◌+◌, ◌<◌, ◌≤◌, ◌++◌, [], Some, MatchBool, true, false, length, get_or, replicate, slice_set};
+ghost use Rattle.std.specs.Prelude.{◌≡◌, ◌+◌, ◌<◌, ◌≤◌, ◌++◌, [], Some, MatchBool, true, false, length, get_or, map, replicate, slice_set};
 ghost use Rattle.wh_host_model.specs.Space.Ready.{IsAtHand};
 ghost use Rattle.wh_host_model.specs.Space.States.{page_at, put};
 ghost use Rattle.wh_host_model.specs.declared.states.Page.TheVariants.{Private, Untouched};
-ghost use Rattle.wh_space.specs.Pages.{limits_in, marks_in, pages_in};
+ghost use Rattle.wh_space.specs.Pages.{limits_in, marks_in, pages_in, unmarked};
 
 use wh_host_model::Page;
 use wh_pages::PageTable;
@@ -72,4 +72,14 @@ pub fn grow_at(tables: &mut Vec<PageTable>, place: usize, count: u32)
 {
     let table = &mut tables[place];
     let _ = table.grow(count);
+}
+
+// Takes the marks of all pages away.
+pub fn clear_marks(tables: &mut Vec<PageTable>)
+    ensures { tables.new.items ≡ map unmarked tables.old.items }
+{
+    for place in 0..tables.len() {
+        let table = &mut tables[place];
+        table.clear_touched();
+    }
 }

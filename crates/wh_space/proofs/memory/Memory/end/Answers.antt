@@ -1,5 +1,4 @@
-use Rattle.std.proofs.Common.{◌≡◌, ◌+◌, ◌*◌, ◌≤◌, [], None, Some, get_or, length, slice_get, refl, ap, ◌∙◌}
-use Rattle.wh_model.specs.declared.memory.Need.{Need}
+use Rattle.std.proofs.Common.{◌≡◌, None, Some, slice_get, refl, ap, ◌∙◌}
 use Rattle.wh_host_model.specs.Space.Parts.{Space, occupant_at}
 use Rattle.wh_host_model.specs.Space.Stores.{ended}
 use Rattle.wh_space.specs.Parts.{space_of}
