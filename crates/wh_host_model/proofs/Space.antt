@@ -29,6 +29,8 @@ pub mod WorkedStores
 pub mod Awaited
 pub mod Come
 pub mod Rows
+pub mod Reading
+pub mod Writing
 pub mod Enlarged
 pub mod Settled
 pub mod Voided

@@ -3,6 +3,7 @@ use Rattle.std.proofs.Common.{◌≡◌, ℕ, ◌<◌, ◌≤◌, inl, inr, repl
 use Rattle.std.proofs.lemmas.Bool.{cases_lt}
 use Rattle.std.proofs.lemmas.List.{get_or-replicate, length-replicate}
 use Rattle.wh_host_model.specs.Pages.{zero_page}
+use Rattle.wh_host_model.specs.declared.Tax.{Tax}
 use Rattle.wh_host_model.specs.Frames.{tally, one_if}
 use Rattle.wh_host_model.proofs.Tally.{one_same, one_other}
 use Rattle.wh_host_model.proofs.PageLemmas.{length-zero_page}
@@ -59,14 +60,16 @@ each_is zero k x P some none = none (omega arith)
 each_is (suc n) zero x P some none = some (omega arith)
 each_is (suc n) (suc k) x P some none = each_is n k x P (λ less. some (omega arith)) (λ past. none (omega arith))
 
-pub empty_sound : EmptyIsSound
-empty_sound frames slots tax =
-    let s : Space = empty_space frames slots tax in
+-- the free frames in any order
+pub empty_in_order : (frames slots : ℕ) (tax : Tax) (free : List ℕ) → ((f : ℕ) → f < frames → tally (one_if f) free ≡ 1) → ((f : ℕ) → frames ≤ f → tally (one_if f) free ≡ 0)
+    → IsSound (record (empty_space frames slots tax) { pool = record { frames = replicate frames zero_page; free = free } })
+empty_in_order frames slots tax free once never =
+    let s : Space = record (empty_space frames slots tax) { pool = record { frames = replicate frames zero_page; free = free } } in
     let many : length s.pool.frames ≡ frames = length-replicate frames zero_page in
     record {
       frames = record {
-        one = λ f less. (let a = below_once frames f (omega (arith, less, many)) in let b = no_fetch slots f in omega arith);
-        none = λ f past. (let a = below_none frames f (omega (arith, past, many)) in let b = no_fetch slots f in omega arith);
+        one = λ f less. (let a = once f (omega (arith, less, many)) in let b = no_fetch slots f in omega arith);
+        none = λ f past. (let a = never f (omega (arith, past, many)) in let b = no_fetch slots f in omega arith);
         whole = λ f less. ap length (get_or-replicate frames f zero_page [] (omega (arith, less, many))) ∙ length-zero_page;
         marks = length-replicate frames Plain ∙ sym many;
         names = λ f. each_is frames f Plain (Names s f) (λ less. refl) (λ past. tt);
@@ -97,6 +100,9 @@ empty_sound frames slots tax =
       };
       admissible = (omega arith, omega arith);
     }
+
+pub empty_sound : EmptyIsSound
+empty_sound frames slots tax = empty_in_order frames slots tax (numbers_below frames) (below_once frames) (below_none frames)
 
 befalls_soundly : (hashes : List ℕ → ℕ) (s s2 : Space) → IsSound s → Befalls hashes s s2 → IsSound s2
 befalls_soundly hashes s s2 sound (loads i first n is) = touches_soundly s i first n s2 sound is

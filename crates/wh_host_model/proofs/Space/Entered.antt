@@ -15,7 +15,7 @@ use Rattle.wh_host_model.proofs.Space.Putting.{get_or_is, here_or, there_of}
 use Rattle.wh_host_model.proofs.Space.Rows.{bytes_at, bytes_new, grown_at, none_of, past_there, row_longs, row_other, row_same, row_tally, same_there}
 
 -- the place is there, or the next one
-free_within : (s : Space) (i : ℕ) → IsFreePlace s i → i ≤ length s.occupants
+pub free_within : (s : Space) (i : ℕ) → IsFreePlace s i → i ≤ length s.occupants
 free_within s i (inl e) = let l = there_of s.occupants i None e in omega arith
 free_within s i (inr e) = omega arith
 

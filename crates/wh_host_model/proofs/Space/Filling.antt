@@ -34,7 +34,7 @@ use Rattle.wh_host_model.proofs.Space.Wanting.{few_pages}
 
 -- ---- frames to take
 
-some_frame : (s : Space) (i : ℕ) (bytes : List ℕ) → 1 ≤ may_take s i → (g : ℕ) × (mid : Space) × TakesFrame s i g bytes mid
+pub some_frame : (s : Space) (i : ℕ) (bytes : List ℕ) → 1 ≤ may_take s i → (g : ℕ) × (mid : Space) × TakesFrame s i g bytes mid
 some_frame s i bytes some = go s.pool.free refl (kept_by s.pins i) refl where
   go : (free : List ℕ) → s.pool.free ≡ free → (kept : List ℕ) → kept_by s.pins i ≡ kept → (g : ℕ) × (mid : Space) × TakesFrame s i g bytes mid
   go (g ∷ rest) e kept k = (g, record s { pool = record { frames = slice_set s.pool.frames g bytes; free = rest } }, inl (rest, ([], rest, e, refl), refl))
@@ -50,7 +50,7 @@ some_frame s i bytes some = go s.pool.free refl (kept_by s.pins i) refl where
 
 -- ---- a page that is at hand can be broken off
 
-sharing_page : (s : Space) (i p f : ℕ) → 1 ≤ sharers s f → copies 1 (sharers s f) ≤ may_take s i → (g : ℕ) × (mid : Space) × Rattle.wh_host_model.specs.Space.Breaks.LeavesSharers s i f g mid
+pub sharing_page : (s : Space) (i p f : ℕ) → 1 ≤ sharers s f → copies 1 (sharers s f) ≤ may_take s i → (g : ℕ) × (mid : Space) × Rattle.wh_host_model.specs.Space.Breaks.LeavesSharers s i f g mid
 sharing_page s i p f one enough =
     elim (cases_lt 1 (sharers s f)) [
       | inr last ↦ (f, with_fewer s f, inl (omega arith, refl, refl))
@@ -61,7 +61,7 @@ sharing_page s i p f one enough =
       two_copies : (n : ℕ) → 1 < n → copies 1 n ≡ 1
       two_copies n some = grind (arith, nat_tests)
 
-some_break : (s : Space) (i p : ℕ) (x : Page) → page_at s.tables i p ≡ Some x → untouched x + resident x ≡ 1 → untouched x + single s (shared_frame x) ≤ may_take s i → (s2 : Space) × Breaks s i p s2
+pub some_break : (s : Space) (i p : ℕ) (x : Page) → page_at s.tables i p ≡ Some x → untouched x + resident x ≡ 1 → untouched x + single s (shared_frame x) ≤ may_take s i → (s2 : Space) × Breaks s i p s2
 unfolding single shared_frame
 some_break s i p Untouched there near enough =
     let t = some_frame s i zero_page (omega arith) in
@@ -80,12 +80,12 @@ some_break s i p (Coming k) there near enough = absurd (omega arith)
 some_break s i p (Swapped k) there near enough = absurd (omega arith)
 
 -- a page that is at hand is there
-at_hand : (o : Option Page) → IsAtHand o → (x : Page) × (o ≡ Some x) × (untouched x + resident x ≡ 1)
+pub at_hand : (o : Option Page) → IsAtHand o → (x : Page) × (o ≡ Some x) × (untouched x + resident x ≡ 1)
 at_hand None near = absurd (omega arith)
 at_hand (Some x) near = (x, refl, near)
 
 -- what two pages want one after the other is what they want together
-shares_it : (x : Page) (f : ℕ) → shared_frame x ≡ Some f → shares f x ≡ 1
+pub shares_it : (x : Page) (f : ℕ) → shared_frame x ≡ Some f → shares f x ≡ 1
 unfolding shared_frame
 shares_it Untouched f e = absurd (cc e)
 shares_it (Private g) f e = absurd (cc e)
@@ -95,24 +95,24 @@ shares_it (LeavingShared g) f e = let k : g ≡ f = cc in one_same f g (sym k)
 shares_it (Coming k) f e = absurd (cc e)
 shares_it (Swapped k) f e = absurd (cc e)
 
-copies_less : (a b : ℕ) → a ≤ b → copies 1 a ≤ copies 1 b
+pub copies_less : (a b : ℕ) → a ≤ b → copies 1 a ≤ copies 1 b
 copies_less a b less = grind (arith, nat_tests)
 
-copies_both : (n m : ℕ) → m + 1 ≡ n → copies 1 n + copies 1 m ≤ copies 2 n
+pub copies_both : (n m : ℕ) → m + 1 ≡ n → copies 1 n + copies 1 m ≤ copies 2 n
 copies_both n m next = grind (arith, nat_tests)
 
-same_cond : (f g a b : ℕ) → f ≡ g → cond (f == g) a b ≡ a
+pub same_cond : (f g a b : ℕ) → f ≡ g → cond (f == g) a b ≡ a
 same_cond f g a b e = grind (arith, nat_tests)
 
-other_cond : (f g a b : ℕ) → f ≢ g → cond (f == g) a b ≡ b
+pub other_cond : (f g a b : ℕ) → f ≢ g → cond (f == g) a b ≡ b
 other_cond f g a b other = grind (arith, nat_tests)
 
-single_less : (s mid : Space) (o : Option ℕ) → ((h : ℕ) → sharers mid h ≤ sharers s h) → single mid o ≤ single s o
+pub single_less : (s mid : Space) (o : Option ℕ) → ((h : ℕ) → sharers mid h ≤ sharers s h) → single mid o ≤ single s o
 unfolding single
 single_less s mid None less = omega arith
 single_less s mid (Some f) less = copies_less (sharers mid f) (sharers s f) (less f)
 
-both_want : (s mid : Space) (o q : Option ℕ) → ((h : ℕ) → sharers mid h ≤ sharers s h) → ((f : ℕ) → o ≡ Some f → sharers mid f + 1 ≡ sharers s f) → single s o + single mid q ≤ double s o q
+pub both_want : (s mid : Space) (o q : Option ℕ) → ((h : ℕ) → sharers mid h ≤ sharers s h) → ((f : ℕ) → o ≡ Some f → sharers mid f + 1 ≡ sharers s f) → single s o + single mid q ≤ double s o q
 unfolding single double
 both_want s mid None None less one = omega arith
 both_want s mid None (Some g) less one = let k = copies_less (sharers mid g) (sharers s g) (less g) in omega arith
@@ -130,10 +130,10 @@ both_want s mid (Some f) (Some g) less one =
           rw e (omega arith))
     ]
 
-copies_most : (n : ℕ) → copies 1 n ≤ copies 2 n
+pub copies_most : (n : ℕ) → copies 1 n ≤ copies 2 n
 copies_most n = grind (arith, nat_tests)
 
-double_most : (s : Space) (o q : Option ℕ) → single s o ≤ double s o q
+pub double_most : (s : Space) (o q : Option ℕ) → single s o ≤ double s o q
 unfolding single double
 double_most s None q = omega arith
 double_most s (Some f) None = omega arith
@@ -143,13 +143,13 @@ double_most s (Some f) (Some g) =
       | inr other ↦ (let e = other_cond f g (copies 2 (sharers s f)) (copies 1 (sharers s f) + copies 1 (sharers s g)) (λ e. other (sym e)) in rw e (omega arith))
     ]
 
-each_one : (s : Space) (i p : ℕ) (s2 : Space) → Breaks s i p s2 → BreaksEach s i (p ∷ []) s2
+pub each_one : (s : Space) (i p : ℕ) (s2 : Space) → Breaks s i p s2 → BreaksEach s i (p ∷ []) s2
 each_one s i p s2 b = (s2, b, refl)
 
-each_two : (s : Space) (i p q : ℕ) (mid s2 : Space) → Breaks s i p mid → Breaks mid i q s2 → BreaksEach s i (p ∷ q ∷ []) s2
+pub each_two : (s : Space) (i p q : ℕ) (mid s2 : Space) → Breaks s i p mid → Breaks mid i q s2 → BreaksEach s i (p ∷ q ∷ []) s2
 each_two s i p q mid s2 b c = (mid, b, (s2, c, refl))
 
-some_breaks : (s : Space) (i : ℕ) (ps : List ℕ) → IsSound s → Rattle.wh_host_model.proofs.Space.Wanting.OneOrTwo ps → All (λ p. IsAtHand (page_at s.tables i p)) ps → Rattle.wh_host_model.specs.Space.Ready.frames_for s i ps ≤ may_take s i
+pub some_breaks : (s : Space) (i : ℕ) (ps : List ℕ) → IsSound s → Rattle.wh_host_model.proofs.Space.Wanting.OneOrTwo ps → All (λ p. IsAtHand (page_at s.tables i p)) ps → Rattle.wh_host_model.specs.Space.Ready.frames_for s i ps ≤ may_take s i
     → (mid : Space) × BreaksEach s i ps mid
 unfolding Rattle.wh_host_model.proofs.Space.Wanting.OneOrTwo broke
 some_breaks s i ps sound (inl e) near enough = (s, subst (λ z. BreaksEach s i z s) (sym e) refl)
@@ -182,14 +182,14 @@ some_breaks s i ps sound (inr (inr (p, e))) near enough =
 -- ---- bytes that are written to a page
 
 -- the pages of an instance have 4096 bytes, and a frame of its own no other page of it
-record IsFillable (s : Space) (i : ℕ) : Type 0 where
+pub record IsFillable (s : Space) (i : ℕ) : Type 0 where
   pub whole : (q : ℕ) (x : Page) → page_at s.tables i q ≡ Some x → length (page_bytes (backing s) x) ≡ 4096
   pub alone : (p f : ℕ) → page_at s.tables i p ≡ Some (Private f) → (f < length s.pool.frames) × (tally (owns f) (get_or s.tables i []) ≤ 1) × (tally (shares f) (get_or s.tables i []) ≡ 0)
 
-frame_whole : (s : Space) (f : ℕ) → FramesAreSound s → 1 ≤ count (owns f) s.tables + sharers s f → length (frame_bytes s f) ≡ 4096
+pub frame_whole : (s : Space) (f : ℕ) → FramesAreSound s → 1 ≤ count (owns f) s.tables + sharers s f → length (frame_bytes s f) ≡ 4096
 frame_whole s f sound some = elim (cases_lt f (length s.pool.frames)) [ inl within ↦ sound.whole f within | inr past ↦ absurd (let z = sound.none f past in omega arith) ]
 
-page_whole : (s : Space) (i q : ℕ) (x : Page) → IsSound s → page_at s.tables i q ≡ Some x → length (page_bytes (backing s) x) ≡ 4096
+pub page_whole : (s : Space) (i q : ℕ) (x : Page) → IsSound s → page_at s.tables i q ≡ Some x → length (page_bytes (backing s) x) ≡ 4096
 page_whole s i q Untouched sound there = length-zero_page
 page_whole s i q (Private f) sound there = let k = get_pages (owns f) s.tables i q (Private f) there in let o = one_same f f refl in frame_whole s f sound.frames (omega arith)
 page_whole s i q (Shared f) sound there = let k = get_pages (shares f) s.tables i q (Shared f) there in let o = one_same f f refl in frame_whole s f sound.frames (omega arith)
@@ -198,7 +198,7 @@ page_whole s i q (LeavingShared f) sound there = let k = get_pages (shares f) s.
 page_whole s i q (Coming k) sound there = let c = get_pages (comes_from k) s.tables i q (Coming k) there in let o = one_same k k refl in sound.slots.whole k (omega arith)
 page_whole s i q (Swapped k) sound there = let c = get_pages (lies_in k) s.tables i q (Swapped k) there in let o = one_same k k refl in sound.slots.whole k (omega arith)
 
-fillable : (s : Space) (i : ℕ) → IsSound s → IsFillable s i
+pub fillable : (s : Space) (i : ℕ) → IsSound s → IsFillable s i
 fillable s i sound = record {
   whole = λ q x there. page_whole s i q x sound there;
   alone = λ p f there.
@@ -211,7 +211,7 @@ fillable s i sound = record {
       ]);
 }
 
-page_long : (a b : Backing) (x : Page) → a.held ≡ b.held → ((f : ℕ) → length (get_or a.frames f []) ≡ length (get_or b.frames f [])) → length (page_bytes a x) ≡ length (page_bytes b x)
+pub page_long : (a b : Backing) (x : Page) → a.held ≡ b.held → ((f : ℕ) → length (get_or a.frames f []) ≡ length (get_or b.frames f [])) → length (page_bytes a x) ≡ length (page_bytes b x)
 page_long a b Untouched held same = refl
 page_long a b (Private f) held same = same f
 page_long a b (Shared f) held same = same f
@@ -220,7 +220,7 @@ page_long a b (LeavingShared f) held same = same f
 page_long a b (Coming k) held same = ap (λ h. length (get_or h k [])) held
 page_long a b (Swapped k) held same = ap (λ h. length (get_or h k [])) held
 
-row_filled : (b : Backing) (f : ℕ) (new : List ℕ) (row : List Page) (p : ℕ) → f < length b.frames → slice_get row p ≡ Some (Private f) → tally (owns f) row ≤ 1 → tally (shares f) row ≡ 0
+pub row_filled : (b : Backing) (f : ℕ) (new : List ℕ) (row : List Page) (p : ℕ) → f < length b.frames → slice_get row p ≡ Some (Private f) → tally (owns f) row ≤ 1 → tally (shares f) row ≡ 0
     → map (page_bytes (record b { frames = slice_set b.frames f new })) row ≡ slice_set (map (page_bytes b) row) p new
 row_filled b f new [] p within there own share = absurd (cc there)
 row_filled b f new (x ∷ row) zero within there own share =
@@ -235,7 +235,7 @@ row_filled b f new (x ∷ row) (suc p) within there own share =
     let rest = row_filled b f new row p within there (omega arith) (omega arith) in
     cc
 
-blocks_whole : (s : Space) (i : ℕ) → IsFillable s i → (q : ℕ) (x : List ℕ) → slice_get (map (page_bytes (backing s)) (get_or s.tables i [])) q ≡ Some x → length x ≡ 4096
+pub blocks_whole : (s : Space) (i : ℕ) → IsFillable s i → (q : ℕ) (x : List ℕ) → slice_get (map (page_bytes (backing s)) (get_or s.tables i [])) q ≡ Some x → length x ≡ 4096
 blocks_whole s i can q x there = go (slice_get (get_or s.tables i []) q) refl where
   go : (o : Option Page) → slice_get (get_or s.tables i []) q ≡ o → length x ≡ 4096
   go None e = absurd (let bad : None ≡ Some x = sym (get_mapped (page_bytes (backing s)) (get_or s.tables i []) q ∙ ap (or_none (page_bytes (backing s))) e) ∙ there in cc)
@@ -245,13 +245,13 @@ blocks_whole s i can q x there = go (slice_get (get_or s.tables i []) q) refl wh
       sym (ap length k) ∙ can.whole q y e
 
 -- one page's bytes from a place on
-record IsFilled (s : Space) (i p f r : ℕ) (given : List ℕ) (frames : List (List ℕ)) : Type 0 where
+pub record IsFilled (s : Space) (i p f r : ℕ) (given : List ℕ) (frames : List (List ℕ)) : Type 0 where
   pub sees : view (refilled s frames) i ≡ written (view s i) (4096 * p + r) given
   pub many : length frames ≡ length s.pool.frames
   pub whole : (h : ℕ) → length (get_or frames h []) ≡ length (frame_bytes s h)
   pub others : (h : ℕ) → h ≢ f → get_or frames h [] ≡ frame_bytes s h
 
-one_filled : (s : Space) (i p f r : ℕ) (given : List ℕ) → IsFillable s i → page_at s.tables i p ≡ Some (Private f) → r + length given ≤ 4096 → IsFilled s i p f r given (slice_set s.pool.frames f (written (frame_bytes s f) r given))
+pub one_filled : (s : Space) (i p f r : ℕ) (given : List ℕ) → IsFillable s i → page_at s.tables i p ≡ Some (Private f) → r + length given ≤ 4096 → IsFilled s i p f r given (slice_set s.pool.frames f (written (frame_bytes s f) r given))
 unfolding refilled
 one_filled s i p f r given can there fits =
     let new : List ℕ = written (frame_bytes s f) r given in
@@ -273,7 +273,7 @@ one_filled s i p f r given can there fits =
       others = λ h other. get_or-set_other s.pool.frames f h new [] other;
     }
 
-still_fillable : (s : Space) (i p f r : ℕ) (given : List ℕ) (frames : List (List ℕ)) → IsFillable s i → IsFilled s i p f r given frames → IsFillable (refilled s frames) i
+pub still_fillable : (s : Space) (i p f r : ℕ) (given : List ℕ) (frames : List (List ℕ)) → IsFillable s i → IsFilled s i p f r given frames → IsFillable (refilled s frames) i
 unfolding refilled
 still_fillable s i p f r given frames can filled = record {
   whole = λ q x there. page_long (record { frames = frames; held = s.slots.held }) (backing s) x refl filled.whole ∙ can.whole q x there;
@@ -281,7 +281,7 @@ still_fillable s i p f r given frames can filled = record {
 }
 
 -- where a page's frame is among those that are written
-apart_of : (s : Space) (i p f h : ℕ) (ps : List ℕ) → page_at s.tables i p ≡ Some (Private f) → 1 ≤ tally (one_if p) ps → among (owns h) s i ps ≡ 0 → h ≢ f
+pub apart_of : (s : Space) (i p f h : ℕ) (ps : List ℕ) → page_at s.tables i p ≡ Some (Private f) → 1 ≤ tally (one_if p) ps → among (owns h) s i ps ≡ 0 → h ≢ f
 apart_of s i p f h [] there some none e = absurd (omega arith)
 apart_of s i p f h (q ∷ ps) there some none e =
     elim (here_or q p) [
@@ -289,17 +289,17 @@ apart_of s i p f h (q ∷ ps) there some none e =
       | inr other ↦ (let o = one_other p q other in apart_of s i p f h ps there (omega arith) (omega arith) e)
     ]
 
-write_none : (bs : List ℕ) (k : ℕ) → written bs k [] ≡ bs
+pub write_none : (bs : List ℕ) (k : ℕ) → written bs k [] ≡ bs
 write_none bs k = let e : k + 0 ≡ k = omega arith in rw e (take-append-drop k bs)
 
-past_test : (m : ℕ) → nat_lt 4096 m ≡ true → 4096 < m
+pub past_test : (m : ℕ) → nat_lt 4096 m ≡ true → 4096 < m
 past_test m e = grind (arith, nat_tests)
 
-within_test : (m : ℕ) → nat_lt 4096 m ≡ false → m ≤ 4096
+pub within_test : (m : ℕ) → nat_lt 4096 m ≡ false → m ≤ 4096
 within_test m e = grind (arith, nat_tests)
 
 -- on one page
-on_one : (s : Space) (i k : ℕ) (given : List ℕ) (p f : ℕ) → IsFillable s i → pages_of_need (writing k (length given)) ≡ p ∷ [] → p ≡ k / 4096 → k % 4096 + length given ≤ 4096 → page_at s.tables i p ≡ Some (Private f)
+pub on_one : (s : Space) (i k : ℕ) (given : List ℕ) (p f : ℕ) → IsFillable s i → pages_of_need (writing k (length given)) ≡ p ∷ [] → p ≡ k / 4096 → k % 4096 + length given ≤ 4096 → page_at s.tables i p ≡ Some (Private f)
     → (s2 : Space) × Fills s i k given s2
 unfolding refilled
 on_one s i k given p f can pages is fits there =
@@ -319,7 +319,7 @@ on_one s i k given p f can pages is fits there =
     )
 
 -- on a page and the next
-on_two : (s : Space) (i k : ℕ) (a b given : List ℕ) (p f g : ℕ) → IsFillable s i → pages_of_need (writing k (length given)) ≡ p ∷ (p + 1) ∷ [] → p ≡ k / 4096 → given ≡ a ++ b → k % 4096 + length a ≡ 4096 → length b ≤ 4096
+pub on_two : (s : Space) (i k : ℕ) (a b given : List ℕ) (p f g : ℕ) → IsFillable s i → pages_of_need (writing k (length given)) ≡ p ∷ (p + 1) ∷ [] → p ≡ k / 4096 → given ≡ a ++ b → k % 4096 + length a ≡ 4096 → length b ≤ 4096
     → k + length a ≤ length (view s i) → page_at s.tables i p ≡ Some (Private f) → page_at s.tables i (p + 1) ≡ Some (Private g) → (s2 : Space) × Fills s i k given s2
 unfolding refilled
 on_two s i k a b given p f g can pages is parts first second fits there also =
@@ -346,17 +346,17 @@ on_two s i k a b given p f g can pages is parts first second fits there also =
     )
 
 -- on none
-on_none : (s : Space) (i k : ℕ) → Fills s i k [] s
+pub on_none : (s : Space) (i k : ℕ) → Fills s i k [] s
 on_none s i k = record { frames = s.pool.frames; sees = sym (write_none (view s i) k); many = refl; whole = λ f. refl; others = λ f none. refl; after = refl }
 
-pages_by : (k more : ℕ) → ((pages_from k (suc more) ≡ (k / 4096) ∷ []) × (k % 4096 + suc more ≤ 4096)) ⊎ ((pages_from k (suc more) ≡ (k / 4096) ∷ (k / 4096 + 1) ∷ []) × (4096 < k % 4096 + suc more))
+pub pages_by : (k more : ℕ) → ((pages_from k (suc more) ≡ (k / 4096) ∷ []) × (k % 4096 + suc more ≤ 4096)) ⊎ ((pages_from k (suc more) ≡ (k / 4096) ∷ (k / 4096 + 1) ∷ []) × (4096 < k % 4096 + suc more))
 pages_by k more = go (nat_lt 4096 (k % 4096 + suc more)) refl where
   go : (b : Bool) → nat_lt 4096 (k % 4096 + suc more) ≡ b → ((cond b ((k / 4096) ∷ (k / 4096 + 1) ∷ []) ((k / 4096) ∷ []) ≡ (k / 4096) ∷ []) × (k % 4096 + suc more ≤ 4096))
       ⊎ ((cond b ((k / 4096) ∷ (k / 4096 + 1) ∷ []) ((k / 4096) ∷ []) ≡ (k / 4096) ∷ (k / 4096 + 1) ∷ []) × (4096 < k % 4096 + suc more))
   go true test = inr (refl, past_test (k % 4096 + suc more) test)
   go false test = inl (refl, within_test (k % 4096 + suc more) test)
 
-filled : (s : Space) (i k : ℕ) (given : List ℕ) → IsFillable s i → ((p : ℕ) → 1 ≤ tally (one_if p) (pages_of_need (writing k (length given))) → (f : ℕ) × (page_at s.tables i p ≡ Some (Private f)))
+pub filled : (s : Space) (i k : ℕ) (given : List ℕ) → IsFillable s i → ((p : ℕ) → 1 ≤ tally (one_if p) (pages_of_need (writing k (length given))) → (f : ℕ) × (page_at s.tables i p ≡ Some (Private f)))
     → k + length given ≤ length (view s i) → length given ≤ 4096 → (s2 : Space) × Fills s i k given s2
 filled s i k [] can own fits few = (s, on_none s i k)
 filled s i k (x ∷ g) can own fits few =
@@ -376,7 +376,7 @@ filled s i k (x ∷ g) can own fits few =
           on_two s i k a b (x ∷ g) p first.0 next.0 can pages refl (sym (take-append-drop n (x ∷ g))) (omega arith) (omega arith) (omega arith) first.1 next.1)
     ]
 
-view_long : (s : Space) (i : ℕ) → IsFillable s i → length (view s i) ≡ 4096 * length (get_or s.tables i [])
+pub view_long : (s : Space) (i : ℕ) → IsFillable s i → length (view s i) ≡ 4096 * length (get_or s.tables i [])
 view_long s i can =
     ap (λ z. length (joined z)) (bytes_at (backing s) s.tables i)
     ∙ (joined_length (map (page_bytes (backing s)) (get_or s.tables i [])) (blocks_whole s i can) ∙ ap (λ n. 4096 * n) (length-map (get_or s.tables i []) (page_bytes (backing s))))

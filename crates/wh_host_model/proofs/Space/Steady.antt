@@ -207,3 +207,9 @@ pub untouched_soundly : (s : Space) (i p : ℕ) → IsSound s → IsSound (recor
 unfolding retouched
 untouched_soundly s i p sound =
     is_sound_retouched s (put s.touched i p false) s.slots.held sound (length-set s.touched i _) (λ j. mark_length s.touched i p false j) refl (λ k some. refl)
+
+-- or is
+pub touched_soundly : (s : Space) (i p : ℕ) → IsSound s → IsSound (record s { touched = put s.touched i p true })
+unfolding retouched
+touched_soundly s i p sound =
+    is_sound_retouched s (put s.touched i p true) s.slots.held sound (length-set s.touched i _) (λ j. mark_length s.touched i p true j) refl (λ k some. refl)

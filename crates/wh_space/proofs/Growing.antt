@@ -1,0 +1,98 @@
+-- How long tables are, and may be.
+use Rattle.std.proofs.Common.{◌≡◌, ℕ, ◌+◌, ◌*◌, ◌/◌, ◌≤◌, ◌⊎◌, inl, inr, List, [], ◌∷◌, Option, Some, None, true, length, get_or, slice_get, map, zero, suc, refl, sym, ◌∙◌, ap, arith}
+use Rattle.std.proofs.lemmas.Bool.{cases_lt}
+use Rattle.wh_host_model.specs.Space.Parts.{Occupant, Space, claim_of}
+use Rattle.wh_host_model.specs.Space.Sound.{HasTable, IsSound}
+use Rattle.wh_host_model.specs.Space.Stores.{Grew}
+use Rattle.wh_host_model.proofs.Space.Enlarged.{grows_soundly}
+use Rattle.wh_host_model.proofs.Space.Putting.{get_or_is}
+use Rattle.wh_host_model.proofs.Space.Rooms.{get_there}
+use Rattle.wh_host_model.proofs.Space.Rows.{past_there}
+use Rattle.wh_space.specs.declared.memory.Memory.TheInside.{Inside}
+use Rattle.wh_space.specs.declared.guest.Guest.{Guest}
+use Rattle.wh_space.specs.Pages.{limits_in, pages_in}
+use Rattle.wh_space.specs.Parts.{IsWell, occupant_of, space_of}
+use Rattle.wh_space.specs.Steps.{limit_by, page_limit}
+use Rattle.wh_space.proofs.Wellness.{well}
+
+-- the occupant who a guest stands for
+abbrev pub occupant : Guest → Occupant
+occupant t = record { number = t.number; live = true; shares = t.shares; min = t.min; max = t.max; stands = t.stands; leaves = None }
+
+-- somebody is there, or nobody
+pub record IsThere (guests : List (Option Guest)) (i : ℕ) : Type 0 where
+  pub guest : Guest
+  pub there : slice_get guests i ≡ Some (Some guest)
+  pub occupies : slice_get (map occupant_of guests) i ≡ Some (Some (occupant guest))
+
+pub somebody : (guests : List (Option Guest)) (i : ℕ) → IsThere guests i ⊎ (get_or (map occupant_of guests) i None ≡ None)
+somebody [] i = inr refl
+somebody (None ∷ guests) zero = inr refl
+somebody (Some t ∷ guests) zero = inl (record { guest = t; there = refl; occupies = refl })
+somebody (x ∷ guests) (suc i) =
+    elim (somebody guests i) [
+      | inl here ↦ inl (record { guest = here.guest; there = here.there; occupies = here.occupies })
+      | inr none ↦ inr none
+    ]
+
+-- ---- a table has whole pages of WebAssembly, within its limit
+
+pub sixteens : (s : Space) (i : ℕ) → IsSound s → (n : ℕ) × (length (get_or s.tables i []) ≡ 16 * n)
+sixteens s i sound =
+    elim (cases_lt i (length s.occupants)) [
+      | inl within ↦ (let t = get_there s.occupants i within in by t.0 (sound.occupants.have i t.0 t.1))
+      | inr past ↦ (let l = sound.occupants.tables in let none = past_there s.tables i (omega arith) in (0, rw none refl))
+    ] where
+      by : (t : Option Occupant) → HasTable t (get_or s.tables i []) → (n : ℕ) × (length (get_or s.tables i []) ≡ 16 * n)
+      by None has = (0, rw has refl)
+      by (Some t) has = has.7
+
+none_there : (s : Space) (i : ℕ) → IsSound s → get_or s.occupants i None ≡ None → get_or s.tables i [] ≡ []
+none_there s i sound none =
+    elim (cases_lt i (length s.occupants)) [
+      | inl within ↦ (let t = get_there s.occupants i within in
+          let same : t.0 ≡ None = sym (get_or_is s.occupants i t.0 None t.1) ∙ none in
+          sound.occupants.have i None (t.1 ∙ ap Some same))
+      | inr past ↦ (let l = sound.occupants.tables in past_there s.tables i (omega arith))
+    ]
+
+pub limit_at : (a : Inside) (i : ℕ) (here : IsThere a.guests.items i) → page_limit (space_of a) i ≡ here.guest.max / 16
+limit_at a i here = ap (λ (o : Option Occupant). limit_by (claim_of o)) (get_or_is (map occupant_of a.guests.items) i (Some (occupant here.guest)) None here.occupies)
+
+pub limit_nowhere : (a : Inside) (i : ℕ) → get_or (map occupant_of a.guests.items) i None ≡ None → page_limit (space_of a) i ≡ 0
+limit_nowhere a i none = ap (λ (o : Option Occupant). limit_by (claim_of o)) none
+
+pub size_within : (a : Inside) (i n : ℕ) → IsSound (space_of a) → length (get_or (pages_in a.tables.items) i []) ≡ 16 * n → n ≤ page_limit (space_of a) i
+size_within a i n sound long =
+    elim (somebody a.guests.items i) [
+      | inl here ↦
+          (let has = sound.occupants.have i (Some (occupant here.guest)) here.occupies in
+          let most = has.2 in
+          let limit = limit_at a i here in
+          omega arith)
+      | inr none ↦ (let empty = ap length (none_there (space_of a) i sound none) in omega arith)
+    ]
+
+-- who may grow is there
+pub grower : (a : Inside) (i : ℕ) → 1 ≤ page_limit (space_of a) i → IsThere a.guests.items i
+grower a i some = elim (somebody a.guests.items i) [ inl here ↦ here | inr none ↦ absurd (let z = limit_nowhere a i none in omega arith) ]
+
+-- ---- what it grew to
+
+pub grew_well : (a b : Inside) (i n : ℕ) (here : IsThere a.guests.items i) → IsWell a → b.guests ≡ a.guests → limits_in b.tables.items ≡ limits_in a.tables.items → Grew (space_of a) i n (space_of b)
+    → length (get_or (pages_in a.tables.items) i []) + 16 * n ≤ here.guest.max → IsWell b
+grew_well a b i n here was guests limits grew fits = well a b was guests limits (grows_soundly (space_of a) i n (occupant here.guest) (space_of b) was.sound here.occupies refl fits grew)
+
+-- there is somebody, and room for so many pages more
+pub record CanGrow (a : Inside) (i n : ℕ) : Type 0 where
+  pub here : IsThere a.guests.items i
+  pub room : length (get_or (pages_in a.tables.items) i []) + 16 * n ≤ here.guest.max
+  pub few : 16 * n ≤ 65536
+
+pub can_grow : (a : Inside) (i before n : ℕ) → IsWell a → length (get_or (pages_in a.tables.items) i []) ≡ 16 * before → 1 ≤ n → before + n ≤ page_limit (space_of a) i → CanGrow a i n
+can_grow a i before n was long some fits =
+    let here = grower a i (omega arith) in
+    let limit = limit_at a i here in
+    let has = was.sound.occupants.have i (Some (occupant here.guest)) here.occupies in
+    let most = has.4 in
+    record { here = here; room = omega arith; few = omega arith }

@@ -1,0 +1,12 @@
+pub mod Tables
+pub mod Wellness
+pub mod Loading
+pub mod Owning
+pub mod Wants
+pub mod Storing
+pub mod Growing
+pub mod Keeping
+pub mod Entering
+pub mod Summing
+pub mod Stood
+pub mod Epochal

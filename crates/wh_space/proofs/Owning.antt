@@ -1,0 +1,196 @@
+-- A page that is broken off from all others.
+use Rattle.std.proofs.Common.{◌≡◌, ℕ, ◌+◌, ◌<◌, ◌≤◌, inl, inr, List, [], ◌∷◌, Option, Some, None, length, get_or, map, slice_set, replicate, zero, suc, true, refl, sym, ◌∙◌, ap, subst, arith}
+use Rattle.std.proofs.lemmas.Bool.Decides.{nat_tests}
+use Rattle.std.proofs.lemmas.List.{append-nil}
+use Rattle.wh_host_model.specs.Frames.{IsTaken, Pool, one_if, TakesFrame as PoolTakes}
+use Rattle.wh_host_model.specs.declared.states.Mark.{Mark}
+use Rattle.wh_host_model.specs.declared.states.Mark.TheVariants.{Plain}
+use Rattle.wh_host_model.specs.declared.states.Page.{Page}
+use Rattle.wh_host_model.specs.declared.states.Page.TheVariants.{Untouched, Private, Shared, Leaving, LeavingShared, Coming, Swapped}
+use Rattle.wh_host_model.specs.declared.states.Slot.TheVariants.{Vacant}
+use Rattle.wh_host_model.specs.Space.Parts.{Space, frame_bytes, sharers}
+use Rattle.wh_host_model.specs.Space.Breaks.{Breaks, GetsFrame, LeavesSharers, TakesFrame, fewer_sharers, standing_alone, voided, with_fewer}
+use Rattle.wh_host_model.specs.Space.Ready.{copies, may_take}
+use Rattle.wh_host_model.specs.Space.Sound.{IsSound}
+use Rattle.wh_host_model.specs.Space.States.{at, owns, page_at, put, resident, shares, untouched}
+use Rattle.wh_host_model.proofs.Space.Counting.{frames_one_page, shared_frame, single}
+use Rattle.wh_host_model.proofs.Space.Filled.{breaks_soundly}
+use Rattle.wh_host_model.proofs.Space.Putting.{get_pages, is_page, put_this}
+use Rattle.wh_host_model.proofs.Space.Reading.{shared_taken}
+use Rattle.wh_space.specs.declared.memory.Memory.TheInside.{Inside}
+use Rattle.wh_space.specs.Pages.{limits_in, marks_in, pages_in}
+use Rattle.wh_space.specs.Parts.{IsWell, space_of}
+use Rattle.wh_space.specs.Steps.{CanBreak}
+use Rattle.wh_space.proofs.Wellness.{well}
+
+-- ---- what a page is that owns a frame, or shares it
+
+one_is : (f g : ℕ) → one_if f g ≡ 1 → f ≡ g
+one_is f g one = grind (arith, nat_tests)
+
+pub page_there : (w : Page → ℕ) (o : Option Page) → at w o ≡ 1 → (x : Page) × (o ≡ Some x) × (w x ≡ 1)
+page_there w None one = absurd (omega arith)
+page_there w (Some x) one = (x, refl, one)
+
+record HasFrame (x : Page) (o : Option ℕ) : Type 0 where
+  pub touched : untouched x ≡ 0
+  pub hand : resident x ≡ 1
+  pub shared : shared_frame x ≡ o
+
+owned : (x : Page) (f : ℕ) → owns f x ≡ 1 → HasFrame x None
+unfolding shared_frame
+owned Untouched f one = absurd (omega arith)
+owned (Private g) f one = record { touched = refl; hand = refl; shared = refl }
+owned (Shared g) f one = absurd (omega arith)
+owned (Leaving g) f one = record { touched = refl; hand = refl; shared = refl }
+owned (LeavingShared g) f one = absurd (omega arith)
+owned (Coming k) f one = absurd (omega arith)
+owned (Swapped k) f one = absurd (omega arith)
+
+shared : (x : Page) (f : ℕ) → shares f x ≡ 1 → HasFrame x (Some f)
+unfolding shared_frame
+shared Untouched f one = absurd (omega arith)
+shared (Private g) f one = absurd (omega arith)
+shared (Shared g) f one = record { touched = refl; hand = refl; shared = ap Some (sym (one_is f g one)) }
+shared (Leaving g) f one = absurd (omega arith)
+shared (LeavingShared g) f one = record { touched = refl; hand = refl; shared = ap Some (sym (one_is f g one)) }
+shared (Coming k) f one = absurd (omega arith)
+shared (Swapped k) f one = absurd (omega arith)
+
+-- ---- when it can be broken off
+
+single_none : (s : Space) (x : Page) → HasFrame x None → single s (shared_frame x) ≡ 0
+unfolding single
+single_none s x has = rw has.shared refl
+
+single_last : (s : Space) (x : Page) (f : ℕ) → HasFrame x (Some f) → sharers s f ≡ 1 → single s (shared_frame x) ≡ 0
+unfolding single
+single_last s x f has last = rw (has.shared, last) refl
+
+one_copy : (n : ℕ) → 2 ≤ n → copies 1 n ≡ 1
+one_copy n some = grind (arith, nat_tests)
+
+single_more : (s : Space) (x : Page) (f : ℕ) → HasFrame x (Some f) → 2 ≤ sharers s f → single s (shared_frame x) ≡ 1
+unfolding single
+single_more s x f has some = rw has.shared (one_copy (sharers s f) some)
+
+can : (s : Space) (i p : ℕ) (x : Page) → IsSound s → page_at s.tables i p ≡ Some x → untouched x + resident x ≡ 1 → untouched x + single s (shared_frame x) ≤ may_take s i → CanBreak s i p
+can s i p x sound there hand enough = (rw there hand, rw (frames_one_page s i p x sound.frames there) enough)
+
+pub can_keep : (s : Space) (i p f : ℕ) (x : Page) → IsSound s → page_at s.tables i p ≡ Some x → owns f x ≡ 1 → CanBreak s i p
+can_keep s i p f x sound there one = let has = owned x f one in let t = has.touched in let h = has.hand in let z = single_none s x has in can s i p x sound there (omega arith) (omega arith)
+
+untouched_wants : (s : Space) → single s (shared_frame Untouched) ≡ 0
+unfolding single shared_frame
+untouched_wants s = refl
+
+pub can_take : (s : Space) (i p : ℕ) → IsSound s → page_at s.tables i p ≡ Some Untouched → 1 ≤ may_take s i → CanBreak s i p
+can_take s i p sound there some = let z = untouched_wants s in can s i p Untouched sound there refl (omega arith)
+
+pub cannot_take : (s : Space) (i p : ℕ) → IsSound s → page_at s.tables i p ≡ Some Untouched → may_take s i ≡ 0 → ¬ CanBreak s i p
+cannot_take s i p sound there none can = let k = can.1 in let wants = frames_one_page s i p Untouched sound.frames there in omega arith
+
+pub can_keep_last : (s : Space) (i p f : ℕ) (x : Page) → IsSound s → page_at s.tables i p ≡ Some x → shares f x ≡ 1 → sharers s f ≡ 1 → CanBreak s i p
+can_keep_last s i p f x sound there one last = let has = shared x f one in let t = has.touched in let h = has.hand in let z = single_last s x f has last in can s i p x sound there (omega arith) (omega arith)
+
+pub can_copy : (s : Space) (i p f : ℕ) (x : Page) → IsSound s → page_at s.tables i p ≡ Some x → shares f x ≡ 1 → 2 ≤ sharers s f → 1 ≤ may_take s i → CanBreak s i p
+can_copy s i p f x sound there one more some = let has = shared x f one in let t = has.touched in let h = has.hand in let z = single_more s x f has more in can s i p x sound there (omega arith) (omega arith)
+
+pub cannot_copy : (s : Space) (i p f : ℕ) (x : Page) → IsSound s → page_at s.tables i p ≡ Some x → shares f x ≡ 1 → 2 ≤ sharers s f → may_take s i ≡ 0 → ¬ CanBreak s i p
+cannot_copy s i p f x sound there one more none can =
+    let has = shared x f one in let z = single_more s x f has more in let k = can.1 in let wants = frames_one_page s i p x sound.frames there in omega arith
+
+-- ---- the frame that it gets
+
+pub takes_free : (s : Space) (i g : ℕ) (bytes : List ℕ) (marks : List Mark) (taken pool : Pool) → PoolTakes s.pool g taken → pool ≡ record taken { frames = slice_set taken.frames g bytes }
+    → TakesFrame (record s { marks = marks }) i g bytes (record s { pool = pool; marks = marks })
+takes_free s i g bytes marks taken pool takes is =
+    inl (
+      taken.free,
+      (taken.free, [], takes.free, sym (append-nil taken.free)),
+      ap (λ (z : Pool). record s { pool = z; marks = marks }) (is ∙ ap (λ (z : List (List ℕ)). record { frames = slice_set z g bytes; free = taken.free }) takes.frames),
+    )
+
+pub keeps_own : (s : Space) (i f : ℕ) (x : Page) → owns f x ≡ 1 → GetsFrame s i x f s
+keeps_own s i f Untouched one = absurd (omega arith)
+keeps_own s i f (Private g) one = (one_is f g one, refl)
+keeps_own s i f (Shared g) one = absurd (omega arith)
+keeps_own s i f (Leaving g) one = (one_is f g one, refl)
+keeps_own s i f (LeavingShared g) one = absurd (omega arith)
+keeps_own s i f (Coming k) one = absurd (omega arith)
+keeps_own s i f (Swapped k) one = absurd (omega arith)
+
+pub leaves_shared : (s : Space) (i f g : ℕ) (x : Page) (mid : Space) → shares f x ≡ 1 → LeavesSharers s i f g mid → GetsFrame s i x g mid
+leaves_shared s i f g Untouched mid one leaves = absurd (omega arith)
+leaves_shared s i f g (Private h) mid one leaves = absurd (omega arith)
+leaves_shared s i f g (Shared h) mid one leaves = subst (λ z. LeavesSharers s i z g mid) (one_is f h one) leaves
+leaves_shared s i f g (Leaving h) mid one leaves = absurd (omega arith)
+leaves_shared s i f g (LeavingShared h) mid one leaves = subst (λ z. LeavesSharers s i z g mid) (one_is f h one) leaves
+leaves_shared s i f g (Coming k) mid one leaves = absurd (omega arith)
+leaves_shared s i f g (Swapped k) mid one leaves = absurd (omega arith)
+
+-- ---- what the memory is then
+
+pub voided_vacant : (i : ℕ) (pages : List ℕ) (n : ℕ) → map (voided i pages) (replicate n Vacant) ≡ replicate n Vacant
+voided_vacant i pages zero = refl
+voided_vacant i pages (suc n) = let e = voided_vacant i pages n in cc
+
+-- the page was broken off, and the memory is well
+pub record IsOwned (a b : Inside) (i p g : ℕ) : Type 0 where
+  pub well : IsWell b
+  pub breaks : Breaks (space_of a) i p (space_of b)
+  pub page : page_at (space_of b).tables i p ≡ Some (Private g)
+
+pub owned_by : (a b : Inside) (i p g : ℕ) (x : Page) → IsWell a → b.guests ≡ a.guests → b.slots ≡ a.slots → b.tax ≡ a.tax
+    → pages_in b.tables.items ≡ put (pages_in a.tables.items) i p (Private g) → marks_in b.tables.items ≡ put (marks_in a.tables.items) i p true
+    → limits_in b.tables.items ≡ limits_in a.tables.items → page_at (pages_in a.tables.items) i p ≡ Some x
+    → GetsFrame (space_of a) i x g (record (space_of a) { pool = b.pool; marks = b.content }) → IsOwned a b i p g
+owned_by a b i p g x was guests slots tax pages marks limits there gets =
+    let s : Space = space_of a in
+    let mid : Space = record s { pool = b.pool; marks = b.content } in
+    let after : space_of b ≡ standing_alone mid i p g = rw (pages, marks, guests, slots, tax, voided_vacant i (p ∷ []) a.slots) refl in
+    let breaks : Breaks s i p (space_of b) = record { page = x; was = there; frame = g; mid = mid; gets = gets; after = after } in
+    record {
+      well = well a b was guests limits (breaks_soundly s i p (space_of b) was.sound breaks).0;
+      breaks = breaks;
+      page = ap (λ (t : List (List Page)). page_at t i p) pages ∙ put_this (pages_in a.tables.items) i p x (Private g) there;
+    }
+
+-- ---- a page that shares a frame
+
+pub record IsSharer (s : Space) (i p f : ℕ) : Type 0 where
+  pub page : Page
+  pub there : page_at s.tables i p ≡ Some page
+  pub one : shares f page ≡ 1
+  pub some : 1 ≤ sharers s f
+  pub taken : IsTaken s.pool f
+  pub entry : f < length s.marks
+  pub number : p < length (get_or s.tables i [])
+
+pub is_sharer : (s : Space) (i p f : ℕ) → IsSound s → at (shares f) (page_at s.tables i p) ≡ 1 → IsSharer s i p f
+is_sharer s i p f sound shared =
+    let x = page_there (shares f) (page_at s.tables i p) shared in
+    let some = get_pages (shares f) s.tables i p x.0 x.1 in
+    let one = x.2 in
+    let taken = shared_taken s f sound.frames (omega arith) in
+    record {
+      page = x.0;
+      there = x.1;
+      one = one;
+      some = omega arith;
+      taken = taken;
+      entry = omega (arith, sound.frames.marks, taken.0);
+      number = (is_page s.tables i p x.0 x.1).1;
+    }
+
+pub last_leaves : (s : Space) (i f : ℕ) (x : Page) (marks : List Mark) → shares f x ≡ 1 → sharers s f ≡ 1 → marks ≡ slice_set s.marks f (fewer_sharers 1 (get_or s.marks f Plain))
+    → GetsFrame s i x f (record s { marks = marks })
+last_leaves s i f x marks one last now = leaves_shared s i f f x (record s { marks = marks }) one (inl (last, refl, ap (λ (m : List Mark). record s { marks = m }) now))
+
+pub copy_leaves : (s : Space) (i f g : ℕ) (x : Page) (marks : List Mark) (taken pool : Pool) → shares f x ≡ 1 → 2 ≤ sharers s f → marks ≡ slice_set s.marks f (fewer_sharers 1 (get_or s.marks f Plain))
+    → PoolTakes s.pool g taken → pool ≡ record taken { frames = slice_set taken.frames g (get_or taken.frames f []) } → GetsFrame s i x g (record s { pool = pool; marks = marks })
+copy_leaves s i f g x marks taken pool one more now takes is =
+    let left : List Mark = slice_set s.marks f (fewer_sharers 1 (get_or s.marks f Plain)) in
+    let same : pool ≡ record taken { frames = slice_set taken.frames g (frame_bytes s f) } = is ∙ ap (λ (z : List (List ℕ)). record taken { frames = slice_set taken.frames g (get_or z f []) }) takes.frames in
+    leaves_shared s i f g x (record s { pool = pool; marks = marks }) one
+    (inr (more, subst (λ (m : List Mark). TakesFrame (with_fewer s f) i g (frame_bytes s f) (record s { pool = pool; marks = m })) (sym now) (takes_free s i g (frame_bytes s f) left taken pool takes same)))

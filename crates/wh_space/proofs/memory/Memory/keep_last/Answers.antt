@@ -1,0 +1,33 @@
+use Rattle.std.proofs.Common.{refl, ◌≡◌}
+use Rattle.wh_host_model.specs.Space.Parts.{sharers}
+use Rattle.wh_space.specs.Parts.{space_of}
+use Rattle.wh_space.proofs.Owning.{IsOwned, IsSharer, can_keep_last, is_sharer, last_leaves, owned_by}
+use Rattle.wh_space.proofs.memory.Memory.keep_last.Goals as goal
+
+pub drop_sharer-requires : goal.drop_sharer-requires
+drop_sharer-requires c = (is_sharer (space_of c.self.inside) c.args.place c.args.number c.args.frame c.self.invariant.sound (rw (← c.self.view_is) at c.requires.shares)).entry
+
+pub stand_alone-requires : goal.stand_alone-requires
+stand_alone-requires c = (is_sharer (space_of c.self.inside) c.args.place c.args.number c.args.frame c.self.invariant.sound (rw (← c.self.view_is) at c.requires.shares)).number
+
+sharer : (c : goal.After-stand_alone) → IsSharer (space_of c.self.inside) c.args.place c.args.number c.args.frame
+sharer c = is_sharer (space_of c.self.inside) c.args.place c.args.number c.args.frame c.self.invariant.sound (rw (← c.self.view_is) at c.requires.shares)
+
+last : (c : goal.After-stand_alone) → sharers (space_of c.self.inside) c.args.frame ≡ 1
+last c = rw (← c.self.view_is) at c.requires.last
+
+is_owned : (c : goal.After-stand_alone) → IsOwned c.self.inside (record c.self.inside { tables = c.stand_alone.new.tables; content = c.drop_sharer.new.self }) c.args.place c.args.number c.args.frame
+is_owned c =
+    let x = sharer c in
+    owned_by c.self.inside (record c.self.inside { tables = c.stand_alone.new.tables; content = c.drop_sharer.new.self }) c.args.place c.args.number c.args.frame x.page c.self.invariant refl refl refl
+    c.stand_alone.ensures.pages c.stand_alone.ensures.marks c.stand_alone.ensures.limits x.there
+    (last_leaves (space_of c.self.inside) c.args.place c.args.frame x.page c.drop_sharer.new.self x.one (last c) c.drop_sharer.ensures)
+
+pub invariant_of-self : goal.invariant_of-self
+invariant_of-self c = (is_owned c).well
+
+pub returns : goal.returns
+returns c =
+    let x = sharer c in
+    let o = is_owned c in
+    rw (← c.self.view_is) (can_keep_last (space_of c.self.inside) c.args.place c.args.number c.args.frame x.page c.self.invariant.sound x.there x.one (last c), o.breaks, o.page)

@@ -1,0 +1,24 @@
+use Rattle.std.proofs.Common.{refl, ◌≡◌, Some}
+use Rattle.wh_host_model.specs.declared.states.Page.{Page}
+use Rattle.wh_host_model.specs.Space.States.{owns, page_at}
+use Rattle.wh_space.specs.Parts.{space_of}
+use Rattle.wh_space.proofs.Owning.{IsOwned, can_keep, keeps_own, owned_by, page_there}
+use Rattle.wh_space.proofs.memory.Memory.keep_own.Goals as goal
+
+there : (c : goal.After-stand_alone) → (x : Page) × (page_at (space_of c.self.inside).tables c.args.place c.args.number ≡ Some x) × (owns c.args.frame x ≡ 1)
+there c = page_there (owns c.args.frame) (page_at (space_of c.self.inside).tables c.args.place c.args.number) (rw (← c.self.view_is) at c.requires)
+
+is_owned : (c : goal.After-stand_alone) → IsOwned c.self.inside (record c.self.inside { tables = c.stand_alone.new.tables }) c.args.place c.args.number c.args.frame
+is_owned c =
+    let x = there c in
+    owned_by c.self.inside (record c.self.inside { tables = c.stand_alone.new.tables }) c.args.place c.args.number c.args.frame x.0 c.self.invariant refl refl refl
+    c.stand_alone.ensures.pages c.stand_alone.ensures.marks c.stand_alone.ensures.limits x.1 (keeps_own (space_of c.self.inside) c.args.place c.args.frame x.0 x.2)
+
+pub invariant_of-self : goal.invariant_of-self
+invariant_of-self c = (is_owned c).well
+
+pub returns : goal.returns
+returns c =
+    let x = there c in
+    let o = is_owned c in
+    rw (← c.self.view_is) (can_keep (space_of c.self.inside) c.args.place c.args.number c.args.frame x.0 c.self.invariant.sound x.1 x.2, o.breaks, o.page)

@@ -1,0 +1,33 @@
+use Rattle.std.proofs.Common.{◌≡◌, ◌≤◌, ◌+◌, ◌*◌, List, ℕ, [], ◌∷◌, ◌/◌, ◌%◌, length, subst, arith}
+use Rattle.std.proofs.lemmas.Grind.{common_steps}
+use Rattle.wh_host_model.specs.Space.Sound.{IsSound}
+use Rattle.wh_host_model.specs.Space.Stores.{Fills, Overwrites}
+use Rattle.wh_host_model.proofs.Space.Filling.{each_one}
+use Rattle.wh_host_model.proofs.Space.Reading.{on_one_page}
+use Rattle.wh_space.proofs.Storing.{can_step_one, overwrites, stored}
+use Rattle.wh_space.proofs.memory.Memory.quick_store.Goals as goal
+
+over : (c : goal.After-write_own) → Overwrites c.args.self.now c.args.place c.args.at c.args.given.now c.write_own.new.self
+over c =
+    let k = c.args.at in
+    let given : List ℕ = c.args.given.now in
+    let some : 1 ≤ length given = grind (arith, common_steps) in
+    let within : k % 4096 + length given ≤ 4096 = omega (arith, c.if-offset-given-gt4096.false) in
+    let place : 4096 * (k / 4096) + k % 4096 ≡ k = omega arith in
+    overwrites c.args.self.now c.own_quickly.new.self c.write_own.new.self c.args.place k given ((k / 4096) ∷ []) (on_one_page k (length given) some within)
+    (each_one c.args.self.now c.args.place (k / 4096) c.own_quickly.new.self c.in-Some.ensures.some.1)
+    (subst (λ z. Fills c.own_quickly.new.self c.args.place z given c.write_own.new.self) place c.write_own.ensures.fills)
+
+pub returns-clause-leaves : goal.returns-clause-leaves
+returns-clause-leaves c = λ yes. over c
+
+pub returns-clause-stores : goal.returns-clause-stores
+returns-clause-stores c =
+    let s = c.args.self.now in
+    let k = c.args.at in
+    let given : List ℕ = c.args.given.now in
+    let sound : IsSound s = subst IsSound c.self.view_is c.self.invariant.sound in
+    let some : 1 ≤ length given = grind (arith, common_steps) in
+    let within : k % 4096 + length given ≤ 4096 = omega (arith, c.if-offset-given-gt4096.false) in
+    λ yes. stored s c.write_own.new.self c.args.place k given ((k / 4096) ∷ []) sound (c.fits.ensures.fits.0 c.if-not-fits.false)
+    (on_one_page k (length given) some within) (can_step_one s c.args.place (k / 4096) c.in-Some.ensures.some.0) (over c)

@@ -1,0 +1,26 @@
+use Rattle.std.proofs.Common.{refl, ◌*◌, ◌+◌}
+use Rattle.wh_host_model.specs.declared.states.Page.TheVariants.{Private}
+use Rattle.wh_host_model.specs.Space.Stores.{Fills}
+use Rattle.wh_host_model.proofs.Space.Filled.{filled_sound}
+use Rattle.wh_host_model.proofs.Space.Reading.{taken_under}
+use Rattle.wh_host_model.proofs.Space.Writing.{fills_page}
+use Rattle.wh_space.specs.declared.memory.Memory.TheInside.{Inside}
+use Rattle.wh_space.specs.Parts.{space_of}
+use Rattle.wh_space.proofs.Wellness.{well}
+use Rattle.wh_space.proofs.memory.Memory.write_own.Goals as goal
+
+pub write_frame-requires-clause-taken : goal.write_frame-requires-clause-taken
+write_frame-requires-clause-taken c = taken_under (space_of c.self.inside) c.args.place c.args.number (Private c.args.frame) c.args.frame c.self.invariant.sound.frames (rw (← c.self.view_is) at c.requires.own) refl
+
+fills : (c : goal.After-write_frame) → Fills (space_of c.self.inside) c.args.place (4096 * c.args.number + c.args.offset) c.args.given.now (space_of (record c.self.inside { pool = c.write_frame.new.pool }))
+fills c = rw c.write_frame.ensures (fills_page (space_of c.self.inside) c.args.place c.args.number c.args.frame c.args.offset (4096 * c.args.number + c.args.offset) c.args.given.now
+    c.self.invariant.sound (rw (← c.self.view_is) at c.requires.own) c.requires.inside c.requires.some refl)
+
+pub invariant_of-self : goal.invariant_of-self
+invariant_of-self c =
+    let a : Inside = c.self.inside in
+    well a (record a { pool = c.write_frame.new.pool }) c.self.invariant refl refl
+    (filled_sound (space_of a) c.args.place (4096 * c.args.number + c.args.offset) c.args.given.now (space_of (record a { pool = c.write_frame.new.pool })) c.self.invariant.sound (fills c))
+
+pub returns-clause-fills : goal.returns-clause-fills
+returns-clause-fills c = rw (← c.self.view_is) (fills c)

@@ -1,0 +1,22 @@
+use Rattle.std.proofs.Common.{◌+◌, ◌-◌, ◌<◌, length, rules, arith}
+use Rattle.wh_host_model.specs.Space.Parts.{of_occupant}
+use Rattle.wh_space.proofs.Summing.{sum_part, sum_step}
+use Rattle.wh_space.proofs.room.spreads_of.Goals as goal
+
+pub overflow_add-sum : goal.overflow_add-sum
+overflow_add-sum c =
+    let xs = c.args.guests.now.items in
+    let within : c.loop-place.place < length xs = (search rules) in
+    let step = sum_step (of_occupant (λ t. (t.max - t.min) + 1)) xs c.loop-place.place c.index.result.now within c.index.ensures in
+    let part = sum_part (of_occupant (λ t. (t.max - t.min) + 1)) xs (c.loop-place.place + 1) in
+    let value = c.spread_of-sum.ensures in
+    let few = c.requires in
+    omega arith
+
+pub loop-place-preserved : goal.loop-place-preserved
+loop-place-preserved c =
+    let xs = c.args.guests.now.items in
+    let within : c.loop-place.place < length xs = (search rules) in
+    let step = sum_step (of_occupant (λ t. (t.max - t.min) + 1)) xs c.loop-place.place c.index.result.now within c.index.ensures in
+    let value = c.spread_of-sum.ensures in
+    omega arith

@@ -1,0 +1,6 @@
+pub mod Arrivals
+pub mod Guests
+pub mod Pages
+pub mod Parts
+pub mod Steps
+pub mod Views

@@ -1,0 +1,112 @@
+// How a memory begins, and how an instance comes to a place.
+
+ghost use Rattle.std.specs.Prelude.{◌≡◌, ◌≢◌, ◌*◌, ◌<◌, ◌≤◌, ◌++◌, ℕ, Some, false, length, replicate, IfOk, IfErr, OnOk, OnErr, vec_len, vec_capacity};
+ghost use Rattle.wh_host_model.specs.declared.states.Page.TheVariants.{Untouched};
+ghost use Rattle.wh_host_model.specs.Space.Parts.{Occupant, occupant_at};
+ghost use Rattle.wh_host_model.specs.Space.Places.{Enters, HasRoomFor, IsFreePlace, with_row};
+ghost use Rattle.wh_space.specs.Arrivals.{IsNew, claimed};
+
+use crate::guest::{Guest, Promise};
+use crate::memory::Memory;
+use std::alloc::{AllocError, Global};
+use wh_content::Table;
+use wh_frames::{FrameError, FramePool};
+use wh_host_model::Tax;
+use wh_pages::PageTable;
+
+// Puts a row at a place, which may be the next one.
+fn put_guest(guests: &mut Vec<Option<Guest>>, place: usize, guest: Guest)
+    requires place { place ≤ length guests.old.items }
+    requires room { vec_len guests.old < vec_capacity guests.old }
+    ensures { guests.new.items ≡ with_row guests.old.items place (Some guest) }
+{
+    if place < guests.len() {
+        guests[place] = Some(guest);
+    } else {
+        guests.push_reserved(Some(guest));
+    }
+}
+
+fn put_table(tables: &mut Vec<PageTable>, place: usize, table: PageTable)
+    requires place { place ≤ length tables.old.items }
+    requires room { vec_len tables.old < vec_capacity tables.old }
+    ensures { tables.new.items ≡ with_row tables.old.items place table }
+{
+    if place < tables.len() {
+        tables[place] = table;
+    } else {
+        tables.push_reserved(table);
+    }
+}
+
+// A table with so many untouched pages.
+fn table_of(alloc: Global, pages: u32, max: u32) -> Result<PageTable, AllocError>
+    requires within { pages ≤ max }
+    requires most { max ≤ 65536 }
+    ensures { IfOk result (λ table. table ≡ record {
+      pages = replicate pages Untouched;
+      touched = replicate pages false;
+      max = max;
+    }) }
+{
+    let mut table = PageTable::new(alloc, max)?;
+    let _ = table.grow(pages);
+    Ok(table)
+}
+
+impl Memory {
+    /// A memory with so many frames of 4096 bytes and so many slots, in which nobody is. Room for all frames is reserved
+    /// now.
+    ///
+    /// # Errors
+    /// `Memory` where room is refused.
+    pub fn new(alloc: Global, frames: u32, slots: u32, tax: Tax) -> Result<Memory, FrameError>
+        ensures is { IfOk result (λ memory. IsNew memory frames slots tax) }
+        ensures refused { IfErr result (λ error. error ≡ FrameError.Memory) }
+    {
+        let pool = FramePool::new(alloc, frames)?;
+        // Its contract says that no frame is free twice.
+        let _ = pool.free();
+        let Ok(content) = Table::new(alloc, frames) else {
+            return Err(FrameError::Memory);
+        };
+        Ok(Memory {
+            guests: Vec::new(alloc),
+            tables: Vec::new(alloc),
+            pool,
+            content,
+            slots,
+            tax,
+        })
+    }
+
+    /// An instance comes to a free place, or to the next one behind all, with so many pages of 65536 zero bytes. They
+    /// take no frame. All room for its page table is taken now, so that it grows without memory.
+    ///
+    /// # Errors
+    /// `AllocError` where room is refused. Nothing is done then.
+    pub fn enter(
+        &mut self,
+        alloc: Global,
+        place: usize,
+        promise: Promise,
+        size: u32,
+    ) -> Result<(), AllocError>
+        requires free { IsFreePlace self.old place }
+        requires room { HasRoomFor self.old (claimed promise) }
+        requires shares { (1 ≤ promise.shares) × (promise.shares ≤ 1000000) }
+        requires bounds { (2 ≤ promise.min) × (promise.min ≤ promise.max) × (promise.max ≤ 65536) }
+        requires fits { 16 * size ≤ promise.max }
+        requires fresh { (j : ℕ) (t : Occupant) → occupant_at self.old j t
+            → t.number ≢ promise.number }
+        ensures ok { OnOk result (Enters self.old place (claimed promise) size self.new) }
+        ensures err { OnErr result (self.new ≡ self.old) }
+    {
+        self.guests.reserve(1)?;
+        self.tables.reserve(1)?;
+        let table = table_of(alloc, 16 * size, promise.max)?;
+        put_guest(&mut self.guests, place, Guest::new(promise));
+        put_table(&mut self.tables, place, table);
+        Ok(())
+    }
+}

@@ -1,0 +1,126 @@
+// Pages that are broken off from all others, to be written.
+
+ghost use Rattle.std.specs.Prelude.{◌≡◌, ◌<◌, ◌≤◌, [], Some, IfSome, IfNone, length, get_or};
+ghost use Rattle.wh_host_model.specs.Space.Parts.{sharers};
+ghost use Rattle.wh_host_model.specs.Space.States.{at, owns, page_at, shares};
+ghost use Rattle.wh_host_model.specs.declared.states.Page.TheVariants.{Untouched};
+ghost use Rattle.wh_space.specs.Steps.{Owns};
+
+use crate::frames::{clear_frame, copy_frame};
+use crate::memory::Memory;
+use crate::pages::{page_of, stand_alone};
+use wh_host_model::{Mark, Page};
+
+impl Memory {
+    // How many pages share a frame.
+    pub(crate) fn sharers_of(&self, frame: u32) -> u32
+        requires { frame < length self.now.pool.frames }
+        ensures { result ≡ sharers self.now frame }
+    {
+        match self.content.mark(frame) {
+            Mark::Plain => 0,
+            Mark::Hint { .. } => 0,
+            Mark::Sharers { count, .. } => count,
+        }
+    }
+
+    // The page has this frame already.
+    #[inline(always)]
+    fn keep_own(&mut self, place: usize, number: u32, frame: u32)
+        requires { at (owns frame) (page_at self.old.tables place number) ≡ 1 }
+        ensures { Owns self.old place number (Some frame) self.new }
+    {
+        stand_alone(&mut self.tables, place, number, frame);
+    }
+
+    // Gives an untouched page a frame of zeros.
+    fn take_zeros(&mut self, place: usize, number: u32) -> Option<u32>
+        requires { page_at self.old.tables place number ≡ Some Untouched }
+        ensures { Owns self.old place number result self.new }
+    {
+        let Ok(frame) = self.pool.take() else {
+            return None;
+        };
+        clear_frame(&mut self.pool, frame);
+        stand_alone(&mut self.tables, place, number, frame);
+        Some(frame)
+    }
+
+    // Gives the last sharer of a frame the frame.
+    fn keep_last(&mut self, place: usize, number: u32, frame: u32)
+        requires shares { at (shares frame) (page_at self.old.tables place number) ≡ 1 }
+        requires last { sharers self.old frame ≡ 1 }
+        ensures { Owns self.old place number (Some frame) self.new }
+    {
+        self.content.drop_sharer(frame);
+        stand_alone(&mut self.tables, place, number, frame);
+    }
+
+    // Gives one of several sharers of a frame a copy of it.
+    fn take_copy(&mut self, place: usize, number: u32, frame: u32) -> Option<u32>
+        requires shares { at (shares frame) (page_at self.old.tables place number) ≡ 1 }
+        requires several { 2 ≤ sharers self.old frame }
+        ensures { Owns self.old place number result self.new }
+    {
+        let Ok(fresh) = self.pool.take() else {
+            return None;
+        };
+        copy_frame(&mut self.pool, frame, fresh);
+        self.content.drop_sharer(frame);
+        stand_alone(&mut self.tables, place, number, fresh);
+        Some(fresh)
+    }
+
+    // A sharer of a frame leaves it.
+    fn leave_sharers(&mut self, place: usize, number: u32, frame: u32) -> Option<u32>
+        requires { at (shares frame) (page_at self.old.tables place number) ≡ 1 }
+        ensures { Owns self.old place number result self.new }
+    {
+        let _ = &self.tax;
+        if self.sharers_of(frame) > 1 {
+            self.take_copy(place, number, frame)
+        } else {
+            self.keep_last(place, number, frame);
+            Some(frame)
+        }
+    }
+
+    // Breaks a page off from all others. The frame on which it stands alone then; or none where there is none for it, or
+    // it isn't at hand, and then nothing is done.
+    #[inline(always)]
+    pub(crate) fn own(&mut self, place: usize, number: u32) -> Option<u32>
+        requires { number < length (get_or self.old.tables place []) }
+        ensures { Owns self.old place number result self.new }
+    {
+        match page_of(&self.tables, place, number) {
+            Page::Private(frame) => {
+                self.keep_own(place, number, frame);
+                Some(frame)
+            }
+            Page::Leaving(frame) => {
+                self.keep_own(place, number, frame);
+                Some(frame)
+            }
+            Page::Untouched => self.take_zeros(place, number),
+            Page::Shared(frame) => self.leave_sharers(place, number, frame),
+            Page::LeavingShared(frame) => self.leave_sharers(place, number, frame),
+            Page::Coming(_) => None,
+            Page::Swapped(_) => None,
+        }
+    }
+
+    // The frame on which a page stands alone already, and then the page is marked as touched; or none, and nothing is
+    // done.
+    #[inline(always)]
+    pub(crate) fn own_quickly(&mut self, place: usize, number: u32) -> Option<u32>
+        requires { number < length (get_or self.old.tables place []) }
+        ensures some { IfSome result (λ frame. Owns self.old place number (Some frame) self.new) }
+        ensures none { IfNone result (self.new ≡ self.old) }
+    {
+        let Page::Private(frame) = page_of(&self.tables, place, number) else {
+            return None;
+        };
+        self.keep_own(place, number, frame);
+        Some(frame)
+    }
+}

@@ -1,0 +1,77 @@
+// Bytes in frames.
+
+ghost use Rattle.std.specs.Prelude.{◌≡◌, ◌+◌, ◌≤◌, [], length, get_or, slice_set, Some};
+ghost use Rattle.wh_host_model.specs.Frames.{IsTaken};
+ghost use Rattle.wh_host_model.specs.Pages.{zero_page};
+ghost use Rattle.wh_host_model.specs.Space.Moves.{frame_of};
+ghost use Rattle.wh_model.specs.Execution.Store.{bytes_at, written};
+
+use wh_frames::FramePool;
+use wh_host_model::Page;
+
+// The frame on which a page stands, if it stands on one.
+pub fn frame_under(page: Page) -> Option<u32>
+    ensures { result ≡ frame_of page }
+{
+    match page {
+        Page::Untouched => None,
+        Page::Private(frame) => Some(frame),
+        Page::Shared(frame) => Some(frame),
+        Page::Leaving(frame) => Some(frame),
+        Page::LeavingShared(frame) => Some(frame),
+        Page::Coming(_) => None,
+        Page::Swapped(_) => None,
+    }
+}
+
+// Reads bytes of a frame from a place on.
+pub fn read_frame(pool: &FramePool, frame: u32, offset: usize, into: &mut [u8])
+    requires taken { IsTaken pool.now frame }
+    requires inside { offset + length into.old ≤ 4096 }
+    ensures { into.new ≡ bytes_at (get_or pool.now.frames frame []) offset (length into.old) }
+{
+    let bytes = pool.bytes(frame);
+    into.copy_from_slice(&bytes[offset..offset + into.len()]);
+}
+
+// Writes bytes over those of a frame from a place on.
+fn write_bytes(bytes: &mut [u8; 4096], offset: usize, given: &[u8])
+    requires { offset + length given.now ≤ 4096 }
+    ensures { bytes.new ≡ written bytes.old offset given.now }
+{
+    bytes[offset..offset + given.len()].copy_from_slice(given);
+}
+
+// Writes bytes into a frame from a place on.
+pub fn write_frame(pool: &mut FramePool, frame: u32, offset: usize, given: &[u8])
+    requires taken { IsTaken pool.old frame }
+    requires inside { offset + length given.now ≤ 4096 }
+    ensures { pool.new ≡ record pool.old {
+      frames = slice_set pool.old.frames frame
+          (written (get_or pool.old.frames frame []) offset given.now);
+    } }
+{
+    write_bytes(pool.bytes_mut(frame), offset, given);
+}
+
+// Makes all bytes of a frame 0.
+#[tactic(auto, unfolding(wh_host_model::specs::Pages::zero_page))]
+pub fn clear_frame(pool: &mut FramePool, frame: u32)
+    requires { IsTaken pool.old frame }
+    ensures { pool.new ≡ record pool.old { frames = slice_set pool.old.frames frame zero_page } }
+{
+    *pool.bytes_mut(frame) = [0; 4096];
+}
+
+// Copies the bytes of a frame to another.
+pub fn copy_frame(pool: &mut FramePool, from: u32, to: u32)
+    requires from { IsTaken pool.old from }
+    requires to { IsTaken pool.old to }
+    ensures { pool.new ≡ record pool.old {
+      frames = slice_set pool.old.frames to
+          (get_or pool.old.frames from []);
+    } }
+{
+    let bytes = *pool.bytes(from);
+    *pool.bytes_mut(to) = bytes;
+}

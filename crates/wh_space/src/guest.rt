@@ -1,0 +1,50 @@
+// Who has a place.
+
+ghost use Rattle.std.specs.Prelude.{◌≡◌, None};
+
+use wh_model::Need;
+
+/// What the owner of an instance was promised for it.
+#[derive(Clone, Copy, Debug, PartialEq, Eq)]
+pub struct Promise {
+    /// How many instances came before it.
+    pub number: u64,
+    /// The share of memory that its owner has, 1 to 1000000.
+    pub shares: u32,
+    /// How many of its pages may be resident in any case, at least 2.
+    pub min: u32,
+    /// How many pages of 4096 bytes it may have, at least `min` and at most 65536.
+    pub max: u32,
+}
+
+// An instance that has a place.
+#[derive(Clone, Copy)]
+pub struct Guest {
+    pub number: u64,
+    pub shares: u32,
+    pub min: u32,
+    pub max: u32,
+    // The bytes of the step for which it stands, where it stands for a frame.
+    pub stands: Option<Need>,
+}
+
+impl Guest {
+    // One that comes.
+    pub fn new(promise: Promise) -> Guest
+        ensures { result ≡ record {
+          number = promise.number;
+          shares = promise.shares;
+          min = promise.min;
+          max = promise.max;
+          stands = None;
+        } }
+    {
+        Guest {
+            number: promise.number,
+            shares: promise.shares,
+            min: promise.min,
+            max: promise.max,
+            stands: None,
+        }
+    }
+}

@@ -1,0 +1,177 @@
+// What an instance reads.
+
+ghost use Rattle.std.specs.Prelude.{◌≡◌, ◌↔◌, ◌+◌, ◌*◌, ◌%◌, ◌^◌, ◌<◌, ◌≤◌, ℕ, [], Some, true, IsTrue, IsFalse, MatchBool, length, get_or, replicate};
+ghost use Rattle.wh_host_model.specs.Frames.{IsTaken};
+ghost use Rattle.wh_host_model.specs.Space.Moves.{frame_of};
+ghost use Rattle.wh_host_model.specs.Space.Parts.{view};
+ghost use Rattle.wh_host_model.specs.Space.Ready.{IsAtHand, Ready};
+ghost use Rattle.wh_host_model.specs.Space.States.{Backing, page_at, page_bytes, put};
+ghost use Rattle.wh_model.specs.Execution.Memory.{Loads};
+ghost use Rattle.wh_model.specs.Execution.Store.{bytes_at};
+ghost use Rattle.wh_host_model.specs.Space.Stores.{Touches};
+ghost use Rattle.wh_model.specs.declared.memory.Got.TheVariants.{Value};
+ghost use Rattle.wh_space.specs.Steps.{LeavesLoad};
+
+use crate::frames::{frame_under, read_frame};
+use crate::memory::Memory;
+use crate::pages::{is_near, len_at, page_of, touch};
+use wh_frames::FramePool;
+use wh_host_model::Page;
+use wh_model::{Got, Need};
+
+// Makes all bytes 0.
+fn clear(into: &mut [u8])
+    ensures { into.new ≡ replicate (length into.old) 0 }
+{
+    into.fill(0);
+}
+
+// Reads bytes of a page. Where it isn't at hand nothing is done, and the answer is false.
+#[inline(always)]
+fn read_page(pool: &FramePool, page: Page, offset: usize, into: &mut [u8]) -> bool
+    requires taken { (f : ℕ) → frame_of page ≡ Some f → IsTaken pool.now f }
+    requires inside { offset + length into.old ≤ 4096 }
+    ensures hand { MatchBool result (IsAtHand (Some page)) (¬ IsAtHand (Some page)) }
+    ensures read { IsTrue result → (b : Backing) → b.frames ≡ pool.now.frames
+        → into.new ≡ bytes_at (page_bytes b page) offset (length into.old) }
+    ensures left { IsFalse result → into.new ≡ into.old }
+{
+    if let Some(frame) = frame_under(page) {
+        read_frame(pool, frame, offset, into);
+        true
+    } else if let Page::Untouched = page {
+        clear(into);
+        true
+    } else {
+        false
+    }
+}
+
+impl Memory {
+    // Whether so many bytes from a place on are in the memory of the instance.
+    #[inline(always)]
+    pub(crate) fn fits(&self, place: usize, at: u64, count: usize) -> bool
+        ensures fits { IsTrue result
+            ↔ (at + count ≤ 4096 * length (get_or self.now.tables place [])) }
+        ensures few { length (get_or self.now.tables place []) < 2 ^ 32 }
+    {
+        let pages = len_at(&self.tables, place);
+        at.saturating_add(count as u64) <= 4096 * u64::from(pages)
+    }
+
+    // Reads bytes of a page, and marks it as touched. Where the page isn't at hand nothing is done, and the answer is
+    // false.
+    #[inline(always)]
+    fn load_inside(&mut self, place: usize, number: u32, offset: usize, into: &mut [u8]) -> bool
+        requires page { number < length (get_or self.old.tables place []) }
+        requires inside { offset + length into.old ≤ 4096 }
+        ensures hand { MatchBool result (IsAtHand (page_at self.old.tables place number))
+            (¬ IsAtHand (page_at self.old.tables place number)) }
+        ensures read { IsTrue result
+            → into.new ≡ bytes_at (view self.old place) (4096 * number + offset) (length into.old) }
+        ensures touched { IsTrue result
+            → self.new ≡ record self.old { touched = put self.old.touched place number true } }
+        ensures unchanged { IsFalse result → self.new ≡ self.old }
+        ensures left { IsFalse result → into.new ≡ into.old }
+    {
+        let page = page_of(&self.tables, place, number);
+        if !read_page(&self.pool, page, offset, into) {
+            return false;
+        }
+        touch(&mut self.tables, place, number);
+        true
+    }
+
+    // Whether the page is untouched or resident.
+    pub(crate) fn is_at_hand(&self, place: usize, number: u32) -> bool
+        requires { number < length (get_or self.now.tables place []) }
+        ensures { MatchBool result (IsAtHand (page_at self.now.tables place number))
+            (¬ IsAtHand (page_at self.now.tables place number)) }
+    {
+        is_near(page_of(&self.tables, place, number))
+    }
+
+    // Reads bytes of a page and the next.
+    fn load_over(&mut self, place: usize, at: u64, into: &mut [u8]) -> Got
+        requires few { length into.old ≤ 4096 }
+        requires over { 4096 < at % 4096 + length into.old }
+        requires fits { at + length into.old ≤ 4096 * length (get_or self.old.tables place []) }
+        requires pages { length (get_or self.old.tables place []) < 2 ^ 32 }
+        ensures loads { Loads (Ready self.old place) (view self.old place)
+            at into.old result into.new }
+        ensures leaves { LeavesLoad self.old place at (length into.old) result self.new }
+    {
+        let _ = &self.tax;
+        let need = Need {
+            at,
+            length: into.len(),
+            writes: false,
+        };
+        let number = (at / 4096) as u32;
+        let offset = (at % 4096) as usize;
+        let (here, there) = into.split_at_mut(4096 - offset);
+        if !self.is_at_hand(place, number) {
+            return Got::NotReady(need);
+        }
+        if !self.load_inside(place, number + 1, 0, there) {
+            return Got::NotReady(need);
+        }
+        let _ = self.load_inside(place, number, offset, here);
+        Got::Value
+    }
+
+    /// Reads bytes of the instance at this place, from this one on, and marks their pages as touched.
+    ///
+    /// It answers `Trap` where they aren't all in its memory, and `NotReady` where a page of them is in a slot or on the
+    /// way from one. Then nothing is done. It takes no frame.
+    #[inline(always)]
+    pub fn load(&mut self, place: usize, at: u64, into: &mut [u8]) -> Got
+        requires few { length into.old ≤ 4096 }
+        ensures loads { Loads (Ready self.old place) (view self.old place)
+            at into.old result into.new }
+        ensures leaves { LeavesLoad self.old place at (length into.old) result self.new }
+    {
+        let _ = &self.tax;
+        if !self.fits(place, at, into.len()) {
+            return Got::Trap;
+        }
+        if into.is_empty() {
+            return Got::Value;
+        }
+        let offset = (at % 4096) as usize;
+        if offset + into.len() > 4096 {
+            return self.load_over(place, at, into);
+        }
+        if self.load_inside(place, (at / 4096) as u32, offset, into) {
+            Got::Value
+        } else {
+            Got::NotReady(Need {
+                at,
+                length: into.len(),
+                writes: false,
+            })
+        }
+    }
+
+    /// Reads bytes as `load` does, where they lie on one page that is at hand. Where they don't nothing is done, and the
+    /// answer is false.
+    #[inline(always)]
+    pub fn quick_load(&mut self, place: usize, at: u64, into: &mut [u8]) -> bool
+        requires few { length into.old ≤ 4096 }
+        ensures loads { IsTrue result → Loads (Ready self.old place) (view self.old place)
+            at into.old Value into.new }
+        ensures leaves { IsTrue result → Touches self.old place at (length into.old) self.new }
+        ensures unchanged { IsFalse result → self.new ≡ self.old }
+        ensures left { IsFalse result → into.new ≡ into.old }
+    {
+        let _ = &self.tax;
+        let offset = (at % 4096) as usize;
+        if into.is_empty() || offset + into.len() > 4096 {
+            return false;
+        }
+        if !self.fits(place, at, into.len()) {
+            return false;
+        }
+        self.load_inside(place, (at / 4096) as u32, offset, into)
+    }
+}

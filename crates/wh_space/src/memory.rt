@@ -1,0 +1,43 @@
+// The memory as its callers see it.
+
+ghost use Rattle.wh_host_model.specs.Space.Sound.{IsSound};
+
+use crate::guest::Guest;
+use std::marker::Model;
+use wh_content::Table;
+use wh_frames::FramePool;
+use wh_host_model::Tax;
+use wh_pages::PageTable;
+
+/// The memory of all instances, by their places, on one pool of frames.
+#[derive(Drop)]
+pub struct Memory {
+    pub(crate) guests: Vec<Option<Guest>>,
+    pub(crate) tables: Vec<PageTable>,
+    pub(crate) pool: FramePool,
+    pub(crate) content: Table,
+    pub(crate) slots: u32,
+    pub(crate) tax: Tax,
+}
+
+impl Model for Memory {
+    ghost use Rattle.wh_host_model.specs.Space.Parts.{Space};
+
+    ghost Value = { Space };
+
+    ghost use Rattle.wh_space.specs.Parts.{space_of, IsWell};
+
+    ghost view = { space_of };
+
+    ghost invariant = { IsWell };
+}
+
+impl Memory {
+    /// What always holds of the memory.
+    #[inline(always)]
+    pub fn known(&self)
+        ensures sound { IsSound self.now }
+    {
+        let _ = &self.tax;
+    }
+}

@@ -1,0 +1,126 @@
+// Whether a step can be taken at once.
+
+ghost use Rattle.std.specs.Prelude.{◌≡◌, ◌↔◌, ◌+◌, ◌^◌, ◌<◌, ◌≤◌, ℕ, [], ◌∷◌, Some, true, IsTrue, MatchBool, length, get_or};
+ghost use Rattle.wh_host_model.specs.Space.Parts.{sharers};
+ghost use Rattle.wh_host_model.specs.Space.Ready.{Ready, frames_for};
+ghost use Rattle.wh_space.specs.Steps.{CanStep, SharesAlone, frame_shared};
+
+use crate::memory::Memory;
+use crate::pages::{len_at, page_of};
+use wh_host_model::Page;
+use wh_model::Need;
+
+// The frame that a page shares, if it shares one.
+fn shared_under(page: Page) -> Option<u32>
+    ensures { result ≡ frame_shared page }
+{
+    match page {
+        Page::Untouched => None,
+        Page::Private(_) => None,
+        Page::Shared(frame) => Some(frame),
+        Page::Leaving(_) => None,
+        Page::LeavingShared(frame) => Some(frame),
+        Page::Coming(_) => None,
+        Page::Swapped(_) => None,
+    }
+}
+
+impl Memory {
+    // How many frames a write to this page wants.
+    fn wanted(&self, place: usize, number: u32) -> u32
+        requires { number < length (get_or self.now.tables place []) }
+        ensures count { result ≡ frames_for self.now place (number ∷ []) }
+        ensures few { result ≤ 1 }
+    {
+        let page = page_of(&self.tables, place, number);
+        if let Some(frame) = shared_under(page) {
+            if self.sharers_of(frame) > 1 {
+                return 1;
+            }
+            return 0;
+        }
+        if let Page::Untouched = page {
+            return 1;
+        }
+        0
+    }
+
+    // Whether two pages share a frame with nobody else.
+    fn share_alone(&self, place: usize, number: u32) -> bool
+        requires page { number + 1 < length (get_or self.now.tables place []) }
+        requires few { number + 1 < 2 ^ 32 }
+        ensures { IsTrue result ↔ SharesAlone self.now place number (number + 1) }
+    {
+        let Some(frame) = shared_under(page_of(&self.tables, place, number)) else {
+            return false;
+        };
+        let Some(other) = shared_under(page_of(&self.tables, place, number + 1)) else {
+            return false;
+        };
+        if frame != other {
+            return false;
+        }
+        self.sharers_of(frame) == 2
+    }
+
+    // How many frames a write to this page and the next wants.
+    fn wanted_by_both(&self, place: usize, number: u32) -> u32
+        requires page { number + 1 < length (get_or self.now.tables place []) }
+        requires few { number + 1 < 2 ^ 32 }
+        ensures { result ≡ frames_for self.now place (number ∷ (number + 1) ∷ []) }
+    {
+        let _ = &self.tax;
+        let each = self.wanted(place, number) + self.wanted(place, number + 1);
+        if self.share_alone(place, number) {
+            each - 1
+        } else {
+            each
+        }
+    }
+
+    // Whether a step on one page can be taken.
+    fn can_step(&self, place: usize, number: u32, writes: bool) -> bool
+        requires { number < length (get_or self.now.tables place []) }
+        ensures { MatchBool result (CanStep self.now place writes (number ∷ []))
+            (¬ CanStep self.now place writes (number ∷ [])) }
+    {
+        let _ = &self.tax;
+        self.is_at_hand(place, number)
+            && (!writes || self.wanted(place, number) <= self.pool.free())
+    }
+
+    // Whether a step on this page and the next can be taken.
+    fn can_step_over(&self, place: usize, number: u32, writes: bool) -> bool
+        requires page { number + 1 < length (get_or self.now.tables place []) }
+        requires few { number + 1 < 2 ^ 32 }
+        ensures { MatchBool result (CanStep self.now place writes (number ∷ (number + 1) ∷ []))
+            (¬ CanStep self.now place writes (number ∷ (number + 1) ∷ [])) }
+    {
+        let _ = &self.tax;
+        self.is_at_hand(place, number)
+            && self.is_at_hand(place, number + 1)
+            && (!writes || self.wanted_by_both(place, number) <= self.pool.free())
+    }
+
+    /// Whether the instance at this place can take a step that reads or writes these bytes at once: their pages are in
+    /// its memory and untouched or on frames, and there are frames for what it writes.
+    pub fn is_ready(&self, place: usize, need: Need) -> bool
+        ensures { MatchBool result (Ready self.now place need) (¬ Ready self.now place need) }
+    {
+        if need.length == 0 {
+            return true;
+        }
+        let pages = u64::from(len_at(&self.tables, place));
+        let first = need.at / 4096;
+        if need.length > 4096 - (need.at % 4096) as usize {
+            if first + 1 >= pages {
+                return false;
+            }
+            return self.can_step_over(place, first as u32, need.writes);
+        }
+        if first >= pages {
+            return false;
+        }
+        self.can_step(place, first as u32, need.writes)
+    }
+}

@@ -1,0 +1,47 @@
+// Where an instance stands for a frame.
+
+ghost use Rattle.std.specs.Prelude.{◌≡◌, ◌+◌, ◌*◌, ◌<◌, ◌≤◌, [], None, Some, length, get_or, slice_set};
+ghost use Rattle.wh_host_model.specs.Space.Parts.{Occupant, occupant_at};
+ghost use Rattle.wh_host_model.specs.Space.Stores.{ended, stood};
+ghost use Rattle.wh_model.specs.declared.memory.Need.{Need as Bytes};
+ghost use Rattle.wh_space.specs.Guests.{stands_for};
+
+use crate::guest::Guest;
+use crate::memory::Memory;
+use wh_model::Need;
+
+// Whoever is at this place stands for a frame at these bytes, or for none.
+fn stand_at(guests: &mut Vec<Option<Guest>>, place: usize, need: Option<Need>)
+    requires { place < length guests.old.items }
+    ensures { guests.new.items ≡ slice_set guests.old.items place
+        (stands_for (get_or guests.old.items place None) need) }
+{
+    if let Some(guest) = guests[place] {
+        guests[place] = Some(Guest {
+            stands: need,
+            ..guest
+        });
+    }
+}
+
+impl Memory {
+    /// The instance at this place stands for a frame at these bytes, which are in its memory and at most 4096; or for
+    /// none.
+    pub fn stand(&mut self, place: usize, need: Option<Need>)
+        requires there { (t : Occupant) × occupant_at self.old place t }
+        requires within { (want : Bytes) → need ≡ Some want
+            → want.at + want.length ≤ 4096 * length (get_or self.old.tables place []) }
+        requires few { (want : Bytes) → need ≡ Some want → want.length ≤ 4096 }
+        ensures { self.new ≡ stood self.old place need }
+    {
+        stand_at(&mut self.guests, place, need);
+    }
+
+    /// The step was taken for which the instance at this place stood, or its call was cancelled: it stands for none.
+    pub fn end(&mut self, place: usize)
+        requires { (t : Occupant) × occupant_at self.old place t }
+        ensures { self.new ≡ ended self.old place }
+    {
+        stand_at(&mut self.guests, place, None);
+    }
+}

@@ -1,0 +1,85 @@
+// The memory of one instance, lent for its steps.
+
+ghost use Rattle.std.proofs.Common.{◌∙◌};
+ghost use Rattle.std.specs.Prelude.{◌≡◌, refl};
+ghost use Rattle.wh_host_model.specs.Space.Parts.{view};
+ghost use Rattle.wh_host_model.specs.Space.Ready.{Ready};
+ghost use Rattle.wh_space.specs.Steps.{page_limit};
+ghost use Rattle.wh_space.specs.Views.{KeepsRest, keeps_all, keeps_on, keeps_page_limit};
+
+use crate::memory::Memory;
+use wh_linmem::LinearMem;
+use wh_model::{Got, Grown, Need};
+
+/// The memory of the instance at one place: a flat list of bytes of its own, though all pages lie on
+/// shared frames. Its steps leave all else as it was.
+///
+/// Where nobody is it has no bytes, and doesn't grow.
+#[derive(Drop)]
+pub struct View<'a> {
+    /// The memory of all.
+    pub memory: &'a mut Memory,
+    /// The place.
+    pub place: usize,
+}
+
+impl<'a> LinearMem for View<'a> {
+    ghost bytes = { λ v. view v.memory.now v.place };
+
+    ghost limit = { λ v. page_limit v.memory.now v.place };
+
+    ghost ready = { λ v need. Ready v.memory.now v.place need };
+
+    ghost keeps = { λ v w. (v.memory.ghost_name ≡ w.memory.ghost_name) × (w.place ≡ v.place)
+        × KeepsRest v.place v.memory.now w.memory.now };
+
+    fn is_ready(&self, need: Need) -> bool {
+        self.memory.is_ready(self.place, need)
+    }
+
+    #[inline(always)]
+    fn load(&mut self, at: u64, into: &mut [u8]) -> Got {
+        self.memory.known();
+        self.memory.load(self.place, at, into)
+    }
+
+    #[inline(always)]
+    fn store(&mut self, at: u64, given: &[u8]) -> Got {
+        self.memory.known();
+        self.memory.store(self.place, at, given)
+    }
+
+    #[inline(always)]
+    fn quick_load(&mut self, at: u64, into: &mut [u8]) -> bool {
+        self.memory.known();
+        self.memory.quick_load(self.place, at, into)
+    }
+
+    #[inline(always)]
+    fn quick_store(&mut self, at: u64, given: &[u8]) -> bool {
+        self.memory.known();
+        self.memory.quick_store(self.place, at, given)
+    }
+
+    fn size(&self) -> u32 {
+        self.memory.size(self.place)
+    }
+
+    fn grow(&mut self, pages: u32) -> Grown {
+        let grown = self.memory.grow(self.place, pages);
+        self.memory.known();
+        grown
+    }
+
+    ghost keeps_same = { λ v. (refl, refl, keeps_all v.place v.memory.now) };
+
+    ghost keeps_more = { λ a b c first second. (
+      first.0 ∙ second.0,
+      second.1 ∙ first.1,
+      keeps_on a.place b.place a.memory.now b.memory.now c.memory.now
+          first.1 first.2 second.2,
+    ) };
+
+    ghost keeps_limit = { λ a b keeps.
+        keeps_page_limit a.place b.place a.memory.now b.memory.now keeps.1 keeps.2 };
+}
