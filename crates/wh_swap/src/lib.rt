@@ -1,0 +1,9 @@
+//! The device to which pages are swapped: a trait, and devices in memory and over a stream.
+#![tactic(auto)]
+
+mod counts;
+mod device;
+mod memory;
+
+pub use device::SwapDev;
+pub use memory::MemSwap;
