@@ -4,6 +4,11 @@
 mod counts;
 mod device;
 mod memory;
+mod pages;
+mod stream;
+mod written;
 
 pub use device::SwapDev;
 pub use memory::MemSwap;
+pub use pages::{Pages, StreamPages};
+pub use stream::{PageSwap, StreamSwap};

@@ -1,6 +1,6 @@
 use Rattle.std.proofs.Common.{None, Some, refl, ap, map, ◌∙◌}
 use Rattle.wh_swap.specs.Memory.{slot_bytes}
-use Rattle.wh_swap.proofs.Pages.{map-replicate}
+use Rattle.wh_swap.proofs.Seen.{map-replicate}
 use Rattle.wh_swap.proofs.memory.MemSwap.new.Goals as goal
 
 pub returns-clause-held : goal.returns-clause-held
