@@ -1,6 +1,6 @@
 // A swap device over pages that lie elsewhere, as in a file.
 
-ghost use Rattle.std.specs.Prelude.{◌≡◌, ◌≢◌, ℕ, None, [], length, replicate, IfOk, OnOk, IfErr, IsErrOf};
+ghost use Rattle.std.specs.Prelude.{◌≡◌, ◌≢◌, ◌+◌, ◌<◌, ℕ, None, [], length, get_or, replicate, IfOk, OnOk, OnErr, IfErr, IsErrOf};
 ghost use Rattle.sha2.specs.Sha256.{sha256};
 ghost use Rattle.wh_swap.specs.Written.{all_written, AreKept};
 
@@ -111,7 +111,31 @@ impl<P: Pages> SwapDev for PageSwap<P> {
 
     ghost keeps = { λ device. P.tells device.pages × AreKept (P.page device.pages) (all_written device.slots.items) };
 
-    fn read(&mut self, slot: u32, into: &mut [u8; 4096]) -> Result<(), SwapError> {
+    fn read(&mut self, slot: u32, into: &mut [u8; 4096]) -> Result<(), SwapError>
+        requires there { slot < length (all_written self.old.slots.items) }
+
+        // What the trait says, and what `Damaged` means.
+        ensures fits { OnOk result (sha256 into.new ≡ sha256 (get_or (all_written self.old.slots.items) slot [])) }
+        ensures damaged { IsErrOf result SwapError.Damaged
+            → get_or (all_written self.old.slots.items) slot [] ≢ []
+            → sha256 into.new ≢ sha256 (get_or (all_written self.old.slots.items) slot []) }
+        ensures never { get_or (all_written self.old.slots.items) slot [] ≡ [] → IsErrOf result SwapError.Damaged }
+        ensures bytes { OnOk result (self.new.misread.numbers ≡ []
+            → get_or (all_written self.old.slots.items) slot [] ≢ []
+            → into.new ≡ get_or (all_written self.old.slots.items) slot []) }
+        ensures held { all_written self.new.slots.items ≡ all_written self.old.slots.items }
+        ensures writes { length self.new.writes.numbers ≡ length self.old.writes.numbers }
+        ensures ok { OnOk result (length self.new.failed.numbers ≡ length self.old.failed.numbers) }
+        ensures err { OnErr result (length self.new.failed.numbers ≡ length self.old.failed.numbers + 1) }
+        ensures which { IfErr result (λ fault. fault ≢ SwapError.Write) }
+        ensures honest { self.new.misread.numbers ≡ [] → self.old.misread.numbers ≡ [] }
+        ensures keeps { P.tells self.old.pages
+            × AreKept (P.page self.old.pages) (all_written self.old.slots.items)
+            → P.tells self.new.pages × AreKept (P.page self.new.pages) (all_written self.new.slots.items) }
+        ensures kept { P.tells self.old.pages
+            × AreKept (P.page self.old.pages) (all_written self.old.slots.items)
+            → self.old.misread.numbers ≡ [] → self.new.misread.numbers ≡ [] }
+    {
         let Some(written) = &self.slots[slot as usize] else {
             self.failed = one_more(&self.failed);
             return Err(SwapError::Damaged);
