@@ -5,10 +5,14 @@ mod counts;
 mod device;
 mod memory;
 mod pages;
+mod slots;
 mod stream;
+#[cfg(test)]
+mod tests;
 mod written;
 
 pub use device::SwapDev;
 pub use memory::MemSwap;
 pub use pages::{Pages, StreamPages};
+pub use slots::Slots;
 pub use stream::{PageSwap, StreamSwap};
