@@ -1,7 +1,7 @@
 -- Numbers that stand at most once.
-use Rattle.std.proofs.Common.{◌≡◌, ◌≢◌, ℕ, zero, suc, ◌+◌, ◌<◌, ◌≤◌, ◌++◌, List, [], ◌∷◌, length, refl, sym, arith, inl, inr}
+use Rattle.std.proofs.Common.{◌≡◌, ℕ, zero, suc, ◌+◌, ◌<◌, ◌++◌, List, [], ◌∷◌, length, refl, subst, ◌∙◌, arith, inl, inr}
 use Rattle.std.proofs.lemmas.Bool.{cases_eq, cases_lt}
-use Rattle.std.proofs.lemmas.List.{length-append}
+use Rattle.std.proofs.lemmas.List.{append_assoc, length-append}
 use Rattle.wh_host_model.specs.Frames.{tally, one_if}
 use Rattle.wh_host_model.specs.Space.Parts.{numbers_below}
 use Rattle.wh_host_model.proofs.Tally.{tally-append, one_same, one_other, length-le_from_once}
@@ -49,3 +49,10 @@ pub once_room : (n s : ℕ) (xs : List ℕ) → AreOnce n xs → s < n → tally
 once_room n s xs were below new =
     let more = once_given n s xs were below new in
     omega (arith, length-le_from_once n (xs ++ s ∷ []) more.once more.below, length-append xs (s ∷ []))
+
+-- the next number behind the ones that are there
+pub numbers_next : (left next : ℕ) (xs ys all : List ℕ) → left ≡ next + 1 → ys ≡ xs ++ next ∷ []
+    → xs ++ numbers_below left ≡ all → ys ++ numbers_below next ≡ all
+numbers_next left next xs ys all step is kept =
+    let e : left ≡ suc next = omega (arith, step) in
+    rw is (append_assoc xs (next ∷ []) (numbers_below next) ∙ subst (λ n. xs ++ numbers_below n ≡ all) e kept)

@@ -48,6 +48,7 @@ pub trait SwapDev {
         requires there { slot < length (held self.old) }
         ensures written { OnOk result (held self.new ≡ slice_set (held self.old) slot from.now) }
         ensures open { OnErr result (held self.new ≡ slice_set (held self.old) slot []) }
+        ensures slots { length (held self.new) ≡ length (held self.old) }
         ensures writes { writes self.new ≡ writes self.old + 1 }
         ensures ok { OnOk result (failed self.new ≡ failed self.old) }
         ensures err { OnErr result (failed self.new ≡ failed self.old + 1) }

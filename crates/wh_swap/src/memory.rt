@@ -58,6 +58,7 @@ impl SwapDev for MemSwap {
         requires there { slot < length (memory_held self.old) }
         ensures ok { IsOk result }
         ensures written { memory_held self.new ≡ slice_set (memory_held self.old) slot from.now }
+        ensures slots { length (memory_held self.new) ≡ length (memory_held self.old) }
         ensures writes { memory_writes self.new ≡ memory_writes self.old + 1 }
     {
         self.slots[slot as usize] = Some(*from);
