@@ -31,7 +31,8 @@ struct Reading {
 struct Misread;
 
 impl Names<Reading> for Misread {
-    ghost numbers = { λ r. counted_misread r.misread.value.numbers r.wrote.value.bytes.value r.read.value };
+    ghost numbers = { λ r. counted_misread r.misread.value.numbers r.wrote.value.bytes.value
+        r.read.value };
 }
 
 // The same, with one more number where other bytes were read than were written.

@@ -35,7 +35,8 @@ pub trait Pages {
 
 // Goes to where a page begins.
 fn go_to<S: Seek>(stream: &mut S, page: u32) -> io::Result<()>
-    ensures moves { MovesTo (S.stream_position stream.old) (S.stream_position stream.new) (4096 * page) result }
+    ensures moves { MovesTo (S.stream_position stream.old) (S.stream_position stream.new)
+        (4096 * page) result }
     ensures bytes { Keeps (S.stream_bytes stream.old) (S.stream_bytes stream.new) }
 {
     stream.seek(SeekFrom::Start(PAGE * u64::from(page)))?;

@@ -2,7 +2,7 @@
 
 ghost use Rattle.std.specs.Prelude.{◌≡◌, ◌≢◌, ◌+◌, ◌<◌, ℕ, None, [], length, get_or, replicate, IfOk, OnOk, OnErr, IfErr, IsErrOf};
 ghost use Rattle.sha2.specs.Sha256.{sha256};
-ghost use Rattle.wh_swap.specs.Written.{all_written, AreKept};
+ghost use Rattle.wh_swap.specs.Written.{AreKept, HasReadRight, page_held, page_writes, page_failed};
 
 use crate::counts::{compared, one_more};
 use crate::written::Written;
@@ -48,7 +48,8 @@ fn fetch<P: Pages>(
     ensures kept { P.tells pages.old → (k : ℕ) → P.page pages.new k ≡ P.page pages.old k }
     ensures bytes { OnOk result (P.tells pages.old → into.new ≡ P.page pages.old at) }
     ensures fits { OnOk result (sha256 into.new ≡ sha256 written.now.bytes.value) }
-    ensures damaged { IsErrOf result SwapError.Damaged → sha256 into.new ≢ sha256 written.now.bytes.value }
+    ensures damaged { IsErrOf result SwapError.Damaged
+        → sha256 into.new ≢ sha256 written.now.bytes.value }
     ensures which { IfErr result (λ fault. fault ≢ SwapError.Write) }
 {
     if pages.get(at, into).is_err() {
@@ -68,12 +69,12 @@ impl<P: Pages> PageSwap<P> {
     pub fn over(alloc: Global, pages: P, slots: u32) -> Result<PageSwap<P>, AllocError>
     where
         P: Drop,
-        ensures held { IfOk result (λ device. all_written device.slots.items ≡ replicate slots []) }
-        ensures writes { IfOk result (λ device. device.writes.numbers ≡ []) }
-        ensures failed { IfOk result (λ device. device.failed.numbers ≡ []) }
-        ensures honest { IfOk result (λ device. device.misread.numbers ≡ []) }
+        ensures held { IfOk result (λ device. page_held device ≡ replicate slots []) }
+        ensures writes { IfOk result (λ device. page_writes device ≡ 0) }
+        ensures failed { IfOk result (λ device. page_failed device ≡ 0) }
+        ensures honest { IfOk result HasReadRight }
         ensures keeps { IfOk result (λ device. P.tells pages
-            → P.tells device.pages × AreKept (P.page device.pages) (all_written device.slots.items)) }
+            → P.tells device.pages × AreKept (P.page device.pages) (page_held device)) }
     {
         Ok(PageSwap {
             pages,
@@ -91,50 +92,53 @@ impl<F: Read + Write + Seek + Drop> PageSwap<StreamPages<F>> {
     /// # Errors
     /// Where room was refused.
     pub fn new(alloc: Global, stream: F, slots: u32) -> Result<StreamSwap<F>, AllocError>
-        ensures held { IfOk result (λ device. all_written device.slots.items ≡ replicate slots []) }
-        ensures writes { IfOk result (λ device. device.writes.numbers ≡ []) }
-        ensures failed { IfOk result (λ device. device.failed.numbers ≡ []) }
-        ensures honest { IfOk result (λ device. device.misread.numbers ≡ []) }
+        ensures held { IfOk result (λ device. page_held device ≡ replicate slots []) }
+        ensures writes { IfOk result (λ device. page_writes device ≡ 0) }
+        ensures failed { IfOk result (λ device. page_failed device ≡ 0) }
+        ensures honest { IfOk result HasReadRight }
     {
         PageSwap::over(alloc, StreamPages::new(stream), slots)
     }
 }
 
 impl<P: Pages> SwapDev for PageSwap<P> {
-    ghost held = { λ device. all_written device.slots.items };
+    ghost held = { page_held };
 
-    ghost writes = { λ device. length device.writes.numbers };
+    ghost writes = { page_writes };
 
-    ghost failed = { λ device. length device.failed.numbers };
+    ghost failed = { page_failed };
 
-    ghost honest = { λ device. device.misread.numbers ≡ [] };
+    ghost honest = { HasReadRight };
 
-    ghost keeps = { λ device. P.tells device.pages × AreKept (P.page device.pages) (all_written device.slots.items) };
+    ghost keeps = { λ device. P.tells device.pages
+        × AreKept (P.page device.pages) (page_held device) };
 
     fn read(&mut self, slot: u32, into: &mut [u8; 4096]) -> Result<(), SwapError>
-        requires there { slot < length (all_written self.old.slots.items) }
+        requires there { slot < length (page_held self.old) }
 
         // What the trait says, and what `Damaged` means.
-        ensures fits { OnOk result (sha256 into.new ≡ sha256 (get_or (all_written self.old.slots.items) slot [])) }
+        ensures fits { OnOk result
+            (sha256 into.new ≡ sha256 (get_or (page_held self.old) slot [])) }
         ensures damaged { IsErrOf result SwapError.Damaged
-            → get_or (all_written self.old.slots.items) slot [] ≢ []
-            → sha256 into.new ≢ sha256 (get_or (all_written self.old.slots.items) slot []) }
-        ensures never { get_or (all_written self.old.slots.items) slot [] ≡ [] → IsErrOf result SwapError.Damaged }
-        ensures bytes { OnOk result (self.new.misread.numbers ≡ []
-            → get_or (all_written self.old.slots.items) slot [] ≢ []
-            → into.new ≡ get_or (all_written self.old.slots.items) slot []) }
-        ensures held { all_written self.new.slots.items ≡ all_written self.old.slots.items }
-        ensures writes { length self.new.writes.numbers ≡ length self.old.writes.numbers }
-        ensures ok { OnOk result (length self.new.failed.numbers ≡ length self.old.failed.numbers) }
-        ensures err { OnErr result (length self.new.failed.numbers ≡ length self.old.failed.numbers + 1) }
+            → get_or (page_held self.old) slot [] ≢ []
+            → sha256 into.new ≢ sha256 (get_or (page_held self.old) slot []) }
+        ensures never { get_or (page_held self.old) slot [] ≡ []
+            → IsErrOf result SwapError.Damaged }
+        ensures bytes { OnOk result (HasReadRight self.new
+            → get_or (page_held self.old) slot [] ≢ []
+            → into.new ≡ get_or (page_held self.old) slot []) }
+        ensures held { page_held self.new ≡ page_held self.old }
+        ensures writes { page_writes self.new ≡ page_writes self.old }
+        ensures ok { OnOk result (page_failed self.new ≡ page_failed self.old) }
+        ensures err { OnErr result (page_failed self.new ≡ page_failed self.old + 1) }
         ensures which { IfErr result (λ fault. fault ≢ SwapError.Write) }
-        ensures honest { self.new.misread.numbers ≡ [] → self.old.misread.numbers ≡ [] }
+        ensures honest { HasReadRight self.new → HasReadRight self.old }
         ensures keeps { P.tells self.old.pages
-            × AreKept (P.page self.old.pages) (all_written self.old.slots.items)
-            → P.tells self.new.pages × AreKept (P.page self.new.pages) (all_written self.new.slots.items) }
+            × AreKept (P.page self.old.pages) (page_held self.old)
+            → P.tells self.new.pages × AreKept (P.page self.new.pages) (page_held self.new) }
         ensures kept { P.tells self.old.pages
-            × AreKept (P.page self.old.pages) (all_written self.old.slots.items)
-            → self.old.misread.numbers ≡ [] → self.new.misread.numbers ≡ [] }
+            × AreKept (P.page self.old.pages) (page_held self.old)
+            → HasReadRight self.old → HasReadRight self.new }
     {
         let Some(written) = &self.slots[slot as usize] else {
             self.failed = one_more(&self.failed);
