@@ -1,3 +1,4 @@
+pub mod Faults
 pub mod Frames
 pub mod Hash
 pub mod Pages

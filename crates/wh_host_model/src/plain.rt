@@ -1,5 +1,8 @@
 //! The plain types that the host's definitions and its code share.
 
+ghost use Rattle.std.specs.Prelude.{◌≡◌};
+ghost use Rattle.wh_host_model.specs.Faults.{swap_number};
+
 /// What a turn comes to.
 #[derive(Clone, Copy, Debug, PartialEq, Eq)]
 pub enum TurnEnd {
@@ -24,6 +27,19 @@ pub enum SwapError {
     Write,
     /// A slot holds other bytes than were written to it.
     Damaged,
+}
+
+impl SwapError {
+    /// The number by which replies name the fault, 1 to 3.
+    pub fn number(self) -> u8
+        ensures { result ≡ swap_number self }
+    {
+        match self {
+            SwapError::Read => 1,
+            SwapError::Write => 2,
+            SwapError::Damaged => 3,
+        }
+    }
 }
 
 /// Which instance is meant.

@@ -1,0 +1,13 @@
+use Rattle.std.proofs.Common.{◌≡◌, ◌≤◌, ◌++◌, vec_capacity}
+use Rattle.wh_host_model.specs.Space.Parts.{numbers_below}
+use Rattle.wh_swap.proofs.slots.numbers.Given as goal
+
+-- the greatest are there, and the ones below `left` are to come
+abbrev pub invariant-loop-left : goal.invariant-loop-left
+invariant-loop-left l = record {
+  items : l.list.items ++ numbers_below l.left ≡ numbers_below l.count;
+  room : l.count ≤ vec_capacity l.list;
+}
+
+abbrev pub decreases-loop-left : goal.decreases-loop-left
+decreases-loop-left l = l.left

@@ -1,0 +1,4 @@
+pub mod Memory
+pub mod SlotParts
+pub mod Uses
+pub mod Written

@@ -1,0 +1,125 @@
+// What each slot of the device is used for.
+
+ghost use Rattle.std.specs.Prelude.{◌≡◌, ◌<◌, ◌≤◌, ◌++◌, [], ◌∷◌, length, replicate, slice_get, slice_set, Some, IfSome, IfOk, IfNone, vec_len, vec_capacity};
+ghost use Rattle.wh_host_model.specs.Frames.{tally, one_if};
+ghost use Rattle.wh_host_model.specs.Space.Parts.{numbers_below};
+ghost use Rattle.wh_host_model.specs.declared.states.Slot.TheVariants.{Vacant};
+
+use std::alloc::{AllocError, Global};
+use std::marker::Model;
+use wh_host_model::Slot;
+
+/// What each slot is used for, and which are vacant. No call but `new` takes memory or goes over the slots.
+#[derive(Drop)]
+pub struct Slots {
+    uses: Vec<Slot>,
+    vacant: Vec<u32>,
+}
+
+impl Model for Slots {
+    ghost use Rattle.wh_swap.specs.Uses.{SlotUses};
+
+    ghost Value = { SlotUses };
+
+    ghost use Rattle.wh_swap.specs.SlotParts.{uses_of, HasRoomForAll};
+
+    ghost view = { uses_of };
+
+    ghost invariant = { HasRoomForAll };
+}
+
+// So many numbers, the greatest first.
+fn numbers(alloc: Global, count: u32) -> Result<Vec<u32>, AllocError>
+    ensures items { IfOk result (λ list. list.items ≡ numbers_below count) }
+    ensures room { IfOk result (λ list. count ≤ vec_capacity list) }
+{
+    let mut list = Vec::with_capacity(alloc, count as usize)?;
+    let mut left = count;
+    while left > 0 {
+        left -= 1;
+        list.push(left)?;
+    }
+    Ok(list)
+}
+
+// Adds a number.
+fn add(list: &mut Vec<u32>, number: u32)
+    requires { vec_len list.old < vec_capacity list.old }
+    ensures items { list.new.items ≡ list.old.items ++ number ∷ [] }
+    ensures room { vec_capacity list.old ≤ vec_capacity list.new }
+{
+    let Ok(()) = list.push(number) else {
+        unreachable!()
+    };
+}
+
+impl Slots {
+    /// So many slots, all vacant. All memory is taken here.
+    ///
+    /// # Errors
+    /// Where room was refused.
+    pub fn new(alloc: Global, slots: u32) -> Result<Slots, AllocError>
+        ensures uses { IfOk result (λ made. made.uses ≡ replicate slots Vacant) }
+        ensures vacant { IfOk result (λ made. made.vacant ≡ numbers_below slots) }
+    {
+        Ok(Slots {
+            uses: vec![in alloc; Slot::Vacant; slots as usize]?,
+            vacant: numbers(alloc, slots)?,
+        })
+    }
+
+    /// What a slot is used for.
+    pub fn get(&self, slot: u32) -> Slot
+        requires { slot < length self.now.uses }
+        ensures { slice_get self.now.uses slot ≡ Some result }
+    {
+        self.uses[slot as usize]
+    }
+
+    /// A slot is used for this from now on. Whether it is among the vacant ones stays as it is.
+    pub fn set(&mut self, slot: u32, used: Slot)
+        requires { slot < length self.old.uses }
+        ensures { self.new ≡ record self.old { uses = slice_set self.old.uses slot used } }
+    {
+        self.uses[slot as usize] = used;
+    }
+
+    /// Takes a vacant slot, the one that was given back last, and uses it for this; `None` where none is vacant.
+    pub fn take(&mut self, used: Slot) -> Option<u32>
+        ensures uses { IfSome result (λ slot. self.new.uses ≡ slice_set self.old.uses slot used) }
+        ensures vacant { IfSome result (λ slot. self.old.vacant ≡ self.new.vacant ++ slot ∷ []) }
+        ensures there { IfSome result (λ slot. slot < length self.old.uses) }
+        ensures taken { IfSome result (λ slot. tally (one_if slot) self.new.vacant ≡ 0) }
+        ensures none { IfNone result (self.old.vacant ≡ []) }
+        ensures unchanged { IfNone result (self.new ≡ self.old) }
+    {
+        let slot = self.vacant.pop()?;
+        self.uses[slot as usize] = used;
+        Some(slot)
+    }
+
+    /// A slot that is not among the vacant ones is vacant from now on.
+    pub fn give(&mut self, slot: u32)
+        requires there { slot < length self.old.uses }
+        requires taken { tally (one_if slot) self.old.vacant ≡ 0 }
+        ensures uses { self.new.uses ≡ slice_set self.old.uses slot Vacant }
+        ensures vacant { self.new.vacant ≡ self.old.vacant ++ slot ∷ [] }
+    {
+        self.uses[slot as usize] = Slot::Vacant;
+        add(&mut self.vacant, slot);
+    }
+
+    /// How many slots are vacant.
+    pub fn vacant(&self) -> u32
+        ensures { result ≡ length self.now.vacant }
+    {
+        self.vacant.len() as u32
+    }
+
+    /// How many slots there are.
+    pub fn len(&self) -> u32
+        ensures { result ≡ length self.now.uses }
+    {
+        self.uses.len() as u32
+    }
+}
