@@ -9,3 +9,4 @@ pub mod Keeping
 pub mod Entering
 pub mod Summing
 pub mod Stood
+pub mod Merges

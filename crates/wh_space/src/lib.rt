@@ -10,6 +10,7 @@ mod growth;
 mod guest;
 mod loads;
 mod memory;
+mod merging;
 mod pages;
 mod ready;
 mod room;
