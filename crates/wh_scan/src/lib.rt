@@ -1,0 +1,8 @@
+//! The sharing scan: pages with equal bytes come to lie on one frame.
+#![tactic(auto)]
+
+mod offers;
+mod sample;
+
+pub use offers::{offer, offer_at};
+pub use sample::{Sample, take};
