@@ -118,4 +118,20 @@ mod tests {
         assert_eq!(rt; offer(&mut memory, &FnvHash, 0, 5, 0, 77), Offer::Hinted);
         Ok(())
     }
+
+    #[test]
+    fn a_pass_leaves_one_frame_for_a_content(rt: HostRuntime) -> Result<(), Fail> {
+        let mut memory = memory_for_two(&rt, rt.alloc())?;
+        assert_eq!(rt; memory.store(0, 0, &[1]), Got::Value);
+        assert_eq!(rt; memory.store(0, 4096, &[2]), Got::Value);
+        assert_eq!(rt; memory.store(1, 4096, &[1]), Got::Value);
+        assert_eq!(rt; memory.store(1, 61440, &[0]), Got::Value);
+        assert!(rt; memory.has_few_pages());
+        assert!(rt; memory.has_places_below(2));
+        scan_all(&mut memory, &FnvHash, 2);
+        for (place, page, is_alone) in [(0, 0, false), (0, 1, true), (1, 1, false), (1, 15, false)] {
+            assert_eq!(rt; take(&memory, place, page).is_some(), is_alone);
+        }
+        Ok(())
+    }
 }

@@ -1,7 +1,7 @@
 // What may become of a page that is offered for sharing.
 
 ghost use Rattle.std.specs.Bool.{MatchBool};
-ghost use Rattle.std.specs.Prelude.{◌≡◌, ◌≢◌, ◌↔◌, ◌<◌, ℕ, IsTrue, IfSome, IfNone, [], Some, None, false, length, get_or, slice_get};
+ghost use Rattle.std.specs.Prelude.{◌≡◌, ◌≢◌, ◌↔◌, ◌<◌, ◌≤◌, ℕ, IsTrue, IfSome, IfNone, [], Some, None, false, length, get_or, slice_get};
 ghost use Rattle.wh_content.specs.Marks.{IsOnlyWith, frame_of_entry, mark_of_entry};
 ghost use Rattle.wh_host_model.specs.Frames.{IsTaken};
 ghost use Rattle.wh_host_model.specs.Pages.{zero_page};
@@ -51,6 +51,13 @@ impl Memory {
         let slots = self.slots;
         let frames = u64::from(self.pool.used()) + u64::from(self.pool.free());
         frames + u64::from(slots) < 1 << 32
+    }
+
+    /// Whether there are at most so many places.
+    pub fn has_places_below(&self, places: u32) -> bool
+        ensures { IsTrue result ↔ (length self.now.tables ≤ places) }
+    {
+        self.tables.len() <= places as usize
     }
 
     /// Whether the instance of this number is at this place.
