@@ -1,5 +1,5 @@
 -- Pages that are offered one after the other.
-use Rattle.std.proofs.Common.{◌≡◌, ◌+◌, ◌<◌, ◌≤◌, ◌++◌, ℕ, inl, inr, List, [], ◌∷◌, Option, Some, None, get_or, length, map, slice_get, zero, suc, refl, sym, ◌∙◌, ap, subst, arith}
+use Rattle.std.proofs.Common.{◌≡◌, ◌+◌, ◌<◌, ◌≤◌, ◌++◌, ℕ, inl, inr, List, [], ◌∷◌, Option, Some, None, get_or, length, slice_get, zero, suc, refl, sym, ◌∙◌, ap, subst, arith}
 use Rattle.std.proofs.lemmas.List.{length-map}
 use Rattle.std.proofs.lemmas.Bool.{cases_lt}
 use Rattle.wh_host_model.specs.declared.states.Offer.{Offer}
@@ -9,7 +9,7 @@ use Rattle.wh_host_model.specs.Space.Offers.{Offers}
 use Rattle.wh_host_model.specs.Space.Parts.{Occupant, Space, backing}
 use Rattle.wh_host_model.specs.Space.Scanning.{IsFullPass, IsHashOf, Scans}
 use Rattle.wh_host_model.specs.Space.Sound.{HasTable, IsSound}
-use Rattle.wh_host_model.specs.Space.States.{Backing, at, contents, page_at, page_bytes, resident}
+use Rattle.wh_host_model.specs.Space.States.{Backing, contents, page_at, page_bytes, resident}
 use Rattle.wh_host_model.proofs.Space.Chained.{scans_soundly}
 use Rattle.wh_host_model.proofs.Space.Putting.{here_or, is_page}
 use Rattle.wh_host_model.proofs.Space.Rooms.{get_there}

@@ -41,7 +41,12 @@ mod tests {
     }
 
     // Takes a page's bytes, and offers it under their hash, or under 0 where there are none.
-    fn scanned<H: PageHash>(memory: &mut Memory, hasher: &H, place: u32, page: u32) -> Option<Offer> {
+    fn scanned<H: PageHash>(
+        memory: &mut Memory,
+        hasher: &H,
+        place: u32,
+        page: u32,
+    ) -> Option<Offer> {
         let hash = match take(memory, place, page) {
             Some(sample) => hasher.hash(&sample.bytes),
             None => 0,
@@ -78,10 +83,22 @@ mod tests {
         assert_eq!(rt; memory.store(0, 0, &[1]), Got::Value);
         assert_eq!(rt; memory.store(1, 0, &[2]), Got::Value);
         assert_eq!(rt; memory.store(1, 4096, &[1]), Got::Value);
-        assert_eq!(rt; scanned(&mut memory, &ConstantHash, 0, 0), Some(Offer::Hinted));
-        assert_eq!(rt; scanned(&mut memory, &ConstantHash, 1, 0), Some(Offer::FalseMatch));
-        assert_eq!(rt; scanned(&mut memory, &ConstantHash, 1, 1), Some(Offer::Merged));
-        assert_eq!(rt; scanned(&mut memory, &ConstantHash, 1, 0), Some(Offer::FalseMatch));
+        assert_eq!(rt;
+            scanned(&mut memory, &ConstantHash, 0, 0),
+            Some(Offer::Hinted)
+        );
+        assert_eq!(rt;
+            scanned(&mut memory, &ConstantHash, 1, 0),
+            Some(Offer::FalseMatch)
+        );
+        assert_eq!(rt;
+            scanned(&mut memory, &ConstantHash, 1, 1),
+            Some(Offer::Merged)
+        );
+        assert_eq!(rt;
+            scanned(&mut memory, &ConstantHash, 1, 0),
+            Some(Offer::FalseMatch)
+        );
         Ok(())
     }
 
@@ -129,7 +146,12 @@ mod tests {
         assert!(rt; memory.has_few_pages());
         assert!(rt; memory.has_places_below(2));
         scan_all(&mut memory, &FnvHash, 2);
-        for (place, page, is_alone) in [(0, 0, false), (0, 1, true), (1, 1, false), (1, 15, false)] {
+        for (place, page, is_alone) in [
+            (0, 0, false),
+            (0, 1, true),
+            (1, 1, false),
+            (1, 15, false),
+        ] {
             assert_eq!(rt; take(&memory, place, page).is_some(), is_alone);
         }
         Ok(())

@@ -154,15 +154,7 @@ impl Memory {
 
     /// A page that is alone on this frame goes to a frame that so many pages share, with equal bytes that aren't all
     /// zero.
-    pub fn join(
-        &mut self,
-        place: u32,
-        page: u32,
-        frame: u32,
-        hash: u64,
-        shared: u32,
-        sharers: u32,
-    )
+    pub fn join(&mut self, place: u32, page: u32, frame: u32, hash: u64, shared: u32, sharers: u32)
         requires few { HasFewPages self.old }
         requires offered { IsOffered self.old place page frame }
         requires some { frame_bytes self.old frame ≢ zero_page }
@@ -195,13 +187,19 @@ impl Memory {
         requires apart { shared ≢ frame }
         requires found { FindsHint self.old hash shared other_place other_page }
         requires hinted { IsOffered self.old other_place other_page shared }
-        ensures { self.new ≡ paired_with self.old place page frame shared hash other_place other_page }
+        ensures { self.new
+            ≡ paired_with self.old place page frame shared hash other_place other_page }
     {
         let _ = &self.tax;
         put_page(&mut self.tables, place as usize, page, Page::Shared(shared));
         self.pool.give(frame);
         self.content.forget_frame(frame);
         self.content.share(shared, hash, 2);
-        put_page(&mut self.tables, other_place as usize, other_page, Page::Shared(shared));
+        put_page(
+            &mut self.tables,
+            other_place as usize,
+            other_page,
+            Page::Shared(shared),
+        );
     }
 }

@@ -1,4 +1,3 @@
-use Rattle.std.proofs.Common.{◌≡◌}
 use Rattle.wh_host_model.specs.Space.Scanning.{Scans}
 use Rattle.wh_scan.specs.Pass.{pages_of_places}
 use Rattle.wh_scan.proofs.pass.scan_all.Given as goal

@@ -1,4 +1,4 @@
-use Rattle.std.proofs.Common.{◌≡◌, ◌++◌, ℕ, List, [], ◌∷◌, get_or, length, sym, subst, arith}
+use Rattle.std.proofs.Common.{◌≡◌, ℕ, List, [], get_or, length, sym, subst, arith}
 use Rattle.wh_host_model.specs.Space.Scanning.{Scans}
 use Rattle.wh_scan.specs.Pass.{pages_before}
 use Rattle.wh_scan.proofs.Passing.{before_next, few_rows, scans_few, scans_one}

@@ -1,4 +1,3 @@
-use Rattle.std.proofs.Common.{◌≡◌}
 use Rattle.wh_host_model.specs.Space.Scanning.{Scans}
 use Rattle.wh_scan.specs.Pass.{pages_before}
 use Rattle.wh_scan.proofs.pass.scan_place.Given as goal

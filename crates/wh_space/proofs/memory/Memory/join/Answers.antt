@@ -19,7 +19,7 @@ forget_frame-requires c = (is_alone (space_of c.self.inside) c.args.place c.args
 pub overflow_add-sharers : goal.overflow_add-sharers
 overflow_add-sharers c =
     let few = few_sharers (space_of c.self.inside) c.args.place c.args.page c.args.frame c.args.shared c.args.sharers c.args.hash c.self.invariant.sound
-        (rw (← c.self.view_is) at c.requires.few) (rw (← c.self.view_is) at c.requires.offered.0) (rw (← c.self.view_is) at c.requires.found) in
+    (rw (← c.self.view_is) at c.requires.few) (rw (← c.self.view_is) at c.requires.offered.0) (rw (← c.self.view_is) at c.requires.found) in
     omega arith
 
 pub share-requires-clause-within : goal.share-requires-clause-within
