@@ -1,7 +1,7 @@
 //! Kernels over one page of 4096 bytes: whether two are equal, whether one is all zeros, and a hash.
 #![tactic(auto)]
 
-ghost use Rattle.std.specs.Prelude.{◌≡◌, ◌↔◌, ◌≤◌, ◌+◌, IsTrue, length, replicate};
+ghost use Rattle.std.specs.Prelude.{◌≡◌, ◌↔◌, ◌≤◌, ◌+◌, ℕ, List, IsTrue, length, replicate};
 ghost use Rattle.std.specs.Simd.Lanes.{chunk};
 ghost use Rattle.wh_host_model.specs.Hash.{fnv64};
 ghost use Rattle.wh_host_model.specs.Pages.{zero_page};
@@ -78,11 +78,15 @@ pub fn fnv64(page: &[u8; 4096]) -> u64
     fnv_of(page)
 }
 
-/// A hash of a page's bytes. Nothing is asked of it: pages with equal hashes are compared byte by byte before they
-/// are shared, so a poor hash costs sharing alone.
+/// A hash of a page's bytes. Nothing is asked of it but that the same bytes have the same hash: pages with equal hashes
+/// are compared byte by byte before they are shared, so a poor hash costs sharing alone.
 pub trait PageHash {
+    /// The hash of a list of bytes.
+    ghost hashes: { Self → List ℕ → ℕ };
+
     /// The hash of the page's bytes.
-    fn hash(&self, page: &[u8; 4096]) -> u64;
+    fn hash(&self, page: &[u8; 4096]) -> u64
+        ensures { result ≡ hashes self.now page.now };
 }
 
 /// The hash FNV-1a of 64 bits.
@@ -90,9 +94,9 @@ pub trait PageHash {
 pub struct FnvHash;
 
 impl PageHash for FnvHash {
-    fn hash(&self, page: &[u8; 4096]) -> u64
-        ensures { result ≡ fnv64 page.now }
-    {
+    ghost hashes = { λ hash. fnv64 };
+
+    fn hash(&self, page: &[u8; 4096]) -> u64 {
         fnv64(page)
     }
 }
@@ -102,9 +106,9 @@ impl PageHash for FnvHash {
 pub struct ConstantHash;
 
 impl PageHash for ConstantHash {
-    fn hash(&self, _page: &[u8; 4096]) -> u64
-        ensures { result ≡ 0 }
-    {
+    ghost hashes = { λ hash bytes. 0 };
+
+    fn hash(&self, _page: &[u8; 4096]) -> u64 {
         0
     }
 }

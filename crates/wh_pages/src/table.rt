@@ -96,6 +96,14 @@ impl PageTable {
         self.mark(at, true);
     }
 
+    /// Takes the mark from the page at this place, which is below `len`: it wasn't touched in this epoch.
+    pub fn untouch(&mut self, at: u32)
+        requires { at < length self.old.pages }
+        ensures { self.new ≡ record self.old { touched = slice_set self.old.touched at false } }
+    {
+        self.mark(at, false);
+    }
+
     /// Begins a new epoch: no page is marked as touched any more. It goes over all pages.
     pub fn clear_touched(&mut self)
         ensures { self.new ≡ record self.old { touched = replicate (length self.old.pages) false } }

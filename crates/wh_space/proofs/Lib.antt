@@ -10,3 +10,4 @@ pub mod Entering
 pub mod Summing
 pub mod Stood
 pub mod Epochal
+pub mod Merges

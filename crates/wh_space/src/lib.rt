@@ -11,6 +11,7 @@ mod growth;
 mod guest;
 mod loads;
 mod memory;
+mod merging;
 mod pages;
 mod ready;
 mod room;

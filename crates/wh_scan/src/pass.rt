@@ -1,0 +1,66 @@
+// A pass over all pages.
+
+ghost use Rattle.std.specs.Prelude.{◌≡◌, ◌+◌, ◌≤◌, ℕ, List, [], length, get_or};
+ghost use Rattle.wh_host_model.specs.Space.Offers.{Offers};
+ghost use Rattle.wh_host_model.specs.Space.Scanning.{IsDistinct, IsFullPass, IsHashOf, Scans};
+ghost use Rattle.wh_scan.specs.Pass.{MayPass, pages_before, pages_of_places};
+ghost use Rattle.wh_space.specs.Merges.{HasFewPages};
+
+use crate::offers::offer_at;
+use crate::sample::take;
+use wh_host_model::Offer;
+use wh_kernels::PageHash;
+use wh_space::Memory;
+
+// The hash of a page's bytes, or 0 where it has none to offer.
+fn hash_at<H: PageHash>(memory: &Memory, hasher: &H, place: u32, page: u32) -> u64
+    ensures { IsHashOf (H.hashes hasher.now) memory.now place page result }
+{
+    match take(memory, place, page) {
+        Some(sample) => hasher.hash(&sample.bytes),
+        None => 0,
+    }
+}
+
+/// Offers a page under the hash of its bytes as they are.
+pub fn scan_page<H: PageHash>(memory: &mut Memory, hasher: &H, place: u32, page: u32) -> Offer
+    requires { HasFewPages memory.old }
+    ensures { (hash : ℕ) × IsHashOf (H.hashes hasher.now) memory.old place page hash
+        × Offers (H.hashes hasher.now) memory.old place page hash result memory.new }
+{
+    let hash = hash_at(memory, hasher, place, page);
+    offer_at(memory, hasher, place, page, hash)
+}
+
+// Offers all pages of whoever is at this place, in order.
+fn scan_place<H: PageHash>(memory: &mut Memory, hasher: &H, place: u32)
+    requires { HasFewPages memory.old }
+    ensures { Scans (H.hashes hasher.now) memory.old
+        (pages_before place (length (get_or memory.old.tables place []))) memory.new }
+{
+    memory.known();
+    let pages = memory.size(place as usize) * 16;
+    for page in 0..pages {
+        let _ = scan_page(memory, hasher, place, page);
+    }
+}
+
+/// Offers all pages of the instances at the first so many places, which are all that there are, in order of place and
+/// number, each under the hash of its bytes as they are. Then as many frames are in use as there are distinct contents
+/// that aren't all zero, if the hash tells contents apart and was the hash before.
+pub fn scan_all<H: PageHash>(memory: &mut Memory, hasher: &H, places: u32)
+    requires few { HasFewPages memory.old }
+    requires all { length memory.old.tables ≤ places }
+    ensures scans { Scans (H.hashes hasher.now) memory.old
+        (pages_of_places memory.old.tables places) memory.new }
+    ensures full { MayPass (H.hashes hasher.now) memory.old → IsFullPass (H.hashes hasher.now)
+        memory.old (pages_of_places memory.old.tables places) memory.new }
+    ensures counts { MayPass (H.hashes hasher.now) memory.old
+        → (all : List (List ℕ)) → IsDistinct memory.new all
+        → length all + length memory.new.pool.free ≡ length memory.new.pool.frames }
+{
+    memory.known();
+    for place in 0..places {
+        scan_place(memory, hasher, place);
+    }
+}

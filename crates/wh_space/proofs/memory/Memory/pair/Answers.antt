@@ -1,0 +1,57 @@
+use Rattle.std.proofs.Common.{refl, subst, sym, ap, ◌∙◌, ◌≡◌, Some, length, length-set, slice_get, slice_set, List, arith}
+use Rattle.wh_host_model.specs.declared.states.Mark.{Mark}
+use Rattle.wh_host_model.specs.declared.states.Mark.TheVariants.{Hint, Plain, Sharers}
+use Rattle.wh_host_model.specs.declared.states.Page.{Page}
+use Rattle.wh_host_model.specs.declared.states.Page.TheVariants.{Private, Shared}
+use Rattle.wh_host_model.specs.Space.Offers.{FindsHint}
+use Rattle.wh_host_model.specs.Space.Parts.{Space}
+use Rattle.wh_host_model.specs.Space.Sound.{HasHash, IsSound}
+use Rattle.wh_host_model.specs.Space.States.{page_at, put}
+use Rattle.wh_host_model.proofs.Space.Evicted.{row_length}
+use Rattle.wh_host_model.proofs.Space.Putting.{is_page, there_of}
+use Rattle.wh_space.specs.Parts.{space_of}
+use Rattle.wh_space.specs.declared.memory.Memory.TheInside.{Inside}
+use Rattle.wh_space.proofs.Merges.{is_alone, none_but, paired_sound, remade_is}
+use Rattle.wh_space.proofs.Wellness.{well}
+use Rattle.wh_space.proofs.memory.Memory.pair.Goals as goal
+
+pub give-requires : goal.give-requires
+give-requires c = (is_alone (space_of c.self.inside) c.args.place c.args.page c.args.frame c.self.invariant.sound (rw (← c.self.view_is) at c.requires.offered.0)).taken
+
+pub forget_frame-requires : goal.forget_frame-requires
+forget_frame-requires c = (is_alone (space_of c.self.inside) c.args.place c.args.page c.args.frame c.self.invariant.sound (rw (← c.self.view_is) at c.requires.offered.0)).entry
+
+pub share-requires-clause-within : goal.share-requires-clause-within
+share-requires-clause-within c =
+    let found : FindsHint (space_of c.self.inside) c.args.hash c.args.shared c.args.other_place c.args.other_page = rw (← c.self.view_is) at c.requires.found in
+    let within = there_of c.self.inside.content c.args.shared (Hint c.args.hash c.args.other_place c.args.other_page) found in
+    let long = ap length c.forget_frame.ensures ∙ length-set c.self.inside.content c.args.frame Plain in
+    omega arith
+
+pub share-requires-clause-alone : goal.share-requires-clause-alone
+share-requires-clause-alone c =
+    let found : FindsHint (space_of c.self.inside) c.args.hash c.args.shared c.args.other_place c.args.other_page = rw (← c.self.view_is) at c.requires.found in
+    let has : HasHash (slice_get (space_of c.self.inside).marks c.args.shared) c.args.hash = subst (λ m. HasHash m c.args.hash) (sym found) refl in
+    let within = (is_alone (space_of c.self.inside) c.args.place c.args.page c.args.frame c.self.invariant.sound (rw (← c.self.view_is) at c.requires.offered.0)).entry in
+    rw c.forget_frame.ensures (none_but (space_of c.self.inside) c.args.frame c.args.shared c.args.hash c.self.invariant.sound within has)
+
+pub put_page-requires-2 : goal.put_page-requires-2
+put_page-requires-2 c =
+    let s : Space = space_of c.self.inside in
+    let there : page_at s.tables c.args.other_place c.args.other_page ≡ Some (Private c.args.shared) = rw (← c.self.view_is) at c.requires.hinted.0 in
+    let within = (is_page s.tables c.args.other_place c.args.other_page (Private c.args.shared) there).1 in
+    let long = row_length s.tables c.args.place c.args.page (Shared c.args.shared) c.args.other_place in
+    rw c.put_page.ensures.pages (omega arith)
+
+pub invariant_of-self : goal.invariant_of-self
+invariant_of-self c =
+    let a = c.self.inside in
+    let b : Inside = record a { tables = c.put_page-2.new.tables; pool = c.give.new.self; content = c.share.new.self } in
+    let marks = c.share.ensures ∙ ap (λ (m : List Mark). slice_set m c.args.shared (Sharers c.args.hash 2)) c.forget_frame.ensures in
+    let pages = c.put_page-2.ensures.pages ∙ ap (λ (t : List (List Page)). put t c.args.other_place c.args.other_page (Shared c.args.shared)) c.put_page.ensures.pages in
+    let is = remade_is a b _ _ _ _ refl refl refl pages (c.put_page-2.ensures.marks ∙ c.put_page.ensures.marks) c.give.ensures.gives marks in
+    well a b c.self.invariant refl (c.put_page-2.ensures.limits ∙ c.put_page.ensures.limits)
+    (subst IsSound (sym is)
+    (paired_sound (space_of a) c.args.place c.args.page c.args.frame c.args.shared c.args.hash c.args.other_place c.args.other_page c.self.invariant.sound
+    (rw (← c.self.view_is) at c.requires.offered) (rw (← c.self.view_is) at c.requires.some) (rw (← c.self.view_is) at c.requires.same) c.requires.apart
+    (rw (← c.self.view_is) at c.requires.found) (rw (← c.self.view_is) at c.requires.hinted)))

@@ -1,0 +1,205 @@
+// What may become of a page that is offered for sharing.
+
+ghost use Rattle.std.specs.Bool.{MatchBool};
+ghost use Rattle.std.specs.Prelude.{◌≡◌, ◌≢◌, ◌↔◌, ◌<◌, ◌≤◌, ℕ, IsTrue, IfSome, IfNone, [], Some, None, false, length, get_or, slice_get};
+ghost use Rattle.wh_content.specs.Marks.{IsOnlyWith, frame_of_entry, mark_of_entry};
+ghost use Rattle.wh_host_model.specs.Frames.{IsTaken};
+ghost use Rattle.wh_host_model.specs.Pages.{zero_page};
+ghost use Rattle.wh_host_model.specs.Space.Offers.{FindsHint, FindsNone, FindsShared, IsOffered, IsPinned, hinted, joined_to, paired_with};
+ghost use Rattle.wh_host_model.specs.Space.Parts.{frame_bytes, has_number};
+ghost use Rattle.wh_host_model.specs.Space.States.{page_at, put};
+ghost use Rattle.wh_host_model.specs.declared.states.Page.TheVariants.{Private, Untouched};
+ghost use Rattle.wh_space.specs.Merges.{HasFewPages, IsNotPrivate, emptied, rehinted};
+ghost use Rattle.wh_space.specs.Pages.{limits_in, marks_in, pages_in};
+
+use crate::memory::Memory;
+use crate::pages::{len_at, page_of};
+use wh_content::Entry;
+use wh_host_model::Page;
+use wh_pages::PageTable;
+
+// Puts a page there.
+fn put_page(tables: &mut Vec<PageTable>, place: usize, number: u32, page: Page)
+    requires { number < length (get_or (pages_in tables.old.items) place []) }
+    ensures pages { pages_in tables.new.items ≡ put (pages_in tables.old.items) place number page }
+    ensures marks { marks_in tables.new.items ≡ marks_in tables.old.items }
+    ensures limits { limits_in tables.new.items ≡ limits_in tables.old.items }
+{
+    let table = &mut tables[place];
+    table.set(number, page);
+}
+
+// Makes a page untouched, and takes its mark.
+fn empty_page(tables: &mut Vec<PageTable>, place: usize, number: u32)
+    requires { number < length (get_or (pages_in tables.old.items) place []) }
+    ensures pages { pages_in tables.new.items
+        ≡ put (pages_in tables.old.items) place number Untouched }
+    ensures marks { marks_in tables.new.items
+        ≡ put (marks_in tables.old.items) place number false }
+    ensures limits { limits_in tables.new.items ≡ limits_in tables.old.items }
+{
+    let table = &mut tables[place];
+    table.set(number, Page::Untouched);
+    table.untouch(number);
+}
+
+impl Memory {
+    /// Whether so few frames and slots are there that the sharers of a frame can be counted in 32 bits.
+    pub fn has_few_pages(&self) -> bool
+        ensures { IsTrue result ↔ HasFewPages self.now }
+    {
+        let slots = self.slots;
+        let frames = u64::from(self.pool.used()) + u64::from(self.pool.free());
+        frames + u64::from(slots) < 1 << 32
+    }
+
+    /// Whether there are at most so many places.
+    pub fn has_places_below(&self, places: u32) -> bool
+        ensures { IsTrue result ↔ (length self.now.tables ≤ places) }
+    {
+        self.tables.len() <= places as usize
+    }
+
+    /// Whether the instance of this number is at this place.
+    pub fn is_at(&self, place: u32, number: u64) -> bool
+        ensures { result ≡ has_number (get_or self.now.occupants place None) number }
+    {
+        let place = place as usize;
+        if place >= self.guests.len() {
+            return false;
+        }
+        match self.guests[place] {
+            Some(guest) => guest.number == number,
+            None => false,
+        }
+    }
+
+    /// The frame on which a page of the instance at this place stands alone, without leaving it; none too where there is
+    /// no such page.
+    pub fn private_frame(&self, place: u32, page: u32) -> Option<u32>
+        ensures some { IfSome result (λ frame.
+            page_at self.now.tables place page ≡ Some (Private frame)) }
+        ensures taken { IfSome result (λ frame. IsTaken self.now.pool frame) }
+        ensures none { IfNone result (IsNotPrivate self.now place page) }
+    {
+        let place = place as usize;
+        if page >= len_at(&self.tables, place) {
+            return None;
+        }
+        match page_of(&self.tables, place, page) {
+            Page::Private(frame) => Some(frame),
+            _ => None,
+        }
+    }
+
+    /// Whether a page of the instance at this place is pinned. None is yet.
+    pub fn is_pinned(&self, _place: u32, _page: u32) -> bool
+        ensures { MatchBool result (IsPinned self.now _place _page)
+            (¬ IsPinned self.now _place _page) }
+    {
+        let _ = &self.tax;
+        false
+    }
+
+    /// The 4096 bytes of a frame that isn't free.
+    pub fn bytes_of(&self, frame: u32) -> &[u8; 4096]
+        requires { IsTaken self.now.pool frame }
+        ensures { result.now ≡ frame_bytes self.now frame }
+    {
+        self.pool.bytes(frame)
+    }
+
+    /// What is found under this hash. Its frame isn't free.
+    pub fn entry(&self, hash: u64) -> Option<Entry>
+        ensures found { IfSome result (λ entry.
+            slice_get self.now.marks (frame_of_entry entry) ≡ Some (mark_of_entry hash entry)) }
+        ensures taken { IfSome result (λ entry. IsTaken self.now.pool (frame_of_entry entry)) }
+        ensures none { IfNone result (FindsNone self.now hash) }
+    {
+        let _ = &self.tax;
+        self.content.look(hash)
+    }
+
+    /// A page that is alone on this frame, and may be merged, becomes untouched. The frame is free then.
+    pub fn empty(&mut self, place: u32, page: u32, frame: u32)
+        requires { IsOffered self.old place page frame }
+        ensures { self.new ≡ emptied self.old place page frame }
+    {
+        let _ = &self.tax;
+        empty_page(&mut self.tables, place as usize, page);
+        self.pool.give(frame);
+        self.content.forget_frame(frame);
+    }
+
+    /// A page that is alone on this frame, and may be merged, is the hint of this hash, under which nothing was found.
+    pub fn hint(&mut self, place: u32, page: u32, frame: u32, hash: u64)
+        requires offered { IsOffered self.old place page frame }
+        requires none { FindsNone self.old hash }
+        ensures { self.new ≡ hinted self.old place page frame hash }
+    {
+        let _ = &self.tax;
+        self.content.set_hint(frame, hash, place, page);
+    }
+
+    /// It is the hint in place of another page, on another frame.
+    pub fn rehint(&mut self, place: u32, page: u32, frame: u32, hash: u64, stale: u32)
+        requires offered { IsOffered self.old place page frame }
+        requires found { (j q : ℕ) × FindsHint self.old hash stale j q }
+        ensures { self.new ≡ rehinted self.old place page frame stale hash }
+    {
+        let _ = &self.tax;
+        self.content.forget_frame(stale);
+        self.content.set_hint(frame, hash, place, page);
+    }
+
+    /// A page that is alone on this frame goes to a frame that so many pages share, with equal bytes that aren't all
+    /// zero.
+    pub fn join(&mut self, place: u32, page: u32, frame: u32, hash: u64, shared: u32, sharers: u32)
+        requires few { HasFewPages self.old }
+        requires offered { IsOffered self.old place page frame }
+        requires some { frame_bytes self.old frame ≢ zero_page }
+        requires same { frame_bytes self.old frame ≡ frame_bytes self.old shared }
+        requires found { FindsShared self.old hash shared sharers }
+        ensures { self.new ≡ joined_to self.old place page frame shared hash sharers }
+    {
+        let _ = &self.tax;
+        put_page(&mut self.tables, place as usize, page, Page::Shared(shared));
+        self.pool.give(frame);
+        self.content.forget_frame(frame);
+        self.content.share(shared, hash, sharers + 1);
+    }
+
+    /// A page that is alone on this frame goes to the frame of a hint, where one page was alone, with equal bytes that
+    /// aren't all zero. The two share it then.
+    pub fn pair(
+        &mut self,
+        place: u32,
+        page: u32,
+        frame: u32,
+        hash: u64,
+        shared: u32,
+        other_place: u32,
+        other_page: u32,
+    )
+        requires offered { IsOffered self.old place page frame }
+        requires some { frame_bytes self.old frame ≢ zero_page }
+        requires same { frame_bytes self.old frame ≡ frame_bytes self.old shared }
+        requires apart { shared ≢ frame }
+        requires found { FindsHint self.old hash shared other_place other_page }
+        requires hinted { IsOffered self.old other_place other_page shared }
+        ensures { self.new
+            ≡ paired_with self.old place page frame shared hash other_place other_page }
+    {
+        let _ = &self.tax;
+        put_page(&mut self.tables, place as usize, page, Page::Shared(shared));
+        self.pool.give(frame);
+        self.content.forget_frame(frame);
+        self.content.share(shared, hash, 2);
+        put_page(
+            &mut self.tables,
+            other_place as usize,
+            other_page,
+            Page::Shared(shared),
+        );
+    }
+}
