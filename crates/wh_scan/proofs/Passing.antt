@@ -20,7 +20,8 @@ use Rattle.wh_scan.specs.Pass.{MayPass, pages_before, pages_of_places}
 
 -- ---- one after the other
 
-pub scans_on : (hashes : List ℕ → ℕ) (s : Space) (xs ys : List (ℕ × ℕ)) (mid s2 : Space) → Scans hashes s xs mid → Scans hashes mid ys s2 → Scans hashes s (xs ++ ys) s2
+pub scans_on : (hashes : List ℕ → ℕ) (s : Space) (xs ys : List (ℕ × ℕ)) (mid s2 : Space) → Scans hashes s xs mid
+    → Scans hashes mid ys s2 → Scans hashes s (xs ++ ys) s2
 scans_on hashes s [] ys mid s2 first second = subst (λ (z : Space). Scans hashes z ys s2) first second
 scans_on hashes s (x ∷ xs) ys mid s2 (hash, answer, next, is, offers, rest) second = (hash, answer, next, is, offers, scans_on hashes next xs ys mid s2 rest second)
 
@@ -30,7 +31,8 @@ scans_one hashes s xs i p hash answer mid s2 first is offers = scans_on hashes s
 
 -- ---- there are as few pages
 
-offers_few : (hashes : List ℕ → ℕ) (s : Space) (i p hash : ℕ) (answer : Offer) (s2 : Space) → Offers hashes s i p hash answer s2 → HasFewPages s → HasFewPages s2
+offers_few : (hashes : List ℕ → ℕ) (s : Space) (i p hash : ℕ) (answer : Offer) (s2 : Space)
+    → Offers hashes s i p hash answer s2 → HasFewPages s → HasFewPages s2
 offers_few hashes s i p hash Skipped s2 (is, why) few = subst HasFewPages (sym is) few
 offers_few hashes s i p hash FalseMatch s2 (is, why) few = subst HasFewPages (sym is) few
 offers_few hashes s i p hash Zeroed s2 (g, offered, zeros, is) few = subst HasFewPages (sym is) few
@@ -39,7 +41,8 @@ offers_few hashes s i p hash Stale s2 (g, f, j, q, offered, some, found, apart, 
 offers_few hashes s i p hash Merged s2 (g, f, offered, some, same, inl (n, found, is)) few = subst HasFewPages (sym is) few
 offers_few hashes s i p hash Merged s2 (g, f, offered, some, same, inr (j, q, apart, hint, is)) few = subst HasFewPages (sym is) few
 
-pub scans_few : (hashes : List ℕ → ℕ) (s : Space) (xs : List (ℕ × ℕ)) (s2 : Space) → Scans hashes s xs s2 → HasFewPages s → HasFewPages s2
+pub scans_few : (hashes : List ℕ → ℕ) (s : Space) (xs : List (ℕ × ℕ)) (s2 : Space) → Scans hashes s xs s2
+    → HasFewPages s → HasFewPages s2
 scans_few hashes s [] s2 is few = subst HasFewPages (sym is) few
 scans_few hashes s (x ∷ xs) s2 (hash, answer, mid, is, offers, rest) few = scans_few hashes mid xs s2 rest (offers_few hashes s x.0 x.1 hash answer mid offers few)
 
@@ -50,7 +53,8 @@ row_of b [] i = refl
 row_of b (t ∷ ts) zero = length-map t (page_bytes b)
 row_of b (t ∷ ts) (suc i) = row_of b ts i
 
-pub scans_rows : (hashes : List ℕ → ℕ) (s : Space) (xs : List (ℕ × ℕ)) (s2 : Space) (i : ℕ) → IsSound s → Scans hashes s xs s2 → length (get_or s2.tables i []) ≡ length (get_or s.tables i [])
+pub scans_rows : (hashes : List ℕ → ℕ) (s : Space) (xs : List (ℕ × ℕ)) (s2 : Space) (i : ℕ) → IsSound s
+    → Scans hashes s xs s2 → length (get_or s2.tables i []) ≡ length (get_or s.tables i [])
 scans_rows hashes s xs s2 i sound scans =
     let same = (scans_soundly hashes s xs s2 sound scans).1 in
     sym (row_of (backing s2) s2.tables i) ∙ (ap (λ (z : List (List (List ℕ))). length (get_or z i [])) same ∙ row_of (backing s) s.tables i)
@@ -86,7 +90,8 @@ has_page ts i p (suc n) less within =
       | inr other ↦ (let h = has_page ts i p n (omega (arith, other)) within in has_left (pages_of_places ts n) (pages_before n (length (get_or ts n []))) i p h.0 h.1)
     ]
 
-pub full_pass : (hashes : List ℕ → ℕ) (s : Space) (n : ℕ) (s2 : Space) → length s.tables ≤ n → MayPass hashes s → Scans hashes s (pages_of_places s.tables n) s2 → IsFullPass hashes s (pages_of_places s.tables n) s2
+pub full_pass : (hashes : List ℕ → ℕ) (s : Space) (n : ℕ) (s2 : Space) → length s.tables ≤ n → MayPass hashes s
+    → Scans hashes s (pages_of_places s.tables n) s2 → IsFullPass hashes s (pages_of_places s.tables n) s2
 full_pass hashes s n s2 all may scans = record {
   all = λ i p one.
       (let x = page_there resident (page_at s.tables i p) one in
@@ -118,5 +123,6 @@ few_rows s i sound =
 pub before_next : (i n : ℕ) → pages_before i (n + 1) ≡ pages_before i n ++ (i, n) ∷ []
 before_next i n = let e : n + 1 ≡ suc n = omega arith in rw e refl
 
-pub places_next : (ts : List (List Page)) (n : ℕ) → pages_of_places ts (n + 1) ≡ pages_of_places ts n ++ pages_before n (length (get_or ts n []))
+pub places_next : (ts : List (List Page)) (n : ℕ)
+    → pages_of_places ts (n + 1) ≡ pages_of_places ts n ++ pages_before n (length (get_or ts n []))
 places_next ts n = let e : n + 1 ≡ suc n = omega arith in rw e refl
