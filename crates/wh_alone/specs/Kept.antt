@@ -61,6 +61,7 @@ run_end (Returned result) = run.Returned result
 run_end (Trapped x) = run.Trapped x
 run_end OutOfFuel = run.OutOfFuel
 
+-- the run doesn't wait for bytes
 abbrev pub IsAnswered : RunEnd → Type 0
 IsAnswered (run.NotReady need) = ⊥
 IsAnswered end = Unit {0}

@@ -1,6 +1,6 @@
 // Chains through the frames, by which an entry is found.
 
-ghost use Rattle.std.specs.Prelude.{◌≡◌, ℕ, ◌+◌, ◌^◌, ◌<◌, ◌≤◌, List, Some, IfOk, IfSome, length, replicate, slice_get, slice_set, slice_index};
+ghost use Rattle.std.specs.Prelude.{◌≡◌, ℕ, ◌+◌, ◌^◌, ◌<◌, ◌≤◌, List, Some, IfOk, IfSome, length, replicate, slice_set, slice_index};
 ghost use Rattle.wh_content.specs.Chains.{link_to, IsFalling, IsPlace, AreChains};
 ghost use Rattle.wh_host_model.specs.declared.states.Mark.{Mark};
 

@@ -1,6 +1,6 @@
 // Offers of pages.
 
-ghost use Rattle.std.specs.Prelude.{◌≡◌, ◌≢◌, ℕ, List, IfSome, IfNone, Some};
+ghost use Rattle.std.specs.Prelude.{◌≢◌, ℕ, List, IfSome, IfNone, Some};
 ghost use Rattle.wh_host_model.specs.Frames.{IsTaken};
 ghost use Rattle.wh_host_model.specs.Pages.{zero_page};
 ghost use Rattle.wh_host_model.specs.Space.Offers.{FindsHint, FindsShared, IsOffered, MayNotMerge, Offers, OffersOf};

@@ -1,6 +1,6 @@
 // How a memory begins, and how an instance comes to a place.
 
-ghost use Rattle.std.specs.Prelude.{◌≡◌, ◌≢◌, ◌*◌, ◌<◌, ◌≤◌, ◌++◌, ℕ, Some, false, length, replicate, IfOk, IfErr, OnOk, OnErr, vec_len, vec_capacity};
+ghost use Rattle.std.specs.Prelude.{◌≡◌, ◌≢◌, ◌*◌, ◌<◌, ◌≤◌, ℕ, Some, false, length, replicate, IfOk, IfErr, OnOk, OnErr, vec_len, vec_capacity};
 ghost use Rattle.wh_host_model.specs.declared.states.Page.TheVariants.{Untouched};
 ghost use Rattle.wh_host_model.specs.Space.Parts.{Occupant, occupant_at};
 ghost use Rattle.wh_host_model.specs.Space.Places.{Enters, HasRoomFor, IsFreePlace, with_row};

@@ -1,6 +1,6 @@
 // How an instance grows.
 
-ghost use Rattle.std.specs.Prelude.{◌≡◌, ◌+◌, ◌*◌, ◌<◌, ◌≤◌, [], length, get_or};
+ghost use Rattle.std.specs.Prelude.{◌≡◌, ◌+◌, ◌*◌, [], length, get_or};
 ghost use Rattle.wh_host_model.specs.Space.Parts.{view};
 ghost use Rattle.wh_model.specs.Execution.Memory.{Grows};
 ghost use Rattle.wh_space.specs.Steps.{LeavesGrowth, page_limit};

@@ -2,7 +2,7 @@
 
 ghost use Rattle.std.specs.Bool.{MatchBool};
 ghost use Rattle.std.specs.Prelude.{◌≡◌, ◌≢◌, ◌↔◌, ◌<◌, ◌≤◌, ℕ, IsTrue, IfSome, IfNone, [], Some, None, false, length, get_or, slice_get};
-ghost use Rattle.wh_content.specs.Marks.{IsOnlyWith, frame_of_entry, mark_of_entry};
+ghost use Rattle.wh_content.specs.Marks.{frame_of_entry, mark_of_entry};
 ghost use Rattle.wh_host_model.specs.Frames.{IsTaken};
 ghost use Rattle.wh_host_model.specs.Pages.{zero_page};
 ghost use Rattle.wh_host_model.specs.Space.Offers.{FindsHint, FindsNone, FindsShared, IsOffered, IsPinned, hinted, joined_to, paired_with};

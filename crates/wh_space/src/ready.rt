@@ -1,7 +1,6 @@
 // Whether a step can be taken at once.
 
-ghost use Rattle.std.specs.Prelude.{◌≡◌, ◌↔◌, ◌+◌, ◌^◌, ◌<◌, ◌≤◌, ℕ, [], ◌∷◌, Some, true, IsTrue, MatchBool, length, get_or};
-ghost use Rattle.wh_host_model.specs.Space.Parts.{sharers};
+ghost use Rattle.std.specs.Prelude.{◌≡◌, ◌↔◌, ◌+◌, ◌^◌, ◌<◌, ◌≤◌, [], ◌∷◌, Some, true, IsTrue, MatchBool, length, get_or};
 ghost use Rattle.wh_host_model.specs.Space.Ready.{Ready, frames_for};
 ghost use Rattle.wh_space.specs.Steps.{CanStep, SharesAlone, frame_shared};
 

@@ -1,13 +1,12 @@
 // What an instance writes.
 
-ghost use Rattle.std.specs.Prelude.{◌≡◌, ◌+◌, ◌*◌, ◌%◌, ◌^◌, ◌<◌, ◌≤◌, [], Some, IsTrue, IsFalse, length, get_or, slice_set};
-ghost use Rattle.wh_host_model.specs.Space.Parts.{frame_bytes, view};
+ghost use Rattle.std.specs.Prelude.{◌≡◌, ◌+◌, ◌*◌, ◌%◌, ◌^◌, ◌<◌, ◌≤◌, [], Some, IsTrue, IsFalse, length, get_or};
+ghost use Rattle.wh_host_model.specs.Space.Parts.{view};
 ghost use Rattle.wh_host_model.specs.Space.Ready.{Ready};
 ghost use Rattle.wh_host_model.specs.Space.States.{page_at};
 ghost use Rattle.wh_host_model.specs.Space.Stores.{Fills, Overwrites};
 ghost use Rattle.wh_host_model.specs.declared.states.Page.TheVariants.{Private};
 ghost use Rattle.wh_model.specs.Execution.Memory.{Stores};
-ghost use Rattle.wh_model.specs.Execution.Store.{written};
 ghost use Rattle.wh_model.specs.declared.memory.Got.TheVariants.{Value};
 ghost use Rattle.wh_space.specs.Steps.{LeavesStore};
 

@@ -1,6 +1,6 @@
 // What a swap device promises.
 
-ghost use Rattle.std.specs.Prelude.{◌≡◌, ◌≢◌, ◌+◌, ◌<◌, ℕ, List, [], ◌∷◌, length, get_or, slice_set, OnOk, OnErr, IfErr};
+ghost use Rattle.std.specs.Prelude.{◌≡◌, ◌≢◌, ◌+◌, ◌<◌, ℕ, List, [], length, get_or, slice_set, OnOk, OnErr, IfErr};
 ghost use Rattle.wh_host_model.specs.declared.plain.SwapError.{SwapError};
 
 use wh_host_model::SwapError;

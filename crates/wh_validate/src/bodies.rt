@@ -1,6 +1,6 @@
 //! The bodies of a module's functions (3.4.1).
 
-ghost use Rattle.std.specs.Prelude.{◌≡◌, ◌≢◌, ◌<◌, ◌++◌, ◌∷◌, [], map, length, IfOk, IfErr, OnOk};
+ghost use Rattle.std.specs.Prelude.{◌≡◌, ◌≢◌, ◌<◌, map, length, IfOk, IfErr};
 ghost use Rattle.std.specs.List.{All, AllByRecursion};
 ghost use Rattle.wh_syntax.specs.View.{view_body, view_type};
 ghost use Rattle.wh_model.specs.Validity.Valid.{ValidType, ValidBodies};
@@ -13,7 +13,7 @@ use crate::error::ValidError;
 use std::alloc::Global;
 use wh_bodies::{Context, SideTable, check_body};
 use wh_model::ValidKind;
-use wh_syntax::{Body, FuncType};
+use wh_syntax::Body;
 
 /// Checks each function's body, and finds where its branches lead. The first so many functions are imported.
 ///

@@ -1,6 +1,6 @@
 //! What the indices of a module name: imported functions and globals come before its own (3.4.10).
 
-ghost use Rattle.std.specs.Prelude.{◌≡◌, ◌≢◌, ◌<◌, ◌++◌, ◌∷◌, [], map, length, OnOk, IfErr, IfOk};
+ghost use Rattle.std.specs.Prelude.{◌≡◌, ◌≢◌, ◌<◌, ◌++◌, map, length, OnOk, IfErr, IfOk};
 ghost use Rattle.std.specs.List.{All};
 ghost use Rattle.wh_model.specs.Validity.Valid.{imported_funcs, imported_globals};
 ghost use Rattle.wh_syntax.specs.View.{view_import, view_global_type};
