@@ -152,12 +152,12 @@ pub comes_further : {k2 : Kept} {m : Module} {p : Parameters} {ended : List Call
     → (i : Invocation b.inst (with_pieces b.s b.ps) call invoked) → EndsBy k2 (result_of i.type) b.inst invoked fuel outcome n s2 → HasStore k2 b.inst s2
     → (o : model.Outcome) × (z : Standing) × IsOutcome outcome o × IsAtStanding (record { kept = k2; stage = after_by starting outcome }) m p (ended ++ ended_as (come_to call fuel n o) o) (open_as (come_to call fuel n o) o) z
 comes_further {k2} {m} {p} {ended} {call} b starting fuel n (Returned result) s2 invoked begun i (low, us, types, top, after) store =
-    let same = short_reverse us (result_of i.type) types in
+    let same = short_reverse us (result_of i.type) types.0 in
     let call2 = come_to call fuel n (returned us) in
     let results : HasResults b.inst call2 = λ x type body vs e f g.
     let values : us ≡ vs = cc g in
     let func = functions_same i x type body e f in
-    ap (map type_of) (sym values) ∙ types ∙ sym (declared k2 store i) ∙ ap (λ (t : FuncType). t.results) func.0 in (
+    ap (map type_of) (sym values) ∙ types.0 ∙ sym (declared k2 store i) ∙ ap (λ (t : FuncType). t.results) func.0 in (
       returned us,
       idle s2,
       top ∙ ap (λ vs. slice_get (map bits_of vs) 0) (sym same),

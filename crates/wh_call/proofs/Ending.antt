@@ -1,16 +1,19 @@
 -- What a run comes to, of the call that it began with.
-use Rattle.std.proofs.Common.{◌≡◌, ℕ, List, Option, slice_get, refl, sym, ap, subst, ◌∙◌}
+use Rattle.std.proofs.Common.{◌≡◌, ℕ, List, [], Option, None, false, cond, slice_get, refl, sym, ap, subst, ◌∙◌}
+use Rattle.std.specs.List.{AllByRecursion}
 use Rattle.wh_model.specs.declared.ValType.{ValType}
+use Rattle.wh_model.specs.Format.Syntax.{nothing}
 use Rattle.wh_model.specs.Validity.Typing.{Context}
-use Rattle.wh_model.specs.Execution.Store.{Instance, Store}
-use Rattle.wh_model.specs.Execution.Configuration.{Config, store_of}
+use Rattle.wh_model.specs.Execution.Store.{Value, Instance, Store}
+use Rattle.wh_model.specs.Execution.Configuration.{code, Config, config, store_of}
 use Rattle.wh_model.specs.Focus.Focused.{Focused, running, finished, stopped, plug}
-use Rattle.wh_control.specs.Represents.{Func, CallsState, RepresentsCalls}
+use Rattle.wh_control.specs.Represents.{Func, InRange, CallsState, RepresentsCalls}
 use Rattle.wh_control.specs.declared.store.Store as stored
 use Rattle.wh_control.specs.Parts.{ProgramParts, funcs_in}
 use Rattle.wh_machine.specs.declared.machine.Machine.{Machine}
 use Rattle.wh_machine.specs.declared.machine.Stepped.{Stepped}
 use Rattle.wh_machine.specs.declared.machine.Stepped.TheVariants as steps
+use Rattle.wh_machine.specs.Executing.{calls_of, ended_calls}
 use Rattle.wh_machine.specs.Runs.{calls_in, RepresentsInstance, RepresentsMachine}
 use Rattle.wh_machine.specs.States.{CallState, Setting}
 use Rattle.wh_machine.specs.Stepping.{IsRun}
@@ -30,6 +33,23 @@ pub stands_with : {p : ProgramParts} {m : Machine} {k : stored.Store} {flat : Li
 stands_with {p} {m} {k} {flat} {most} {out} {inst} st =
     let same = ap store_of st.nested ∙ store_there st.context (funcs_in p) out (calls_in m) st.s st.focused st.calls in
     (st.context, subst (λ s. RepresentsInstance p k flat most st.context inst s) (sym same) st.around)
+
+-- ---- results
+
+abbrev values_in : Config → List Value
+values_in (config s f (code vs is)) = vs
+values_in c = []
+
+fit_there : (c : Context) (funcs : List Func) (out : Option ValType) (m : CallsState) (s : Store) (to : Focused) → m.now ≡ None → RepresentsCalls c funcs out m s to → AllByRecursion InRange (values_in (plug to))
+fit_there c funcs out m s (running s2 a ws) none h = let now = h.2.now in absurd (cc (none, now))
+fit_there c funcs out m s (finished s2 vs) none h = h.5
+fit_there c funcs out m s (stopped s2 x) none h = absurd h
+
+-- where the call has ended, its values are in range
+fit_ended : {p : ProgramParts} {m : Machine} {k : stored.Store} {flat : List ℕ} {most : ℕ} {out : Option ValType} {inst : Instance} {cfg : Config} (s : Store) (us : List Value) → RepresentsMachine p m k flat most out inst cfg → m.running ≡ false → cfg ≡ config s [] (code us nothing) → AllByRecursion InRange us
+fit_ended {p} {m} {out = out} s us st ended is =
+    let none : (calls_in m).now ≡ None = ap (λ b. let calls : CallsState = cond b (calls_of m.stack) (ended_calls m.stack) in calls.now) ended in
+    subst (AllByRecursion InRange) (ap values_in (sym st.nested ∙ is)) (fit_there st.context (funcs_in p) out (calls_in m) st.s st.focused none st.calls)
 
 -- ---- runs
 
@@ -51,7 +71,7 @@ runs_to w before fuel steps.Done n end after went a out inst cfg st =
     let top = a.1 ∙ ap (λ ws. slice_get ws 0) words in
     subst (λ o. Came w before after out inst cfg fuel o n) (sym a.2) (
       s,
-      (went.0, us, types, top, subst (TakesTo w inst before.memory cfg after.memory n) is x.1),
+      (went.0, us, (types, fit_ended s us x.2 went.2 is), top, subst (TakesTo w inst before.memory cfg after.memory n) is x.1),
       (store.0, subst (λ z. RepresentsInstance w.program after.store (w.bytes after.memory) w.limit store.0 inst z) (ap store_of is) store.1),
     )
 runs_to w before fuel (steps.Trapped trap) n end after went a out inst cfg st =

@@ -1,9 +1,10 @@
 -- What a run of a call comes to, over any linear memory.
 use Rattle.std.specs.Prelude.{◌≡◌, ℕ, ◌<◌, ◌≤◌, List, [], Option, slice_get, map, reverse, true}
+use Rattle.std.specs.List.{AllByRecursion}
 use Rattle.wh_model.specs.declared.ValType.{ValType}
 use Rattle.wh_model.specs.Format.Syntax.{nothing, FuncType, Body}
 use Rattle.wh_model.specs.Validity.Typing.{Context, operand}
-use Rattle.wh_model.specs.Execution.Store.{Value, type_of, Instance, Store}
+use Rattle.wh_model.specs.Execution.Store.{Value, type_of, InRange, Instance, Store}
 use Rattle.wh_model.specs.Execution.Configuration.{code, called, Config, config, trapped, store_of}
 use Rattle.wh_model.specs.Execution.Reduction.{After, IsNext}
 use Rattle.wh_model.specs.Execution.Asking.{Asks}
@@ -38,6 +39,10 @@ StopsAt w after out inst leads n s Is =
     (c : Config) × leads n c × Is c × (s ≡ store_of c) × StandsFor w after out inst c
     × (after.machine.running ≡ true) × IsSettledIn w.program after.machine
 
+-- the values are of the result's type, and in its range
+abbrev pub AreResults : Option ValType → List Value → Type 0
+AreResults out us = (map type_of us ≡ operand out) × AllByRecursion InRange us
+
 -- To what a call with this result comes within this fuel, where `leads` says to which configuration so many charges
 -- lead. It is done, with values of the result's type, of which the topmost is the answer; or it traps; or all fuel is
 -- taken, and a charged reduction is next; or there is fuel left, and the next reduction reads or writes these bytes,
@@ -45,7 +50,7 @@ StopsAt w after out inst leads n s Is =
 abbrev pub EndsWithin : {M : Type 0} → Setting M → CallState M → Option ValType → Instance
     → (ℕ → Config → Type 0) → ℕ → RunEnd → ℕ → Store → Type 0
 EndsWithin w after out inst leads fuel (Returned result) n s =
-    (n ≤ fuel) × (us : List Value) × (map type_of us ≡ operand out) × (result ≡ slice_get (map bits_of us) 0)
+    (n ≤ fuel) × (us : List Value) × AreResults out us × (result ≡ slice_get (map bits_of us) 0)
     × leads n (config s [] (code us nothing))
 EndsWithin w after out inst leads fuel (Trapped x) n s = (n ≤ fuel) × leads n (trapped s x)
 EndsWithin w after out inst leads fuel OutOfFuel n s =

@@ -104,6 +104,11 @@ slice_get-front [] ys i x within is = absurd (omega arith)
 slice_get-front (z ∷ xs) ys zero x within is = ap Some (sym is)
 slice_get-front (z ∷ xs) ys (suc i) x within is = slice_get-front xs ys i x (omega arith) is
 
+pub get_or_front : {X : Type 0} (xs ys : List X) (i : ℕ) (x none : X) → i < length xs → x ≡ get_or xs i x → x ≡ get_or (xs ++ ys) i none
+get_or_front [] ys i x none within is = absurd (omega arith)
+get_or_front (z ∷ xs) ys zero x none within is = is
+get_or_front (z ∷ xs) ys (suc i) x none within is = get_or_front xs ys i x none (omega arith) is
+
 -- a write to a frame that was taken is a write to that frame of the pool
 pub pool_of-write : (a : Inside) (f : ℕ) (bytes : List ℕ) → f < length a.frames.items → pool_of (record a { frames = with_item a.frames f bytes }) ≡ with_bytes (pool_of a) f bytes
 pool_of-write a f bytes within =

@@ -1,6 +1,6 @@
 // The frames and their free list.
 
-ghost use Rattle.std.specs.Prelude.{◌≡◌, ◌≢◌, ◌↔◌, ℕ, ◌+◌, ◌<◌, ◌≤◌, ◌++◌, [], ◌∷◌, length, replicate, slice_get, Some, Err, OnErr, IfOk, IfErr, vec_len, vec_capacity};
+ghost use Rattle.std.specs.Prelude.{◌≡◌, ◌≢◌, ◌↔◌, ℕ, ◌+◌, ◌<◌, ◌≤◌, ◌++◌, [], ◌∷◌, length, replicate, get_or, slice_get, slice_set, Some, Err, OnErr, IfOk, IfErr, vec_len, vec_capacity};
 ghost use Rattle.std.specs.Borrow.{sem};
 ghost use Rattle.wh_frames.specs.Lending.{LendsFrame};
 ghost use Rattle.wh_host_model.specs.Frames.{IsTaken, HasDistinctFree, TakesFrame, tally, one_if};
@@ -110,6 +110,7 @@ impl FramePool {
     }
 
     /// The bytes of a taken frame.
+    #[inline(always)]
     pub fn bytes(&self, frame: u32) -> &[u8; 4096]
         requires { IsTaken self.now frame }
         ensures { slice_get self.now.frames frame ≡ Some result.now }
@@ -118,12 +119,31 @@ impl FramePool {
     }
 
     /// The bytes of a taken frame, to be written.
+    #[inline(always)]
     pub fn bytes_mut(&mut self, frame: u32) -> &mut [u8; 4096]
         requires { IsTaken self.old frame }
         ensures* writes { sem 𝓛 (LendsFrame self.entry frame result) }
         ensures value { slice_get self.old.frames frame ≡ Some result.now }
     {
         &mut self.frames[frame as usize]
+    }
+
+    /// Copies the bytes of a taken frame to another one.
+    pub fn copy(&mut self, from: u32, to: u32)
+        requires from { IsTaken self.old from }
+        requires to { IsTaken self.old to }
+        ensures { self.new ≡ record self.old {
+          frames = slice_set self.old.frames to (get_or self.old.frames from []);
+        } }
+    {
+        self.frames[to as usize] = self.frames[from as usize];
+    }
+
+    /// How many frames there are.
+    pub fn len(&self) -> u32
+        ensures { result ≡ length self.now.frames }
+    {
+        self.limit
     }
 
     /// How many frames are free.

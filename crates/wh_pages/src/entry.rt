@@ -1,7 +1,8 @@
 // An entry of the table: a page with its mark, in 8 bytes.
 
-ghost use Rattle.std.specs.Prelude.{◌≡◌, false};
-ghost use Rattle.wh_host_model.specs.declared.states.Page.TheVariants.{Untouched as UntouchedPage};
+ghost use Rattle.std.specs.Prelude.{◌≡◌, false, IfSome};
+ghost use Rattle.wh_host_model.specs.declared.states.Page.TheVariants.{Private, Untouched as UntouchedPage};
+ghost use Rattle.wh_host_model.specs.Space.Moves.{frame_of};
 ghost use Rattle.wh_pages.specs.Parts.{page_of};
 
 use wh_host_model::Page;
@@ -62,7 +63,30 @@ impl Entry {
         }
     }
 
+    // The frame on which the page stands, if it stands on one.
+    #[inline(always)]
+    pub fn frame(self) -> Option<u32>
+        ensures { result ≡ frame_of (page_of self) }
+    {
+        match self.kind {
+            Kind::Private | Kind::Shared | Kind::Leaving | Kind::LeavingShared => Some(self.number),
+            Kind::Untouched | Kind::Coming | Kind::Swapped => None,
+        }
+    }
+
+    // The frame on which the page stands alone, without leaving it.
+    #[inline(always)]
+    pub fn own_frame(self) -> Option<u32>
+        ensures { IfSome result (λ frame. page_of self ≡ Private frame) }
+    {
+        match self.kind {
+            Kind::Private => Some(self.number),
+            _ => None,
+        }
+    }
+
     // The page.
+    #[inline(always)]
     pub fn page(self) -> Page
         ensures { result ≡ page_of self }
     {

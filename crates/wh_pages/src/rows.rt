@@ -41,6 +41,7 @@ impl Rows {
     }
 
     // The entry at this place.
+    #[inline(always)]
     pub fn get(&self, at: u32) -> Entry
         requires { at < length self.now }
         ensures { slice_get self.now at ≡ Some result }
@@ -49,6 +50,7 @@ impl Rows {
     }
 
     // Puts an entry at this place.
+    #[inline(always)]
     pub fn set(&mut self, at: u32, entry: Entry)
         requires { at < length self.old }
         ensures { self.new ≡ slice_set self.old at entry }

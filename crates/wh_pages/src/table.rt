@@ -1,7 +1,9 @@
 // The table as its caller sees it.
 
-ghost use Rattle.std.specs.Prelude.{◌≡◌, ◌↔◌, ◌+◌, ◌<◌, ◌≤◌, ◌++◌, [], ◌∷◌, true, false, IsTrue, IsFalse, Some, IfOk, length, replicate, slice_get, slice_set};
-ghost use Rattle.wh_host_model.specs.declared.states.Page.TheVariants.{Untouched};
+ghost use Rattle.std.specs.Prelude.{◌≡◌, ◌↔◌, ◌+◌, ◌<◌, ◌≤◌, ◌++◌, [], ◌∷◌, true, false, IsTrue, IsFalse, Some, IfOk, IfSome, length, replicate, slice_get, slice_set};
+ghost use Rattle.wh_host_model.specs.Space.Moves.{frame_of};
+ghost use Rattle.wh_host_model.specs.declared.states.Page.TheVariants.{Private, Untouched};
+ghost use Rattle.wh_pages.specs.Table.{touched_if};
 
 use crate::entry::Entry;
 use crate::rows::{LEAF, Rows};
@@ -47,6 +49,7 @@ impl PageTable {
     }
 
     /// How many pages there are.
+    #[inline(always)]
     pub fn len(&self) -> u32
         ensures pages { result ≡ length self.now.pages }
         ensures touched { result ≡ length self.now.touched }
@@ -64,6 +67,7 @@ impl PageTable {
     }
 
     /// The page at this place, which is below `len`.
+    #[inline(always)]
     pub fn page(&self, at: u32) -> Page
         requires { at < length self.now.pages }
         ensures { slice_get self.now.pages at ≡ Some result }
@@ -72,6 +76,7 @@ impl PageTable {
     }
 
     /// Whether the page at this place, which is below `len`, was touched in this epoch.
+    #[inline(always)]
     pub fn is_touched(&self, at: u32) -> bool
         requires { at < length self.now.pages }
         ensures { slice_get self.now.touched at ≡ Some result }
@@ -94,6 +99,35 @@ impl PageTable {
         ensures { self.new ≡ record self.old { touched = slice_set self.old.touched at true } }
     {
         self.mark(at, true);
+    }
+
+    /// The frame on which the page at this place, which is below `len`, stands; the page is marked as touched then. Where
+    /// it stands on none nothing is done.
+    #[inline(always)]
+    pub fn touch_resident(&mut self, at: u32) -> Option<u32>
+        requires { at < length self.old.pages }
+        ensures frame { (page : Page) → slice_get self.old.pages at ≡ Some page
+            → result ≡ frame_of page }
+        ensures touched { self.new
+            ≡ record self.old { touched = touched_if result self.old.touched at } }
+    {
+        let frame = self.rows.get(at).frame()?;
+        self.mark(at, true);
+        Some(frame)
+    }
+
+    /// The frame on which the page at this place, which is below `len`, stands alone, if it is `Private`; the page is
+    /// marked as touched then. Else nothing is done.
+    #[inline(always)]
+    pub fn touch_private(&mut self, at: u32) -> Option<u32>
+        requires { at < length self.old.pages }
+        ensures frame { IfSome result (λ frame. slice_get self.old.pages at ≡ Some (Private frame)) }
+        ensures touched { self.new
+            ≡ record self.old { touched = touched_if result self.old.touched at } }
+    {
+        let frame = self.rows.get(at).own_frame()?;
+        self.mark(at, true);
+        Some(frame)
     }
 
     /// Takes the mark from the page at this place, which is below `len`: it wasn't touched in this epoch.
@@ -140,6 +174,7 @@ impl PageTable {
     }
 
     // Gives the page at this place this mark.
+    #[inline(always)]
     fn mark(&mut self, at: u32, touched: bool)
         requires { at < length self.old.pages }
         ensures { self.new ≡ record self.old { touched = slice_set self.old.touched at touched } }

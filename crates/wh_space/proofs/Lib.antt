@@ -11,3 +11,5 @@ pub mod Summing
 pub mod Stood
 pub mod Epochal
 pub mod Merges
+pub mod LeavingPages
+pub mod LeavingMemory

@@ -1,5 +1,5 @@
 -- A page that is broken off from all others.
-use Rattle.std.proofs.Common.{◌≡◌, ℕ, ◌+◌, ◌<◌, ◌≤◌, inl, inr, List, [], ◌∷◌, Option, Some, None, length, get_or, map, slice_set, replicate, zero, suc, true, refl, sym, ◌∙◌, ap, subst, arith}
+use Rattle.std.proofs.Common.{◌≡◌, ℕ, ◌+◌, ◌<◌, ◌≤◌, inl, inr, List, [], ◌∷◌, Option, Some, None, IfSome, IfNone, length, get_or, map, slice_get, slice_set, replicate, zero, suc, true, refl, sym, ◌∙◌, ap, subst, arith}
 use Rattle.std.proofs.lemmas.Bool.Decides.{nat_tests}
 use Rattle.std.proofs.lemmas.List.{append-nil}
 use Rattle.wh_host_model.specs.Frames.{IsTaken, Pool, one_if, TakesFrame as PoolTakes}
@@ -20,7 +20,7 @@ use Rattle.wh_host_model.proofs.Space.Reading.{shared_taken}
 use Rattle.wh_space.specs.declared.memory.Memory.TheInside.{Inside}
 use Rattle.wh_space.specs.Pages.{limits_in, marks_in, pages_in}
 use Rattle.wh_space.specs.Parts.{IsWell, space_of}
-use Rattle.wh_space.specs.Steps.{CanBreak}
+use Rattle.wh_space.specs.Steps.{CanBreak, Owns}
 use Rattle.wh_space.proofs.Wellness.{well}
 
 -- ---- what a page is that owns a frame, or shares it
@@ -154,6 +154,42 @@ owned_by a b i p g x was guests slots tax pages marks limits there gets =
       well = well a b was guests limits (breaks_soundly s i p (space_of b) was.sound breaks).0;
       breaks = breaks;
       page = ap (λ (t : List (List Page)). page_at t i p) pages ∙ put_this (pages_in a.tables.items) i p x (Private g) there;
+    }
+
+-- ---- a page that was alone already, or nothing was done
+
+put_found : {X : Type 0} (xss : List (List X)) (i p : ℕ) (x : X) → page_at xss i p ≡ Some x → put xss i p x ≡ xss
+put_found [] i p x there = refl
+put_found (xs ∷ xss) zero p x there = ap (λ z. z ∷ xss) (same xs p x there) where
+  same : {X : Type 0} (xs : List X) (p : ℕ) (x : X) → slice_get xs p ≡ Some x → slice_set xs p x ≡ xs
+  same [] p x there = refl
+  same (y ∷ xs) zero x there = let e : Some y ≡ Some x = there in cc
+  same (y ∷ xs) (suc p) x there = ap (λ z. y ∷ z) (same xs p x there)
+put_found (xs ∷ xss) (suc i) p x there = ap (λ z. xs ∷ z) (put_found xss i p x there)
+
+pub record IsQuick (a b : Inside) (i p : ℕ) (found : Option ℕ) : Type 0 where
+  pub well : IsWell b
+  pub owns : IfSome found (λ frame. Owns (space_of a) i p (Some frame) (space_of b))
+  pub same : IfNone found (space_of b ≡ space_of a)
+
+one_own : (g : ℕ) → owns g (Private g) ≡ 1
+one_own g = grind (arith, nat_tests)
+
+pub quickly : (a b : Inside) (i p : ℕ) (found : Option ℕ) → IsWell a → b.guests ≡ a.guests → b.pool ≡ a.pool → b.content ≡ a.content → b.slots ≡ a.slots → b.tax ≡ a.tax
+    → IfSome found (λ frame. page_at (pages_in a.tables.items) i p ≡ Some (Private frame)) → pages_in b.tables.items ≡ pages_in a.tables.items
+    → IfSome found (λ frame. marks_in b.tables.items ≡ put (marks_in a.tables.items) i p true) → limits_in b.tables.items ≡ limits_in a.tables.items
+    → IfNone found (marks_in b.tables.items ≡ marks_in a.tables.items) → IsQuick a b i p found
+quickly a b i p None was guests pool content slots tax there pages marked limits same =
+    let is : space_of b ≡ space_of a = rw (guests, pages, same, pool, content, slots, tax) refl in
+    record { well = well a b was guests limits (subst IsSound (sym is) was.sound); owns = tt; same = is }
+quickly a b i p (Some g) was guests pool content slots tax there pages marked limits same =
+    let s : Space = space_of a in
+    let gets : GetsFrame s i (Private g) g (record s { pool = b.pool; marks = b.content }) = (refl, rw (pool, content) refl) in
+    let o = owned_by a b i p g (Private g) was guests slots tax (pages ∙ sym (put_found (pages_in a.tables.items) i p (Private g) there)) marked limits there gets in
+    record {
+      well = o.well;
+      owns = (can_keep s i p g (Private g) was.sound there (one_own g), o.breaks, o.page);
+      same = tt;
     }
 
 -- ---- a page that shares a frame

@@ -31,3 +31,14 @@ guest_at (Some g ∷ xs) zero t is = (g, refl, ap (λ (o : Option (Option Occupa
   number_of (Some None) = 0
   number_of (Some (Some t)) = t.number
 guest_at (x ∷ xs) (suc j) t is = let k = guest_at xs j t is in (k.0, k.1, k.2, (let l = k.3 in omega arith))
+
+some_is : {X : Type 0} {x y : X} → Some x ≡ Some y → x ≡ y
+some_is e = cc
+
+-- one more is summed up
+pub tally_next : {X : Type 0} (w : X → ℕ) (xs : List X) (i : ℕ) (x : X) → slice_get xs i ≡ Some x → tally w (take (i + 1) xs) ≡ tally w (take i xs) + w x
+tally_next w xs i x is = let e : i + 1 ≡ suc i = omega arith in rw e (next w xs i x is) where
+  next : {X : Type 0} (w : X → ℕ) (xs : List X) (i : ℕ) (x : X) → slice_get xs i ≡ Some x → tally w (take (suc i) xs) ≡ tally w (take i xs) + w x
+  next w [] i x is = absurd (cc is)
+  next w (y ∷ xs) zero x is = let e : y ≡ x = some_is is in rw e (omega arith)
+  next w (y ∷ xs) (suc i) x is = let e = next w xs i x is in omega arith

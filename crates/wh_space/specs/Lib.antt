@@ -1,5 +1,7 @@
 pub mod Arrivals
+pub mod Counts
 pub mod Guests
+pub mod Leaving
 pub mod Merges
 pub mod Pages
 pub mod Parts

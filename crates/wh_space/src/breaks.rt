@@ -6,9 +6,9 @@ ghost use Rattle.wh_host_model.specs.Space.States.{at, owns, page_at, shares};
 ghost use Rattle.wh_host_model.specs.declared.states.Page.TheVariants.{Untouched};
 ghost use Rattle.wh_space.specs.Steps.{Owns};
 
-use crate::frames::{clear_frame, copy_frame};
+use crate::frames::clear_frame;
 use crate::memory::Memory;
-use crate::pages::{page_of, stand_alone};
+use crate::pages::{page_of, stand_alone, touch_private};
 use wh_host_model::{Mark, Page};
 
 impl Memory {
@@ -25,7 +25,6 @@ impl Memory {
     }
 
     // The page has this frame already.
-    #[inline(always)]
     fn keep_own(&mut self, place: usize, number: u32, frame: u32)
         requires { at (owns frame) (page_at self.old.tables place number) ≡ 1 }
         ensures { Owns self.old place number (Some frame) self.new }
@@ -65,7 +64,7 @@ impl Memory {
         let Ok(fresh) = self.pool.take() else {
             return None;
         };
-        copy_frame(&mut self.pool, frame, fresh);
+        self.pool.copy(frame, fresh);
         self.content.drop_sharer(frame);
         stand_alone(&mut self.tables, place, number, fresh);
         Some(fresh)
@@ -87,7 +86,6 @@ impl Memory {
 
     // Breaks a page off from all others. The frame on which it stands alone then; or none where there is none for it, or
     // it isn't at hand, and then nothing is done.
-    #[inline(always)]
     pub(crate) fn own(&mut self, place: usize, number: u32) -> Option<u32>
         requires { number < length (get_or self.old.tables place []) }
         ensures { Owns self.old place number result self.new }
@@ -117,10 +115,6 @@ impl Memory {
         ensures some { IfSome result (λ frame. Owns self.old place number (Some frame) self.new) }
         ensures none { IfNone result (self.new ≡ self.old) }
     {
-        let Page::Private(frame) = page_of(&self.tables, place, number) else {
-            return None;
-        };
-        self.keep_own(place, number, frame);
-        Some(frame)
+        touch_private(&mut self.tables, place, number)
     }
 }

@@ -6,6 +6,7 @@ ghost use Rattle.wh_host_model.specs.Pages.{zero_page};
 ghost use Rattle.wh_host_model.specs.Space.Moves.{frame_of};
 ghost use Rattle.wh_model.specs.Execution.Store.{bytes_at, written};
 
+use crate::copying::copy_bytes;
 use wh_frames::FramePool;
 use wh_host_model::Page;
 
@@ -25,6 +26,7 @@ pub fn frame_under(page: Page) -> Option<u32>
 }
 
 // Reads bytes of a frame from a place on.
+#[inline(always)]
 pub fn read_frame(pool: &FramePool, frame: u32, offset: usize, into: &mut [u8])
     requires taken { IsTaken pool.now frame }
     requires inside { offset + length into.old ≤ 4096 }
@@ -35,14 +37,16 @@ pub fn read_frame(pool: &FramePool, frame: u32, offset: usize, into: &mut [u8])
 }
 
 // Writes bytes over those of a frame from a place on.
+#[inline(always)]
 fn write_bytes(bytes: &mut [u8; 4096], offset: usize, given: &[u8])
     requires { offset + length given.now ≤ 4096 }
     ensures { bytes.new ≡ written bytes.old offset given.now }
 {
-    bytes[offset..offset + given.len()].copy_from_slice(given);
+    copy_bytes(&mut bytes[offset..offset + given.len()], given);
 }
 
 // Writes bytes into a frame from a place on.
+#[inline(always)]
 pub fn write_frame(pool: &mut FramePool, frame: u32, offset: usize, given: &[u8])
     requires taken { IsTaken pool.old frame }
     requires inside { offset + length given.now ≤ 4096 }
@@ -61,17 +65,4 @@ pub fn clear_frame(pool: &mut FramePool, frame: u32)
     ensures { pool.new ≡ record pool.old { frames = slice_set pool.old.frames frame zero_page } }
 {
     *pool.bytes_mut(frame) = [0; 4096];
-}
-
-// Copies the bytes of a frame to another.
-pub fn copy_frame(pool: &mut FramePool, from: u32, to: u32)
-    requires from { IsTaken pool.old from }
-    requires to { IsTaken pool.old to }
-    ensures { pool.new ≡ record pool.old {
-      frames = slice_set pool.old.frames to
-          (get_or pool.old.frames from []);
-    } }
-{
-    let bytes = *pool.bytes(from);
-    *pool.bytes_mut(to) = bytes;
 }

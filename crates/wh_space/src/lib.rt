@@ -5,10 +5,13 @@ ghost use Rattle.std.specs.Prelude.{◌≡◌};
 
 mod arrivals;
 mod breaks;
+mod copying;
+mod counts;
 mod epochs;
 mod frames;
 mod growth;
 mod guest;
+mod leaving;
 mod loads;
 mod memory;
 mod merging;
@@ -95,7 +98,7 @@ mod tests {
         assert_eq!(rt; stored(&mut one, 131069, [5; 4]), Got::Trap);
         assert_eq!(rt; quickly(&mut one, 8, [6; 4]), (true, true, [6; 4]));
         assert_eq!(rt; quickly(&mut one, 4094, [7; 4]), (false, false, [9; 4]));
-        assert_eq!(rt; quickly(&mut one, 8192, [7; 4]), (false, true, [0; 4]));
+        assert_eq!(rt; quickly(&mut one, 8192, [7; 4]), (false, false, [9; 4]));
         assert_eq!(rt; sizes(&mut one, 1), (2, Grown::Refused, 2));
 
         // The other one sees none of it, and has the last two frames.

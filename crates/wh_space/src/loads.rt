@@ -14,7 +14,7 @@ ghost use Rattle.wh_space.specs.Steps.{LeavesLoad};
 
 use crate::frames::{frame_under, read_frame};
 use crate::memory::Memory;
-use crate::pages::{is_near, len_at, page_of, touch};
+use crate::pages::{is_near, len_at, page_of, touch, touch_resident};
 use wh_frames::FramePool;
 use wh_host_model::Page;
 use wh_model::{Got, Need};
@@ -27,7 +27,6 @@ fn clear(into: &mut [u8])
 }
 
 // Reads bytes of a page. Where it isn't at hand nothing is done, and the answer is false.
-#[inline(always)]
 fn read_page(pool: &FramePool, page: Page, offset: usize, into: &mut [u8]) -> bool
     requires taken { (f : ℕ) → frame_of page ≡ Some f → IsTaken pool.now f }
     requires inside { offset + length into.old ≤ 4096 }
@@ -49,7 +48,6 @@ fn read_page(pool: &FramePool, page: Page, offset: usize, into: &mut [u8]) -> bo
 
 impl Memory {
     // Whether so many bytes from a place on are in the memory of the instance.
-    #[inline(always)]
     pub(crate) fn fits(&self, place: usize, at: u64, count: usize) -> bool
         ensures fits { IsTrue result
             ↔ (at + count ≤ 4096 * length (get_or self.now.tables place [])) }
@@ -61,7 +59,6 @@ impl Memory {
 
     // Reads bytes of a page, and marks it as touched. Where the page isn't at hand nothing is done, and the answer is
     // false.
-    #[inline(always)]
     fn load_inside(&mut self, place: usize, number: u32, offset: usize, into: &mut [u8]) -> bool
         requires page { number < length (get_or self.old.tables place []) }
         requires inside { offset + length into.old ≤ 4096 }
@@ -120,12 +117,9 @@ impl Memory {
         Got::Value
     }
 
-    /// Reads bytes of the instance at this place, from this one on, and marks their pages as touched.
-    ///
-    /// It answers `Trap` where they aren't all in its memory, and `NotReady` where a page of them is in a slot or on the
-    /// way from one. Then nothing is done. It takes no frame.
-    #[inline(always)]
-    pub fn load(&mut self, place: usize, at: u64, into: &mut [u8]) -> Got
+    // Reads bytes as `load` does, and looks at all that may be in the way.
+    #[inline(never)]
+    fn load_slowly(&mut self, place: usize, at: u64, into: &mut [u8]) -> Got
         requires few { length into.old ≤ 4096 }
         ensures loads { Loads (Ready self.old place) (view self.old place)
             at into.old result into.new }
@@ -153,8 +147,55 @@ impl Memory {
         }
     }
 
-    /// Reads bytes as `load` does, where they lie on one page that is at hand. Where they don't nothing is done, and the
-    /// answer is false.
+    /// Reads bytes of the instance at this place, from this one on, and marks their pages as touched.
+    ///
+    /// It answers `Trap` where they aren't all in its memory, and `NotReady` where a page of them is in a slot or on the
+    /// way from one. Then nothing is done. It takes no frame.
+    #[inline(always)]
+    pub fn load(&mut self, place: usize, at: u64, into: &mut [u8]) -> Got
+        requires few { length into.old ≤ 4096 }
+        ensures loads { Loads (Ready self.old place) (view self.old place)
+            at into.old result into.new }
+        ensures leaves { LeavesLoad self.old place at (length into.old) result self.new }
+    {
+        if self.quick_load(place, at, into) {
+            return Got::Value;
+        }
+        self.load_slowly(place, at, into)
+    }
+
+    // Whether a page of this number is in the memory of the instance.
+    #[inline(always)]
+    pub(crate) fn has_page(&self, place: usize, number: u64) -> bool
+        ensures has { IsTrue result ↔ (number < length (get_or self.now.tables place [])) }
+        ensures few { length (get_or self.now.tables place []) < 2 ^ 32 }
+    {
+        number < u64::from(len_at(&self.tables, place))
+    }
+
+    // Reads bytes of a page that stands on a frame, and marks it as touched. Where it stands on none nothing is done, and
+    // the answer is false.
+    #[inline(always)]
+    fn load_resident(&mut self, place: usize, number: u32, offset: usize, into: &mut [u8]) -> bool
+        requires page { number < length (get_or self.old.tables place []) }
+        requires inside { offset + length into.old ≤ 4096 }
+        ensures hand { IsTrue result → IsAtHand (page_at self.old.tables place number) }
+        ensures read { IsTrue result
+            → into.new ≡ bytes_at (view self.old place) (4096 * number + offset) (length into.old) }
+        ensures touched { IsTrue result
+            → self.new ≡ record self.old { touched = put self.old.touched place number true } }
+        ensures unchanged { IsFalse result → self.new ≡ self.old }
+        ensures left { IsFalse result → into.new ≡ into.old }
+    {
+        let Some(frame) = touch_resident(&mut self.tables, place, number) else {
+            return false;
+        };
+        read_frame(&self.pool, frame, offset, into);
+        true
+    }
+
+    /// Reads bytes as `load` does, where they lie on one page that stands on a frame. Where they don't nothing is done, and
+    /// the answer is false.
     #[inline(always)]
     pub fn quick_load(&mut self, place: usize, at: u64, into: &mut [u8]) -> bool
         requires few { length into.old ≤ 4096 }
@@ -164,14 +205,13 @@ impl Memory {
         ensures unchanged { IsFalse result → self.new ≡ self.old }
         ensures left { IsFalse result → into.new ≡ into.old }
     {
-        let _ = &self.tax;
         let offset = (at % 4096) as usize;
         if into.is_empty() || offset + into.len() > 4096 {
             return false;
         }
-        if !self.fits(place, at, into.len()) {
+        if !self.has_page(place, at / 4096) {
             return false;
         }
-        self.load_inside(place, (at / 4096) as u32, offset, into)
+        self.load_resident(place, (at / 4096) as u32, offset, into)
     }
 }

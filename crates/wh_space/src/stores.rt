@@ -61,13 +61,9 @@ impl Memory {
         Got::Value
     }
 
-    /// Writes bytes to the memory of the instance at this place, from this one on. Their pages are broken off from all
-    /// others, and marked as touched.
-    ///
-    /// It answers `Trap` where they aren't all in its memory, and `NotReady` where a page of them is in a slot or on the
-    /// way from one, or no frame is free for it. Then nothing is done. It takes no memory from the allocator.
-    #[inline(always)]
-    pub fn store(&mut self, place: usize, at: u64, given: &[u8]) -> Got
+    // Writes bytes as `store` does, and looks at all that may be in the way.
+    #[inline(never)]
+    fn store_slowly(&mut self, place: usize, at: u64, given: &[u8]) -> Got
         requires few { length given.now ≤ 4096 }
         ensures stores { Stores (Ready self.old place) (view self.old place)
             at given.now result (view self.new place) }
@@ -97,6 +93,24 @@ impl Memory {
         }
     }
 
+    /// Writes bytes to the memory of the instance at this place, from this one on. Their pages are broken off from all
+    /// others, and marked as touched.
+    ///
+    /// It answers `Trap` where they aren't all in its memory, and `NotReady` where a page of them is in a slot or on the
+    /// way from one, or no frame is free for it. Then nothing is done. It takes no memory from the allocator.
+    #[inline(always)]
+    pub fn store(&mut self, place: usize, at: u64, given: &[u8]) -> Got
+        requires few { length given.now ≤ 4096 }
+        ensures stores { Stores (Ready self.old place) (view self.old place)
+            at given.now result (view self.new place) }
+        ensures leaves { LeavesStore self.old place at given.now result self.new }
+    {
+        if self.quick_store(place, at, given) {
+            return Got::Value;
+        }
+        self.store_slowly(place, at, given)
+    }
+
     /// Writes bytes as `store` does, where they go to one page that has a frame of its own. Where they don't nothing is
     /// done, and the answer is false.
     #[inline(always)]
@@ -112,7 +126,7 @@ impl Memory {
         if given.is_empty() || offset + given.len() > 4096 {
             return false;
         }
-        if !self.fits(place, at, given.len()) {
+        if !self.has_page(place, at / 4096) {
             return false;
         }
         let number = (at / 4096) as u32;

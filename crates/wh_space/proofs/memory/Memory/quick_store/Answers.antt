@@ -1,4 +1,4 @@
-use Rattle.std.proofs.Common.{◌≡◌, ◌≤◌, ◌+◌, ◌*◌, List, ℕ, [], ◌∷◌, ◌/◌, ◌%◌, length, subst, arith}
+use Rattle.std.proofs.Common.{◌≡◌, ◌≤◌, ◌+◌, ◌*◌, List, ℕ, [], ◌∷◌, ◌/◌, ◌%◌, length, get_or, subst, arith}
 use Rattle.std.proofs.lemmas.Grind.{common_steps}
 use Rattle.wh_host_model.specs.Space.Sound.{IsSound}
 use Rattle.wh_host_model.specs.Space.Stores.{Fills, Overwrites}
@@ -29,5 +29,7 @@ returns-clause-stores c =
     let sound : IsSound s = subst IsSound c.self.view_is c.self.invariant.sound in
     let some : 1 ≤ length given = grind (arith, common_steps) in
     let within : k % 4096 + length given ≤ 4096 = omega (arith, c.if-offset-given-gt4096.false) in
-    λ yes. stored s c.write_own.new.self c.args.place k given ((k / 4096) ∷ []) sound (c.fits.ensures.fits.0 c.if-not-fits.false)
+    let there = c.has_page.ensures.has.0 c.if-not-has_page.false in
+    let fits : k + length given ≤ 4096 * length (get_or s.tables c.args.place []) = omega (arith, within, there) in
+    λ yes. stored s c.write_own.new.self c.args.place k given ((k / 4096) ∷ []) sound fits
     (on_one_page k (length given) some within) (can_step_one s c.args.place (k / 4096) c.in-Some.ensures.some.0) (over c)

@@ -5,8 +5,8 @@ use Rattle.wh_space.specs.Parts.{space_of}
 use Rattle.wh_space.proofs.Owning.{IsOwned, IsSharer, can_copy, cannot_copy, copy_leaves, is_sharer, owned_by}
 use Rattle.wh_space.proofs.memory.Memory.take_copy.Goals as goal
 
-pub copy_frame-requires-clause-from : goal.copy_frame-requires-clause-from
-copy_frame-requires-clause-from c =
+pub copy-requires-clause-from : goal.copy-requires-clause-from
+copy-requires-clause-from c =
     let x = is_sharer (space_of c.self.inside) c.args.place c.args.number c.args.frame c.self.invariant.sound (rw (← c.self.view_is) at c.requires.shares) in
     (c.in-Ok.ensures.others c.args.frame x.taken).1
 
@@ -22,12 +22,12 @@ sharer c = is_sharer (space_of c.self.inside) c.args.place c.args.number c.args.
 several : (c : goal.After-stand_alone) → 2 ≤ sharers (space_of c.self.inside) c.args.frame
 several c = rw (← c.self.view_is) at c.requires.several
 
-is_owned : (c : goal.After-stand_alone) → IsOwned c.self.inside (record c.self.inside { tables = c.stand_alone.new.tables; pool = c.copy_frame.new.pool; content = c.drop_sharer.new.self }) c.args.place c.args.number c.in-Ok.fresh
+is_owned : (c : goal.After-stand_alone) → IsOwned c.self.inside (record c.self.inside { tables = c.stand_alone.new.tables; pool = c.copy.new.self; content = c.drop_sharer.new.self }) c.args.place c.args.number c.in-Ok.fresh
 is_owned c =
     let x = sharer c in
-    owned_by c.self.inside (record c.self.inside { tables = c.stand_alone.new.tables; pool = c.copy_frame.new.pool; content = c.drop_sharer.new.self }) c.args.place c.args.number c.in-Ok.fresh x.page c.self.invariant refl refl refl
+    owned_by c.self.inside (record c.self.inside { tables = c.stand_alone.new.tables; pool = c.copy.new.self; content = c.drop_sharer.new.self }) c.args.place c.args.number c.in-Ok.fresh x.page c.self.invariant refl refl refl
     c.stand_alone.ensures.pages c.stand_alone.ensures.marks c.stand_alone.ensures.limits x.there
-    (copy_leaves (space_of c.self.inside) c.args.place c.args.frame c.in-Ok.fresh x.page c.drop_sharer.new.self c.take.new.self c.copy_frame.new.pool x.one (several c) c.drop_sharer.ensures c.in-Ok.ensures.takes c.copy_frame.ensures)
+    (copy_leaves (space_of c.self.inside) c.args.place c.args.frame c.in-Ok.fresh x.page c.drop_sharer.new.self c.take.new.self c.copy.new.self x.one (several c) c.drop_sharer.ensures c.in-Ok.ensures.takes c.copy.ensures)
 
 pub invariant_of-self-2 : goal.invariant_of-self-2
 invariant_of-self-2 c = (is_owned c).well

@@ -1,0 +1,5 @@
+pub mod Cutting
+mod Written
+mod Coming
+mod Opened
+mod Beginnings

@@ -1,0 +1,15 @@
+//! A turn of the present call of an instance, over any linear memory: the data segments of its start (4.5.4 of the W3C
+//! WebAssembly Core Specification 1.0), the invocation of its function (4.5.5), and so many charges of its execution.
+//!
+//! No call here takes memory.
+#![tactic(auto)]
+
+mod computing;
+mod starting;
+mod turning;
+mod writing;
+
+pub use computing::{Came, compute};
+pub use starting::turn_start;
+pub use turning::{turn_first, turn_on};
+pub use writing::{Cursor, write_pieces};

@@ -1,0 +1,74 @@
+//! Turns of the present call of an instance.
+
+ghost use Rattle.std.specs.Prelude.{◌≡◌, ◌≤◌, []};
+ghost use Rattle.wh_model.specs.Execution.Configuration.{Term};
+ghost use Rattle.wh_model.specs.Execution.Replay.{Call};
+ghost use Rattle.wh_model.specs.Execution.Store.{Instance};
+ghost use Rattle.wh_host_model.specs.Host.Worlds.{Rest, computing};
+ghost use Rattle.wh_machine.specs.Runs.{linked_parts};
+ghost use Rattle.wh_machine.specs.States.{setting_of, call_state};
+ghost use Rattle.wh_instance.specs.Turned.{IsFaced, IsComputing, Turns};
+
+use crate::computing::{Came, compute};
+use wh_imports::Linked;
+use wh_linmem::LinearMem;
+use wh_machine::{Machine, Store, begin};
+
+/// Gives a call that is under way a turn of q charges, of which it has taken so many and was given so much fuel: what came
+/// of it, and how many more were taken.
+pub fn turn_on<M: LinearMem>(
+    linked: &Linked,
+    store: &mut Store,
+    machine: &mut Machine,
+    memory: &mut M,
+    q: u64,
+    charges: u64,
+    fuel: u64,
+) -> (Came, u64)
+    requires computing { (inst : Instance) × (call : Call) × (r : Rest) × (t : Term) × IsComputing
+        (setting_of (linked_parts linked.now) M.bytes M.ready M.keeps (M.limit memory.old))
+        (call_state machine.old store.old memory.old)
+        inst call r t }
+    requires within { charges ≤ fuel }
+    ensures turns { (inst : Instance) (call : Call) (r : Rest) (t : Term)
+        → call.charges ≡ charges → call.fuel ≡ fuel → IsComputing
+        (setting_of (linked_parts linked.now) M.bytes M.ready M.keeps (M.limit memory.old))
+        (call_state machine.old store.old memory.old)
+        inst call r t → Turns
+        (setting_of (linked_parts linked.now) M.bytes M.ready M.keeps (M.limit memory.old))
+        inst q call memory.old r (computing t) result.0 0 result.1
+        (call_state machine.new store.new memory.new) [] }
+    ensures keeps { M.keeps memory.old memory.new }
+{
+    compute(linked, store, machine, memory, q, fuel - charges)
+}
+
+/// Begins a call of the function of this index with these words as arguments, and gives it a turn of q charges, where it
+/// was given so much fuel: what came of it, and how many were taken. Whatever the machine did before is given up.
+pub fn turn_first<M: LinearMem>(
+    linked: &Linked,
+    store: &mut Store,
+    machine: &mut Machine,
+    memory: &mut M,
+    q: u64,
+    fuel: u64,
+    func: u32,
+    args: &[u64],
+) -> (Came, u64)
+    requires { (inst : Instance) × (call : Call) × (r : Rest) × (t : Term) × IsFaced
+        (setting_of (linked_parts linked.now) M.bytes M.ready M.keeps (M.limit memory.old))
+        (call_state machine.old store.old memory.old)
+        inst call r func args.now t }
+    ensures turns { (inst : Instance) (call : Call) (r : Rest) (t : Term)
+        → call.fuel ≡ fuel → IsFaced
+        (setting_of (linked_parts linked.now) M.bytes M.ready M.keeps (M.limit memory.old))
+        (call_state machine.old store.old memory.old)
+        inst call r func args.now t → Turns
+        (setting_of (linked_parts linked.now) M.bytes M.ready M.keeps (M.limit memory.old))
+        inst q call memory.old r (computing t) result.0 0 result.1
+        (call_state machine.new store.new memory.new) [] }
+    ensures keeps { M.keeps memory.old memory.new }
+{
+    begin(linked, machine, func, args);
+    compute(linked, store, machine, memory, q, fuel)
+}
