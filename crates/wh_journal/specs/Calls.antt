@@ -1,0 +1,46 @@
+-- What contracts see of a call, and what becomes of it.
+use Rattle.std.specs.Prelude.{ℕ, ◌+◌, ◌-◌, ◌^◌, ℤ, List, Option, min, refl}
+use Rattle.std.specs.Coded.{Coded, code_by, coded_list, coded_option, coded_ℕ, coded_ℤ, coded×}
+use Rattle.wh_journal.specs.declared.end.CallEnd.{CallEnd}
+use Rattle.wh_journal.specs.contracts.end.CallEnd as end_type
+
+-- The index of its function, if it has one; its arguments as they were given, and as words; the fuel that it was given in
+-- all, how many pieces it has written, how many charges it has taken, and how it has ended, if it has.
+pub record JournalCallState : Type 0 where
+  pub func : Option ℕ
+  pub given : List ℤ
+  pub words : List ℕ
+  pub fuel : ℕ
+  pub pieces : ℕ
+  pub charges : ℕ
+  pub end : CallEnd
+
+-- it has written so many pieces more, and taken so many charges more
+abbrev pub with_progress : JournalCallState → ℕ → ℕ → JournalCallState
+with_progress c pieces charges = record c { pieces = c.pieces + pieces; charges = c.charges + charges }
+
+-- it was given so much fuel more, as far as it can be counted in 64 bits
+abbrev pub with_more_fuel : JournalCallState → ℕ → JournalCallState
+with_more_fuel c n = record c { fuel = min (c.fuel + n) (2 ^ 64 - 1) }
+
+-- it has ended so
+abbrev pub with_end : JournalCallState → CallEnd → JournalCallState
+with_end c end = record c { end = end }
+
+-- it can be stored: as its parts
+abbrev pub stored_call : Coded JournalCallState
+stored_call =
+    code_by (Option ℕ × (List ℤ × (List ℕ × (ℕ × (ℕ × (ℕ × CallEnd))))))
+    (coded× (coded_option coded_ℕ) (coded× (coded_list coded_ℤ) (coded× (coded_list coded_ℕ)
+    (coded× coded_ℕ (coded× coded_ℕ (coded× coded_ℕ end_type.the_row.coded))))))
+    (λ c. (c.func, (c.given, (c.words, (c.fuel, (c.pieces, (c.charges, c.end)))))))
+    (λ p. record {
+      func = p.0;
+      given = p.1.0;
+      words = p.1.1.0;
+      fuel = p.1.1.1.0;
+      pieces = p.1.1.1.1.0;
+      charges = p.1.1.1.1.1.0;
+      end = p.1.1.1.1.1.1;
+    })
+    (λ _. refl)

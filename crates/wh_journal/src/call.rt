@@ -1,0 +1,137 @@
+// A call of the journal.
+
+ghost use Rattle.std.specs.Prelude.{◌≡◌, ◌+◌, ◌<◌, ◌^◌};
+ghost use Rattle.wh_journal.specs.Calls.{with_progress, with_more_fuel, with_end};
+ghost use Rattle.wh_journal.specs.declared.end.CallEnd.TheVariants.{Open};
+
+use crate::end::CallEnd;
+use std::marker::Model;
+
+/// A call of an instance: what it was given, how far it has come, and how it has ended, if it has.
+#[derive(Drop)]
+pub struct JournalCall {
+    func: Option<u32>,
+    given: Vec<i128>,
+    words: Vec<u64>,
+    fuel: u64,
+    pieces: u64,
+    charges: u64,
+    end: CallEnd,
+}
+
+impl Model for JournalCall {
+    ghost use Rattle.wh_journal.specs.Calls.{JournalCallState, stored_call};
+
+    ghost Value = { JournalCallState };
+
+    ghost coded = { stored_call };
+
+    ghost view = { λ c. record {
+      func = c.func;
+      given = c.given.items;
+      words = c.words.items;
+      fuel = c.fuel;
+      pieces = c.pieces;
+      charges = c.charges;
+      end = c.end;
+    } };
+}
+
+impl JournalCall {
+    /// An open call of this function with these arguments, as they were given and as words, and so much fuel. It has
+    /// written no piece and taken no charge. A start may have no function.
+    pub fn new(func: Option<u32>, given: Vec<i128>, words: Vec<u64>, fuel: u64) -> JournalCall
+        ensures { result ≡ record {
+          func = func;
+          given = given.items;
+          words = words.items;
+          fuel = fuel;
+          pieces = 0;
+          charges = 0;
+          end = Open;
+        } }
+    {
+        JournalCall {
+            func,
+            given,
+            words,
+            fuel,
+            pieces: 0,
+            charges: 0,
+            end: CallEnd::Open,
+        }
+    }
+
+    /// The index of its function, if it has one.
+    pub fn func(&self) -> Option<u32>
+        ensures { result ≡ self.now.func }
+    {
+        self.func
+    }
+
+    /// Its arguments in order, as its owner gave them.
+    pub fn given(&self) -> &[i128]
+        ensures { result.now ≡ self.now.given }
+    {
+        &self.given
+    }
+
+    /// Its arguments in order, as words of the machine.
+    pub fn words(&self) -> &[u64]
+        ensures { result.now ≡ self.now.words }
+    {
+        &self.words
+    }
+
+    /// The fuel that it was given in all.
+    pub fn fuel(&self) -> u64
+        ensures { result ≡ self.now.fuel }
+    {
+        self.fuel
+    }
+
+    /// How many pieces of data segments it has written.
+    pub fn pieces(&self) -> u64
+        ensures { result ≡ self.now.pieces }
+    {
+        self.pieces
+    }
+
+    /// How many charges it has taken.
+    pub fn charges(&self) -> u64
+        ensures { result ≡ self.now.charges }
+    {
+        self.charges
+    }
+
+    /// How it has ended, if it has.
+    pub fn end(&self) -> CallEnd
+        ensures { result ≡ self.now.end }
+    {
+        self.end
+    }
+
+    /// It has written so many pieces more, and taken so many charges more.
+    pub(crate) fn go_further(&mut self, pieces: u64, charges: u64)
+        requires pieces { self.old.pieces + pieces < 2 ^ 64 }
+        requires charges { self.old.charges + charges < 2 ^ 64 }
+        ensures { self.new ≡ with_progress self.old pieces charges }
+    {
+        self.pieces += pieces;
+        self.charges += charges;
+    }
+
+    /// It is given so much fuel more; what passes 2^64 - 1 is lost.
+    pub(crate) fn refuel(&mut self, fuel: u64)
+        ensures { self.new ≡ with_more_fuel self.old fuel }
+    {
+        self.fuel = self.fuel.saturating_add(fuel);
+    }
+
+    /// It has ended so.
+    pub(crate) fn end_as(&mut self, end: CallEnd)
+        ensures { self.new ≡ with_end self.old end }
+    {
+        self.end = end;
+    }
+}

@@ -1,0 +1,157 @@
+// The journal.
+
+ghost use Rattle.std.specs.Prelude.{◌≡◌, ◌+◌, List, [], ◌∷◌, ◌++◌, length, map, slice_get, option_copied, OnOk, OnErr};
+ghost use Rattle.std.specs.Bool.{MatchBool};
+ghost use Rattle.wh_journal.specs.Calls.{JournalCallState, with_progress, with_more_fuel, with_end};
+ghost use Rattle.wh_journal.specs.Journals.{HasPresent, CanGoFurther};
+ghost use Rattle.wh_journal.specs.declared.end.CallEnd.TheVariants.{Dead};
+
+use crate::call::JournalCall;
+use crate::end::CallEnd;
+use std::alloc::{AllocError, Global};
+use std::marker::Model;
+
+/// The calls of one instance in the order of their coming: those that have ended, and behind them the others, the first of
+/// which is the present call.
+///
+/// Each method but `end_all` takes constant time; `push` does so but where the room has to grow. Only `push` takes memory.
+#[derive(Drop)]
+pub struct Journal {
+    calls: Vec<JournalCall>,
+    first_open: usize,
+}
+
+impl Model for Journal {
+    ghost use Rattle.std.specs.Prelude.{◌≤◌, length, take, drop};
+    ghost use Rattle.wh_journal.specs.Journals.{JournalState, stored_journal};
+
+    ghost Value = { JournalState };
+
+    ghost coded = { stored_journal };
+
+    ghost view = { λ j. record {
+      ended = take j.first_open j.calls.items;
+      open_calls = drop j.first_open j.calls.items;
+    } };
+
+    ghost invariant = { λ j. j.first_open ≤ length j.calls.items };
+}
+
+impl Journal {
+    /// A journal without calls. It takes no memory.
+    pub fn new(alloc: Global) -> Journal
+        ensures { result ≡ record { ended = []; open_calls = [] } }
+    {
+        Journal {
+            calls: Vec::new(alloc),
+            first_open: 0,
+        }
+    }
+
+    /// Adds a call behind the others.
+    ///
+    /// # Errors
+    /// `AllocError` where room is refused. Nothing has changed then.
+    pub fn push(&mut self, call: JournalCall) -> Result<(), AllocError>
+        ensures ok { OnOk result (self.new
+            ≡ record self.old { open_calls = self.old.open_calls ++ call ∷ [] }) }
+        ensures err { OnErr result (self.new ≡ self.old) }
+    {
+        self.calls.reserve(1)?;
+        self.calls.push_reserved(call);
+        Ok(())
+    }
+
+    /// Whether no call is open.
+    pub fn is_idle(&self) -> bool
+        ensures { MatchBool result
+            (self.now.open_calls ≡ []) (HasPresent self.now.open_calls) }
+    {
+        self.first_open == self.calls.len()
+    }
+
+    /// How many calls there are.
+    pub fn len(&self) -> usize
+        ensures { result ≡ length self.now.ended + length self.now.open_calls }
+    {
+        self.calls.len()
+    }
+
+    /// How many calls have ended.
+    pub fn ended_len(&self) -> usize
+        ensures { result ≡ length self.now.ended }
+    {
+        self.first_open
+    }
+
+    /// How many calls are open.
+    pub fn open_len(&self) -> usize
+        ensures { result ≡ length self.now.open_calls }
+    {
+        self.calls.len() - self.first_open
+    }
+
+    /// The present call, if one is open.
+    pub fn present(&self) -> Option<&JournalCall>
+        ensures { option_copied result ≡ slice_get self.now.open_calls 0 }
+    {
+        self.calls.get(self.first_open)
+    }
+
+    /// The call at this place, from 0 on, if there is one.
+    pub fn call(&self, at: usize) -> Option<&JournalCall>
+        ensures { option_copied result ≡ slice_get (self.now.ended ++ self.now.open_calls) at }
+    {
+        self.calls.get(at)
+    }
+
+    /// The present call has written so many pieces more, and taken so many charges more.
+    pub fn go_further(&mut self, pieces: u64, charges: u64)
+        requires { CanGoFurther self.old.open_calls pieces charges }
+        ensures { (c : JournalCallState) (cs : List JournalCallState)
+            → self.old.open_calls ≡ c ∷ cs
+            → self.new ≡ record self.old { open_calls = with_progress c pieces charges ∷ cs } }
+    {
+        self.calls[self.first_open].go_further(pieces, charges);
+    }
+
+    /// The present call is given so much fuel more; what passes 2^64 - 1 is lost.
+    pub fn refuel(&mut self, fuel: u64)
+        requires { HasPresent self.old.open_calls }
+        ensures { (c : JournalCallState) (cs : List JournalCallState)
+            → self.old.open_calls ≡ c ∷ cs
+            → self.new ≡ record self.old { open_calls = with_more_fuel c fuel ∷ cs } }
+    {
+        self.calls[self.first_open].refuel(fuel);
+    }
+
+    /// The present call has ended so. The next one, if there is one, is then the present call.
+    pub fn end_present(&mut self, end: CallEnd)
+        requires { HasPresent self.old.open_calls }
+        ensures { (c : JournalCallState) (cs : List JournalCallState)
+            → self.old.open_calls ≡ c ∷ cs
+            → self.new ≡ record {
+              ended = self.old.ended ++ with_end c end ∷ [];
+              open_calls = cs;
+            } }
+    {
+        self.calls[self.first_open].end_as(end);
+        self.first_open += 1;
+    }
+
+    /// The present call has ended so, and with it all that wait behind it, as `Dead`. It goes over the open calls.
+    pub fn end_all(&mut self, end: CallEnd)
+        requires { HasPresent self.old.open_calls }
+        ensures { (c : JournalCallState) (cs : List JournalCallState)
+            → self.old.open_calls ≡ c ∷ cs
+            → self.new ≡ record {
+              ended = self.old.ended ++ with_end c end ∷ map (λ w. with_end w Dead) cs;
+              open_calls = [];
+            } }
+    {
+        self.end_present(end);
+        while !self.is_idle() {
+            self.end_present(CallEnd::Dead);
+        }
+    }
+}
