@@ -1,8 +1,8 @@
--- What contracts see of a call, and what becomes of it.
-use Rattle.std.specs.Prelude.{ℕ, ◌+◌, ◌-◌, ◌^◌, ℤ, List, Option, min, refl}
+-- What contracts see of a call and of a journal, and what becomes of them.
+use Rattle.std.specs.Prelude.{◌≡◌, ℕ, ◌+◌, ◌-◌, ◌<◌, ◌^◌, ℤ, List, ◌∷◌, Option, min, refl}
 use Rattle.std.specs.Coded.{Coded, code_by, coded_list, coded_option, coded_ℕ, coded_ℤ, coded×}
-use Rattle.wh_journal.specs.declared.end.CallEnd.{CallEnd}
-use Rattle.wh_journal.specs.contracts.end.CallEnd as end_type
+use Rattle.wh_journal.specs.declared.calls.CallEnd.{CallEnd}
+use Rattle.wh_journal.specs.contracts.calls.CallEnd as end_type
 
 -- The index of its function, if it has one; its arguments as they were given, and as words; the fuel that it was given in
 -- all, how many pieces it has written, how many charges it has taken, and how it has ended, if it has.
@@ -27,7 +27,25 @@ with_more_fuel c n = record c { fuel = min (c.fuel + n) (2 ^ 64 - 1) }
 abbrev pub with_end : JournalCallState → CallEnd → JournalCallState
 with_end c end = record c { end = end }
 
--- it can be stored: as its parts
+-- ---- journals
+
+-- the calls that have ended, and the others, the first of which is the present call, each in the order of their coming
+pub record JournalState : Type 0 where
+  pub ended : List JournalCallState
+  pub open_calls : List JournalCallState
+
+-- there is a first one of these calls
+abbrev pub HasPresent : List JournalCallState → Type 0
+HasPresent calls = (c : JournalCallState) × (cs : List JournalCallState) × (calls ≡ c ∷ cs)
+
+-- and what it will have written and taken with so many pieces and charges more can be counted in 64 bits
+abbrev pub CanGoFurther : List JournalCallState → ℕ → ℕ → Type 0
+CanGoFurther calls pieces charges =
+    (c : JournalCallState) × (cs : List JournalCallState) × (calls ≡ c ∷ cs)
+    × (c.pieces + pieces < 2 ^ 64) × (c.charges + charges < 2 ^ 64)
+
+-- ---- both can be stored: as their parts
+
 abbrev pub stored_call : Coded JournalCallState
 stored_call =
     code_by (Option ℕ × (List ℤ × (List ℕ × (ℕ × (ℕ × (ℕ × CallEnd))))))
@@ -44,3 +62,8 @@ stored_call =
       end = p.1.1.1.1.1.1;
     })
     (λ _. refl)
+
+abbrev pub stored_journal : Coded JournalState
+stored_journal =
+    code_by (List JournalCallState × List JournalCallState) (coded× (coded_list stored_call) (coded_list stored_call))
+    (λ j. (j.ended, j.open_calls)) (λ p. record { ended = p.0; open_calls = p.1 }) (λ _. refl)

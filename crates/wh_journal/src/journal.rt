@@ -2,12 +2,10 @@
 
 ghost use Rattle.std.specs.Prelude.{◌≡◌, ◌+◌, List, [], ◌∷◌, ◌++◌, length, map, slice_get, option_copied, OnOk, OnErr};
 ghost use Rattle.std.specs.Bool.{MatchBool};
-ghost use Rattle.wh_journal.specs.Calls.{JournalCallState, with_progress, with_more_fuel, with_end};
-ghost use Rattle.wh_journal.specs.Journals.{HasPresent, CanGoFurther};
-ghost use Rattle.wh_journal.specs.declared.end.CallEnd.TheVariants.{Dead};
+ghost use Rattle.wh_journal.specs.Calls.{JournalCallState, HasPresent, CanGoFurther, with_progress, with_more_fuel, with_end};
+ghost use Rattle.wh_journal.specs.declared.calls.CallEnd.TheVariants.{Dead};
 
-use crate::call::JournalCall;
-use crate::end::CallEnd;
+use crate::calls::{CallEnd, JournalCall};
 use std::alloc::{AllocError, Global};
 use std::marker::Model;
 
@@ -23,7 +21,7 @@ pub struct Journal {
 
 impl Model for Journal {
     ghost use Rattle.std.specs.Prelude.{◌≤◌, length, take, drop};
-    ghost use Rattle.wh_journal.specs.Journals.{JournalState, stored_journal};
+    ghost use Rattle.wh_journal.specs.Calls.{JournalState, stored_journal};
 
     ghost Value = { JournalState };
 

@@ -2,10 +2,8 @@
 //! call.
 #![tactic(auto)]
 
-mod call;
-mod end;
+mod calls;
 mod journal;
 
-pub use call::JournalCall;
-pub use end::CallEnd;
+pub use calls::{CallEnd, JournalCall};
 pub use journal::Journal;

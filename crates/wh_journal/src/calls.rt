@@ -1,11 +1,26 @@
-// A call of the journal.
+// The calls of a journal.
 
 ghost use Rattle.std.specs.Prelude.{◌≡◌, ◌+◌, ◌<◌, ◌^◌};
 ghost use Rattle.wh_journal.specs.Calls.{with_progress, with_more_fuel, with_end};
-ghost use Rattle.wh_journal.specs.declared.end.CallEnd.TheVariants.{Open};
+ghost use Rattle.wh_journal.specs.declared.calls.CallEnd.TheVariants.{Open};
 
-use crate::end::CallEnd;
 use std::marker::Model;
+use wh_model::Trap;
+
+/// How a call has ended, if it has.
+#[derive(Clone, Copy, Debug, PartialEq, Eq)]
+pub enum CallEnd {
+    /// It hasn't.
+    Open,
+    /// It has returned, with a result where its type has one; an i32 in the low 32 bits.
+    Returned(Option<u64>),
+    /// It has trapped.
+    Trapped(Trap),
+    /// Its owner has cancelled it.
+    Cancelled,
+    /// It stood behind a start that trapped or was cancelled, and did nothing.
+    Dead,
+}
 
 /// A call of an instance: what it was given, how far it has come, and how it has ended, if it has.
 #[derive(Drop)]
