@@ -1,5 +1,8 @@
+use Rattle.std.proofs.Common.{arith}
 use Rattle.wh_journal.proofs.Parts.{present_or_none}
 use Rattle.wh_journal.proofs.journal.Journal.is_idle.Goals as goal
 
 pub returns : goal.returns
-returns c = rw (c.len.ensures, ← c.self.view_is) (present_or_none c.self.inside.calls.items c.self.inside.first_open c.self.invariant)
+returns c =
+    let a = c.self.inside in
+    rw (c.len.ensures, ← c.self.view_is) (present_or_none a.calls.items a.first_open _ (omega (arith, a.calls.ok.0)) c.self.invariant)
