@@ -3,3 +3,6 @@ mod Written
 mod Coming
 mod Opened
 mod Beginnings
+mod Closing
+mod Settled
+mod Advanced

@@ -1,3 +1,6 @@
 pub mod Pieces
 pub mod Computed
 pub mod Turned
+pub mod Tenancy
+pub mod Advancing
+pub mod Settling

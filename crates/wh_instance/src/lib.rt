@@ -4,12 +4,18 @@
 //! No call here takes memory.
 #![tactic(auto)]
 
+mod advancing;
 mod computing;
+mod settling;
+mod stages;
 mod starting;
+mod tenant;
 mod turning;
 mod writing;
 
 pub use computing::{Came, compute};
+pub use stages::{Progress, Suspension, Turned};
 pub use starting::turn_start;
+pub use tenant::Tenant;
 pub use turning::{turn_first, turn_on};
 pub use writing::{Cursor, write_pieces};

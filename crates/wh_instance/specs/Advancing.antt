@@ -1,0 +1,101 @@
+-- What a turn of an instance does to it, over any memory.
+use Rattle.std.specs.Prelude.{◌≡◌, ◌≢◌, ◌+◌, ◌<◌, ◌≤◌, ◌^◌, ◌⊎◌, ℕ, List, [], ◌∷◌, Option, Some, None}
+use Rattle.wh_model.specs.declared.memory.Need.{Need}
+use Rattle.wh_model.specs.Execution.Configuration.{Term, config}
+use Rattle.wh_model.specs.Execution.Reduction.{IsNext}
+use Rattle.wh_model.specs.Execution.Asking.{Asks}
+use Rattle.wh_model.specs.Execution.Replay.{Outcome}
+use Rattle.wh_host_model.specs.declared.plain.SwapError.{SwapError}
+use Rattle.wh_host_model.specs.Space.Parts.{Space, view}
+use Rattle.wh_host_model.specs.Host.Worlds.{Entry, Rest, Doing, resting, computing, Suspension, for_fuel, for_device, Tenant, store_with}
+use Rattle.wh_host_model.specs.Host.Turns.{Upshot, to_end, out_of_fuel, to_wait, to_go_on, Proceeds}
+use Rattle.wh_host_model.specs.Host.Answers.{gone_further, ended_by, gone_on, Closes, at_frame, KeepsNoFault}
+use Rattle.wh_machine.specs.States.{Setting}
+use Rattle.wh_instance.specs.declared.computing.Came.{Came}
+use Rattle.wh_instance.specs.declared.stages.Progress.TheVariants.{Faced}
+use Rattle.wh_instance.specs.declared.stages.Turned.{Turned}
+use Rattle.wh_instance.specs.declared.stages.Turned.TheVariants as turned
+use Rattle.wh_instance.specs.Turned.{HasRest, IsCame}
+use Rattle.wh_instance.specs.Tenancy.{TenantState, state_over, IsWhere, RepresentsTenant}
+
+-- it stands for some instance with an open call
+abbrev pub HasOpenCall : {M : Type 0} → Setting M → TenantState → M → Type 0
+HasOpenCall w x m = (t : Tenant) × (t.open_calls ≢ []) × RepresentsTenant w x m t
+
+-- ---- before the journal is written
+
+-- In a turn of q charges the present call of this instance comes so far, with so many pieces and charges; the answer
+-- says to what. It has begun, and where it hasn't ended the code's instance has it where it is then.
+pub record Advances {M : Type 0} (w : Setting M) (q : ℕ) (m : M) (t : Tenant) (e : Entry) (es : List Entry)
+    (answer : Came) (pieces charges : ℕ) (x2 : TenantState) (m2 : M) : Type 0 where
+  pub to : Upshot
+  pub rest : Rest
+  pub doing : Doing
+  pub proceeds : Proceeds w.bytes w.ready w.keeps t.inst q e.call m t.rest t.doing to pieces charges m2 rest doing
+  pub is_came : IsCame answer to
+  pub store : HasRest w (state_over x2 m2) t.inst rest
+  pub begun : x2.progress ≢ Faced
+  pub is_where : doing ≢ resting → IsWhere w x2 m2 t.inst rest doing (gone_further e pieces charges ∷ es)
+  pub few_pieces : e.call.fragments + pieces < 2 ^ 64
+  pub in_fuel : e.call.charges + charges ≤ e.call.fuel
+
+-- what stays of the code's instance meanwhile
+pub record StaysBut (x x2 : TenantState) : Type 0 where
+  pub places : x2.places ≡ x.places
+  pub journal : x2.journal ≡ x.journal
+  pub stands_for : x2.stands_for ≡ x.stands_for
+  pub dead : x2.dead ≡ x.dead
+
+-- whatever instance with an open call it stands for does so
+abbrev pub AdvancesAny : {M : Type 0} → Setting M → ℕ → TenantState → M → Came → ℕ → ℕ → TenantState → M → Type 0
+AdvancesAny w q x m answer pieces charges x2 m2 =
+    (t : Tenant) (e : Entry) (es : List Entry) → t.open_calls ≡ e ∷ es → RepresentsTenant w x m t
+    → Advances w q m t e es answer pieces charges x2 m2
+
+-- ---- the whole turn
+
+-- Nothing was done: it was a turn without charges, and a device fault is kept.
+pub record KeepsItsFault {M : Type 0} (w : Setting M) (q : ℕ) (m : M) (t : Tenant) (e : Entry) (m2 : M) : Type 0 where
+  pub fault : SwapError
+  pub term : Term
+  pub stands_for : t.stands_for ≡ Some (for_device fault)
+  pub doing : t.doing ≡ computing term
+  pub no_charges : q ≡ 0
+  pub same : m2 ≡ m
+  pub next : IsNext t.inst (config (store_with (w.bytes m) t.rest) [] term)
+  pub fuel_left : e.call.charges < e.call.fuel
+  pub ready : (need : Need) → Asks t.inst (config (store_with (w.bytes m) t.rest) [] term) need → w.ready m need
+
+-- So the turn leaves the instance, by what it came to. A call that has ended is closed over whatever space shows this
+-- memory.
+abbrev pub LeavesTenant : {M : Type 0} → Setting M → ℕ → M → Tenant → Entry → List Entry → ℕ → ℕ → Rest → Doing
+    → Turned → TenantState → M → Upshot → Type 0
+LeavesTenant w q m t e es k n r d answer x2 m2 (to_end o) =
+    (answer ≡ turned.Ended) × ((s : Space) → view s t.place ≡ w.bytes m2
+    → (t2 : Tenant) × Closes s t (ended_by (gone_further e k n) o) es r t2 × RepresentsTenant w x2 m2 t2)
+LeavesTenant w q m t e es k n r d answer x2 m2 out_of_fuel =
+    (answer ≡ turned.Fuel) × RepresentsTenant w x2 m2 (gone_on t (gone_further e k n) es r d (Some for_fuel))
+LeavesTenant w q m t e es k n r d answer x2 m2 (to_wait need) =
+    (answer ≡ turned.Frame need)
+    × RepresentsTenant w x2 m2 (gone_on t (gone_further e k n) es r d (at_frame (k + n) t.stands_for))
+LeavesTenant w q m t e es k n r d answer x2 m2 to_go_on =
+    ((answer ≡ turned.Again) × KeepsNoFault (k + n) t.stands_for
+    × RepresentsTenant w x2 m2 (gone_on t (gone_further e k n) es r d None))
+    ⊎ ((answer ≡ turned.Kept) × KeepsItsFault w q m t e m2 × RepresentsTenant w x2 m2 t)
+
+-- In a turn of q charges the present call of this instance comes so far, as the host's definitions say, and the
+-- instance is left so.
+pub record TurnsTenant {M : Type 0} (w : Setting M) (q : ℕ) (m : M) (t : Tenant) (e : Entry) (es : List Entry)
+    (answer : Turned) (x2 : TenantState) (m2 : M) : Type 0 where
+  pub to : Upshot
+  pub pieces : ℕ
+  pub charges : ℕ
+  pub rest : Rest
+  pub doing : Doing
+  pub proceeds : Proceeds w.bytes w.ready w.keeps t.inst q e.call m t.rest t.doing to pieces charges m2 rest doing
+  pub leaves : LeavesTenant w q m t e es pieces charges rest doing answer x2 m2 to
+
+abbrev pub TurnsAny : {M : Type 0} → Setting M → ℕ → TenantState → M → Turned → TenantState → M → Type 0
+TurnsAny w q x m answer x2 m2 =
+    (t : Tenant) (e : Entry) (es : List Entry) → t.open_calls ≡ e ∷ es → RepresentsTenant w x m t
+    → TurnsTenant w q m t e es answer x2 m2

@@ -1,0 +1,72 @@
+-- How the end of a turn is written down in the code's instance.
+use Rattle.std.specs.Prelude.{◌≡◌, ◌&&◌, Bool, true, false, cond, List, [], ◌∷◌, ◌++◌, map, Option, Some, None}
+use Rattle.wh_journal.specs.Calls.{JournalCallState, with_end}
+use Rattle.wh_journal.specs.declared.calls.CallEnd.{CallEnd}
+use Rattle.wh_journal.specs.declared.calls.CallEnd.TheVariants as end
+use Rattle.wh_instance.specs.declared.computing.Came.{Came}
+use Rattle.wh_instance.specs.declared.computing.Came.TheVariants.{Returned, Trapped, Fuel, Frame, Again}
+use Rattle.wh_instance.specs.declared.stages.Progress.TheVariants.{Faced}
+use Rattle.wh_instance.specs.declared.stages.Suspension.{Suspension}
+use Rattle.wh_instance.specs.declared.stages.Suspension.TheVariants as stop
+use Rattle.wh_instance.specs.declared.stages.Turned.{Turned}
+use Rattle.wh_instance.specs.declared.stages.Turned.TheVariants as turned
+use Rattle.wh_instance.specs.Tenancy.{TenantState}
+
+-- ---- the end of the present call
+
+-- a start that so ends leaves its instance dead
+abbrev pub has_failed : CallEnd → Bool
+has_failed end.Open = false
+has_failed (end.Returned result) = false
+has_failed (end.Trapped x) = true
+has_failed end.Cancelled = true
+has_failed end.Dead = false
+
+-- and it is a start where no call has ended yet
+abbrev pub is_fatal : List JournalCallState → CallEnd → Bool
+is_fatal [] how = has_failed how
+is_fatal (c ∷ cs) how = false
+
+-- The present call has ended so, and these wait: the next one is faced; or they end as dead, and so does the instance.
+abbrev pub closed : TenantState → CallEnd → JournalCallState → List JournalCallState → TenantState
+closed x how c cs =
+    cond (is_fatal x.journal.ended how)
+    (record x {
+      journal = record {
+        ended = x.journal.ended ++ with_end c how ∷ map (λ w. with_end w end.Dead) cs;
+        open_calls = [];
+      };
+      progress = Faced;
+      stands_for = None;
+      dead = true;
+    })
+    (record x {
+      journal = record { ended = x.journal.ended ++ with_end c how ∷ []; open_calls = cs };
+      progress = Faced;
+      stands_for = None;
+    })
+
+-- ---- the end of a turn
+
+abbrev pub is_fault : Option Suspension → Bool
+is_fault (Some (stop.Device fault)) = true
+is_fault other = false
+
+-- of what the present call stands for after a turn that ends at a frame: a fault is kept where no step was taken
+abbrev pub frame_or_fault : Bool → Option Suspension → Option Suspension
+frame_or_fault still stands = cond (still && is_fault stands) stands (Some stop.Frame)
+
+-- what the turn answers, and what it leaves, `still` saying that no step was taken
+abbrev pub answered : TenantState → Came → Bool → Turned
+answered x (Returned result) still = turned.Ended
+answered x (Trapped trap) still = turned.Ended
+answered x Fuel still = turned.Fuel
+answered x (Frame need) still = turned.Frame need
+answered x Again still = cond (still && is_fault x.stands_for) turned.Kept turned.Again
+
+abbrev pub settled_to : TenantState → Came → Bool → JournalCallState → List JournalCallState → TenantState
+settled_to x (Returned result) still c cs = closed x (end.Returned result) c cs
+settled_to x (Trapped trap) still c cs = closed x (end.Trapped trap) c cs
+settled_to x Fuel still c cs = record x { stands_for = Some stop.Fuel }
+settled_to x (Frame need) still c cs = record x { stands_for = frame_or_fault still x.stands_for }
+settled_to x Again still c cs = cond (still && is_fault x.stands_for) x (record x { stands_for = None })

@@ -1,0 +1,212 @@
+//! A turn of the present call of an instance.
+
+ghost use Rattle.std.specs.Prelude.{◌≡◌, ◌≢◌, ◌∷◌, ◌+◌, [], List, Some, slice_get};
+ghost use Rattle.std.specs.Bool.{MatchBool};
+ghost use Rattle.wh_journal.specs.Calls.{JournalCallState};
+ghost use Rattle.wh_journal.specs.Calls.{HasPresent};
+ghost use Rattle.wh_machine.specs.Runs.{linked_parts};
+ghost use Rattle.wh_machine.specs.States.{setting_of};
+ghost use Rattle.wh_instance.specs.Pieces.{pieces_left};
+ghost use Rattle.wh_instance.specs.Advancing.{HasOpenCall, StaysBut, AdvancesAny, TurnsAny};
+ghost use Rattle.wh_instance.specs.declared.stages.Progress.TheVariants as at;
+
+use crate::computing::Came;
+use crate::stages::{Progress, Turned};
+use crate::starting::turn_start;
+use crate::tenant::Tenant;
+use crate::turning::{turn_first, turn_on};
+use wh_imports::Linked;
+use wh_journal::JournalCall;
+use wh_linmem::LinearMem;
+
+// Whether no step was taken.
+fn is_still(pieces: u64, charges: u64) -> bool
+    ensures { MatchBool result (pieces + charges ≡ 0) (¬ (pieces + charges ≡ 0)) }
+{
+    pieces == 0 && charges == 0
+}
+
+// The function that a call names.
+fn func_of(call: &JournalCall) -> u32
+    requires { call.now.func ≢ None }
+    ensures { call.now.func ≡ Some result }
+{
+    match call.func() {
+        Some(func) => func,
+        None => unreachable!(),
+    }
+}
+
+impl Tenant {
+    // The present call.
+    fn present(&self) -> &JournalCall
+        requires { HasPresent self.now.journal.open_calls }
+        ensures { (c : JournalCallState) (cs : List JournalCallState)
+            → self.now.journal.open_calls ≡ c ∷ cs → result.now ≡ c }
+    {
+        match self.journal.present() {
+            Some(call) => call,
+            None => unreachable!(),
+        }
+    }
+
+    // Where a call is that hasn't ended after a turn.
+    fn progress_now(&self, linked: &Linked) -> Progress
+        ensures writing { ¬ (pieces_left linked.now.valid.decoded.segments.items
+            self.now.places self.now.cursor ≡ []) → result ≡ at.Writing }
+        ensures under_way { pieces_left linked.now.valid.decoded.segments.items
+            self.now.places self.now.cursor ≡ [] → result ≡ at.UnderWay }
+        ensures begun { result ≢ at.Faced }
+    {
+        let segments = linked.module().segments.as_slice();
+        if self.cursor.has_pieces(segments, &self.places) {
+            Progress::Writing
+        } else {
+            Progress::UnderWay
+        }
+    }
+
+    // A turn of q charges of a start that has pieces left: what came of it, how many pieces it has written, and how many
+    // charges it took. The journal stays.
+    fn advance_start<M: LinearMem>(
+        &mut self,
+        linked: &Linked,
+        memory: &mut M,
+        q: u64,
+    ) -> (Came, u64, u64)
+        requires call { HasOpenCall
+            (setting_of (linked_parts linked.now) M.bytes M.ready M.keeps (M.limit memory.old))
+            self.old memory.old }
+        requires writes { self.old.progress ≡ at.Writing }
+        ensures advances { AdvancesAny
+            (setting_of (linked_parts linked.now) M.bytes M.ready M.keeps (M.limit memory.old))
+            q self.old memory.old result.0 result.1 result.2 self.new memory.new }
+        ensures stays { StaysBut self.old self.new }
+        ensures keeps { M.keeps memory.old memory.new }
+    {
+        let fuel = self.present().fuel();
+        let (came, pieces, charges) = turn_start(
+            linked,
+            &mut self.store,
+            &mut self.machine,
+            memory,
+            q,
+            fuel,
+            &self.places,
+            &mut self.cursor,
+        );
+        self.progress = self.progress_now(linked);
+        (came, pieces, charges)
+    }
+
+    // A turn of q charges of a call that is at its invocation: what came of it, and how many charges it took.
+    fn advance_first<M: LinearMem>(
+        &mut self,
+        linked: &Linked,
+        memory: &mut M,
+        q: u64,
+    ) -> (Came, u64)
+        requires call { HasOpenCall
+            (setting_of (linked_parts linked.now) M.bytes M.ready M.keeps (M.limit memory.old))
+            self.old memory.old }
+        requires faced { self.old.progress ≡ at.Faced }
+        ensures advances { AdvancesAny
+            (setting_of (linked_parts linked.now) M.bytes M.ready M.keeps (M.limit memory.old))
+            q self.old memory.old result.0 0 result.1 self.new memory.new }
+        ensures stays { StaysBut self.old self.new }
+        ensures keeps { M.keeps memory.old memory.new }
+    {
+        let call = match self.journal.present() {
+            Some(call) => call,
+            None => unreachable!(),
+        };
+        let (came, charges) = turn_first(
+            linked,
+            &mut self.store,
+            &mut self.machine,
+            memory,
+            q,
+            call.fuel(),
+            func_of(call),
+            call.words(),
+        );
+        self.progress = Progress::UnderWay;
+        (came, charges)
+    }
+
+    // A turn of q charges of a call that is under way: what came of it, and how many charges it took.
+    fn advance_on<M: LinearMem>(
+        &mut self,
+        linked: &Linked,
+        memory: &mut M,
+        q: u64,
+    ) -> (Came, u64)
+        requires call { HasOpenCall
+            (setting_of (linked_parts linked.now) M.bytes M.ready M.keeps (M.limit memory.old))
+            self.old memory.old }
+        requires under_way { self.old.progress ≡ at.UnderWay }
+        ensures advances { AdvancesAny
+            (setting_of (linked_parts linked.now) M.bytes M.ready M.keeps (M.limit memory.old))
+            q self.old memory.old result.0 0 result.1 self.new memory.new }
+        ensures stays { StaysBut self.old self.new }
+        ensures keeps { M.keeps memory.old memory.new }
+    {
+        let call = self.present();
+        let (charges, fuel) = (call.charges(), call.fuel());
+        turn_on(
+            linked,
+            &mut self.store,
+            &mut self.machine,
+            memory,
+            q,
+            charges,
+            fuel,
+        )
+    }
+
+    // A turn of q charges of the present call: what came of it, how many pieces it has written, and how many charges it
+    // took. The journal stays.
+    fn advance<M: LinearMem>(
+        &mut self,
+        linked: &Linked,
+        memory: &mut M,
+        q: u64,
+    ) -> (Came, u64, u64)
+        requires { HasOpenCall
+            (setting_of (linked_parts linked.now) M.bytes M.ready M.keeps (M.limit memory.old))
+            self.old memory.old }
+        ensures advances { AdvancesAny
+            (setting_of (linked_parts linked.now) M.bytes M.ready M.keeps (M.limit memory.old))
+            q self.old memory.old result.0 result.1 result.2 self.new memory.new }
+        ensures stays { StaysBut self.old self.new }
+        ensures keeps { M.keeps memory.old memory.new }
+    {
+        match self.progress {
+            Progress::Writing => self.advance_start(linked, memory, q),
+            Progress::Faced => {
+                let (came, charges) = self.advance_first(linked, memory, q);
+                (came, 0, charges)
+            }
+            Progress::UnderWay => {
+                let (came, charges) = self.advance_on(linked, memory, q);
+                (came, 0, charges)
+            }
+        }
+    }
+
+    /// Gives the instance a turn of q charges over its memory: its present call goes on, and no other is begun. Its journal
+    /// is written on, and for what the call stands then.
+    pub fn turn<M: LinearMem>(&mut self, linked: &Linked, memory: &mut M, q: u64) -> Turned
+        requires { HasOpenCall
+            (setting_of (linked_parts linked.now) M.bytes M.ready M.keeps (M.limit memory.old))
+            self.old memory.old }
+        ensures turns { TurnsAny
+            (setting_of (linked_parts linked.now) M.bytes M.ready M.keeps (M.limit memory.old))
+            q self.old memory.old result self.new memory.new }
+        ensures keeps { M.keeps memory.old memory.new }
+    {
+        let (came, pieces, charges) = self.advance(linked, memory, q);
+        self.journal.go_further(pieces, charges);
+        self.settle(came, is_still(pieces, charges))
+    }
+}

@@ -1,0 +1,94 @@
+//! How the end of a turn, and of a call, is written down.
+
+ghost use Rattle.std.specs.Prelude.{◌≡◌, ◌≢◌, ◌∷◌, ◌+◌, [], List};
+ghost use Rattle.std.specs.Bool.{MatchBool};
+ghost use Rattle.wh_journal.specs.Calls.{JournalCallState};
+ghost use Rattle.wh_journal.specs.Calls.{HasPresent};
+ghost use Rattle.wh_instance.specs.Settling.{has_failed, is_fatal, closed, is_fault, frame_or_fault, answered, settled_to};
+
+use crate::computing::Came;
+use crate::stages::{Progress, Suspension, Turned};
+use crate::tenant::Tenant;
+use wh_journal::CallEnd;
+
+// Whether a start that so ends leaves its instance dead.
+fn fails(end: CallEnd) -> bool
+    ensures { result ≡ has_failed end }
+{
+    match end {
+        CallEnd::Trapped(_) | CallEnd::Cancelled => true,
+        CallEnd::Open | CallEnd::Returned(_) | CallEnd::Dead => false,
+    }
+}
+
+// Whether it is a device fault for which the present call stands.
+fn is_device(stands_for: Option<Suspension>) -> bool
+    ensures { result ≡ is_fault stands_for }
+{
+    match stands_for {
+        Some(Suspension::Device(_)) => true,
+        _ => false,
+    }
+}
+
+impl Tenant {
+    // Whether the present call is a start, and so ends that its instance is dead.
+    fn dies(&self, end: CallEnd) -> bool
+        ensures { result ≡ is_fatal self.now.journal.ended end }
+    {
+        self.journal.ended_len() == 0 && fails(end)
+    }
+
+    // The present call has ended so. The next one is faced, if there is one; behind a start that has failed they end as
+    // dead.
+    pub(crate) fn close(&mut self, end: CallEnd)
+        requires { HasPresent self.old.journal.open_calls }
+        ensures { (c : JournalCallState) (cs : List JournalCallState)
+            → self.old.journal.open_calls ≡ c ∷ cs → self.new ≡ closed self.old end c cs }
+    {
+        if self.dies(end) {
+            self.journal.end_all(end);
+            self.dead = true;
+        } else {
+            self.journal.end_present(end);
+        }
+        self.progress = Progress::Faced;
+        self.stands_for = None;
+    }
+
+    // The turn has come to this, and no step was taken where it is still where it was.
+    pub(crate) fn settle(&mut self, came: Came, still: bool) -> Turned
+        requires { HasPresent self.old.journal.open_calls }
+        ensures answer { result ≡ answered self.old came still }
+        ensures leaves { (c : JournalCallState) (cs : List JournalCallState)
+            → self.old.journal.open_calls ≡ c ∷ cs → self.new ≡ settled_to self.old came still c cs }
+    {
+        match came {
+            Came::Returned(result) => {
+                self.close(CallEnd::Returned(result));
+                Turned::Ended
+            }
+            Came::Trapped(trap) => {
+                self.close(CallEnd::Trapped(trap));
+                Turned::Ended
+            }
+            Came::Fuel => {
+                self.stands_for = Some(Suspension::Fuel);
+                Turned::Fuel
+            }
+            Came::Frame(need) => {
+                if !(still && is_device(self.stands_for)) {
+                    self.stands_for = Some(Suspension::Frame);
+                }
+                Turned::Frame(need)
+            }
+            Came::Again => {
+                if still && is_device(self.stands_for) {
+                    return Turned::Kept;
+                }
+                self.stands_for = None;
+                Turned::Again
+            }
+        }
+    }
+}

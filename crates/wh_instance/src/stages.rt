@@ -1,0 +1,41 @@
+//! Where the present call of an instance is, for what it stands, and what a turn of it comes to.
+
+use wh_host_model::SwapError;
+use wh_model::Need;
+
+/// Where the present call of an instance is.
+#[derive(Clone, Copy, Debug, PartialEq, Eq)]
+pub enum Progress {
+    /// It is a start, and has data segments left to write.
+    Writing,
+    /// It is at its invocation. So is the next call where none is open.
+    Faced,
+    /// It is under way: the machine stands for it.
+    UnderWay,
+}
+
+/// For what the present call of an instance stands, so that no turn of it is taken.
+#[derive(Clone, Copy, Debug, PartialEq, Eq)]
+pub enum Suspension {
+    /// All its fuel is used.
+    Fuel,
+    /// The bytes of its next step aren't ready.
+    Frame,
+    /// Such bytes are wanted, and a call of the swap device failed.
+    Device(SwapError),
+}
+
+/// What a turn of an instance comes to.
+#[derive(Clone, Copy, Debug, PartialEq, Eq)]
+pub enum Turned {
+    /// The call has ended.
+    Ended,
+    /// All its fuel is used, and what comes next has a charge.
+    Fuel,
+    /// These bytes, which its next step reads or writes, aren't ready.
+    Frame(Need),
+    /// The turn's charges are taken, and the call can go on.
+    Again,
+    /// It was a turn without charges of a call for which a device call failed: nothing was done, and the fault is kept.
+    Kept,
+}
