@@ -6,3 +6,4 @@ mod Beginnings
 mod Closing
 mod Settled
 mod Advanced
+mod Requested

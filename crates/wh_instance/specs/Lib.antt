@@ -4,3 +4,4 @@ pub mod Turned
 pub mod Tenancy
 pub mod Advancing
 pub mod Settling
+pub mod Asked

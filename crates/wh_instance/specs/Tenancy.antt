@@ -7,10 +7,12 @@ use Rattle.wh_model.specs.Execution.Configuration.{Term}
 use Rattle.wh_model.specs.Execution.Instance.{Piece}
 use Rattle.wh_model.specs.Execution.Replay.{Outcome, returned, stopped, cancelled, dead, pending, Waits}
 use Rattle.wh_host_model.specs.Host.Worlds.{Entry, Rest, Doing, resting, has_left, computing, Suspension, for_fuel, for_frame, for_device, Tenant}
+use Rattle.wh_imports.specs.Joined.{LinkedState}
 use Rattle.wh_control.specs.Represents.{bits_of}
 use Rattle.wh_control.specs.declared.store.Store as code_store
 use Rattle.wh_machine.specs.declared.machine.Machine.{Machine}
-use Rattle.wh_machine.specs.States.{CallState, Setting, call_state}
+use Rattle.wh_machine.specs.Runs.{linked_parts}
+use Rattle.wh_machine.specs.States.{CallState, Setting, setting_of, call_state}
 use Rattle.wh_journal.specs.Calls.{JournalCallState}
 use Rattle.wh_journal.specs.Calls.{JournalState}
 use Rattle.wh_journal.specs.declared.calls.CallEnd.{CallEnd}
@@ -126,3 +128,14 @@ pub record RepresentsTenant {M : Type 0} (w : Setting M) (x : TenantState) (m : 
   pub stands_for : t.stands_for ≡ suspension_of x.stands_for
   pub fresh : x.progress ≡ Faced → x.stands_for ≡ None
   pub dead : x.dead ≡ t.dead
+
+-- ---- by its bytes
+
+-- the setting of a call of a linked module over bytes alone
+abbrev pub byte_setting : LinkedState → ℕ → Setting (List ℕ)
+byte_setting l limit = setting_of (linked_parts l) (λ b. b) (λ b need. Unit {0}) (λ b b2. Unit {0}) limit
+
+-- With a memory of these bytes, which may grow to so many pages, the code's instance stands for this one. Over any memory
+-- with these bytes and this limit it is the same.
+abbrev pub IsTenant : LinkedState → ℕ → TenantState → List ℕ → Tenant → Type 0
+IsTenant l limit x bytes t = RepresentsTenant (byte_setting l limit) x bytes t

@@ -5,6 +5,7 @@
 #![tactic(auto)]
 
 mod advancing;
+mod asking;
 mod computing;
 mod settling;
 mod stages;

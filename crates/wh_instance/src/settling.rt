@@ -22,7 +22,7 @@ fn fails(end: CallEnd) -> bool
 }
 
 // Whether it is a device fault for which the present call stands.
-fn is_device(stands_for: Option<Suspension>) -> bool
+pub(crate) fn is_device(stands_for: Option<Suspension>) -> bool
     ensures { result ≡ is_fault stands_for }
 {
     match stands_for {

@@ -1,0 +1,15 @@
+use Rattle.std.proofs.Common.{◌≡◌, ◌∷◌, refl, sym, ap, subst, ◌∙◌}
+use Rattle.wh_journal.specs.Calls.{JournalCallState, JournalState, with_more_fuel}
+use Rattle.wh_instance.specs.Tenancy.{TenantState, byte_setting, IsTenant, RepresentsTenant}
+use Rattle.wh_instance.specs.Settling.{closed}
+use Rattle.wh_instance.proofs.Requested.{retries, cancels, refuels_on, refuels_still}
+use Rattle.wh_instance.proofs.tenant.Tenant.cancel.Goals as goal
+
+pub returns-clause-some : goal.returns-clause-some
+returns-clause-some c is_true l limit bytes t given s sees =
+    let w = byte_setting l limit in
+    let has = c.if-is_idle.ensures in
+    let at = ap (λ (z : TenantState). z.journal.open_calls) (sym c.self.view_is) ∙ has.2 in
+    let left = cancels w c.args.self.now bytes t has.0 has.1 at given s in
+    let after = c.close.ensures has.0 has.1 at in
+    (left.0, left.1, left.2, left.3, left.4, subst (λ z. RepresentsTenant w z bytes left.2) (sym after) left.5)

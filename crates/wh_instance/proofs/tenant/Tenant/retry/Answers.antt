@@ -1,0 +1,14 @@
+use Rattle.std.proofs.Common.{◌≡◌, Some, ◌∷◌, refl, sym, ap, subst, ◌∙◌}
+use Rattle.wh_journal.specs.Calls.{JournalCallState, JournalState, with_more_fuel}
+use Rattle.wh_instance.specs.Tenancy.{TenantState, byte_setting, IsTenant, RepresentsTenant}
+use Rattle.wh_instance.specs.Settling.{closed}
+use Rattle.wh_instance.proofs.Requested.{retries, cancels, refuels_on, refuels_still}
+use Rattle.wh_instance.proofs.tenant.Tenant.retry.Goals as goal
+
+pub returns-clause-some : goal.returns-clause-some
+returns-clause-some c is_true l limit bytes t given =
+    let i = c.self.inside in
+    let x1 : TenantState = record { store = i.store; machine = i.machine; places = i.places.items; cursor = i.cursor; progress = i.progress; journal = i.journal; stands_for = i.stands_for; dead = i.dead } in
+    let w = byte_setting l limit in
+    let rep : RepresentsTenant w x1 bytes t = subst (λ z. RepresentsTenant w z bytes t) (sym c.self.view_is) given in
+    retries w x1 bytes t (sym c.if-not-is_device.ensures) rep

@@ -1,0 +1,70 @@
+//! What the owner of an instance asks of its present call: more fuel, another try, an end.
+
+ghost use Rattle.std.specs.Prelude.{◌≡◌, ◌∷◌, true, false, List};
+ghost use Rattle.std.specs.Bool.{MatchBool};
+ghost use Rattle.wh_journal.specs.Calls.{JournalCallState};
+ghost use Rattle.wh_instance.specs.Asked.{HasFuelAgain, HasNoOpenCall, RefuelsTenant, RetriesTenant, CannotRetry, CancelsTenant};
+
+use crate::settling::is_device;
+use crate::stages::Suspension;
+use crate::tenant::Tenant;
+use wh_journal::CallEnd;
+
+impl Tenant {
+    // Whether the present call stands for fuel, and has some.
+    fn has_fuel_again(&self) -> bool
+        ensures { (c : JournalCallState) (cs : List JournalCallState)
+            → self.now.journal.open_calls ≡ c ∷ cs → MatchBool result
+            (HasFuelAgain self.now.stands_for c) (¬ (HasFuelAgain self.now.stands_for c)) }
+    {
+        let Some(Suspension::Fuel) = self.stands_for else {
+            return false;
+        };
+        match self.journal.present() {
+            Some(call) => call.charges() < call.fuel(),
+            None => false,
+        }
+    }
+
+    /// Gives the present call so much more fuel; what passes 2^64 - 1 is lost. Whether there is one.
+    ///
+    /// A call that stands for fuel can then go on, if it was given any.
+    pub fn refuel(&mut self, fuel: u64) -> bool
+        ensures some { result ≡ true → RefuelsTenant self.old fuel self.new }
+        ensures none { result ≡ false → HasNoOpenCall self.old × (self.new ≡ self.old) }
+    {
+        if self.journal.is_idle() {
+            return false;
+        }
+        self.journal.refuel(fuel);
+        if self.has_fuel_again() {
+            self.stands_for = None;
+        }
+        true
+    }
+
+    /// Lets the present call be tried again, if it stands for a device fault: it stands for a frame then. Whether it did.
+    pub fn retry(&mut self) -> bool
+        ensures some { result ≡ true → RetriesTenant self.old self.new }
+        ensures none { result ≡ false → CannotRetry self.old × (self.new ≡ self.old) }
+    {
+        if !is_device(self.stands_for) {
+            return false;
+        }
+        self.stands_for = Some(Suspension::Frame);
+        true
+    }
+
+    /// Ends the present call where it is; what it has written stays. Whether there is one. A start that is cancelled leaves
+    /// the instance dead, and the calls behind it end as dead.
+    pub fn cancel(&mut self) -> bool
+        ensures some { result ≡ true → CancelsTenant self.old self.new }
+        ensures none { result ≡ false → HasNoOpenCall self.old × (self.new ≡ self.old) }
+    {
+        if self.journal.is_idle() {
+            return false;
+        }
+        self.close(CallEnd::Cancelled);
+        true
+    }
+}
