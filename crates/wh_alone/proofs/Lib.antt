@@ -7,4 +7,3 @@ mod Lists
 mod Moving
 mod Pieces
 mod Present
-mod Starting

@@ -1,3 +1,4 @@
 mod Callable
 mod Ending
 pub mod Lists
+pub mod Starting

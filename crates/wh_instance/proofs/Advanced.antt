@@ -1,5 +1,5 @@
 -- Where a turn leaves the present call of an instance.
-use Rattle.std.proofs.Common.{◌≡◌, ◌≢◌, ℕ, ◌+◌, ◌<◌, ◌≤◌, ◌^◌, List, [], ◌∷◌, ◌++◌, length, map, Option, Some, None, refl, sym, ap, subst, ◌∙◌, arith, length-append}
+use Rattle.std.proofs.Common.{◌≡◌, ◌≢◌, ℕ, ◌+◌, ◌<◌, ◌≤◌, ◌^◌, List, [], ◌∷◌, ◌++◌, length, map, Some, refl, sym, ap, subst, ◌∙◌, arith, length-append}
 use Rattle.std.specs.List.{AllByRecursion}
 use Rattle.wh_model.specs.declared.memory.Need.{Need}
 use Rattle.wh_model.specs.Execution.Store.{Instance}
@@ -7,7 +7,7 @@ use Rattle.wh_model.specs.Execution.Configuration.{Term, Config}
 use Rattle.wh_model.specs.Execution.Instance.{Piece}
 use Rattle.wh_model.specs.Execution.Replay.{Call}
 use Rattle.wh_host_model.specs.Host.Worlds.{Entry, Rest, Doing, resting, has_left, computing, Tenant}
-use Rattle.wh_host_model.specs.Host.Turns.{Opens, by_invocation, as_it_was, Computes, Upshot, Proceeds, returns, traps, writes_all, uses_fuel, waits, waits_to_write, has_had_its_turn}
+use Rattle.wh_host_model.specs.Host.Turns.{Opens, by_invocation, as_it_was, Upshot, Proceeds, returns, traps, writes_all, uses_fuel, waits, waits_to_write, has_had_its_turn}
 use Rattle.wh_host_model.specs.Host.Answers.{gone_further}
 use Rattle.wh_control.specs.Represents.{bits_of}
 use Rattle.wh_journal.specs.Calls.{JournalCallState, JournalState, HasPresent, CanGoFurther}
@@ -16,7 +16,7 @@ use Rattle.wh_instance.specs.declared.computing.Came.{Came}
 use Rattle.wh_instance.specs.declared.stages.Progress.TheVariants.{Writing, Faced, UnderWay}
 use Rattle.wh_instance.specs.Pieces.{pieces_left}
 use Rattle.wh_instance.specs.Turned.{IsStarting, IsFaced, IsComputing, IsThere, Turns}
-use Rattle.wh_instance.specs.Tenancy.{TenantState, state_over, RepresentsCall, RepresentsEach, IsCounted, IsWhere, rests, writes, is_faced, is_under_way, RepresentsTenant}
+use Rattle.wh_instance.specs.Tenancy.{TenantState, state_over, RepresentsCall, RepresentsEach, IsCounted, IsWhere, writes, is_faced, is_under_way, RepresentsTenant}
 use Rattle.wh_instance.specs.Advancing.{HasOpenCall, Advances}
 use Rattle.wh_instance.proofs.Closing.{first_of_each}
 

@@ -1,20 +1,19 @@
 -- The end of a call, as the code's instance has it and as the host's definitions do.
-use Rattle.std.proofs.Common.{◌≡◌, ℕ, ◌+◌, Bool, true, false, cond, List, [], ◌∷◌, ◌++◌, Option, Some, None, map, reverse, refl, sym, ap, subst, ◌∙◌}
+use Rattle.std.proofs.Common.{◌≡◌, ℕ, ◌+◌, Bool, true, false, cond, List, [], ◌∷◌, ◌++◌, None, map, reverse, refl, sym, ap, ◌∙◌}
 use Rattle.std.specs.List.{AllByRecursion}
 use Rattle.wh_model.specs.Format.Syntax.{nothing, FuncType, Body}
-use Rattle.wh_model.specs.Execution.Store.{Value, Instance, Store}
+use Rattle.wh_model.specs.Execution.Store.{Instance, Store}
 use Rattle.wh_model.specs.Execution.Configuration.{Term, called, config}
 use Rattle.wh_model.specs.Execution.Replay.{Outcome, returned, stopped, cancelled, dead, pending, fails, Call, Invocation}
 use Rattle.wh_host_model.specs.Space.Parts.{Space, view}
 use Rattle.wh_host_model.specs.Host.Worlds.{Entry, Rest, Doing, resting, computing, Tenant, store_with}
 use Rattle.wh_host_model.specs.Host.Answers.{ended_by, gone_further, Faces, dies, Closes, faces_next, is_dead}
-use Rattle.wh_control.specs.Represents.{bits_of}
 use Rattle.wh_journal.specs.Calls.{JournalCallState, with_progress, with_end}
 use Rattle.wh_journal.specs.declared.calls.CallEnd.{CallEnd}
 use Rattle.wh_journal.specs.declared.calls.CallEnd.TheVariants as end
 use Rattle.wh_machine.specs.States.{Setting}
 use Rattle.wh_instance.specs.declared.stages.Progress.TheVariants.{Faced}
-use Rattle.wh_instance.specs.Turned.{HasRest, IsFaced}
+use Rattle.wh_instance.specs.Turned.{HasRest}
 use Rattle.wh_instance.specs.Tenancy.{TenantState, state_over, IsCallEnd, RepresentsCall, RepresentsEach, MayBegin, IsCounted, behind_first, IsWhere, rests, is_faced, RepresentsTenant}
 use Rattle.wh_instance.specs.Settling.{has_failed, is_fatal, closed}
 
@@ -128,33 +127,39 @@ closes_so : {M : Type 0} (w : Setting M) (x : TenantState) (m : M) (t : Tenant) 
     (record x { journal = record { ended = x.journal.ended ++ with_end c how ∷ []; open_calls = cs }; progress = Faced; stands_for = None })) m t r e es o s
 closes_so w x m t r c cs e es how o k s true fatal =
     let same = same_fate x.journal.ended t.ended how o k.ended k.is_end in
-    let last = each_joins x.journal.ended t.ended (with_end c how ∷ map (λ v. with_end v end.Dead) cs) (ended_by e o ∷ map (λ v. ended_by v dead) es) k.ended (call_ends c e how o k.first k.is_end, each_dies cs es k.others) in
-    (_, is_dead (sym same ∙ fatal), record {
-      store = k.store;
-      ended = last;
-      open_calls = tt;
-      is_where = rests refl;
-      waiting = tt;
-      counted = tt;
-      stands_for = refl;
-      fresh = λ at. refl;
-      dead = refl;
-    })
+    let last = each_joins x.journal.ended t.ended (with_end c how ∷ map (λ v. with_end v end.Dead) cs) (ended_by e o ∷ map (λ v. ended_by v dead) es) k.ended (call_ends c e how o k.first k.is_end, each_dies cs es k.others) in (
+      _,
+      is_dead (sym same ∙ fatal),
+      record {
+        store = k.store;
+        ended = last;
+        open_calls = tt;
+        is_where = rests refl;
+        waiting = tt;
+        counted = tt;
+        stands_for = refl;
+        fresh = λ at. refl;
+        dead = refl;
+      },
+    )
 closes_so w x m t r c cs e es how o k s false fatal =
     let same = same_fate x.journal.ended t.ended how o k.ended k.is_end in
     let last = each_joins x.journal.ended t.ended (with_end c how ∷ []) (ended_by e o ∷ []) k.ended (call_ends c e how o k.first k.is_end, tt) in
-    let x2 : TenantState = record x { journal = record { ended = x.journal.ended ++ with_end c how ∷ []; open_calls = cs }; progress = Faced; stands_for = None } in
-    (_, faces_next (sym same ∙ fatal) (faced_next t.inst (store_with (view s t.place) r) es k.waiting), record {
-      store = k.store;
-      ended = last;
-      open_calls = k.others;
-      is_where = is_where_next w x2 m t.inst r es k.waiting refl k.store;
-      waiting = waits_behind t.inst es k.waiting;
-      counted = k.counted;
-      stands_for = refl;
-      fresh = λ at. refl;
-      dead = k.dead;
-    })
+    let x2 : TenantState = record x { journal = record { ended = x.journal.ended ++ with_end c how ∷ []; open_calls = cs }; progress = Faced; stands_for = None } in (
+      _,
+      faces_next (sym same ∙ fatal) (faced_next t.inst (store_with (view s t.place) r) es k.waiting),
+      record {
+        store = k.store;
+        ended = last;
+        open_calls = k.others;
+        is_where = is_where_next w x2 m t.inst r es k.waiting refl k.store;
+        waiting = waits_behind t.inst es k.waiting;
+        counted = k.counted;
+        stands_for = refl;
+        fresh = λ at. refl;
+        dead = k.dead;
+      },
+    )
 
 pub closes : {M : Type 0} (w : Setting M) (x : TenantState) (m : M) (t : Tenant) (r : Rest) (c : JournalCallState) (cs : List JournalCallState) (e : Entry) (es : List Entry) (how : CallEnd) (o : Outcome) → Ending w x m t r c cs e es how o → (s : Space) → Leaves w (closed x how c cs) m t r e es o s
 closes w x m t r c cs e es how o k s = closes_so w x m t r c cs e es how o k s (is_fatal x.journal.ended how) refl

@@ -7,3 +7,4 @@ mod Closing
 mod Settled
 mod Advanced
 mod Requested
+mod Newcomers

@@ -1,26 +1,24 @@
 -- What the owner's requests leave of an instance.
-use Rattle.std.proofs.Common.{◌≡◌, ◌≢◌, true, false, ◌⊎◌, inl, inr, ℕ, ◌+◌, ◌-◌, ◌<◌, ◌≤◌, ◌^◌, min, List, [], ◌∷◌, map, Option, Some, None, refl, sym, ap, subst, ◌∙◌, arith}
+use Rattle.std.proofs.Common.{◌≡◌, ◌≢◌, true, false, inl, inr, ℕ, ◌+◌, ◌<◌, min, List, [], ◌∷◌, Option, Some, None, refl, sym, ap, subst, ◌∙◌, arith}
 use Rattle.std.specs.List.{AllByRecursion}
 use Rattle.wh_model.specs.Execution.Store.{Instance}
 use Rattle.wh_model.specs.Execution.Replay.{cancelled}
 use Rattle.wh_host_model.specs.declared.plain.SwapError.{SwapError}
-use Rattle.wh_host_model.specs.Space.Parts.{Space, view}
-use Rattle.wh_host_model.specs.Host.Worlds.{Entry, Rest, Doing, Suspension, for_fuel, for_frame, for_device, Tenant}
+use Rattle.wh_host_model.specs.Space.Parts.{Space}
+use Rattle.wh_host_model.specs.Host.Worlds.{Entry, Rest, Doing, for_fuel, for_device, Tenant}
 use Rattle.wh_host_model.specs.Host.Answers.{ended_by, Closes}
 use Rattle.wh_host_model.specs.Host.Calls.{more_fuel, most_fuel, StandsAfter, Refuels, has_more, Retries, may_try}
-use Rattle.wh_journal.specs.Calls.{JournalCallState, JournalState, with_more_fuel}
+use Rattle.wh_journal.specs.Calls.{JournalCallState, with_more_fuel}
 use Rattle.wh_journal.specs.declared.calls.CallEnd.TheVariants as end
 use Rattle.wh_machine.specs.States.{Setting}
 use Rattle.wh_instance.specs.declared.stages.Progress.TheVariants.{Faced}
 use Rattle.wh_instance.specs.declared.stages.Suspension as code
 use Rattle.wh_instance.specs.declared.stages.Suspension.TheVariants as stop
-use Rattle.wh_instance.specs.Turned.{IsStarting, IsFaced, IsComputing}
 use Rattle.wh_instance.specs.Tenancy.{TenantState, RepresentsCall, RepresentsEach, MayBegin, IsCounted, behind_first, IsWhere, rests, writes, is_faced, is_under_way, suspension_of, RepresentsTenant}
 use Rattle.wh_instance.specs.Settling.{closed, is_fault}
 use Rattle.wh_instance.specs.Asked.{HasFuelAgain}
-use Rattle.wh_instance.proofs.Closing.{first_of_each, closes}
+use Rattle.wh_instance.proofs.Closing.{closes}
 use Rattle.wh_instance.proofs.Settled.{is_where_too}
-use Rattle.wh_instance.proofs.Advanced.{Opened, opened}
 
 -- ---- an open call, by the code's list
 
@@ -47,18 +45,21 @@ device_of (Some (stop.Device fault)) is = (fault, refl)
 retries_for : {M : Type 0} (w : Setting M) (x : TenantState) (m : M) (t : Tenant) (fault : SwapError) → x.stands_for ≡ Some (stop.Device fault) → RepresentsTenant w x m t → (t2 : Tenant) × Retries t t2 × RepresentsTenant w (record x { stands_for = Some stop.Frame }) m t2
 retries_for w x m t fault stands rep =
     let c = stands_with_call w x m t.inst t.rest t.doing t.open_calls (stop.Device fault) rep.fresh stands rep.is_where in
-    let y : TenantState = record x { stands_for = Some stop.Frame } in
-    (_, may_try c.2 (rep.stands_for ∙ ap suspension_of stands), record {
-      store = rep.store;
-      ended = rep.ended;
-      open_calls = rep.open_calls;
-      is_where = is_where_too w x y m t.inst t.rest t.doing t.open_calls refl refl refl refl refl rep.is_where;
-      waiting = rep.waiting;
-      counted = rep.counted;
-      stands_for = refl;
-      fresh = λ at. let never = sym stands ∙ rep.fresh at in absurd (cc never);
-      dead = rep.dead;
-    })
+    let y : TenantState = record x { stands_for = Some stop.Frame } in (
+      _,
+      may_try c.2 (rep.stands_for ∙ ap suspension_of stands),
+      record {
+        store = rep.store;
+        ended = rep.ended;
+        open_calls = rep.open_calls;
+        is_where = is_where_too w x y m t.inst t.rest t.doing t.open_calls refl refl refl refl refl rep.is_where;
+        waiting = rep.waiting;
+        counted = rep.counted;
+        stands_for = refl;
+        fresh = λ at. let never = sym stands ∙ rep.fresh at in absurd (cc never);
+        dead = rep.dead;
+      },
+    )
 
 pub retries : {M : Type 0} (w : Setting M) (x : TenantState) (m : M) (t : Tenant) → is_fault x.stands_for ≡ true → RepresentsTenant w x m t → (t2 : Tenant) × Retries t t2 × RepresentsTenant w (record x { stands_for = Some stop.Frame }) m t2
 retries w x m t is rep = let f = device_of x.stands_for is in retries_for w x m t f.0 f.1 rep
@@ -84,16 +85,16 @@ cancels w x m t c cs at rep s =
     let each = subst (λ z. RepresentsEach z (k.0 ∷ k.1)) at (subst (RepresentsEach x.journal.open_calls) k.2 rep.open_calls) in
     let counted = subst (AllByRecursion IsCounted) k.2 rep.counted in
     let left = closes w x m t t.rest c cs k.0 k.1 end.Cancelled cancelled
-        (record {
-          store = rep.store;
-          ended = rep.ended;
-          first = each.0;
-          others = each.1;
-          waiting = subst (λ os. AllByRecursion (MayBegin t.inst) (behind_first os)) k.2 rep.waiting;
-          counted = counted.1;
-          is_end = tt;
-          dead = rep.dead;
-        }) s in
+    (record {
+      store = rep.store;
+      ended = rep.ended;
+      first = each.0;
+      others = each.1;
+      waiting = subst (λ os. AllByRecursion (MayBegin t.inst) (behind_first os)) k.2 rep.waiting;
+      counted = counted.1;
+      is_end = tt;
+      dead = rep.dead;
+    }) s in
     (k.0, k.1, left.0, k.2, left.1, left.2)
 
 -- ---- more fuel
@@ -127,18 +128,21 @@ refuels_to w x m t n c cs stands at fresh rep after =
     let counted = subst (AllByRecursion IsCounted) k.2 rep.counted in
     let one = counted.0 in
     let y : TenantState = record x { journal = record x.journal { open_calls = with_more_fuel c n ∷ cs }; stands_for = stands } in
-    let is_where = where_with_more w x m t.inst t.rest t.doing k.0 k.1 n one (subst (IsWhere w x m t.inst t.rest t.doing) k.2 rep.is_where) in
-    (_, has_more k.2 (after k.0 each.0), record {
-      store = rep.store;
-      ended = rep.ended;
-      open_calls = (more_of c k.0 n each.0, each.1);
-      is_where = is_where_too w x y m t.inst t.rest t.doing (more_fuel k.0 n ∷ k.1) refl refl refl refl refl is_where;
-      waiting = subst (λ os. AllByRecursion (MayBegin t.inst) (behind_first os)) k.2 rep.waiting;
-      counted = (record { pieces = one.pieces; fuel = omega arith }, counted.1);
-      stands_for = refl;
-      fresh = fresh;
-      dead = rep.dead;
-    })
+    let is_where = where_with_more w x m t.inst t.rest t.doing k.0 k.1 n one (subst (IsWhere w x m t.inst t.rest t.doing) k.2 rep.is_where) in (
+      _,
+      has_more k.2 (after k.0 each.0),
+      record {
+        store = rep.store;
+        ended = rep.ended;
+        open_calls = (more_of c k.0 n each.0, each.1);
+        is_where = is_where_too w x y m t.inst t.rest t.doing (more_fuel k.0 n ∷ k.1) refl refl refl refl refl is_where;
+        waiting = subst (λ os. AllByRecursion (MayBegin t.inst) (behind_first os)) k.2 rep.waiting;
+        counted = (record { pieces = one.pieces; fuel = omega arith }, counted.1);
+        stands_for = refl;
+        fresh = fresh;
+        dead = rep.dead;
+      },
+    )
 
 -- it has fuel again
 pub refuels_on : {M : Type 0} (w : Setting M) (x : TenantState) (m : M) (t : Tenant) (n : ℕ) (c : JournalCallState) (cs : List JournalCallState) → x.journal.open_calls ≡ c ∷ cs → HasFuelAgain x.stands_for (with_more_fuel c n) → RepresentsTenant w x m t

@@ -1,10 +1,10 @@
 -- What a turn leaves, as the code's instance has it and as the host's definitions do.
-use Rattle.std.proofs.Common.{◌≡◌, ◌≢◌, ◌⊎◌, inl, inr, ℕ, zero, suc, ◌+◌, ◌<◌, ◌&&◌, Bool, true, false, cond, List, [], ◌∷◌, ◌++◌, length, Option, Some, None, map, refl, sym, ap, subst, ◌∙◌, arith}
+use Rattle.std.proofs.Common.{◌≡◌, ◌≢◌, inl, inr, ℕ, zero, suc, ◌+◌, ◌<◌, ◌&&◌, Bool, true, false, cond, List, [], ◌∷◌, length, Option, Some, None, refl, sym, ap, subst, ◌∙◌, arith}
 use Rattle.std.specs.Bool.{MatchBool}
 use Rattle.std.specs.List.{AllByRecursion}
 use Rattle.wh_model.specs.declared.memory.Need.{Need}
 use Rattle.wh_model.specs.Execution.Store.{Instance, Store}
-use Rattle.wh_model.specs.Execution.Configuration.{Term, Config, config, store_of}
+use Rattle.wh_model.specs.Execution.Configuration.{Term, Config, config}
 use Rattle.wh_model.specs.Execution.Reduction.{stays, After, IsSettled, IsNext}
 use Rattle.wh_model.specs.Execution.Asking.{Asks}
 use Rattle.wh_model.specs.Execution.Instance.{Piece}
@@ -12,10 +12,10 @@ use Rattle.wh_model.specs.Execution.Replay.{Outcome, returned, stopped, cancelle
 use Rattle.wh_model.specs.Execution.Taking.{Takes, took_all, took}
 use Rattle.wh_model.proofs.Chains.{one_after}
 use Rattle.wh_host_model.specs.declared.plain.SwapError.{SwapError}
-use Rattle.wh_host_model.specs.Space.Parts.{Space, view}
+use Rattle.wh_host_model.specs.Space.Parts.{Space}
 use Rattle.wh_host_model.specs.Host.Worlds.{Entry, Rest, Doing, resting, has_left, computing, Suspension, for_fuel, for_frame, for_device, Tenant, store_with}
 use Rattle.wh_host_model.specs.Host.Admission.{rest_of}
-use Rattle.wh_host_model.specs.Host.Turns.{Opens, by_invocation, as_it_was, Computes, Upshot, to_end, out_of_fuel, to_wait, to_go_on, Proceeds, returns, traps, writes_all, uses_fuel, waits, waits_to_write, has_had_its_turn}
+use Rattle.wh_host_model.specs.Host.Turns.{Opens, by_invocation, as_it_was, Upshot, to_end, out_of_fuel, to_wait, to_go_on, Proceeds, returns, traps, writes_all, uses_fuel, waits, waits_to_write, has_had_its_turn}
 use Rattle.wh_host_model.specs.Host.Answers.{gone_further, ended_by, gone_on, Closes, at_frame, KeepsNoFault}
 use Rattle.wh_journal.specs.Calls.{JournalCallState, JournalState, with_progress}
 use Rattle.wh_journal.specs.declared.calls.CallEnd.{CallEnd}
@@ -28,7 +28,7 @@ use Rattle.wh_instance.specs.declared.stages.Suspension as code
 use Rattle.wh_instance.specs.declared.stages.Suspension.TheVariants as stop
 use Rattle.wh_instance.specs.declared.stages.Turned.{Turned}
 use Rattle.wh_instance.specs.declared.stages.Turned.TheVariants as turned
-use Rattle.wh_instance.specs.Turned.{HasRest, IsComputing, IsCame}
+use Rattle.wh_instance.specs.Turned.{HasRest, IsCame}
 use Rattle.wh_instance.specs.Tenancy.{TenantState, state_over, IsCallEnd, RepresentsCall, RepresentsEach, MayBegin, IsCounted, behind_first, IsWhere, rests, writes, is_faced, is_under_way, suspension_of, RepresentsTenant}
 use Rattle.wh_instance.specs.Advancing.{Advances, KeepsItsFault, LeavesTenant, TurnsTenant}
 use Rattle.wh_instance.specs.Settling.{closed, is_fault, frame_or_fault, answered, settled_to}
@@ -220,8 +220,7 @@ kept w q x x1 m m2 t e es k n c cs still a goes none fault =
     let there2 = subst (λ z. IsWhere w x1 m2 t.inst adv.rest adv.doing (z ∷ es)) (same_entry e k n no_k no_n) there in
     let there3 = is_where_too w x1 y m2 t.inst adv.rest adv.doing (e ∷ es) refl refl refl refl refl there2 in
     let there4 = subst (λ z. IsWhere w y m2 t.inst z adv.doing (e ∷ es)) s.same_rest there3 in
-    let there5 = subst (λ z. IsWhere w y m2 t.inst t.rest z (e ∷ es)) s.same_doing there4 in
-    (
+    let there5 = subst (λ z. IsWhere w y m2 t.inst t.rest z (e ∷ es)) s.same_doing there4 in (
       record { fault = f.0; term = s.term; stands_for = b.stands_for ∙ f.1; doing = s.doing; no_charges = s.no_charges; same = s.same; next = s.next; fuel_left = s.fuel_left; ready = s.ready },
       record {
         store = subst (HasRest w (state_over x1 m2) t.inst) s.same_rest adv.store;

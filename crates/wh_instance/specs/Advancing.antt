@@ -1,13 +1,12 @@
 -- What a turn of an instance does to it, over any memory.
-use Rattle.std.specs.Prelude.{◌≡◌, ◌≢◌, ◌+◌, ◌<◌, ◌≤◌, ◌^◌, ◌⊎◌, ℕ, List, [], ◌∷◌, Option, Some, None}
+use Rattle.std.specs.Prelude.{◌≡◌, ◌≢◌, ◌+◌, ◌<◌, ◌≤◌, ◌^◌, ◌⊎◌, ℕ, List, [], ◌∷◌, Some, None}
 use Rattle.wh_model.specs.declared.memory.Need.{Need}
 use Rattle.wh_model.specs.Execution.Configuration.{Term, config}
 use Rattle.wh_model.specs.Execution.Reduction.{IsNext}
 use Rattle.wh_model.specs.Execution.Asking.{Asks}
-use Rattle.wh_model.specs.Execution.Replay.{Outcome}
 use Rattle.wh_host_model.specs.declared.plain.SwapError.{SwapError}
 use Rattle.wh_host_model.specs.Space.Parts.{Space, view}
-use Rattle.wh_host_model.specs.Host.Worlds.{Entry, Rest, Doing, resting, computing, Suspension, for_fuel, for_device, Tenant, store_with}
+use Rattle.wh_host_model.specs.Host.Worlds.{Entry, Rest, Doing, resting, computing, for_fuel, for_device, Tenant, store_with}
 use Rattle.wh_host_model.specs.Host.Turns.{Upshot, to_end, out_of_fuel, to_wait, to_go_on, Proceeds}
 use Rattle.wh_host_model.specs.Host.Answers.{gone_further, ended_by, gone_on, Closes, at_frame, KeepsNoFault}
 use Rattle.wh_machine.specs.States.{Setting}

@@ -5,3 +5,4 @@ pub mod Tenancy
 pub mod Advancing
 pub mod Settling
 pub mod Asked
+pub mod Beginning

@@ -135,12 +135,7 @@ impl Tenant {
     }
 
     // A turn of q charges of a call that is under way: what came of it, and how many charges it took.
-    fn advance_on<M: LinearMem>(
-        &mut self,
-        linked: &Linked,
-        memory: &mut M,
-        q: u64,
-    ) -> (Came, u64)
+    fn advance_on<M: LinearMem>(&mut self, linked: &Linked, memory: &mut M, q: u64) -> (Came, u64)
         requires call { HasOpenCall
             (setting_of (linked_parts linked.now) M.bytes M.ready M.keeps (M.limit memory.old))
             self.old memory.old }
@@ -166,12 +161,7 @@ impl Tenant {
 
     // A turn of q charges of the present call: what came of it, how many pieces it has written, and how many charges it
     // took. The journal stays.
-    fn advance<M: LinearMem>(
-        &mut self,
-        linked: &Linked,
-        memory: &mut M,
-        q: u64,
-    ) -> (Came, u64, u64)
+    fn advance<M: LinearMem>(&mut self, linked: &Linked, memory: &mut M, q: u64) -> (Came, u64, u64)
         requires { HasOpenCall
             (setting_of (linked_parts linked.now) M.bytes M.ready M.keeps (M.limit memory.old))
             self.old memory.old }

@@ -6,6 +6,7 @@
 
 mod advancing;
 mod asking;
+mod beginning;
 mod computing;
 mod settling;
 mod stages;

@@ -28,13 +28,13 @@ impl Model for Tenant {
     ghost Value = { TenantState };
 
     ghost view = { λ x. record {
-        store = x.store;
-        machine = x.machine;
-        places = x.places.items;
-        cursor = x.cursor;
-        progress = x.progress;
-        journal = x.journal;
-        stands_for = x.stands_for;
-        dead = x.dead;
+      store = x.store;
+      machine = x.machine;
+      places = x.places.items;
+      cursor = x.cursor;
+      progress = x.progress;
+      journal = x.journal;
+      stands_for = x.stands_for;
+      dead = x.dead;
     } };
 }

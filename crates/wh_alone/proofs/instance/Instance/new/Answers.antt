@@ -15,7 +15,7 @@ use Rattle.wh_alone.specs.Beginnings.{IsFresh}
 use Rattle.wh_alone.proofs.Present.{record_of}
 use Rattle.wh_alone.proofs.Fresh.{begun_at}
 use Rattle.std.specs.List.{AllByRecursion}
-use Rattle.wh_alone.proofs.Starting.{start_called}
+use Rattle.wh_call.proofs.Starting.{start_called}
 use Rattle.wh_alone.proofs.Beginning.{pieces_ready, stands_written}
 use Rattle.wh_alone.proofs.instance.Instance.new.Goals as goal
 

@@ -1,15 +1,12 @@
-use Rattle.std.proofs.Common.{◌≡◌, ℕ, ◌+◌, ◌<◌, ◌^◌, length, ◌≤◌, ◌∷◌, [], List, None, Some, slice_get, map, refl, sym, ap, subst, ◌∙◌, arith}
-use Rattle.std.specs.Option.{option_copied}
-use Rattle.wh_control.specs.Represents.{bits_of}
-use Rattle.wh_journal.specs.Calls.{JournalCallState, JournalState}
+use Rattle.std.proofs.Common.{◌≡◌, ℕ, ◌+◌, ◌<◌, ◌^◌, length, List, sym, ap, subst, ◌∙◌, arith}
+use Rattle.wh_journal.specs.Calls.{JournalCallState}
 use Rattle.wh_model.specs.Execution.Instance.{Piece}
 use Rattle.wh_machine.specs.Runs.{linked_parts}
 use Rattle.wh_machine.specs.States.{setting_of}
-use Rattle.wh_host_model.specs.Host.Worlds.{has_left, computing}
+use Rattle.wh_host_model.specs.Host.Worlds.{has_left}
 use Rattle.wh_instance.specs.Pieces.{pieces_left}
 use Rattle.wh_instance.specs.Tenancy.{TenantState, IsWhere, RepresentsTenant}
-use Rattle.wh_instance.specs.Turned.{IsFaced, Turns}
-use Rattle.wh_instance.proofs.Advanced.{opened, present, has_present, is_computing, is_facing, is_writing, starting_as, advanced}
+use Rattle.wh_instance.proofs.Advanced.{opened, present, has_present, is_writing, starting_as, advanced}
 use Rattle.wh_instance.proofs.tenant.Tenant.advance_start.Goals as goal
 
 pub present-requires : goal.present-requires

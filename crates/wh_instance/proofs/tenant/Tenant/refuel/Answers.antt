@@ -1,8 +1,7 @@
-use Rattle.std.proofs.Common.{◌≡◌, ◌∷◌, refl, sym, ap, subst, ◌∙◌}
-use Rattle.wh_journal.specs.Calls.{JournalCallState, JournalState, with_more_fuel}
-use Rattle.wh_instance.specs.Tenancy.{TenantState, byte_setting, IsTenant, RepresentsTenant}
-use Rattle.wh_instance.specs.Settling.{closed}
-use Rattle.wh_instance.proofs.Requested.{retries, cancels, refuels_on, refuels_still}
+use Rattle.std.proofs.Common.{◌≡◌, sym, ap, subst}
+use Rattle.wh_journal.specs.Calls.{JournalState, with_more_fuel}
+use Rattle.wh_instance.specs.Tenancy.{TenantState, byte_setting, RepresentsTenant}
+use Rattle.wh_instance.proofs.Requested.{refuels_on, refuels_still}
 use Rattle.wh_instance.proofs.tenant.Tenant.refuel.Goals as goal
 
 pub returns-then-has_fuel_again-clause-some : goal.returns-then-has_fuel_again-clause-some

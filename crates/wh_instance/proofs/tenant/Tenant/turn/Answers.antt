@@ -1,4 +1,4 @@
-use Rattle.std.proofs.Common.{◌≡◌, ◌∷◌, sym, ap, subst, ◌∙◌}
+use Rattle.std.proofs.Common.{◌≡◌, sym, ap, subst, ◌∙◌}
 use Rattle.wh_journal.specs.Calls.{JournalState, CanGoFurther, with_progress}
 use Rattle.wh_machine.specs.Runs.{linked_parts}
 use Rattle.wh_machine.specs.States.{setting_of}

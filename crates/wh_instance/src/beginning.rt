@@ -1,0 +1,90 @@
+//! What an instance begins with.
+
+ghost use Rattle.std.specs.Prelude.{◌≡◌, ◌≤◌, cond, length, IfOk};
+ghost use Rattle.wh_model.specs.Format.Limits.{most_segments};
+ghost use Rattle.wh_instance.specs.declared.stages.Progress.TheVariants.{Writing, Faced};
+ghost use Rattle.wh_instance.specs.Beginning.{has_nothing, journal_at_first, BeginsTenant};
+
+use crate::stages::Progress;
+use crate::tenant::Tenant;
+use crate::writing::Cursor;
+use std::alloc::{AllocError, Global};
+use wh_imports::Linked;
+use wh_initial::Instantiated;
+use wh_journal::{CallEnd, Journal, JournalCall};
+use wh_machine::Machine;
+
+// Where a start is first.
+fn first_progress(has_pieces: bool) -> Progress
+    ensures { result ≡ cond has_pieces Writing Faced }
+{
+    if has_pieces {
+        Progress::Writing
+    } else {
+        Progress::Faced
+    }
+}
+
+// Whether a start has nothing to do.
+fn is_over(has_pieces: bool, start: Option<u32>) -> bool
+    ensures { result ≡ has_nothing has_pieces start }
+{
+    match start {
+        Some(_) => false,
+        None => !has_pieces,
+    }
+}
+
+// A journal that has a start alone, which is open, or has ended already.
+fn first_journal(
+    alloc: Global,
+    start: Option<u32>,
+    fuel: u64,
+    over: bool,
+) -> Result<Journal, AllocError>
+    ensures { IfOk result (λ j. j ≡ journal_at_first start fuel over) }
+{
+    let mut journal = Journal::new(alloc);
+    let call = JournalCall::new(start, Vec::new(alloc), Vec::new(alloc), fuel);
+    journal.push(call)?;
+    if !over {
+        return Ok(journal);
+    }
+    journal.end_present(CallEnd::Returned(None));
+    Ok(journal)
+}
+
+impl Tenant {
+    /// An instance of a linked module that begins so, with this machine and so much fuel for its start: the start has data
+    /// segments to write, or calls the start function; where there is neither it has ended.
+    ///
+    /// # Errors
+    /// `AllocError` where room for the journal is refused.
+    pub fn new(
+        alloc: Global,
+        linked: &Linked,
+        begun: Instantiated,
+        machine: Machine,
+        fuel: u64,
+    ) -> Result<Tenant, AllocError>
+        requires few { length linked.now.valid.decoded.segments.items ≤ most_segments }
+        ensures { IfOk result (BeginsTenant linked.now begun fuel) }
+    {
+        let module = linked.module();
+        let cursor = Cursor::first();
+        let has_pieces = cursor.has_pieces(module.segments.as_slice(), &begun.places);
+        let over = is_over(has_pieces, module.start);
+        let journal = first_journal(alloc, module.start, fuel, over)?;
+        let progress = first_progress(has_pieces);
+        Ok(Tenant {
+            store: begun.store,
+            machine,
+            places: begun.places,
+            cursor,
+            progress,
+            journal,
+            stands_for: None,
+            dead: false,
+        })
+    }
+}
