@@ -1,5 +1,5 @@
 -- What the steps of the instance at one place may leave of all else.
-use Rattle.std.specs.Prelude.{ℕ, ◌≡◌, ◌≢◌, List, Option, None, length, get_or, refl}
+use Rattle.std.specs.Prelude.{ℕ, min, ◌≡◌, ◌≢◌, List, Option, None, length, get_or, refl}
 use Rattle.std.proofs.Common.{◌∙◌, ap}
 use Rattle.wh_host_model.specs.Space.Errands.{pass_of}
 use Rattle.wh_host_model.specs.Space.Parts.{Occupant, Space, claim_of, kept_by, pinned_by, view}
@@ -47,3 +47,7 @@ pub keeps_page_limit : (i j : ℕ) (a b : Space) → j ≡ i → KeepsRest i a b
 keeps_page_limit i j a b same keeps =
     ap (page_limit b) same
     ∙ ap (λ (z : List (Option Occupant)). limit_by (claim_of (get_or z i None))) keeps.occupants
+
+-- and the lesser of it and another limit
+pub keeps_least : {m n j k : ℕ} → n ≡ m → k ≡ j → min n k ≡ min m j
+keeps_least {m} {n} {j} {k} same also = ap (λ i. min i k) same ∙ ap (min m) also

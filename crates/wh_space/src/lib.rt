@@ -91,6 +91,7 @@ mod tests {
         let mut one = View {
             memory: &mut memory,
             place: 0,
+            page_limit: 65536,
         };
         assert_eq!(rt; stored(&mut one, 4094, [1, 2, 3, 4]), Got::Value);
         assert_eq!(rt; loaded(&mut one, 4093), (Got::Value, [0, 1, 2, 3]));
@@ -105,6 +106,7 @@ mod tests {
         let mut two = View {
             memory: &mut memory,
             place: 1,
+            page_limit: 2,
         };
         assert_eq!(rt; loaded(&mut two, 4093), (Got::Value, [0; 4]));
         assert_eq!(rt; stored(&mut two, 0, [8; 4]), Got::Value);
@@ -123,6 +125,7 @@ mod tests {
         let mut nobody = View {
             memory: &mut memory,
             place: 2,
+            page_limit: 65536,
         };
         assert_eq!(rt; loaded(&mut nobody, 0), (Got::Trap, [9; 4]));
         assert_eq!(rt; sizes(&mut nobody, 0), (0, Grown::Done(0), 0));
