@@ -1,7 +1,9 @@
 -- Numbers that are given as arguments, and the values that they are.
-use Rattle.std.proofs.Common.{◌≡◌, ℕ, zero, suc, ℤ, pos, negsuc, ◌≤ℤ◌, ◌+◌, ◌-◌, ◌^◌, ◌%◌, ◌<◌, ◌≤◌, List, [], ◌∷◌, ◌++◌, drop, length, map, Some, slice_get, Bool, true, false, refl, sym, ap, subst, ◌∙◌, arith}
+use Rattle.std.proofs.Common.{◌≡◌, ℕ, suc, ℤ, pos, negsuc, ◌≤ℤ◌, int_le, nat_abs, ◌+◌, ◌^◌, ◌<◌, ◌≤◌, List, [], ◌∷◌, ◌++◌, drop, length, map, Some, slice_get, Bool, true, false, refl, sym, ap, subst, ◌∙◌, arith, append_assoc, append-nil}
 use Rattle.std.specs.Bool.{MatchBool}
 use Rattle.std.specs.List.{AllByRecursion}
+use Rattle.std.specs.Int.{int_rem_euclid}
+use Rattle.std.proofs.lemmas.Int.{ints}
 use Rattle.wh_model.specs.declared.ValType.{ValType}
 use Rattle.wh_model.specs.declared.ValType.TheVariants.{I32, I64}
 use Rattle.wh_model.specs.Format.Syntax.{FuncType, Body}
@@ -10,9 +12,9 @@ use Rattle.wh_model.specs.Execution.Numbers.{bits, unsigned}
 use Rattle.wh_model.specs.Execution.Store.{Value, value, type_of, InRange, bits_of, own, Instance}
 use Rattle.wh_host_model.specs.Host.Calls.{IsArgument, AreArguments}
 use Rattle.wh_control.specs.Parts.{ProgramParts, IsInstance}
-use Rattle.wh_call.specs.Arguments.{IsOwnType, LacksOwn}
+use Rattle.wh_call.specs.Arguments.{IsOwnType, HasNoOwn, LacksOwn}
 use Rattle.wh_call.proofs.Lists.{drop_at, drop_all}
-use Rattle.wh_arguments.specs.Asked.{HasNoOwn, CanTake, AreWords, WordsAre}
+use Rattle.wh_arguments.specs.Asked.{CanTake, AreWords, WordsAre}
 
 -- ---- one number
 
@@ -43,6 +45,44 @@ given_32 n low high = (value I32 (unsigned 32 n), (low, high, refl))
 
 pub given_64 : (n : ℤ) → negsuc 9223372036854775807 ≤ℤ n → n ≤ℤ pos 18446744073709551615 → IsGiven I64 n
 given_64 n low high = (value I64 (unsigned 64 n), (low, high, refl))
+
+-- whether it may, by its bounds
+decides_32 : (n : ℤ) → int_le (negsuc 2147483647) n ≡ true → (b : Bool) → int_le n (pos 4294967295) ≡ b → MatchBool b (IsGiven I32 n) ((v : Value) → ¬ (IsArgument I32 n v))
+decides_32 n low true high = given_32 n (grind (arith, ints)) (grind (arith, ints))
+decides_32 n low false high = λ v h. let most = h.1 in grind (arith, ints)
+
+decides_64 : (n : ℤ) → int_le (negsuc 9223372036854775807) n ≡ true → (b : Bool) → int_le n (pos 18446744073709551615) ≡ b → MatchBool b (IsGiven I64 n) ((v : Value) → ¬ (IsArgument I64 n v))
+decides_64 n low true high = given_64 n (grind (arith, ints)) (grind (arith, ints))
+decides_64 n low false high = λ v h. let most = h.1 in grind (arith, ints)
+
+pub fits_32 : (t : ValType) (n m : ℤ) → t ≡ I32 → m ≡ n → int_le (negsuc 2147483647) m ≡ true → MatchBool (int_le m (pos 4294967295)) (IsGiven t n) ((v : Value) → ¬ (IsArgument t n v))
+fits_32 t n m is same low =
+    subst (λ z. MatchBool (int_le m (pos 4294967295)) (IsGiven z n) ((v : Value) → ¬ (IsArgument z n v))) (sym is)
+    (subst (λ z. MatchBool (int_le m (pos 4294967295)) (IsGiven I32 z) ((v : Value) → ¬ (IsArgument I32 z v))) same (decides_32 m low (int_le m (pos 4294967295)) refl))
+
+pub fits_64 : (t : ValType) (n m : ℤ) → t ≡ I64 → m ≡ n → int_le (negsuc 9223372036854775807) m ≡ true → MatchBool (int_le m (pos 18446744073709551615)) (IsGiven t n) ((v : Value) → ¬ (IsArgument t n v))
+fits_64 t n m is same low =
+    subst (λ z. MatchBool (int_le m (pos 18446744073709551615)) (IsGiven z n) ((v : Value) → ¬ (IsArgument z n v))) (sym is)
+    (subst (λ z. MatchBool (int_le m (pos 18446744073709551615)) (IsGiven I64 z) ((v : Value) → ¬ (IsArgument I64 z v))) same (decides_64 m low (int_le m (pos 18446744073709551615)) refl))
+
+-- the remainder is the value's integer
+abs_32 : (n : ℤ) → nat_abs (int_rem_euclid n (pos 4294967296)) ≡ unsigned 32 n
+unfolding unsigned
+abs_32 (pos n) = refl
+abs_32 (negsuc n) = refl
+
+abs_64 : (n : ℤ) → nat_abs (int_rem_euclid n (pos 18446744073709551616)) ≡ unsigned 64 n
+unfolding unsigned
+abs_64 (pos n) = refl
+abs_64 (negsuc n) = refl
+
+pub word_32 : (t : ValType) (n m r s : ℤ) → t ≡ I32 → m ≡ n → s ≡ r → r ≡ int_rem_euclid m (pos 4294967296) → nat_abs s ≡ unsigned (bits t) n
+word_32 t n m r s is same seen e =
+    ap nat_abs (seen ∙ e ∙ ap (λ z. int_rem_euclid z (pos 4294967296)) same) ∙ (abs_32 n ∙ ap (λ z. unsigned (bits z) n) (sym is))
+
+pub word_64 : (t : ValType) (n m r s : ℤ) → t ≡ I64 → m ≡ n → s ≡ r → r ≡ int_rem_euclid m (pos 18446744073709551616) → nat_abs s ≡ unsigned (bits t) n
+word_64 t n m r s is same seen e =
+    ap nat_abs (seen ∙ e ∙ ap (λ z. int_rem_euclid z (pos 18446744073709551616)) same) ∙ (abs_64 n ∙ ap (λ z. unsigned (bits z) n) (sym is))
 
 -- ---- one for each parameter
 
@@ -97,19 +137,29 @@ none_left ts ns i h e = ([], subst (λ z. AreArguments z (drop i ns) []) (sym (d
 
 -- ---- their words
 
-abbrev pub words_for : List ValType → List ℤ → List ℕ
-words_for (t ∷ ts) (n ∷ ns) = unsigned (bits t) n ∷ words_for ts ns
-words_for ts ns = []
+abbrev pub words_in : List ValType → List ℤ → List ℕ
+words_in (t ∷ ts) (n ∷ ns) = unsigned (bits t) n ∷ words_in ts ns
+words_in ts ns = []
 
-pub words_are : (ts : List ValType) (ns : List ℤ) (vs : List Value) → AreArguments ts ns vs → map bits_of vs ≡ words_for ts ns
+pub words_are : (ts : List ValType) (ns : List ℤ) (vs : List Value) → AreArguments ts ns vs → map bits_of vs ≡ words_in ts ns
 words_are [] [] vs h = ap (map bits_of) h
 words_are [] (n ∷ ns) vs h = absurd h
 words_are (t ∷ ts) [] vs h = absurd h
 words_are (t ∷ ts) (n ∷ ns) vs (v, rest, is, e, more) =
     ap (map bits_of) e ∙ (ap (λ z. bits_of z ∷ map bits_of rest) (value_is t n v is) ∙ ap (λ zs. unsigned (bits t) n ∷ zs) (words_are ts ns rest more))
 
-pub next_word : (ts : List ValType) (ns : List ℤ) (i : ℕ) (t : ValType) (n : ℤ) → slice_get ts i ≡ Some t → slice_get ns i ≡ Some n → words_for (drop i ts) (drop i ns) ≡ unsigned (bits t) n ∷ words_for (drop (i + 1) ts) (drop (i + 1) ns)
-next_word ts ns i t n at_t at_n = ap (λ z. words_for z (drop i ns)) (drop_at ts i t at_t) ∙ ap (words_for (t ∷ drop (i + 1) ts)) (drop_at ns i n at_n)
+pub next_word : (ts : List ValType) (ns : List ℤ) (i : ℕ) (t : ValType) (n : ℤ) → slice_get ts i ≡ Some t → slice_get ns i ≡ Some n → words_in (drop i ts) (drop i ns) ≡ unsigned (bits t) n ∷ words_in (drop (i + 1) ts) (drop (i + 1) ns)
+next_word ts ns i t n at_t at_n = ap (λ z. words_in z (drop i ns)) (drop_at ts i t at_t) ∙ ap (words_in (t ∷ drop (i + 1) ts)) (drop_at ns i n at_n)
+
+pub word_pushed : (ts : List ValType) (ns : List ℤ) (i : ℕ) (t : ValType) (n : ℤ) (old words : List ℕ) (w : ℕ) → slice_get ts i ≡ Some t → slice_get ns i ≡ Some n → w ≡ unsigned (bits t) n → words ≡ old ++ w ∷ []
+    → old ++ words_in (drop i ts) (drop i ns) ≡ words_in ts ns → words ++ words_in (drop (i + 1) ts) (drop (i + 1) ns) ≡ words_in ts ns
+word_pushed ts ns i t n old words w at_t at_n is pushed h =
+    let later = words_in (drop (i + 1) ts) (drop (i + 1) ns) in
+    ap (λ z. z ++ later) pushed ∙ (append_assoc old (w ∷ []) later ∙ (ap (λ z. old ++ z ∷ later) is ∙ (ap (λ zs. old ++ zs) (sym (next_word ts ns i t n at_t at_n)) ∙ h)))
+
+pub words_done : (ts : List ValType) (ns : List ℤ) (i : ℕ) (words : List ℕ) → length ts ≤ i → words ++ words_in (drop i ts) (drop i ns) ≡ words_in ts ns → AreWords ts ns words
+words_done ts ns i words all h vs given =
+    words_are ts ns vs given ∙ (sym h ∙ (ap (λ z. words ++ words_in z (drop i ns)) (drop_all ts i all) ∙ append-nil words))
 
 -- ---- of a function of an instance's own
 

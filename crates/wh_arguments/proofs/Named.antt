@@ -1,22 +1,22 @@
 -- Exports of one name.
-use Rattle.std.proofs.Common.{◌≡◌, ◌≢◌, ℕ, zero, suc, List, [], ◌∷◌, map, Option, Some, None, slice_get, refl, sym, ap, subst, ◌∙◌}
-use Rattle.std.specs.List.{AllByRecursion}
+use Rattle.std.proofs.Common.{◌≡◌, ◌≢◌, ℕ, zero, suc, List, [], ◌∷◌, map, Some, None, slice_get, refl, sym, ap, subst, ◌∙◌}
 use Rattle.std.specs.String.{string_bytes}
 use Rattle.wh_model.specs.declared.ExternKind.{ExternKind}
 use Rattle.wh_model.specs.declared.ExternKind.TheVariants.{Func}
 use Rattle.wh_model.specs.Format.Syntax as model
 use Rattle.wh_model.specs.Format.Syntax.{FuncType, Body, Module}
 use Rattle.wh_model.specs.Validity.Valid.{DifferentNames}
-use Rattle.wh_model.specs.Validity.Typing.{Context}
 use Rattle.wh_model.specs.Execution.Store.{own, Instance}
 use Rattle.wh_host_model.specs.Host.Calls.{ExportsOwn}
 use Rattle.wh_syntax.specs.declared.module.Export.{Export}
 use Rattle.wh_syntax.specs.View.{view_export, view_module}
+use Rattle.wh_syntax.specs.declared.module.Module.{Module as Decoded}
+use Rattle.wh_bodies.specs.Views.{view_side}
+use Rattle.wh_validate.specs.Soundness.{IsChecked}
 use Rattle.wh_imports.specs.Joined.{LinkedState}
-use Rattle.wh_control.specs.Parts.{IsInstance}
 use Rattle.wh_machine.specs.Runs.{linked_parts}
 use Rattle.wh_machine.proofs.Lookups.{all_of}
-use Rattle.wh_call.specs.Exports.{IsFuncOf, Exports, LacksFunc}
+use Rattle.wh_call.specs.Exports.{Exports, LacksFunc}
 use Rattle.wh_call.specs.Arguments.{IsOwnType, LacksOwn}
 use Rattle.wh_call.proofs.Lists.{mapped_from, mapped_to}
 use Rattle.wh_arguments.specs.Asked.{NamesOwn, NamesOnly, NamesNone}
@@ -59,6 +59,9 @@ found : (es : List Export) (name : List ℕ) (index : ℕ) → Exports es name i
 found es name index (at, e, there, is, same) = record { place = at; exported = mapped_to view_export es at e there ∙ ap Some (record_is name (string_bytes e.name) e.kind index e.index is.0 is.1 same) }
 
 -- ---- of a linked module
+
+pub names_differ : (l : LinkedState) (m : Decoded) → m ≡ l.valid.decoded → IsChecked (view_module m) (map view_side l.valid.tables) → DifferentNames (view_module l.valid.decoded).exports
+names_differ l m same sound = subst (λ z. DifferentNames (view_module z).exports) same sound.valid.names
 
 pub named_own : (l : LinkedState) (name : List ℕ) (index : ℕ) (type : FuncType) → Exports l.valid.decoded.exports.items name index → IsOwnType (linked_parts l) index type → NamesOwn l name index
 named_own l name index type h owned c inst is =

@@ -32,10 +32,6 @@ NamesNone l name =
 
 -- ---- arguments
 
--- the function of this index is none of the instance's own
-abbrev pub HasNoOwn : Instance → ℕ → Type 0
-HasNoOwn inst func = (type : FuncType) (body : Body) → ¬ (slice_get inst.funcs func ≡ Some (own type body))
-
 -- an instance of the program has a function of its own of this index, and these numbers are arguments of it
 pub record CanTake (p : ProgramParts) (func : ℕ) (given : List ℤ) : Type 0 where
   pub context : Context

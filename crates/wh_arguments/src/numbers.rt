@@ -9,7 +9,8 @@ ghost use Rattle.wh_model.specs.Validity.Typing.{Context};
 ghost use Rattle.wh_host_model.specs.Host.Calls.{IsArgument, AreArguments};
 ghost use Rattle.wh_control.specs.Parts.{IsInstance};
 ghost use Rattle.wh_machine.specs.Runs.{linked_parts};
-ghost use Rattle.wh_arguments.specs.Asked.{CanTake, HasNoOwn, WordsAre, AreWords};
+ghost use Rattle.wh_call.specs.Arguments.{HasNoOwn};
+ghost use Rattle.wh_arguments.specs.Asked.{CanTake, WordsAre, AreWords};
 
 use std::alloc::{AllocError, Global};
 use wh_call::own_type;

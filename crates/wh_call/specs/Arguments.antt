@@ -14,11 +14,13 @@ IsOwnType p func type =
     (c : Context) (inst : Instance) → IsInstance p c inst
     → (body : Body) × (slice_get inst.funcs func ≡ Some (own type body))
 
--- in none it is its own
+-- the function of this index is none of the instance's own
+abbrev pub HasNoOwn : Instance → ℕ → Type 0
+HasNoOwn inst func = (type : FuncType) (body : Body) → ¬ (slice_get inst.funcs func ≡ Some (own type body))
+
+-- nor is it in any instance of the program
 abbrev pub LacksOwn : ProgramParts → ℕ → Type 0
-LacksOwn p func =
-    (c : Context) (inst : Instance) → IsInstance p c inst
-    → (type : FuncType) (body : Body) → ¬ (slice_get inst.funcs func ≡ Some (own type body))
+LacksOwn p func = (c : Context) (inst : Instance) → IsInstance p c inst → HasNoOwn inst func
 
 -- one number for each parameter, of the bits of its type
 abbrev pub Arguments : List ValType → List ℕ → Type 0
