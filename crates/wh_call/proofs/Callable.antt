@@ -18,14 +18,16 @@ use Rattle.wh_imports.specs.Joined.{LinkedState}
 use Rattle.wh_control.specs.Represents.{Func}
 use Rattle.wh_control.proofs.Calling.{own_at}
 use Rattle.wh_control.proofs.Entries.{Callee, of_host, of_module, callee}
-use Rattle.wh_control.proofs.Places.{same_at}
 use Rattle.wh_control.specs.Parts.{ProgramParts, funcs_of, funcs_in, IsInstance}
 use Rattle.wh_machine.specs.Runs.{linked_parts}
 use Rattle.wh_machine.proofs.Lookups.{parts_of, all_of}
-use Rattle.wh_call.specs.Arguments.{Arguments, HasCall}
+use Rattle.wh_call.specs.Arguments.{Arguments, HasCall, IsOwnType, LacksOwn}
 use Rattle.wh_call.proofs.Lists.{values_of, arguments_of, mapped_to}
 
 -- ---- the functions that a module defines
+
+some_same : {A : Type 0} {x y : A} → Some x ≡ Some y → x ≡ y
+some_same e = cc
 
 own_type : {t u : model.FuncType} {b d : Body} → own t b ≡ own u d → t ≡ u
 own_type e = cc
@@ -46,13 +48,13 @@ own_index : (p : ProgramParts) (c : Context) (inst : Instance) (func : ℕ) (typ
 own_index p c inst func type body is at = own_index_by p func type body (callee p.hosts (funcs_in p) func (own type body) (ap (λ fs. slice_get fs func) (sym is.program.funcs_are) ∙ at))
 
 -- no function of the host is one
-pub no_call_low : (p : ProgramParts) (c : Context) (inst : Instance) (func : ℕ) (args : List ℕ) → IsInstance p c inst → func < length p.hosts → HasCall inst func args → ⊥
-no_call_low p c inst func args is low (type, body, vs, u) = let o = own_index p c inst func type body is u.is_own in let index = o.index in absurd (omega (arith, low, index))
+lacks_low : (p : ProgramParts) (func : ℕ) → func < length p.hosts → LacksOwn p func
+lacks_low p func low c inst is type body at = let o = own_index p c inst func type body is at in let index = o.index in absurd (omega (arith, low, index))
 
 -- and none behind the last one
-pub no_call_high : (p : ProgramParts) (c : Context) (inst : Instance) (func : ℕ) (args : List ℕ) → IsInstance p c inst → length p.decoded.funcs.items ≤ func - length p.hosts → HasCall inst func args → ⊥
-no_call_high p c inst func args is high (type, body, vs, u) =
-    let o = own_index p c inst func type body is u.is_own in
+lacks_high : (p : ProgramParts) (func : ℕ) → length p.decoded.funcs.items ≤ func - length p.hosts → LacksOwn p func
+lacks_high p func high c inst is type body at =
+    let o = own_index p c inst func type body is at in
     let index = o.index in
     let parts = parts_of _ _ _ _ o.y o.g o.at in
     let within = slice_get_within p.decoded.funcs.items o.y parts.x parts.x_at in
@@ -74,50 +76,13 @@ checked_at c types (z ∷ xs) bs ts (suc y) x (b, rest, f, more, eb, et, at, val
     subst (λ w. (g : Func) × (slice_get (funcs_of types (z ∷ xs) w ts) (suc y) ≡ Some g) × (g.type ≡ type_at types x)) (sym eb)
     (subst (λ w. (g : Func) × (slice_get (funcs_of types (z ∷ xs) (b ∷ rest) w) (suc y) ≡ Some g) × (g.type ≡ type_at types x)) (sym et) (checked_at c types xs rest more y x later e))
 
--- ---- calls
-
--- the function of a place is called with arguments of its parameters
-pub calls_at : (l : LinkedState) (sound : IsChecked (view_module l.valid.decoded) (map view_side l.valid.tables)) (func place x : ℕ) (ft : FuncType) (args : List ℕ) → func ≡ length l.funcs + place
-    → slice_get l.valid.decoded.funcs.items place ≡ Some x → slice_get l.valid.decoded.types.items x ≡ Some ft → (b : Bool) → MatchBool b (Arguments ft.params.items args) (¬ (Arguments ft.params.items args))
-    → (c : Context) (inst : Instance) → IsInstance (linked_parts l) c inst → MatchBool b (HasCall inst func args) (¬ (HasCall inst func args))
-calls_at l sound func place x ft args index at_x at_type b decided c inst is = by_case b decided
-  where
-    types : List model.FuncType
-    types = map view_type l.valid.decoded.types.items
-
-    found : (g : Func) × (slice_get (funcs_in (linked_parts l)) place ≡ Some g) × (g.type ≡ type_at types x)
-    found = checked_at sound.context types l.valid.decoded.funcs.items _ _ place x sound.checked at_x
-
-    is_type : found.0.type ≡ view_type ft
-    is_type = found.2 ∙ ap (λ o. unwrap_or o no_type) (mapped_to view_type l.valid.decoded.types.items x ft at_type)
-
-    by_case : (b : Bool) → MatchBool b (Arguments ft.params.items args) (¬ (Arguments ft.params.items args)) → MatchBool b (HasCall inst func args) (¬ (HasCall inst func args))
-    by_case true h =
-        let v = values_of ft.params.items args h in (
-          found.0.type,
-          found.0.body,
-          v.0,
-          record {
-            is_own = own_at c inst l.funcs (funcs_in (linked_parts l)) func place found.0 is.program found.1 index;
-            types = v.1 ∙ ap (λ (t : model.FuncType). t.params) (sym is_type);
-            fit = v.2;
-            words = v.3;
-          },
-        )
-    by_case false h = λ (type, body, vs, u).
-        let o = own_index (linked_parts l) c inst func type body is u.is_own in
-        let there = o.index in
-        let same_place : o.y ≡ place = omega (arith, there, index) in
-        let same : o.g ≡ found.0 = same_at o.at (subst (λ z. slice_get (funcs_in (linked_parts l)) z ≡ Some found.0) (sym same_place) found.1) in
-        h (arguments_of vs ft.params.items args (u.types ∙ ap (λ (t : model.FuncType). t.params) (o.is_type ∙ ap (λ (g : Func). g.type) same ∙ is_type)) u.fit u.words)
-
 -- ---- of a linked module, by the clauses of its parts
 
-pub refused_low : (l : LinkedState) (func : ℕ) (args : List ℕ) → func < length l.funcs → (c : Context) (inst : Instance) → IsInstance (linked_parts l) c inst → HasCall inst func args → ⊥
-refused_low l func args low c inst is h = no_call_low (linked_parts l) c inst func args is low h
+pub refused_low : (l : LinkedState) (func : ℕ) → func < length l.funcs → LacksOwn (linked_parts l) func
+refused_low l func low = lacks_low (linked_parts l) func low
 
-pub refused_high : (l : LinkedState) (func : ℕ) (args : List ℕ) → length l.valid.decoded.funcs.items ≤ func - length l.funcs → (c : Context) (inst : Instance) → IsInstance (linked_parts l) c inst → HasCall inst func args → ⊥
-refused_high l func args high c inst is h = no_call_high (linked_parts l) c inst func args is high h
+pub refused_high : (l : LinkedState) (func : ℕ) → length l.valid.decoded.funcs.items ≤ func - length l.funcs → LacksOwn (linked_parts l) func
+refused_high l func high = lacks_high (linked_parts l) func high
 
 pub type_there : (l : LinkedState) (sound : IsChecked (view_module l.valid.decoded) (map view_side l.valid.tables)) (place x : ℕ) → slice_get l.valid.decoded.funcs.items place ≡ Some x → x < length l.valid.decoded.types.items
 type_there l sound place x at =
@@ -125,3 +90,30 @@ type_there l sound place x at =
     let same = ap length sound.valid.context.types in
     let mapped = length-map l.valid.decoded.types.items view_type in
     omega (arith, low, same, mapped)
+
+-- the function of a place has the type that is named there
+pub typed_at : (l : LinkedState) (sound : IsChecked (view_module l.valid.decoded) (map view_side l.valid.tables)) (func place x : ℕ) (ft : FuncType) → func ≡ length l.funcs + place
+    → slice_get l.valid.decoded.funcs.items place ≡ Some x → slice_get l.valid.decoded.types.items x ≡ Some ft → IsOwnType (linked_parts l) func (view_type ft)
+typed_at l sound func place x ft index at_x at_type c inst is =
+    let types = map view_type l.valid.decoded.types.items in
+    let found = checked_at sound.context types l.valid.decoded.funcs.items _ _ place x sound.checked at_x in
+    let is_type = found.2 ∙ ap (λ o. unwrap_or o no_type) (mapped_to view_type l.valid.decoded.types.items x ft at_type) in (
+      found.0.body,
+      own_at c inst l.funcs (funcs_in (linked_parts l)) func place found.0 is.program found.1 index ∙ ap (λ t. Some (own t found.0.body)) is_type,
+    )
+
+-- ---- calls
+
+-- the function of an index is called with arguments of its parameters
+pub calls_by : (p : ProgramParts) (func : ℕ) (type : model.FuncType) (args : List ℕ) → IsOwnType p func type → (b : Bool) → MatchBool b (Arguments type.params args) (¬ (Arguments type.params args))
+    → (c : Context) (inst : Instance) → IsInstance p c inst → MatchBool b (HasCall inst func args) (¬ (HasCall inst func args))
+calls_by p func type args owned true h c inst is =
+    let v = values_of type.params args h in
+    let o = owned c inst is in
+    (type, o.0, v.0, record { is_own = o.1; types = v.1; fit = v.2; words = v.3 })
+calls_by p func type args owned false h c inst is = λ (other, body, vs, u).
+    let same : other ≡ type = own_type (some_same (sym u.is_own ∙ (owned c inst is).1)) in
+    h (arguments_of vs type.params args (u.types ∙ ap (λ (t : model.FuncType). t.params) same) u.fit u.words)
+
+pub no_call : (p : ProgramParts) (func : ℕ) (args : List ℕ) → LacksOwn p func → (c : Context) (inst : Instance) → IsInstance p c inst → ¬ (HasCall inst func args)
+no_call p func args lacks c inst is = λ (type, body, vs, u). lacks c inst is type body u.is_own

@@ -1,10 +1,26 @@
--- What arguments of a function are.
-use Rattle.std.specs.Prelude.{ℕ, ◌^◌, ◌<◌, List, [], ◌∷◌}
+-- Which functions are the module's own, and what arguments of a function are.
+use Rattle.std.specs.Prelude.{◌≡◌, ℕ, ◌^◌, ◌<◌, List, [], ◌∷◌, Some, slice_get}
 use Rattle.wh_model.specs.declared.ValType.{ValType}
 use Rattle.wh_model.specs.Format.Syntax.{FuncType, Body}
 use Rattle.wh_model.specs.Execution.Numbers.{bits}
-use Rattle.wh_model.specs.Execution.Store.{Value, Instance}
+use Rattle.wh_model.specs.Validity.Typing.{Context}
+use Rattle.wh_model.specs.Execution.Store.{Value, own, Instance}
+use Rattle.wh_control.specs.Parts.{ProgramParts, IsInstance}
 use Rattle.wh_machine.specs.Opening.{IsOwnCall}
+
+-- in each instance of the program the function of this index is its own, of this type
+abbrev pub IsOwnType : ProgramParts → ℕ → FuncType → Type 0
+IsOwnType p func type =
+    (c : Context) (inst : Instance) → IsInstance p c inst
+    → (body : Body) × (slice_get inst.funcs func ≡ Some (own type body))
+
+-- the function of this index is none of the instance's own
+abbrev pub HasNoOwn : Instance → ℕ → Type 0
+HasNoOwn inst func = (type : FuncType) (body : Body) → ¬ (slice_get inst.funcs func ≡ Some (own type body))
+
+-- nor is it in any instance of the program
+abbrev pub LacksOwn : ProgramParts → ℕ → Type 0
+LacksOwn p func = (c : Context) (inst : Instance) → IsInstance p c inst → HasNoOwn inst func
 
 -- one number for each parameter, of the bits of its type
 abbrev pub Arguments : List ValType → List ℕ → Type 0

@@ -1,13 +1,14 @@
-//! Whether a function can be called with some words.
+//! Which type a function of the module's own has, and whether it can be called with some words.
 
-ghost use Rattle.std.specs.Prelude.{◌≡◌, ◌<◌, ◌^◌, length, slice_get, Some};
+ghost use Rattle.std.specs.Prelude.{◌≡◌, ◌<◌, ◌^◌, length, slice_get, Some, IfSome, IfNone};
 ghost use Rattle.std.specs.Bool.{MatchBool};
 ghost use Rattle.wh_model.specs.Execution.Numbers.{bits};
 ghost use Rattle.wh_model.specs.Validity.Typing.{Context};
 ghost use Rattle.wh_model.specs.Execution.Store.{Instance};
 ghost use Rattle.wh_control.specs.Parts.{IsInstance};
+ghost use Rattle.wh_syntax.specs.View.{view_type};
 ghost use Rattle.wh_machine.specs.Runs.{linked_parts};
-ghost use Rattle.wh_call.specs.Arguments.{Arguments, HasCall};
+ghost use Rattle.wh_call.specs.Arguments.{Arguments, HasCall, IsOwnType, LacksOwn};
 
 use wh_imports::Linked;
 use wh_model::ValType;
@@ -66,18 +67,27 @@ fn func_type_at(types: &[FuncType], at: usize) -> &FuncType
     &types[at]
 }
 
+/// The type of the function of this index, where it is one of the module's own.
+pub fn own_type(linked: &Linked, func: u32) -> Option<&FuncType>
+    ensures some { IfSome result
+        (λ found. IsOwnType (linked_parts linked.now) func (view_type found.now)) }
+    ensures none { IfNone result (LacksOwn (linked_parts linked.now) func) }
+{
+    let module = linked.module();
+    let place = (func as usize).checked_sub(linked.funcs().len())?;
+    if place >= module.funcs.len() {
+        return None;
+    }
+    Some(func_type_at(&module.types, index_at(&module.funcs, place)))
+}
+
 /// Whether the function of this index is one of the module's own, and these words are arguments of it.
 pub fn can_call(linked: &Linked, func: u32, args: &[u64]) -> bool
     ensures { (c : Context) (inst : Instance) → IsInstance (linked_parts linked.now) c inst
         → MatchBool result (HasCall inst func args.now) (¬ (HasCall inst func args.now)) }
 {
-    let module = linked.module();
-    let Some(place) = (func as usize).checked_sub(linked.funcs().len()) else {
-        return false;
-    };
-    if place >= module.funcs.len() {
-        return false;
+    match own_type(linked, func) {
+        Some(func_type) => are_arguments(func_type.params.as_slice(), args),
+        None => false,
     }
-    let func_type = func_type_at(&module.types, index_at(&module.funcs, place));
-    are_arguments(func_type.params.as_slice(), args)
 }

@@ -6,6 +6,6 @@ mod arguments;
 mod calling;
 mod exports;
 
-pub use arguments::can_call;
+pub use arguments::{can_call, own_type};
 pub use calling::{RunEnd, call, run_on};
 pub use exports::exported;

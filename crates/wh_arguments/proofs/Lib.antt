@@ -1,0 +1,3 @@
+-- Lemmas of names and of arguments.
+pub mod Given
+pub mod Named
