@@ -8,3 +8,4 @@ mod Settled
 mod Advanced
 mod Requested
 mod Newcomers
+mod Taken

@@ -6,3 +6,4 @@ pub mod Advancing
 pub mod Settling
 pub mod Asked
 pub mod Beginning
+pub mod Invoked

@@ -8,6 +8,8 @@ mod advancing;
 mod asking;
 mod beginning;
 mod computing;
+mod error;
+mod invoking;
 mod settling;
 mod stages;
 mod starting;
@@ -16,6 +18,8 @@ mod turning;
 mod writing;
 
 pub use computing::{Came, compute};
+pub use error::InvokeError;
+pub use invoking::{MOST_CALLS, MOST_OPEN_CALLS};
 pub use stages::{Progress, Suspension, Turned};
 pub use starting::turn_start;
 pub use tenant::Tenant;
