@@ -1,5 +1,5 @@
 -- The two parts of the list of calls.
-use Rattle.std.proofs.Common.{◌≡◌, ℕ, ◌<◌, ◌≤◌, List, [], ◌∷◌, ◌++◌, length, map, drop, nat_eq, zero, suc, refl, sym, ◌∙◌, ap, arith, append_assoc, append-nil}
+use Rattle.std.proofs.Common.{◌≡◌, ℕ, ◌<◌, ◌≤◌, List, [], ◌∷◌, ◌++◌, length, map, drop, slice_get, Some, nat_eq, zero, suc, refl, sym, ◌∙◌, ap, arith, append_assoc, append-nil}
 use Rattle.std.specs.Bool.{MatchBool}
 use Rattle.std.proofs.lemmas.Bool.Decides.{nat_tests}
 use Rattle.std.proofs.lemmas.List.{drop_all}
@@ -11,6 +11,11 @@ pub present_there : (calls : List JournalCallState) (n : ℕ) → n < length cal
 present_there [] n below = absurd (omega arith)
 present_there (c ∷ cs) zero below = (c, cs, refl)
 present_there (c ∷ cs) (suc n) below = present_there cs n (omega arith)
+
+-- the first one, if it is found
+pub present_is : (calls : List JournalCallState) (c : JournalCallState) → slice_get calls 0 ≡ Some c → calls ≡ c ∷ drop 1 calls
+present_is [] c found = absurd (cc)
+present_is (d ∷ cs) c found = let same : d ≡ c = cc in rw same refl
 
 pub present_or_none : (calls : List JournalCallState) (n len : ℕ) → len ≡ length calls → n ≤ length calls → MatchBool (nat_eq n len) (drop n calls ≡ []) (HasPresent (drop n calls))
 present_or_none calls n len is within = grind (arith, nat_tests, drop_all n calls, present_there calls n)
