@@ -4,8 +4,8 @@ use Rattle.std.specs.Coded.{Coded, code_by, coded_list, coded_option, coded_ℕ,
 use Rattle.wh_journal.specs.declared.calls.CallEnd.{CallEnd}
 use Rattle.wh_journal.specs.contracts.calls.CallEnd as end_type
 
--- The index of its function, if it has one; its arguments as they were given, and as words; the fuel that it was given in
--- all, how many pieces it has written, how many charges it has taken, and how it has ended, if it has.
+-- The index of a call's function, if it has one; its arguments as they were given, and as words; the fuel that it was
+-- given in all, how many pieces it has written, how many charges it has taken, and how it has ended, if it has.
 pub record JournalCallState : Type 0 where
   pub func : Option ℕ
   pub given : List ℤ

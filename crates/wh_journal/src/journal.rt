@@ -9,10 +9,11 @@ use crate::calls::{CallEnd, JournalCall};
 use std::alloc::{AllocError, Global};
 use std::marker::Model;
 
-/// The calls of one instance in the order of their coming: those that have ended, and behind them the others, the first of
-/// which is the present call.
+/// The calls of one instance in the order of their coming: those that have ended, and behind them the others, the
+/// first of which is the present call.
 ///
-/// Each method but `end_all` takes constant time; `push` does so but where the room has to grow. Only `push` takes memory.
+/// Each method but `end_all` takes constant time; `push` does so but where the room has to grow. Only `push` takes
+/// memory.
 #[derive(Drop)]
 pub struct Journal {
     calls: Vec<JournalCall>,

@@ -4,7 +4,8 @@ use Rattle.wh_journal.proofs.journal.Journal.end_all.Goals as goal
 
 pub loop-self-preserved : goal.loop-self-preserved
 loop-self-preserved c =
-    one_ended c.loop-self.self c.end_present-in-loop-self.new.self c.loop-self-test.ensures c.end_present-in-loop-self.ensures
+    one_ended c.loop-self.self c.end_present-in-loop-self.new.self c.loop-self-test.ensures
+    c.end_present-in-loop-self.ensures
     ∙ c.loop-self.invariant
 
 pub returns : goal.returns
