@@ -5,7 +5,8 @@ import math, os, re, resource, subprocess, sys, tempfile
 
 HERE = os.path.dirname(os.path.abspath(__file__))
 CRATE = os.path.join(HERE, "..")
-# Our own program, run in CRATE with the table on standard input: it prints `NAME CHARGES SECONDS` for each module.
+# Our own program, run in CRATE with the table on standard input: it prints `NAME CHARGES SECONDS SECONDS` for
+# each module, over a flat memory and over one on shared frames.
 OURS = ["rt", "run", "--", "-"]
 LATER = ["--disable-sign-extension", "--disable-bulk-memory", "--disable-reference-types", "--disable-multi-value"]
 
@@ -44,30 +45,35 @@ def interpreted(data, wanted):
 
 
 def ours():
-    """Seconds by name, and the charges that our own program counted."""
+    """By name the charges that our own program counted, and its seconds over both memories."""
     with open(os.path.join(HERE, "table.txt")) as table:
         out = subprocess.run(OURS, cwd=CRATE, stdin=table, check=True, capture_output=True, text=True).stdout
-    found = re.findall(r"^(\w+) (\d+) (\d+(?:\.\d+)?)$", out, re.M)
-    return {name: (int(charges), float(time)) for name, charges, time in found}
+    found = re.findall(r"^(\w+) (\d+) (\d+\.\d+) (\d+\.\d+)$", out, re.M)
+    return {name: (int(charges), float(flat), float(framed)) for name, charges, flat, framed in found}
+
+
+def mean(ratios):
+    return math.exp(sum(map(math.log, ratios)) / len(ratios))
 
 
 def main():
-    own, ratios = ours(), []
-    print(f"{'':10}{'charges':>12}{'wasm-interp s':>15}{'M/s':>8}" + (f"{'ours s':>9}{'M/s':>8}{'times':>8}" if own else ""))
+    own, ratios, frames = ours(), [], []
+    print(f"{'':10}{'charges':>12}{'wasm-interp s':>15}{'M/s':>8}" + (f"{'ours s':>9}{'M/s':>8}{'times':>8}{'frames s':>10}{'of flat':>9}" if own else ""))
     for name, data, wanted, charges in programs():
         if sys.argv[1:] and name not in sys.argv[1:]:
             continue
         time = interpreted(data, wanted)
         line = f"{name:10}{charges:12}{time:15.3f}{charges / time / 1e6:8.1f}"
         if name in own:
-            counted, mine = own[name]
+            counted, mine, framed = own[name]
             assert counted == charges, (name, counted, charges)
             ratios.append(time / mine)
-            line += f"{mine:9.3f}{charges / mine / 1e6:8.1f}{time / mine:8.2f}"
+            frames.append(framed / mine)
+            line += f"{mine:9.3f}{charges / mine / 1e6:8.1f}{time / mine:8.2f}{framed:10.3f}{framed / mine:9.2f}"
         print(line, flush=True)
     if ratios:
-        mean = math.exp(sum(map(math.log, ratios)) / len(ratios))
-        print(f"geometric mean of the times faster: {mean:.2f}, least {min(ratios):.2f}")
+        print(f"geometric mean of the times faster: {mean(ratios):.2f}, least {min(ratios):.2f}")
+        print(f"geometric mean of the time on frames: {mean(frames):.2f} of the flat memory's")
 
 
 if __name__ == "__main__":

@@ -1,31 +1,26 @@
 //! Times calls on the machine: `bench_machine TABLE [NAME]` reads a table of modules from a file, or from standard
-//! input where TABLE is `-`, makes the calls of each, or of the one of this name, and prints `NAME CHARGES SECONDS`.
-//! Without an argument it does nothing, so that what it prints never depends on the time.
+//! input where TABLE is `-`, makes the calls of each, or of the one of this name, over a flat memory and over one on shared
+//! frames, and prints `NAME CHARGES SECONDS SECONDS`, those over the flat one first. Without an argument it does nothing, so
+//! that what it prints never depends on the time.
 //!
 //! A line `module NAME HEX` has a module, and each line `call EXPORT -> i32 WORD charges N` behind it, or with `i64`, a
 //! call of a function without parameters, with its result and its charges. A call has no limit of fuel. Its seconds are
-//! the processor's, of the best of three calls, each on an instance of its own; making the instance isn't counted.
+//! the processor's, of the best of five calls, each on an instance of its own, the two memories in turn; making the instance
+//! isn't counted.
 #![tactic(auto)]
 
+mod calls;
+
 use anyhow::{Context, Result, bail, ensure};
+use calls::{Call, time_flat, time_view};
 use std::alloc::Global;
 use std::io::Read;
 use std::rt::{Env, Files};
 use std::time::{CpuClock, Duration};
 use std::{env, fs};
-use wh_alone::{Instance, Outcome, Stage};
-use wh_initial::Parameters;
-use wh_model::MOST_WASM_PAGES;
+use wh_load::load;
 
-const ROUNDS: u32 = 3;
-
-/// A call, and what it is to come to.
-#[derive(Clone, Copy)]
-struct Call<'a> {
-    export: &'a str,
-    word: u64,
-    charges: u64,
-}
+const ROUNDS: u32 = 5;
 
 fn parse_call(alloc: Global, line: &str) -> Result<Call<'_>> {
     let words: Vec<&str> = line.split(' ').collect(alloc)?;
@@ -44,61 +39,30 @@ fn parse_call(alloc: Global, line: &str) -> Result<Call<'_>> {
     })
 }
 
-/// Makes the call on an instance, and gives the processor time of it.
-fn time(rt: &impl CpuClock, instance: &mut Instance, call: &Call<'_>) -> Result<Duration> {
-    ensure!(
-        instance.stage() == Stage::Idle,
-        "the start function isn't called"
-    );
-    let func = instance
-        .func(call.export)
-        .context("no function is exported so")?;
-    let before = rt.thread_cpu_time()?;
-    let ended = instance.call(func, &[], u64::MAX);
-    let after = rt.thread_cpu_time()?;
-    let Ok((outcome, charges)) = ended else {
-        bail!("the function can't be called without arguments");
-    };
-    let wanted = Outcome::Returned(Some(call.word));
-    ensure!(outcome == wanted, "it came to {outcome:?}");
-    ensure!(charges == call.charges, "it took {charges} charges");
-    after.checked_sub(before).context("the clock went back")
-}
-
-/// Makes the call on an instance of its own, and gives the processor time of it.
-fn time_anew(
-    rt: &(impl CpuClock + AllocGlobal),
-    bytes: &[u8],
-    call: &Call<'_>,
-) -> Result<Duration> {
-    let parameters = Parameters {
-        base: 0,
-        salt: 0,
-        inputs: Vec::new(rt.alloc()),
-        page_limit: MOST_WASM_PAGES,
-    };
-    match Instance::new(rt.alloc(), bytes, parameters) {
-        Ok(mut instance) => time(rt, &mut instance, call),
-        Err(error) => bail!("{error}"),
-    }
-}
-
-/// Makes the call again and again, and prints the best time.
+/// Makes the call on both memories again and again, and prints the best time of each.
 fn run_call(
     rt: &(impl Print + CpuClock + AllocGlobal),
     name: &str,
     bytes: &[u8],
     call: &Call<'_>,
 ) -> Result<()> {
-    let mut best = Duration::MAX;
+    let linked = match load(rt.alloc(), bytes) {
+        Ok(linked) => linked,
+        Err(error) => bail!("{error}"),
+    };
+    let mut flat = Duration::MAX;
+    let mut framed = Duration::MAX;
     for _ in 0..ROUNDS {
-        best = best.min(time_anew(rt, bytes, call)?);
+        flat = flat.min(time_flat(rt, &linked, call)?);
+        framed = framed.min(time_view(rt, &linked, call)?);
     }
     println!(rt;
-        "{name} {} {}.{:06}",
+        "{name} {} {}.{:06} {}.{:06}",
         call.charges,
-        best.as_secs(),
-        best.subsec_micros()
+        flat.as_secs(),
+        flat.subsec_micros(),
+        framed.as_secs(),
+        framed.subsec_micros()
     )?;
     Ok(())
 }

@@ -1,0 +1,52 @@
+//! Memories with instances in them.
+
+use anyhow::{Context, Result, ensure};
+use std::alloc::Global;
+use std::time::{CpuClock, Duration};
+use wh_host_model::Tax;
+use wh_model::Got;
+use wh_space::{Memory, Promise};
+
+/// A memory with so many frames, and slots enough.
+pub fn memory_of(alloc: Global, frames: u32) -> Result<Memory> {
+    Ok(Memory::new(alloc, frames, 1048576, Tax { num: 3, den: 4 })?)
+}
+
+/// An instance comes to this place, with so many pages of 65536 bytes.
+pub fn enter(alloc: Global, memory: &mut Memory, place: usize, size: u32) -> Result<()> {
+    ensure!(size > 0, "it is too small");
+    ensure!(size <= 4096, "it is too large");
+    let promise = Promise {
+        number: place as u64,
+        shares: 100,
+        min: 2,
+        max: 16 * size,
+    };
+    ensure!(memory.is_free(place), "the place is taken");
+    ensure!(memory.is_fresh(promise.number), "the number is taken");
+    ensure!(
+        memory.has_frames_for(promise.min),
+        "there are too few frames"
+    );
+    ensure!(
+        memory.has_slots_for(promise.min, promise.max),
+        "there are too few slots"
+    );
+    memory.enter(alloc, place, promise, size)?;
+    Ok(())
+}
+
+/// Writes a number at the beginning of a page.
+pub fn write(memory: &mut Memory, place: usize, page: u32, number: u64) -> Result<()> {
+    let at = 4096 * u64::from(page);
+    let got = memory.store(place, at, &number.to_le_bytes());
+    ensure!(got == Got::Value, "the store came to {got:?}");
+    Ok(())
+}
+
+/// The processor time since then.
+pub fn since(rt: &impl CpuClock, before: Duration) -> Result<Duration> {
+    rt.thread_cpu_time()?
+        .checked_sub(before)
+        .context("the clock went back")
+}

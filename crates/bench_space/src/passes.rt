@@ -1,0 +1,62 @@
+//! Full passes beside the hash of the same pages.
+
+use crate::pages::{enter, memory_of, since, write};
+use anyhow::{Context, Result, ensure};
+use std::time::{CpuClock, Duration};
+use wh_kernels::{FnvHash, fnv64};
+use wh_scan::scan_all;
+use wh_space::Memory;
+
+const PAGES: u32 = 65536;
+
+// Hashes all pages, each of which stands on a frame.
+fn hash_all(memory: &Memory) -> Result<u64> {
+    let mut sum = 0u64;
+    for page in 0..PAGES {
+        let frame = memory.private_frame(0, page).context("it has no frame")?;
+        sum = sum.wrapping_add(fnv64(memory.bytes_of(frame)));
+    }
+    Ok(sum)
+}
+
+fn say(rt: &impl Print, what: &str, time: Duration) -> Result<()> {
+    let each = time.as_nanos() / u128::from(PAGES);
+    println!(rt; "{what}: {} ms, {each} ns a page", time.as_millis())?;
+    Ok(())
+}
+
+// How fast a pass is beside the hash alone, in hundredths.
+fn speed(hash: Duration, pass: Duration) -> u128 {
+    hash.as_nanos().saturating_mul(100) / pass.as_nanos().max(1)
+}
+
+/// Makes the pages, and times the hash and two passes, three times over.
+pub fn run(rt: &(impl Print + CpuClock + AllocGlobal)) -> Result<()> {
+    for _ in 0..3 {
+        let mut memory = memory_of(rt.alloc(), PAGES)?;
+        enter(rt.alloc(), &mut memory, 0, PAGES / 16)?;
+        for page in 0..PAGES {
+            write(&mut memory, 0, page, u64::from(page).wrapping_add(1))?;
+        }
+        ensure!(memory.has_few_pages(), "there are too many pages");
+        ensure!(memory.has_places_below(1), "there are too many places");
+        let before = rt.thread_cpu_time()?;
+        let sum = hash_all(&memory)?;
+        let hash = since(rt, before)?;
+        let before = rt.thread_cpu_time()?;
+        scan_all(&mut memory, &FnvHash, 1);
+        let first = since(rt, before)?;
+        ensure!(memory.has_few_pages(), "there are too many pages");
+        ensure!(memory.has_places_below(1), "there are too many places");
+        let before = rt.thread_cpu_time()?;
+        scan_all(&mut memory, &FnvHash, 1);
+        let second = since(rt, before)?;
+        ensure!(memory.used() == PAGES, "pages were merged");
+        say(rt, "fnv64 of each page", hash)?;
+        say(rt, "a pass that hints at each", first)?;
+        say(rt, "a pass that finds each hint", second)?;
+        let (slow, quick) = (speed(hash, first), speed(hash, second));
+        println!(rt; "at {slow} and {quick} % of the hash's speed (sum {sum})")?;
+    }
+    Ok(())
+}

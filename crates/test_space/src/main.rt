@@ -1,0 +1,78 @@
+//! Does the same to four memories on shared frames and to four flat ones, and compares all that is seen: 10000 random loads,
+//! stores, growths and offers, with pages offered under their own hash alone, and again under others' too; each list once under
+//! FNV-1a and once under the hash that is 0 for each page. Every 250 steps all bytes are compared, and the sums of frames; and
+//! every 1000, where all hashes were right, all pages are offered, and the frames in use counted.
+//!
+//! It prints a line for each list. The status is 1 where anything differs, or an answer of an offer that a list ought to meet
+//! never came.
+#![tactic(auto)]
+
+mod random;
+#[cfg(test)]
+mod rows;
+mod same;
+mod trial;
+
+use anyhow::{Context, Result, ensure};
+use std::alloc::Global;
+use trial::{Counts, Trial};
+use wh_kernels::{ConstantHash, FnvHash, PageHash};
+
+const STEPS: u32 = 10000;
+
+// Takes all steps of a list, and gives how often each answer came.
+fn run<H: PageHash>(alloc: Global, hasher: &H, astray: bool, exactly: bool) -> Result<Counts> {
+    let mut trial = Trial::new(alloc)?;
+    for step in 0..STEPS {
+        trial
+            .step(hasher, astray)
+            .context(format_args!("step {step}"))?;
+        if step % 250 == 249 {
+            trial.compare()?;
+            if !astray && step % 1000 == 999 {
+                trial.scan(alloc, hasher, exactly)?;
+                trial.compare()?;
+            }
+        }
+    }
+    Ok(trial.counts)
+}
+
+// Whether answers came that come under any hash, and stores that found no frame.
+fn look(counts: &Counts) -> Result<()> {
+    ensure!(
+        counts.skipped > 100 && counts.zeroed > 10 && counts.hinted > 100,
+        "too few offers came to something: {counts:?}"
+    );
+    ensure!(
+        counts.merged > 50 && counts.not_ready > 100,
+        "too few pages were merged, or stores refused: {counts:?}"
+    );
+    Ok(())
+}
+
+fn main(rt: HostRuntime) -> Result<()> {
+    let alloc = rt.alloc();
+
+    let counts = run(alloc, &FnvHash, false, true)?;
+    look(&counts)?;
+    ensure!(counts.stale > 0 && counts.false_match == 0, "{counts:?}");
+    println!(rt; "FNV-1a, right hashes: {STEPS} steps agree")?;
+
+    let counts = run(alloc, &FnvHash, true, false)?;
+    look(&counts)?;
+    ensure!(counts.stale > 0 && counts.false_match > 10, "{counts:?}");
+    println!(rt; "FNV-1a, others' hashes too: {STEPS} steps agree")?;
+
+    // Under one hash there is one entry at a time.
+    let counts = run(alloc, &ConstantHash, false, false)?;
+    ensure!(counts.hinted > 0 && counts.merged > 10, "{counts:?}");
+    ensure!(counts.stale == 0 && counts.false_match > 100, "{counts:?}");
+    println!(rt; "one hash for all: {STEPS} steps agree")?;
+
+    let counts = run(alloc, &ConstantHash, true, false)?;
+    ensure!(counts.hinted > 0 && counts.merged > 10, "{counts:?}");
+    ensure!(counts.stale > 0 && counts.false_match > 100, "{counts:?}");
+    println!(rt; "one hash for all, others too: {STEPS} steps agree")?;
+    Ok(())
+}
