@@ -7,7 +7,7 @@ use Rattle.wh_model.specs.declared.ValType.TheVariants.{I32}
 use Rattle.wh_model.specs.Validity.Typing.{Context}
 use Rattle.wh_model.specs.Validity.Valid.{imported_globals, imported_funcs, IsContext}
 use Rattle.wh_model.specs.Execution.Store.{Value, type_of, host, Instance}
-use Rattle.wh_model.specs.Execution.Instance.{Parameters, Defined, Placed, Piece, Within, filled, last_size, Prepares, needs_more, out_of_bounds, in_bounds}
+use Rattle.wh_model.specs.Execution.Instance.{Parameters, Defined, Placed, Piece, Within, filled, fragments, last_size, Prepares, needs_more, out_of_bounds, in_bounds}
 use Rattle.wh_model.specs.declared.host.HostGlobal.{HostGlobal}
 use Rattle.wh_model.specs.Linking.Imports.{value_of}
 use Rattle.wh_control.specs.Represents.{bits_of, InRange}
@@ -177,7 +177,7 @@ module _ (m : Module) (imported : List HostGlobal) (hosts : List HostFunc) (tabl
   refuses : (e : InstantiateError) → RefusesInWords m imported p e → RefusesInstance (view_module m) p e
   refuses MemoryMin more = needs_more more
   refuses SegmentBounds out = out_of_bounds out.0 prepares (λ both. out.1 (all_in both.0 both.1))
-  refuses Memory none = tt
+  refuses Memory (few, fit) = (inst, first_store (view_module m) p values elements, fragments segments, in_bounds few prepares (elements_in fit) (segments_in fit))
 
   pub ok_turned : (r : Result Instantiated InstantiateError) → IfOk r (BeginsInWords m imported p) → IfOk r (Instantiates (view_module m) p)
   ok_turned (Ok i) b = begins_with i b

@@ -1,5 +1,5 @@
 -- What an instance begins with (4.5.4), as it is handed out, and why a module has none.
-use Rattle.std.specs.Prelude.{◌≡◌, ◌*◌, ◌≤◌, List, [], None, map, replicate, ⊤}
+use Rattle.std.specs.Prelude.{◌≡◌, ◌*◌, ◌≤◌, List, [], None, map, replicate}
 use Rattle.std.specs.List.{AllByRecursion}
 use Rattle.std.specs.Vec.{vec_capacity}
 use Rattle.wh_model.specs.Format.Syntax.{Module}
@@ -50,8 +50,9 @@ pub record Instantiates (m : Module) (p : Parameters) (i : Instantiated) : Type 
   pub bytes : map (λ s. s.items) segments ≡ map (λ d. d.init) m.segments
   pub stands_for : RepresentsFirstStore m inst (first_store m p globals elements) i
 
--- why there is none; of memory nothing is said
+-- Why there is none. Memory is wanted only where the definition has an instance, so no other fault is there.
 abbrev pub RefusesInstance : Module → Parameters → InstantiateError → Type 0
 RefusesInstance m p MemoryMin = IsInitial m p memory_min
 RefusesInstance m p SegmentBounds = IsInitial m p segment_bounds
-RefusesInstance m p Memory = ⊤
+RefusesInstance m p Memory =
+    (inst : Instance) × (s : Store) × (to_write : List Piece) × IsInitial m p (begins inst s to_write)

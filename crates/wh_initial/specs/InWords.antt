@@ -1,5 +1,5 @@
 -- What an instance begins with, in words: the definition of instantiation without the types of values.
-use Rattle.std.specs.Prelude.{◌≡◌, ℕ, ◌+◌, ◌*◌, ◌<◌, ◌≤◌, List, [], None, length, map, replicate, ⊤}
+use Rattle.std.specs.Prelude.{◌≡◌, ℕ, ◌+◌, ◌*◌, ◌<◌, ◌≤◌, List, [], None, length, map, replicate}
 use Rattle.std.specs.List.{All}
 use Rattle.std.specs.Vec.{vec_capacity}
 use Rattle.wh_model.specs.Execution.Store.{output_room}
@@ -43,6 +43,10 @@ unfoldable pub AllFit : Module → List ℕ → Type 0
 AllFit m words =
     ElementsFit words (first_entries m) m.elements.items × SegmentsFit words (first_pages m * 65536) m.segments.items
 
+-- the memory's first size is within its limit, and all segments are within the table and the memory
+abbrev pub IsBounded : Module → List HostGlobal → Parameters → Type 0
+IsBounded m imported p = (first_pages m ≤ p.page_limit) × AllFit m (words_of_globals m imported p)
+
 -- what is handed out
 pub record BeginsInWords (m : Module) (imported : List HostGlobal) (p : Parameters) (i : Instantiated) : Type 0 where
   pub few_pages : first_pages m ≤ p.page_limit
@@ -57,9 +61,9 @@ pub record BeginsInWords (m : Module) (imported : List HostGlobal) (p : Paramete
   pub room : output_room ≤ vec_capacity i.store.output
   pub places : i.places.items ≡ map (λ s. word_in (words_of_globals m imported p) s.offset) m.segments.items
 
--- why nothing is
+-- why nothing is; memory is wanted only where nothing else stands in the way
 abbrev pub RefusesInWords : Module → List HostGlobal → Parameters → InstantiateError → Type 0
 RefusesInWords m imported p MemoryMin = p.page_limit < first_pages m
 RefusesInWords m imported p SegmentBounds =
     (first_pages m ≤ p.page_limit) × ¬ (AllFit m (words_of_globals m imported p))
-RefusesInWords m imported p Memory = ⊤
+RefusesInWords m imported p Memory = IsBounded m imported p

@@ -1,13 +1,13 @@
 //! What an instance begins with.
 
-ghost use Rattle.std.specs.Prelude.{◌≡◌, ◌↔◌, IsTrue, IfOk, IfErr};
-ghost use Rattle.std.specs.List.{All};
+ghost use Rattle.std.specs.Prelude.{◌≡◌, ◌≢◌, ◌↔◌, IsTrue, OnOk, IfOk, IfErr};
 ghost use Rattle.wh_syntax.specs.View.{view_module};
 ghost use Rattle.wh_initial.specs.Given.{view_parameters};
-ghost use Rattle.wh_initial.specs.Words.{IsOffset};
-ghost use Rattle.wh_initial.specs.InWords.{AllFit, IsPrepared, BeginsInWords, RefusesInWords};
+ghost use Rattle.wh_initial.specs.InWords.{AllFit, IsPrepared, IsBounded, BeginsInWords, RefusesInWords};
+ghost use Rattle.wh_initial.specs.InBasis.{words_of_basis, HasWords, HasBounds, RefusesBasis};
 ghost use Rattle.wh_initial.specs.Begins.{Instantiates, RefusesInstance};
 
+use crate::basis::Basis;
 use crate::error::InstantiateError;
 use crate::globals::first_globals;
 use crate::outcome::Instantiated;
@@ -21,16 +21,74 @@ use wh_imports::Linked;
 use wh_model::{HostGlobal, OUTPUT_ROOM, WASM_PAGE};
 use wh_syntax::Module;
 
-/// Whether all segments of a module end within its table and its memory, where the globals have these words.
-fn all_fit(decoded: &Module, globals: &[u64]) -> bool
-    requires elements { All (λ e. IsOffset globals.now e.offset) decoded.now.elements.items }
-    requires segments { All (λ s. IsOffset globals.now s.offset) decoded.now.segments.items }
-    ensures { IsTrue result ↔ AllFit decoded.now globals.now }
+/// Whether all segments of a module end within its table and its memory.
+fn all_fit(basis: &Basis<'_>) -> bool
+    requires { HasWords basis.now }
+    ensures { IsTrue result ↔ AllFit basis.now.module.now (words_of_basis basis.now) }
 {
-    let entries = u64::from(first_entries(&decoded.tables));
-    let bytes = u64::from(first_pages(&decoded.memories)) * WASM_PAGE as u64;
-    elements_fit(&decoded.elements, globals, entries)
-        && segments_fit(&decoded.segments, globals, bytes)
+    let entries = u64::from(first_entries(&basis.module.tables));
+    let bytes = u64::from(first_pages(&basis.module.memories)) * WASM_PAGE as u64;
+    elements_fit(basis, entries) && segments_fit(basis, bytes)
+}
+
+/// Looks at the first size of the memory, and at the bounds of all segments. It takes no memory.
+///
+/// # Errors
+/// As `instantiate`'s, but `Memory`.
+fn check_bounds(basis: &Basis<'_>) -> Result<(), InstantiateError>
+    requires { HasWords basis.now }
+    ensures ok { OnOk result (HasBounds basis.now) }
+    ensures err { IfErr result (RefusesBasis basis.now) }
+    ensures no_memory { IfErr result (λ e. e ≢ InstantiateError.Memory) }
+{
+    if first_pages(&basis.module.memories) > basis.parameters.page_limit {
+        return Err(InstantiateError::MemoryMin);
+    }
+    if !all_fit(basis) {
+        return Err(InstantiateError::SegmentBounds);
+    }
+    Ok(())
+}
+
+/// What an instance of a module begins with, where imported globals are these ones of the host, and all bounds were
+/// looked at.
+///
+/// # Errors
+/// `Memory` where a growth was refused.
+fn make(
+    alloc: Global,
+    decoded: &Module,
+    imported: &[HostGlobal],
+    parameters: Parameters,
+) -> Result<Instantiated, InstantiateError>
+    requires prepared { IsPrepared decoded.now imported.now (view_parameters parameters) }
+    requires in_bounds { IsBounded decoded.now imported.now (view_parameters parameters) }
+    ensures ok { IfOk result (BeginsInWords decoded.now imported.now (view_parameters parameters)) }
+    ensures inputs { IfOk result (λ i. i.store.inputs ≡ parameters.inputs) }
+    ensures err { IfErr result (λ e. e ≡ InstantiateError.Memory) }
+{
+    let basis = &Basis {
+        module: decoded,
+        imported,
+        parameters: &parameters,
+    };
+    let globals = first_globals(alloc, basis)?;
+    let places = segment_places(alloc, basis)?;
+    let table = first_table(alloc, basis, first_entries(&decoded.tables))?;
+    let output = Vec::with_capacity(alloc, OUTPUT_ROOM)?;
+    let pages = first_pages(&decoded.memories);
+    let page_limit = last_pages(&decoded.memories, parameters.page_limit);
+    Ok(Instantiated {
+        store: Store {
+            globals,
+            table,
+            inputs: parameters.inputs,
+            output,
+        },
+        pages,
+        page_limit,
+        places,
+    })
 }
 
 /// What an instance of a module begins with, where imported globals are these ones of the host.
@@ -49,30 +107,12 @@ fn begin(
     ensures err { IfErr result
         (RefusesInWords decoded.now imported.now (view_parameters parameters)) }
 {
-    let pages = first_pages(&decoded.memories);
-    if pages > parameters.page_limit {
-        return Err(InstantiateError::MemoryMin);
-    }
-    let page_limit = last_pages(&decoded.memories, parameters.page_limit);
-    let globals = first_globals(alloc, imported, &decoded.globals, &parameters)?;
-    let places = segment_places(alloc, &decoded.segments, &globals)?;
-    if !all_fit(decoded, &globals) {
-        return Err(InstantiateError::SegmentBounds);
-    }
-    let entries = first_entries(&decoded.tables);
-    let table = first_table(alloc, entries, &decoded.elements, &globals)?;
-    let output = Vec::with_capacity(alloc, OUTPUT_ROOM)?;
-    Ok(Instantiated {
-        store: Store {
-            globals,
-            table,
-            inputs: parameters.inputs,
-            output,
-        },
-        pages,
-        page_limit,
-        places,
-    })
+    check_bounds(&Basis {
+        module: decoded,
+        imported,
+        parameters: &parameters,
+    })?;
+    make(alloc, decoded, imported, parameters)
 }
 
 /// What an instance of a module begins with, where its owner gives it this (4.5.4): its globals are set, its elements
@@ -80,7 +120,8 @@ fn begin(
 ///
 /// # Errors
 /// `MemoryMin` where the first size of the memory is above `page_limit`; else `SegmentBounds` where a segment passes the
-/// end of the table or of the memory; `Memory` where a growth was refused.
+/// end of the table or of the memory; else `Memory` where a growth was refused. No memory is taken before all bounds were
+/// looked at.
 pub fn instantiate(
     alloc: Global,
     linked: &Linked,

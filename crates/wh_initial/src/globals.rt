@@ -2,43 +2,24 @@
 
 ghost use Rattle.std.specs.Prelude.{◌≡◌, ◌++◌, map, length, OnOk, IfOk, IfErr};
 ghost use Rattle.std.specs.List.{All};
-ghost use Rattle.std.specs.Vec.{vec_len};
-ghost use Rattle.wh_initial.specs.Words.{IsSeen, word_in, host_word, global_words};
-ghost use Rattle.wh_initial.specs.Given.{view_parameters};
+ghost use Rattle.wh_initial.specs.Words.{IsSeen, word_in};
+ghost use Rattle.wh_initial.specs.InBasis.{host_words_in, words_of_basis, HasWords};
 
-use crate::constants::word_of;
+use crate::basis::Basis;
+use crate::constants::{imported_word, own_word};
 use crate::error::InstantiateError;
-use crate::parameters::Parameters;
-use std::alloc::Global as Heap;
-use wh_model::HostGlobal;
-use wh_syntax::Global;
-
-/// The value of a global of the host; an i32 in the low 32 bits.
-fn word_of_host(global: HostGlobal, parameters: &Parameters) -> u64
-    ensures { result ≡ host_word (view_parameters parameters.now) global }
-{
-    match global {
-        HostGlobal::Base => u64::from(parameters.base),
-        HostGlobal::Salt => parameters.salt,
-    }
-}
+use std::alloc::Global;
 
 /// Puts the values of globals of the host into a list.
 ///
 /// # Errors
 /// `Memory` where a growth was refused.
-fn add_hosts(
-    words: &mut Vec<u64>,
-    imported: &[HostGlobal],
-    parameters: &Parameters,
-) -> Result<(), InstantiateError>
-    ensures ok { OnOk result
-        (words.new.items ≡ words.old.items
-        ++ map (host_word (view_parameters parameters.now)) imported.now) }
+fn add_hosts(words: &mut Vec<u64>, basis: &Basis<'_>) -> Result<(), InstantiateError>
+    ensures ok { OnOk result (words.new.items ≡ words.old.items ++ host_words_in basis.now) }
     ensures err { IfErr result (λ e. e ≡ InstantiateError.Memory) }
 {
-    for global in imported {
-        words.push(word_of_host(*global, parameters))?;
+    for at in 0..basis.imported.len() {
+        words.push(imported_word(basis, at))?;
     }
     Ok(())
 }
@@ -47,16 +28,16 @@ fn add_hosts(
 ///
 /// # Errors
 /// `Memory` where a growth was refused.
-fn add_own(words: &mut Vec<u64>, own: &[Global]) -> Result<(), InstantiateError>
-    requires { All (λ g. IsSeen (vec_len words.old) g.init) own.now }
+fn add_own(words: &mut Vec<u64>, basis: &Basis<'_>) -> Result<(), InstantiateError>
+    requires { All (λ g. IsSeen (length basis.now.imported.now) g.init)
+        basis.now.module.now.globals.items }
     ensures ok { OnOk result
-        (words.new.items ≡ words.old.items ++ map (λ g. word_in words.old.items g.init) own.now) }
+        (words.new.items ≡ words.old.items
+        ++ map (λ g. word_in (host_words_in basis.now) g.init) basis.now.module.now.globals.items) }
     ensures err { IfErr result (λ e. e ≡ InstantiateError.Memory) }
 {
-    let imported = words.len();
-    for global in own {
-        let word = word_of(&global.init, &words[..imported]);
-        words.push(word)?;
+    for global in &basis.module.globals {
+        words.push(own_word(basis, global))?;
     }
     Ok(())
 }
@@ -65,20 +46,14 @@ fn add_own(words: &mut Vec<u64>, own: &[Global]) -> Result<(), InstantiateError>
 ///
 /// # Errors
 /// `Memory` where a growth was refused.
-pub fn first_globals(
-    alloc: Heap,
-    imported: &[HostGlobal],
-    own: &[Global],
-    parameters: &Parameters,
-) -> Result<Vec<u64>, InstantiateError>
-    requires { All (λ g. IsSeen (length imported.now) g.init) own.now }
-    ensures ok { IfOk result
-        (λ words. words.items
-        ≡ global_words (view_parameters parameters.now) imported.now own.now) }
+pub fn first_globals(alloc: Global, basis: &Basis<'_>) -> Result<Vec<u64>, InstantiateError>
+    requires { HasWords basis.now }
+    ensures ok { IfOk result (λ words. words.items ≡ words_of_basis basis.now) }
     ensures err { IfErr result (λ e. e ≡ InstantiateError.Memory) }
 {
-    let mut words = Vec::with_capacity(alloc, imported.len() + own.len())?;
-    add_hosts(&mut words, imported, parameters)?;
-    add_own(&mut words, own)?;
+    let count = basis.imported.len() + basis.module.globals.len();
+    let mut words = Vec::with_capacity(alloc, count)?;
+    add_hosts(&mut words, basis)?;
+    add_own(&mut words, basis)?;
     Ok(words)
 }

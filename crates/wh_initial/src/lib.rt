@@ -5,6 +5,7 @@
 //! or refuses for the cause that the definition has; what it hands out is the store of that definition.
 #![tactic(auto)]
 
+mod basis;
 mod beginning;
 mod constants;
 mod error;

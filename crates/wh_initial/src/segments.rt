@@ -1,13 +1,14 @@
 //! Where segments belong (2.5.7, 2.5.8, 4.5.4).
 
-ghost use Rattle.std.specs.Prelude.{◌≡◌, ◌↔◌, ◌+◌, ◌≤◌, IsTrue, map, length, IfOk, IfErr};
-ghost use Rattle.std.specs.List.{All};
-ghost use Rattle.wh_initial.specs.Words.{word_in, IsOffset};
+ghost use Rattle.std.specs.Prelude.{◌≡◌, ◌↔◌, ◌+◌, ◌≤◌, IsTrue, map, IfOk, IfErr};
+ghost use Rattle.wh_initial.specs.Words.{word_in};
+ghost use Rattle.wh_initial.specs.InWords.{ElementsFit, SegmentsFit};
+ghost use Rattle.wh_initial.specs.InBasis.{words_of_basis, HasWords};
 
+use crate::basis::Basis;
 use crate::constants::offset_of;
 use crate::error::InstantiateError;
 use std::alloc::Global;
-use wh_syntax::{Data, Element};
 
 /// Whether so many items from a place on end within a size.
 fn is_within(place: u32, count: usize, size: u64) -> bool
@@ -17,59 +18,49 @@ fn is_within(place: u32, count: usize, size: u64) -> bool
     place <= size && count as u64 <= size - place
 }
 
-/// Whether all element segments end within a table of so many entries, where the globals have these words.
-pub fn elements_fit(elements: &[Element], globals: &[u64], size: u64) -> bool
-    requires { All (λ e. IsOffset globals.now e.offset) elements.now }
+/// Whether all element segments of a module end within a table of so many entries.
+pub fn elements_fit(basis: &Basis<'_>, size: u64) -> bool
+    requires { HasWords basis.now }
     ensures { IsTrue result
-        ↔ All (λ e. word_in globals.now e.offset + length e.init.items ≤ size) elements.now }
+        ↔ ElementsFit (words_of_basis basis.now) size basis.now.module.now.elements.items }
 {
-    for element in elements {
-        if !is_within(
-            offset_of(&element.offset, globals),
-            element.init.len(),
-            size,
-        ) {
+    for element in &basis.module.elements {
+        if !is_within(offset_of(basis, &element.offset), element.init.len(), size) {
             return false;
         }
     }
     true
 }
 
-/// Whether all data segments end within a memory of so many bytes, where the globals have these words.
-pub fn segments_fit(segments: &[Data], globals: &[u64], size: u64) -> bool
-    requires { All (λ s. IsOffset globals.now s.offset) segments.now }
+/// Whether all data segments of a module end within a memory of so many bytes.
+pub fn segments_fit(basis: &Basis<'_>, size: u64) -> bool
+    requires { HasWords basis.now }
     ensures { IsTrue result
-        ↔ All (λ s. word_in globals.now s.offset + length s.init.items ≤ size) segments.now }
+        ↔ SegmentsFit (words_of_basis basis.now) size basis.now.module.now.segments.items }
 {
-    for segment in segments {
-        if !is_within(
-            offset_of(&segment.offset, globals),
-            segment.init.len(),
-            size,
-        ) {
+    for segment in &basis.module.segments {
+        if !is_within(offset_of(basis, &segment.offset), segment.init.len(), size) {
             return false;
         }
     }
     true
 }
 
-/// The place of the first byte of each data segment, where the globals have these words.
+/// The place of the first byte of each data segment of a module.
 ///
 /// # Errors
 /// `Memory` where a growth was refused.
-pub fn segment_places(
-    alloc: Global,
-    segments: &[Data],
-    globals: &[u64],
-) -> Result<Vec<u32>, InstantiateError>
-    requires { All (λ s. IsOffset globals.now s.offset) segments.now }
+pub fn segment_places(alloc: Global, basis: &Basis<'_>) -> Result<Vec<u32>, InstantiateError>
+    requires { HasWords basis.now }
     ensures ok { IfOk result
-        (λ places. places.items ≡ map (λ s. word_in globals.now s.offset) segments.now) }
+        (λ places. places.items
+        ≡ map (λ s. word_in (words_of_basis basis.now) s.offset)
+        basis.now.module.now.segments.items) }
     ensures err { IfErr result (λ e. e ≡ InstantiateError.Memory) }
 {
-    let mut places = Vec::with_capacity(alloc, segments.len())?;
-    for segment in segments {
-        places.push(offset_of(&segment.offset, globals))?;
+    let mut places = Vec::with_capacity(alloc, basis.module.segments.len())?;
+    for segment in &basis.module.segments {
+        places.push(offset_of(basis, &segment.offset))?;
     }
     Ok(places)
 }

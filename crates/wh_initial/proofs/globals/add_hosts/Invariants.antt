@@ -1,8 +1,7 @@
-use Rattle.std.proofs.Common.{◌≡◌, ◌++◌, map, drop}
-use Rattle.wh_initial.specs.Words.{host_word}
-use Rattle.wh_initial.specs.Given.{view_parameters}
+use Rattle.std.proofs.Common.{◌≡◌, ◌++◌, take}
+use Rattle.wh_initial.specs.InBasis.{host_words_in}
 use Rattle.wh_initial.proofs.globals.add_hosts.Given as goal
 
--- what was put there, and what is to come, are all
-abbrev pub invariant-loop-global : goal.invariant-loop-global
-invariant-loop-global l = l.words.items ++ map (host_word (view_parameters l.parameters)) (drop l.global-index l.imported) ≡ l.fn.words.items ++ map (host_word (view_parameters l.parameters)) l.imported
+-- the words of those that were looked at
+abbrev pub invariant-loop-at : goal.invariant-loop-at
+invariant-loop-at l = l.words.items ≡ l.fn.words.items ++ take l.at (host_words_in l.basis)

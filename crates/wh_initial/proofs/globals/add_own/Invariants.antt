@@ -1,7 +1,8 @@
 use Rattle.std.proofs.Common.{◌≡◌, ◌++◌, map, take}
 use Rattle.wh_initial.specs.Words.{word_in}
+use Rattle.wh_initial.specs.InBasis.{host_words_in}
 use Rattle.wh_initial.proofs.globals.add_own.Given as goal
 
--- the imported ones, and behind them those that were looked at
+-- the words of those that were looked at
 abbrev pub invariant-loop-global : goal.invariant-loop-global
-invariant-loop-global l = l.words.items ≡ l.fn.words.items ++ map (λ g. word_in l.fn.words.items g.init) (take l.global-index l.own)
+invariant-loop-global l = l.words.items ≡ l.fn.words.items ++ map (λ g. word_in (host_words_in l.basis) g.init) (take l.global-index l.basis.module.now.globals.items)
