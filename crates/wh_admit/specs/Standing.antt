@@ -21,3 +21,7 @@ pub record IsRoomLeft (w : World) (room : Room) : Type 0 where
 pub record StandsForHost (w : World) (k : ℕ) (m : Option Module) (room : Room) : Type 0 where
   pub is_module : IsModuleAt w k m
   pub room_left : IsRoomLeft w room
+
+-- whatever is given stands for some host and some number
+abbrev pub StandsForSome : Type 0
+StandsForSome = (m : Option Module) (room : Room) → (w : World) × (k : ℕ) × StandsForHost w k m room

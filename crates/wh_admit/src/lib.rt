@@ -9,6 +9,7 @@
 
 mod admission;
 mod error;
+mod laws;
 mod limits;
 mod outcome;
 mod params;
@@ -19,6 +20,7 @@ mod words;
 
 pub use admission::admit;
 pub use error::AdmitError;
+pub use laws::standing_holds;
 pub use limits::{LEAST_FRAMES, MOST_FRAMES, MOST_INSTANCES, MOST_SHARES};
 pub use outcome::Admitted;
 pub use params::Params;
