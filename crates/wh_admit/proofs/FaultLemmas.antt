@@ -75,7 +75,8 @@ module _ (o : Option Module) (room : Room) (p : Params) where
   pub none_yet : NoneBelow o room p 1
   none_yet f less = let some = from_one f in absurd (omega (arith, some, less))
 
-  one_more : (f : AdmitFault) (n : ℕ) → admit_rank f ≡ n → NoneBelow o room p n → ¬ (MeetsHere o room p f) → NoneBelow o room p (n + 1)
+  one_more : (f : AdmitFault) (n : ℕ) → admit_rank f ≡ n → NoneBelow o room p n → ¬ (MeetsHere o room p f)
+      → NoneBelow o room p (n + 1)
   one_more f n is none lacks g less =
       ⊎_elim
       (λ before. none g before)
@@ -94,21 +95,29 @@ module _ (m : Module) (room : Room) (p : Params) where
   past_module = one_more (Some m) room p no_module 1 refl (none_yet (Some m) room p) (λ e. absurd (cc e))
 
   past_shares : AreShares p.shares → NoneBelow (Some m) room p 3
-  past_shares (some, few) = one_more (Some m) room p shares 2 refl past_module (λ met. ⊎_elim (λ less. absurd (omega (arith, some, less))) (λ more. absurd (omega (arith, few, more))) met)
+  past_shares (some, few) = one_more (Some m) room p shares 2 refl past_module
+      (λ met. ⊎_elim (λ less. absurd (omega (arith, some, less))) (λ more. absurd (omega (arith, few, more))) met)
 
   past_range : AreShares p.shares → AreFrames p.min p.max → NoneBelow (Some m) room p 4
   past_range are (some, order, few) =
       one_more (Some m) room p min_max 3 refl (past_shares are)
-      (λ met. ⊎_elim (λ less. absurd (omega (arith, some, less))) (λ w. ⊎_elim (λ less. absurd (omega (arith, order, less))) (λ more. absurd (omega (arith, few, more))) w) met)
+      (λ met. ⊎_elim (λ less. absurd (omega (arith, some, less)))
+      (λ w. ⊎_elim (λ less. absurd (omega (arith, order, less))) (λ more. absurd (omega (arith, few, more))) w) met)
 
   past_frames : AreShares p.shares → AreFrames p.min p.max → p.min ≤ room.frames → NoneBelow (Some m) room p 5
-  past_frames are range left = one_more (Some m) room p frames 4 refl (past_range are range) (λ met. absurd (omega (arith, left, met)))
+  past_frames are range left = one_more (Some m) room p frames 4 refl (past_range are range)
+      (λ met. absurd (omega (arith, left, met)))
 
-  past_slots : AreShares p.shares → AreFrames p.min p.max → p.min ≤ room.frames → (p.max - p.min) + 1 ≤ room.slots → NoneBelow (Some m) room p 6
-  past_slots are range left slots = one_more (Some m) room p swap 5 refl (past_frames are range left) (λ met. absurd (omega (arith, slots, met)))
+  past_slots : AreShares p.shares → AreFrames p.min p.max → p.min ≤ room.frames → (p.max - p.min) + 1 ≤ room.slots
+      → NoneBelow (Some m) room p 6
+  past_slots are range left slots = one_more (Some m) room p swap 5 refl (past_frames are range left)
+      (λ met. absurd (omega (arith, slots, met)))
 
   past_numbers : HasNumbers p room → NoneBelow (Some m) room p 7
-  past_numbers h = let few = h.few in one_more (Some m) room p instances 6 refl (past_slots h.shares h.range h.frames h.slots) (λ met. absurd (omega (arith, few, met)))
+  past_numbers h =
+      let few = h.few in
+      one_more (Some m) room p instances 6 refl (past_slots h.shares h.range h.frames h.slots)
+      (λ met. absurd (omega (arith, few, met)))
 
   pub refuses_numbers : (e : AdmitError) → RefusesNumbers p room e → RefusesHere (Some m) room p (fault_of e)
   refuses_numbers NoModule is = absurd is
@@ -124,15 +133,22 @@ module _ (m : Module) (room : Room) (p : Params) where
   -- ---- what its instance comes to
 
   only_one : (a b : Beginning) → IsInitial m (given_of p) a → ComesTo (Some m) p b → a ≡ b
-  only_one a b is (m2, same, other) = let e : m2 ≡ m = cc same in one_beginning m (given_of p) a b is (subst (λ z. IsInitial z (given_of p) b) e other)
+  only_one a b is (m2, same, other) =
+      let e : m2 ≡ m = cc same in
+      one_beginning m (given_of p) a b is (subst (λ z. IsInitial z (given_of p) b) e other)
 
-  past_memory : HasNumbers p room → (b : Beginning) → IsInitial m (given_of p) b → ¬ (b ≡ memory_min) → NoneBelow (Some m) room p 8
-  past_memory h b is other = one_more (Some m) room p memory 7 refl (past_numbers h) (λ met. other (only_one b memory_min is met))
+  past_memory : HasNumbers p room → (b : Beginning) → IsInitial m (given_of p) b → ¬ (b ≡ memory_min)
+      → NoneBelow (Some m) room p 8
+  past_memory h b is other = one_more (Some m) room p memory 7 refl (past_numbers h)
+      (λ met. other (only_one b memory_min is met))
 
-  pub past_all : HasNumbers p room → (b : Beginning) → IsInitial m (given_of p) b → ¬ (b ≡ memory_min) → ¬ (b ≡ segment_bounds) → NoneBelow (Some m) room p 9
-  past_all h b is other another = one_more (Some m) room p segments 8 refl (past_memory h b is other) (λ met. another (only_one b segment_bounds is met))
+  pub past_all : HasNumbers p room → (b : Beginning) → IsInitial m (given_of p) b → ¬ (b ≡ memory_min)
+      → ¬ (b ≡ segment_bounds) → NoneBelow (Some m) room p 9
+  past_all h b is other another = one_more (Some m) room p segments 8 refl (past_memory h b is other)
+      (λ met. another (only_one b segment_bounds is met))
 
-  pub refuses_beginning : HasNumbers p room → (e : AdmitError) → RefusesBeginning m p e → RefusesHere (Some m) room p (fault_of e)
+  pub refuses_beginning : HasNumbers p room → (e : AdmitError) → RefusesBeginning m p e
+      → RefusesHere (Some m) room p (fault_of e)
   refuses_beginning h NoModule is = absurd is
   refuses_beginning h Shares is = absurd is
   refuses_beginning h MinMax is = absurd is
@@ -141,4 +157,5 @@ module _ (m : Module) (room : Room) (p : Params) where
   refuses_beginning h Instances is = absurd is
   refuses_beginning h MemoryMin is = ((m, refl, is), past_numbers h)
   refuses_beginning h SegmentBounds is = ((m, refl, is), past_memory h segment_bounds is (λ e. absurd (cc e)))
-  refuses_beginning h Memory (inst, s, to_write, is) = past_all h (begins inst s to_write) is (λ e. absurd (cc e)) (λ e. absurd (cc e))
+  refuses_beginning h Memory (inst, s, to_write, is) = past_all h (begins inst s to_write) is (λ e. absurd (cc e))
+      (λ e. absurd (cc e))

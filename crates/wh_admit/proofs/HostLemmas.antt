@@ -37,13 +37,15 @@ module _ (w : World) (k : ℕ) (p : Params) (room : Room) where
 
   from_number : (o : Option Module) → IsModuleAt w k o → length w.modules ≤ k → o ≡ None
   from_number None far past = refl
-  from_number (Some m) (l, at, same) past = let near = slice_get_within w.modules k l at in absurd (omega (arith, near, past))
+  from_number (Some m) (l, at, same) past = let near = slice_get_within w.modules k l at in absurd
+      (omega (arith, near, past))
 
   to_number : (o : Option Module) → IsModuleAt w k o → o ≡ None → length w.modules ≤ k
   to_number None far none = far
   to_number (Some m) is none = absurd (cc none)
 
-  pub from_host : (o : Option Module) → StandsForHost w k o room → (f : AdmitFault) → MeetsFault w k p f → MeetsHere o room p f
+  pub from_host : (o : Option Module) → StandsForHost w k o room → (f : AdmitFault) → MeetsFault w k p f
+      → MeetsHere o room p f
   from_host o st no_module met = from_number o st.is_module met
   from_host o st shares met = met
   from_host o st min_max met = met
@@ -53,7 +55,8 @@ module _ (w : World) (k : ℕ) (p : Params) (room : Room) where
   from_host o st memory met = from_module o memory_min st.is_module met
   from_host o st segments met = from_module o segment_bounds st.is_module met
 
-  pub to_host : (o : Option Module) → StandsForHost w k o room → (f : AdmitFault) → MeetsHere o room p f → MeetsFault w k p f
+  pub to_host : (o : Option Module) → StandsForHost w k o room → (f : AdmitFault) → MeetsHere o room p f
+      → MeetsFault w k p f
   to_host o st no_module met = to_number o st.is_module met
   to_host o st shares met = met
   to_host o st min_max met = met
@@ -68,7 +71,11 @@ module _ (o : Option Module) (room : Room) (p : Params) where
   meets_none none w k st f has = none f (below_nine f) (from_host w k p room o st f has)
 
   pub refuses_for : (fault : Option AdmitFault) → RefusesHere o room p fault → RefusesFor o room p fault
-  refuses_for (Some f) (met, none) = λ w k st. (to_host w k p room o st f met, λ other less has. none other less (from_host w k p room o st other has))
+  refuses_for (Some f) (met, none) = λ w k st. (
+    to_host w k p room o st f met,
+    λ other less has. none other less
+        (from_host w k p room o st other has),
+  )
   refuses_for None none = meets_none none
 
 -- ---- what the parts of an admission come to
@@ -81,11 +88,13 @@ module _ (m : Module) (room : Room) (p : Params) where
   pub numbers_refused : (e : AdmitError) → RefusesNumbers p room e → RefusesAdmission (Some m) room p e
   numbers_refused e is = refuses_for (Some m) room p (fault_of e) (refuses_numbers m room p e is)
 
-  pub beginning_refused : HasNumbers p room → (r : Result Admitted AdmitError) → IfErr r (RefusesBeginning m p) → IfErr r (RefusesAdmission (Some m) room p)
+  pub beginning_refused : HasNumbers p room → (r : Result Admitted AdmitError) → IfErr r (RefusesBeginning m p)
+      → IfErr r (RefusesAdmission (Some m) room p)
   beginning_refused h (Ok a) is = tt
   beginning_refused h (Err e) is = refuses_for (Some m) room p (fault_of e) (refuses_beginning m room p h e is)
 
-  pub beginning_met : HasNumbers p room → (r : Result Admitted AdmitError) → IfOk r (BeginsAs m p) → OnOk r (MeetsNone (Some m) room p)
+  pub beginning_met : HasNumbers p room → (r : Result Admitted AdmitError) → IfOk r (BeginsAs m p)
+      → OnOk r (MeetsNone (Some m) room p)
   beginning_met h (Ok a) is =
       let i = is.instantiates in
       let b = begins i.inst (first_store m (given_of p) i.globals i.elements) (fragments i.segments) in

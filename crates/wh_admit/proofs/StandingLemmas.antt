@@ -40,7 +40,12 @@ counted (suc n) = let h = counted n in omega (arith, h)
 
 -- with these modules
 host_with : List Loaded → Room → World
-host_with modules room = record { modules = modules; tenants = crowd room.live; space = empty_space room.frames room.slots no_tax }
+host_with modules room = record {
+  modules = modules;
+  tenants = crowd room.live;
+  space = empty_space room.frames
+      room.slots no_tax;
+}
 
 all_left : (n : ℕ) {A : Type 0} (x : A) → n + 0 ≡ length (replicate n x)
 all_left n x = let h = length-replicate n x in omega (arith, h)

@@ -85,8 +85,8 @@ fn begin(alloc: Global, linked: &Linked, params: Params) -> Result<Admitted, Adm
     })
 }
 
-/// Decides whether an instance is admitted of the module that is meant, and makes what it begins with. `linked` is `None`
-/// where no module has the number that was asked for.
+/// Decides whether an instance is admitted of the module that is meant, and makes what it begins with. `linked` is
+/// `None` where no module has the number that was asked for.
 ///
 /// # Errors
 /// The first fault, in the order of their numbers. Memory is asked for only where none of the others holds.

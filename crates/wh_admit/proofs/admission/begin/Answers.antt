@@ -11,7 +11,12 @@ returns-clause-ok c =
     let base : p.base < 2 ^ 32 = search rules in
     let salt : p.salt < 2 ^ 64 = search rules in
     let fuel : p.fuel < 2 ^ 64 = search rules in
-    let given : AreGiven (given_of p) = record { base = base; salt = salt; inputs = subst (AllByRecursion (λ n. n < 2 ^ 64)) c.deref.ensures.value c.are_words.ensures } in
+    let given : AreGiven (given_of p) = record {
+      base = base;
+      salt = salt;
+      inputs = subst
+          (AllByRecursion (λ n. n < 2 ^ 64)) c.deref.ensures.value c.are_words.ensures;
+    } in
     record {
       instantiates = c.in_ok-begun.ensures.ok;
       inputs = ap (λ v. v.items) c.in_ok-begun.ensures.inputs;
