@@ -19,7 +19,8 @@ module _ (m : Module) (imported : List HostGlobal) (p : Parameters) (x : ℕ) wh
   abbrev owns : List ℕ
   owns = map (λ g. word_in hosts g.init) m.globals.items
 
-  pub own_there : x < length (words_of_globals m imported p) → length imported ≤ x → x - length imported < length m.globals.items
+  pub own_there : x < length (words_of_globals m imported p) → length imported ≤ x
+      → x - length imported < length m.globals.items
   unfolding words_of_globals
   own_there lt far =
       let both = length-append hosts owns in
@@ -29,9 +30,13 @@ module _ (m : Module) (imported : List HostGlobal) (p : Parameters) (x : ℕ) wh
 
   pub imported_at : x < length imported → slice_index hosts x ≡ slice_index (words_of_globals m imported p) x
   unfolding words_of_globals
-  imported_at lt = let first = length-map imported (host_word p) in sym (get_or-append hosts owns 0 x (omega (arith, lt, first)))
+  imported_at lt =
+      let first = length-map imported (host_word p) in
+      sym (get_or-append hosts owns 0 x (omega (arith, lt, first)))
 
-  pub own_at : (d : Global) → length imported ≤ x → x - length imported < length m.globals.items → word_in hosts (get_or m.globals.items (x - length imported) d).init ≡ slice_index (words_of_globals m imported p) x
+  pub own_at : (d : Global) → length imported ≤ x → x - length imported < length m.globals.items
+      → word_in hosts (get_or m.globals.items (x - length imported) d).init
+      ≡ slice_index (words_of_globals m imported p) x
   unfolding words_of_globals
   own_at d far lt =
       sym (get_or-append_right hosts owns (length imported) x 0 (length-map imported (host_word p)) far
@@ -42,18 +47,28 @@ module _ (m : Module) (imported : List HostGlobal) (p : Parameters) (x : ℕ) wh
 not_true : (r : Bool) (P : Type 0) → r ≡ false → IsTrue r ↔ P → ¬ P
 not_true r P lie decides = λ h. let yes = decides.1 h in absurd (cc)
 
-module _ (m : Module) (words : List ℕ) (size : ℕ) (r : Bool) (sized : size ≡ first_entries m) (decides : IsTrue r ↔ ElementsFit words size m.elements.items) where
+module _ (m : Module) (words : List ℕ) (size : ℕ) (r : Bool) (sized : size ≡ first_entries m)
+    (decides : IsTrue r ↔ ElementsFit words size m.elements.items) where
   pub elements_pass : r ≡ false → IsTrue r ↔ AllFit m words
   unfolding AllFit
-  elements_pass lie = (λ yes. absurd (cc), λ fit. absurd (not_true r (ElementsFit words size m.elements.items) lie decides (subst (λ n. ElementsFit words n m.elements.items) (sym sized) fit.0)))
+  elements_pass lie = (
+    λ yes. absurd (cc),
+    λ fit. absurd (not_true r (ElementsFit words size m.elements.items) lie decides
+        (subst (λ n. ElementsFit words n m.elements.items) (sym sized) fit.0)),
+  )
 
-  pub both_decide : (bytes : ℕ) (r2 : Bool) → bytes ≡ first_pages m * 65536 → r ≡ true → IsTrue r2 ↔ SegmentsFit words bytes m.segments.items → IsTrue r2 ↔ AllFit m words
+  pub both_decide : (bytes : ℕ) (r2 : Bool) → bytes ≡ first_pages m * 65536 → r ≡ true
+      → IsTrue r2 ↔ SegmentsFit words bytes m.segments.items → IsTrue r2 ↔ AllFit m words
   unfolding AllFit
   both_decide bytes r2 many is others = (
-    λ yes. (subst (λ n. ElementsFit words n m.elements.items) sized (decides.0 is), subst (λ n. SegmentsFit words n m.segments.items) many (others.0 yes)),
+    λ yes. (
+      subst (λ n. ElementsFit words n m.elements.items) sized (decides.0 is),
+      subst (λ n. SegmentsFit words n m.segments.items) many (others.0 yes),
+    ),
     λ fit. others.1 (subst (λ n. SegmentsFit words n m.segments.items) (sym many) fit.1),
   )
 
-pub elements_bound : (m : Module) (words : List ℕ) (size : ℕ) → size ≡ first_entries m → AllFit m words → ElementsFit words size m.elements.items
+pub elements_bound : (m : Module) (words : List ℕ) (size : ℕ) → size ≡ first_entries m → AllFit m words
+    → ElementsFit words size m.elements.items
 unfolding AllFit
 elements_bound m words size sized fit = subst (λ n. ElementsFit words n m.elements.items) (sym sized) fit.0

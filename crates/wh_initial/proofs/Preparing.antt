@@ -177,7 +177,9 @@ module _ (m : Module) (imported : List HostGlobal) (hosts : List HostFunc) (tabl
   refuses : (e : InstantiateError) → RefusesInWords m imported p e → RefusesInstance (view_module m) p e
   refuses MemoryMin more = needs_more more
   refuses SegmentBounds out = out_of_bounds out.0 prepares (λ both. out.1 (all_in both.0 both.1))
-  refuses Memory (few, fit) = (inst, first_store (view_module m) p values elements, fragments segments, in_bounds few prepares (elements_in fit) (segments_in fit))
+  refuses Memory (few, fit) =
+      let is = in_bounds few prepares (elements_in fit) (segments_in fit) in
+      (inst, first_store (view_module m) p values elements, fragments segments, is)
 
   pub ok_turned : (r : Result Instantiated InstantiateError) → IfOk r (BeginsInWords m imported p) → IfOk r (Instantiates (view_module m) p)
   ok_turned (Ok i) b = begins_with i b

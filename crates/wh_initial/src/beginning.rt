@@ -119,9 +119,9 @@ fn begin(
 /// are written, and where its data segments belong is known.
 ///
 /// # Errors
-/// `MemoryMin` where the first size of the memory is above `page_limit`; else `SegmentBounds` where a segment passes the
-/// end of the table or of the memory; else `Memory` where a growth was refused. No memory is taken before all bounds were
-/// looked at.
+/// `MemoryMin` where the first size of the memory is above `page_limit`; else `SegmentBounds` where a segment passes
+/// the end of the table or of the memory; else `Memory` where a growth was refused. No memory is taken before all bounds
+/// were looked at.
 pub fn instantiate(
     alloc: Global,
     linked: &Linked,

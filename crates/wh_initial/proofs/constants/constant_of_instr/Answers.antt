@@ -10,7 +10,8 @@ returns-in-I32Const c =
     let fits : SFits w32 n = search rules in
     record {
       below = λ count has. tt;
-      word = λ words. c.from.ensures ∙ c.cast_unsigned.ensures ∙ ap (of_z w32) (to_z-of_z w32 n fits) ∙ narrow_32 n fits ∙ sym (ap (word_at words) c.in-I32Const.is);
+      word = λ words. c.from.ensures ∙ c.cast_unsigned.ensures ∙ ap (of_z w32) (to_z-of_z w32 n fits) ∙ narrow_32 n
+          fits ∙ sym (ap (word_at words) c.in-I32Const.is);
     }
 
 pub returns-in-I64Const : goal.returns-in-I64Const
@@ -19,5 +20,6 @@ returns-in-I64Const c =
     let fits : SFits w64 n = search rules in
     record {
       below = λ count has. tt;
-      word = λ words. c.cast_unsigned-in-I64Const.ensures ∙ ap (of_z w64) (to_z-of_z w64 n fits) ∙ unsigned_64 n fits ∙ sym (ap (word_at words) c.in-I64Const.is);
+      word = λ words. c.cast_unsigned-in-I64Const.ensures ∙ ap (of_z w64) (to_z-of_z w64 n fits) ∙ unsigned_64 n fits
+          ∙ sym (ap (word_at words) c.in-I64Const.is);
     }

@@ -9,25 +9,31 @@ use Rattle.wh_initial.proofs.constants.global_word.Goals as goal
 pub index-requires : goal.index-requires
 index-requires c =
     let s = c.args.basis.now in
-    let there = own_there s.module.now s.imported.now (view_parameters s.parameters.now) c.args.index c.requires.there c.if-index-imported.false in
+    let there = own_there s.module.now s.imported.now (view_parameters s.parameters.now) c.args.index c.requires.there
+    c.if-index-imported.false in
     let all = s.module.now.globals.ok in
     omega (arith, there, all)
 
 pub own_word-requires : goal.own_word-requires
 own_word-requires c =
     let s = c.args.basis.now in
-    let there = own_there s.module.now s.imported.now (view_parameters s.parameters.now) c.args.index c.requires.there c.if-index-imported.false in
-    subst (λ (g : Global). IsSeen (length s.imported.now) g.init) (sym c.index.ensures) (c.requires.prepared.globals (c.args.index - length s.imported.now) c.index.result.now there)
+    let there = own_there s.module.now s.imported.now (view_parameters s.parameters.now) c.args.index c.requires.there
+    c.if-index-imported.false in
+    subst (λ (g : Global). IsSeen (length s.imported.now) g.init) (sym c.index.ensures)
+    (c.requires.prepared.globals (c.args.index - length s.imported.now) c.index.result.now there)
 
 pub returns-then-index-imported : goal.returns-then-index-imported
 returns-then-index-imported c =
     let s = c.args.basis.now in
-    c.imported_word.ensures ∙ imported_at s.module.now s.imported.now (view_parameters s.parameters.now) c.args.index c.if-index-imported.true
+    c.imported_word.ensures ∙ imported_at s.module.now s.imported.now (view_parameters s.parameters.now) c.args.index
+    c.if-index-imported.true
 
 pub returns-else-index-imported : goal.returns-else-index-imported
 returns-else-index-imported c =
     let s = c.args.basis.now in
-    let there = own_there s.module.now s.imported.now (view_parameters s.parameters.now) c.args.index c.requires.there c.if-index-imported.false in
+    let there = own_there s.module.now s.imported.now (view_parameters s.parameters.now) c.args.index c.requires.there
+    c.if-index-imported.false in
     c.own_word.ensures
     ∙ ap (λ (g : Global). word_in (host_words_in s) g.init) c.index.ensures
-    ∙ own_at s.module.now s.imported.now (view_parameters s.parameters.now) c.args.index c.index.result.now c.if-index-imported.false there
+    ∙ own_at s.module.now s.imported.now (view_parameters s.parameters.now) c.args.index c.index.result.now
+    c.if-index-imported.false there

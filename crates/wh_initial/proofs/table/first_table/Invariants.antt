@@ -8,5 +8,8 @@ use Rattle.wh_initial.proofs.table.first_table.Given as goal
 abbrev pub invariant-loop-element : goal.invariant-loop-element
 invariant-loop-element l = record {
   size : length l.table.items ≡ l.size;
-  table : filled l.table.items (map (element_piece (words_of_basis l.basis)) (drop l.element-index l.basis.module.now.elements.items)) ≡ filled (replicate l.size None) (map (element_piece (words_of_basis l.basis)) l.basis.module.now.elements.items);
+  table : filled l.table.items
+      (map (element_piece (words_of_basis l.basis)) (drop l.element-index l.basis.module.now.elements.items))
+      ≡ filled (replicate l.size None)
+      (map (element_piece (words_of_basis l.basis)) l.basis.module.now.elements.items);
 }

@@ -1,0 +1,4 @@
+pub mod WordLemmas
+pub mod FaultLemmas
+pub mod HostLemmas
+pub mod StandingLemmas

@@ -1,0 +1,114 @@
+//! Whether an instance is admitted, and what it begins with.
+
+ghost use Rattle.std.specs.Prelude.{OnOk, IfOk, IfErr};
+ghost use Rattle.std.specs.Option.{option_copied};
+ghost use Rattle.wh_syntax.specs.View.{view_module};
+ghost use Rattle.wh_admit.specs.Views.{view_params, linked_module};
+ghost use Rattle.wh_admit.specs.Numbers.{AreShares, AreFrames, HasNumbers, RefusesNumbers};
+ghost use Rattle.wh_admit.specs.Beginning.{BeginsAs, BeginsAdmitted, RefusesBeginning};
+ghost use Rattle.wh_admit.specs.Admitting.{MeetsNone, RefusesAdmission};
+
+use crate::error::AdmitError;
+use crate::limits::{FRAMES_OF_PAGE, LEAST_FRAMES, MOST_FRAMES, MOST_INSTANCES, MOST_SHARES};
+use crate::outcome::Admitted;
+use crate::params::Params;
+use crate::room::Room;
+use crate::words::are_words;
+use std::alloc::Global;
+use wh_imports::Linked;
+use wh_initial::{Parameters, instantiate};
+use wh_machine::Machine;
+
+/// Looks at the numbers that the owner gives, one after the other, and at the room that is left. It takes no memory.
+///
+/// # Errors
+/// `Shares`, `MinMax`, `Frames`, `Swap` or `Instances`, the first of them that holds.
+fn check_numbers(params: &Params, room: Room) -> Result<(), AdmitError>
+    ensures ok { OnOk result (HasNumbers (view_params params.now) room) }
+    ensures err { IfErr result (RefusesNumbers (view_params params.now) room) }
+{
+    if params.shares < 1 || params.shares > MOST_SHARES {
+        return Err(AdmitError::Shares);
+    }
+    if params.min < LEAST_FRAMES || params.max < params.min || params.max > MOST_FRAMES {
+        return Err(AdmitError::MinMax);
+    }
+    if params.min > room.frames {
+        return Err(AdmitError::Frames);
+    }
+    if params.max - params.min + 1 > room.slots {
+        return Err(AdmitError::Swap);
+    }
+    if room.live >= MOST_INSTANCES {
+        return Err(AdmitError::Instances);
+    }
+    Ok(())
+}
+
+/// Makes what an instance begins with, where the numbers that its owner gives are admitted.
+///
+/// # Errors
+/// `MemoryMin` or `SegmentBounds`, the first of them that holds; else `Memory` where a growth was refused.
+fn begin(alloc: Global, linked: &Linked, params: Params) -> Result<Admitted, AdmitError>
+    requires shares { AreShares params.shares }
+    requires frames { AreFrames params.min params.max }
+    ensures ok { IfOk result
+        (BeginsAs (view_module linked.now.valid.decoded) (view_params params)) }
+    ensures err { IfErr result
+        (RefusesBeginning (view_module linked.now.valid.decoded) (view_params params)) }
+{
+    are_words(&params.inputs);
+    let Params {
+        shares,
+        min,
+        max,
+        fuel,
+        base,
+        salt,
+        inputs,
+    } = params;
+    let parameters = Parameters {
+        base,
+        salt,
+        inputs,
+        page_limit: (max / FRAMES_OF_PAGE) as u32,
+    };
+    let begun = instantiate(alloc, linked, parameters)?;
+    let machine = Machine::new(alloc)?;
+    Ok(Admitted {
+        begun,
+        machine,
+        shares: shares as u32,
+        min: min as u32,
+        max: max as u32,
+        fuel,
+    })
+}
+
+/// Decides whether an instance is admitted of the module that is meant, and makes what it begins with. `linked` is
+/// `None` where no module has the number that was asked for.
+///
+/// # Errors
+/// The first fault, in the order of their numbers. Memory is asked for only where none of the others holds.
+pub fn admit(
+    alloc: Global,
+    linked: Option<&Linked>,
+    params: Params,
+    room: Room,
+) -> Result<Admitted, AdmitError>
+    // It meets no fault.
+    ensures ok { OnOk result
+        (MeetsNone (linked_module (option_copied linked.entry)) room (view_params params)) }
+    // It begins as the definition of instantiation says.
+    ensures begins { IfOk result
+        (BeginsAdmitted (linked_module (option_copied linked.entry)) (view_params params)) }
+    // The fault that is named is the first that it meets; where memory is wanted it meets none.
+    ensures err { IfErr result
+        (RefusesAdmission (linked_module (option_copied linked.entry)) room (view_params params)) }
+{
+    let Some(linked) = linked else {
+        return Err(AdmitError::NoModule);
+    };
+    check_numbers(&params, room)?;
+    begin(alloc, linked, params)
+}
