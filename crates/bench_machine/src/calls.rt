@@ -196,6 +196,7 @@ pub fn time_view(
     let mut view = View {
         memory: &mut memory,
         place: 0,
+        page_limit: begun.page_limit,
     };
     time_on(rt, linked, &mut begun, &mut machine, &mut view, wanted)
 }

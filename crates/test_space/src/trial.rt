@@ -10,6 +10,7 @@ use wh_flatmem::FlatMemory;
 use wh_host_model::{Offer, Tax};
 use wh_kernels::PageHash;
 use wh_linmem::LinearMem;
+use wh_model::MOST_WASM_PAGES;
 use wh_scan::{offer, scan_all, take};
 use wh_space::{Memory, Promise, View};
 
@@ -116,6 +117,7 @@ impl Trial {
         let mut view = View {
             memory: &mut self.memory,
             place,
+            page_limit: MOST_WASM_PAGES,
         };
         same::load(&mut view, flat, at, count, quickly)
     }
@@ -131,6 +133,7 @@ impl Trial {
         let mut view = View {
             memory: &mut self.memory,
             place,
+            page_limit: MOST_WASM_PAGES,
         };
         if !same::store(&mut view, flat, at, &given[..count], quickly)? {
             self.counts.not_ready = self.counts.not_ready.saturating_add(1);
@@ -145,6 +148,7 @@ impl Trial {
         let mut view = View {
             memory: &mut self.memory,
             place,
+            page_limit: MOST_WASM_PAGES,
         };
         same::grow(&mut view, flat, pages)
     }
@@ -203,6 +207,7 @@ impl Trial {
             let mut view = View {
                 memory: &mut self.memory,
                 place,
+                page_limit: MOST_WASM_PAGES,
             };
             same::compare(&mut view, flat)?;
         }

@@ -17,7 +17,7 @@ use Rattle.wh_instance.specs.declared.stages.Progress.TheVariants.{Writing, Face
 use Rattle.wh_instance.specs.Pieces.{pieces_left}
 use Rattle.wh_instance.specs.Turned.{IsStarting, IsFaced, IsComputing, IsThere, Turns}
 use Rattle.wh_instance.specs.Tenancy.{TenantState, state_over, RepresentsCall, RepresentsEach, IsCounted, IsWhere, writes, is_faced, is_under_way, RepresentsTenant}
-use Rattle.wh_instance.specs.Advancing.{HasOpenCall, Advances}
+use Rattle.wh_instance.specs.Advancing.{HasOpenCall, AdvancesTenant}
 use Rattle.wh_instance.proofs.Closing.{first_of_each}
 
 -- ---- an open call
@@ -158,7 +158,7 @@ few_of resting e k more counted few = let none = more 0 (λ ps is. absurd (cc is
 few_of (computing term) e k more counted few = let none = more 0 (λ ps is. absurd (cc is)) in omega (arith, none, counted)
 few_of (has_left ps) e k more counted few = let all = more (length ps) (λ other is. let same : ps ≡ other = cc is in subst (λ z. length z ≤ length ps) same (omega arith)) in let le = few ps refl in omega (arith, all, le)
 
-pub advanced : {M : Type 0} (w : Setting M) (q : ℕ) (x2 : TenantState) (m m2 : M) (t : Tenant) (e : Entry) (es : List Entry) (answer : Came) (k n : ℕ) (left : List Piece) (d : Doing) → t.doing ≡ d → Turns w t.inst q e.call m t.rest d answer k n (state_over x2 m2) left → Around w d e x2 left → Advances w q m t e es answer k n x2 m2
+pub advanced : {M : Type 0} (w : Setting M) (q : ℕ) (x2 : TenantState) (m m2 : M) (t : Tenant) (e : Entry) (es : List Entry) (answer : Came) (k n : ℕ) (left : List Piece) (d : Doing) → t.doing ≡ d → Turns w t.inst q e.call m t.rest d answer k n (state_over x2 m2) left → Around w d e x2 left → AdvancesTenant w q m t e es answer k n x2 m2
 unfolding PiecesWithin
 advanced w q x2 m m2 t e es answer k n left d same turns a =
     let more = pieces_within turns.proceeds in
@@ -177,7 +177,7 @@ advanced w q x2 m m2 t e es answer k n left d same turns a =
 
 -- ---- the code's counts
 
-pub can_go_further : {M : Type 0} (w : Setting M) (q : ℕ) (x x2 : TenantState) (m m2 : M) (t : Tenant) (e : Entry) (es : List Entry) (answer : Came) (k n : ℕ) → Opened w x m t e es → Advances w q m t e es answer k n x2 m2 → x2.journal ≡ x.journal → CanGoFurther x2.journal.open_calls k n
+pub can_go_further : {M : Type 0} (w : Setting M) (q : ℕ) (x x2 : TenantState) (m m2 : M) (t : Tenant) (e : Entry) (es : List Entry) (answer : Came) (k n : ℕ) → Opened w x m t e es → AdvancesTenant w q m t e es answer k n x2 m2 → x2.journal ≡ x.journal → CanGoFurther x2.journal.open_calls k n
 can_go_further w q x x2 m m2 t e es answer k n o a same =
     let f = o.first in
     let pieces = f.pieces in

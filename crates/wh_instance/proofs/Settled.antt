@@ -30,7 +30,7 @@ use Rattle.wh_instance.specs.declared.stages.Turned.{Turned}
 use Rattle.wh_instance.specs.declared.stages.Turned.TheVariants as turned
 use Rattle.wh_instance.specs.Turned.{HasRest, IsCame}
 use Rattle.wh_instance.specs.Tenancy.{TenantState, state_over, IsCallEnd, RepresentsCall, RepresentsEach, MayBegin, IsCounted, behind_first, IsWhere, rests, writes, is_faced, is_under_way, suspension_of, RepresentsTenant}
-use Rattle.wh_instance.specs.Advancing.{Advances, KeepsItsFault, LeavesTenant, TurnsTenant}
+use Rattle.wh_instance.specs.Advancing.{AdvancesTenant, KeepsItsFault, LeavesTenant, TurnsTenant}
 use Rattle.wh_instance.specs.Settling.{closed, is_fault, frame_or_fault, answered, settled_to}
 use Rattle.wh_instance.proofs.Closing.{call_goes_on, closes}
 
@@ -55,7 +55,7 @@ not_resting call never (has_had_its_turn a b c d f) is = cc is
 
 -- so it goes on, and the instance stands for this
 goes_on : {M : Type 0} (w : Setting M) (q : ℕ) (x x1 : TenantState) (m m2 : M) (t : Tenant) (e : Entry) (es : List Entry) (answer : Came) (k n : ℕ) (c : JournalCallState) (cs : List JournalCallState) (stands : Option code.Suspension) (o : Option Suspension)
-    → RepresentsTenant w x m t → t.open_calls ≡ e ∷ es → x1.journal.ended ≡ x.journal.ended → x1.dead ≡ x.dead → RepresentsCall c e → RepresentsEach cs es → (a : Advances w q m t e es answer k n x1 m2) → ((o : Outcome) → a.to ≢ to_end o) → o ≡ suspension_of stands
+    → RepresentsTenant w x m t → t.open_calls ≡ e ∷ es → x1.journal.ended ≡ x.journal.ended → x1.dead ≡ x.dead → RepresentsCall c e → RepresentsEach cs es → (a : AdvancesTenant w q m t e es answer k n x1 m2) → ((o : Outcome) → a.to ≢ to_end o) → o ≡ suspension_of stands
     → RepresentsTenant w (record x1 { journal = record x1.journal { open_calls = with_progress c k n ∷ cs }; stands_for = stands }) m2 (gone_on t (gone_further e k n) es a.rest a.doing o)
 goes_on w q x x1 m m2 t e es answer k n c cs stands o rep is_open same_ended same_dead first others a never is = record {
   store = a.store;
@@ -80,7 +80,7 @@ pub record Advanced {M : Type 0} (w : Setting M) (q : ℕ) (x x1 : TenantState) 
   pub same_dead : x1.dead ≡ x.dead
   pub first : RepresentsCall c e
   pub others : RepresentsEach cs es
-  pub advances : Advances w q m t e es answer k n x1 m2
+  pub advances : AdvancesTenant w q m t e es answer k n x1 m2
   pub steps : MatchBool still (k + n ≡ 0) (¬ (k + n ≡ 0))
 
 -- the code's instance with the journal written on

@@ -25,7 +25,7 @@ HasOpenCall w x m = (t : Tenant) × (t.open_calls ≢ []) × RepresentsTenant w 
 
 -- In a turn of q charges the present call of this instance comes so far, with so many pieces and charges; the answer
 -- says to what. It has begun, and where it hasn't ended the code's instance has it where it is then.
-pub record Advances {M : Type 0} (w : Setting M) (q : ℕ) (m : M) (t : Tenant) (e : Entry) (es : List Entry)
+pub record AdvancesTenant {M : Type 0} (w : Setting M) (q : ℕ) (m : M) (t : Tenant) (e : Entry) (es : List Entry)
     (answer : Came) (pieces charges : ℕ) (x2 : TenantState) (m2 : M) : Type 0 where
   pub to : Upshot
   pub rest : Rest
@@ -49,7 +49,7 @@ pub record StaysBut (x x2 : TenantState) : Type 0 where
 abbrev pub AdvancesAny : {M : Type 0} → Setting M → ℕ → TenantState → M → Came → ℕ → ℕ → TenantState → M → Type 0
 AdvancesAny w q x m answer pieces charges x2 m2 =
     (t : Tenant) (e : Entry) (es : List Entry) → t.open_calls ≡ e ∷ es → RepresentsTenant w x m t
-    → Advances w q m t e es answer pieces charges x2 m2
+    → AdvancesTenant w q m t e es answer pieces charges x2 m2
 
 -- ---- the whole turn
 

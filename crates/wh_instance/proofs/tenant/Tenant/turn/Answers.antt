@@ -3,7 +3,7 @@ use Rattle.wh_journal.specs.Calls.{JournalState, CanGoFurther, with_progress}
 use Rattle.wh_machine.specs.Runs.{linked_parts}
 use Rattle.wh_machine.specs.States.{setting_of}
 use Rattle.wh_instance.specs.Tenancy.{TenantState}
-use Rattle.wh_instance.specs.Advancing.{Advances}
+use Rattle.wh_instance.specs.Advancing.{AdvancesTenant}
 use Rattle.wh_instance.proofs.Advanced.{opened, present, can_go_further}
 use Rattle.wh_instance.proofs.Settled.{settles_so}
 use Rattle.wh_instance.proofs.tenant.Tenant.turn.Goals as goal
@@ -48,7 +48,7 @@ returns-clause-turns g c t e es is_open rep =
       same_dead = ap (λ (z : TenantState). z.dead) same ∙ stays.dead;
       first = o.first;
       others = o.others;
-      advances = subst (λ z. Advances w c.args.q c.args.memory.now t e es k.result.0 k.result.1 k.result.2 z k.new.memory) (sym same) a;
+      advances = subst (λ z. AdvancesTenant w c.args.q c.args.memory.now t e es k.result.0 k.result.1 k.result.2 z k.new.memory) (sym same) a;
       steps = c.is_still.ensures;
     })
     go c.settle.ensures.answer (c.settle.ensures.leaves (with_progress o.c k.result.1 k.result.2) o.cs at2)
