@@ -76,7 +76,7 @@ fn words_for(alloc: Global, params: &[ValType], given: &[i128]) -> Result<Vec<u6
     ensures { IfOk result (λ words. AreWords params.now given.now words.items) }
 {
     let mut words = Vec::new(alloc);
-    for at in 0..params.len() {
+    for at in 0..given.len() {
         words.push(word_of(type_at(params, at), number_at(given, at)))?;
     }
     Ok(words)
