@@ -26,19 +26,24 @@ use Rattle.wh_arguments.specs.Asked.{NamesOwn, NamesOnly, NamesNone}
 some_same : {A : Type 0} {x y : A} → Some x ≡ Some y → x ≡ y
 some_same e = cc
 
-same_export : (es : List model.Export) → DifferentNames es → (i j : ℕ) (a b : model.Export) → slice_get es i ≡ Some a → slice_get es j ≡ Some b → a.name ≡ b.name → a ≡ b
+same_export : (es : List model.Export) → DifferentNames es → (i j : ℕ) (a b : model.Export) → slice_get es i ≡ Some a
+    → slice_get es j ≡ Some b → a.name ≡ b.name → a ≡ b
 same_export [] d i j a b at bt same = cc
 same_export (e ∷ es) d zero zero a b at bt same = some_same (sym at ∙ bt)
 same_export (e ∷ es) d zero (suc j) a b at bt same =
     let first : e ≡ a = some_same at in
-    absurd (all_of (λ (other : model.Export). other.name ≢ e.name) es j b d.0 bt (sym same ∙ ap (λ (z : model.Export). z.name) (sym first)))
+    absurd (all_of (λ (other : model.Export). other.name ≢ e.name) es j b d.0 bt
+    (sym same ∙ ap (λ (z : model.Export). z.name) (sym first)))
 same_export (e ∷ es) d (suc i) zero a b at bt same =
     let first : e ≡ b = some_same bt in
-    absurd (all_of (λ (other : model.Export). other.name ≢ e.name) es i a d.0 at (same ∙ ap (λ (z : model.Export). z.name) (sym first)))
+    absurd (all_of (λ (other : model.Export). other.name ≢ e.name) es i a d.0 at
+    (same ∙ ap (λ (z : model.Export). z.name) (sym first)))
 same_export (e ∷ es) d (suc i) (suc j) a b at bt same = same_export es d.1 i j a b at bt same
 
 -- a name exports one function of an instance's own at most
-pub one_own_export : (m : Module) (inst : Instance) (name : List ℕ) (x y : ℕ) (type other : FuncType) (body rest : Body) → DifferentNames m.exports → ExportsOwn m inst name x type body → ExportsOwn m inst name y other rest → x ≡ y
+pub one_own_export : (m : Module) (inst : Instance) (name : List ℕ) (x y : ℕ) (type other : FuncType)
+    (body rest : Body) → DifferentNames m.exports → ExportsOwn m inst name x type body
+    → ExportsOwn m inst name y other rest → x ≡ y
 one_own_export m inst name x y type other body rest d u v =
     ap (λ (z : model.Export). z.index) (same_export m.exports d u.place v.place _ _ u.exported v.exported refl)
 
@@ -52,32 +57,47 @@ record Found (es : List Export) (name : List ℕ) (index : ℕ) : Type 0 where
 abbrev export_of : List ℕ → ExternKind → ℕ → model.Export
 export_of name kind index = record { name = name; kind = kind; index = index }
 
-record_is : (name other : List ℕ) (kind : ExternKind) (index x : ℕ) → kind ≡ Func → other ≡ name → index ≡ x → export_of other kind x ≡ export_of name Func index
+record_is : (name other : List ℕ) (kind : ExternKind) (index x : ℕ) → kind ≡ Func → other ≡ name → index ≡ x
+    → export_of other kind x ≡ export_of name Func index
 record_is name other kind index x k n e = cc
 
 found : (es : List Export) (name : List ℕ) (index : ℕ) → Exports es name index → Found es name index
-found es name index (at, e, there, is, same) = record { place = at; exported = mapped_to view_export es at e there ∙ ap Some (record_is name (string_bytes e.name) e.kind index e.index is.0 is.1 same) }
+found es name index (at, e, there, is, same) = record {
+  place = at;
+  exported = mapped_to view_export es at e there
+      ∙ ap Some (record_is name (string_bytes e.name) e.kind index e.index is.0 is.1 same);
+}
 
 -- ---- of a linked module
 
-pub names_differ : (l : LinkedState) (m : Decoded) → m ≡ l.valid.decoded → IsChecked (view_module m) (map view_side l.valid.tables) → DifferentNames (view_module l.valid.decoded).exports
+pub names_differ : (l : LinkedState) (m : Decoded) → m ≡ l.valid.decoded
+    → IsChecked (view_module m) (map view_side l.valid.tables) → DifferentNames (view_module l.valid.decoded).exports
 names_differ l m same sound = subst (λ z. DifferentNames (view_module z).exports) same sound.valid.names
 
-pub named_own : (l : LinkedState) (name : List ℕ) (index : ℕ) (type : FuncType) → Exports l.valid.decoded.exports.items name index → IsOwnType (linked_parts l) index type → NamesOwn l name index
+pub named_own : (l : LinkedState) (name : List ℕ) (index : ℕ) (type : FuncType)
+    → Exports l.valid.decoded.exports.items name index → IsOwnType (linked_parts l) index type → NamesOwn l name index
 named_own l name index type h owned c inst is =
     let o = owned c inst is in
-    let f = found l.valid.decoded.exports.items name index h in (type, o.0, record { place = f.place; exported = f.exported; is_own = o.1 })
+    let f = found l.valid.decoded.exports.items name index h in
+    (type, o.0, record { place = f.place; exported = f.exported; is_own = o.1 })
 
-index_is : (l : LinkedState) (name : List ℕ) (index x : ℕ) (inst : Instance) (type : FuncType) (body : Body) → DifferentNames (view_module l.valid.decoded).exports → Exports l.valid.decoded.exports.items name index → ExportsOwn (view_module l.valid.decoded) inst name x type body → index ≡ x
+index_is : (l : LinkedState) (name : List ℕ) (index x : ℕ) (inst : Instance) (type : FuncType) (body : Body)
+    → DifferentNames (view_module l.valid.decoded).exports → Exports l.valid.decoded.exports.items name index
+    → ExportsOwn (view_module l.valid.decoded) inst name x type body → index ≡ x
 index_is l name index x inst type body d h u =
-    let f = found l.valid.decoded.exports.items name index h in ap (λ (z : model.Export). z.index) (same_export (view_module l.valid.decoded).exports d f.place u.place _ _ f.exported u.exported refl)
+    let f = found l.valid.decoded.exports.items name index h in ap (λ (z : model.Export). z.index)
+    (same_export (view_module l.valid.decoded).exports d f.place u.place _ _ f.exported u.exported refl)
 
-pub named_only : (l : LinkedState) (name : List ℕ) (index : ℕ) → DifferentNames (view_module l.valid.decoded).exports → Exports l.valid.decoded.exports.items name index → NamesOnly l name (Some index)
+pub named_only : (l : LinkedState) (name : List ℕ) (index : ℕ) → DifferentNames (view_module l.valid.decoded).exports
+    → Exports l.valid.decoded.exports.items name index → NamesOnly l name (Some index)
 named_only l name index d h c inst x type body is u = ap Some (index_is l name index x inst type body d h u)
 
 -- a function of the host is exported by the name
-pub named_host : (l : LinkedState) (name : List ℕ) (index : ℕ) → DifferentNames (view_module l.valid.decoded).exports → Exports l.valid.decoded.exports.items name index → LacksOwn (linked_parts l) index → NamesNone l name
-named_host l name index d h lacks c inst x type body is = λ u. lacks c inst is type body (subst (λ z. slice_get inst.funcs z ≡ Some (own type body)) (sym (index_is l name index x inst type body d h u)) u.is_own)
+pub named_host : (l : LinkedState) (name : List ℕ) (index : ℕ) → DifferentNames (view_module l.valid.decoded).exports
+    → Exports l.valid.decoded.exports.items name index → LacksOwn (linked_parts l) index → NamesNone l name
+named_host l name index d h lacks c inst x type body is = λ u. lacks c inst is type body
+    (subst (λ z. slice_get inst.funcs z ≡ Some (own type body))
+    (sym (index_is l name index x inst type body d h u)) u.is_own)
 
 -- no function is
 pub named_none : (l : LinkedState) (name : List ℕ) → LacksFunc l.valid.decoded.exports.items name → NamesNone l name

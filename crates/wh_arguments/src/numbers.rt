@@ -76,7 +76,7 @@ fn words_for(alloc: Global, params: &[ValType], given: &[i128]) -> Result<Vec<u6
     ensures { IfOk result (λ words. AreWords params.now given.now words.items) }
 {
     let mut words = Vec::new(alloc);
-    for at in 0..params.len() {
+    for at in 0..given.len() {
         words.push(word_of(type_at(params, at), number_at(given, at)))?;
     }
     Ok(words)
@@ -116,5 +116,68 @@ pub fn words_of(
     match own_type(linked, func) {
         Some(func_type) => words_for(alloc, func_type.params.as_slice(), given),
         None => unreachable!(),
+    }
+}
+
+#[cfg(test)]
+mod tests {
+    use super::{are_given, words_for};
+    use wh_model::ValType;
+
+    const ONE_I32: [ValType; 1] = [ValType::I32];
+
+    const ONE_I64: [ValType; 1] = [ValType::I64];
+
+    #[test]
+    fn takes_an_i32_of_either_sign(rt: HostRuntime) {
+        assert!(rt; are_given(&ONE_I32, &[-2_147_483_648]));
+        assert!(rt; are_given(&ONE_I32, &[4_294_967_295]));
+        assert!(rt; !are_given(&ONE_I32, &[-2_147_483_649]));
+        assert!(rt; !are_given(&ONE_I32, &[4_294_967_296]));
+    }
+
+    #[test]
+    fn takes_an_i64_of_either_sign(rt: HostRuntime) {
+        assert!(rt; are_given(&ONE_I64, &[-9_223_372_036_854_775_808]));
+        assert!(rt; are_given(&ONE_I64, &[18_446_744_073_709_551_615]));
+        assert!(rt; !are_given(&ONE_I64, &[-9_223_372_036_854_775_809]));
+        assert!(rt; !are_given(&ONE_I64, &[18_446_744_073_709_551_616]));
+    }
+
+    #[test]
+    fn takes_one_number_for_each_parameter(rt: HostRuntime) {
+        let params = [ValType::I64, ValType::I32];
+        assert!(rt; are_given(&[], &[]));
+        assert!(rt; are_given(&params, &[4_294_967_296, 0]));
+        assert!(rt; !are_given(&params, &[0, 4_294_967_296]));
+        assert!(rt; !are_given(&params, &[0]));
+        assert!(rt; !are_given(&params, &[0, 0, 0]));
+    }
+
+    #[test]
+    fn gives_words_in_order(rt: HostRuntime) {
+        let params = [
+            ValType::I32,
+            ValType::I64,
+            ValType::I32,
+            ValType::I64,
+            ValType::I32,
+        ];
+        let given = [
+            -1,
+            -1,
+            -2_147_483_648,
+            -9_223_372_036_854_775_808,
+            4_294_967_295,
+        ];
+        let words = words_for(rt.alloc(), &params, &given).expect(&rt, "memory");
+        let want = [
+            0xFFFF_FFFF,
+            0xFFFF_FFFF_FFFF_FFFF,
+            0x8000_0000,
+            0x8000_0000_0000_0000,
+            0xFFFF_FFFF,
+        ];
+        assert_eq!(rt; words.as_slice(), want.as_slice());
     }
 }

@@ -81,7 +81,8 @@ checked_at c types (z ∷ xs) bs ts (suc y) x (b, rest, f, more, eb, et, at, val
 pub refused_low : (l : LinkedState) (func : ℕ) → func < length l.funcs → LacksOwn (linked_parts l) func
 refused_low l func low = lacks_low (linked_parts l) func low
 
-pub refused_high : (l : LinkedState) (func : ℕ) → length l.valid.decoded.funcs.items ≤ func - length l.funcs → LacksOwn (linked_parts l) func
+pub refused_high : (l : LinkedState) (func : ℕ) → length l.valid.decoded.funcs.items ≤ func - length l.funcs
+    → LacksOwn (linked_parts l) func
 refused_high l func high = lacks_high (linked_parts l) func high
 
 pub type_there : (l : LinkedState) (sound : IsChecked (view_module l.valid.decoded) (map view_side l.valid.tables)) (place x : ℕ) → slice_get l.valid.decoded.funcs.items place ≡ Some x → x < length l.valid.decoded.types.items
@@ -92,21 +93,27 @@ type_there l sound place x at =
     omega (arith, low, same, mapped)
 
 -- the function of a place has the type that is named there
-pub typed_at : (l : LinkedState) (sound : IsChecked (view_module l.valid.decoded) (map view_side l.valid.tables)) (func place x : ℕ) (ft : FuncType) → func ≡ length l.funcs + place
-    → slice_get l.valid.decoded.funcs.items place ≡ Some x → slice_get l.valid.decoded.types.items x ≡ Some ft → IsOwnType (linked_parts l) func (view_type ft)
+pub typed_at : (l : LinkedState) (sound : IsChecked (view_module l.valid.decoded) (map view_side l.valid.tables))
+    (func place x : ℕ) (ft : FuncType) → func ≡ length l.funcs + place
+    → slice_get l.valid.decoded.funcs.items place ≡ Some x → slice_get l.valid.decoded.types.items x ≡ Some ft
+    → IsOwnType (linked_parts l) func (view_type ft)
 typed_at l sound func place x ft index at_x at_type c inst is =
     let types = map view_type l.valid.decoded.types.items in
     let found = checked_at sound.context types l.valid.decoded.funcs.items _ _ place x sound.checked at_x in
-    let is_type = found.2 ∙ ap (λ o. unwrap_or o no_type) (mapped_to view_type l.valid.decoded.types.items x ft at_type) in (
+    let is_type = found.2 ∙ ap (λ o. unwrap_or o no_type)
+    (mapped_to view_type l.valid.decoded.types.items x ft at_type) in (
       found.0.body,
-      own_at c inst l.funcs (funcs_in (linked_parts l)) func place found.0 is.program found.1 index ∙ ap (λ t. Some (own t found.0.body)) is_type,
+      own_at c inst l.funcs (funcs_in (linked_parts l)) func place found.0 is.program found.1 index
+          ∙ ap (λ t. Some (own t found.0.body)) is_type,
     )
 
 -- ---- calls
 
 -- the function of an index is called with arguments of its parameters
-pub calls_by : (p : ProgramParts) (func : ℕ) (type : model.FuncType) (args : List ℕ) → IsOwnType p func type → (b : Bool) → MatchBool b (Arguments type.params args) (¬ (Arguments type.params args))
-    → (c : Context) (inst : Instance) → IsInstance p c inst → MatchBool b (HasCall inst func args) (¬ (HasCall inst func args))
+pub calls_by : (p : ProgramParts) (func : ℕ) (type : model.FuncType) (args : List ℕ) → IsOwnType p func type
+    → (b : Bool) → MatchBool b (Arguments type.params args) (¬ (Arguments type.params args))
+    → (c : Context) (inst : Instance) → IsInstance p c inst
+    → MatchBool b (HasCall inst func args) (¬ (HasCall inst func args))
 calls_by p func type args owned true h c inst is =
     let v = values_of type.params args h in
     let o = owned c inst is in
@@ -115,5 +122,6 @@ calls_by p func type args owned false h c inst is = λ (other, body, vs, u).
     let same : other ≡ type = own_type (some_same (sym u.is_own ∙ (owned c inst is).1)) in
     h (arguments_of vs type.params args (u.types ∙ ap (λ (t : model.FuncType). t.params) same) u.fit u.words)
 
-pub no_call : (p : ProgramParts) (func : ℕ) (args : List ℕ) → LacksOwn p func → (c : Context) (inst : Instance) → IsInstance p c inst → ¬ (HasCall inst func args)
+pub no_call : (p : ProgramParts) (func : ℕ) (args : List ℕ) → LacksOwn p func → (c : Context) (inst : Instance)
+    → IsInstance p c inst → ¬ (HasCall inst func args)
 no_call p func args lacks c inst is = λ (type, body, vs, u). lacks c inst is type body u.is_own

@@ -16,7 +16,10 @@ returns-then-not-fits c vs h =
 
 pub loop-at-preserved : goal.loop-at-preserved
 loop-at-preserved c = record {
-  forward = λ h. c.loop-at.invariant.forward (one_more c.args.params.now c.args.given.now c.loop-at.at c.type_at.result c.number_at.result c.type_at.ensures c.number_at.ensures
-    (subst (IsGiven c.type_at.result) (to_z-of_z w128 c.number_at.result (record { sfits = c.number_at.type_inv })) c.if-not-fits.ensures) h);
-  back = λ h. (one_less c.args.params.now c.args.given.now c.loop-at.at c.type_at.result c.number_at.result c.type_at.ensures c.number_at.ensures (c.loop-at.invariant.back h)).1;
+  forward = λ h. c.loop-at.invariant.forward
+      (one_more c.args.params.now c.args.given.now c.loop-at.at c.type_at.result c.number_at.result c.type_at.ensures c.number_at.ensures
+      (subst (IsGiven c.type_at.result) (to_z-of_z w128 c.number_at.result
+      (record { sfits = c.number_at.type_inv })) c.if-not-fits.ensures) h);
+  back = λ h.
+      (one_less c.args.params.now c.args.given.now c.loop-at.at c.type_at.result c.number_at.result c.type_at.ensures c.number_at.ensures (c.loop-at.invariant.back h)).1;
 }

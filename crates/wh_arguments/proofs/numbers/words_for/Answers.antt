@@ -14,4 +14,6 @@ pub returns : goal.returns
 returns c =
     let all = c.loop-at-test.false in
     let end_is = c.loop-at.auto.at-end in
-    words_done c.args.params.now c.args.given.now c.loop-at.at c.loop-at.words.items (omega (arith, all, end_is)) c.loop-at.invariant
+    let as_many = c.requires in
+    words_done c.args.params.now c.args.given.now c.loop-at.at c.loop-at.words.items
+    (omega (arith, all, end_is, as_many)) c.loop-at.invariant

@@ -8,8 +8,10 @@ use Rattle.wh_call.proofs.arguments.can_call.Goals as goal
 
 pub returns-in-Some : goal.returns-in-Some
 returns-in-Some c =
-    calls_by (linked_parts c.args.linked.now) c.args.func (view_type c.in-Some.func_type.now) c.args.args.now c.in-Some.ensures.some c.are_arguments.result
-    (subst (λ ts. MatchBool c.are_arguments.result (Arguments ts c.args.args.now) (¬ (Arguments ts c.args.args.now))) c.as_slice.ensures c.are_arguments.ensures)
+    calls_by (linked_parts c.args.linked.now) c.args.func
+    (view_type c.in-Some.func_type.now) c.args.args.now c.in-Some.ensures.some c.are_arguments.result
+    (subst (λ ts. MatchBool c.are_arguments.result (Arguments ts c.args.args.now)
+    (¬ (Arguments ts c.args.args.now))) c.as_slice.ensures c.are_arguments.ensures)
 
 pub returns-in-None : goal.returns-in-None
 returns-in-None c = no_call (linked_parts c.args.linked.now) c.args.func c.args.args.now c.in-None.ensures.none

@@ -13,7 +13,8 @@ returns-in_err-place-clause-none c =
     let high = c.in_err-place.ensures in
     let same = ap length c.funcs.ensures in
     let low : c.args.func < length c.args.linked.now.funcs = omega (arith, high, same) in
-    subst (λ o. IfNone o (LacksOwn (linked_parts c.args.linked.now) c.args.func)) (sym c.from_residual.ensures) (refused_low c.args.linked.now c.args.func low)
+    subst (λ o. IfNone o (LacksOwn (linked_parts c.args.linked.now) c.args.func)) (sym c.from_residual.ensures)
+    (refused_low c.args.linked.now c.args.func low)
 
 pub returns-then-place-len-clause-none : goal.returns-then-place-len-clause-none
 returns-then-place-len-clause-none c =
@@ -29,8 +30,10 @@ pub func_type_at-requires : goal.func_type_at-requires
 func_type_at-requires c =
     let l = c.args.linked.now in
     let same = c.module-module.ensures.same in
-    let sound = subst (λ m. IsChecked (view_module m) (map view_side l.valid.tables)) same c.module-module.ensures.sound in
-    let at = ap (λ (m : Module). slice_get m.funcs.items c.in_ok-place.place) (sym same) ∙ ap (λ xs. slice_get xs c.in_ok-place.place) (sym c.deref-2.ensures.value) ∙ c.index_at.ensures in
+    let sound = subst (λ m. IsChecked (view_module m)
+    (map view_side l.valid.tables)) same c.module-module.ensures.sound in
+    let at = ap (λ (m : Module). slice_get m.funcs.items c.in_ok-place.place) (sym same)
+    ∙ ap (λ xs. slice_get xs c.in_ok-place.place) (sym c.deref-2.ensures.value) ∙ c.index_at.ensures in
     let low = type_there l sound c.in_ok-place.place c.index_at.result at in
     let types = ap (λ (m : Module). length m.types.items) same in
     let all = ap length c.deref.ensures.value in
@@ -40,9 +43,12 @@ pub returns-clause-some : goal.returns-clause-some
 returns-clause-some c =
     let l = c.args.linked.now in
     let same = c.module-module.ensures.same in
-    let sound = subst (λ m. IsChecked (view_module m) (map view_side l.valid.tables)) same c.module-module.ensures.sound in
-    let at = ap (λ (m : Module). slice_get m.funcs.items c.in_ok-place.place) (sym same) ∙ ap (λ xs. slice_get xs c.in_ok-place.place) (sym c.deref-2.ensures.value) ∙ c.index_at.ensures in
-    let typed = ap (λ (m : Module). slice_get m.types.items c.index_at.result) (sym same) ∙ ap (λ xs. slice_get xs c.index_at.result) (sym c.deref.ensures.value) ∙ c.func_type_at.ensures in
+    let sound = subst (λ m. IsChecked (view_module m)
+    (map view_side l.valid.tables)) same c.module-module.ensures.sound in
+    let at = ap (λ (m : Module). slice_get m.funcs.items c.in_ok-place.place) (sym same)
+    ∙ ap (λ xs. slice_get xs c.in_ok-place.place) (sym c.deref-2.ensures.value) ∙ c.index_at.ensures in
+    let typed = ap (λ (m : Module). slice_get m.types.items c.index_at.result) (sym same)
+    ∙ ap (λ xs. slice_get xs c.index_at.result) (sym c.deref.ensures.value) ∙ c.func_type_at.ensures in
     let high = c.in_ok-place.ensures.0 in
     let place = c.in_ok-place.ensures.1 in
     let hosts = ap length c.funcs.ensures in
