@@ -8,7 +8,10 @@ use Rattle.wh_arguments.proofs.numbers.words_for.Goals as goal
 pub loop-at-preserved : goal.loop-at-preserved
 loop-at-preserved c =
     let same = to_z-of_z w128 c.number_at.result (record { sfits = c.number_at.type_inv }) in
-    word_pushed c.args.params.now c.args.given.now c.loop-at.at c.type_at.result c.number_at.result c.loop-at.words.items c.push.new.self.items c.word_of.result c.type_at.ensures c.number_at.ensures (c.word_of.ensures ∙ ap (unsigned (bits c.type_at.result)) same) c.in_ok-push.ensures.items c.loop-at.invariant
+    let word = c.word_of.ensures ∙ ap (unsigned (bits c.type_at.result)) same in
+    word_pushed c.args.params.now c.args.given.now c.loop-at.at c.type_at.result c.number_at.result
+    c.loop-at.words.items c.push.new.self.items c.word_of.result c.type_at.ensures c.number_at.ensures word
+    c.in_ok-push.ensures.items c.loop-at.invariant
 
 pub returns : goal.returns
 returns c =
