@@ -7,3 +7,4 @@ pub mod Settling
 pub mod Asked
 pub mod Beginning
 pub mod Invoked
+pub mod Seen

@@ -10,6 +10,7 @@ mod beginning;
 mod computing;
 mod error;
 mod invoking;
+mod seen;
 mod settling;
 mod stages;
 mod starting;

@@ -1,0 +1,28 @@
+//! What a host sees of an instance.
+
+ghost use Rattle.wh_instance.specs.Seen.{CanTurn, HasOutput};
+
+use crate::stages::Suspension;
+use crate::tenant::Tenant;
+
+impl Tenant {
+    /// Whether a turn can bring it on: a call is open, and stands neither for fuel nor for a device fault.
+    pub fn can_go_on(&self) -> bool
+        ensures { CanTurn self.now result }
+    {
+        if self.journal.is_idle() {
+            return false;
+        }
+        match self.stands_for {
+            None | Some(Suspension::Frame) => true,
+            Some(Suspension::Fuel | Suspension::Device(_)) => false,
+        }
+    }
+
+    /// The bytes that the host functions `put` and `emit` have written for it. The instance is given up.
+    pub fn into_output(self) -> Vec<u8>
+        ensures { HasOutput self result.items }
+    {
+        self.store.output
+    }
+}
