@@ -124,14 +124,22 @@ mod tests {
 
     // Writes a byte at the start of a page of the instance at a place.
     fn stored(memory: &mut Memory, place: usize, page: u64, byte: u8) -> Got {
-        let mut view = View { memory, place, page_limit: 65536 };
+        let mut view = View {
+            memory,
+            place,
+            page_limit: 65536,
+        };
         view.store(page % 16 * 4096, &[byte])
     }
 
     // Reads it.
     fn loaded(memory: &mut Memory, place: usize, page: u64) -> (Got, [u8; 1]) {
         let mut byte = [9];
-        let mut view = View { memory, place, page_limit: 65536 };
+        let mut view = View {
+            memory,
+            place,
+            page_limit: 65536,
+        };
         let got = view.load(page % 16 * 4096, &mut byte);
         (got, byte)
     }

@@ -70,7 +70,7 @@ impl Memory {
     /// Whether no instance here has this number. It looks at each instance.
     pub fn is_fresh(&self, number: u64) -> bool
         ensures { IsTrue result
-            → (j : ℕ) (t : Occupant) → occupant_at self.now j t → t.number ≢ number }
+            ↔ ((j : ℕ) (t : Occupant) → occupant_at self.now j t → t.number ≢ number) }
     {
         for place in 0..self.guests.len() {
             if let Some(guest) = self.guests[place] {
