@@ -127,7 +127,7 @@ computing_on : {M : Type 0} (w : Setting M) (x : TenantState) (m : M) (inst : In
 computing_on w x m inst e r k n term s = record { index = s.index; type = s.type; body = s.body; calls = s.calls; is_own = s.is_own; stands = s.stands; runs = s.runs; settled_in = s.settled_in; settled = s.settled }
 
 starting_on : {M : Type 0} (w : Setting M) (x : TenantState) (m : M) (inst : Instance) (e : Entry) (r : Rest) (k : ℕ) (ps : List Piece) → IsStarting w (state_over x m) inst e.call r ps → IsStarting w (state_over x m) inst (gone_further e k 0).call r ps
-starting_on w x m inst e r k ps s = let none = s.no_charges in record { store = s.store; within = s.within; few = s.few; no_args = s.no_args; no_charges = omega (arith, none); calls_own = s.calls_own }
+starting_on w x m inst e r k ps s = let none = s.no_charges in record { store = s.store; within = s.within; in_pages = s.in_pages; few = s.few; no_args = s.no_args; no_charges = omega (arith, none); calls_own = s.calls_own }
 
 -- what is known of the turn's beginning, and of what it left of the code's instance
 pub record Around {M : Type 0} (w : Setting M) (d : Doing) (e : Entry) (x2 : TenantState) (left : List Piece) : Type 0 where

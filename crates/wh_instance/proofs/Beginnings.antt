@@ -10,6 +10,7 @@ use Rattle.wh_model.specs.Execution.Reduction.{stays, After}
 use Rattle.wh_model.specs.Execution.Memory.{writing}
 use Rattle.wh_model.specs.Execution.Instance.{Piece, Within}
 use Rattle.wh_model.specs.Execution.Replay.{returned, Call, Invocation}
+use Rattle.wh_model.specs.Laws.ReplayLaws.{InOnePage}
 use Rattle.wh_host_model.specs.Host.Worlds.{Rest, resting, has_left, computing, store_with}
 use Rattle.wh_host_model.specs.Host.Turns.{Opens, by_invocation, as_it_was, to_end, to_wait, Proceeds, writes_all, waits_to_write}
 use Rattle.wh_control.specs.Represents.{result_of}
@@ -90,6 +91,7 @@ waits_now w inst q call r before m2 ps left n need (Some other) st (front, is, s
         record {
           store = store;
           within = subst (λ i. Within i (p ∷ more)) (sym same) within;
+          in_pages = all_behind InOnePage front (p ∷ more) (subst (AllByRecursion InOnePage) cut st.in_pages);
           few = omega (arith, some_few, counted);
           no_args = st.no_args;
           no_charges = st.no_charges;

@@ -9,3 +9,4 @@ mod Advanced
 mod Requested
 mod Newcomers
 mod Taken
+mod Bounds

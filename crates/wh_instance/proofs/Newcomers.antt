@@ -11,7 +11,7 @@ use Rattle.wh_model.specs.Execution.Store.{Store}
 use Rattle.wh_model.specs.Execution.Configuration.{called, config}
 use Rattle.wh_model.specs.Execution.Instance.{Parameters, Piece, Within, fragments, first_size}
 use Rattle.wh_model.specs.Execution.Replay.{returned, pending, Invocation}
-use Rattle.wh_model.proofs.Fragments.{fragments_within}
+use Rattle.wh_model.proofs.Fragments.{fragments_within, fragments_in_pages}
 use Rattle.wh_host_model.specs.Host.Worlds.{Entry, Doing, resting, has_left, computing, Tenant, store_with}
 use Rattle.wh_host_model.specs.Host.Admission.{StartsAs, writes as start_writes, runs, ends, start_entry, rest_of}
 use Rattle.wh_syntax.specs.declared.module.Data.{Data}
@@ -140,6 +140,7 @@ begins_writing l p begun i fuel machine cursor k some =
         is_where = rw (b.inst_is, b.rest, b.doing, b.open_are) (writes {e = start_entry m.start fuel pending} refl some refl (record {
           store = store;
           within = subst (λ n. Within n ps) (ap (λ n. n * 65536) (sym i.pages) ∙ size) (fragments_within (first_size m.memories * 65536) i.segments i.segments_within);
+          in_pages = fragments_in_pages i.segments;
           few = few;
           no_args = refl;
           no_charges = refl;

@@ -104,7 +104,7 @@ more_of c e n r = record { func = r.func; given = r.given; words = r.words; fuel
 
 where_with_more : {M : Type 0} (w : Setting M) (x : TenantState) (m : M) (inst : Instance) (r : Rest) (d : Doing) (e : Entry) (es : List Entry) (n : ℕ) → IsCounted e → IsWhere w x m inst r d (e ∷ es) → IsWhere w x m inst r d (more_fuel e n ∷ es)
 where_with_more w x m inst r d e es n k (writes at some func st left few) =
-    writes at some func (record { store = st.store; within = st.within; few = st.few; no_args = st.no_args; no_charges = st.no_charges; calls_own = st.calls_own }) left few
+    writes at some func (record { store = st.store; within = st.within; in_pages = st.in_pages; few = st.few; no_args = st.no_args; no_charges = st.no_charges; calls_own = st.calls_own }) left few
 where_with_more w x m inst r d e es n k (is_faced {func = func} at st) =
     let i = st.invocation in
     is_faced {func = func} at (record {

@@ -30,8 +30,9 @@ use Rattle.wh_instance.specs.declared.stages.Turned.{Turned}
 use Rattle.wh_instance.specs.declared.stages.Turned.TheVariants as turned
 use Rattle.wh_instance.specs.Turned.{HasRest, IsCame}
 use Rattle.wh_instance.specs.Tenancy.{TenantState, state_over, IsCallEnd, RepresentsCall, RepresentsEach, MayBegin, IsCounted, behind_first, IsWhere, rests, writes, is_faced, is_under_way, suspension_of, RepresentsTenant}
-use Rattle.wh_instance.specs.Advancing.{AdvancesTenant, KeepsItsFault, LeavesTenant, TurnsTenant}
+use Rattle.wh_instance.specs.Advancing.{IsInMemory, AdvancesTenant, KeepsItsFault, LeavesTenant, TurnsTenant}
 use Rattle.wh_instance.specs.Settling.{closed, is_fault, frame_or_fault, answered, settled_to}
+use Rattle.wh_instance.proofs.Bounds.{asks_within, piece_within}
 use Rattle.wh_instance.proofs.Closing.{call_goes_on, closes}
 
 -- ---- where a call is, though other things of the instance have changed
@@ -235,6 +236,13 @@ kept w q x x1 m m2 t e es k n c cs still a goes none fault =
       },
     )
 
+-- ---- bytes that aren't ready
+
+-- they lie in the memory
+waits_within : {M : Type 0} (w : Setting M) (inst : Instance) (q : ℕ) (call : Call) (m m2 : M) (r r2 : Rest) (d d2 : Doing) (k n : ℕ) (need : Need) (x : TenantState) (e : Entry) (es : List Entry) → Proceeds w.bytes w.ready w.keeps inst q call m r d (to_wait need) k n m2 r2 d2 → IsWhere w x m2 inst r2 d2 (e ∷ es) → IsInMemory (w.bytes m2) need
+waits_within w inst q call m m2 r r2 d d2 k n need x e es (waits {term = term} c next some asks never) at = asks_within inst (store_with (w.bytes m2) r2) term need asks
+waits_within w inst q call m m2 r r2 d d2 k n need x e es (waits_to_write {more = more} {p = p} is written never) (writes at some func st left few) = piece_within (w.bytes m2) p more st.within st.in_pages
+
 -- ---- what a turn leaves
 
 again : {M : Type 0} (w : Setting M) (q : ℕ) (x x1 : TenantState) (m m2 : M) (t : Tenant) (e : Entry) (es : List Entry) (k n : ℕ) (c : JournalCallState) (cs : List JournalCallState) (still : Bool) (a : Advanced w q x x1 m m2 t e es came.Again k n c cs still) → a.advances.to ≡ to_go_on → (b : Bool) → (still && is_fault x1.stands_for) ≡ b
@@ -260,7 +268,10 @@ leaves w q x x1 m m2 t e es came.Fuel k n c cs still a out_of_fuel goes is =
 leaves w q x x1 m m2 t e es (came.Frame need) k n c cs still a (to_wait other) goes is =
     let b = a.before in
     let o = ap (at_frame (k + n)) (b.stands_for ∙ ap suspension_of (sym a.same_stands)) ∙ at_frame_or_fault k n still x1.stands_for a.steps in
-    (ap (λ z. turned.Frame z) is, goes_on w q x x1 m m2 t e es (came.Frame need) k n c cs (frame_or_fault still x1.stands_for) (at_frame (k + n) t.stands_for) b a.is_open a.same_ended a.same_dead a.first a.others a.advances (λ o ended. let never = sym goes ∙ ended in cc never) o)
+    let adv = a.advances in
+    let proceeds = subst (λ z. Proceeds w.bytes w.ready w.keeps t.inst q e.call m t.rest t.doing z k n m2 adv.rest adv.doing) goes adv.proceeds in
+    let there = adv.is_where (not_resting e.call (λ o ended. let never = sym goes ∙ ended in cc never) adv.proceeds) in
+    (ap (λ z. turned.Frame z) is, waits_within w t.inst q e.call m m2 t.rest adv.rest t.doing adv.doing k n other x1 (gone_further e k n) es proceeds there, goes_on w q x x1 m m2 t e es (came.Frame need) k n c cs (frame_or_fault still x1.stands_for) (at_frame (k + n) t.stands_for) b a.is_open a.same_ended a.same_dead a.first a.others a.advances (λ o ended. let never = sym goes ∙ ended in cc never) o)
 leaves w q x x1 m m2 t e es came.Again k n c cs still a to_go_on goes is = again w q x x1 m m2 t e es k n c cs still a goes (still && is_fault x1.stands_for) refl
 leaves w q x x1 m m2 t e es (came.Returned result) k n c cs still a (to_end (stopped y)) goes is = absurd is
 leaves w q x x1 m m2 t e es (came.Returned result) k n c cs still a (to_end cancelled) goes is = absurd is

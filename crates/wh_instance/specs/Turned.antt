@@ -1,11 +1,13 @@
 -- What a turn makes of the present call of an instance.
 use Rattle.std.specs.Prelude.{◌≡◌, ◌<◌, ◌^◌, ℕ, List, [], Some, length, map, reverse, slice_get, true}
+use Rattle.std.specs.List.{AllByRecursion}
 use Rattle.wh_model.specs.Format.Syntax.{FuncType, Body}
 use Rattle.wh_model.specs.Execution.Store.{own, Instance}
 use Rattle.wh_model.specs.Execution.Configuration.{Term, config}
 use Rattle.wh_model.specs.Execution.Reduction.{IsSettled}
 use Rattle.wh_model.specs.Execution.Instance.{Piece, Within}
 use Rattle.wh_model.specs.Execution.Replay.{returned, stopped, Call, Invocation}
+use Rattle.wh_model.specs.Laws.ReplayLaws.{InOnePage}
 use Rattle.wh_host_model.specs.Host.Worlds.{Rest, Doing, resting, has_left, computing, store_with}
 use Rattle.wh_host_model.specs.Host.Turns.{Upshot, to_end, out_of_fuel, to_wait, to_go_on, Proceeds}
 use Rattle.wh_control.specs.Represents.{bits_of, result_of}
@@ -22,12 +24,13 @@ use Rattle.wh_instance.specs.declared.computing.Came.TheVariants as came
 abbrev pub HasRest : {M : Type 0} → Setting M → CallState M → Instance → Rest → Type 0
 HasRest w state inst r = HasStoreIn w state inst (store_with (w.bytes state.memory) r)
 
--- It is a start that has these pieces left, which end within the memory, and can be counted. Its function, if it has
+-- It is a start that has these pieces left, each in one page of 4096 bytes, which end within the memory, and can be counted. Its function, if it has
 -- one, is the instance's own and takes nothing.
 pub record IsStarting {M : Type 0} (w : Setting M) (state : CallState M) (inst : Instance) (call : Call) (r : Rest)
     (ps : List Piece) : Type 0 where
   pub store : HasRest w state inst r
   pub within : Within (length (w.bytes state.memory)) ps
+  pub in_pages : AllByRecursion InOnePage ps
   pub few : length ps < 2 ^ 64
   pub no_args : call.args ≡ []
   pub no_charges : call.charges ≡ 0
