@@ -135,7 +135,7 @@ pub record RepresentsTenant {M : Type 0} (w : Setting M) (x : TenantState) (m : 
 abbrev pub byte_setting : LinkedState → ℕ → Setting (List ℕ)
 byte_setting l limit = setting_of (linked_parts l) (λ b. b) (λ b need. Unit {0}) (λ b b2. Unit {0}) limit
 
--- With a memory of these bytes, which may grow to so many pages, the code's instance stands for this one. Over any memory
--- with these bytes and this limit it is the same.
+-- With a memory of these bytes, which may grow to so many pages, the code's instance stands for this one. Over any
+-- memory with these bytes and this limit it is the same.
 abbrev pub IsTenant : LinkedState → ℕ → TenantState → List ℕ → Tenant → Type 0
 IsTenant l limit x bytes t = RepresentsTenant (byte_setting l limit) x bytes t

@@ -24,8 +24,8 @@ use Rattle.wh_instance.specs.declared.computing.Came.TheVariants as came
 abbrev pub HasRest : {M : Type 0} → Setting M → CallState M → Instance → Rest → Type 0
 HasRest w state inst r = HasStoreIn w state inst (store_with (w.bytes state.memory) r)
 
--- It is a start that has these pieces left, each in one page of 4096 bytes, which end within the memory, and can be counted. Its function, if it has
--- one, is the instance's own and takes nothing.
+-- It is a start that has these pieces left, each in one page of 4096 bytes, which end within the memory, and can be
+-- counted. Its function, if it has one, is the instance's own and takes nothing.
 pub record IsStarting {M : Type 0} (w : Setting M) (state : CallState M) (inst : Instance) (call : Call) (r : Rest)
     (ps : List Piece) : Type 0 where
   pub store : HasRest w state inst r
