@@ -42,6 +42,28 @@ pub struct Trial {
     pub counts: Counts,
 }
 
+// An instance comes to a place, with a page of 65536 bytes.
+fn enter(memory: &mut Memory, alloc: Global, place: usize) -> Result<()> {
+    let promise = Promise {
+        number: place as u64,
+        shares: 100,
+        min: 2,
+        max: MAX,
+    };
+    ensure!(memory.is_free(place), "the place is taken");
+    ensure!(memory.is_fresh(promise.number), "the number is taken");
+    ensure!(
+        memory.has_frames_for(promise.min),
+        "there are too few frames"
+    );
+    ensure!(
+        memory.has_slots_for(promise.min, promise.max),
+        "there are too few slots"
+    );
+    memory.enter(alloc, place, promise, 1)?;
+    Ok(())
+}
+
 impl Trial {
     // Four memories of one page of 65536 zeros each.
     pub fn new(alloc: Global) -> Result<Trial> {
@@ -49,18 +71,7 @@ impl Trial {
         let mut memory = Memory::new(alloc, FRAMES, 4096, tax)?;
         let mut flats = Vec::new(alloc);
         for place in 0..PLACES as usize {
-            let number = place as u64;
-            ensure!(memory.is_free(place), "the place is taken");
-            ensure!(memory.is_fresh(number), "the number is taken");
-            ensure!(memory.has_frames_for(2), "there are too few frames");
-            ensure!(memory.has_slots_for(2, MAX), "there are too few slots");
-            let promise = Promise {
-                number,
-                shares: 100,
-                min: 2,
-                max: MAX,
-            };
-            memory.enter(alloc, place, promise, 1)?;
+            enter(&mut memory, alloc, place)?;
             flats.push(FlatMemory::new(alloc, 1, MAX / 16)?)?;
         }
         Ok(Trial {
