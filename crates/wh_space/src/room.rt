@@ -82,13 +82,30 @@ impl Memory {
         true
     }
 
+    /// How many frames are left beside the least numbers of pages of all instances. It looks at each instance.
+    pub fn frames_left(&self) -> u64
+        ensures { result + minima self.now ≡ length self.now.pool.frames }
+    {
+        let _ = &self.tax;
+        let frames = u64::from(self.pool.used()) + u64::from(self.pool.free());
+        frames - minima_of(&self.guests)
+    }
+
+    /// How many slots are left beside all pages by which instances may go beyond their least numbers, one more for each.
+    /// It looks at each instance.
+    pub fn slots_left(&self) -> u64
+        ensures { result + spreads self.now ≡ length self.now.slots.uses }
+    {
+        let _ = &self.tax;
+        u64::from(self.slots) - spreads_of(&self.guests)
+    }
+
     /// Whether the frames suffice for the least numbers of pages of all instances and this one beside. It looks at each
     /// instance.
     pub fn has_frames_for(&self, min: u32) -> bool
         ensures { IsTrue result ↔ (minima self.now + min ≤ length self.now.pool.frames) }
     {
-        let frames = u64::from(self.pool.used()) + u64::from(self.pool.free());
-        minima_of(&self.guests) + u64::from(min) <= frames
+        u64::from(min) <= self.frames_left()
     }
 
     /// Whether the slots suffice for all pages by which instances may go beyond their least numbers, one more for each,
@@ -98,7 +115,6 @@ impl Memory {
         ensures { IsTrue result
             ↔ (spreads self.now + ((max - min) + 1) ≤ length self.now.slots.uses) }
     {
-        let slots = self.slots;
-        spreads_of(&self.guests) + u64::from(max - min) + 1 <= u64::from(slots)
+        u64::from(max - min) + 1 <= self.slots_left()
     }
 }
