@@ -1,9 +1,8 @@
 //! A turn of the present call of an instance.
 
-ghost use Rattle.std.specs.Prelude.{◌≡◌, ◌≢◌, ◌∷◌, ◌+◌, [], List, Some, slice_get};
+ghost use Rattle.std.specs.Prelude.{◌≡◌, ◌≢◌, ◌∷◌, ◌+◌, [], List, None, Some};
 ghost use Rattle.std.specs.Bool.{MatchBool};
-ghost use Rattle.wh_journal.specs.Calls.{JournalCallState};
-ghost use Rattle.wh_journal.specs.Calls.{HasPresent};
+ghost use Rattle.wh_journal.specs.Calls.{JournalCallState, HasPresent};
 ghost use Rattle.wh_machine.specs.Runs.{linked_parts};
 ghost use Rattle.wh_machine.specs.States.{setting_of};
 ghost use Rattle.wh_instance.specs.Pieces.{pieces_left};

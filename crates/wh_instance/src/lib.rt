@@ -1,7 +1,8 @@
-//! A turn of the present call of an instance, over any linear memory: the data segments of its start (4.5.4 of the W3C
-//! WebAssembly Core Specification 1.0), the invocation of its function (4.5.5), and so many charges of its execution.
+//! An instance of a host of many, over any linear memory: its journal, its turns, and what its owner asks of it.
 //!
-//! No call here takes memory.
+//! In a turn its present call goes on: the data segments of its start are written (4.5.4 of the W3C WebAssembly Core
+//! Specification 1.0), its function is invoked (4.5.5), and so many charges of its execution are taken. No turn takes
+//! memory; an instance that begins does, and so does a call that is taken.
 #![tactic(auto)]
 
 mod advancing;

@@ -1,10 +1,8 @@
 //! How the end of a turn, and of a call, is written down.
 
-ghost use Rattle.std.specs.Prelude.{◌≡◌, ◌≢◌, ◌∷◌, ◌+◌, [], List};
-ghost use Rattle.std.specs.Bool.{MatchBool};
-ghost use Rattle.wh_journal.specs.Calls.{JournalCallState};
-ghost use Rattle.wh_journal.specs.Calls.{HasPresent};
-ghost use Rattle.wh_instance.specs.Settling.{has_failed, is_fatal, closed, is_fault, frame_or_fault, answered, settled_to};
+ghost use Rattle.std.specs.Prelude.{◌≡◌, ◌∷◌, List};
+ghost use Rattle.wh_journal.specs.Calls.{JournalCallState, HasPresent};
+ghost use Rattle.wh_instance.specs.Settling.{has_failed, is_fatal, closed, is_fault, answered, settled_to};
 
 use crate::computing::Came;
 use crate::stages::{Progress, Suspension, Turned};
