@@ -1,6 +1,6 @@
 //! Numbers that are given as arguments, signed or unsigned, and the words that they are.
 
-ghost use Rattle.std.specs.Prelude.{◌≡◌, ◌<◌, List, length, slice_get, false, Some, IfOk, map};
+ghost use Rattle.std.specs.Prelude.{◌≡◌, ◌<◌, List, length, slice_get, false, Some, IfOk};
 ghost use Rattle.std.specs.Bool.{MatchBool};
 ghost use Rattle.wh_model.specs.Execution.Numbers.{bits, unsigned};
 ghost use Rattle.wh_model.specs.Execution.Store.{Value, own, Instance};
