@@ -246,7 +246,7 @@ waits_within w inst q call m m2 r r2 d d2 k n need x e es (waits_to_write {more 
 -- ---- what a turn leaves
 
 again : {M : Type 0} (w : Setting M) (q : ℕ) (x x1 : TenantState) (m m2 : M) (t : Tenant) (e : Entry) (es : List Entry) (k n : ℕ) (c : JournalCallState) (cs : List JournalCallState) (still : Bool) (a : Advanced w q x x1 m m2 t e es came.Again k n c cs still) → a.advances.to ≡ to_go_on → (b : Bool) → (still && is_fault x1.stands_for) ≡ b
-    → LeavesTenant w q m t e es k n a.advances.rest a.advances.doing (cond b turned.Kept turned.Again) (cond b (written_on x1 c cs k n) (record (written_on x1 c cs k n) { stands_for = None })) m2 to_go_on
+    → LeavesTenant w q m t e es k n a.advances.rest a.advances.doing (cond b turned.Kept (turned.Again still)) (cond b (written_on x1 c cs k n) (record (written_on x1 c cs k n) { stands_for = None })) m2 to_go_on
 again w q x x1 m m2 t e es k n c cs still a goes true both =
     let h = kept w q x x1 m m2 t e es k n c cs still a goes (no_steps still (k + n) (is_fault x1.stands_for) a.steps both) (is_right still (is_fault x1.stands_for) both) in
     inr (refl, h.0, h.1)
@@ -254,7 +254,7 @@ again w q x x1 m m2 t e es k n c cs still a goes false both =
     let b = a.before in
     let none = keeps_none still (k + n) x1.stands_for a.steps both in
     inl (
-      refl,
+      (still, refl, a.steps),
       subst (KeepsNoFault (k + n)) (ap suspension_of a.same_stands ∙ sym b.stands_for) none,
       goes_on w q x x1 m m2 t e es came.Again k n c cs None None b a.is_open a.same_ended a.same_dead a.first a.others a.advances (λ o is. let never = sym goes ∙ is in cc never) refl,
     )
@@ -271,7 +271,7 @@ leaves w q x x1 m m2 t e es (came.Frame need) k n c cs still a (to_wait other) g
     let adv = a.advances in
     let proceeds = subst (λ z. Proceeds w.bytes w.ready w.keeps t.inst q e.call m t.rest t.doing z k n m2 adv.rest adv.doing) goes adv.proceeds in
     let there = adv.is_where (not_resting e.call (λ o ended. let never = sym goes ∙ ended in cc never) adv.proceeds) in
-    (ap (λ z. turned.Frame z) is, waits_within w t.inst q e.call m m2 t.rest adv.rest t.doing adv.doing k n other x1 (gone_further e k n) es proceeds there, goes_on w q x x1 m m2 t e es (came.Frame need) k n c cs (frame_or_fault still x1.stands_for) (at_frame (k + n) t.stands_for) b a.is_open a.same_ended a.same_dead a.first a.others a.advances (λ o ended. let never = sym goes ∙ ended in cc never) o)
+    ((still, ap (λ z. turned.Frame z still) is, a.steps), waits_within w t.inst q e.call m m2 t.rest adv.rest t.doing adv.doing k n other x1 (gone_further e k n) es proceeds there, goes_on w q x x1 m m2 t e es (came.Frame need) k n c cs (frame_or_fault still x1.stands_for) (at_frame (k + n) t.stands_for) b a.is_open a.same_ended a.same_dead a.first a.others a.advances (λ o ended. let never = sym goes ∙ ended in cc never) o)
 leaves w q x x1 m m2 t e es came.Again k n c cs still a to_go_on goes is = again w q x x1 m m2 t e es k n c cs still a goes (still && is_fault x1.stands_for) refl
 leaves w q x x1 m m2 t e es (came.Returned result) k n c cs still a (to_end (stopped y)) goes is = absurd is
 leaves w q x x1 m m2 t e es (came.Returned result) k n c cs still a (to_end cancelled) goes is = absurd is

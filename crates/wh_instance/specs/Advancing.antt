@@ -1,5 +1,6 @@
 -- What a turn of an instance does to it, over any memory.
-use Rattle.std.specs.Prelude.{◌≡◌, ◌≢◌, ◌+◌, ◌<◌, ◌≤◌, ◌^◌, ◌⊎◌, ℕ, List, [], ◌∷◌, Some, None, length}
+use Rattle.std.specs.Prelude.{◌≡◌, ◌≢◌, ◌+◌, ◌<◌, ◌≤◌, ◌^◌, ◌⊎◌, ℕ, Bool, List, [], ◌∷◌, Some, None, length}
+use Rattle.std.specs.Bool.{MatchBool}
 use Rattle.wh_model.specs.declared.memory.Need.{Need}
 use Rattle.wh_model.specs.Execution.Configuration.{Term, config}
 use Rattle.wh_model.specs.Execution.Reduction.{IsNext}
@@ -69,6 +70,11 @@ pub record KeepsItsFault {M : Type 0} (w : Setting M) (q : ℕ) (m : M) (t : Ten
 abbrev pub IsInMemory : List ℕ → Need → Type 0
 IsInMemory bytes need = (need.at + need.length ≤ length bytes) × (need.length ≤ 4096)
 
+-- the answer is this one, and says whether no step was taken
+abbrev pub SaysStill : Turned → ℕ → (Bool → Turned) → Type 0
+SaysStill answer steps which =
+    (still : Bool) × (answer ≡ which still) × MatchBool still (steps ≡ 0) (¬ (steps ≡ 0))
+
 -- So the turn leaves the instance, by what it came to. A call that has ended is closed over whatever space shows this
 -- memory.
 abbrev pub LeavesTenant : {M : Type 0} → Setting M → ℕ → M → Tenant → Entry → List Entry → ℕ → ℕ → Rest → Doing
@@ -79,10 +85,10 @@ LeavesTenant w q m t e es k n r d answer x2 m2 (to_end o) =
 LeavesTenant w q m t e es k n r d answer x2 m2 out_of_fuel =
     (answer ≡ turned.Fuel) × RepresentsTenant w x2 m2 (gone_on t (gone_further e k n) es r d (Some for_fuel))
 LeavesTenant w q m t e es k n r d answer x2 m2 (to_wait need) =
-    (answer ≡ turned.Frame need) × IsInMemory (w.bytes m2) need
+    SaysStill answer (k + n) (turned.Frame need) × IsInMemory (w.bytes m2) need
     × RepresentsTenant w x2 m2 (gone_on t (gone_further e k n) es r d (at_frame (k + n) t.stands_for))
 LeavesTenant w q m t e es k n r d answer x2 m2 to_go_on =
-    ((answer ≡ turned.Again) × KeepsNoFault (k + n) t.stands_for
+    (SaysStill answer (k + n) turned.Again × KeepsNoFault (k + n) t.stands_for
     × RepresentsTenant w x2 m2 (gone_on t (gone_further e k n) es r d None))
     ⊎ ((answer ≡ turned.Kept) × KeepsItsFault w q m t e m2 × RepresentsTenant w x2 m2 t)
 

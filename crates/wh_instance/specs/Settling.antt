@@ -61,8 +61,8 @@ abbrev pub answered : TenantState → Came → Bool → Turned
 answered x (Returned result) still = turned.Ended
 answered x (Trapped trap) still = turned.Ended
 answered x Fuel still = turned.Fuel
-answered x (Frame need) still = turned.Frame need
-answered x Again still = cond (still && is_fault x.stands_for) turned.Kept turned.Again
+answered x (Frame need) still = turned.Frame need still
+answered x Again still = cond (still && is_fault x.stands_for) turned.Kept (turned.Again still)
 
 abbrev pub settled_to : TenantState → Came → Bool → JournalCallState → List JournalCallState → TenantState
 settled_to x (Returned result) still c cs = closed x (end.Returned result) c cs

@@ -1,11 +1,18 @@
 //! What a host sees of an instance.
 
-ghost use Rattle.wh_instance.specs.Seen.{CanTurn, HasOutput};
+ghost use Rattle.wh_instance.specs.Seen.{CanTurn, HasOutput, IsIdle};
 
 use crate::stages::Suspension;
 use crate::tenant::Tenant;
 
 impl Tenant {
+    /// Whether no call is open, so that there is none to bring on.
+    pub fn is_idle(&self) -> bool
+        ensures { IsIdle self.now result }
+    {
+        self.journal.is_idle()
+    }
+
     /// Whether a turn can bring it on: a call is open, and stands neither for fuel nor for a device fault.
     pub fn can_go_on(&self) -> bool
         ensures { CanTurn self.now result }

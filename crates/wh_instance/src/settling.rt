@@ -78,14 +78,17 @@ impl Tenant {
                 if !(still && is_device(self.stands_for)) {
                     self.stands_for = Some(Suspension::Frame);
                 }
-                Turned::Frame(need)
+                Turned::Frame {
+                    need,
+                    is_still: still,
+                }
             }
             Came::Again => {
                 if still && is_device(self.stands_for) {
                     return Turned::Kept;
                 }
                 self.stands_for = None;
-                Turned::Again
+                Turned::Again { is_still: still }
             }
         }
     }

@@ -32,10 +32,18 @@ pub enum Turned {
     Ended,
     /// All its fuel is used, and what comes next has a charge.
     Fuel,
-    /// These bytes, which its next step reads or writes, aren't ready.
-    Frame(Need),
+    /// Bytes that its next step reads or writes aren't ready.
+    Frame {
+        /// These bytes.
+        need: Need,
+        /// Whether no step was taken.
+        is_still: bool,
+    },
     /// The turn's charges are taken, and the call can go on.
-    Again,
+    Again {
+        /// Whether no step was taken: it was a turn without charges.
+        is_still: bool,
+    },
     /// It was a turn without charges of a call for which a device call failed: nothing was done, and the fault is kept.
     Kept,
 }

@@ -1,0 +1,116 @@
+-- The memory of one instance, lent from that of all, and an instance over either.
+use Rattle.std.proofs.Common.{◌≡◌, ◌≢◌, ℕ, List, [], ◌∷◌, Option, Some, None, length, min, get_or, sym, ap, subst, ◌∙◌}
+use Rattle.wh_model.specs.declared.memory.Need.{Need}
+use Rattle.wh_model.specs.Validity.Typing.{Context}
+use Rattle.wh_model.specs.Execution.Store.{Instance}
+use Rattle.wh_model.specs.Execution.Configuration.{Term, config}
+use Rattle.wh_model.specs.Execution.Instance.{Piece, Within}
+use Rattle.wh_model.specs.Execution.Replay.{Call, Invocation}
+use Rattle.wh_model.specs.Execution.Reduction.{IsSettled}
+use Rattle.wh_host_model.specs.Space.Parts.{Space, Occupant, view, claim_of, need_of}
+use Rattle.wh_host_model.specs.Space.Ready.{Ready}
+use Rattle.wh_host_model.specs.Space.Sound.{IsSound}
+use Rattle.wh_host_model.specs.Host.Spaces.{StepsAlone}
+use Rattle.wh_host_model.specs.Host.Worlds.{Entry, Rest, Doing, Tenant, store_with}
+use Rattle.wh_control.specs.Parts.{ProgramParts}
+use Rattle.wh_control.specs.Represents.{result_of}
+use Rattle.wh_control.specs.declared.store.Store as code_store
+use Rattle.wh_machine.specs.declared.machine.Machine.{Machine}
+use Rattle.wh_machine.specs.Runs.{RepresentsInstance, RepresentsMachine}
+use Rattle.wh_machine.specs.States.{Setting, setting_of, call_state}
+use Rattle.wh_instance.specs.Turned.{IsStarting, IsFaced, IsComputing}
+use Rattle.wh_instance.specs.Tenancy.{TenantState, IsWhere, rests, writes, is_faced, is_under_way, RepresentsTenant}
+use Rattle.wh_space.specs.declared.view.View.{View}
+use Rattle.wh_space.specs.Views.{KeepsRest, keeps_on}
+use Rattle.wh_host.proofs.Lending.{Lent}
+
+-- ---- steps
+
+pub steps_alone : (i : ℕ) (s s2 : Space) → IsSound s → KeepsRest i s s2 → StepsAlone i s s2
+steps_alone i s s2 sound keeps = record {
+  others = λ j other. record {
+    view = keeps.views j other;
+    wants = ap (λ (xs : List (Option Occupant)). need_of (get_or xs j None)) keeps.occupants;
+    claim = ap (λ (xs : List (Option Occupant)). claim_of (get_or xs j None)) keeps.occupants;
+  };
+  claim = ap (λ (xs : List (Option Occupant)). claim_of (get_or xs i None)) keeps.occupants;
+  sound = keeps.sound sound;
+}
+
+abbrev pub KeepsView : View → View → Type 0
+KeepsView v w = (v.memory.ghost_name ≡ w.memory.ghost_name) × (w.place ≡ v.place) × (w.page_limit ≡ v.page_limit)
+    × KeepsRest v.place v.memory.now w.memory.now
+
+abbrev pub view_bytes : View → List ℕ
+view_bytes v = view v.memory.now v.place
+
+abbrev pub ViewReady : View → Need → Type 0
+ViewReady v need = Ready v.memory.now v.place need
+
+-- what is lent is a part of the whole
+pub lent : (first : View) → IsSound first.memory.now → Lent view_bytes ViewReady KeepsView (λ s. view s first.place) (λ s need. Ready s first.place need) (StepsAlone first.place) (λ v. v.memory.now) first
+lent first sound = record {
+  then = λ a b c h k. (h.0 ∙ k.0, k.1 ∙ h.1, k.2 ∙ h.2, keeps_on a.place b.place a.memory.now b.memory.now c.memory.now h.1 h.3 k.3);
+  bytes_are = λ x h. ap (view x.memory.now) (sym h.1);
+  ready_there = λ x need h r. subst (λ i. Ready x.memory.now i need) h.1 r;
+  ready_here = λ x need h r. subst (λ i. Ready x.memory.now i need) (sym h.1) r;
+  kept = λ x y h k. steps_alone first.place x.memory.now y.memory.now (h.3.sound sound) (subst (λ i. KeepsRest i x.memory.now y.memory.now) h.1 k.3);
+}
+
+-- ---- over another memory with the same bytes
+
+module _ {M N : Type 0} (p : ProgramParts) (n : ℕ) (B : M → List ℕ) (R : M → Need → Type 0) (K : M → M → Type 0) (B2 : N → List ℕ) (R2 : N → Need → Type 0) (K2 : N → N → Type 0) (m : M) (m2 : N) (same : B2 m2 ≡ B m) where
+  store_over : (k : code_store.Store) (inst : Instance) (r : Rest) → (c : Context) × RepresentsInstance p k (B m) n c inst (store_with (B m) r) → (c : Context) × RepresentsInstance p k (B2 m2) n c inst (store_with (B2 m2) r)
+  store_over k inst r = subst (λ b. (c : Context) × RepresentsInstance p k b n c inst (store_with b r)) (sym same)
+
+  starting_over : (machine : Machine) (k : code_store.Store) (inst : Instance) (call : Call) (r : Rest) (ps : List Piece) → IsStarting (setting_of p B R K n) (call_state machine k m) inst call r ps → IsStarting (setting_of p B2 R2 K2 n) (call_state machine k m2) inst call r ps
+  starting_over machine k inst call r ps st = record {
+    store = store_over k inst r st.store;
+    within = subst (λ b. Within (length b) ps) (sym same) st.within;
+    in_pages = st.in_pages;
+    few = st.few;
+    no_args = st.no_args;
+    no_charges = st.no_charges;
+    calls_own = st.calls_own;
+  }
+
+  faced_over : (machine : Machine) (k : code_store.Store) (inst : Instance) (call : Call) (r : Rest) (func : ℕ) (args : List ℕ) (t : Term) → IsFaced (setting_of p B R K n) (call_state machine k m) inst call r func args t → IsFaced (setting_of p B2 R2 K2 n) (call_state machine k m2) inst call r func args t
+  faced_over machine k inst call r func args t f = record {
+    store = store_over k inst r f.store;
+    invocation = subst (λ b. Invocation inst (store_with b r) call (config (store_with b r) [] t)) (sym same) f.invocation;
+    calls = f.calls;
+    words = f.words;
+    no_charges = f.no_charges;
+  }
+
+  computing_over : (machine : Machine) (k : code_store.Store) (inst : Instance) (call : Call) (r : Rest) (t : Term) → IsComputing (setting_of p B R K n) (call_state machine k m) inst call r t → IsComputing (setting_of p B2 R2 K2 n) (call_state machine k m2) inst call r t
+  computing_over machine k inst call r t f = record {
+    index = f.index;
+    type = f.type;
+    body = f.body;
+    calls = f.calls;
+    is_own = f.is_own;
+    stands = subst (λ b. RepresentsMachine p machine k b n (result_of f.type) inst (config (store_with b r) [] t)) (sym same) f.stands;
+    runs = f.runs;
+    settled_in = f.settled_in;
+    settled = subst (λ b. IsSettled inst (config (store_with b r) [] t)) (sym same) f.settled;
+  }
+
+  where_over : (x : TenantState) (inst : Instance) (r : Rest) (d : Doing) (es : List Entry) → IsWhere (setting_of p B R K n) x m inst r d es → IsWhere (setting_of p B2 R2 K2 n) x m2 inst r d es
+  where_over x inst r d es (rests at) = rests at
+  where_over x inst r d es (writes {ps = ps} {e = e} at some func st left few) = writes at some func (starting_over x.machine x.store inst e.call r ps st) left few
+  where_over x inst r d es (is_faced {func = func} {term = term} {e = e} at f) = is_faced at (faced_over x.machine x.store inst e.call r func _ term f)
+  where_over x inst r d es (is_under_way {term = term} {e = e} at c within) = is_under_way at (computing_over x.machine x.store inst e.call r term c) within
+
+  pub represents_over : (x : TenantState) (t : Tenant) → RepresentsTenant (setting_of p B R K n) x m t → RepresentsTenant (setting_of p B2 R2 K2 n) x m2 t
+  represents_over x t rep = record {
+    store = store_over x.store t.inst t.rest rep.store;
+    ended = rep.ended;
+    open_calls = rep.open_calls;
+    is_where = where_over x t.inst t.rest t.doing t.open_calls rep.is_where;
+    waiting = rep.waiting;
+    counted = rep.counted;
+    stands_for = rep.stands_for;
+    fresh = rep.fresh;
+    dead = rep.dead;
+  }

@@ -1,0 +1,98 @@
+//! Turns of an instance on the memory of all.
+
+ghost use Rattle.std.specs.Prelude.{◌≡◌, ◌≢◌, []};
+ghost use Rattle.wh_host_model.specs.Host.Worlds.{Tenant as OneTenant};
+ghost use Rattle.wh_host.specs.Lying.{LiesAt};
+ghost use Rattle.wh_host.specs.Lent.{CanSettle, TurnsLent, TurnsTo, end_of, settled_in};
+
+use wh_host_model::TurnEnd;
+use wh_imports::Linked;
+use wh_instance::{Tenant, Turned};
+use wh_space::{Memory, View};
+
+// Lends the memory to the instance at this place for a turn of q charges: to what it came. What the instance stands for in
+// memory is yet to be written down there.
+fn turn_lent(
+    tenant: &mut Tenant,
+    linked: &Linked,
+    memory: &mut Memory,
+    place: usize,
+    page_limit: u32,
+    q: u64,
+) -> Turned
+    requires { (t : OneTenant) × (t.open_calls ≢ [])
+        × LiesAt linked.now page_limit tenant.old memory.old place t }
+    ensures { (t : OneTenant) → t.open_calls ≢ []
+        → LiesAt linked.now page_limit tenant.old memory.old place t
+        → TurnsLent linked.now page_limit q memory.old t place tenant.new memory.new result }
+{
+    memory.known();
+    let mut view = View {
+        memory,
+        place,
+        page_limit,
+    };
+    tenant.turn(linked, &mut view, q)
+}
+
+// Writes down in memory for what the instance at this place stands after such a turn: what the turn is answered.
+fn settle_at(memory: &mut Memory, place: usize, turned: Turned) -> TurnEnd
+    requires { CanSettle memory.old place turned }
+    ensures answer { result ≡ end_of turned }
+    ensures leaves { memory.new ≡ settled_in memory.old place turned }
+{
+    match turned {
+        Turned::Kept => TurnEnd::Again,
+        Turned::Frame {
+            need,
+            is_still: true,
+        } => {
+            memory.stand(place, Some(need));
+            TurnEnd::Frame
+        }
+        Turned::Frame {
+            need,
+            is_still: false,
+        } => {
+            memory.end(place);
+            memory.stand(place, Some(need));
+            TurnEnd::Frame
+        }
+        Turned::Ended => {
+            memory.end(place);
+            TurnEnd::Ended
+        }
+        Turned::Fuel => {
+            memory.end(place);
+            TurnEnd::Fuel
+        }
+        Turned::Again { is_still: true } => {
+            memory.stand(place, None);
+            TurnEnd::Again
+        }
+        Turned::Again { is_still: false } => {
+            memory.end(place);
+            TurnEnd::Again
+        }
+    }
+}
+
+/// Gives the instance at this place a turn of q charges, where its memory may grow to so many pages at most.
+pub fn turn_at(
+    tenant: &mut Tenant,
+    linked: &Linked,
+    memory: &mut Memory,
+    place: usize,
+    page_limit: u32,
+    q: u64,
+) -> TurnEnd
+    requires { (t : OneTenant) × LiesAt linked.now page_limit tenant.old memory.old place t }
+    ensures { (t : OneTenant) → LiesAt linked.now page_limit tenant.old memory.old place t
+        → TurnsTo linked.now page_limit q memory.old t result place tenant.new memory.new }
+{
+    if tenant.is_idle() {
+        return TurnEnd::Idle;
+    }
+    let turned = turn_lent(tenant, linked, memory, place, page_limit, q);
+    settle_at(memory, place, turned)
+}
