@@ -1,3 +1,4 @@
-pub mod Lending
-pub mod Viewing
-pub mod Turns
+mod Lending
+mod Viewing
+mod Turns
+mod Hosts

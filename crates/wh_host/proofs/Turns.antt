@@ -1,17 +1,15 @@
 -- A turn over what is lent is a turn of the host's definitions.
-use Rattle.std.proofs.Common.{◌≡◌, ◌≢◌, ◌↔◌, ℕ, zero, suc, ◌+◌, ◌*◌, ◌≤◌, ◌⊎◌, ⊎_elim, inl, inr, Bool, true, false, List, [], ◌∷◌, Option, Some, None, length, min, get_or, slice_get, refl, sym, ap, subst, ◌∙◌, arith}
+use Rattle.std.proofs.Common.{◌≡◌, ◌≢◌, ℕ, zero, suc, ◌+◌, ◌≤◌, ⊎_elim, Bool, true, false, List, [], ◌∷◌, Option, Some, None, min, get_or, slice_get, refl, sym, ap, subst, ◌∙◌, arith}
 use Rattle.std.specs.Bool.{MatchBool}
 use Rattle.std.proofs.Math.Nat.{min-eq_left}
 use Rattle.wh_model.specs.declared.memory.Need.{Need}
-use Rattle.wh_host_model.specs.declared.plain.TurnEnd.{TurnEnd}
 use Rattle.wh_host_model.specs.declared.plain.TurnEnd.TheVariants as answer
 use Rattle.wh_host_model.specs.Space.Parts.{Space, Claimed, Occupant, claim, claim_of, occupant_at, view}
 use Rattle.wh_host_model.specs.Space.Chain.{MayStandFor}
 use Rattle.wh_host_model.specs.Space.Ready.{Ready}
-use Rattle.wh_host_model.specs.Space.Sight.{HasNoPins}
 use Rattle.wh_host_model.specs.Space.Sound.{IsSound}
 use Rattle.wh_host_model.specs.Space.Stores.{ended, stood}
-use Rattle.wh_host_model.specs.Host.Spaces.{LeftAlone, StepsAlone, StandsAlone, PinsEndAfter}
+use Rattle.wh_host_model.specs.Host.Spaces.{StepsAlone, StandsAlone, PinsEndAfter}
 use Rattle.wh_model.specs.Execution.Asking.{Asks}
 use Rattle.wh_model.specs.Execution.Configuration.{config}
 use Rattle.wh_model.specs.Execution.Reduction.{IsNext}
@@ -25,7 +23,7 @@ use Rattle.wh_machine.specs.Runs.{linked_parts}
 use Rattle.wh_machine.specs.States.{Setting, setting_of}
 use Rattle.wh_instance.specs.declared.stages.Turned.{Turned}
 use Rattle.wh_instance.specs.declared.stages.Turned.TheVariants as turned
-use Rattle.wh_instance.specs.Advancing.{HasOpenCall, IsInMemory, LeavesTenant, TurnsAny, TurnsTenant}
+use Rattle.wh_instance.specs.Advancing.{IsInMemory, LeavesTenant, TurnsAny, TurnsTenant}
 use Rattle.wh_instance.specs.Tenancy.{TenantState, RepresentsTenant, IsTenant}
 use Rattle.wh_space.specs.declared.view.View.{View}
 use Rattle.wh_space.specs.Steps.{limit_by, page_limit}
@@ -253,14 +251,17 @@ module _ (l : LinkedState) (q : ℕ) (x x2 : TenantState) (v v2 : View) (t : Ten
       let sees = at t.place h.lies.place_is in
       let next = subst (λ z. IsNext t.inst (config (store_with z t.rest) [] f.term)) (sym sees) f.next in
       let ready : (need : Need) → Asks t.inst (config (store_with (view v.memory.now t.place) t.rest) [] f.term) need → Ready v.memory.now t.place need = λ need asks. subst (λ i. Ready v.memory.now i need) (sym h.lies.place_is) (f.ready need (subst (λ z. Asks t.inst (config (store_with z t.rest) [] f.term) need) sees asks)) in
-      let turn : Turn q v.memory.now t answer.Again v.memory.now t = keeps_its_fault is_open f.stands_for f.doing f.no_charges next f.fuel_left ready in
-      (t, subst (λ z. Turn q v.memory.now t answer.Again z t) same turn, record {
-        place_is = h.lies.place_is;
-        is = by_bytes t b.2;
-        within = subst (λ (c : Option Claimed). v.page_limit ≤ limit_by c) (sym steps.claim) h.lies.within;
-        claimed = h.lies.claimed;
-        claim_is = claim2;
-      }))
+      let turn : Turn q v.memory.now t answer.Again v.memory.now t = keeps_its_fault is_open f.stands_for f.doing f.no_charges next f.fuel_left ready in (
+        t,
+        subst (λ z. Turn q v.memory.now t answer.Again z t) same turn,
+        record {
+          place_is = h.lies.place_is;
+          is = by_bytes t b.2;
+          within = subst (λ (c : Option Claimed). v.page_limit ≤ limit_by c) (sym steps.claim) h.lies.within;
+          claimed = h.lies.claimed;
+          claim_is = claim2;
+        },
+      ))
       leaves
   kept_to e es is_open (to_end o) k n r d leaves is = absurd (let bad = sym leaves.0 ∙ is in cc bad)
   kept_to e es is_open out_of_fuel k n r d leaves is = absurd (let bad = sym leaves.0 ∙ is in cc bad)

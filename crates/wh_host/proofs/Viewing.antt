@@ -1,5 +1,5 @@
 -- The memory of one instance, lent from that of all, and an instance over either.
-use Rattle.std.proofs.Common.{◌≡◌, ◌≢◌, ℕ, List, [], ◌∷◌, Option, Some, None, length, min, get_or, sym, ap, subst, ◌∙◌}
+use Rattle.std.proofs.Common.{◌≡◌, ℕ, List, [], Option, None, length, get_or, sym, ap, subst, ◌∙◌}
 use Rattle.wh_model.specs.declared.memory.Need.{Need}
 use Rattle.wh_model.specs.Validity.Typing.{Context}
 use Rattle.wh_model.specs.Execution.Store.{Instance}
@@ -17,7 +17,7 @@ use Rattle.wh_control.specs.Represents.{result_of}
 use Rattle.wh_control.specs.declared.store.Store as code_store
 use Rattle.wh_machine.specs.declared.machine.Machine.{Machine}
 use Rattle.wh_machine.specs.Runs.{RepresentsInstance, RepresentsMachine}
-use Rattle.wh_machine.specs.States.{Setting, setting_of, call_state}
+use Rattle.wh_machine.specs.States.{setting_of, call_state}
 use Rattle.wh_instance.specs.Turned.{IsStarting, IsFaced, IsComputing}
 use Rattle.wh_instance.specs.Tenancy.{TenantState, IsWhere, rests, writes, is_faced, is_under_way, RepresentsTenant}
 use Rattle.wh_space.specs.declared.view.View.{View}

@@ -1,2 +1,4 @@
 pub mod Lying
 pub mod Lent
+pub mod Hosting
+pub mod Stored

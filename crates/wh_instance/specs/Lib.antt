@@ -8,3 +8,4 @@ pub mod Asked
 pub mod Beginning
 pub mod Invoked
 pub mod Seen
+pub mod Stored

@@ -27,6 +27,10 @@ impl Model for Tenant {
 
     ghost Value = { TenantState };
 
+    ghost use Rattle.wh_instance.specs.Stored.{stored_tenant};
+
+    ghost coded = { stored_tenant };
+
     ghost view = { λ x. record {
       store = x.store;
       machine = x.machine;

@@ -1,7 +1,7 @@
-use Rattle.std.proofs.Common.{◌≡◌, sym, subst, ◌∙◌}
+use Rattle.std.proofs.Common.{sym, subst}
 use Rattle.wh_host_model.specs.declared.plain.TurnEnd.{TurnEnd}
 use Rattle.wh_host_model.specs.Space.Parts.{Space, view}
-use Rattle.wh_host.specs.Lent.{TurnsTo, end_of, settled_in}
+use Rattle.wh_host.specs.Lent.{TurnsTo, settled_in}
 use Rattle.wh_host.proofs.Turns.{idle_turn}
 use Rattle.wh_host.proofs.turning.turn_at.Goals as goal
 

@@ -1,4 +1,4 @@
-use Rattle.std.proofs.Common.{rules, ◌≢◌, [], ◌≡◌, refl, subst}
+use Rattle.std.proofs.Common.{rules, ◌≡◌, refl, subst}
 use Rattle.wh_host.specs.Lent.{TurnsLent}
 use Rattle.wh_host.proofs.Turns.{lent_turn, lent_open}
 use Rattle.wh_host.proofs.turning.turn_lent.Goals as goal

@@ -1,0 +1,231 @@
+-- What each call leaves of the host for which the code's host stands.
+use Rattle.std.proofs.Common.{◌≡◌, ◌≢◌, ℕ, zero, suc, ◌/◌, ◌<◌, ◌≤◌, ◌⊎◌, ⊎_elim, inl, inr, Option, Some, None, List, [], ◌∷◌, ◌++◌, length, get_or, slice_get, slice_set, refl, sym, ap, subst, ◌∙◌, arith}
+use Rattle.std.proofs.lemmas.List.{get_or-set_same, get_or-set_other, set-get_or}
+use Rattle.wh_host_model.specs.declared.plain.InstId.{InstId}
+use Rattle.wh_host_model.specs.declared.plain.TurnEnd.{TurnEnd}
+use Rattle.wh_host_model.specs.declared.plain.TurnEnd.TheVariants.{Idle}
+use Rattle.wh_host_model.specs.Space.Parts.{Space, Claimed, claim, view}
+use Rattle.wh_host_model.specs.Host.Spaces.{OthersLeftAlone}
+use Rattle.wh_host_model.specs.Host.Worlds.{Params, Tenant, World, tenant, with_tenant, promised, empty_world}
+use Rattle.wh_host_model.specs.Host.Answers.{Closes, faces_next, is_dead, Turn, is_idle, has_ended, has_no_fuel, has_no_frame, can_go_on, keeps_its_fault}
+use Rattle.wh_host_model.specs.Host.Laws.{PlacesAreTenants}
+use Rattle.wh_host_model.specs.Host.Events.{Event, turn}
+use Rattle.wh_host_model.specs.Host.Happens.{AllHappen, Happens, IsTurn, NoInstance, of_none, of_one}
+use Rattle.wh_host_model.proofs.Host.Holding.{places_are_right}
+use Rattle.wh_host_model.proofs.Host.Opening.{apart_none, apart_steps, apart_then, proceeds_apart}
+use Rattle.wh_instance.specs.Tenancy.{IsTenant}
+use Rattle.wh_space.specs.Steps.{limit_by}
+use Rattle.wh_host.specs.declared.parts.LoadedModule.{LoadedModule}
+use Rattle.wh_host.specs.declared.parts.Resident.{Resident}
+use Rattle.wh_host.specs.Lying.{LiesAt}
+use Rattle.wh_host.specs.Lent.{TurnsTo}
+use Rattle.wh_host.specs.Hosting.{HostState, IsHost, IsReached, IsResident, resident_at}
+
+-- ---- lists
+
+same_or_not : (m n : ℕ) → (m ≡ n) ⊎ (m ≢ n)
+same_or_not zero zero = inl refl
+same_or_not zero (suc n) = inr (λ e. absurd (omega arith))
+same_or_not (suc m) zero = inr (λ e. absurd (omega arith))
+same_or_not (suc m) (suc n) = ⊎_elim (λ e. inl (ap suc e)) (λ never. inr (λ e. never (omega arith))) (same_or_not m n)
+
+some_within : {A : Type 0} (xs : List (Option A)) (i : ℕ) (x : A) → get_or xs i None ≡ Some x → i < length xs
+some_within [] i x e = absurd (cc e)
+some_within (y ∷ xs) zero x e = omega arith
+some_within (y ∷ xs) (suc i) x e = let h = some_within xs i x e in omega (arith, h)
+
+one_value : {A : Type 0} (x y : A) → Some x ≡ Some y → x ≡ y
+one_value x y e = cc e
+
+length_set : {A : Type 0} (xs : List A) (i : ℕ) (x : A) → length (slice_set xs i x) ≡ length xs
+length_set [] i x = refl
+length_set (y ∷ xs) zero x = refl
+length_set (y ∷ xs) (suc i) x = ap suc (length_set xs i x)
+
+at_place : {A : Type 0} (xs : List (Option A)) (i j : ℕ) (y x a : A) → get_or xs i None ≡ Some x → get_or (slice_set xs i (Some y)) j None ≡ Some a → ((j ≡ i) × (y ≡ a)) ⊎ ((j ≢ i) × (get_or xs j None ≡ Some a))
+at_place xs i j y x a there e =
+    ⊎_elim
+    (λ (same : j ≡ i). let in_range = some_within xs i x there in inl (same, one_value y a (sym (get_or-set_same xs i (Some y) None in_range) ∙ ap (λ n. get_or (slice_set xs i (Some y)) n None) (sym same) ∙ e)))
+    (λ (other : j ≢ i). inr (other, sym (get_or-set_other xs i j (Some y) None other) ∙ e))
+    (same_or_not j i)
+
+-- ---- runs
+
+more : (w w2 w3 : World) (es : List Event) (e : Event) → AllHappen w es w2 → Happens w2 e w3 → AllHappen w (es ++ e ∷ []) w3
+more w w2 w3 [] e r h = (w3, subst (λ z. Happens z e w3) r h, refl)
+more w w2 w3 (x ∷ es) e r h = (r.0, r.1, more r.0 w2 w3 es e r.2 h)
+
+-- one event more
+pub reached_on : (w w2 : World) (e : Event) → IsReached w → Happens w e w2 → IsReached w2
+reached_on w w2 e r h = record {
+  frames = r.frames;
+  slots = r.slots;
+  tax = r.tax;
+  events = r.events ++ e ∷ [];
+  happen = more (empty_world r.frames r.slots r.tax) w w2 r.events e r.happen h;
+}
+
+pub places : (w : World) → IsReached w → PlacesAreTenants w
+places w r = places_are_right r.frames r.slots r.tax r.events w r.happen
+
+-- ---- who is there
+
+-- who has a place is an instance
+pub record Found (h : HostState) (w : World) (place : ℕ) (x : Resident) : Type 0 where
+  pub t : Tenant
+  pub live : tenant w x.number ≡ Some t
+  pub at : t.place ≡ place
+  pub is : IsResident h.modules x w.space x.number t
+
+pub found : (h : HostState) (w : World) (place : ℕ) (x : Resident) → IsHost h w → resident_at h.residents place ≡ Some x → Found h w place x
+found h w place x st at =
+    let f = st.all place x at in
+    let back = st.there x.number f.0 f.1 in
+    let same : back.0 ≡ x = one_value back.0 x (sym back.1 ∙ ap (resident_at h.residents) f.2 ∙ at) in
+    record { t = f.0; live = f.1; at = f.2; is = subst (λ z. IsResident h.modules z w.space x.number f.0) same back.2 }
+
+pub nobody : (h : HostState) (w : World) (id : InstId) → IsHost h w → resident_at h.residents id.place ≡ None → NoInstance w id
+nobody h w id st none t live = let f = st.there id.number t live.0 in absurd (let bad : None ≡ Some f.0 = sym none ∙ ap (resident_at h.residents) (sym live.1) ∙ f.1 in cc bad)
+
+pub somebody_else : (h : HostState) (w : World) (id : InstId) (x : Resident) → IsHost h w → resident_at h.residents id.place ≡ Some x → x.number ≢ id.number → NoInstance w id
+somebody_else h w id x st at other t live =
+    let f = st.there id.number t live.0 in
+    let same : f.0 ≡ x = one_value f.0 x (sym f.1 ∙ ap (resident_at h.residents) live.1 ∙ at) in
+    other (ap (λ (z : Resident). z.number) (sym same) ∙ f.2.number)
+
+-- and lies there
+pub lies_there : (h : HostState) (w : World) (place : ℕ) (x : Resident) → IsHost h w → (f : Found h w place x) → LiesAt f.is.loaded.linked x.page_limit x.tenant w.space place f.t
+lies_there h w place x st f =
+    let claims = (places w st.reached).claimed x.number f.t f.live in
+    let here : claim w.space place ≡ Some (promised x.number f.t.params) = ap (claim w.space) (sym f.at) ∙ claims in
+    record {
+      place_is = f.at;
+      is = subst (λ i. IsTenant f.is.loaded.linked x.page_limit x.tenant (view w.space i) f.t) f.at f.is.is;
+      within = subst (λ (c : Option Claimed). x.page_limit ≤ limit_by c) (sym here) f.is.limit;
+      claimed = promised x.number f.t.params;
+      claim_is = here;
+    }
+
+-- ---- one instance changes
+
+pub changed : (h : HostState) (w : World) (place : ℕ) (x y : Resident) (t2 : Tenant) (s2 : Space) → (st : IsHost h w) → resident_at h.residents place ≡ Some x → y.number ≡ x.number → t2.place ≡ place → IsResident h.modules y s2 x.number t2
+    → ((j : ℕ) → j ≢ place → view s2 j ≡ view w.space j) → IsReached (with_tenant w x.number (Some t2) s2) → IsHost (record h { residents = slice_set h.residents place (Some y); space = s2 }) (with_tenant w x.number (Some t2) s2)
+changed h w place x y t2 s2 st at_slot number lies represents sees reached =
+    let mine = found h w place x st at_slot in
+    record {
+      reached = reached;
+      modules = st.modules;
+      space = refl;
+      next = st.next ∙ sym (length_set w.tenants x.number (Some t2));
+      there = λ i a e.
+          ⊎_elim
+          (λ (p : (i ≡ x.number) × (t2 ≡ a)).
+          let in_range = some_within h.residents place x at_slot in
+          let same : a.place ≡ place = sym (ap (λ (z : Tenant). z.place) p.1) ∙ lies in
+          (y, ap (resident_at (slice_set h.residents place (Some y))) same ∙ get_or-set_same h.residents place (Some y) None in_range, subst (λ z. IsResident h.modules y s2 i z) p.1 (subst (λ n. IsResident h.modules y s2 n t2) (sym p.0) represents)))
+          (λ (p : (i ≢ x.number) × (get_or w.tenants i None ≡ Some a)).
+          let f = st.there i a p.1 in
+          let r = f.2 in
+          let far : a.place ≢ place = λ z. p.0 (sym r.number ∙ ap (λ (v : Resident). v.number) (one_value f.0 x (sym f.1 ∙ ap (resident_at h.residents) z ∙ at_slot))) in (
+            f.0,
+            get_or-set_other h.residents place a.place (Some y) None far ∙ f.1,
+            record {
+              number = r.number;
+              of = r.of;
+              loaded = r.loaded;
+              is_loaded = r.is_loaded;
+              limit = r.limit;
+              is = subst (λ b. IsTenant r.loaded.linked f.0.page_limit f.0.tenant b a) (sym (sees a.place far)) r.is;
+            },
+          ))
+          (at_place w.tenants x.number i t2 mine.t a mine.live e);
+      all = λ p z e.
+          ⊎_elim
+          (λ (q : (p ≡ place) × (y ≡ z)).
+          let in_range = some_within w.tenants x.number mine.t mine.live in
+          (t2, ap (λ n. get_or (slice_set w.tenants x.number (Some t2)) n None) (sym (ap (λ (v : Resident). v.number) q.1) ∙ number) ∙ get_or-set_same w.tenants x.number (Some t2) None in_range, lies ∙ sym q.0))
+          (λ (q : (p ≢ place) × (get_or h.residents p None ≡ Some z)).
+          let f = st.all p z q.1 in
+          ⊎_elim
+          (λ (same : z.number ≡ x.number). let one = one_value f.0 mine.t (sym f.1 ∙ ap (tenant w) same ∙ mine.live) in absurd (q.0 (sym f.2 ∙ ap (λ (v : Tenant). v.place) one ∙ mine.at)))
+          (λ (other : z.number ≢ x.number). (f.0, get_or-set_other w.tenants x.number z.number (Some t2) None other ∙ f.1, f.2))
+          (same_or_not z.number x.number))
+          (at_place h.residents place p y x z at_slot e);
+    }
+
+-- nothing changes
+pub put_back : (h : HostState) (place : ℕ) (x : Resident) → resident_at h.residents place ≡ Some x → record h { residents = slice_set h.residents place (Some x) } ≡ h
+put_back h place x e = ap (λ (zs : List (Option Resident)). let s : HostState = record h { residents = zs } in s) (ap (slice_set h.residents place) (sym e) ∙ set-get_or h.residents place None)
+
+-- ---- a turn
+
+-- what a turn leaves of the instance and of the others
+pub record StaysIn (s s2 : Space) (t t2 : Tenant) : Type 0 where
+  pub place : t2.place ≡ t.place
+  pub of : t2.of ≡ t.of
+  pub params : t2.params ≡ t.params
+  pub others : OthersLeftAlone t.place s s2
+
+closed_stays : (s s0 : Space) (t : Tenant) {e : _} {es : _} {r : _} (t2 : Tenant) → Closes s t e es r t2 → OthersLeftAlone t.place s0 s → StaysIn s0 s t t2
+closed_stays s s0 t t2 (faces_next alive faces) others = record { place = refl; of = refl; params = refl; others = others }
+closed_stays s s0 t t2 (is_dead died) others = record { place = refl; of = refl; params = refl; others = others }
+
+pub turn_stays : (q : ℕ) (s s2 : Space) (t t2 : Tenant) (answer : TurnEnd) → Turn q s t answer s2 t2 → StaysIn s s2 t t2
+turn_stays q s s2 t t2 answer (is_idle none) = record { place = refl; of = refl; params = refl; others = (apart_none t.place s).others }
+turn_stays q s s2 t t2 answer (has_ended {e = e} is_open goes alone pins closes) = closed_stays s2 s t t2 closes (apart_then (proceeds_apart t e goes) (apart_steps alone.steps)).others
+turn_stays q s s2 t t2 answer (has_no_fuel {e = e} is_open goes alone pins) = record { place = refl; of = refl; params = refl; others = (apart_then (proceeds_apart t e goes) (apart_steps alone.steps)).others }
+turn_stays q s s2 t t2 answer (has_no_frame {e = e} is_open goes alone pins) = record { place = refl; of = refl; params = refl; others = (apart_then (proceeds_apart t e goes) (apart_steps alone.steps)).others }
+turn_stays q s s2 t t2 answer (can_go_on {e = e} is_open goes alone pins keeps) = record { place = refl; of = refl; params = refl; others = (apart_then (proceeds_apart t e goes) (apart_steps alone.steps)).others }
+turn_stays q s s2 t t2 answer (keeps_its_fault is_open stands doing none next left ready) = record { place = refl; of = refl; params = refl; others = (apart_none t.place s).others }
+
+-- of nobody
+pub idle_host : (h : HostState) (w : World) (id : InstId) (q : ℕ) → IsHost h w → NoInstance w id → (w2 : World) × IsTurn w id q Idle w2 × IsHost h w2
+idle_host h w id q st none = (w, of_none none, st)
+
+pub turned_host : (h : HostState) (w : World) (id : InstId) (q : ℕ) (x y : Resident) (answer : TurnEnd) (s2 : Space) (st : IsHost h w) → resident_at h.residents id.place ≡ Some x → x.number ≡ id.number → (f : Found h w id.place x)
+    → (y.number ≡ x.number) × (y.of ≡ x.of) × (y.page_limit ≡ x.page_limit) → TurnsTo f.is.loaded.linked x.page_limit q w.space f.t answer id.place y.tenant s2
+    → (w2 : World) × IsTurn w id q answer w2 × IsHost (record h { residents = slice_set h.residents id.place (Some y); space = s2 }) w2
+turned_host h w id q x y answer s2 st at number f same to =
+    let t2 = to.0 in
+    let stays = turn_stays q w.space s2 f.t t2 answer to.1 in
+    let happens : IsTurn w id q answer (with_tenant w id.number (Some t2) s2) = of_one (subst (λ n. tenant w n ≡ Some f.t) number f.live, f.at) to.1 in
+    let w2 = with_tenant w x.number (Some t2) s2 in
+    let here : IsTurn w id q answer w2 = subst (λ n. IsTurn w id q answer (with_tenant w n (Some t2) s2)) (sym number) happens in
+    let represents : IsResident h.modules y s2 x.number t2 = record {
+      number = same.0;
+      of = same.1 ∙ f.is.of ∙ sym stays.of;
+      loaded = f.is.loaded;
+      is_loaded = ap (slice_get h.modules) same.1 ∙ f.is.is_loaded;
+      limit = subst (λ z. z ≤ t2.params.max / 16) (sym same.2) (subst (λ (p : Params). x.page_limit ≤ p.max / 16) (sym stays.params) f.is.limit);
+      is = subst (λ n. IsTenant f.is.loaded.linked n y.tenant (view s2 t2.place) t2) (sym same.2) (subst (λ i. IsTenant f.is.loaded.linked x.page_limit y.tenant (view s2 i) t2) (sym to.2.place_is) to.2.is);
+    } in
+    let sees : (j : ℕ) → j ≢ id.place → view s2 j ≡ view w.space j = λ j other. (stays.others j (λ e. other (e ∙ f.at))).view in
+    (w2, here, changed h w id.place x y t2 s2 st at same.0 to.2.place_is represents sees (reached_on w w2 (turn id q) st.reached (answer, here)))
+
+-- the module of who is there
+pub module_is : (h : HostState) (w : World) (place : ℕ) (x : Resident) (m : LoadedModule) → (f : Found h w place x) → slice_get h.modules x.of ≡ Some m → f.is.loaded ≡ m
+module_is h w place x m f is = one_value f.is.loaded m (sym f.is.is_loaded ∙ is)
+
+-- who is there lies in the memory that the code has
+pub lies_here : (h : HostState) (w : World) (place : ℕ) (x : Resident) (m : LoadedModule) → (st : IsHost h w) → resident_at h.residents place ≡ Some x → slice_get h.modules x.of ≡ Some m → (t : Tenant) × (tenant w x.number ≡ Some t) × LiesAt m.linked x.page_limit x.tenant h.space place t
+lies_here h w place x m st at is =
+    let f = found h w place x st at in
+    let lies = lies_there h w place x st f in
+    let by_module = subst (λ (z : LoadedModule). LiesAt z.linked x.page_limit x.tenant w.space place f.t) (module_is h w place x m f is) lies in
+    (f.t, f.live, subst (λ s. LiesAt m.linked x.page_limit x.tenant s place f.t) (sym st.space) by_module)
+
+pub turned_here : (h : HostState) (w : World) (id : InstId) (q : ℕ) (x y : Resident) (m : LoadedModule) (answer : TurnEnd) (s2 : Space) → IsHost h w → resident_at h.residents id.place ≡ Some x → x.number ≡ id.number → slice_get h.modules x.of ≡ Some m
+    → (y.number ≡ x.number) × (y.of ≡ x.of) × (y.page_limit ≡ x.page_limit) → ((t : Tenant) → LiesAt m.linked x.page_limit x.tenant h.space id.place t → TurnsTo m.linked x.page_limit q h.space t answer id.place y.tenant s2)
+    → (w2 : World) × IsTurn w id q answer w2 × IsHost (record h { residents = slice_set h.residents id.place (Some y); space = s2 }) w2
+turned_here h w id q x y m answer s2 st at number is same turns =
+    let f = found h w id.place x st at in
+    let lies = lies_there h w id.place x st f in
+    let one = module_is h w id.place x m f is in
+    let by_module = subst (λ (z : LoadedModule). LiesAt z.linked x.page_limit x.tenant w.space id.place f.t) one lies in
+    let to = turns f.t (subst (λ s. LiesAt m.linked x.page_limit x.tenant s id.place f.t) (sym st.space) by_module) in
+    let in_world = subst (λ s. TurnsTo m.linked x.page_limit q s f.t answer id.place y.tenant s2) st.space to in
+    turned_host h w id q x y answer s2 st at number f same (subst (λ (z : LoadedModule). TurnsTo z.linked x.page_limit q w.space f.t answer id.place y.tenant s2) (sym one) in_world)
+
+-- its module is there
+pub no_module_less : (h : HostState) (w : World) (place : ℕ) (x : Resident) → IsHost h w → resident_at h.residents place ≡ Some x → slice_get h.modules x.of ≡ None → ⊥
+no_module_less h w place x st at none = let f = found h w place x st at in absurd (let bad : None ≡ Some f.is.loaded = sym none ∙ f.is.is_loaded in cc bad)
