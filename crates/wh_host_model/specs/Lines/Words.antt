@@ -15,10 +15,13 @@ words_of (b ∷ bs) = if b == 32 then [] ∷ words_of bs else onto_first b (word
 abbrev pub without_minus : List ℕ → List ℕ
 without_minus word = if starts_with_minus word then drop 1 word else word
 
--- The word is this number: 1 to 20 decimal digits, with a `-` before them or none. The first ones may be zeros.
+-- 1 to 20 decimal digits, the first of which may be zeros
+abbrev pub AreDigits : List ℕ → Type 0
+AreDigits word = IsNumeral 10 word × (length word ≤ 20)
+
+-- The word is this number: such digits, with a `-` before them or none.
 pub record IsNumber (word : List ℕ) (n : ℤ) : Type 0 where
-  pub digits : IsNumeral 10 (without_minus word)
-  pub few : length (without_minus word) ≤ 20
+  pub digits : AreDigits (without_minus word)
   pub reads : n ≡ signed_digits_value 10 word
 
 -- a number of 64 bits, without a sign: fuel, shares, or frames
