@@ -10,14 +10,14 @@ use Rattle.wh_commands.specs.declared.command.Command.{Command}
 use Rattle.wh_commands.specs.declared.error.LineError.{LineError}
 use Rattle.wh_commands.specs.declared.error.LineError.TheVariants.{Syntax, NoName, NameTaken, File, Memory}
 use Rattle.wh_commands.specs.Left.{IsHexWord}
-use Rattle.wh_commands.specs.Found.{Means, Finds, IsAsked, Refuses}
+use Rattle.wh_commands.specs.Found.{Says, FindsAsked, IsAskedBy, Refuses}
 use Rattle.wh_commands.proofs.OneCommand.{by_line, by_keep, by_load, by_admit, by_invoke, by_drain, by_refuel, by_cancel, by_retry, by_scan, by_report, by_release, one_follows}
 
 abbrev pub Parsed : Type 0
 Parsed = Result Command LineError
 
 pub found_by : (line first word : List ℕ) (words : List (List ℕ)) (r : Parsed) → words_of line ≡ word ∷ words → word ≡ first
-    → IfOk r (λ c. IsAsked first words c) → IfOk r (λ c. (asked : lines.Command) × AsksCommand line asked × Means c asked)
+    → IfOk r (λ c. IsAskedBy first words c) → IfOk r (λ c. (asked : lines.Command) × AsksCommand line asked × Says c asked)
 found_by line first word words (Ok c) e f h = (h.0, (words, e ∙ ap (λ w. w ∷ words) (f ∙ sym h.1), h.2), h.3)
 found_by line first word words (Err x) e f h = tt
 
@@ -26,11 +26,11 @@ abbrev pub AsksNone : List ℕ → List (List ℕ) → Type 0
 AsksNone first words = (d : lines.Command) → verb d ≡ first → Follow d words → ⊥
 
 pub only_by : (line first word : List ℕ) (words : List (List ℕ)) (r : Parsed) → words_of line ≡ word ∷ words → word ≡ first
-    → IfOk r (λ c. IsAsked first words c) → IfErr r (λ e. (e ≡ Memory) ⊎ AsksNone first words)
-    → IfErr r (λ e. (e ≡ Syntax) ⊎ (e ≡ Memory)) → (asked : lines.Command) → AsksCommand line asked → Finds r asked
+    → IfOk r (λ c. IsAskedBy first words c) → IfErr r (λ e. (e ≡ Memory) ⊎ AsksNone first words)
+    → IfErr r (λ e. (e ≡ Syntax) ⊎ (e ≡ Memory)) → (asked : lines.Command) → AsksCommand line asked → FindsAsked r asked
 only_by line first word words (Ok c) e f h none err asked a =
     let g = by_line line word words e asked a in
-    subst (Means c) (one_follows words h.0 asked h.2 (g.0 ∙ (f ∙ sym h.1)) g.1) h.3
+    subst (Says c) (one_follows words h.0 asked h.2 (g.0 ∙ (f ∙ sym h.1)) g.1) h.3
 only_by line first word words (Err Memory) e f h none err asked a = tt
 only_by line first word words (Err Syntax) e f h (inl m) err asked a = absurd (cc)
 only_by line first word words (Err Syntax) e f h (inr none) err asked a =

@@ -22,31 +22,31 @@ params_of given = record {
 }
 
 -- the command is this one; the bytes of a module are still in digits
-abbrev pub Means : Command → Asked → Type 0
-Means (Module name hex) (keep n bytes) = (name.now ≡ n) × IsHex hex.now bytes
-Means (Load name path) (load n p) = (name.now ≡ n) × (path.now ≡ p)
-Means (Admit inst of given) (admit i o params) = (inst.now ≡ i) × (of.now ≡ o) × (params_of given ≡ params)
-Means (Invoke inst export fuel args) (invoke i e f given) =
+abbrev pub Says : Command → Asked → Type 0
+Says (Module name hex) (keep n bytes) = (name.now ≡ n) × IsHex hex.now bytes
+Says (Load name path) (load n p) = (name.now ≡ n) × (path.now ≡ p)
+Says (Admit inst of given) (admit i o params) = (inst.now ≡ i) × (of.now ≡ o) × (params_of given ≡ params)
+Says (Invoke inst export fuel args) (invoke i e f given) =
     (inst.now ≡ i) × (export.now ≡ e) × (fuel ≡ f) × (args.items ≡ given)
-Means Drain drain = ⊤
-Means (Refuel inst fuel) (refuel i f) = (inst.now ≡ i) × (fuel ≡ f)
-Means (Cancel inst) (cancel i) = inst.now ≡ i
-Means (Retry inst) (retry i) = inst.now ≡ i
-Means Scan scan = ⊤
-Means Report report = ⊤
-Means (Release inst) (release i) = inst.now ≡ i
-Means command asked = ⊥
+Says Drain drain = ⊤
+Says (Refuel inst fuel) (refuel i f) = (inst.now ≡ i) × (fuel ≡ f)
+Says (Cancel inst) (cancel i) = inst.now ≡ i
+Says (Retry inst) (retry i) = inst.now ≡ i
+Says Scan scan = ⊤
+Says Report report = ⊤
+Says (Release inst) (release i) = inst.now ≡ i
+Says command asked = ⊥
 
 -- the command that is found is this one; or there was no memory for it
-abbrev pub Finds : Result Command LineError → Asked → Type 0
-Finds (Ok command) asked = Means command asked
-Finds (Err Memory) asked = ⊤
-Finds (Err error) asked = ⊥
+abbrev pub FindsAsked : Result Command LineError → Asked → Type 0
+FindsAsked (Ok command) asked = Says command asked
+FindsAsked (Err Memory) asked = ⊤
+FindsAsked (Err error) asked = ⊥
 
 -- the command is one that these words ask for, the first of them being this verb
-abbrev pub IsAsked : List ℕ → List (List ℕ) → Command → Type 0
-IsAsked first words command =
-    (asked : Asked) × (verb asked ≡ first) × Follow asked words × Means command asked
+abbrev pub IsAskedBy : List ℕ → List (List ℕ) → Command → Type 0
+IsAskedBy first words command =
+    (asked : Asked) × (verb asked ≡ first) × Follow asked words × Says command asked
 
 -- the words aren't so, or there was no memory
 abbrev pub Refuses : Type 0 → LineError → Type 0

@@ -11,7 +11,7 @@ ghost use Rattle.wh_host_model.specs.Lines.Words.{IsNumber, IsCount, IsBits};
 ghost use Rattle.wh_host_model.specs.Lines.Commands.{AreParams, Follow, AsksCommand};
 ghost use Rattle.wh_host_model.specs.Lines.Commands as lines;
 ghost use Rattle.wh_commands.specs.Left.{words_left, IsHexWord};
-ghost use Rattle.wh_commands.specs.Found.{params_of, Means, Finds, IsAsked, Refuses};
+ghost use Rattle.wh_commands.specs.Found.{params_of, Says, FindsAsked, IsAskedBy, Refuses};
 
 use crate::command::{Command, Given};
 use crate::error::LineError;
@@ -21,7 +21,7 @@ use std::alloc::Global;
 
 /// `NAME HEX`
 fn keep(words: Words<'_>) -> Result<Command<'_>, LineError>
-    ensures ok { IfOk result (λ command. IsAsked (codes "module") (words_left words.entry) command) }
+    ensures ok { IfOk result (λ command. IsAskedBy (codes "module") (words_left words.entry) command) }
     ensures err { IfErr result (λ e. e ≡ LineError.Syntax) }
     ensures none { OnErr result ((name hex : List ℕ) → IsName name → IsHexWord hex
         → words_left words.entry ≢ name ∷ hex ∷ []) }
@@ -35,7 +35,7 @@ fn keep(words: Words<'_>) -> Result<Command<'_>, LineError>
 
 /// `NAME PATH`
 fn load(words: Words<'_>) -> Result<Command<'_>, LineError>
-    ensures ok { IfOk result (λ command. IsAsked (codes "load") (words_left words.entry) command) }
+    ensures ok { IfOk result (λ command. IsAskedBy (codes "load") (words_left words.entry) command) }
     ensures err { IfErr result (λ e. e ≡ LineError.Syntax) }
     ensures none { OnErr result ((name path : List ℕ) → IsName name → IsWord path
         → words_left words.entry ≢ name ∷ path ∷ []) }
@@ -49,7 +49,7 @@ fn load(words: Words<'_>) -> Result<Command<'_>, LineError>
 
 /// `INST N`
 fn refuel(words: Words<'_>) -> Result<Command<'_>, LineError>
-    ensures ok { IfOk result (λ command. IsAsked (codes "refuel") (words_left words.entry) command) }
+    ensures ok { IfOk result (λ command. IsAskedBy (codes "refuel") (words_left words.entry) command) }
     ensures err { IfErr result (λ e. e ≡ LineError.Syntax) }
     ensures none { OnErr result ((inst word : List ℕ) (n : ℕ) → IsName inst → IsCount word n
         → words_left words.entry ≢ inst ∷ word ∷ []) }
@@ -138,7 +138,7 @@ fn given(alloc: Global, words: Words<'_>) -> Result<Given, LineError>
 
 /// `INST MODULE SHARES MIN MAX FUEL BASE SALT [INPUT ..]`
 fn admit(alloc: Global, words: Words<'_>) -> Result<Command<'_>, LineError>
-    ensures ok { IfOk result (λ command. IsAsked (codes "admit") (words_left words.entry) command) }
+    ensures ok { IfOk result (λ command. IsAskedBy (codes "admit") (words_left words.entry) command) }
     ensures none { IfErr result (Refuses ((inst of : List ℕ) × (params : Params)
         × Follow (lines.admit inst of params) (words_left words.entry))) }
 {
@@ -155,7 +155,7 @@ fn admit(alloc: Global, words: Words<'_>) -> Result<Command<'_>, LineError>
 
 /// `INST EXPORT FUEL [ARG ..]`
 fn invoke(alloc: Global, words: Words<'_>) -> Result<Command<'_>, LineError>
-    ensures ok { IfOk result (λ command. IsAsked (codes "invoke") (words_left words.entry) command) }
+    ensures ok { IfOk result (λ command. IsAskedBy (codes "invoke") (words_left words.entry) command) }
     ensures none { IfErr result (Refuses ((inst export : List ℕ) × (fuel : ℕ) × (args : List ℤ)
         × Follow (lines.invoke inst export fuel args) (words_left words.entry))) }
 {
@@ -174,7 +174,7 @@ fn invoke(alloc: Global, words: Words<'_>) -> Result<Command<'_>, LineError>
 
 /// `INST`
 fn cancel(words: Words<'_>) -> Result<Command<'_>, LineError>
-    ensures ok { IfOk result (λ command. IsAsked (codes "cancel") (words_left words.entry) command) }
+    ensures ok { IfOk result (λ command. IsAskedBy (codes "cancel") (words_left words.entry) command) }
     ensures err { IfErr result (λ e. e ≡ LineError.Syntax) }
     ensures none { OnErr result ((inst : List ℕ) → IsName inst → words_left words.entry ≢ inst ∷ []) }
 {
@@ -184,7 +184,7 @@ fn cancel(words: Words<'_>) -> Result<Command<'_>, LineError>
 
 /// `INST`
 fn retry(words: Words<'_>) -> Result<Command<'_>, LineError>
-    ensures ok { IfOk result (λ command. IsAsked (codes "retry") (words_left words.entry) command) }
+    ensures ok { IfOk result (λ command. IsAskedBy (codes "retry") (words_left words.entry) command) }
     ensures err { IfErr result (λ e. e ≡ LineError.Syntax) }
     ensures none { OnErr result ((inst : List ℕ) → IsName inst → words_left words.entry ≢ inst ∷ []) }
 {
@@ -194,7 +194,7 @@ fn retry(words: Words<'_>) -> Result<Command<'_>, LineError>
 
 /// `INST`
 fn release(words: Words<'_>) -> Result<Command<'_>, LineError>
-    ensures ok { IfOk result (λ command. IsAsked (codes "release") (words_left words.entry) command) }
+    ensures ok { IfOk result (λ command. IsAskedBy (codes "release") (words_left words.entry) command) }
     ensures err { IfErr result (λ e. e ≡ LineError.Syntax) }
     ensures none { OnErr result ((inst : List ℕ) → IsName inst → words_left words.entry ≢ inst ∷ []) }
 {
@@ -204,7 +204,7 @@ fn release(words: Words<'_>) -> Result<Command<'_>, LineError>
 
 /// Nothing behind the verb.
 fn drain(words: Words<'_>) -> Result<Command<'_>, LineError>
-    ensures ok { IfOk result (λ command. IsAsked (codes "drain") (words_left words.entry) command) }
+    ensures ok { IfOk result (λ command. IsAskedBy (codes "drain") (words_left words.entry) command) }
     ensures err { IfErr result (λ e. e ≡ LineError.Syntax) }
     ensures none { OnErr result (words_left words.entry ≢ []) }
 {
@@ -214,7 +214,7 @@ fn drain(words: Words<'_>) -> Result<Command<'_>, LineError>
 
 /// Nothing behind the verb.
 fn scan(words: Words<'_>) -> Result<Command<'_>, LineError>
-    ensures ok { IfOk result (λ command. IsAsked (codes "scan") (words_left words.entry) command) }
+    ensures ok { IfOk result (λ command. IsAskedBy (codes "scan") (words_left words.entry) command) }
     ensures err { IfErr result (λ e. e ≡ LineError.Syntax) }
     ensures none { OnErr result (words_left words.entry ≢ []) }
 {
@@ -224,7 +224,7 @@ fn scan(words: Words<'_>) -> Result<Command<'_>, LineError>
 
 /// Nothing behind the verb.
 fn report(words: Words<'_>) -> Result<Command<'_>, LineError>
-    ensures ok { IfOk result (λ command. IsAsked (codes "report") (words_left words.entry) command) }
+    ensures ok { IfOk result (λ command. IsAskedBy (codes "report") (words_left words.entry) command) }
     ensures err { IfErr result (λ e. e ≡ LineError.Syntax) }
     ensures none { OnErr result (words_left words.entry ≢ []) }
 {
@@ -240,9 +240,9 @@ fn report(words: Words<'_>) -> Result<Command<'_>, LineError>
 pub fn parse(alloc: Global, line: &[u8]) -> Result<Command<'_>, LineError>
     // The line asks for what the command that is found means.
     ensures found { IfOk result (λ command. (asked : lines.Command) × AsksCommand line.now asked
-        × Means command asked) }
+        × Says command asked) }
     // What the line asks for is found, or there was no memory.
-    ensures only { (asked : lines.Command) → AsksCommand line.now asked → Finds result asked }
+    ensures only { (asked : lines.Command) → AsksCommand line.now asked → FindsAsked result asked }
     ensures err { IfErr result (λ e. (e ≡ LineError.Syntax) ⊎ (e ≡ LineError.Memory)) }
 {
     let mut words = words_in(line);
