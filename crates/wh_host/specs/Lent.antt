@@ -24,12 +24,12 @@ pub record MayStandAt (s : Space) (place : ℕ) (need : Option Need) : Type 0 wh
   pub few : (want : Need) → need ≡ Some want → want.length ≤ 4096
 
 -- what a turn is answered, by what the instance came to
-abbrev pub end_of : Turned → TurnEnd
-end_of turned.Kept = answer.Again
-end_of turned.Ended = answer.Ended
-end_of turned.Fuel = answer.Fuel
-end_of (turned.Frame need still) = answer.Frame
-end_of (turned.Again still) = answer.Again
+abbrev pub turn_end_of : Turned → TurnEnd
+turn_end_of turned.Kept = answer.Again
+turn_end_of turned.Ended = answer.Ended
+turn_end_of turned.Fuel = answer.Fuel
+turn_end_of (turned.Frame need still) = answer.Frame
+turn_end_of (turned.Again still) = answer.Again
 
 -- the memory with that written down for which the instance stands then: its pins end where a step was taken
 abbrev pub settled_in : Space → ℕ → Turned → Space
@@ -53,4 +53,4 @@ CanSettle s place (turned.Again still) = MayStandAt s place None
 -- so the turn comes out, once that is done
 abbrev pub TurnsLent : LinkedState → ℕ → ℕ → Space → Tenant → ℕ → TenantState → Space → Turned → Type 0
 TurnsLent l limit q s t place x2 s2 made =
-    CanSettle s2 place made × TurnsTo l limit q s t (end_of made) place x2 (settled_in s2 place made)
+    CanSettle s2 place made × TurnsTo l limit q s t (turn_end_of made) place x2 (settled_in s2 place made)

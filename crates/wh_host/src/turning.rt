@@ -3,7 +3,7 @@
 ghost use Rattle.std.specs.Prelude.{◌≡◌, ◌≢◌, []};
 ghost use Rattle.wh_host_model.specs.Host.Worlds.{Tenant as OneTenant};
 ghost use Rattle.wh_host.specs.Lying.{LiesAt};
-ghost use Rattle.wh_host.specs.Lent.{CanSettle, TurnsLent, TurnsTo, end_of, settled_in};
+ghost use Rattle.wh_host.specs.Lent.{CanSettle, TurnsLent, TurnsTo, turn_end_of, settled_in};
 
 use wh_host_model::TurnEnd;
 use wh_imports::Linked;
@@ -38,7 +38,7 @@ fn turn_lent(
 // Writes down in memory for what the instance at this place stands after such a turn: what the turn is answered.
 fn settle_at(memory: &mut Memory, place: usize, turned: Turned) -> TurnEnd
     requires { CanSettle memory.old place turned }
-    ensures answer { result ≡ end_of turned }
+    ensures answer { result ≡ turn_end_of turned }
     ensures leaves { memory.new ≡ settled_in memory.old place turned }
 {
     match turned {

@@ -6,5 +6,6 @@ pub mod Replies
 pub mod Requests
 pub mod Script
 pub mod Host
+pub mod Lines
 pub mod Space
 pub mod Tax

@@ -1,0 +1,7 @@
+use Rattle.std.proofs.Common.{refl}
+use Rattle.wh_host_model.specs.Lines.Commands.{cancel}
+use Rattle.wh_commands.proofs.reading.cancel.Goals as goal
+
+pub returns-clause-ok : goal.returns-clause-ok
+returns-clause-ok c =
+    let inst = c.in_ok-inst.ensures.ok in (cancel c.in_ok-inst.inst.now, refl, (inst.0, inst.1), refl)

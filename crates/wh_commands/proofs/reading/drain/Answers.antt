@@ -1,0 +1,6 @@
+use Rattle.std.proofs.Common.{refl}
+use Rattle.wh_host_model.specs.Lines.Commands.{drain}
+use Rattle.wh_commands.proofs.reading.drain.Goals as goal
+
+pub returns-clause-ok : goal.returns-clause-ok
+returns-clause-ok c = (drain, refl, c.in_ok-end.ensures.ok, tt)

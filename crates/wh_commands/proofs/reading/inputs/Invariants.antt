@@ -1,0 +1,12 @@
+use Rattle.std.proofs.Common.{length}
+use Rattle.wh_model.specs.declared.ValType.TheVariants.{I64}
+use Rattle.wh_host_model.specs.Lines.Words.{IsBits}
+use Rattle.wh_commands.specs.Left.{words_left}
+use Rattle.wh_commands.proofs.Asking.{HasRead}
+use Rattle.wh_commands.proofs.reading.inputs.Given as goal
+
+abbrev pub invariant-loop-word : goal.invariant-loop-word
+invariant-loop-word l = HasRead (IsBits I64) (words_left l.fn.words) (words_left l.words) l.inputs.items
+
+abbrev pub decreases-loop-word : goal.decreases-loop-word
+decreases-loop-word l = length (words_left l.words)

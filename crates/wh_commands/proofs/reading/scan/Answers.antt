@@ -1,0 +1,6 @@
+use Rattle.std.proofs.Common.{refl}
+use Rattle.wh_host_model.specs.Lines.Commands.{scan}
+use Rattle.wh_commands.proofs.reading.scan.Goals as goal
+
+pub returns-clause-ok : goal.returns-clause-ok
+returns-clause-ok c = (scan, refl, c.in_ok-end.ensures.ok, tt)

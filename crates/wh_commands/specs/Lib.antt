@@ -1,0 +1,4 @@
+pub mod Causes
+pub mod Found
+pub mod Laws
+pub mod Left

@@ -1,0 +1,17 @@
+//! The language of scripts: what a line asks for.
+#![tactic(auto)]
+
+mod command;
+mod error;
+mod laws;
+mod numbers;
+mod reading;
+mod shapes;
+#[cfg(test)]
+mod tests;
+mod words;
+
+pub use command::{Command, Given};
+pub use error::LineError;
+pub use laws::one_command;
+pub use reading::parse;

@@ -1,0 +1,291 @@
+//! What a line asks for.
+
+ghost use Rattle.std.specs.Prelude.{◌≡◌, ◌≢◌, ℕ, ℤ, List, [], ◌∷◌, codes, ◌⊎◌, IfOk, OnErr, IfErr};
+ghost use Rattle.std.specs.Bool.{MatchBool};
+ghost use Rattle.std.specs.List.{AllZip};
+ghost use Rattle.wh_model.specs.declared.ValType.TheVariants.{I64};
+ghost use Rattle.wh_host_model.specs.Script.{IsName, IsWord};
+ghost use Rattle.wh_host_model.specs.Requests.{IsHex};
+ghost use Rattle.wh_host_model.specs.Host.Worlds.{Params};
+ghost use Rattle.wh_host_model.specs.Lines.Words.{IsNumber, IsCount, IsBits};
+ghost use Rattle.wh_host_model.specs.Lines.Commands.{AreParams, Follow, AsksCommand};
+ghost use Rattle.wh_host_model.specs.Lines.Commands as lines;
+ghost use Rattle.wh_commands.specs.Left.{words_left, IsHexWord};
+ghost use Rattle.wh_commands.specs.Found.{params_of, Says, FindsAsked, IsAskedBy, Refuses};
+
+use crate::command::{Command, Given};
+use crate::error::LineError;
+use crate::numbers::{i64_bits_in, number_in};
+use crate::words::{Words, words_in};
+use std::alloc::Global;
+
+/// `NAME HEX`
+fn keep(words: Words<'_>) -> Result<Command<'_>, LineError>
+    ensures ok { IfOk result (λ command. IsAskedBy (codes "module") (words_left words.entry) command) }
+    ensures err { IfErr result (λ e. e ≡ LineError.Syntax) }
+    ensures none { OnErr result ((name hex : List ℕ) → IsName name → IsHexWord hex
+        → words_left words.entry ≢ name ∷ hex ∷ []) }
+{
+    let mut words = words;
+    let name = words.next_name()?;
+    let hex = words.next_hex()?;
+    words.end()?;
+    Ok(Command::Module { name, hex })
+}
+
+/// `NAME PATH`
+fn load(words: Words<'_>) -> Result<Command<'_>, LineError>
+    ensures ok { IfOk result (λ command. IsAskedBy (codes "load") (words_left words.entry) command) }
+    ensures err { IfErr result (λ e. e ≡ LineError.Syntax) }
+    ensures none { OnErr result ((name path : List ℕ) → IsName name → IsWord path
+        → words_left words.entry ≢ name ∷ path ∷ []) }
+{
+    let mut words = words;
+    let name = words.next_name()?;
+    let path = words.next_text()?;
+    words.end()?;
+    Ok(Command::Load { name, path })
+}
+
+/// `INST N`
+fn refuel(words: Words<'_>) -> Result<Command<'_>, LineError>
+    ensures ok { IfOk result (λ command. IsAskedBy (codes "refuel") (words_left words.entry) command) }
+    ensures err { IfErr result (λ e. e ≡ LineError.Syntax) }
+    ensures none { OnErr result ((inst word : List ℕ) (n : ℕ) → IsName inst → IsCount word n
+        → words_left words.entry ≢ inst ∷ word ∷ []) }
+{
+    let mut words = words;
+    let inst = words.next_name()?;
+    let fuel = words.next_count()?;
+    words.end()?;
+    Ok(Command::Refuel { inst, fuel })
+}
+
+/// `INST`
+fn inst_alone(words: Words<'_>) -> Result<&str, LineError>
+    ensures ok { IfOk result (λ inst. (words_left words.entry ≡ inst.now ∷ []) × IsName inst.now) }
+    ensures err { IfErr result (λ e. e ≡ LineError.Syntax) }
+    ensures none { OnErr result ((inst : List ℕ) → IsName inst → words_left words.entry ≢ inst ∷ []) }
+{
+    let mut words = words;
+    let inst = words.next_name()?;
+    words.end()?;
+    Ok(inst)
+}
+
+/// `[INPUT ..]`
+fn inputs(alloc: Global, words: Words<'_>) -> Result<Vec<u64>, LineError>
+    ensures ok { IfOk result (λ inputs. AllZip (IsBits I64) (words_left words.entry) inputs.items) }
+    ensures none { IfErr result (Refuses ((inputs : List ℕ)
+        × AllZip (IsBits I64) (words_left words.entry) inputs)) }
+{
+    let mut words = words;
+    let mut inputs = Vec::new(alloc);
+    while let Some(word) = words.next() {
+        let Some(bits) = i64_bits_in(word) else {
+            return Err(LineError::Syntax);
+        };
+        if inputs.push(bits).is_err() {
+            return Err(LineError::Memory);
+        }
+    }
+    Ok(inputs)
+}
+
+/// `[ARG ..]`
+fn args(alloc: Global, words: Words<'_>) -> Result<Vec<i128>, LineError>
+    ensures ok { IfOk result (λ args. AllZip IsNumber (words_left words.entry) args.items) }
+    ensures none { IfErr result (Refuses ((args : List ℤ)
+        × AllZip IsNumber (words_left words.entry) args)) }
+{
+    let mut words = words;
+    let mut args = Vec::new(alloc);
+    while let Some(word) = words.next() {
+        let Some(number) = number_in(word) else {
+            return Err(LineError::Syntax);
+        };
+        if args.push(number).is_err() {
+            return Err(LineError::Memory);
+        }
+    }
+    Ok(args)
+}
+
+/// `SHARES MIN MAX FUEL BASE SALT [INPUT ..]`
+fn given(alloc: Global, words: Words<'_>) -> Result<Given, LineError>
+    ensures ok { IfOk result (λ given. AreParams (words_left words.entry) (params_of given)) }
+    ensures none { IfErr result (Refuses ((params : Params)
+        × AreParams (words_left words.entry) params)) }
+{
+    let mut words = words;
+    let shares = words.next_count()?;
+    let min = words.next_count()?;
+    let max = words.next_count()?;
+    let fuel = words.next_count()?;
+    let base = words.next_i32_bits()?;
+    let salt = words.next_i64_bits()?;
+    let inputs = inputs(alloc, words)?;
+    Ok(Given {
+        shares,
+        min,
+        max,
+        fuel,
+        base,
+        salt,
+        inputs,
+    })
+}
+
+/// `INST MODULE SHARES MIN MAX FUEL BASE SALT [INPUT ..]`
+fn admit(alloc: Global, words: Words<'_>) -> Result<Command<'_>, LineError>
+    ensures ok { IfOk result (λ command. IsAskedBy (codes "admit") (words_left words.entry) command) }
+    ensures none { IfErr result (Refuses ((inst of : List ℕ) × (params : Params)
+        × Follow (lines.admit inst of params) (words_left words.entry))) }
+{
+    let mut words = words;
+    let inst = words.next_name()?;
+    let module = words.next_name()?;
+    let given = given(alloc, words)?;
+    Ok(Command::Admit {
+        inst,
+        module,
+        given,
+    })
+}
+
+/// `INST EXPORT FUEL [ARG ..]`
+fn invoke(alloc: Global, words: Words<'_>) -> Result<Command<'_>, LineError>
+    ensures ok { IfOk result (λ command. IsAskedBy (codes "invoke") (words_left words.entry) command) }
+    ensures none { IfErr result (Refuses ((inst export : List ℕ) × (fuel : ℕ) × (args : List ℤ)
+        × Follow (lines.invoke inst export fuel args) (words_left words.entry))) }
+{
+    let mut words = words;
+    let inst = words.next_name()?;
+    let export = words.next_text()?;
+    let fuel = words.next_count()?;
+    let args = args(alloc, words)?;
+    Ok(Command::Invoke {
+        inst,
+        export,
+        fuel,
+        args,
+    })
+}
+
+/// `INST`
+fn cancel(words: Words<'_>) -> Result<Command<'_>, LineError>
+    ensures ok { IfOk result (λ command. IsAskedBy (codes "cancel") (words_left words.entry) command) }
+    ensures err { IfErr result (λ e. e ≡ LineError.Syntax) }
+    ensures none { OnErr result ((inst : List ℕ) → IsName inst → words_left words.entry ≢ inst ∷ []) }
+{
+    let inst = inst_alone(words)?;
+    Ok(Command::Cancel { inst })
+}
+
+/// `INST`
+fn retry(words: Words<'_>) -> Result<Command<'_>, LineError>
+    ensures ok { IfOk result (λ command. IsAskedBy (codes "retry") (words_left words.entry) command) }
+    ensures err { IfErr result (λ e. e ≡ LineError.Syntax) }
+    ensures none { OnErr result ((inst : List ℕ) → IsName inst → words_left words.entry ≢ inst ∷ []) }
+{
+    let inst = inst_alone(words)?;
+    Ok(Command::Retry { inst })
+}
+
+/// `INST`
+fn release(words: Words<'_>) -> Result<Command<'_>, LineError>
+    ensures ok { IfOk result (λ command. IsAskedBy (codes "release") (words_left words.entry) command) }
+    ensures err { IfErr result (λ e. e ≡ LineError.Syntax) }
+    ensures none { OnErr result ((inst : List ℕ) → IsName inst → words_left words.entry ≢ inst ∷ []) }
+{
+    let inst = inst_alone(words)?;
+    Ok(Command::Release { inst })
+}
+
+/// Nothing behind the verb.
+fn drain(words: Words<'_>) -> Result<Command<'_>, LineError>
+    ensures ok { IfOk result (λ command. IsAskedBy (codes "drain") (words_left words.entry) command) }
+    ensures err { IfErr result (λ e. e ≡ LineError.Syntax) }
+    ensures none { OnErr result (words_left words.entry ≢ []) }
+{
+    words.end()?;
+    Ok(Command::Drain)
+}
+
+/// Nothing behind the verb.
+fn scan(words: Words<'_>) -> Result<Command<'_>, LineError>
+    ensures ok { IfOk result (λ command. IsAskedBy (codes "scan") (words_left words.entry) command) }
+    ensures err { IfErr result (λ e. e ≡ LineError.Syntax) }
+    ensures none { OnErr result (words_left words.entry ≢ []) }
+{
+    words.end()?;
+    Ok(Command::Scan)
+}
+
+/// Nothing behind the verb.
+fn report(words: Words<'_>) -> Result<Command<'_>, LineError>
+    ensures ok { IfOk result (λ command. IsAskedBy (codes "report") (words_left words.entry) command) }
+    ensures err { IfErr result (λ e. e ≡ LineError.Syntax) }
+    ensures none { OnErr result (words_left words.entry ≢ []) }
+{
+    words.end()?;
+    Ok(Command::Report)
+}
+
+/// The command that a line without its newline has, if it has one.
+///
+/// # Errors
+/// `Syntax` where the line holds a byte above 127 or has not the shape of a command; `Memory` where a growth for its numbers
+/// was refused.
+pub fn parse(alloc: Global, line: &[u8]) -> Result<Command<'_>, LineError>
+    // The line asks for what the command that is found means.
+    ensures found { IfOk result (λ command. (asked : lines.Command) × AsksCommand line.now asked
+        × Says command asked) }
+    // What the line asks for is found, or there was no memory.
+    ensures only { (asked : lines.Command) → AsksCommand line.now asked → FindsAsked result asked }
+    ensures err { IfErr result (λ e. (e ≡ LineError.Syntax) ⊎ (e ≡ LineError.Memory)) }
+{
+    let mut words = words_in(line);
+    let verb = words.next_piece()?;
+    if is_same(verb, b"module") {
+        return keep(words);
+    }
+    if is_same(verb, b"load") {
+        return load(words);
+    }
+    if is_same(verb, b"admit") {
+        return admit(alloc, words);
+    }
+    if is_same(verb, b"invoke") {
+        return invoke(alloc, words);
+    }
+    if is_same(verb, b"drain") {
+        return drain(words);
+    }
+    if is_same(verb, b"refuel") {
+        return refuel(words);
+    }
+    if is_same(verb, b"cancel") {
+        return cancel(words);
+    }
+    if is_same(verb, b"retry") {
+        return retry(words);
+    }
+    if is_same(verb, b"scan") {
+        return scan(words);
+    }
+    if is_same(verb, b"report") {
+        return report(words);
+    }
+    if is_same(verb, b"release") {
+        return release(words);
+    }
+    Err(LineError::Syntax)
+}
+
+/// Whether two words are the same.
+fn is_same(word: &[u8], other: &[u8]) -> bool
+    ensures { MatchBool result (word.now ≡ other.now) (word.now ≢ other.now) }
+{
+    word == other
+}

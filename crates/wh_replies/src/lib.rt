@@ -1,0 +1,14 @@
+//! Replies to a script as values, and the one place that writes their texts.
+#![tactic(auto)]
+
+mod call;
+mod released;
+mod reply;
+mod report;
+#[cfg(test)]
+mod tests;
+
+pub use call::{Call, Caller, Status};
+pub use released::write_released;
+pub use reply::{Place, Refusal, Reply, write_reply};
+pub use report::{write_frames, write_shared, write_slots};
