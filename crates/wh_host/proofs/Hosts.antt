@@ -4,22 +4,27 @@ use Rattle.std.proofs.lemmas.List.{get_or-set_same, get_or-set_other, set-get_or
 use Rattle.wh_host_model.specs.declared.plain.InstId.{InstId}
 use Rattle.wh_host_model.specs.declared.plain.TurnEnd.{TurnEnd}
 use Rattle.wh_host_model.specs.declared.plain.TurnEnd.TheVariants.{Idle}
-use Rattle.wh_host_model.specs.Space.Parts.{Space, Claimed, claim, view}
-use Rattle.wh_host_model.specs.Host.Spaces.{OthersLeftAlone}
+use Rattle.wh_host_model.specs.Space.Parts.{Space, Claimed, claim, empty_space, view}
+use Rattle.wh_host_model.specs.declared.Tax.{Tax}
+use Rattle.wh_host_model.specs.Space.Sound.{IsSound}
+use Rattle.wh_host_model.specs.Host.Spaces.{LeftAlone, OthersLeftAlone}
 use Rattle.wh_host_model.specs.Host.Worlds.{Params, Tenant, World, tenant, with_tenant, promised, empty_world}
 use Rattle.wh_host_model.specs.Host.Answers.{Closes, faces_next, is_dead, Turn, is_idle, has_ended, has_no_fuel, has_no_frame, can_go_on, keeps_its_fault}
 use Rattle.wh_host_model.specs.Host.Laws.{PlacesAreTenants}
-use Rattle.wh_host_model.specs.Host.Events.{Event, turn}
+use Rattle.wh_host_model.specs.Host.Calls.{Refuels, has_more, Retries, may_try}
+use Rattle.wh_host_model.specs.Host.Events.{Event, turn, epoch}
 use Rattle.wh_host_model.specs.Host.Happens.{AllHappen, Happens, IsTurn, NoInstance, of_none, of_one}
 use Rattle.wh_host_model.proofs.Host.Holding.{places_are_right}
 use Rattle.wh_host_model.proofs.Host.Opening.{apart_none, apart_steps, apart_then, proceeds_apart}
+use Rattle.wh_instance.specs.Asked.{OfAnyTenant}
 use Rattle.wh_instance.specs.Tenancy.{IsTenant}
+use Rattle.wh_space.specs.Arrivals.{IsNew}
 use Rattle.wh_space.specs.Steps.{limit_by}
 use Rattle.wh_host.specs.declared.parts.LoadedModule.{LoadedModule}
 use Rattle.wh_host.specs.declared.parts.Resident.{Resident}
 use Rattle.wh_host.specs.Lying.{LiesAt}
 use Rattle.wh_host.specs.Lent.{TurnsTo}
-use Rattle.wh_host.specs.Hosting.{HostState, IsHost, IsReached, IsResident, resident_at}
+use Rattle.wh_host.specs.Hosting.{HostState, IsHost, IsNewHost, IsReached, IsResident, resident_at}
 
 -- ---- lists
 
@@ -229,3 +234,63 @@ turned_here h w id q x y m answer s2 st at number is same turns =
 -- its module is there
 pub no_module_less : (h : HostState) (w : World) (place : ℕ) (x : Resident) → IsHost h w → resident_at h.residents place ≡ Some x → slice_get h.modules x.of ≡ None → ⊥
 no_module_less h w place x st at none = let f = found h w place x st at in absurd (let bad : None ≡ Some f.is.loaded = sym none ∙ f.is.is_loaded in cc bad)
+
+-- ---- what is asked of the present call
+
+-- it is the same instance
+pub record SameTenant (t t2 : Tenant) : Type 0 where
+  pub place : t2.place ≡ t.place
+  pub of : t2.of ≡ t.of
+  pub params : t2.params ≡ t.params
+
+pub refuel_stays : (t : Tenant) (n : ℕ) (t2 : Tenant) → Refuels t n t2 → SameTenant t t2
+refuel_stays t n t2 (has_more is_open stands) = record { place = refl; of = refl; params = refl }
+
+pub retry_stays : (t t2 : Tenant) → Retries t t2 → SameTenant t t2
+retry_stays t t2 (may_try is_open stands) = record { place = refl; of = refl; params = refl }
+
+pub asked_here : (h : HostState) (w : World) (id : InstId) (x y : Resident) (R : Tenant → Tenant → Type 0) → (st : IsHost h w) → resident_at h.residents id.place ≡ Some x → x.number ≡ id.number
+    → (y.number ≡ x.number) × (y.of ≡ x.of) × (y.page_limit ≡ x.page_limit) → ((t t2 : Tenant) → R t t2 → SameTenant t t2) → OfAnyTenant x.tenant (λ l limit bytes t. (t2 : Tenant) × R t t2 × IsTenant l limit y.tenant bytes t2)
+    → (e : Event) → ((t t2 : Tenant) → IsLive w id t → R t t2 → Happens w e (with_tenant w id.number (Some t2) w.space))
+    → (t t2 : Tenant) × IsLive w id t × R t t2 × IsHost (record h { residents = slice_set h.residents id.place (Some y) }) (with_tenant w id.number (Some t2) w.space)
+asked_here h w id x y R st at number same stays asked e happens =
+    let f = found h w id.place x st at in
+    let made = asked f.is.loaded.linked x.page_limit (view w.space f.t.place) f.t f.is.is in
+    let t2 = made.0 in
+    let alike = stays f.t t2 made.1 in
+    let live : IsLive w id f.t = (subst (λ n. tenant w n ≡ Some f.t) number f.live, f.at) in
+    let represents : IsResident h.modules y w.space x.number t2 = record {
+      number = same.0;
+      of = same.1 ∙ f.is.of ∙ sym alike.of;
+      loaded = f.is.loaded;
+      is_loaded = ap (slice_get h.modules) same.1 ∙ f.is.is_loaded;
+      limit = subst (λ z. z ≤ t2.params.max / 16) (sym same.2) (subst (λ (p : Params). x.page_limit ≤ p.max / 16) (sym alike.params) f.is.limit);
+      is = subst (λ n. IsTenant f.is.loaded.linked n y.tenant (view w.space t2.place) t2) (sym same.2) (subst (λ i. IsTenant f.is.loaded.linked x.page_limit y.tenant (view w.space i) t2) (sym alike.place) made.2);
+    } in
+    let w2 = with_tenant w id.number (Some t2) w.space in
+    let reached : IsReached (with_tenant w x.number (Some t2) w.space) = subst (λ n. IsReached (with_tenant w n (Some t2) w.space)) (sym number) (reached_on w w2 e st.reached (happens f.t t2 live made.1)) in
+    let then = changed h w id.place x y t2 w.space st at same.0 (alike.place ∙ f.at) represents (λ j other. refl) reached in
+    let in_memory = subst (λ s. IsHost (record h { residents = slice_set h.residents id.place (Some y); space = s }) (with_tenant w x.number (Some t2) w.space)) (sym st.space) then in
+    (f.t, t2, live, made.1, subst (λ n. IsHost (record h { residents = slice_set h.residents id.place (Some y) }) (with_tenant w n (Some t2) w.space)) number in_memory)
+
+-- of whoever is there it is so
+pub of_who_is_there : (h : HostState) (w : World) (id : InstId) (x : Resident) (P : Tenant → Type 0) → IsHost h w → resident_at h.residents id.place ≡ Some x → x.number ≡ id.number → OfAnyTenant x.tenant (λ l limit bytes t. P t) → (t : Tenant) × IsLive w id t × P t
+of_who_is_there h w id x P st at number asked =
+    let f = found h w id.place x st at in
+    (f.t, (subst (λ n. tenant w n ≡ Some f.t) number f.live, f.at), asked f.is.loaded.linked x.page_limit (view w.space f.t.place) f.t f.is.is)
+
+-- ---- a new host
+
+pub new_host : (h : HostState) (frames slots : ℕ) (tax : Tax) → h.modules ≡ [] → h.residents ≡ [] → h.next ≡ 0 → IsSound h.space → IsNew h.space frames slots tax → IsNewHost h frames slots tax
+new_host h frames slots tax modules residents next sound is =
+    let w : World = record { modules = []; tenants = []; space = h.space } in
+    let same : (j : ℕ) → LeftAlone j (empty_space frames slots tax) h.space = λ j. rw is.is (record { view = refl; wants = refl; claim = refl }) in
+    let st : IsHost h w = record {
+      reached = record { frames = frames; slots = slots; tax = tax; events = epoch ∷ []; happen = (w, (h.space, (same, sound), refl), refl) };
+      modules = rw modules refl;
+      space = refl;
+      next = next;
+      there = λ i t e. absurd (let bad : None ≡ Some t = e in cc bad);
+      all = λ place x e. absurd (let bad : None ≡ Some x = sym (ap (λ (xs : List (Option Resident)). resident_at xs place) residents) ∙ e in cc bad);
+    } in
+    (w, st, refl, refl, is)

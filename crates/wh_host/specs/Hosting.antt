@@ -7,6 +7,7 @@ use Rattle.wh_host_model.specs.Host.Events.{Event}
 use Rattle.wh_host_model.specs.Host.Happens.{AllHappen}
 use Rattle.wh_load.specs.Refusing.{view_linked}
 use Rattle.wh_instance.specs.Tenancy.{IsTenant}
+use Rattle.wh_space.specs.Arrivals.{IsNew}
 use Rattle.wh_host.specs.declared.parts.LoadedModule.{LoadedModule}
 use Rattle.wh_host.specs.declared.parts.Resident.{Resident}
 
@@ -54,3 +55,8 @@ pub record IsHost (h : HostState) (w : World) : Type 0 where
       → (x : Resident) × (resident_at h.residents t.place ≡ Some x) × IsResident h.modules x w.space i t
   pub all : (place : ℕ) (x : Resident) → resident_at h.residents place ≡ Some x
       → (t : Tenant) × (tenant w x.number ≡ Some t) × (t.place ≡ place)
+
+-- nothing was loaded or admitted yet
+abbrev pub IsNewHost : HostState → ℕ → ℕ → Tax → Type 0
+IsNewHost h frames slots tax =
+    (w : World) × IsHost h w × (w.modules ≡ []) × (w.tenants ≡ []) × IsNew w.space frames slots tax

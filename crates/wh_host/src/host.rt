@@ -1,16 +1,18 @@
 //! The host.
 
 ghost use Rattle.std.specs.Option.{option_copied};
-ghost use Rattle.std.specs.Prelude.{◌≡◌, slice_get};
+ghost use Rattle.std.specs.Prelude.{◌≡◌, IfErr, IfOk, slice_get};
 ghost use Rattle.wh_host_model.specs.Host.Worlds.{World};
 ghost use Rattle.wh_host_model.specs.Host.Happens.{IsTurn};
-ghost use Rattle.wh_host.specs.Hosting.{IsHost};
+ghost use Rattle.wh_host.specs.Hosting.{IsHost, IsNewHost};
 
 use crate::parts::{LoadedModule, Resident};
 use crate::turning::turn_at;
 use slab::Slab;
+use std::alloc::Global;
 use std::marker::Model;
-use wh_host_model::{InstId, TurnEnd};
+use wh_frames::FrameError;
+use wh_host_model::{InstId, Tax, TurnEnd};
 use wh_space::Memory;
 
 // The module of this number.
@@ -55,6 +57,28 @@ impl Model for Host {
 }
 
 impl Host {
+    /// A host with so many frames of 4096 bytes and so many slots, without modules and instances. Room for all frames is
+    /// reserved now.
+    ///
+    /// # Errors
+    /// `Memory` where room is refused.
+    pub fn new(alloc: Global, frames: u32, slots: u32, tax: Tax) -> Result<Host, FrameError>
+        ensures ok { IfOk result (λ host. IsNewHost host frames slots tax) }
+        ensures refused { IfErr result (λ error. error ≡ FrameError.Memory) }
+    {
+        let memory = match Memory::new(alloc, frames, slots, tax) {
+            Ok(memory) => memory,
+            Err(error) => return Err(error),
+        };
+        memory.known();
+        Ok(Host {
+            modules: Vec::new(alloc),
+            residents: Slab::new(alloc),
+            memory,
+            next: 0,
+        })
+    }
+
     /// Gives an instance a turn of q charges.
     pub fn turn(&mut self, id: InstId, q: u64) -> TurnEnd
         ensures { (w : World) → IsHost self.old w

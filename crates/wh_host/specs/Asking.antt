@@ -1,0 +1,27 @@
+-- What is asked of an instance, and what the host answers.
+use Rattle.std.specs.Prelude.{◌≡◌, ℕ, Result, Ok, Err}
+use Rattle.wh_host_model.specs.Host.Worlds.{World}
+use Rattle.wh_host_model.specs.Host.Happens.{CallAnswer, call_ok, call_no_instance, call_no_call}
+use Rattle.wh_instance.specs.Invoked.{invoke_number}
+use Rattle.wh_host.specs.declared.error.HostError.{HostError}
+use Rattle.wh_host.specs.declared.error.HostError.TheVariants.{NoInstance, Invoke, NoCall}
+use Rattle.wh_host.specs.Hosting.{HostState, IsHost}
+
+-- an error has the number by which the definitions order it
+abbrev pub host_number : HostError → ℕ
+host_number NoInstance = 1
+host_number (Invoke e) = invoke_number e
+host_number NoCall = 8
+
+-- the result is this answer to what is asked of the present call of an instance
+abbrev pub IsCallAnswer : Result Unit HostError → CallAnswer → Type 0
+IsCallAnswer (Ok done) answer = answer ≡ call_ok
+IsCallAnswer (Err NoInstance) answer = answer ≡ call_no_instance
+IsCallAnswer (Err (Invoke e)) answer = ⊥
+IsCallAnswer (Err NoCall) answer = answer ≡ call_no_call
+
+-- for whatever host it stands, this is answered so, and leaves a host for which it stands then
+abbrev pub AnswersCall : HostState → (World → CallAnswer → World → Type 0) → Result Unit HostError → HostState → Type 0
+AnswersCall h asks result h2 =
+    (w : World) → IsHost h w
+    → (answer : CallAnswer) × (w2 : World) × IsCallAnswer result answer × asks w answer w2 × IsHost h2 w2

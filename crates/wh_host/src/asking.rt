@@ -1,0 +1,54 @@
+//! What owners ask of the present calls of their instances.
+
+ghost use Rattle.std.specs.Prelude.{◌≡◌, OnErr};
+ghost use Rattle.wh_host_model.specs.Host.Happens.{IsRefuel, IsRetry};
+ghost use Rattle.wh_host.specs.Asking.{AnswersCall};
+
+use crate::error::HostError;
+use crate::host::Host;
+use wh_host_model::InstId;
+
+impl Host {
+    /// Gives the present call of an instance so much more fuel; what passes 2^64 - 1 is lost. A call that stands for fuel
+    /// can then go on, if it was given any.
+    ///
+    /// # Errors
+    /// `NoInstance`; `NoCall` where no call is open. Nothing is done then.
+    pub fn refuel(&mut self, id: InstId, fuel: u64) -> Result<(), HostError>
+        ensures asks { AnswersCall self.old (λ w answer w2. IsRefuel w id fuel answer w2)
+            result self.new }
+        ensures err { OnErr result (self.new ≡ self.old) }
+    {
+        let Some(resident) = self.residents.get_mut(id.place) else {
+            return Err(HostError::NoInstance);
+        };
+        if resident.number != id.number {
+            return Err(HostError::NoInstance);
+        }
+        if !resident.tenant.refuel(fuel) {
+            return Err(HostError::NoCall);
+        }
+        Ok(())
+    }
+
+    /// Lets the present call of an instance be tried again, if it stands for a device fault: it stands for a frame then.
+    ///
+    /// # Errors
+    /// `NoInstance`; `NoCall` where it doesn't stand for one. Nothing is done then.
+    pub fn retry(&mut self, id: InstId) -> Result<(), HostError>
+        ensures asks { AnswersCall self.old (λ w answer w2. IsRetry w id answer w2)
+            result self.new }
+        ensures err { OnErr result (self.new ≡ self.old) }
+    {
+        let Some(resident) = self.residents.get_mut(id.place) else {
+            return Err(HostError::NoInstance);
+        };
+        if resident.number != id.number {
+            return Err(HostError::NoInstance);
+        }
+        if !resident.tenant.retry() {
+            return Err(HostError::NoCall);
+        }
+        Ok(())
+    }
+}

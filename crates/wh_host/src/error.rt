@@ -1,0 +1,34 @@
+//! Why a host doesn't do what is asked of an instance.
+
+ghost use Rattle.std.specs.Prelude.{◌≡◌};
+ghost use Rattle.wh_host.specs.Asking.{host_number};
+
+use thiserror::Error;
+use wh_instance::InvokeError;
+
+/// Why a host doesn't do what is asked of an instance.
+#[derive(Clone, Copy, Debug, PartialEq, Eq, Error)]
+pub enum HostError {
+    /// No instance of this number lies at this place.
+    #[error("no such instance is there")]
+    NoInstance,
+    /// It doesn't take the call.
+    #[error("{0}")]
+    Invoke(InvokeError),
+    /// No call of it is open; or, where it is to be tried again, the present one doesn't stand for a device fault.
+    #[error("no call is there for which this can be asked")]
+    NoCall,
+}
+
+impl HostError {
+    /// The number by which replies name the fault, behind an H: 1 to 8.
+    pub fn number(self) -> u8
+        ensures { result ≡ host_number self }
+    {
+        match self {
+            HostError::NoInstance => 1,
+            HostError::Invoke(error) => error.number(),
+            HostError::NoCall => 8,
+        }
+    }
+}
