@@ -5,23 +5,26 @@ use Rattle.std.proofs.lemmas.List.{append-nil}
 use Rattle.wh_host_model.specs.Frames.{IsTaken, Pool, one_if, tally}
 use Rattle.wh_host_model.specs.declared.states.Mark.{Mark}
 use Rattle.wh_host_model.specs.Space.Breaks.{TakesFrame}
-use Rattle.wh_host_model.specs.Space.Moves.{has_pins, unpinned_of}
+use Rattle.wh_host_model.specs.Space.Moves.{Earmarks, has_pins, pinned, residents, unpinned_of}
 use Rattle.wh_host_model.specs.Space.Parts.{Pins, Space, kept, kept_by, pinned_by}
-use Rattle.wh_host_model.specs.Space.Ready.{may_take}
+use Rattle.wh_host_model.specs.Space.Ready.{may_take, pages_of_need}
+use Rattle.wh_model.specs.declared.memory.Need.{Need}
 use Rattle.wh_host_model.specs.Space.Sound.{FramesAreSound}
 use Rattle.wh_host_model.proofs.Tally.{one_same, tally-append}
 use Rattle.wh_host_model.proofs.Space.Putting.{cond_here}
+use Rattle.wh_space.specs.declared.pins.Few.{Few}
+use Rattle.wh_space.specs.declared.pins.Few.TheVariants.{Zero}
 use Rattle.wh_space.specs.declared.pins.Pinned.{Pinned}
-use Rattle.wh_space.specs.Pinning.{FrameGoes, numbers_in, pins_of}
+use Rattle.wh_space.specs.Pinning.{FrameGoes, TakesEarmark, numbers_in, pins_of}
 
 -- ---- one that is taken
 
-pub earmark_goes : (pins : Option Pinned) (p : Pinned) (i g : ℕ) (pool : Pool) (rest : List ℕ) → pins ≡ Some p → p.place ≡ i → numbers_in p.frames ≡ rest ++ g ∷ []
-    → FrameGoes i g pool (pins_of pins) pool (Some (record { place = p.place; pages = numbers_in p.pages; frames = rest }))
-earmark_goes pins p i g pool rest is place frames =
+pub earmark_goes : (pins : Option Pinned) (p : Pinned) (i g : ℕ) (rest : List ℕ) → pins ≡ Some p → p.place ≡ i → numbers_in p.frames ≡ rest ++ g ∷ []
+    → TakesEarmark i g (pins_of pins) (Some (record { place = p.place; pages = numbers_in p.pages; frames = rest }))
+earmark_goes pins p i g rest is place frames =
     let kept : kept_by (pins_of pins) i ≡ rest ++ g ∷ [] = rw (is, place) (cond_here i (numbers_in p.frames) [] ∙ frames) in
     let pages : pinned_by (pins_of pins) i ≡ numbers_in p.pages = rw (is, place) (cond_here i (numbers_in p.pages) []) in
-    inr (refl, (rest, kept, rw (place, pages) refl))
+    (rest, kept, rw (place, pages) refl)
 
 pub kept_within : (pins : Option Pins) (i f : ℕ) → tally (one_if f) (kept_by pins i) ≤ tally (one_if f) (kept pins)
 kept_within None i f = omega arith
@@ -97,6 +100,19 @@ may_end s i sound = record {
   there = λ f some. (let k = kept_within s.pins i f in (kept_taken s f sound (omega arith)).0);
 }
 
+pub record MayEndAll (s : Space) : Type 0 where
+  pub once : (f : ℕ) → tally (one_if f) s.pool.free + tally (one_if f) (kept s.pins) ≤ 1
+  pub there : (f : ℕ) → 1 ≤ tally (one_if f) (kept s.pins) → f < length s.pool.frames
+
+pub may_end_all : (s : Space) → FramesAreSound s → MayEndAll s
+may_end_all s sound = record {
+  once = λ f. elim (cases_lt f (length s.pool.frames)) [
+    | inl less ↦ (let one = sound.one f less in omega arith)
+    | inr past ↦ (let none = sound.none f past in omega arith)
+  ];
+  there = λ f some. (kept_taken s f sound some).0;
+}
+
 -- what is left is as the definition has it
 pub ends_pins : (s : Space) (i : ℕ) (pool : Pool) (pins : Option Pins) → pins ≡ cond (has_pins s.pins i) None s.pins → pool ≡ record s.pool { free = s.pool.free ++ kept_by s.pins i }
     → record s { pool = pool; pins = pins } ≡ unpinned_of s i
@@ -109,3 +125,22 @@ ends_pins s i pool pins now free = rw (now, free) (go s.pins) where
   go : (o : Option Pins) → record s { pool = record s.pool { free = s.pool.free ++ kept_by o i }; pins = cond (has_pins o i) None o } ≡ unpinned_of (record s { pins = o }) i
   go None = rw (append-nil s.pool.free) refl
   go (Some p) = by p (p.place == i)
+
+-- ---- frames that are earmarked now
+
+pub earmarks : (s : Space) (i n : ℕ) (pool : Pool) (pages frames : Few) → kept s.pins ≡ [] → numbers_in pages ≡ pinned_by s.pins i → length (numbers_in frames) ≡ n → pool.frames ≡ s.pool.frames
+    → s.pool.free ≡ pool.free ++ numbers_in frames → Earmarks s i n (record s { pool = pool; pins = pins_of (Some (record { place = i; pages = pages; frames = frames })) })
+earmarks s i n pool pages frames none pinned many bytes free =
+    let now : pool ≡ record s.pool { free = pool.free } = ap (λ (z : List (List ℕ)). record { frames = z; free = pool.free }) bytes in
+    record {
+      frames = numbers_in frames;
+      others = pool.free;
+      many = many;
+      free = free;
+      leaves = rw (none, pinned) (ap (λ (p : Pool). record s { pool = p; pins = Some (record { place = i; pages = pinned_by s.pins i; frames = numbers_in frames }) }) now);
+    }
+
+-- pages that are pinned now, and no frames
+pub pins_now : (s : Space) (i : ℕ) (need : Need) (pool : Pool) (pages : Few) → numbers_in pages ≡ residents s i (pages_of_need need) → pool ≡ record s.pool { free = s.pool.free ++ kept s.pins }
+    → record s { pool = pool; pins = pins_of (Some (record { place = i; pages = pages; frames = Zero })) } ≡ pinned s i need
+pins_now s i need pool pages are free = rw (are, free) refl

@@ -146,7 +146,7 @@ gone_guest g n same = go (g.tickets == 0) ∙ ap (λ (z : ℕ). cond (z == 0) No
   go true = refl
   go false = refl
 
-guest_here : (guests : List (Option Guest)) (i : ℕ) (t : Occupant) → slice_get (map occupant_of guests) i ≡ Some (Some t) → (g : Guest) × (slice_get guests i ≡ Some (Some g)) × (occupant g ≡ t)
+pub guest_here : (guests : List (Option Guest)) (i : ℕ) (t : Occupant) → slice_get (map occupant_of guests) i ≡ Some (Some t) → (g : Guest) × (slice_get guests i ≡ Some (Some g)) × (occupant g ≡ t)
 guest_here [] i t is = absurd (cc is)
 guest_here (None ∷ guests) zero t is = absurd (cc is)
 guest_here (Some g ∷ guests) zero t is = let e : occupant g ≡ t = cc in (g, refl, e)

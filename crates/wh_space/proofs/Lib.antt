@@ -16,3 +16,5 @@ pub mod Merges
 pub mod LeavingPages
 pub mod LeavingSlots
 pub mod LeavingMemory
+pub mod Transiting
+pub mod Moving

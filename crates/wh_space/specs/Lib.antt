@@ -8,4 +8,5 @@ pub mod Parts
 pub mod Pinning
 pub mod Slotting
 pub mod Steps
+pub mod Transits
 pub mod Views

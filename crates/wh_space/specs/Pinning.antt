@@ -15,10 +15,13 @@ abbrev pub pins_of : Option Pinned → Option Pins
 pins_of None = None
 pins_of (Some p) = Some (record { place = p.place; pages = numbers_in p.pages; frames = numbers_in p.frames })
 
--- A frame is taken for the instance at place i: a free one, or the last one that was earmarked for it.
+-- the last frame that was earmarked for the instance at place i is taken
+abbrev pub TakesEarmark : ℕ → ℕ → Option Pins → Option Pins → Type 0
+TakesEarmark i g pins pins2 =
+    (rest : List ℕ) × (kept_by pins i ≡ rest ++ g ∷ [])
+    × (pins2 ≡ Some (record { place = i; pages = pinned_by pins i; frames = rest }))
+
+-- a frame is taken for it: a free one, or the last one that was earmarked
 abbrev pub FrameGoes : ℕ → ℕ → Pool → Option Pins → Pool → Option Pins → Type 0
 FrameGoes i g pool pins pool2 pins2 =
-    (TakesFrame pool g pool2 × (pins2 ≡ pins))
-    ⊎ ((pool2 ≡ pool)
-    × ((rest : List ℕ) × (kept_by pins i ≡ rest ++ g ∷ [])
-    × (pins2 ≡ Some (record { place = i; pages = pinned_by pins i; frames = rest }))))
+    (TakesFrame pool g pool2 × (pins2 ≡ pins)) ⊎ ((pool2 ≡ pool) × TakesEarmark i g pins pins2)

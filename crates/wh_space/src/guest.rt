@@ -31,7 +31,7 @@ pub struct Guest {
     // The slot of the ticket with which a page of it leaves, void or not.
     pub leaves: Option<u32>,
     // How many tickets of it are out.
-    pub tickets: u32,
+    pub tickets: u64,
 }
 
 impl Guest {

@@ -20,7 +20,7 @@ use wh_host_model::Page;
 use wh_pages::PageTable;
 
 // Puts a page there.
-fn put_page(tables: &mut Vec<PageTable>, place: usize, number: u32, page: Page)
+pub fn put_page(tables: &mut Vec<PageTable>, place: usize, number: u32, page: Page)
     requires { number < length (get_or (pages_in tables.old.items) place []) }
     ensures pages { pages_in tables.new.items ≡ put (pages_in tables.old.items) place number page }
     ensures marks { marks_in tables.new.items ≡ marks_in tables.old.items }
