@@ -1,13 +1,23 @@
 -- An instance that comes to a place.
-use Rattle.std.proofs.Common.{◌≡◌, ◌≢◌, inl, inr, ℕ, ◌*◌, ◌≤◌, ◌++◌, cond, nat_lt, Bool, true, false, List, [], ◌∷◌, Option, Some, None, length, map, replicate, slice_get, slice_set, zero, suc, refl, sym, ◌∙◌, ap, subst, arith}
+use Rattle.std.proofs.Common.{◌≡◌, ◌≢◌, ◌⊎◌, inl, inr, ℕ, ◌*◌, ◌^◌, ◌<◌, ◌≤◌, ◌++◌, cond, nat_lt, Bool, true, false, List, [], ◌∷◌, Option, Some, None, length, get_or, map, replicate, slice_get, slice_set, zero, suc, refl, sym, ◌∙◌, ap, subst, arith, length-set, length-append}
+use Rattle.std.proofs.lemmas.Bool.{cases_lt}
+use Rattle.std.proofs.lemmas.Bool.Decides.{nat_tests}
 use Rattle.std.proofs.lemmas.List.{length-map}
+use Rattle.wh_host_model.specs.Frames.{tally}
 use Rattle.wh_pages.specs.Table.{PageTableState}
-use Rattle.wh_host_model.specs.declared.states.Page.TheVariants.{Untouched}
-use Rattle.wh_host_model.specs.Space.Parts.{Occupant, Space, occupant_at}
+use Rattle.wh_host_model.specs.declared.states.Page.{Page}
+use Rattle.wh_host_model.specs.declared.states.Page.TheVariants.{Coming, Untouched}
+use Rattle.wh_host_model.specs.declared.states.Slot.{Slot}
+use Rattle.wh_host_model.specs.declared.states.Slot.TheVariants.{Vacant, Taken, Evicting, EvictVoid, Fetching, FetchVoid}
+use Rattle.wh_host_model.specs.Space.Errands.{ticket_of}
+use Rattle.wh_host_model.specs.Space.Sound.{IsSound, IsUsed, LeavesBy}
+use Rattle.wh_host_model.specs.Space.States.{page_at}
+use Rattle.wh_host_model.proofs.Tally.{one_other}
+use Rattle.wh_host_model.specs.Space.Parts.{Occupant, Slots, Space, occupant_at}
 use Rattle.wh_host_model.specs.Space.Places.{Enters, HasRoomFor, IsFreePlace, newcomer, with_row}
 use Rattle.wh_host_model.proofs.Space.Entered.{enters_soundly, free_within}
-use Rattle.wh_host_model.proofs.Space.Putting.{here_or}
-use Rattle.wh_host_model.proofs.Space.Rows.{row_other, row_same}
+use Rattle.wh_host_model.proofs.Space.Putting.{here_or, there_of}
+use Rattle.wh_host_model.proofs.Space.Rows.{past_there, row_other, row_same}
 use Rattle.wh_space.specs.Arrivals.{claimed}
 use Rattle.wh_space.specs.declared.guest.Guest.{Guest}
 use Rattle.wh_space.specs.declared.guest.Promise.{Promise}
@@ -40,15 +50,67 @@ pub record MayEnter (s : Space) (i : ℕ) (p : Promise) (size : ℕ) : Type 0 wh
   pub fresh : (j : ℕ) (t : Occupant) → occupant_at s j t → t.number ≢ p.number
 
 abbrev pub guest_of : Promise → Guest
-guest_of p = record { number = p.number; shares = p.shares; min = p.min; max = p.max; stands = None }
+guest_of p = record { number = p.number; live = true; shares = p.shares; min = p.min; max = p.max; stands = None; leaves = None; tickets = 0 }
 
 abbrev pub table_for : Promise → ℕ → PageTableState
 table_for p size = record { pages = replicate (16 * size) Untouched; touched = replicate (16 * size) false; max = p.max }
 
+-- ---- nobody's tickets
+
+tally_zero : {X : Type 0} (w : X → ℕ) (xs : List X) → ((k : ℕ) (x : X) → slice_get xs k ≡ Some x → w x ≡ 0) → tally w xs ≡ 0
+tally_zero w [] none = refl
+tally_zero w (x ∷ xs) none = let e = none 0 x refl in let rest = tally_zero w xs (λ k y is. none (suc k) y is) in omega arith
+
+not_there : (s : Space) (i : ℕ) (t : Occupant) → IsFreePlace s i → occupant_at s i t → ⊥
+not_there s i t (inl none) is = let both : Some None ≡ Some (Some t) = sym none ∙ is in cc
+not_there s i t (inr past) is = let l = there_of s.occupants i (Some t) is in omega arith
+
+no_page : (s : Space) (i p : ℕ) (x : Page) → IsSound s → IsFreePlace s i → page_at s.tables i p ≡ Some x → ⊥
+no_page s i p x sound (inl none) is =
+    let empty : get_or s.tables i [] ≡ [] = sound.occupants.have i None none in
+    let bad : None ≡ Some x = sym (ap (λ (z : List Page). slice_get z p) empty) ∙ is in
+    cc
+no_page s i p x sound (inr past) is =
+    let empty : get_or s.tables i [] ≡ [] = past_there s.tables i (let l = sound.occupants.tables in omega arith) in
+    let bad : None ≡ Some x = sym (ap (λ (z : List Page). slice_get z p) empty) ∙ is in
+    cc
+
+no_ticket : (s : Space) (i k : ℕ) (x : Slot) → IsSound s → IsFreePlace s i → slice_get s.slots.uses k ≡ Some x → ticket_of i x ≡ 0
+no_ticket s i k Vacant sound free is = refl
+no_ticket s i k Taken sound free is = refl
+no_ticket s i k (Evicting j p) sound free is = one_other i j (λ same.
+    (let t = sound.slots.by_one i k (subst (LeavesBy i) (sym is) (sym same)) in not_there s i t.0 free t.1))
+no_ticket s i k (EvictVoid j) sound free is = one_other i j (λ same.
+    (let t = sound.slots.by_one i k (subst (LeavesBy i) (sym is) (sym same)) in not_there s i t.0 free t.1))
+no_ticket s i k (Fetching j p f) sound free is = one_other i j (λ same.
+    (let used : IsUsed s k (Some (Fetching j p f)) = subst (IsUsed s k) is (sound.slots.used k) in
+    no_page s i p (Coming k) sound free (rw same used.3)))
+no_ticket s i k (FetchVoid j f) sound free is = one_other i j (λ same.
+    (let t = sound.slots.voids j k f is in not_there s i t.0 free (rw same t.1)))
+
+no_tickets : (s : Space) (i : ℕ) → IsSound s → IsFreePlace s i → tally (ticket_of i) s.slots.uses ≡ 0
+no_tickets s i sound free = tally_zero (ticket_of i) s.slots.uses (λ k x is. no_ticket s i k x sound free is)
+
+-- ---- who is there then
+
+row_few : {X : Type 0} (xs : List X) (i : ℕ) (x : X) (n : ℕ) → length xs ≤ n → i < n → i ≤ length xs → length (with_row xs i x) ≤ n
+row_few xs i x n few less within = elim (cases_lt i (length xs)) [
+  | inl here ↦ (let e : with_row xs i x ≡ slice_set xs i x = grind (arith, nat_tests) in let l = length-set xs i x in rw e (omega arith))
+  | inr behind ↦ (let e : with_row xs i x ≡ xs ++ x ∷ [] = grind (arith, nat_tests) in let l = length-append xs (x ∷ []) in rw e (omega arith))
+]
+
+-- the one who came, or one who was there
+now_there : (xs : List (Option Guest)) (i j : ℕ) (p : Promise) (t : Guest) → i ≤ length xs → slice_get (with_row xs i (Some (guest_of p))) j ≡ Some (Some t)
+    → ((j ≡ i) × (guest_of p ≡ t)) ⊎ ((j ≢ i) × (slice_get xs j ≡ Some (Some t)))
+now_there xs i j p t there is = elim (here_or i j) [
+  | inr other ↦ inr (λ e. other e, sym (row_other xs i j (Some (guest_of p)) there (λ e. other e)) ∙ is)
+  | inl same ↦ inl (same, (let both : Some (Some (guest_of p)) ≡ Some (Some t) = sym (row_same xs i (Some (guest_of p)) there) ∙ subst (λ (z : ℕ). slice_get (with_row xs i (Some (guest_of p))) z ≡ Some (Some t)) same is in cc))
+]
+
 pub entered : (a b : Inside) (i : ℕ) (p : Promise) (size : ℕ) → IsWell a → MayEnter (space_of a) i p size → b.guests.items ≡ with_row a.guests.items i (Some (guest_of p))
-    → b.tables.items ≡ with_row a.tables.items i (table_for p size) → b.pool ≡ a.pool → b.content ≡ a.content → b.slots ≡ a.slots → b.tax ≡ a.tax
+    → b.tables.items ≡ with_row a.tables.items i (table_for p size) → b.pool ≡ a.pool → b.content ≡ a.content → b.slots ≡ a.slots → b.pins ≡ a.pins → b.tax ≡ a.tax → i < 2 ^ 32
     → Enters (space_of a) i (claimed p) size (space_of b) × IsWell b
-entered a b i p size was may guests tables pool content slots tax =
+entered a b i p size was may guests tables pool content slots pins tax place =
     let s : Space = space_of a in
     let occupants : (space_of b).occupants ≡ with_row s.occupants i (Some (newcomer (claimed p))) = ap (map occupant_of) guests ∙ map_row occupant_of a.guests.items i (Some (guest_of p)) in
     let pages : (space_of b).tables ≡ with_row s.tables i (replicate (16 * size) Untouched) = ap pages_in tables ∙ map_row (λ t. t.pages) a.tables.items i (table_for p size) in
@@ -60,7 +122,7 @@ entered a b i p size was may guests tables pool content slots tax =
       bounds = may.bounds;
       fits = may.fits;
       fresh = may.fresh;
-      leaves = rw (occupants, pages, marks, pool, content, slots, tax) refl;
+      leaves = rw (occupants, pages, marks, pool, content, slots, pins, tax) refl;
     } in (
       enters,
       record {
@@ -75,14 +137,27 @@ entered a b i p size was may guests tables pool content slots tax =
             let within : i ≤ length (limits_in a.tables.items) = omega arith in
             let now : limits_in b.tables.items ≡ with_row (limits_in a.tables.items) i p.max = ap limits_in tables ∙ map_row (λ t. t.max) a.tables.items i (table_for p size) in
             let is2 : slice_get (with_row a.guests.items i (Some (guest_of p))) j ≡ Some (Some t) = ap (λ (z : List (Option Guest)). slice_get z j) (sym guests) ∙ is in
-            elim (here_or i j) [
-              | inr other ↦
-                  ap (λ (z : List ℕ). slice_get z j) now ∙ (row_other (limits_in a.tables.items) i j p.max within (λ e. other e)
-                  ∙ was.limits j t (sym (row_other a.guests.items i j (Some (guest_of p)) there (λ e. other e)) ∙ is2))
-              | inl same ↦
-                  (let both : Some (Some (guest_of p)) ≡ Some (Some t) = sym (row_same a.guests.items i (Some (guest_of p)) there) ∙ subst (λ (z : ℕ). slice_get (with_row a.guests.items i (Some (guest_of p))) z ≡ Some (Some t)) same is2 in
-                  let one : guest_of p ≡ t = cc in
-                  ap (λ (z : List ℕ). slice_get z j) now ∙ (ap (λ (z : ℕ). slice_get (with_row (limits_in a.tables.items) i p.max) z) same ∙ (row_same (limits_in a.tables.items) i p.max within ∙ ap (λ (g : Guest). Some g.max) one)))
+            elim (now_there a.guests.items i j p t there is2) [
+              | inr (other, before) ↦ ap (λ (z : List ℕ). slice_get z j) now ∙ (row_other (limits_in a.tables.items) i j p.max within (λ e. other e) ∙ was.limits j t before)
+              | inl (same, one) ↦
+                  ap (λ (z : List ℕ). slice_get z j) now ∙ (ap (λ (z : ℕ). slice_get (with_row (limits_in a.tables.items) i p.max) z) same ∙ (row_same (limits_in a.tables.items) i p.max within ∙ ap (λ (g : Guest). Some g.max) one))
             ]);
+        counted = λ j t is.
+            (let most = free_within s i may.free in
+            let l = length-map a.guests.items occupant_of in
+            let there : i ≤ length a.guests.items = omega arith in
+            let is2 : slice_get (with_row a.guests.items i (Some (guest_of p))) j ≡ Some (Some t) = ap (λ (z : List (Option Guest)). slice_get z j) (sym guests) ∙ is in
+            let same_slots : tally (ticket_of j) b.slots.uses ≡ tally (ticket_of j) a.slots.uses = ap (λ (z : Slots). tally (ticket_of j) z.uses) slots in
+            elim (now_there a.guests.items i j p t there is2) [
+              | inr (other, before) ↦ was.counted j t before ∙ sym same_slots
+              | inl (same, one) ↦
+                  (let none = no_tickets s i was.sound may.free in
+                  let zero_now : t.tickets ≡ 0 = ap (λ (g : Guest). g.tickets) (sym one) in
+                  zero_now ∙ sym (same_slots ∙ (rw same none)))
+            ]);
+        places =
+            (let most = free_within s i may.free in
+            let l = length-map a.guests.items occupant_of in
+            rw guests (row_few a.guests.items i (Some (guest_of p)) (2 ^ 32) was.places place (omega arith)));
       },
     )

@@ -1,5 +1,5 @@
 -- How long tables are, and may be.
-use Rattle.std.proofs.Common.{◌≡◌, ℕ, ◌+◌, ◌*◌, ◌/◌, ◌≤◌, ◌⊎◌, inl, inr, List, [], ◌∷◌, Option, Some, None, true, length, get_or, slice_get, map, zero, suc, refl, sym, ◌∙◌, ap, arith}
+use Rattle.std.proofs.Common.{◌≡◌, ℕ, ◌+◌, ◌*◌, ◌/◌, ◌≤◌, ◌⊎◌, inl, inr, List, [], ◌∷◌, Option, Some, None, Bool, true, false, length, get_or, slice_get, map, zero, suc, refl, sym, ◌∙◌, ap, arith}
 use Rattle.std.proofs.lemmas.Bool.{cases_lt}
 use Rattle.wh_host_model.specs.Space.Parts.{Occupant, Space, claim_of}
 use Rattle.wh_host_model.specs.Space.Sound.{HasTable, IsSound}
@@ -17,7 +17,7 @@ use Rattle.wh_space.proofs.Wellness.{well}
 
 -- the occupant who a guest stands for
 abbrev pub occupant : Guest → Occupant
-occupant t = record { number = t.number; live = true; shares = t.shares; min = t.min; max = t.max; stands = t.stands; leaves = None }
+occupant t = record { number = t.number; live = t.live; shares = t.shares; min = t.min; max = t.max; stands = t.stands; leaves = t.leaves }
 
 -- somebody is there, or nobody
 pub record IsThere (guests : List (Option Guest)) (i : ℕ) : Type 0 where
@@ -56,8 +56,24 @@ none_there s i sound none =
       | inr past ↦ (let l = sound.occupants.tables in past_there s.tables i (omega arith))
     ]
 
-pub limit_at : (a : Inside) (i : ℕ) (here : IsThere a.guests.items i) → page_limit (space_of a) i ≡ here.guest.max / 16
-limit_at a i here = ap (λ (o : Option Occupant). limit_by (claim_of o)) (get_or_is (map occupant_of a.guests.items) i (Some (occupant here.guest)) None here.occupies)
+claim_live : (t : Occupant) → t.live ≡ true → limit_by (claim_of (Some t)) ≡ t.max / 16
+claim_live t live = rw live refl
+
+claim_gone : (t : Occupant) → t.live ≡ false → limit_by (claim_of (Some t)) ≡ 0
+claim_gone t gone = rw gone refl
+
+pub limit_at : (a : Inside) (i : ℕ) (here : IsThere a.guests.items i) → here.guest.live ≡ true → page_limit (space_of a) i ≡ here.guest.max / 16
+limit_at a i here live =
+    ap (λ (o : Option Occupant). limit_by (claim_of o)) (get_or_is (map occupant_of a.guests.items) i (Some (occupant here.guest)) None here.occupies) ∙ claim_live (occupant here.guest) live
+
+pub limit_gone : (a : Inside) (i : ℕ) (here : IsThere a.guests.items i) → here.guest.live ≡ false → page_limit (space_of a) i ≡ 0
+limit_gone a i here gone =
+    ap (λ (o : Option Occupant). limit_by (claim_of o)) (get_or_is (map occupant_of a.guests.items) i (Some (occupant here.guest)) None here.occupies) ∙ claim_gone (occupant here.guest) gone
+
+-- it lives there, or it was released
+lives_or : (b : Bool) → (b ≡ true) ⊎ (b ≡ false)
+lives_or true = inl refl
+lives_or false = inr refl
 
 pub limit_nowhere : (a : Inside) (i : ℕ) → get_or (map occupant_of a.guests.items) i None ≡ None → page_limit (space_of a) i ≡ 0
 limit_nowhere a i none = ap (λ (o : Option Occupant). limit_by (claim_of o)) none
@@ -68,31 +84,41 @@ size_within a i n sound long =
       | inl here ↦
           (let has = sound.occupants.have i (Some (occupant here.guest)) here.occupies in
           let most = has.2 in
-          let limit = limit_at a i here in
-          omega arith)
+          elim (lives_or here.guest.live) [
+            | inl live ↦ (let limit = limit_at a i here live in omega arith)
+            | inr gone ↦ (let empty = ap length (has.3 gone) in omega arith)
+          ])
       | inr none ↦ (let empty = ap length (none_there (space_of a) i sound none) in omega arith)
     ]
 
--- who may grow is there
-pub grower : (a : Inside) (i : ℕ) → 1 ≤ page_limit (space_of a) i → IsThere a.guests.items i
-grower a i some = elim (somebody a.guests.items i) [ inl here ↦ here | inr none ↦ absurd (let z = limit_nowhere a i none in omega arith) ]
+-- who may grow is there, and lives
+pub grower : (a : Inside) (i : ℕ) → 1 ≤ page_limit (space_of a) i → (here : IsThere a.guests.items i) × (here.guest.live ≡ true)
+grower a i some = elim (somebody a.guests.items i) [
+  | inl here ↦ elim (lives_or here.guest.live) [
+    | inl live ↦ (here, live)
+    | inr gone ↦ absurd (let z = limit_gone a i here gone in omega arith)
+  ]
+  | inr none ↦ absurd (let z = limit_nowhere a i none in omega arith)
+]
 
 -- ---- what it grew to
 
-pub grew_well : (a b : Inside) (i n : ℕ) (here : IsThere a.guests.items i) → IsWell a → b.guests ≡ a.guests → limits_in b.tables.items ≡ limits_in a.tables.items → Grew (space_of a) i n (space_of b)
+pub grew_well : (a b : Inside) (i n : ℕ) (here : IsThere a.guests.items i) → here.guest.live ≡ true → IsWell a → b.guests ≡ a.guests → limits_in b.tables.items ≡ limits_in a.tables.items → b.slots ≡ a.slots → Grew (space_of a) i n (space_of b)
     → length (get_or (pages_in a.tables.items) i []) + 16 * n ≤ here.guest.max → IsWell b
-grew_well a b i n here was guests limits grew fits = well a b was guests limits (grows_soundly (space_of a) i n (occupant here.guest) (space_of b) was.sound here.occupies refl fits grew)
+grew_well a b i n here live was guests limits slots grew fits = well a b was guests limits slots (grows_soundly (space_of a) i n (occupant here.guest) (space_of b) was.sound here.occupies live fits grew)
 
 -- there is somebody, and room for so many pages more
 pub record CanGrow (a : Inside) (i n : ℕ) : Type 0 where
   pub here : IsThere a.guests.items i
+  pub live : here.guest.live ≡ true
   pub room : length (get_or (pages_in a.tables.items) i []) + 16 * n ≤ here.guest.max
   pub few : 16 * n ≤ 65536
 
 pub can_grow : (a : Inside) (i before n : ℕ) → IsWell a → length (get_or (pages_in a.tables.items) i []) ≡ 16 * before → 1 ≤ n → before + n ≤ page_limit (space_of a) i → CanGrow a i n
 can_grow a i before n was long some fits =
-    let here = grower a i (omega arith) in
-    let limit = limit_at a i here in
+    let found = grower a i (omega arith) in
+    let here = found.0 in
+    let limit = limit_at a i here found.1 in
     let has = was.sound.occupants.have i (Some (occupant here.guest)) here.occupies in
     let most = has.4 in
-    record { here = here; room = omega arith; few = omega arith }
+    record { here = here; live = found.1; room = omega arith; few = omega arith }

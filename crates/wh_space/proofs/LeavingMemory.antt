@@ -1,52 +1,39 @@
 -- An instance that goes: what the memory is then.
-use Rattle.std.proofs.Common.{◌≡◌, ◌≢◌, inl, inr, ℕ, ◌+◌, ◌<◌, ◌≤◌, cond, nat_lt, List, [], ◌∷◌, Option, Some, None, true, length, get_or, map, replicate, slice_get, slice_set, zero, suc, refl, sym, ◌∙◌, ap, subst, arith}
+use Rattle.std.proofs.Common.{◌≡◌, ◌≢◌, ◌==◌, ◌&&◌, inl, inr, ℕ, ◌+◌, ◌<◌, ◌≤◌, cond, nat_lt, Bool, List, [], ◌∷◌, Option, Some, None, true, false, length, length-set, get_or, map, slice_get, slice_set, zero, suc, refl, sym, ◌∙◌, ap, subst, arith}
 use Rattle.std.proofs.lemmas.Bool.Decides.{nat_tests}
 use Rattle.std.proofs.lemmas.List.{get_or-set_other, length-map, map-set}
 use Rattle.wh_pages.specs.Table.{PageTableState}
-use Rattle.wh_host_model.specs.Frames.{one_if, tally}
+use Rattle.wh_host_model.specs.Frames.{Pool, one_if, tally}
 use Rattle.wh_host_model.specs.declared.states.Mark.{Mark}
 use Rattle.wh_host_model.specs.declared.states.Mark.TheVariants.{Plain, Hint, Sharers}
 use Rattle.wh_host_model.specs.declared.states.Page.{Page}
-use Rattle.wh_host_model.specs.declared.states.Slot.{Slot}
-use Rattle.wh_host_model.specs.declared.states.Slot.TheVariants.{Vacant}
 use Rattle.wh_host_model.specs.Space.Errands.{ticket_of}
-use Rattle.wh_host_model.specs.Space.Parts.{Occupant, Space, has_number, occupant_at, sharers}
+use Rattle.wh_host_model.specs.Space.Parts.{Occupant, Pins, Space, has_number, occupant_at, sharers}
+use Rattle.wh_host_model.specs.Space.Moves.{has_pins, unpinned, unpinned_of}
+use Rattle.wh_host_model.specs.Space.Tickets.{stays_occupant}
 use Rattle.wh_host_model.specs.Space.Places.{Exits, freed_by, released_mark}
-use Rattle.wh_host_model.specs.Space.Sound.{IsSound, IsUsed, Names}
-use Rattle.wh_host_model.specs.Space.States.{count, count_of, lies_in, owns, page_at, shares}
+use Rattle.wh_host_model.specs.Space.Sound.{IsSound, Names}
+use Rattle.wh_host_model.specs.Space.States.{count, count_of, owns, page_at, shares}
 use Rattle.wh_host_model.proofs.Space.Exited.{exits_soundly}
-use Rattle.wh_host_model.proofs.Space.Putting.{cond_here, cond_other, get_pages, here_or, set_other, set_same, there_of}
+use Rattle.wh_host_model.proofs.Space.Putting.{cond_here, cond_other, get_or_is, get_pages, here_or, set_other, set_same, there_of}
 use Rattle.wh_host_model.proofs.Space.Reading.{owned_taken}
+use Rattle.wh_host_model.proofs.Space.Reserved.{is_sound_unpinned}
+use Rattle.wh_host_model.proofs.Space.Rooms.{get_there}
 use Rattle.wh_host_model.proofs.Space.Rows.{rows_sum}
 use Rattle.wh_host_model.proofs.Space.Sums.{get_tally}
 use Rattle.wh_space.specs.declared.guest.Guest.{Guest}
 use Rattle.wh_space.specs.declared.memory.Memory.TheInside.{Inside}
-use Rattle.wh_space.specs.Leaving.{Holdings, pages_gone}
+use Rattle.wh_space.specs.Guests.{guest_gone}
+use Rattle.wh_space.specs.Leaving.{CanAllGo, Holdings, pages_gone}
+use Rattle.wh_space.specs.Pinning.{pins_of}
+use Rattle.wh_space.specs.Slotting.{leaver_of, slots_gone, voids_slot}
 use Rattle.wh_space.specs.Pages.{limits_in, marks_in, pages_in}
 use Rattle.wh_space.specs.Parts.{IsWell, occupant_of, space_of}
 use Rattle.wh_space.proofs.LeavingPages.{AllGo, all_go, mark_after}
 use Rattle.wh_space.proofs.Owning.{page_there}
-use Rattle.wh_space.proofs.Stood.{live}
-
--- ---- slots that are all vacant
-
-vacant_there : (n k : ℕ) (x : Slot) → slice_get (replicate n Vacant) k ≡ Some x → x ≡ Vacant
-vacant_there zero k x is = absurd (cc is)
-vacant_there (suc n) zero x is = let e : Vacant ≡ x = cc in sym e
-vacant_there (suc n) (suc k) x is = vacant_there n k x is
-
-no_ticket : (i n : ℕ) → tally (ticket_of i) (replicate n Vacant) ≡ 0
-no_ticket i zero = refl
-no_ticket i (suc n) = let e = no_ticket i n in omega arith
-
-none_lies : (s : Space) (n k : ℕ) (uses : List Slot) → uses ≡ replicate n Vacant → IsUsed s k (slice_get uses k) → count (lies_in k) s.tables ≡ 0
-none_lies s n k uses is used = go (slice_get uses k) refl used where
-  go : (o : Option Slot) → slice_get uses k ≡ o → IsUsed s k o → count (lies_in k) s.tables ≡ 0
-  go None e used = used.0
-  go (Some x) e used =
-      let here : slice_get (replicate n Vacant) k ≡ Some x = ap (λ (z : List Slot). slice_get z k) (sym is) ∙ e in
-      let vacant : IsUsed s k (Some Vacant) = subst (λ z. IsUsed s k (Some z)) (vacant_there n k x here) used in
-      vacant.0
+use Rattle.wh_space.proofs.Growing.{occupant}
+use Rattle.wh_space.proofs.LeavingSlots.{AllLeave, HaveGone, all_leave, have_gone, same_tickets}
+use Rattle.wh_space.proofs.Voids.{leaver_is}
 
 -- ---- the pages of one instance are some of all
 
@@ -108,73 +95,152 @@ has_gone s i sound less =
           go.left.marks f m at ∙ ap Some (rw (o, e) (mark_is s i f m sound less (subst (Names s f) at (sound.frames.names f)))));
     }
 
--- the instance is there, with a table
+-- pins and earmarks that end leave these as they were
+record EndsPins (s u : Space) : Type 0 where
+  pub sound : IsSound u
+  pub tables : u.tables ≡ s.tables
+  pub frames : u.pool.frames ≡ s.pool.frames
+  pub marks : u.marks ≡ s.marks
+
+ends : (s : Space) (i : ℕ) → IsSound s → EndsPins s (unpinned_of s i)
+ends s i sound = go (has_pins s.pins i) where
+  go : (b : Bool) → EndsPins s (cond b (unpinned s) s)
+  go true = record { sound = is_sound_unpinned s sound; tables = refl; frames = refl; marks = refl }
+  go false = record { sound = sound; tables = refl; frames = refl; marks = refl }
+
+-- the instance is there, with a table, and lives
 pub record IsHere (a : Inside) (i : ℕ) : Type 0 where
   pub occupant : Occupant
   pub there : occupant_at (space_of a) i occupant
+  pub live : occupant.live ≡ true
   pub place : i < length a.guests.items
   pub table : i < length a.tables.items
   pub row : i < length (pages_in a.tables.items)
 
-pub is_here : (a : Inside) (i : ℕ) (s : Space) → space_of a ≡ s → IsSound (space_of a) → (t : Occupant) × occupant_at s i t → IsHere a i
+pub is_here : (a : Inside) (i : ℕ) (s : Space) → space_of a ≡ s → IsSound (space_of a) → (t : Occupant) × occupant_at s i t × (t.live ≡ true) → IsHere a i
 is_here a i s is sound somebody =
     let there : occupant_at (space_of a) i somebody.0 = ap (λ (z : Space). slice_get z.occupants i) is ∙ somebody.1 in
     let within = there_of (map occupant_of a.guests.items) i (Some somebody.0) there in
     let guests = length-map a.guests.items occupant_of in
     let tables = length-map a.tables.items (λ (z : PageTableState). z.pages) in
     let same = sound.occupants.tables in
-    record { occupant = somebody.0; there = there; place = omega arith; table = omega arith; row = omega arith }
+    record { occupant = somebody.0; there = there; live = somebody.2; place = omega arith; table = omega arith; row = omega arith }
+
+-- what is asked of the pages, when pins and earmarks have ended
+pub pages_can : (a : Inside) (i : ℕ) (pool : Pool) (pins : Option Pins) → IsSound (space_of a) → IsHere a i → record (space_of a) { pool = pool; pins = pins } ≡ unpinned_of (space_of a) i
+    → CanAllGo (get_or (pages_in a.tables.items) i []) (record { pool = pool; marks = a.content })
+pages_can a i pool pins sound here is =
+    let s : Space = space_of a in
+    let u : Space = record s { pool = pool; pins = pins } in
+    let ended : IsSound u = subst IsSound (sym is) (ends s i sound).sound in
+    (all_can u i ended here.row).can
+
+pub slots_can : (a : Inside) (i : ℕ) → IsSound (space_of a) → IsHere a i → AllLeave (space_of a) (get_or (pages_in a.tables.items) i []) a.slots
+slots_can a i sound here = all_leave (space_of a) (get_or (pages_in a.tables.items) i []) sound.slots (λ w. row_within w (pages_in a.tables.items) i here.row)
+
+-- ---- who is there then
+
+gone_guest : (g : Guest) (n : ℕ) → g.tickets ≡ n → occupant_of (guest_gone (Some g)) ≡ stays_occupant (Some (record (occupant g) { live = false; stands = None })) n
+gone_guest g n same = go (g.tickets == 0) ∙ ap (λ (z : ℕ). cond (z == 0) None (Some (record (occupant g) { live = false; stands = None }))) same where
+  go : (b : Bool) → occupant_of (cond b None (Some (record g { live = false; stands = None }))) ≡ cond b None (Some (record (occupant g) { live = false; stands = None }))
+  go true = refl
+  go false = refl
+
+pub guest_here : (guests : List (Option Guest)) (i : ℕ) (t : Occupant) → slice_get (map occupant_of guests) i ≡ Some (Some t) → (g : Guest) × (slice_get guests i ≡ Some (Some g)) × (occupant g ≡ t)
+guest_here [] i t is = absurd (cc is)
+guest_here (None ∷ guests) zero t is = absurd (cc is)
+guest_here (Some g ∷ guests) zero t is = let e : occupant g ≡ t = cc in (g, refl, e)
+guest_here (x ∷ guests) (suc i) t is = guest_here guests i t is
+
+-- who keeps the place had it, with the same maximum and as many tickets
+keeps_place : (x : Option Guest) (t : Guest) → guest_gone x ≡ Some t → (g : Guest) × (x ≡ Some g) × (g.max ≡ t.max) × (g.tickets ≡ t.tickets)
+keeps_place None t is = absurd (cc is)
+keeps_place (Some g) t is = go (g.tickets == 0) is where
+  go : (b : Bool) → cond b None (Some (record g { live = false; stands = None })) ≡ Some t → (h : Guest) × (Some g ≡ Some h) × (h.max ≡ t.max) × (h.tickets ≡ t.tickets)
+  go true is = absurd (cc is)
+  go false is = let e : record g { live = false; stands = None } ≡ t = cc in (g, refl, ap (λ (z : Guest). z.max) e, ap (λ (z : Guest). z.tickets) e)
 
 -- who is there now was there
-stays_there : (xs : List (Option Guest)) (i j : ℕ) (t : Guest) → i < length xs → slice_get (slice_set xs i None) j ≡ Some (Some t) → slice_get xs j ≡ Some (Some t)
+stays_there : (xs : List (Option Guest)) (i j : ℕ) (t : Guest) → i < length xs → slice_get (slice_set xs i (guest_gone (get_or xs i None))) j ≡ Some (Some t)
+    → (g : Guest) × (slice_get xs j ≡ Some (Some g)) × (g.max ≡ t.max) × (g.tickets ≡ t.tickets)
 stays_there xs i j t less is = elim (here_or i j) [
-  | inr other ↦ sym (set_other xs i j None (λ e. other e)) ∙ is
-  | inl same ↦ absurd (let both : Some None ≡ Some (Some t) = sym (set_same xs i None less) ∙ subst (λ z. slice_get (slice_set xs i None) z ≡ Some (Some t)) same is in cc)
+  | inr other ↦ (t, sym (set_other xs i j _ (λ e. other e)) ∙ is, refl, refl)
+  | inl same ↦
+      (let both : Some (guest_gone (get_or xs i None)) ≡ Some (Some t) = sym (set_same xs i (guest_gone (get_or xs i None)) less) ∙ subst (λ z. slice_get (slice_set xs i (guest_gone (get_or xs i None))) z ≡ Some (Some t)) same is in
+      let one : guest_gone (get_or xs i None) ≡ Some t = cc in
+      let k = keeps_place (get_or xs i None) t one in
+      let there = get_there xs i less in
+      let found : slice_get xs i ≡ Some (Some k.0) = there.1 ∙ ap Some (sym (get_or_is xs i there.0 None there.1) ∙ k.1) in
+      (k.0, subst (λ z. slice_get xs z ≡ Some (Some k.0)) (sym same) found, k.2, k.3))
 ]
 
--- an instance was there, and its place is free
+-- an instance was there, and has gone
 pub record IsGone (a b : Inside) (i : ℕ) : Type 0 where
   pub exits : Exits (space_of a) i (space_of b)
   pub well : IsWell b
 
-pub is_gone : (a b : Inside) (i : ℕ) → IsWell a → IsHere a i → b.guests.items ≡ slice_set a.guests.items i None
+pub is_gone : (a b : Inside) (i : ℕ) (pool : Pool) → IsWell a → IsHere a i → b.guests.items ≡ slice_set a.guests.items i (guest_gone (get_or a.guests.items i None))
     → pages_in b.tables.items ≡ slice_set (pages_in a.tables.items) i [] → marks_in b.tables.items ≡ slice_set (marks_in a.tables.items) i [] → limits_in b.tables.items ≡ limits_in a.tables.items
-    → record { pool = b.pool; marks = b.content } ≡ pages_gone (get_or (pages_in a.tables.items) i []) (record { pool = a.pool; marks = a.content }) → b.slots ≡ a.slots → b.tax ≡ a.tax → IsGone a b i
-is_gone a b i was here guests pages marks limits frames slots tax =
+    → record (space_of a) { pool = pool; pins = pins_of b.pins } ≡ unpinned_of (space_of a) i
+    → record { pool = b.pool; marks = b.content } ≡ pages_gone (get_or (pages_in a.tables.items) i []) (record { pool = pool; marks = a.content })
+    → b.slots ≡ voids_slot (leaver_of (get_or a.guests.items i None)) (slots_gone (get_or (pages_in a.tables.items) i []) a.slots) → b.tax ≡ a.tax → IsGone a b i
+is_gone a b i pool was here guests pages marks limits ended frames slots tax =
     let s : Space = space_of a in
-    let gone : HasGone s i (record { pool = b.pool; marks = b.content }) = subst (HasGone s i) (sym frames) (has_gone s i was.sound here.row) in
+    let u : Space = record s { pool = pool; pins = pins_of b.pins } in
+    let sound : IsSound u = subst IsSound (sym ended) (ends s i was.sound).sound in
+    let gone : HasGone u i (record { pool = b.pool; marks = b.content }) = subst (HasGone u i) (sym frames) (has_gone u i sound here.row) in
+    let free_then : (f : ℕ) → tally (one_if f) (unpinned_of s i).pool.free ≡ tally (one_if f) pool.free = λ f. ap (λ (z : Space). tally (one_if f) z.pool.free) (sym ended) in
+    let bytes_then : pool.frames ≡ s.pool.frames = ap (λ (z : Space). z.pool.frames) ended ∙ (ends s i was.sound).frames in
+    let t : Occupant = here.occupant in
+    let leaves = leaver_is a.guests.items i t here.there in
+    let left : HaveGone s i b.slots = subst (HaveGone s i) (sym (slots ∙ ap (λ (o : Option ℕ). voids_slot o (slots_gone (get_or s.tables i []) a.slots)) leaves)) (have_gone s i t was.sound.slots here.row here.there (slots_can a i was.sound here)) in
+    let guest = guest_here a.guests.items i t here.there in
+    let counted = was.counted i guest.0 guest.1 in
+    let now : occupant_of (guest_gone (get_or a.guests.items i None)) ≡ stays_occupant (Some (record t { live = false; stands = None })) (tally (ticket_of i) a.slots.uses) =
+    ap (λ (o : Option Guest). occupant_of (guest_gone o)) (get_or_is a.guests.items i (Some guest.0) None guest.1)
+    ∙ (gone_guest guest.0 (tally (ticket_of i) a.slots.uses) counted ∙ ap (λ (z : Occupant). stays_occupant (Some (record z { live = false; stands = None })) (tally (ticket_of i) a.slots.uses)) guest.2) in
     let exits : Exits s i (space_of b) = record {
-      occupant = here.occupant;
-      was = (here.there, live a.guests.items i here.occupant here.there);
+      occupant = t;
+      was = (here.there, here.live);
       tables = pages;
       touched = marks;
-      bytes = gone.bytes;
-      free = gone.free;
+      bytes = gone.bytes ∙ bytes_then;
+      free = λ f. (let e = free_then f in rw e (gone.free f));
       entries = gone.entries;
       marks = gone.marks;
-      held = rw slots refl;
-      slots = rw slots refl;
-      vacant = λ k.
-          (let lies = none_lies s a.slots k s.slots.uses refl (was.sound.slots.used k) in
-          let none = row_within (lies_in k) s.tables i here.row in
-          rw slots (omega arith));
-      uses = λ k x at. (let e = vacant_there a.slots k x at in rw (slots, e) (at ∙ ap Some e));
-      occupants = ap (map occupant_of) guests ∙ (map-set occupant_of a.guests.items i None ∙ (let e = no_ticket i a.slots in rw e refl));
-      pins = refl;
+      held = left.held;
+      slots = left.many;
+      vacant = left.vacant;
+      uses = left.uses;
+      occupants = ap (map occupant_of) guests ∙ (map-set occupant_of a.guests.items i (guest_gone (get_or a.guests.items i None)) ∙ ap (slice_set s.occupants i) now);
+      pins = ap (λ (z : Space). z.pins) ended;
       tax = tax;
     } in
+    let before : (j : ℕ) (g : Guest) → slice_get b.guests.items j ≡ Some (Some g) → (h : Guest) × (slice_get a.guests.items j ≡ Some (Some h)) × (h.max ≡ g.max) × (h.tickets ≡ g.tickets) =
+    λ j g at. stays_there a.guests.items i j g here.place (ap (λ (z : List (Option Guest)). slice_get z j) (sym guests) ∙ at) in
     record {
       exits = exits;
       well = record {
         sound = exits_soundly s i (space_of b) was.sound exits;
-        limits = λ j g at. ap (λ (z : List ℕ). slice_get z j) limits ∙ was.limits j g (stays_there a.guests.items i j g here.place (ap (λ (z : List (Option Guest)). slice_get z j) (sym guests) ∙ at));
+        limits = λ j g at. (let k = before j g at in ap (λ (z : List ℕ). slice_get z j) limits ∙ (was.limits j k.0 k.1 ∙ ap Some k.2));
+        counted = λ j g at. (let k = before j g at in sym k.3 ∙ (was.counted j k.0 k.1 ∙ sym (same_tickets s i j b.slots left)));
+        places = (let long = ap length guests ∙ length-set a.guests.items i _ in rw long was.places);
       };
     }
 
--- ---- where somebody of this number is there is somebody
+-- ---- where somebody of this number is there is somebody, who lives
 
 pub somebody_at : (xs : List (Option Occupant)) (i n : ℕ) → has_number (get_or xs i None) n ≡ true → (t : Occupant) × (slice_get xs i ≡ Some (Some t))
 somebody_at [] i n has = absurd (cc has)
 somebody_at (None ∷ xs) zero n has = absurd (cc has)
 somebody_at (Some t ∷ xs) zero n has = (t, refl)
 somebody_at (x ∷ xs) (suc i) n has = somebody_at xs i n has
+
+pub lives_at : (xs : List (Option Occupant)) (i n : ℕ) → has_number (get_or xs i None) n ≡ true → (t : Occupant) × (slice_get xs i ≡ Some (Some t)) × (t.live ≡ true)
+lives_at [] i n has = absurd (cc has)
+lives_at (None ∷ xs) zero n has = absurd (cc has)
+lives_at (Some t ∷ xs) zero n has = (t, refl, go t.live has) where
+  go : (b : Bool) → (b && (t.number == n)) ≡ true → b ≡ true
+  go true has = refl
+  go false has = absurd (cc has)
+lives_at (x ∷ xs) (suc i) n has = lives_at xs i n has

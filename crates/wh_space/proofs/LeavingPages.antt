@@ -45,7 +45,7 @@ shared_mark s f Plain names some = absurd (let a : sharers s f ≡ 0 = names in 
 shared_mark s f (Hint hash j p) names some = absurd (let a = names.1 in omega arith)
 shared_mark s f (Sharers hash n) names some = (hash, ap (Sharers hash) (sym names.0))
 
-shared_entry : (s : Space) (f : ℕ) → FramesAreSound s → f < length s.marks → 1 ≤ sharers s f → (hash : ℕ) × (slice_get s.marks f ≡ Some (Sharers hash (sharers s f)))
+pub shared_entry : (s : Space) (f : ℕ) → FramesAreSound s → f < length s.marks → 1 ≤ sharers s f → (hash : ℕ) × (slice_get s.marks f ≡ Some (Sharers hash (sharers s f)))
 shared_entry s f sound within some =
     let there = get_there s.marks f within in
     let mark = shared_mark s f there.0 (subst (Names s f) there.1 (sound.names f)) some in
@@ -53,7 +53,7 @@ shared_entry s f sound within some =
 
 -- ---- one more sharer goes: it is the last one, or it isn't
 
-some_left : (t n hash : ℕ) → t < n → fewer_sharers t (Sharers hash n) ≡ Sharers hash (n - t)
+pub some_left : (t n hash : ℕ) → t < n → fewer_sharers t (Sharers hash n) ≡ Sharers hash (n - t)
 some_left t n hash less = grind (arith, nat_tests)
 
 none_left : (t n hash : ℕ) → n ≤ t → fewer_sharers t (Sharers hash n) ≡ Plain

@@ -1,6 +1,8 @@
 pub mod Tables
 pub mod Wellness
 pub mod Loading
+pub mod Earmarked
+pub mod Voids
 pub mod Owning
 pub mod Wants
 pub mod Storing
@@ -12,4 +14,7 @@ pub mod Stood
 pub mod Epochal
 pub mod Merges
 pub mod LeavingPages
+pub mod LeavingSlots
 pub mod LeavingMemory
+pub mod Transiting
+pub mod Moving

@@ -108,10 +108,10 @@ few_sharers s i p g f n hash sound few there found =
 
 -- ---- what the memory is then
 
-pub remade_is : (a b : Inside) (tables : List (List Page)) (touched : List (List Bool)) (pool : Pool) (marks : List Mark) → b.guests ≡ a.guests → b.slots ≡ a.slots → b.tax ≡ a.tax
+pub remade_is : (a b : Inside) (tables : List (List Page)) (touched : List (List Bool)) (pool : Pool) (marks : List Mark) → b.guests ≡ a.guests → b.slots ≡ a.slots → b.pins ≡ a.pins → b.tax ≡ a.tax
     → pages_in b.tables.items ≡ tables → marks_in b.tables.items ≡ touched → b.pool ≡ pool → b.content ≡ marks
     → space_of b ≡ record (space_of a) { tables = tables; touched = touched; pool = pool; marks = marks }
-remade_is a b tables touched pool marks guests slots tax pages stamps frames entries = rw (guests, slots, tax, pages, stamps, frames, entries) refl
+remade_is a b tables touched pool marks guests slots pins tax pages stamps frames entries = rw (guests, slots, pins, tax, pages, stamps, frames, entries) refl
 
 pub emptied_sound : (s : Space) (i p g : ℕ) → IsSound s → IsOffered s i p g → IsSound (emptied s i p g)
 emptied_sound s i p g sound offered = untouched_soundly (gives_up s i p g Untouched) i p (zeroed_sound s i p g sound offered)

@@ -1,15 +1,14 @@
 -- A page that is broken off from all others.
-use Rattle.std.proofs.Common.{◌≡◌, ℕ, ◌+◌, ◌<◌, ◌≤◌, inl, inr, List, [], ◌∷◌, Option, Some, None, IfSome, IfNone, length, get_or, map, slice_get, slice_set, replicate, zero, suc, true, refl, sym, ◌∙◌, ap, subst, arith}
+use Rattle.std.proofs.Common.{◌≡◌, ℕ, ◌+◌, ◌<◌, ◌≤◌, inl, inr, List, [], ◌∷◌, Option, Some, None, IfSome, IfNone, length, get_or, slice_get, slice_set, zero, suc, true, refl, sym, ◌∙◌, ap, subst, arith}
 use Rattle.std.proofs.lemmas.Bool.Decides.{nat_tests}
-use Rattle.std.proofs.lemmas.List.{append-nil}
-use Rattle.wh_host_model.specs.Frames.{IsTaken, Pool, one_if, TakesFrame as PoolTakes}
+use Rattle.wh_host_model.specs.Frames.{IsTaken, Pool, one_if, tally}
 use Rattle.wh_host_model.specs.declared.states.Mark.{Mark}
 use Rattle.wh_host_model.specs.declared.states.Mark.TheVariants.{Plain}
 use Rattle.wh_host_model.specs.declared.states.Page.{Page}
 use Rattle.wh_host_model.specs.declared.states.Page.TheVariants.{Untouched, Private, Shared, Leaving, LeavingShared, Coming, Swapped}
-use Rattle.wh_host_model.specs.declared.states.Slot.TheVariants.{Vacant}
-use Rattle.wh_host_model.specs.Space.Parts.{Space, frame_bytes, sharers}
-use Rattle.wh_host_model.specs.Space.Breaks.{Breaks, GetsFrame, LeavesSharers, TakesFrame, fewer_sharers, standing_alone, voided, with_fewer}
+use Rattle.wh_host_model.specs.Space.Errands.{ticket_of}
+use Rattle.wh_host_model.specs.Space.Parts.{Pins, Slots, Space, frame_bytes, sharers}
+use Rattle.wh_host_model.specs.Space.Breaks.{Breaks, GetsFrame, LeavesSharers, TakesFrame, fewer_sharers, standing_alone, with_fewer}
 use Rattle.wh_host_model.specs.Space.Ready.{copies, may_take}
 use Rattle.wh_host_model.specs.Space.Sound.{IsSound}
 use Rattle.wh_host_model.specs.Space.States.{at, owns, page_at, put, resident, shares, untouched}
@@ -21,7 +20,11 @@ use Rattle.wh_space.specs.declared.memory.Memory.TheInside.{Inside}
 use Rattle.wh_space.specs.Pages.{limits_in, marks_in, pages_in}
 use Rattle.wh_space.specs.Parts.{IsWell, space_of}
 use Rattle.wh_space.specs.Steps.{CanBreak, Owns}
-use Rattle.wh_space.proofs.Wellness.{well}
+use Rattle.wh_space.specs.Pinning.{FrameGoes, pins_of}
+use Rattle.wh_space.specs.Slotting.{leaver_of, voids_leaver}
+use Rattle.wh_space.proofs.Earmarked.{goes_frames, takes_frame}
+use Rattle.wh_space.proofs.Voids.{void_tickets, voided_is}
+use Rattle.wh_space.proofs.Wellness.{well, well_with}
 
 -- ---- what a page is that owns a frame, or shares it
 
@@ -102,15 +105,6 @@ cannot_copy s i p f x sound there one more none can =
 
 -- ---- the frame that it gets
 
-pub takes_free : (s : Space) (i g : ℕ) (bytes : List ℕ) (marks : List Mark) (taken pool : Pool) → PoolTakes s.pool g taken → pool ≡ record taken { frames = slice_set taken.frames g bytes }
-    → TakesFrame (record s { marks = marks }) i g bytes (record s { pool = pool; marks = marks })
-takes_free s i g bytes marks taken pool takes is =
-    inl (
-      taken.free,
-      (taken.free, [], takes.free, sym (append-nil taken.free)),
-      ap (λ (z : Pool). record s { pool = z; marks = marks }) (is ∙ ap (λ (z : List (List ℕ)). record { frames = slice_set z g bytes; free = taken.free }) takes.frames),
-    )
-
 pub keeps_own : (s : Space) (i f : ℕ) (x : Page) → owns f x ≡ 1 → GetsFrame s i x f s
 keeps_own s i f Untouched one = absurd (omega arith)
 keeps_own s i f (Private g) one = (one_is f g one, refl)
@@ -131,27 +125,25 @@ leaves_shared s i f g (Swapped k) mid one leaves = absurd (omega arith)
 
 -- ---- what the memory is then
 
-pub voided_vacant : (i : ℕ) (pages : List ℕ) (n : ℕ) → map (voided i pages) (replicate n Vacant) ≡ replicate n Vacant
-voided_vacant i pages zero = refl
-voided_vacant i pages (suc n) = let e = voided_vacant i pages n in cc
-
 -- the page was broken off, and the memory is well
 pub record IsOwned (a b : Inside) (i p g : ℕ) : Type 0 where
   pub well : IsWell b
   pub breaks : Breaks (space_of a) i p (space_of b)
   pub page : page_at (space_of b).tables i p ≡ Some (Private g)
 
-pub owned_by : (a b : Inside) (i p g : ℕ) (x : Page) → IsWell a → b.guests ≡ a.guests → b.slots ≡ a.slots → b.tax ≡ a.tax
+pub owned_by : (a b : Inside) (i p g : ℕ) (x y : Page) → IsWell a → b.guests ≡ a.guests → b.slots ≡ voids_leaver (leaver_of (get_or a.guests.items i None)) y a.slots → b.tax ≡ a.tax
     → pages_in b.tables.items ≡ put (pages_in a.tables.items) i p (Private g) → marks_in b.tables.items ≡ put (marks_in a.tables.items) i p true
-    → limits_in b.tables.items ≡ limits_in a.tables.items → page_at (pages_in a.tables.items) i p ≡ Some x
-    → GetsFrame (space_of a) i x g (record (space_of a) { pool = b.pool; marks = b.content }) → IsOwned a b i p g
-owned_by a b i p g x was guests slots tax pages marks limits there gets =
+    → limits_in b.tables.items ≡ limits_in a.tables.items → page_at (pages_in a.tables.items) i p ≡ Some x → page_at (pages_in a.tables.items) i p ≡ Some y
+    → GetsFrame (space_of a) i x g (record (space_of a) { pool = b.pool; marks = b.content; pins = pins_of b.pins }) → IsOwned a b i p g
+owned_by a b i p g x y was guests slots tax pages marks limits there also gets =
     let s : Space = space_of a in
-    let mid : Space = record s { pool = b.pool; marks = b.content } in
-    let after : space_of b ≡ standing_alone mid i p g = rw (pages, marks, guests, slots, tax, voided_vacant i (p ∷ []) a.slots) refl in
+    let mid : Space = record s { pool = b.pool; marks = b.content; pins = pins_of b.pins } in
+    let void = slots ∙ voided_is a i p y was.sound.slots also in
+    let after : space_of b ≡ standing_alone mid i p g = rw (pages, marks, guests, void, tax) refl in
     let breaks : Breaks s i p (space_of b) = record { page = x; was = there; frame = g; mid = mid; gets = gets; after = after } in
+    let tickets : (j : ℕ) → tally (ticket_of j) b.slots.uses ≡ tally (ticket_of j) a.slots.uses = λ j. ap (λ (z : Slots). tally (ticket_of j) z.uses) void ∙ void_tickets j i p a.slots.uses in
     record {
-      well = well a b was guests limits (breaks_soundly s i p (space_of b) was.sound breaks).0;
+      well = well_with a b was guests limits tickets (breaks_soundly s i p (space_of b) was.sound breaks).0;
       breaks = breaks;
       page = ap (λ (t : List (List Page)). page_at t i p) pages ∙ put_this (pages_in a.tables.items) i p x (Private g) there;
     }
@@ -175,17 +167,17 @@ pub record IsQuick (a b : Inside) (i p : ℕ) (found : Option ℕ) : Type 0 wher
 one_own : (g : ℕ) → owns g (Private g) ≡ 1
 one_own g = grind (arith, nat_tests)
 
-pub quickly : (a b : Inside) (i p : ℕ) (found : Option ℕ) → IsWell a → b.guests ≡ a.guests → b.pool ≡ a.pool → b.content ≡ a.content → b.slots ≡ a.slots → b.tax ≡ a.tax
+pub quickly : (a b : Inside) (i p : ℕ) (found : Option ℕ) → IsWell a → b.guests ≡ a.guests → b.pool ≡ a.pool → b.content ≡ a.content → b.slots ≡ a.slots → b.pins ≡ a.pins → b.tax ≡ a.tax
     → IfSome found (λ frame. page_at (pages_in a.tables.items) i p ≡ Some (Private frame)) → pages_in b.tables.items ≡ pages_in a.tables.items
     → IfSome found (λ frame. marks_in b.tables.items ≡ put (marks_in a.tables.items) i p true) → limits_in b.tables.items ≡ limits_in a.tables.items
     → IfNone found (marks_in b.tables.items ≡ marks_in a.tables.items) → IsQuick a b i p found
-quickly a b i p None was guests pool content slots tax there pages marked limits same =
-    let is : space_of b ≡ space_of a = rw (guests, pages, same, pool, content, slots, tax) refl in
-    record { well = well a b was guests limits (subst IsSound (sym is) was.sound); owns = tt; same = is }
-quickly a b i p (Some g) was guests pool content slots tax there pages marked limits same =
+quickly a b i p None was guests pool content slots pins tax there pages marked limits same =
+    let is : space_of b ≡ space_of a = rw (guests, pages, same, pool, content, slots, pins, tax) refl in
+    record { well = well a b was guests limits slots (subst IsSound (sym is) was.sound); owns = tt; same = is }
+quickly a b i p (Some g) was guests pool content slots pins tax there pages marked limits same =
     let s : Space = space_of a in
-    let gets : GetsFrame s i (Private g) g (record s { pool = b.pool; marks = b.content }) = (refl, rw (pool, content) refl) in
-    let o = owned_by a b i p g (Private g) was guests slots tax (pages ∙ sym (put_found (pages_in a.tables.items) i p (Private g) there)) marked limits there gets in
+    let gets : GetsFrame s i (Private g) g (record s { pool = b.pool; marks = b.content; pins = pins_of b.pins }) = (refl, rw (pool, content, pins) refl) in
+    let o = owned_by a b i p g (Private g) (Private g) was guests slots tax (pages ∙ sym (put_found (pages_in a.tables.items) i p (Private g) there)) marked limits there there gets in
     record {
       well = o.well;
       owns = (can_keep s i p g (Private g) was.sound there (one_own g), o.breaks, o.page);
@@ -223,10 +215,11 @@ pub last_leaves : (s : Space) (i f : ℕ) (x : Page) (marks : List Mark) → sha
     → GetsFrame s i x f (record s { marks = marks })
 last_leaves s i f x marks one last now = leaves_shared s i f f x (record s { marks = marks }) one (inl (last, refl, ap (λ (m : List Mark). record s { marks = m }) now))
 
-pub copy_leaves : (s : Space) (i f g : ℕ) (x : Page) (marks : List Mark) (taken pool : Pool) → shares f x ≡ 1 → 2 ≤ sharers s f → marks ≡ slice_set s.marks f (fewer_sharers 1 (get_or s.marks f Plain))
-    → PoolTakes s.pool g taken → pool ≡ record taken { frames = slice_set taken.frames g (get_or taken.frames f []) } → GetsFrame s i x g (record s { pool = pool; marks = marks })
-copy_leaves s i f g x marks taken pool one more now takes is =
+pub copy_leaves : (s : Space) (i f g : ℕ) (x : Page) (marks : List Mark) (taken pool : Pool) (pins : Option Pins) → shares f x ≡ 1 → 2 ≤ sharers s f → marks ≡ slice_set s.marks f (fewer_sharers 1 (get_or s.marks f Plain))
+    → FrameGoes i g s.pool s.pins taken pins → pool ≡ record taken { frames = slice_set taken.frames g (get_or taken.frames f []) } → GetsFrame s i x g (record s { pool = pool; marks = marks; pins = pins })
+copy_leaves s i f g x marks taken pool pins one more now takes is =
     let left : List Mark = slice_set s.marks f (fewer_sharers 1 (get_or s.marks f Plain)) in
-    let same : pool ≡ record taken { frames = slice_set taken.frames g (frame_bytes s f) } = is ∙ ap (λ (z : List (List ℕ)). record taken { frames = slice_set taken.frames g (get_or z f []) }) takes.frames in
-    leaves_shared s i f g x (record s { pool = pool; marks = marks }) one
-    (inr (more, subst (λ (m : List Mark). TakesFrame (with_fewer s f) i g (frame_bytes s f) (record s { pool = pool; marks = m })) (sym now) (takes_free s i g (frame_bytes s f) left taken pool takes same)))
+    let frames = goes_frames i g s.pool s.pins taken pins takes in
+    let same : pool ≡ record taken { frames = slice_set taken.frames g (frame_bytes s f) } = is ∙ ap (λ (z : List (List ℕ)). record taken { frames = slice_set taken.frames g (get_or z f []) }) frames in
+    leaves_shared s i f g x (record s { pool = pool; marks = marks; pins = pins }) one
+    (inr (more, subst (λ (m : List Mark). TakesFrame (with_fewer s f) i g (frame_bytes s f) (record s { pool = pool; marks = m; pins = pins })) (sym now) (takes_frame s i g (frame_bytes s f) left taken pool pins takes same)))

@@ -32,7 +32,7 @@ sharer_gone f a = let left = fewer_sharers 1 (get_or a.marks f Plain) in record 
   marks = slice_set a.marks f left;
 }
 
--- a page goes, which lies in no slot
+-- a page goes from its frame
 abbrev pub page_gone : Page → Holdings → Holdings
 page_gone Untouched a = a
 page_gone (Private f) a = owner_gone f a

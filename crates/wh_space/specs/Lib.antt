@@ -5,5 +5,8 @@ pub mod Leaving
 pub mod Merges
 pub mod Pages
 pub mod Parts
+pub mod Pinning
+pub mod Slotting
 pub mod Steps
+pub mod Transits
 pub mod Views

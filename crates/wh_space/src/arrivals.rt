@@ -13,6 +13,7 @@ use wh_content::Table;
 use wh_frames::{FrameError, FramePool};
 use wh_host_model::Tax;
 use wh_pages::PageTable;
+use wh_swap::Slots;
 
 // Puts a row at a place, which may be the next one.
 fn put_guest(guests: &mut Vec<Option<Guest>>, place: usize, guest: Guest)
@@ -55,8 +56,8 @@ fn table_of(alloc: Global, pages: u32, max: u32) -> Result<PageTable, AllocError
 }
 
 impl Memory {
-    /// A memory with so many frames of 4096 bytes and so many slots, in which nobody is. Room for all frames is reserved
-    /// now.
+    /// A memory with so many frames of 4096 bytes and so many slots, in which nobody is. Room for all frames and slots is
+    /// reserved now.
     ///
     /// # Errors
     /// `Memory` where room is refused.
@@ -70,12 +71,16 @@ impl Memory {
         let Ok(content) = Table::new(alloc, frames) else {
             return Err(FrameError::Memory);
         };
+        let Ok(slots) = Slots::new(alloc, slots) else {
+            return Err(FrameError::Memory);
+        };
         Ok(Memory {
             guests: Vec::new(alloc),
             tables: Vec::new(alloc),
             pool,
             content,
             slots,
+            pins: None,
             tax,
         })
     }
@@ -84,7 +89,7 @@ impl Memory {
     /// take no frame. All room for its page table is taken now, so that it grows without memory.
     ///
     /// # Errors
-    /// `AllocError` where room is refused. Nothing is done then.
+    /// `AllocError` where room is refused, also where the place is no number of 32 bits. Nothing is done then.
     pub fn enter(
         &mut self,
         alloc: Global,
@@ -102,6 +107,9 @@ impl Memory {
         ensures ok { OnOk result (Enters self.old place (claimed promise) size self.new) }
         ensures err { OnErr result (self.new ≡ self.old) }
     {
+        if place > u32::MAX as usize {
+            return Err(AllocError);
+        }
         self.guests.reserve(1)?;
         self.tables.reserve(1)?;
         let table = table_of(alloc, 16 * size, promise.max)?;

@@ -9,6 +9,8 @@ ghost use Rattle.wh_space.specs.Steps.{Owns};
 use crate::frames::clear_frame;
 use crate::memory::Memory;
 use crate::pages::{page_of, stand_alone, touch_private};
+use crate::pins::take_frame;
+use crate::slotting::{leaver_at, void_written};
 use wh_host_model::{Mark, Page};
 
 impl Memory {
@@ -29,6 +31,8 @@ impl Memory {
         requires { at (owns frame) (page_at self.old.tables place number) ≡ 1 }
         ensures { Owns self.old place number (Some frame) self.new }
     {
+        let page = page_of(&self.tables, place, number);
+        void_written(&mut self.slots, leaver_at(&self.guests, place), page);
         stand_alone(&mut self.tables, place, number, frame);
     }
 
@@ -37,9 +41,7 @@ impl Memory {
         requires { page_at self.old.tables place number ≡ Some Untouched }
         ensures { Owns self.old place number result self.new }
     {
-        let Ok(frame) = self.pool.take() else {
-            return None;
-        };
+        let frame = take_frame(&mut self.pool, &mut self.pins, place)?;
         clear_frame(&mut self.pool, frame);
         stand_alone(&mut self.tables, place, number, frame);
         Some(frame)
@@ -52,6 +54,8 @@ impl Memory {
         ensures { Owns self.old place number (Some frame) self.new }
     {
         self.content.drop_sharer(frame);
+        let page = page_of(&self.tables, place, number);
+        void_written(&mut self.slots, leaver_at(&self.guests, place), page);
         stand_alone(&mut self.tables, place, number, frame);
     }
 
@@ -61,11 +65,11 @@ impl Memory {
         requires several { 2 ≤ sharers self.old frame }
         ensures { Owns self.old place number result self.new }
     {
-        let Ok(fresh) = self.pool.take() else {
-            return None;
-        };
+        let fresh = take_frame(&mut self.pool, &mut self.pins, place)?;
         self.pool.copy(frame, fresh);
         self.content.drop_sharer(frame);
+        let page = page_of(&self.tables, place, number);
+        void_written(&mut self.slots, leaver_at(&self.guests, place), page);
         stand_alone(&mut self.tables, place, number, fresh);
         Some(fresh)
     }

@@ -66,3 +66,11 @@ pub fn clear_frame(pool: &mut FramePool, frame: u32)
 {
     *pool.bytes_mut(frame) = [0; 4096];
 }
+
+// Gives a frame these bytes.
+pub fn set_frame(pool: &mut FramePool, frame: u32, bytes: &[u8; 4096])
+    requires { IsTaken pool.old frame }
+    ensures { pool.new ≡ record pool.old { frames = slice_set pool.old.frames frame bytes.now } }
+{
+    *pool.bytes_mut(frame) = *bytes;
+}

@@ -26,7 +26,7 @@ impl Memory {
             return 0;
         }
         match self.guests[place] {
-            Some(guest) => guest.max / 16,
+            Some(guest) => { if guest.live { guest.max / 16 } else { 0 } }
             None => 0,
         }
     }

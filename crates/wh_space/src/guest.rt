@@ -1,6 +1,6 @@
 // Who has a place.
 
-ghost use Rattle.std.specs.Prelude.{◌≡◌, None};
+ghost use Rattle.std.specs.Prelude.{◌≡◌, None, true};
 
 use wh_model::Need;
 
@@ -17,15 +17,21 @@ pub struct Promise {
     pub max: u32,
 }
 
-// An instance that has a place.
+// An instance that has a place. One that was released keeps it while a ticket of it is out.
 #[derive(Clone, Copy)]
 pub struct Guest {
     pub number: u64,
+    // It wasn't released.
+    pub live: bool,
     pub shares: u32,
     pub min: u32,
     pub max: u32,
     // The bytes of the step for which it stands, where it stands for a frame.
     pub stands: Option<Need>,
+    // The slot of the ticket with which a page of it leaves, void or not.
+    pub leaves: Option<u32>,
+    // How many tickets of it are out.
+    pub tickets: u64,
 }
 
 impl Guest {
@@ -33,18 +39,24 @@ impl Guest {
     pub fn new(promise: Promise) -> Guest
         ensures { result ≡ record {
           number = promise.number;
+          live = true;
           shares = promise.shares;
           min = promise.min;
           max = promise.max;
           stands = None;
+          leaves = None;
+          tickets = 0;
         } }
     {
         Guest {
             number: promise.number,
+            live: true,
             shares: promise.shares,
             min: promise.min,
             max: promise.max,
             stands: None,
+            leaves: None,
+            tickets: 0,
         }
     }
 }

@@ -1,20 +1,26 @@
 // How an instance goes from its place.
 
-ghost use Rattle.std.specs.Prelude.{◌≡◌, ◌≢◌, ◌<◌, [], IfSome, IsTrue, length, get_or, slice_set};
+ghost use Rattle.std.specs.Prelude.{◌≡◌, ◌≢◌, ◌<◌, [], None, true, IfSome, IsTrue, length, get_or, slice_set};
 ghost use Rattle.wh_host_model.specs.Frames.{IsTaken};
 ghost use Rattle.wh_host_model.specs.Pages.{zero_page};
 ghost use Rattle.wh_host_model.specs.Space.Offers.{IsOffered};
 ghost use Rattle.wh_host_model.specs.Space.Parts.{Occupant, occupant_at};
 ghost use Rattle.wh_host_model.specs.Space.Places.{Exits};
+ghost use Rattle.wh_space.specs.Guests.{guest_gone};
+ghost use Rattle.wh_space.specs.Slotting.{CanLeaveSlots, slots_gone};
 ghost use Rattle.wh_space.specs.Leaving.{CanAllGo, CanGo, owner_gone, page_gone, pages_gone, sharer_gone};
 ghost use Rattle.wh_space.specs.Pages.{limits_in, marks_in, pages_in};
 
+use crate::guest::Guest;
 use crate::memory::Memory;
 use crate::pages::{len_at, page_of};
+use crate::pins::end_pins;
+use crate::slotting::{leave_slot, leaver_at, void_slot};
 use wh_content::Table;
 use wh_frames::FramePool;
 use wh_host_model::{Mark, Page};
 use wh_pages::PageTable;
+use wh_swap::Slots;
 
 // A page goes that was alone on a frame. The frame is free then.
 fn let_owner_go(frame: u32, content: &mut Table, pool: &mut FramePool)
@@ -40,7 +46,7 @@ fn let_sharer_go(frame: u32, content: &mut Table, pool: &mut FramePool)
     }
 }
 
-// A page goes, which lies in no slot.
+// A page goes from its frame.
 fn let_page_go(page: Page, content: &mut Table, pool: &mut FramePool)
     requires { CanGo page (record { pool = pool.old; marks = content.old }) }
     ensures { record { pool = pool.new; marks = content.new }
@@ -57,16 +63,27 @@ fn let_page_go(page: Page, content: &mut Table, pool: &mut FramePool)
     }
 }
 
-// All pages of the instance at a place go, one after the other. They lie in no slots.
-fn let_pages_go(tables: &Vec<PageTable>, place: usize, content: &mut Table, pool: &mut FramePool)
-    requires { CanAllGo (get_or (pages_in tables.now.items) place [])
+// All pages of the instance at a place go, one after the other.
+fn let_pages_go(
+    tables: &Vec<PageTable>,
+    place: usize,
+    content: &mut Table,
+    pool: &mut FramePool,
+    slots: &mut Slots,
+)
+    requires frames { CanAllGo (get_or (pages_in tables.now.items) place [])
         (record { pool = pool.old; marks = content.old }) }
-    ensures { record { pool = pool.new; marks = content.new }
+    requires slots { CanLeaveSlots (get_or (pages_in tables.now.items) place []) slots.old }
+    ensures frames { record { pool = pool.new; marks = content.new }
         ≡ pages_gone (get_or (pages_in tables.now.items) place [])
         (record { pool = pool.old; marks = content.old }) }
+    ensures slots { slots.new
+        ≡ slots_gone (get_or (pages_in tables.now.items) place []) slots.old }
 {
     for number in 0..len_at(tables, place) {
-        let_page_go(page_of(tables, place, number), content, pool);
+        let page = page_of(tables, place, number);
+        let_page_go(page, content, pool);
+        leave_slot(page, slots);
     }
 }
 
@@ -81,19 +98,51 @@ fn clear_at(tables: &mut Vec<PageTable>, place: usize)
     table.clear();
 }
 
+// The instance at a place goes. It keeps the place while a ticket of it is out.
+fn let_guest_go(guests: &mut Vec<Option<Guest>>, place: usize)
+    requires { place < length guests.old.items }
+    ensures { guests.new.items ≡ slice_set guests.old.items place
+        (guest_gone (get_or guests.old.items place None)) }
+{
+    guests[place] = match guests[place] {
+        Some(guest) => {
+            if guest.tickets == 0 {
+                None
+            } else {
+                Some(Guest {
+                    live: false,
+                    stands: None,
+                    ..guest
+                })
+            }
+        }
+        None => None,
+    };
+}
+
 impl Memory {
-    /// The instance at this place goes, and the place is free. So are its own frames, and the shared ones of which it had
-    /// the last sharers, and what the content table had of them is forgotten. A frame that others share has so many
-    /// sharers fewer. It goes over all pages of the instance.
+    /// The instance at this place goes. Its own frames are free, and the shared ones of which it had the last sharers, and
+    /// what the content table had of them is forgotten. A frame that others share has so many sharers fewer. Its slots are
+    /// vacant, its pins and earmarks end, and its tickets are void. The place is free, but while a ticket of it is out. It
+    /// goes over all pages of the instance.
     ///
     /// It takes no memory, and gives none back: the room of the page table stays until another one comes to the place.
     pub fn exit(&mut self, place: usize)
-        requires { (t : Occupant) × occupant_at self.old place t }
+        requires { (t : Occupant) × occupant_at self.old place t × (t.live ≡ true) }
         ensures { Exits self.old place self.new }
     {
-        let_pages_go(&self.tables, place, &mut self.content, &mut self.pool);
+        let _ = &self.tax;
+        end_pins(&mut self.pins, &mut self.pool, place);
+        let_pages_go(
+            &self.tables,
+            place,
+            &mut self.content,
+            &mut self.pool,
+            &mut self.slots,
+        );
+        void_slot(&mut self.slots, leaver_at(&self.guests, place));
         clear_at(&mut self.tables, place);
-        self.guests[place] = None;
+        let_guest_go(&mut self.guests, place);
     }
 }
 

@@ -3,11 +3,13 @@
 ghost use Rattle.wh_host_model.specs.Space.Sound.{IsSound};
 
 use crate::guest::Guest;
+use crate::pins::Pinned;
 use std::marker::Model;
 use wh_content::Table;
 use wh_frames::FramePool;
 use wh_host_model::Tax;
 use wh_pages::PageTable;
+use wh_swap::Slots;
 
 /// The memory of all instances, by their places, on one pool of frames.
 #[derive(Drop)]
@@ -16,7 +18,8 @@ pub struct Memory {
     pub(crate) tables: Vec<PageTable>,
     pub(crate) pool: FramePool,
     pub(crate) content: Table,
-    pub(crate) slots: u32,
+    pub(crate) slots: Slots,
+    pub(crate) pins: Option<Pinned>,
     pub(crate) tax: Tax,
 }
 

@@ -14,12 +14,13 @@ ghost use Rattle.wh_space.specs.Pages.{limits_in, marks_in, pages_in};
 
 use crate::memory::Memory;
 use crate::pages::{len_at, page_of};
+use crate::pins::has_page_pinned;
 use wh_content::Entry;
 use wh_host_model::Page;
 use wh_pages::PageTable;
 
 // Puts a page there.
-fn put_page(tables: &mut Vec<PageTable>, place: usize, number: u32, page: Page)
+pub fn put_page(tables: &mut Vec<PageTable>, place: usize, number: u32, page: Page)
     requires { number < length (get_or (pages_in tables.old.items) place []) }
     ensures pages { pages_in tables.new.items ≡ put (pages_in tables.old.items) place number page }
     ensures marks { marks_in tables.new.items ≡ marks_in tables.old.items }
@@ -48,9 +49,8 @@ impl Memory {
     pub fn has_few_pages(&self) -> bool
         ensures { IsTrue result ↔ HasFewPages self.now }
     {
-        let slots = self.slots;
         let frames = u64::from(self.pool.used()) + u64::from(self.pool.free());
-        frames + u64::from(slots) < 1 << 32
+        frames + u64::from(self.slots.len()) < 1 << 32
     }
 
     /// Whether there are at most so many places.
@@ -69,7 +69,7 @@ impl Memory {
             return false;
         }
         match self.guests[place] {
-            Some(guest) => guest.number == number,
+            Some(guest) => guest.live && guest.number == number,
             None => false,
         }
     }
@@ -92,13 +92,12 @@ impl Memory {
         }
     }
 
-    /// Whether a page of the instance at this place is pinned. None is yet.
-    pub fn is_pinned(&self, _place: u32, _page: u32) -> bool
-        ensures { MatchBool result (IsPinned self.now _place _page)
-            (¬ IsPinned self.now _place _page) }
+    /// Whether a page of the instance at this place is pinned.
+    pub fn is_pinned(&self, place: u32, page: u32) -> bool
+        ensures { MatchBool result (IsPinned self.now place page)
+            (¬ IsPinned self.now place page) }
     {
-        let _ = &self.tax;
-        false
+        has_page_pinned(self.pins, place as usize, page)
     }
 
     /// The 4096 bytes of a frame that isn't free.

@@ -1,11 +1,12 @@
 // Whether a step can be taken at once.
 
 ghost use Rattle.std.specs.Prelude.{◌≡◌, ◌↔◌, ◌+◌, ◌^◌, ◌<◌, ◌≤◌, [], ◌∷◌, Some, true, IsTrue, MatchBool, length, get_or};
-ghost use Rattle.wh_host_model.specs.Space.Ready.{Ready, frames_for};
+ghost use Rattle.wh_host_model.specs.Space.Ready.{Ready, frames_for, may_take};
 ghost use Rattle.wh_space.specs.Steps.{CanStep, SharesAlone, frame_shared};
 
 use crate::memory::Memory;
 use crate::pages::{len_at, page_of};
+use crate::pins::frames_kept;
 use wh_host_model::Page;
 use wh_model::Need;
 
@@ -77,6 +78,13 @@ impl Memory {
         }
     }
 
+    // How many frames the instance may take: the free ones, and those that are earmarked for it.
+    fn frames_for_it(&self, place: usize) -> u64
+        ensures { result ≡ may_take self.now place }
+    {
+        u64::from(self.pool.free()) + u64::from(frames_kept(self.pins, place))
+    }
+
     // Whether a step on one page can be taken.
     fn can_step(&self, place: usize, number: u32, writes: bool) -> bool
         requires { number < length (get_or self.now.tables place []) }
@@ -85,7 +93,7 @@ impl Memory {
     {
         let _ = &self.tax;
         self.is_at_hand(place, number)
-            && (!writes || self.wanted(place, number) <= self.pool.free())
+            && (!writes || u64::from(self.wanted(place, number)) <= self.frames_for_it(place))
     }
 
     // Whether a step on this page and the next can be taken.
@@ -98,7 +106,8 @@ impl Memory {
         let _ = &self.tax;
         self.is_at_hand(place, number)
             && self.is_at_hand(place, number + 1)
-            && (!writes || self.wanted_by_both(place, number) <= self.pool.free())
+            && (!writes
+                || u64::from(self.wanted_by_both(place, number)) <= self.frames_for_it(place))
     }
 
     /// Whether the instance at this place can take a step that reads or writes these bytes at once: their pages are in

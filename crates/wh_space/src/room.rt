@@ -97,7 +97,7 @@ impl Memory {
         ensures { result + spreads self.now ≡ length self.now.slots.uses }
     {
         let _ = &self.tax;
-        u64::from(self.slots) - spreads_of(&self.guests)
+        u64::from(self.slots.len()) - spreads_of(&self.guests)
     }
 
     /// Whether the frames suffice for the least numbers of pages of all instances and this one beside. It looks at each

@@ -1,6 +1,6 @@
 // Where an instance stands for a frame.
 
-ghost use Rattle.std.specs.Prelude.{◌≡◌, ◌+◌, ◌*◌, ◌<◌, ◌≤◌, [], None, Some, length, get_or, slice_set};
+ghost use Rattle.std.specs.Prelude.{◌≡◌, ◌+◌, ◌*◌, ◌<◌, ◌≤◌, [], None, Some, true, length, get_or, slice_set};
 ghost use Rattle.wh_host_model.specs.Space.Parts.{Occupant, occupant_at};
 ghost use Rattle.wh_host_model.specs.Space.Stores.{ended, stood};
 ghost use Rattle.wh_model.specs.declared.memory.Need.{Need as Bytes};
@@ -8,6 +8,7 @@ ghost use Rattle.wh_space.specs.Guests.{stands_for};
 
 use crate::guest::Guest;
 use crate::memory::Memory;
+use crate::pins::end_pins;
 use wh_model::Need;
 
 // Whoever is at this place stands for a frame at these bytes, or for none.
@@ -28,7 +29,7 @@ impl Memory {
     /// The instance at this place stands for a frame at these bytes, which are in its memory and at most 4096; or for
     /// none.
     pub fn stand(&mut self, place: usize, need: Option<Need>)
-        requires there { (t : Occupant) × occupant_at self.old place t }
+        requires there { (t : Occupant) × occupant_at self.old place t × (t.live ≡ true) }
         requires within { (want : Bytes) → need ≡ Some want
             → want.at + want.length ≤ 4096 * length (get_or self.old.tables place []) }
         requires few { (want : Bytes) → need ≡ Some want → want.length ≤ 4096 }
@@ -37,11 +38,14 @@ impl Memory {
         stand_at(&mut self.guests, place, need);
     }
 
-    /// The step was taken for which the instance at this place stood, or its call was cancelled: it stands for none.
+    /// The step was taken for which the instance at this place stood, or its call was cancelled: it stands for none, and its
+    /// pins and earmarks end.
     pub fn end(&mut self, place: usize)
         requires { (t : Occupant) × occupant_at self.old place t }
         ensures { self.new ≡ ended self.old place }
     {
+        let _ = &self.tax;
         stand_at(&mut self.guests, place, None);
+        end_pins(&mut self.pins, &mut self.pool, place);
     }
 }

@@ -1,4 +1,3 @@
 pub mod Memory
 pub mod SlotParts
-pub mod Uses
 pub mod Written

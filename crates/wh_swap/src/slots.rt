@@ -1,29 +1,33 @@
-// What each slot of the device is used for.
+// What each slot of the device is used for, and what it holds.
 
-ghost use Rattle.std.specs.Prelude.{◌≡◌, ◌<◌, ◌≤◌, ◌++◌, [], ◌∷◌, length, replicate, slice_get, slice_set, Some, IfSome, IfOk, IfNone, vec_len, vec_capacity};
+ghost use Rattle.std.specs.Prelude.{◌≡◌, ◌<◌, ◌≤◌, ◌++◌, [], ◌∷◌, cond, length, replicate, slice_get, slice_set, Some, IfSome, IfOk, IfNone, vec_len, vec_capacity};
 ghost use Rattle.wh_host_model.specs.Frames.{tally, one_if};
 ghost use Rattle.wh_host_model.specs.Space.Parts.{numbers_below};
 ghost use Rattle.wh_host_model.specs.declared.states.Slot.TheVariants.{Vacant};
+ghost use Rattle.wh_swap.specs.SlotParts.{all_held};
 
+use boxcar::tag::{Names, Tag};
 use std::alloc::{AllocError, Global};
 use std::marker::Model;
 use wh_host_model::Slot;
 
-/// What each slot is used for, and which are vacant. No call but `new` takes memory or goes over the slots.
+/// What each slot is used for, which are vacant, and what each holds. What a slot holds is known to clauses alone, and takes
+/// no bytes. No call but `new` takes memory or goes over the slots.
 #[derive(Drop)]
 pub struct Slots {
     uses: Vec<Slot>,
     vacant: Vec<u32>,
+    held: Vec<Tag>,
 }
 
 impl Model for Slots {
-    ghost use Rattle.wh_swap.specs.Uses.{SlotUses};
+    ghost use Rattle.wh_host_model.specs.Space.Parts.{Slots};
 
-    ghost Value = { SlotUses };
+    ghost Value = { Slots };
 
-    ghost use Rattle.wh_swap.specs.SlotParts.{uses_of, HasRoomForAll};
+    ghost use Rattle.wh_swap.specs.SlotParts.{slots_of, HasRoomForAll};
 
-    ghost view = { uses_of };
+    ghost view = { slots_of };
 
     ghost invariant = { HasRoomForAll };
 }
@@ -42,6 +46,34 @@ fn numbers(alloc: Global, count: u32) -> Result<Vec<u32>, AllocError>
     Ok(list)
 }
 
+struct Page;
+
+impl Names<[u8; 4096]> for Page {
+    ghost numbers = { λ page. page };
+}
+
+// So many times nothing.
+fn nothing(alloc: Global, count: u32) -> Result<Vec<Tag>, AllocError>
+    ensures { IfOk result (λ tags. all_held tags.items ≡ replicate count []) }
+{
+    let mut tags = Vec::with_capacity(alloc, count as usize)?;
+    for _ in 0..count {
+        tags.push(Tag::empty())?;
+    }
+    Ok(tags)
+}
+
+// What a slot holds to which these bytes were written, or failed to be.
+fn what_is_held(bytes: &[u8; 4096], wrote: bool) -> Tag
+    ensures { result.numbers ≡ cond wrote bytes.now [] }
+{
+    if wrote {
+        Tag::of::<[u8; 4096], Page>(bytes)
+    } else {
+        Tag::empty()
+    }
+}
+
 // Adds a number.
 fn add(list: &mut Vec<u32>, number: u32)
     requires { vec_len list.old < vec_capacity list.old }
@@ -54,17 +86,19 @@ fn add(list: &mut Vec<u32>, number: u32)
 }
 
 impl Slots {
-    /// So many slots, all vacant. All memory is taken here.
+    /// So many slots, all vacant, which hold nothing that is known. All memory is taken here.
     ///
     /// # Errors
     /// Where room was refused.
     pub fn new(alloc: Global, slots: u32) -> Result<Slots, AllocError>
         ensures uses { IfOk result (λ made. made.uses ≡ replicate slots Vacant) }
         ensures vacant { IfOk result (λ made. made.vacant ≡ numbers_below slots) }
+        ensures held { IfOk result (λ made. made.held ≡ replicate slots []) }
     {
         Ok(Slots {
             uses: vec![in alloc; Slot::Vacant; slots as usize]?,
             vacant: numbers(alloc, slots)?,
+            held: nothing(alloc, slots)?,
         })
     }
 
@@ -88,6 +122,7 @@ impl Slots {
     pub fn take(&mut self, used: Slot) -> Option<u32>
         ensures uses { IfSome result (λ slot. self.new.uses ≡ slice_set self.old.uses slot used) }
         ensures vacant { IfSome result (λ slot. self.old.vacant ≡ self.new.vacant ++ slot ∷ []) }
+        ensures held { IfSome result (λ _. self.new.held ≡ self.old.held) }
         ensures there { IfSome result (λ slot. slot < length self.old.uses) }
         ensures taken { IfSome result (λ slot. tally (one_if slot) self.new.vacant ≡ 0) }
         ensures none { IfNone result (self.old.vacant ≡ []) }
@@ -104,9 +139,21 @@ impl Slots {
         requires taken { tally (one_if slot) self.old.vacant ≡ 0 }
         ensures uses { self.new.uses ≡ slice_set self.old.uses slot Vacant }
         ensures vacant { self.new.vacant ≡ self.old.vacant ++ slot ∷ [] }
+        ensures held { self.new.held ≡ self.old.held }
     {
         self.uses[slot as usize] = Slot::Vacant;
         add(&mut self.vacant, slot);
+    }
+
+    /// The device was called to write these bytes to a slot, which holds them now; or nothing that is known, where that
+    /// failed.
+    pub fn write(&mut self, slot: u32, bytes: &[u8; 4096], wrote: bool)
+        requires { slot < length self.old.uses }
+        ensures { self.new ≡ record self.old {
+          held = slice_set self.old.held slot (cond wrote bytes.now []);
+        } }
+    {
+        self.held[slot as usize] = what_is_held(bytes, wrote);
     }
 
     /// How many slots are vacant.

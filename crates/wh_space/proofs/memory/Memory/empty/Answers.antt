@@ -16,6 +16,6 @@ pub invariant_of-self : goal.invariant_of-self
 invariant_of-self c =
     let a = c.self.inside in
     let b : Inside = record a { tables = c.empty_page.new.tables; pool = c.give.new.self; content = c.forget_frame.new.self } in
-    let is = remade_is a b _ _ _ _ refl refl refl c.empty_page.ensures.pages c.empty_page.ensures.marks c.give.ensures.gives c.forget_frame.ensures in
-    well a b c.self.invariant refl c.empty_page.ensures.limits
+    let is = remade_is a b _ _ _ _ refl refl refl refl c.empty_page.ensures.pages c.empty_page.ensures.marks c.give.ensures.gives c.forget_frame.ensures in
+    well a b c.self.invariant refl c.empty_page.ensures.limits refl
     (subst IsSound (sym is) (emptied_sound (space_of a) c.args.place c.args.page c.args.frame c.self.invariant.sound (rw (← c.self.view_is) at c.requires)))

@@ -1,19 +1,26 @@
-use Rattle.std.proofs.Common.{◌≡◌, None, Some, slice_get, refl, ap, ◌∙◌}
+use Rattle.std.proofs.Common.{◌≡◌, slice_get, refl, ap, ◌∙◌}
 use Rattle.wh_host_model.specs.Space.Parts.{Space, occupant_at}
 use Rattle.wh_host_model.specs.Space.Stores.{ended}
-use Rattle.wh_space.specs.Parts.{space_of}
-use Rattle.wh_space.proofs.Stood.{stood_well}
+use Rattle.wh_space.specs.Parts.{IsWell, space_of}
+use Rattle.wh_space.proofs.Earmarked.{may_end}
+use Rattle.wh_space.proofs.Stood.{ended_well}
 use Rattle.wh_space.proofs.memory.Memory.end.Goals as goal
 
-pub invariant_of-self : goal.invariant_of-self
-invariant_of-self c =
+pub end_pins-requires-clause-once : goal.end_pins-requires-clause-once
+end_pins-requires-clause-once c = (may_end (space_of c.self.inside) c.args.place c.self.invariant.sound.frames).once
+
+pub end_pins-requires-clause-there : goal.end_pins-requires-clause-there
+end_pins-requires-clause-there c = (may_end (space_of c.self.inside) c.args.place c.self.invariant.sound.frames).there
+
+is_ended : (c : goal.After-end_pins) → IsWell (record c.self.inside { guests = c.stand_at.new.guests; pool = c.end_pins.new.pool; pins = c.end_pins.new.pins })
+    × (space_of (record c.self.inside { guests = c.stand_at.new.guests; pool = c.end_pins.new.pool; pins = c.end_pins.new.pins }) ≡ ended (space_of c.self.inside) c.args.place)
+is_ended c =
     let a = c.self.inside in
     let there : occupant_at (space_of a) c.args.place c.requires.0 = ap (λ (s : Space). slice_get s.occupants c.args.place) c.self.view_is ∙ c.requires.1 in
-    (stood_well a (record a { guests = c.stand_at.new.guests }) c.args.place None c.requires.0 c.self.invariant there (λ want e. absurd (let bad : None ≡ Some want = e in cc)) c.stand_at.ensures refl refl refl refl refl).0
+    ended_well a (record a { guests = c.stand_at.new.guests; pool = c.end_pins.new.pool; pins = c.end_pins.new.pins }) c.args.place c.requires.0 c.self.invariant there c.stand_at.ensures refl refl refl refl c.end_pins.ensures.pins c.end_pins.ensures.pool
+
+pub invariant_of-self : goal.invariant_of-self
+invariant_of-self c = (is_ended c).0
 
 pub returns : goal.returns
-returns c =
-    let a = c.self.inside in
-    let there : occupant_at (space_of a) c.args.place c.requires.0 = ap (λ (s : Space). slice_get s.occupants c.args.place) c.self.view_is ∙ c.requires.1 in
-    (stood_well a (record a { guests = c.stand_at.new.guests }) c.args.place None c.requires.0 c.self.invariant there (λ want e. absurd (let bad : None ≡ Some want = e in cc)) c.stand_at.ensures refl refl refl refl refl).1
-    ∙ ap (λ (s : Space). ended s c.args.place) c.self.view_is
+returns c = (is_ended c).1 ∙ ap (λ (s : Space). ended s c.args.place) c.self.view_is

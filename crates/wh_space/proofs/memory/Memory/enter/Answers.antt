@@ -1,4 +1,4 @@
-use Rattle.std.proofs.Common.{◌≡◌, Some, refl, subst, sym}
+use Rattle.std.proofs.Common.{◌≡◌, ◌<◌, ◌^◌, Some, refl, subst, sym, arith}
 use Rattle.wh_host_model.specs.Space.Parts.{Space}
 use Rattle.wh_host_model.specs.Space.Places.{with_row}
 use Rattle.wh_space.specs.declared.memory.Memory.TheInside.{Inside}
@@ -15,7 +15,8 @@ invariant_of-self-2 c =
     (record { free = c.requires.free; room = c.requires.room; shares = c.requires.shares; bounds = c.requires.bounds; fits = c.requires.fits; fresh = c.requires.fresh }) in
     let guests : b.guests.items ≡ with_row a.guests.items c.args.place (Some (guest_of c.args.promise)) = rw (c.put_guest.ensures, c.in_ok-reserve.ensures.items, c.new.ensures) refl in
     let tables : b.tables.items ≡ with_row a.tables.items c.args.place (table_for c.args.promise c.args.size) = rw (c.put_table.ensures, c.in_ok-reserve-2.ensures.items, c.in_ok-table.ensures) refl in
-    (entered a b c.args.place c.args.promise c.args.size c.self.invariant may guests tables refl refl refl refl).1
+    let place : c.args.place < 2 ^ 32 = omega (arith, c.if-place.false) in
+    (entered a b c.args.place c.args.promise c.args.size c.self.invariant may guests tables refl refl refl refl refl place).1
 
 pub returns-clause-ok : goal.returns-clause-ok
 returns-clause-ok c =
@@ -26,4 +27,5 @@ returns-clause-ok c =
     (record { free = c.requires.free; room = c.requires.room; shares = c.requires.shares; bounds = c.requires.bounds; fits = c.requires.fits; fresh = c.requires.fresh }) in
     let guests : b.guests.items ≡ with_row a.guests.items c.args.place (Some (guest_of c.args.promise)) = rw (c.put_guest.ensures, c.in_ok-reserve.ensures.items, c.new.ensures) refl in
     let tables : b.tables.items ≡ with_row a.tables.items c.args.place (table_for c.args.promise c.args.size) = rw (c.put_table.ensures, c.in_ok-reserve-2.ensures.items, c.in_ok-table.ensures) refl in
-    rw (← c.self.view_is) (entered a b c.args.place c.args.promise c.args.size c.self.invariant may guests tables refl refl refl refl).0
+    let place : c.args.place < 2 ^ 32 = omega (arith, c.if-place.false) in
+    rw (← c.self.view_is) (entered a b c.args.place c.args.promise c.args.size c.self.invariant may guests tables refl refl refl refl refl place).0

@@ -1,35 +1,59 @@
-use Rattle.std.proofs.Common.{None, refl, arith}
-use Rattle.std.specs.Vec.{with_item}
+use Rattle.std.proofs.Common.{◌≡◌, refl, ap, ◌∙◌, ℕ, Option, None, IfSome, ◌<◌, length, get_or, subst, sym}
+use Rattle.wh_host_model.specs.Space.Parts.{Slots}
 use Rattle.wh_space.specs.declared.memory.Memory.TheInside.{Inside}
 use Rattle.wh_space.specs.Parts.{space_of}
-use Rattle.wh_space.proofs.LeavingMemory.{IsGone, all_can, is_gone, is_here}
+use Rattle.wh_space.specs.Pinning.{pins_of}
+use Rattle.wh_space.specs.Slotting.{leaver_of, voids_slot}
+use Rattle.wh_space.proofs.Earmarked.{ends_pins, may_end}
+use Rattle.wh_space.proofs.LeavingMemory.{IsGone, is_gone, is_here, pages_can, slots_can}
+use Rattle.wh_space.proofs.Voids.{leaver_within}
 use Rattle.wh_space.proofs.memory.Memory.exit.Goals as goal
 
-pub let_pages_go-requires : goal.let_pages_go-requires
-let_pages_go-requires c =
+pub end_pins-requires-clause-once : goal.end_pins-requires-clause-once
+end_pins-requires-clause-once c = (may_end (space_of c.self.inside) c.args.place c.self.invariant.sound.frames).once
+
+pub end_pins-requires-clause-there : goal.end_pins-requires-clause-there
+end_pins-requires-clause-there c = (may_end (space_of c.self.inside) c.args.place c.self.invariant.sound.frames).there
+
+pub let_pages_go-requires-clause-frames : goal.let_pages_go-requires-clause-frames
+let_pages_go-requires-clause-frames c =
     let here = is_here c.self.inside c.args.place c.args.self.now c.self.view_is c.self.invariant.sound c.requires in
-    (all_can (space_of c.self.inside) c.args.place c.self.invariant.sound here.row).can
+    pages_can c.self.inside c.args.place c.end_pins.new.pool (pins_of c.end_pins.new.pins) c.self.invariant.sound here
+    (ends_pins (space_of c.self.inside) c.args.place c.end_pins.new.pool (pins_of c.end_pins.new.pins) c.end_pins.ensures.pins c.end_pins.ensures.pool)
+
+pub let_pages_go-requires-clause-slots : goal.let_pages_go-requires-clause-slots
+let_pages_go-requires-clause-slots c =
+    let here = is_here c.self.inside c.args.place c.args.self.now c.self.view_is c.self.invariant.sound c.requires in
+    (slots_can c.self.inside c.args.place c.self.invariant.sound here).can
+
+pub void_slot-requires : goal.void_slot-requires
+void_slot-requires c =
+    let a : Inside = c.self.inside in
+    let here = is_here a c.args.place c.args.self.now c.self.view_is c.self.invariant.sound c.requires in
+    let left = slots_can a c.args.place c.self.invariant.sound here in
+    let within = leaver_within a c.args.place c.leaver_at.result c.self.invariant.sound.slots c.leaver_at.ensures in
+    let long : length c.let_pages_go.new.slots.uses ≡ length a.slots.uses = ap (λ (z : Slots). length z.uses) c.let_pages_go.ensures.slots ∙ left.left.many in
+    subst (λ (n : ℕ). IfSome c.leaver_at.result (λ k. k < n)) (sym long) within
 
 pub clear_at-requires : goal.clear_at-requires
 clear_at-requires c = (is_here c.self.inside c.args.place c.args.self.now c.self.view_is c.self.invariant.sound c.requires).table
 
-pub index_mut-requires : goal.index_mut-requires
-index_mut-requires c =
-    let here = is_here c.self.inside c.args.place c.args.self.now c.self.view_is c.self.invariant.sound c.requires in
-    omega (arith, c.self.inside.guests.ok.0, here.place)
+pub let_guest_go-requires : goal.let_guest_go-requires
+let_guest_go-requires c = (is_here c.self.inside c.args.place c.args.self.now c.self.view_is c.self.invariant.sound c.requires).place
+
+gone : (c : goal.After-let_guest_go) → IsGone c.self.inside (record c.self.inside { guests = c.let_guest_go.new.guests; tables = c.clear_at.new.tables; pool = c.let_pages_go.new.pool; content = c.let_pages_go.new.content; slots = c.void_slot.new.slots; pins = c.end_pins.new.pins }) c.args.place
+gone c =
+    let a : Inside = c.self.inside in
+    let b : Inside = record a { guests = c.let_guest_go.new.guests; tables = c.clear_at.new.tables; pool = c.let_pages_go.new.pool; content = c.let_pages_go.new.content; slots = c.void_slot.new.slots; pins = c.end_pins.new.pins } in
+    let here = is_here a c.args.place c.args.self.now c.self.view_is c.self.invariant.sound c.requires in
+    let ended = ends_pins (space_of a) c.args.place c.end_pins.new.pool (pins_of c.end_pins.new.pins) c.end_pins.ensures.pins c.end_pins.ensures.pool in
+    let slots = c.void_slot.ensures
+    ∙ (ap (λ (o : Option ℕ). voids_slot o c.let_pages_go.new.slots) c.leaver_at.ensures
+    ∙ ap (λ (z : Slots). voids_slot (leaver_of (get_or a.guests.items c.args.place None)) z) c.let_pages_go.ensures.slots) in
+    is_gone a b c.args.place c.end_pins.new.pool c.self.invariant here c.let_guest_go.ensures c.clear_at.ensures.pages c.clear_at.ensures.marks c.clear_at.ensures.limits ended c.let_pages_go.ensures.frames slots refl
 
 pub invariant_of-self : goal.invariant_of-self
-invariant_of-self c =
-    let a : Inside = c.self.inside in
-    let b : Inside = record a { guests = with_item a.guests c.args.place None; tables = c.clear_at.new.tables; pool = c.let_pages_go.new.pool; content = c.let_pages_go.new.content } in
-    let here = is_here a c.args.place c.args.self.now c.self.view_is c.self.invariant.sound c.requires in
-    let gone : IsGone a b c.args.place = is_gone a b c.args.place c.self.invariant here refl c.clear_at.ensures.pages c.clear_at.ensures.marks c.clear_at.ensures.limits c.let_pages_go.ensures refl refl in
-    gone.well
+invariant_of-self c = (gone c).well
 
 pub returns : goal.returns
-returns c =
-    let a : Inside = c.self.inside in
-    let b : Inside = record a { guests = with_item a.guests c.args.place None; tables = c.clear_at.new.tables; pool = c.let_pages_go.new.pool; content = c.let_pages_go.new.content } in
-    let here = is_here a c.args.place c.args.self.now c.self.view_is c.self.invariant.sound c.requires in
-    let gone : IsGone a b c.args.place = is_gone a b c.args.place c.self.invariant here refl c.clear_at.ensures.pages c.clear_at.ensures.marks c.clear_at.ensures.limits c.let_pages_go.ensures refl refl in
-    rw (← c.self.view_is) gone.exits
+returns c = rw (← c.self.view_is) (gone c).exits

@@ -48,7 +48,7 @@ also c =
 pub invariant_of-self : goal.invariant_of-self
 invariant_of-self c =
     let k = also c in
-    grew_well c.self.inside (record c.self.inside { tables = c.grow_at.new.tables }) c.args.place c.args.pages k.here c.self.invariant refl c.grow_at.ensures.limits (grew c) k.room
+    grew_well c.self.inside (record c.self.inside { tables = c.grow_at.new.tables }) c.args.place c.args.pages k.here k.live c.self.invariant refl c.grow_at.ensures.limits refl (grew c) k.room
 
 pub returns-clause-grows : goal.returns-clause-grows
 returns-clause-grows c =

@@ -28,3 +28,11 @@ returns-then-first-pages-2 c = λ ready.
     let pages = on_one_page need.at need.length (omega arith) (omega arith) in
     let long : length (get_or s.tables i []) ≤ p = (let k = ap (λ (z : Space). length (get_or z.tables i [])) c.self.view_is in omega (arith, c.len_at.ensures, c.from-pages.ensures)) in
     first_away s i p [] (beyond s i p long) (subst (All (λ q. Hand s i q)) pages ready.0))
+
+pub returns : goal.returns
+returns c =
+    let s = c.args.self.now in
+    let need = c.args.need in
+    let P : List ℕ → Type 0 = λ ps. MatchBool c.can_step.result (CanStep s c.args.place need.writes ps) (¬ CanStep s c.args.place need.writes ps) in
+    let pages = on_one_page need.at need.length (omega arith) (omega arith) in
+    subst P (sym pages) c.can_step.ensures

@@ -1,6 +1,8 @@
-use Rattle.std.proofs.Common.{refl, ◌≡◌}
+use Rattle.std.proofs.Common.{refl, ◌≡◌, ◌∙◌, ap, ℕ, Option, None, get_or}
 use Rattle.wh_host_model.specs.Space.Parts.{sharers}
 use Rattle.wh_space.specs.Parts.{space_of}
+use Rattle.wh_space.specs.Slotting.{leaver_of, voids_leaver}
+use Rattle.wh_space.proofs.Voids.{leaver_within}
 use Rattle.wh_space.proofs.Owning.{IsOwned, IsSharer, can_keep_last, is_sharer, last_leaves, owned_by}
 use Rattle.wh_space.proofs.memory.Memory.keep_last.Goals as goal
 
@@ -10,17 +12,23 @@ drop_sharer-requires c = (is_sharer (space_of c.self.inside) c.args.place c.args
 pub stand_alone-requires : goal.stand_alone-requires
 stand_alone-requires c = (is_sharer (space_of c.self.inside) c.args.place c.args.number c.args.frame c.self.invariant.sound (rw (← c.self.view_is) at c.requires.shares)).number
 
+pub void_written-requires : goal.void_written-requires
+void_written-requires c = leaver_within c.self.inside c.args.place c.leaver_at.result c.self.invariant.sound.slots c.leaver_at.ensures
+
 sharer : (c : goal.After-stand_alone) → IsSharer (space_of c.self.inside) c.args.place c.args.number c.args.frame
 sharer c = is_sharer (space_of c.self.inside) c.args.place c.args.number c.args.frame c.self.invariant.sound (rw (← c.self.view_is) at c.requires.shares)
 
 last : (c : goal.After-stand_alone) → sharers (space_of c.self.inside) c.args.frame ≡ 1
 last c = rw (← c.self.view_is) at c.requires.last
 
-is_owned : (c : goal.After-stand_alone) → IsOwned c.self.inside (record c.self.inside { tables = c.stand_alone.new.tables; content = c.drop_sharer.new.self }) c.args.place c.args.number c.args.frame
+void : (c : goal.After-stand_alone) → c.void_written.new.slots ≡ voids_leaver (leaver_of (get_or c.self.inside.guests.items c.args.place None)) c.page_of-page.result c.self.inside.slots
+void c = c.void_written.ensures ∙ ap (λ (o : Option ℕ). voids_leaver o c.page_of-page.result c.self.inside.slots) c.leaver_at.ensures
+
+is_owned : (c : goal.After-stand_alone) → IsOwned c.self.inside (record c.self.inside { tables = c.stand_alone.new.tables; content = c.drop_sharer.new.self; slots = c.void_written.new.slots }) c.args.place c.args.number c.args.frame
 is_owned c =
     let x = sharer c in
-    owned_by c.self.inside (record c.self.inside { tables = c.stand_alone.new.tables; content = c.drop_sharer.new.self }) c.args.place c.args.number c.args.frame x.page c.self.invariant refl refl refl
-    c.stand_alone.ensures.pages c.stand_alone.ensures.marks c.stand_alone.ensures.limits x.there
+    owned_by c.self.inside (record c.self.inside { tables = c.stand_alone.new.tables; content = c.drop_sharer.new.self; slots = c.void_written.new.slots }) c.args.place c.args.number c.args.frame x.page c.page_of-page.result c.self.invariant refl (void c) refl
+    c.stand_alone.ensures.pages c.stand_alone.ensures.marks c.stand_alone.ensures.limits x.there c.page_of-page.ensures
     (last_leaves (space_of c.self.inside) c.args.place c.args.frame x.page c.drop_sharer.new.self x.one (last c) c.drop_sharer.ensures)
 
 pub invariant_of-self : goal.invariant_of-self

@@ -16,7 +16,7 @@ pub invariant_of-self : goal.invariant_of-self
 invariant_of-self c =
     let a = c.self.inside in
     let b = record a { tables = c.clear_marks.new.tables } in
-    well a b c.self.invariant refl (ap limits_in c.clear_marks.ensures ∙ same_limits a.tables.items) (epochs_soundly (space_of a) (space_of b) c.self.invariant.sound (epochs c))
+    well a b c.self.invariant refl (ap limits_in c.clear_marks.ensures ∙ same_limits a.tables.items) refl (epochs_soundly (space_of a) (space_of b) c.self.invariant.sound (epochs c))
 
 pub returns : goal.returns
 returns c = rw (← c.self.view_is) (epochs c)

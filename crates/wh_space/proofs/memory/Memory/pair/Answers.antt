@@ -49,8 +49,8 @@ invariant_of-self c =
     let b : Inside = record a { tables = c.put_page-2.new.tables; pool = c.give.new.self; content = c.share.new.self } in
     let marks = c.share.ensures ∙ ap (λ (m : List Mark). slice_set m c.args.shared (Sharers c.args.hash 2)) c.forget_frame.ensures in
     let pages = c.put_page-2.ensures.pages ∙ ap (λ (t : List (List Page)). put t c.args.other_place c.args.other_page (Shared c.args.shared)) c.put_page.ensures.pages in
-    let is = remade_is a b _ _ _ _ refl refl refl pages (c.put_page-2.ensures.marks ∙ c.put_page.ensures.marks) c.give.ensures.gives marks in
-    well a b c.self.invariant refl (c.put_page-2.ensures.limits ∙ c.put_page.ensures.limits)
+    let is = remade_is a b _ _ _ _ refl refl refl refl pages (c.put_page-2.ensures.marks ∙ c.put_page.ensures.marks) c.give.ensures.gives marks in
+    well a b c.self.invariant refl (c.put_page-2.ensures.limits ∙ c.put_page.ensures.limits) refl
     (subst IsSound (sym is)
     (paired_sound (space_of a) c.args.place c.args.page c.args.frame c.args.shared c.args.hash c.args.other_place c.args.other_page c.self.invariant.sound
     (rw (← c.self.view_is) at c.requires.offered) (rw (← c.self.view_is) at c.requires.some) (rw (← c.self.view_is) at c.requires.same) c.requires.apart

@@ -1,17 +1,30 @@
-use Rattle.std.proofs.Common.{refl, ◌≡◌, ◌≤◌, ◌∷◌, [], length, ap, arith, length-append, ◌∙◌, rules}
-use Rattle.wh_host_model.specs.Frames.{Pool}
-use Rattle.wh_host_model.specs.Space.Parts.{sharers}
+use Rattle.std.proofs.Common.{refl, ◌≡◌, ◌≤◌, ◌∙◌, ap, ℕ, Option, None, get_or}
+use Rattle.wh_host_model.specs.Space.Parts.{Space, sharers}
 use Rattle.wh_space.specs.Parts.{space_of}
+use Rattle.wh_space.specs.Pinning.{pins_of}
+use Rattle.wh_space.specs.Slotting.{leaver_of, voids_leaver}
+use Rattle.wh_space.proofs.Earmarked.{goes_other, goes_some, goes_taken}
+use Rattle.wh_space.proofs.Voids.{leaver_within}
 use Rattle.wh_space.proofs.Owning.{IsOwned, IsSharer, can_copy, cannot_copy, copy_leaves, is_sharer, owned_by}
 use Rattle.wh_space.proofs.memory.Memory.take_copy.Goals as goal
 
 pub copy-requires-clause-from : goal.copy-requires-clause-from
 copy-requires-clause-from c =
-    let x = is_sharer (space_of c.self.inside) c.args.place c.args.number c.args.frame c.self.invariant.sound (rw (← c.self.view_is) at c.requires.shares) in
-    (c.in-Ok.ensures.others c.args.frame x.taken).1
+    let s : Space = space_of c.self.inside in
+    let x = is_sharer s c.args.place c.args.number c.args.frame c.self.invariant.sound (rw (← c.self.view_is) at c.requires.shares) in
+    goes_other s c.args.place c.in_ok-fresh.fresh c.args.frame c.take_frame.new.pool (pins_of c.take_frame.new.pins) x.taken c.in_ok-fresh.ensures.some
+
+pub copy-requires-clause-to : goal.copy-requires-clause-to
+copy-requires-clause-to c = goes_taken (space_of c.self.inside) c.args.place c.in_ok-fresh.fresh c.take_frame.new.pool (pins_of c.take_frame.new.pins) c.self.invariant.sound.frames c.in_ok-fresh.ensures.some
 
 pub drop_sharer-requires : goal.drop_sharer-requires
 drop_sharer-requires c = (is_sharer (space_of c.self.inside) c.args.place c.args.number c.args.frame c.self.invariant.sound (rw (← c.self.view_is) at c.requires.shares)).entry
+
+pub page_of-page-requires : goal.page_of-page-requires
+page_of-page-requires c = (is_sharer (space_of c.self.inside) c.args.place c.args.number c.args.frame c.self.invariant.sound (rw (← c.self.view_is) at c.requires.shares)).number
+
+pub void_written-requires : goal.void_written-requires
+void_written-requires c = leaver_within c.self.inside c.args.place c.leaver_at.result c.self.invariant.sound.slots c.leaver_at.ensures
 
 pub stand_alone-requires : goal.stand_alone-requires
 stand_alone-requires c = (is_sharer (space_of c.self.inside) c.args.place c.args.number c.args.frame c.self.invariant.sound (rw (← c.self.view_is) at c.requires.shares)).number
@@ -22,12 +35,15 @@ sharer c = is_sharer (space_of c.self.inside) c.args.place c.args.number c.args.
 several : (c : goal.After-stand_alone) → 2 ≤ sharers (space_of c.self.inside) c.args.frame
 several c = rw (← c.self.view_is) at c.requires.several
 
-is_owned : (c : goal.After-stand_alone) → IsOwned c.self.inside (record c.self.inside { tables = c.stand_alone.new.tables; pool = c.copy.new.self; content = c.drop_sharer.new.self }) c.args.place c.args.number c.in-Ok.fresh
+void : (c : goal.After-stand_alone) → c.void_written.new.slots ≡ voids_leaver (leaver_of (get_or c.self.inside.guests.items c.args.place None)) c.page_of-page.result c.self.inside.slots
+void c = c.void_written.ensures ∙ ap (λ (o : Option ℕ). voids_leaver o c.page_of-page.result c.self.inside.slots) c.leaver_at.ensures
+
+is_owned : (c : goal.After-stand_alone) → IsOwned c.self.inside (record c.self.inside { tables = c.stand_alone.new.tables; pool = c.copy.new.self; content = c.drop_sharer.new.self; slots = c.void_written.new.slots; pins = c.take_frame.new.pins }) c.args.place c.args.number c.in_ok-fresh.fresh
 is_owned c =
     let x = sharer c in
-    owned_by c.self.inside (record c.self.inside { tables = c.stand_alone.new.tables; pool = c.copy.new.self; content = c.drop_sharer.new.self }) c.args.place c.args.number c.in-Ok.fresh x.page c.self.invariant refl refl refl
-    c.stand_alone.ensures.pages c.stand_alone.ensures.marks c.stand_alone.ensures.limits x.there
-    (copy_leaves (space_of c.self.inside) c.args.place c.args.frame c.in-Ok.fresh x.page c.drop_sharer.new.self c.take.new.self c.copy.new.self x.one (several c) c.drop_sharer.ensures c.in-Ok.ensures.takes c.copy.ensures)
+    owned_by c.self.inside (record c.self.inside { tables = c.stand_alone.new.tables; pool = c.copy.new.self; content = c.drop_sharer.new.self; slots = c.void_written.new.slots; pins = c.take_frame.new.pins }) c.args.place c.args.number c.in_ok-fresh.fresh x.page c.page_of-page.result c.self.invariant refl (void c) refl
+    c.stand_alone.ensures.pages c.stand_alone.ensures.marks c.stand_alone.ensures.limits x.there c.page_of-page.ensures
+    (copy_leaves (space_of c.self.inside) c.args.place c.args.frame c.in_ok-fresh.fresh x.page c.drop_sharer.new.self c.take_frame.new.pool c.copy.new.self (pins_of c.take_frame.new.pins) x.one (several c) c.drop_sharer.ensures c.in_ok-fresh.ensures.some c.copy.ensures)
 
 pub invariant_of-self-2 : goal.invariant_of-self-2
 invariant_of-self-2 c = (is_owned c).well
@@ -36,16 +52,14 @@ pub returns : goal.returns
 returns c =
     let x = sharer c in
     let o = is_owned c in
-    let free = ap length c.in-Ok.ensures.takes.free in
-    let more = length-append c.take.new.self.free (c.in-Ok.fresh ∷ []) in
-    rw (← c.self.view_is) (can_copy (space_of c.self.inside) c.args.place c.args.number c.args.frame x.page c.self.invariant.sound x.there x.one (several c) (omega arith), o.breaks, o.page)
+    let some = goes_some (space_of c.self.inside) c.args.place c.in_ok-fresh.fresh c.take_frame.new.pool (pins_of c.take_frame.new.pins) c.in_ok-fresh.ensures.some in
+    rw (← c.self.view_is) (can_copy (space_of c.self.inside) c.args.place c.args.number c.args.frame x.page c.self.invariant.sound x.there x.one (several c) some, o.breaks, o.page)
 
-pub returns-in_default : goal.returns-in_default
-returns-in_default c =
-    let s = space_of c.self.inside in
+pub returns-in_err-fresh : goal.returns-in_err-fresh
+returns-in_err-fresh c =
+    let s : Space = space_of c.self.inside in
     let x = is_sharer s c.args.place c.args.number c.args.frame c.self.invariant.sound (rw (← c.self.view_is) at c.requires.shares) in
-    let empty : s.pool.free ≡ [] = (search rules) in
-    let none : length s.pool.free ≡ 0 = rw empty refl in (
-      rw (← c.self.view_is) (cannot_copy s c.args.place c.args.number c.args.frame x.page c.self.invariant.sound x.there x.one (rw (← c.self.view_is) at c.requires.several) (omega arith)),
-      ap (λ (p : Pool). record s { pool = p }) c.in_default.ensures.unchanged ∙ c.self.view_is,
+    rw c.from_residual.ensures (
+      rw (← c.self.view_is) (cannot_copy s c.args.place c.args.number c.args.frame x.page c.self.invariant.sound x.there x.one (rw (← c.self.view_is) at c.requires.several) c.in_err-fresh.ensures.none),
+      rw (c.in_err-fresh.ensures.pool, c.in_err-fresh.ensures.pins) c.self.view_is,
     )

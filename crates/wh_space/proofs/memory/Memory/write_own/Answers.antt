@@ -19,7 +19,7 @@ fills c = rw c.write_frame.ensures (fills_page (space_of c.self.inside) c.args.p
 pub invariant_of-self : goal.invariant_of-self
 invariant_of-self c =
     let a : Inside = c.self.inside in
-    well a (record a { pool = c.write_frame.new.pool }) c.self.invariant refl refl
+    well a (record a { pool = c.write_frame.new.pool }) c.self.invariant refl refl refl
     (filled_sound (space_of a) c.args.place (4096 * c.args.number + c.args.offset) c.args.given.now (space_of (record a { pool = c.write_frame.new.pool })) c.self.invariant.sound (fills c))
 
 pub returns-clause-fills : goal.returns-clause-fills

@@ -20,4 +20,5 @@ invariant_of-self c =
       room = omega (arith, same, c.self.invariant.room, c.add.ensures.room);
       few = omega (arith, same, c.self.invariant.few);
       vacant = rw (same, c.add.ensures.items) (once_given (length a.uses.items) c.args.slot a.vacant.items c.self.invariant.vacant there taken);
+      held = omega (arith, same, c.self.invariant.held);
     }

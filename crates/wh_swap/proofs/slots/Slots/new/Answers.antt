@@ -1,4 +1,6 @@
-use Rattle.std.proofs.Common.{◌≡◌, length, arith}
+use Rattle.std.proofs.Common.{◌≡◌, ℕ, List, [], length, sym, ap, ◌∙◌, arith}
+use Rattle.std.proofs.lemmas.List.{length-map, length-replicate}
+use Rattle.boxcar.specs.declared.tag.Tag.{Tag}
 use Rattle.wh_swap.proofs.Once.{once_below}
 use Rattle.wh_swap.proofs.slots.Slots.new.Goals as goal
 
@@ -10,4 +12,5 @@ invariant_of-result c =
       room = omega (arith, many, c.in_ok-numbers.ensures.room);
       few = omega (arith, many);
       vacant = rw (many, c.in_ok-numbers.ensures.items) (once_below c.args.slots);
+      held = omega (arith, many, sym (length-map c.in_ok-nothing.field-0.items (λ (t : Tag). t.numbers)) ∙ (ap length c.in_ok-nothing.ensures ∙ length-replicate {A = List ℕ} c.args.slots []));
     }

@@ -17,6 +17,7 @@ invariant_of-self-2 c =
       room = omega (arith, same, c.self.invariant.room, c.in_ok-slot.ensures.capacity);
       few = omega (arith, same, c.self.invariant.few);
       vacant = rw same took.0;
+      held = omega (arith, same, c.self.invariant.held);
     }
 
 pub returns-clause-there : goal.returns-clause-there

@@ -1,0 +1,56 @@
+use Rattle.std.proofs.Common.{◌≡◌, [], refl, sym, arith}
+use Rattle.wh_host_model.specs.declared.states.Slot.TheVariants.{Evicting}
+use Rattle.wh_host_model.specs.Space.Claims.{CanLeave}
+use Rattle.wh_host_model.specs.Space.Parts.{Space, frame_bytes}
+use Rattle.wh_host_model.specs.Space.Tickets.{departing}
+use Rattle.wh_host_model.proofs.Space.Begun.{is_sound_begun}
+use Rattle.wh_host_model.proofs.Space.Putting.{get_or_is, is_page}
+use Rattle.wh_host_model.proofs.Space.Reading.{taken_under}
+use Rattle.wh_host_model.proofs.Space.Slotting.{vacant_there}
+use Rattle.wh_space.specs.declared.memory.Memory.TheInside.{Inside}
+use Rattle.wh_space.specs.Parts.{IsWell, space_of}
+use Rattle.wh_space.proofs.Moving.{can_depart, departed_now, may_depart, page_stays, taken_slot}
+use Rattle.wh_space.proofs.Transiting.{tickets_few}
+use Rattle.wh_space.proofs.memory.Memory.depart.Goals as goal
+
+pub unreachable-requires : goal.unreachable-requires
+unreachable-requires c =
+    let can : CanLeave (space_of c.self.inside) c.args.place c.args.page = rw (← c.self.view_is) at c.requires.can in
+    let new = can_depart c.page_of.result (page_stays (space_of c.self.inside).tables c.args.place c.args.page c.page_of.result c.page_of.ensures can.0) in
+    c.in_default.ensures new.0 new.1
+
+pub bytes-requires : goal.bytes-requires
+bytes-requires c = taken_under (space_of c.self.inside) c.args.place c.args.page c.page_of.result c.in-Some.frame c.self.invariant.sound.frames c.page_of.ensures c.in-Some.ensures.0
+
+pub put_page-requires : goal.put_page-requires
+put_page-requires c = (is_page (space_of c.self.inside).tables c.args.place c.args.page c.page_of.result c.page_of.ensures).1
+
+pub begin_leaving-requires-clause-there : goal.begin_leaving-requires-clause-there
+begin_leaving-requires-clause-there c = (may_depart c.self.inside c.args.place c.args.page (rw (← c.self.view_is) at c.requires.can)).less
+
+pub begin_leaving-requires-clause-few : goal.begin_leaving-requires-clause-few
+begin_leaving-requires-clause-few c =
+    tickets_few c.self.inside c.args.place c.self.invariant (omega (arith, c.len-slots.ensures)) (may_depart c.self.inside c.args.place c.args.page (rw (← c.self.view_is) at c.requires.can)).less
+
+ended : (c : goal.After-begin_leaving) → (space_of (record c.self.inside { guests = c.begin_leaving.new.guests; slots = c.take.new.self; tables = c.put_page.new.tables }) ≡ departing (space_of c.self.inside) c.args.place c.args.page c.in-Some-take.slot c.take.new.self.vacant c.in-Some.now)
+    × IsWell (record c.self.inside { guests = c.begin_leaving.new.guests; slots = c.take.new.self; tables = c.put_page.new.tables })
+ended c =
+    let a : Inside = c.self.inside in
+    let s : Space = space_of a in
+    let can : CanLeave s c.args.place c.args.page = rw (← c.self.view_is) at c.requires.can in
+    let may = may_depart a c.args.place c.args.page can in
+    let list = c.in-Some-take.ensures.vacant in
+    let vacant = vacant_there s c.in-Some-take.slot c.take.new.self.vacant c.self.invariant.sound.slots list in
+    departed_now a (record a { guests = c.begin_leaving.new.guests; slots = c.take.new.self; tables = c.put_page.new.tables }) c.args.place c.args.page c.in-Some-take.slot c.take.new.self.vacant c.in-Some.now may.occupant c.self.invariant
+    (is_sound_begun s c.args.place c.args.page c.in-Some-take.slot c.take.new.self.vacant c.page_of.result c.in-Some.now c.self.invariant.sound can c.page_of.ensures c.in-Some.ensures.1 list) vacant may.there c.begin_leaving.ensures
+    (taken_slot a.slots c.take.new.self c.in-Some-take.slot (Evicting c.args.place c.args.page) c.in-Some-take.ensures.uses c.in-Some-take.ensures.held)
+    c.put_page.ensures.pages c.put_page.ensures.marks c.put_page.ensures.limits refl refl refl refl
+
+pub invariant_of-self : goal.invariant_of-self
+invariant_of-self c = (ended c).1
+
+pub returns : goal.returns
+returns c =
+    let s : Space = space_of c.self.inside in
+    let bytes : c.bytes.result.now ≡ frame_bytes s c.in-Some.frame = sym (get_or_is s.pool.frames c.in-Some.frame c.bytes.result.now [] c.bytes.ensures) in
+    rw (← c.self.view_is) (c.in-Some.frame, c.page_of.result, c.in-Some.now, c.page_of.ensures, c.in-Some.ensures.0, c.in-Some.ensures.1, bytes, c.take.new.self.vacant, c.in-Some-take.ensures.vacant, (ended c).0)

@@ -1,0 +1,78 @@
+// What slots are used for when pages are written or go.
+
+ghost use Rattle.std.specs.Prelude.{◌≡◌, ◌<◌, IfSome, None, length, get_or};
+ghost use Rattle.wh_space.specs.Slotting.{CanLeaveSlot, leaver_of, slot_gone, void_use, voids_leaver, voids_slot};
+
+use crate::guest::Guest;
+use wh_host_model::{Page, Slot};
+use wh_swap::Slots;
+
+// The use of a slot whose ticket is void, if there is one.
+fn voided_use(used: Slot) -> Slot
+    ensures { result ≡ void_use used }
+{
+    match used {
+        Slot::Evicting { place, .. } => Slot::EvictVoid { place },
+        Slot::Fetching { place, frame, .. } => Slot::FetchVoid { place, frame },
+        Slot::Vacant => Slot::Vacant,
+        Slot::Taken => Slot::Taken,
+        Slot::EvictVoid { place } => Slot::EvictVoid { place },
+        Slot::FetchVoid { place, frame } => Slot::FetchVoid { place, frame },
+    }
+}
+
+// The slot by which a page of the instance at a place leaves, if one does.
+pub fn leaver_at(guests: &Vec<Option<Guest>>, place: usize) -> Option<u32>
+    ensures { result ≡ leaver_of (get_or guests.now.items place None) }
+{
+    if place >= guests.len() {
+        return None;
+    }
+    match guests[place] {
+        Some(guest) => guest.leaves,
+        None => None,
+    }
+}
+
+// The ticket of a slot is void, if there is one.
+pub fn void_slot(slots: &mut Slots, slot: Option<u32>)
+    requires { IfSome slot (λ k. k < length slots.old.uses) }
+    ensures { slots.new ≡ voids_slot slot slots.old }
+{
+    if let Some(slot) = slot {
+        let used = slots.get(slot);
+        slots.set(slot, voided_use(used));
+    }
+}
+
+// A page was written. If it was leaving by this slot, the ticket is void.
+pub fn void_written(slots: &mut Slots, slot: Option<u32>, page: Page)
+    requires { IfSome slot (λ k. k < length slots.old.uses) }
+    ensures { slots.new ≡ voids_leaver slot page slots.old }
+{
+    match page {
+        Page::Leaving(_) => void_slot(slots, slot),
+        Page::LeavingShared(_) => void_slot(slots, slot),
+        Page::Untouched => {}
+        Page::Private(_) => {}
+        Page::Shared(_) => {}
+        Page::Coming(_) => {}
+        Page::Swapped(_) => {}
+    }
+}
+
+// A page goes, and with it its slot, or the ticket with which it was coming.
+pub fn leave_slot(page: Page, slots: &mut Slots)
+    requires { CanLeaveSlot page slots.old }
+    ensures { slots.new ≡ slot_gone page slots.old }
+{
+    match page {
+        Page::Swapped(slot) => slots.give(slot),
+        Page::Coming(slot) => void_slot(slots, Some(slot)),
+        Page::Untouched => {}
+        Page::Private(_) => {}
+        Page::Shared(_) => {}
+        Page::Leaving(_) => {}
+        Page::LeavingShared(_) => {}
+    }
+}
