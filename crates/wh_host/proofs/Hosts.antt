@@ -13,11 +13,11 @@ use Rattle.wh_host_model.specs.Host.Answers.{Closes, faces_next, is_dead, Turn, 
 use Rattle.wh_host_model.specs.Host.Laws.{PlacesAreTenants}
 use Rattle.wh_host_model.specs.Host.Calls.{Refuels, has_more, Retries, may_try}
 use Rattle.wh_host_model.specs.Host.Events.{Event, turn, epoch}
-use Rattle.wh_host_model.specs.Host.Happens.{AllHappen, Happens, IsTurn, NoInstance, of_none, of_one}
+use Rattle.wh_host_model.specs.Host.Happens.{AllHappen, Happens, IsLive, IsTurn, NoInstance, of_none, of_one}
 use Rattle.wh_host_model.proofs.Host.Holding.{places_are_right}
 use Rattle.wh_host_model.proofs.Host.Opening.{apart_none, apart_steps, apart_then, proceeds_apart}
 use Rattle.wh_instance.specs.Asked.{OfAnyTenant}
-use Rattle.wh_instance.specs.Tenancy.{IsTenant}
+use Rattle.wh_instance.specs.Tenancy.{IsTenant, TenantState}
 use Rattle.wh_space.specs.Arrivals.{IsNew}
 use Rattle.wh_space.specs.Steps.{limit_by}
 use Rattle.wh_host.specs.declared.parts.LoadedModule.{LoadedModule}
@@ -161,6 +161,9 @@ changed h w place x y t2 s2 st at_slot number lies represents sees reached =
 -- nothing changes
 pub put_back : (h : HostState) (place : ℕ) (x : Resident) → resident_at h.residents place ≡ Some x → record h { residents = slice_set h.residents place (Some x) } ≡ h
 put_back h place x e = ap (λ (zs : List (Option Resident)). let s : HostState = record h { residents = zs } in s) (ap (slice_set h.residents place) (sym e) ∙ set-get_or h.residents place None)
+
+pub kept_back : (h : HostState) (place : ℕ) (x : Resident) (tenant : TenantState) → tenant ≡ x.tenant → resident_at h.residents place ≡ Some x → record h { residents = slice_set h.residents place (Some (record x { tenant = tenant })) } ≡ h
+kept_back h place x tenant same e = ap (λ (z : TenantState). let s : HostState = record h { residents = slice_set h.residents place (Some (record x { tenant = z })) } in s) same ∙ put_back h place x e
 
 -- ---- a turn
 

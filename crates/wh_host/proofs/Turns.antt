@@ -331,13 +331,13 @@ module _ (l : LinkedState) (q : ℕ) (x x2 : TenantState) (v v2 : View) (t : Ten
   stands_nowhere : MayStandAt v2.memory.now v.place None
   stands_nowhere =
       let o = claimed_there v2.memory.now v.place h.lies.claimed claim2 in
-      record { there = (o.0, o.1); within = λ want e. absurd (cc e); few = λ want e. absurd (cc e) }
+      record { there = (o.0, o.1, o.2); within = λ want e. absurd (cc e); few = λ want e. absurd (cc e) }
 
   stands_there : (s : Space) → IsSound s → claim s v.place ≡ Some h.lies.claimed → (need : Need) → IsInMemory (view s v.place) need → MayStandAt s v.place (Some need)
   stands_there s sound at need lies =
       let o = claimed_there s v.place h.lies.claimed at in
       let may = may_stand s v.place o.0 need sound o.2 lies in
-      record { there = (o.0, o.1); within = λ want e. (may want e).1; few = λ want e. (may want e).2 }
+      record { there = (o.0, o.1, o.2); within = λ want e. (may want e).1; few = λ want e. (may want e).2 }
 
   wanted : t.open_calls ≢ [] → (need : Need) (still : Bool) → made ≡ turned.Frame need still → IsInMemory (view v2.memory.now v.place) need
   wanted some need still is =

@@ -1,5 +1,5 @@
 -- What contracts see of a host, and for which host of the definitions it stands.
-use Rattle.std.specs.Prelude.{◌≡◌, ℕ, ◌/◌, ◌≤◌, List, length, map, slice_get, slice_index_or, Option, Some, None}
+use Rattle.std.specs.Prelude.{◌≡◌, ℕ, ◌/◌, ◌≤◌, List, [], length, map, slice_get, slice_index_or, Option, Some, None}
 use Rattle.wh_host_model.specs.declared.Tax.{Tax}
 use Rattle.wh_host_model.specs.Space.Parts.{Space, view}
 use Rattle.wh_host_model.specs.Host.Worlds.{Tenant, Loaded, World, tenant, empty_world}

@@ -17,9 +17,9 @@ use Rattle.wh_host.specs.Lying.{LiesAt}
 abbrev pub TurnsTo : LinkedState → ℕ → ℕ → Space → Tenant → TurnEnd → ℕ → TenantState → Space → Type 0
 TurnsTo l limit q s t end place x2 s3 = (t2 : Tenant) × Turn q s t end s3 t2 × LiesAt l limit x2 s3 place t2
 
--- somebody has the place, and these bytes lie in its table
+-- an instance has the place, and these bytes lie in its table
 pub record MayStandAt (s : Space) (place : ℕ) (need : Option Need) : Type 0 where
-  pub there : (o : Occupant) × occupant_at s place o
+  pub there : (o : Occupant) × occupant_at s place o × (o.live ≡ true)
   pub within : (want : Need) → need ≡ Some want → want.at + want.length ≤ 4096 * length (get_or s.tables place [])
   pub few : (want : Need) → need ≡ Some want → want.length ≤ 4096
 
