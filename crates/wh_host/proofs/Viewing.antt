@@ -59,11 +59,11 @@ lent first sound = record {
 
 -- ---- over another memory with the same bytes
 
-module _ {M N : Type 0} (p : ProgramParts) (n : ℕ) (B : M → List ℕ) (R : M → Need → Type 0) (K : M → M → Type 0) (B2 : N → List ℕ) (R2 : N → Need → Type 0) (K2 : N → N → Type 0) (m : M) (m2 : N) (same : B2 m2 ≡ B m) where
-  store_over : (k : code_store.Store) (inst : Instance) (r : Rest) → (c : Context) × RepresentsInstance p k (B m) n c inst (store_with (B m) r) → (c : Context) × RepresentsInstance p k (B2 m2) n c inst (store_with (B2 m2) r)
+module _ {M N : Type 0} (p : ProgramParts) (n : ℕ) (bytes : M → List ℕ) (ready : M → Need → Type 0) (keeps : M → M → Type 0) (bytes2 : N → List ℕ) (ready2 : N → Need → Type 0) (keeps2 : N → N → Type 0) (m : M) (m2 : N) (same : bytes2 m2 ≡ bytes m) where
+  store_over : (k : code_store.Store) (inst : Instance) (r : Rest) → (c : Context) × RepresentsInstance p k (bytes m) n c inst (store_with (bytes m) r) → (c : Context) × RepresentsInstance p k (bytes2 m2) n c inst (store_with (bytes2 m2) r)
   store_over k inst r = subst (λ b. (c : Context) × RepresentsInstance p k b n c inst (store_with b r)) (sym same)
 
-  starting_over : (machine : Machine) (k : code_store.Store) (inst : Instance) (call : Call) (r : Rest) (ps : List Piece) → IsStarting (setting_of p B R K n) (call_state machine k m) inst call r ps → IsStarting (setting_of p B2 R2 K2 n) (call_state machine k m2) inst call r ps
+  starting_over : (machine : Machine) (k : code_store.Store) (inst : Instance) (call : Call) (r : Rest) (ps : List Piece) → IsStarting (setting_of p bytes ready keeps n) (call_state machine k m) inst call r ps → IsStarting (setting_of p bytes2 ready2 keeps2 n) (call_state machine k m2) inst call r ps
   starting_over machine k inst call r ps st = record {
     store = store_over k inst r st.store;
     within = subst (λ b. Within (length b) ps) (sym same) st.within;
@@ -74,7 +74,7 @@ module _ {M N : Type 0} (p : ProgramParts) (n : ℕ) (B : M → List ℕ) (R : M
     calls_own = st.calls_own;
   }
 
-  faced_over : (machine : Machine) (k : code_store.Store) (inst : Instance) (call : Call) (r : Rest) (func : ℕ) (args : List ℕ) (t : Term) → IsFaced (setting_of p B R K n) (call_state machine k m) inst call r func args t → IsFaced (setting_of p B2 R2 K2 n) (call_state machine k m2) inst call r func args t
+  faced_over : (machine : Machine) (k : code_store.Store) (inst : Instance) (call : Call) (r : Rest) (func : ℕ) (args : List ℕ) (t : Term) → IsFaced (setting_of p bytes ready keeps n) (call_state machine k m) inst call r func args t → IsFaced (setting_of p bytes2 ready2 keeps2 n) (call_state machine k m2) inst call r func args t
   faced_over machine k inst call r func args t f = record {
     store = store_over k inst r f.store;
     invocation = subst (λ b. Invocation inst (store_with b r) call (config (store_with b r) [] t)) (sym same) f.invocation;
@@ -83,7 +83,7 @@ module _ {M N : Type 0} (p : ProgramParts) (n : ℕ) (B : M → List ℕ) (R : M
     no_charges = f.no_charges;
   }
 
-  computing_over : (machine : Machine) (k : code_store.Store) (inst : Instance) (call : Call) (r : Rest) (t : Term) → IsComputing (setting_of p B R K n) (call_state machine k m) inst call r t → IsComputing (setting_of p B2 R2 K2 n) (call_state machine k m2) inst call r t
+  computing_over : (machine : Machine) (k : code_store.Store) (inst : Instance) (call : Call) (r : Rest) (t : Term) → IsComputing (setting_of p bytes ready keeps n) (call_state machine k m) inst call r t → IsComputing (setting_of p bytes2 ready2 keeps2 n) (call_state machine k m2) inst call r t
   computing_over machine k inst call r t f = record {
     index = f.index;
     type = f.type;
@@ -96,13 +96,13 @@ module _ {M N : Type 0} (p : ProgramParts) (n : ℕ) (B : M → List ℕ) (R : M
     settled = subst (λ b. IsSettled inst (config (store_with b r) [] t)) (sym same) f.settled;
   }
 
-  where_over : (x : TenantState) (inst : Instance) (r : Rest) (d : Doing) (es : List Entry) → IsWhere (setting_of p B R K n) x m inst r d es → IsWhere (setting_of p B2 R2 K2 n) x m2 inst r d es
+  where_over : (x : TenantState) (inst : Instance) (r : Rest) (d : Doing) (es : List Entry) → IsWhere (setting_of p bytes ready keeps n) x m inst r d es → IsWhere (setting_of p bytes2 ready2 keeps2 n) x m2 inst r d es
   where_over x inst r d es (rests at) = rests at
   where_over x inst r d es (writes {ps = ps} {e = e} at some func st left few) = writes at some func (starting_over x.machine x.store inst e.call r ps st) left few
   where_over x inst r d es (is_faced {func = func} {term = term} {e = e} at f) = is_faced at (faced_over x.machine x.store inst e.call r func _ term f)
   where_over x inst r d es (is_under_way {term = term} {e = e} at c within) = is_under_way at (computing_over x.machine x.store inst e.call r term c) within
 
-  pub represents_over : (x : TenantState) (t : Tenant) → RepresentsTenant (setting_of p B R K n) x m t → RepresentsTenant (setting_of p B2 R2 K2 n) x m2 t
+  pub represents_over : (x : TenantState) (t : Tenant) → RepresentsTenant (setting_of p bytes ready keeps n) x m t → RepresentsTenant (setting_of p bytes2 ready2 keeps2 n) x m2 t
   represents_over x t rep = record {
     store = store_over x.store t.inst t.rest rep.store;
     ended = rep.ended;
