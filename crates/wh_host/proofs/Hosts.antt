@@ -1,5 +1,5 @@
 -- What each call leaves of the host for which the code's host stands.
-use Rattle.std.proofs.Common.{◌≡◌, ◌≢◌, ℕ, zero, suc, ◌/◌, ◌<◌, ◌≤◌, ◌⊎◌, ⊎_elim, inl, inr, Option, Some, None, List, [], ◌∷◌, ◌++◌, length, get_or, slice_get, slice_set, refl, sym, ap, subst, ◌∙◌, arith}
+use Rattle.std.proofs.Common.{◌≡◌, ◌≢◌, ℕ, zero, suc, ◌+◌, ◌/◌, ◌<◌, ◌≤◌, ◌⊎◌, ⊎_elim, inl, inr, Option, Some, None, List, [], ◌∷◌, ◌++◌, length, get_or, slice_get, slice_set, refl, sym, ap, subst, ◌∙◌, arith}
 use Rattle.std.proofs.lemmas.List.{get_or-set_same, get_or-set_other, set-get_or}
 use Rattle.wh_host_model.specs.declared.plain.InstId.{InstId}
 use Rattle.wh_host_model.specs.declared.plain.TurnEnd.{TurnEnd}
@@ -24,35 +24,62 @@ use Rattle.wh_host.specs.declared.parts.LoadedModule.{LoadedModule}
 use Rattle.wh_host.specs.declared.parts.Resident.{Resident}
 use Rattle.wh_host.specs.Lying.{LiesAt}
 use Rattle.wh_host.specs.Lent.{TurnsTo}
-use Rattle.wh_host.specs.Hosting.{HostState, IsHost, IsNewHost, IsReached, IsResident, resident_at}
+use Rattle.wh_host_model.specs.Host.Admission.{live_count}
+use Rattle.wh_host.specs.Seats.{OthersStay}
+use Rattle.wh_host.specs.Hosting.{AreGivenAs, HostState, IsHost, IsNewHost, IsReached, IsResident, resident_at}
 
 -- ---- lists
 
-same_or_not : (m n : ℕ) → (m ≡ n) ⊎ (m ≢ n)
+pub same_or_not : (m n : ℕ) → (m ≡ n) ⊎ (m ≢ n)
 same_or_not zero zero = inl refl
 same_or_not zero (suc n) = inr (λ e. absurd (omega arith))
 same_or_not (suc m) zero = inr (λ e. absurd (omega arith))
 same_or_not (suc m) (suc n) = ⊎_elim (λ e. inl (ap suc e)) (λ never. inr (λ e. never (omega arith))) (same_or_not m n)
 
-some_within : {A : Type 0} (xs : List (Option A)) (i : ℕ) (x : A) → get_or xs i None ≡ Some x → i < length xs
+pub some_within : {A : Type 0} (xs : List (Option A)) (i : ℕ) (x : A) → get_or xs i None ≡ Some x → i < length xs
 some_within [] i x e = absurd (cc e)
 some_within (y ∷ xs) zero x e = omega arith
 some_within (y ∷ xs) (suc i) x e = let h = some_within xs i x e in omega (arith, h)
 
-one_value : {A : Type 0} (x y : A) → Some x ≡ Some y → x ≡ y
+pub one_value : {A : Type 0} (x y : A) → Some x ≡ Some y → x ≡ y
 one_value x y e = cc e
 
-length_set : {A : Type 0} (xs : List A) (i : ℕ) (x : A) → length (slice_set xs i x) ≡ length xs
+pub length_set : {A : Type 0} (xs : List A) (i : ℕ) (x : A) → length (slice_set xs i x) ≡ length xs
 length_set [] i x = refl
 length_set (y ∷ xs) zero x = refl
 length_set (y ∷ xs) (suc i) x = ap suc (length_set xs i x)
 
-at_place : {A : Type 0} (xs : List (Option A)) (i j : ℕ) (y x a : A) → get_or xs i None ≡ Some x → get_or (slice_set xs i (Some y)) j None ≡ Some a → ((j ≡ i) × (y ≡ a)) ⊎ ((j ≢ i) × (get_or xs j None ≡ Some a))
-at_place xs i j y x a there e =
+pub at_place : {A : Type 0} (xs : List (Option A)) (i j : ℕ) (o : Option A) (x a : A) → get_or xs i None ≡ Some x → get_or (slice_set xs i o) j None ≡ Some a → ((j ≡ i) × (o ≡ Some a)) ⊎ ((j ≢ i) × (get_or xs j None ≡ Some a))
+at_place xs i j o x a there e =
     ⊎_elim
-    (λ (same : j ≡ i). let in_range = some_within xs i x there in inl (same, one_value y a (sym (get_or-set_same xs i (Some y) None in_range) ∙ ap (λ n. get_or (slice_set xs i (Some y)) n None) (sym same) ∙ e)))
-    (λ (other : j ≢ i). inr (other, sym (get_or-set_other xs i j (Some y) None other) ∙ e))
+    (λ (same : j ≡ i). let in_range = some_within xs i x there in inl (same, sym (get_or-set_same xs i o None in_range) ∙ ap (λ n. get_or (slice_set xs i o) n None) (sym same) ∙ e))
+    (λ (other : j ≢ i). inr (other, sym (get_or-set_other xs i j o None other) ∙ e))
     (same_or_not j i)
+
+-- how many there are, where one changes, and where one goes
+pub as_many : (ts : List (Option Tenant)) (i : ℕ) (t t2 : Tenant) → get_or ts i None ≡ Some t → live_count (slice_set ts i (Some t2)) ≡ live_count ts
+as_many [] i t t2 e = absurd (cc e)
+as_many (None ∷ ts) zero t t2 e = absurd (cc e)
+as_many (Some u ∷ ts) zero t t2 e = refl
+as_many (None ∷ ts) (suc i) t t2 e = as_many ts i t t2 e
+as_many (Some u ∷ ts) (suc i) t t2 e = ap (λ n. 1 + n) (as_many ts i t t2 e)
+
+pub one_fewer : (ts : List (Option Tenant)) (i : ℕ) (t : Tenant) → get_or ts i None ≡ Some t → live_count ts ≡ 1 + live_count (slice_set ts i None)
+one_fewer [] i t e = absurd (cc e)
+one_fewer (None ∷ ts) zero t e = absurd (cc e)
+one_fewer (Some u ∷ ts) zero t e = refl
+one_fewer (None ∷ ts) (suc i) t e = one_fewer ts i t e
+one_fewer (Some u ∷ ts) (suc i) t e = ap (λ n. 1 + n) (one_fewer ts i t e)
+
+pub one_more : (ts : List (Option Tenant)) (t : Tenant) → live_count (ts ++ Some t ∷ []) ≡ 1 + live_count ts
+one_more [] t = refl
+one_more (None ∷ ts) t = one_more ts t
+one_more (Some u ∷ ts) t = ap (λ n. 1 + n) (one_more ts t)
+
+-- ---- places
+
+pub seat_set : (rs : List (Option Resident)) (i : ℕ) (x : Resident) (o : Option Resident) → resident_at rs i ≡ Some x → (resident_at (slice_set rs i o) i ≡ o) × OthersStay rs i (slice_set rs i o)
+seat_set rs i x o e = let in_range = some_within rs i x e in (get_or-set_same rs i o None in_range, λ j other. get_or-set_other rs i j o None other)
 
 -- ---- runs
 
@@ -76,86 +103,112 @@ places w r = places_are_right r.frames r.slots r.tax r.events w r.happen
 -- ---- who is there
 
 -- who has a place is an instance
-pub record Found (h : HostState) (w : World) (place : ℕ) (x : Resident) : Type 0 where
+pub record Found (h : HostState) (w : World) (place i : ℕ) (x : Resident) : Type 0 where
   pub t : Tenant
-  pub live : tenant w x.number ≡ Some t
+  pub live : tenant w i ≡ Some t
   pub at : t.place ≡ place
-  pub is : IsResident h.modules x w.space x.number t
+  pub is : IsResident h.modules x w.space i t
 
-pub found : (h : HostState) (w : World) (place : ℕ) (x : Resident) → IsHost h w → resident_at h.residents place ≡ Some x → Found h w place x
-found h w place x st at =
-    let f = st.all place x at in
-    let back = st.there x.number f.0 f.1 in
+pub found : (h : HostState) (w : World) (place i : ℕ) (x : Resident) → IsHost h w → resident_at h.residents place ≡ Some x → x.number ≡ Some i → Found h w place i x
+found h w place i x st at number =
+    let f = st.all place i x at number in
+    let back = st.there i f.0 f.1 in
     let same : back.0 ≡ x = one_value back.0 x (sym back.1 ∙ ap (resident_at h.residents) f.2 ∙ at) in
-    record { t = f.0; live = f.1; at = f.2; is = subst (λ z. IsResident h.modules z w.space x.number f.0) same back.2 }
+    record { t = f.0; live = f.1; at = f.2; is = subst (λ z. IsResident h.modules z w.space i f.0) same back.2 }
 
 pub nobody : (h : HostState) (w : World) (id : InstId) → IsHost h w → resident_at h.residents id.place ≡ None → NoInstance w id
 nobody h w id st none t live = let f = st.there id.number t live.0 in absurd (let bad : None ≡ Some f.0 = sym none ∙ ap (resident_at h.residents) (sym live.1) ∙ f.1 in cc bad)
 
-pub somebody_else : (h : HostState) (w : World) (id : InstId) (x : Resident) → IsHost h w → resident_at h.residents id.place ≡ Some x → x.number ≢ id.number → NoInstance w id
+pub somebody_else : (h : HostState) (w : World) (id : InstId) (x : Resident) → IsHost h w → resident_at h.residents id.place ≡ Some x → x.number ≢ Some id.number → NoInstance w id
 somebody_else h w id x st at other t live =
     let f = st.there id.number t live.0 in
     let same : f.0 ≡ x = one_value f.0 x (sym f.1 ∙ ap (resident_at h.residents) live.1 ∙ at) in
     other (ap (λ (z : Resident). z.number) (sym same) ∙ f.2.number)
 
+-- so there is one
+pub one_there : (h : HostState) (w : World) (place i : ℕ) (x : Resident) → IsHost h w → resident_at h.residents place ≡ Some x → x.number ≡ Some i → 1 ≤ h.live
+one_there h w place i x st at number =
+    let f = found h w place i x st at number in
+    let counts = one_fewer w.tenants i f.t f.live in
+    let e = st.live in
+    omega (arith, counts, e)
+
 -- and lies there
-pub lies_there : (h : HostState) (w : World) (place : ℕ) (x : Resident) → IsHost h w → (f : Found h w place x) → LiesAt f.is.loaded.linked x.page_limit x.tenant w.space place f.t
-lies_there h w place x st f =
-    let claims = (places w st.reached).claimed x.number f.t f.live in
-    let here : claim w.space place ≡ Some (promised x.number f.t.params) = ap (claim w.space) (sym f.at) ∙ claims in
+pub lies_there : (h : HostState) (w : World) (place i : ℕ) (x : Resident) → IsHost h w → (f : Found h w place i x) → LiesAt f.is.loaded.linked x.page_limit x.tenant w.space place f.t
+lies_there h w place i x st f =
+    let claims = (places w st.reached).claimed i f.t f.live in
+    let here : claim w.space place ≡ Some (promised i f.t.params) = ap (claim w.space) (sym f.at) ∙ claims in
     record {
       place_is = f.at;
-      is = subst (λ i. IsTenant f.is.loaded.linked x.page_limit x.tenant (view w.space i) f.t) f.at f.is.is;
+      is = subst (λ n. IsTenant f.is.loaded.linked x.page_limit x.tenant (view w.space n) f.t) f.at f.is.is;
       within = subst (λ (c : Option Claimed). x.page_limit ≤ limit_by c) (sym here) f.is.limit;
-      claimed = promised x.number f.t.params;
+      claimed = promised i f.t.params;
       claim_is = here;
     }
 
+-- it is who it was where it sees what it saw
+pub moved_on : (modules : List LoadedModule) (x : Resident) (s s2 : Space) (i : ℕ) (t : Tenant) → IsResident modules x s i t → view s2 t.place ≡ view s t.place → IsResident modules x s2 i t
+moved_on modules x s s2 i t r sees = record {
+  number = r.number;
+  of = r.of;
+  loaded = r.loaded;
+  is_loaded = r.is_loaded;
+  given = r.given;
+  limit = r.limit;
+  is = subst (λ b. IsTenant r.loaded.linked x.page_limit x.tenant b t) (sym sees) r.is;
+}
+
+-- and another one of the same owner, over what that one sees
+pub same_owner : (modules : List LoadedModule) (x : Resident) (s s2 : Space) (i : ℕ) (t t2 : Tenant) (z : TenantState) → (r : IsResident modules x s i t) → t2.of ≡ t.of → t2.params ≡ t.params → IsTenant r.loaded.linked x.page_limit z (view s2 t2.place) t2 → IsResident modules (record x { tenant = z }) s2 i t2
+same_owner modules x s s2 i t t2 z r of params is = record {
+  number = r.number;
+  of = r.of ∙ sym of;
+  loaded = r.loaded;
+  is_loaded = r.is_loaded;
+  given = subst (AreGivenAs x.given) (sym params) r.given;
+  limit = subst (λ (p : Params). x.page_limit ≤ p.max / 16) (sym params) r.limit;
+  is = is;
+}
+
 -- ---- one instance changes
 
-pub changed : (h : HostState) (w : World) (place : ℕ) (x y : Resident) (t2 : Tenant) (s2 : Space) → (st : IsHost h w) → resident_at h.residents place ≡ Some x → y.number ≡ x.number → t2.place ≡ place → IsResident h.modules y s2 x.number t2
-    → ((j : ℕ) → j ≢ place → view s2 j ≡ view w.space j) → IsReached (with_tenant w x.number (Some t2) s2) → IsHost (record h { residents = slice_set h.residents place (Some y); space = s2 }) (with_tenant w x.number (Some t2) s2)
-changed h w place x y t2 s2 st at_slot number lies represents sees reached =
-    let mine = found h w place x st at_slot in
+pub changed : (h : HostState) (w : World) (place i : ℕ) (x y : Resident) (t2 : Tenant) (s2 : Space) → (st : IsHost h w) → resident_at h.residents place ≡ Some x → x.number ≡ Some i → t2.place ≡ place → IsResident h.modules y s2 i t2
+    → ((j : ℕ) → j ≢ place → view s2 j ≡ view w.space j) → IsReached (with_tenant w i (Some t2) s2) → IsHost (record h { residents = slice_set h.residents place (Some y); space = s2 }) (with_tenant w i (Some t2) s2)
+changed h w place i x y t2 s2 st at_slot number lies represents sees reached =
+    let mine = found h w place i x st at_slot number in
+    let seats = seat_set h.residents place x (Some y) at_slot in
     record {
       reached = reached;
       modules = st.modules;
       space = refl;
-      next = st.next ∙ sym (length_set w.tenants x.number (Some t2));
-      there = λ i a e.
+      live = st.live ∙ sym (as_many w.tenants i mine.t t2 mine.live);
+      next = st.next ∙ sym (length_set w.tenants i (Some t2));
+      there = λ k a e.
           ⊎_elim
-          (λ (p : (i ≡ x.number) × (t2 ≡ a)).
-          let in_range = some_within h.residents place x at_slot in
-          let same : a.place ≡ place = sym (ap (λ (z : Tenant). z.place) p.1) ∙ lies in
-          (y, ap (resident_at (slice_set h.residents place (Some y))) same ∙ get_or-set_same h.residents place (Some y) None in_range, subst (λ z. IsResident h.modules y s2 i z) p.1 (subst (λ n. IsResident h.modules y s2 n t2) (sym p.0) represents)))
-          (λ (p : (i ≢ x.number) × (get_or w.tenants i None ≡ Some a)).
-          let f = st.there i a p.1 in
+          (λ (p : (k ≡ i) × (Some t2 ≡ Some a)).
+          let one = one_value t2 a p.1 in
+          let same : a.place ≡ place = sym (ap (λ (z : Tenant). z.place) one) ∙ lies in
+          (y, ap (resident_at (slice_set h.residents place (Some y))) same ∙ seats.0, subst (λ z. IsResident h.modules y s2 k z) one (subst (λ n. IsResident h.modules y s2 n t2) (sym p.0) represents)))
+          (λ (p : (k ≢ i) × (get_or w.tenants k None ≡ Some a)).
+          let f = st.there k a p.1 in
           let r = f.2 in
-          let far : a.place ≢ place = λ z. p.0 (sym r.number ∙ ap (λ (v : Resident). v.number) (one_value f.0 x (sym f.1 ∙ ap (resident_at h.residents) z ∙ at_slot))) in (
-            f.0,
-            get_or-set_other h.residents place a.place (Some y) None far ∙ f.1,
-            record {
-              number = r.number;
-              of = r.of;
-              loaded = r.loaded;
-              is_loaded = r.is_loaded;
-              limit = r.limit;
-              is = subst (λ b. IsTenant r.loaded.linked f.0.page_limit f.0.tenant b a) (sym (sees a.place far)) r.is;
-            },
-          ))
-          (at_place w.tenants x.number i t2 mine.t a mine.live e);
-      all = λ p z e.
+          let far : a.place ≢ place = λ z. p.0 (one_value k i (sym r.number ∙ ap (λ (v : Resident). v.number) (one_value f.0 x (sym f.1 ∙ ap (resident_at h.residents) z ∙ at_slot)) ∙ number)) in
+          (f.0, seats.1 a.place far ∙ f.1, moved_on h.modules f.0 w.space s2 k a r (sees a.place far)))
+          (at_place w.tenants i k (Some t2) mine.t a mine.live e);
+      all = λ p k z e n.
           ⊎_elim
-          (λ (q : (p ≡ place) × (y ≡ z)).
-          let in_range = some_within w.tenants x.number mine.t mine.live in
-          (t2, ap (λ n. get_or (slice_set w.tenants x.number (Some t2)) n None) (sym (ap (λ (v : Resident). v.number) q.1) ∙ number) ∙ get_or-set_same w.tenants x.number (Some t2) None in_range, lies ∙ sym q.0))
-          (λ (q : (p ≢ place) × (get_or h.residents p None ≡ Some z)).
-          let f = st.all p z q.1 in
+          (λ (q : p ≡ place).
+          let same : y ≡ z = one_value y z (sym seats.0 ∙ ap (resident_at (slice_set h.residents place (Some y))) (sym q) ∙ e) in
+          let in_range = some_within w.tenants i mine.t mine.live in
+          let which : k ≡ i = one_value k i (sym n ∙ ap (λ (v : Resident). v.number) (sym same) ∙ represents.number) in
+          (t2, ap (λ m. get_or (slice_set w.tenants i (Some t2)) m None) which ∙ get_or-set_same w.tenants i (Some t2) None in_range, lies ∙ sym q))
+          (λ (q : p ≢ place).
+          let f = st.all p k z (sym (seats.1 p q) ∙ e) n in
           ⊎_elim
-          (λ (same : z.number ≡ x.number). let one = one_value f.0 mine.t (sym f.1 ∙ ap (tenant w) same ∙ mine.live) in absurd (q.0 (sym f.2 ∙ ap (λ (v : Tenant). v.place) one ∙ mine.at)))
-          (λ (other : z.number ≢ x.number). (f.0, get_or-set_other w.tenants x.number z.number (Some t2) None other ∙ f.1, f.2))
-          (same_or_not z.number x.number))
-          (at_place h.residents place p y x z at_slot e);
+          (λ (same : k ≡ i). let one = one_value f.0 mine.t (sym f.1 ∙ ap (tenant w) same ∙ mine.live) in absurd (q (sym f.2 ∙ ap (λ (v : Tenant). v.place) one ∙ mine.at)))
+          (λ (other : k ≢ i). (f.0, get_or-set_other w.tenants i k (Some t2) None other ∙ f.1, f.2))
+          (same_or_not k i))
+          (same_or_not p place);
     }
 
 -- nothing changes
@@ -174,7 +227,7 @@ pub record StaysIn (s s2 : Space) (t t2 : Tenant) : Type 0 where
   pub params : t2.params ≡ t.params
   pub others : OthersLeftAlone t.place s s2
 
-closed_stays : (s s0 : Space) (t : Tenant) {e : _} {es : _} {r : _} (t2 : Tenant) → Closes s t e es r t2 → OthersLeftAlone t.place s0 s → StaysIn s0 s t t2
+pub closed_stays : (s s0 : Space) (t : Tenant) {e : _} {es : _} {r : _} (t2 : Tenant) → Closes s t e es r t2 → OthersLeftAlone t.place s0 s → StaysIn s0 s t t2
 closed_stays s s0 t t2 (faces_next alive faces) others = record { place = refl; of = refl; params = refl; others = others }
 closed_stays s s0 t t2 (is_dead died) others = record { place = refl; of = refl; params = refl; others = others }
 
@@ -190,53 +243,46 @@ turn_stays q s s2 t t2 answer (keeps_its_fault is_open stands doing none next le
 pub idle_host : (h : HostState) (w : World) (id : InstId) (q : ℕ) → IsHost h w → NoInstance w id → (w2 : World) × IsTurn w id q Idle w2 × IsHost h w2
 idle_host h w id q st none = (w, of_none none, st)
 
-pub turned_host : (h : HostState) (w : World) (id : InstId) (q : ℕ) (x y : Resident) (answer : TurnEnd) (s2 : Space) (st : IsHost h w) → resident_at h.residents id.place ≡ Some x → x.number ≡ id.number → (f : Found h w id.place x)
-    → (y.number ≡ x.number) × (y.of ≡ x.of) × (y.page_limit ≡ x.page_limit) → TurnsTo f.is.loaded.linked x.page_limit q w.space f.t answer id.place y.tenant s2
-    → (w2 : World) × IsTurn w id q answer w2 × IsHost (record h { residents = slice_set h.residents id.place (Some y); space = s2 }) w2
-turned_host h w id q x y answer s2 st at number f same to =
+pub turned_host : (h : HostState) (w : World) (id : InstId) (q : ℕ) (x : Resident) (z : TenantState) (answer : TurnEnd) (s2 : Space) (st : IsHost h w) → resident_at h.residents id.place ≡ Some x → x.number ≡ Some id.number → (f : Found h w id.place id.number x)
+    → TurnsTo f.is.loaded.linked x.page_limit q w.space f.t answer id.place z s2
+    → (w2 : World) × IsTurn w id q answer w2 × IsHost (record h { residents = slice_set h.residents id.place (Some (record x { tenant = z })); space = s2 }) w2
+turned_host h w id q x z answer s2 st at number f to =
     let t2 = to.0 in
     let stays = turn_stays q w.space s2 f.t t2 answer to.1 in
-    let happens : IsTurn w id q answer (with_tenant w id.number (Some t2) s2) = of_one (subst (λ n. tenant w n ≡ Some f.t) number f.live, f.at) to.1 in
-    let w2 = with_tenant w x.number (Some t2) s2 in
-    let here : IsTurn w id q answer w2 = subst (λ n. IsTurn w id q answer (with_tenant w n (Some t2) s2)) (sym number) happens in
-    let represents : IsResident h.modules y s2 x.number t2 = record {
-      number = same.0;
-      of = same.1 ∙ f.is.of ∙ sym stays.of;
-      loaded = f.is.loaded;
-      is_loaded = ap (slice_get h.modules) same.1 ∙ f.is.is_loaded;
-      limit = subst (λ z. z ≤ t2.params.max / 16) (sym same.2) (subst (λ (p : Params). x.page_limit ≤ p.max / 16) (sym stays.params) f.is.limit);
-      is = subst (λ n. IsTenant f.is.loaded.linked n y.tenant (view s2 t2.place) t2) (sym same.2) (subst (λ i. IsTenant f.is.loaded.linked x.page_limit y.tenant (view s2 i) t2) (sym to.2.place_is) to.2.is);
-    } in
+    let w2 = with_tenant w id.number (Some t2) s2 in
+    let happens : IsTurn w id q answer w2 = of_one (f.live, f.at) to.1 in
+    let over : IsTenant f.is.loaded.linked x.page_limit z (view s2 t2.place) t2 = subst (λ i. IsTenant f.is.loaded.linked x.page_limit z (view s2 i) t2) (sym to.2.place_is) to.2.is in
+    let represents = same_owner h.modules x w.space s2 id.number f.t t2 z f.is stays.of stays.params over in
     let sees : (j : ℕ) → j ≢ id.place → view s2 j ≡ view w.space j = λ j other. (stays.others j (λ e. other (e ∙ f.at))).view in
-    (w2, here, changed h w id.place x y t2 s2 st at same.0 to.2.place_is represents sees (reached_on w w2 (turn id q) st.reached (answer, here)))
+    (w2, happens, changed h w id.place id.number x (record x { tenant = z }) t2 s2 st at number to.2.place_is represents sees (reached_on w w2 (turn id q) st.reached (answer, happens)))
 
 -- the module of who is there
-pub module_is : (h : HostState) (w : World) (place : ℕ) (x : Resident) (m : LoadedModule) → (f : Found h w place x) → slice_get h.modules x.of ≡ Some m → f.is.loaded ≡ m
-module_is h w place x m f is = one_value f.is.loaded m (sym f.is.is_loaded ∙ is)
+pub module_is : (h : HostState) (w : World) (place i : ℕ) (x : Resident) (m : LoadedModule) → (f : Found h w place i x) → slice_get h.modules x.of ≡ Some m → f.is.loaded ≡ m
+module_is h w place i x m f is = one_value f.is.loaded m (sym f.is.is_loaded ∙ is)
 
 -- who is there lies in the memory that the code has
-pub lies_here : (h : HostState) (w : World) (place : ℕ) (x : Resident) (m : LoadedModule) → (st : IsHost h w) → resident_at h.residents place ≡ Some x → slice_get h.modules x.of ≡ Some m → (t : Tenant) × (tenant w x.number ≡ Some t) × LiesAt m.linked x.page_limit x.tenant h.space place t
-lies_here h w place x m st at is =
-    let f = found h w place x st at in
-    let lies = lies_there h w place x st f in
-    let by_module = subst (λ (z : LoadedModule). LiesAt z.linked x.page_limit x.tenant w.space place f.t) (module_is h w place x m f is) lies in
+pub lies_here : (h : HostState) (w : World) (place i : ℕ) (x : Resident) (m : LoadedModule) → (st : IsHost h w) → resident_at h.residents place ≡ Some x → x.number ≡ Some i → slice_get h.modules x.of ≡ Some m → (t : Tenant) × (tenant w i ≡ Some t) × LiesAt m.linked x.page_limit x.tenant h.space place t
+lies_here h w place i x m st at number is =
+    let f = found h w place i x st at number in
+    let lies = lies_there h w place i x st f in
+    let by_module = subst (λ (z : LoadedModule). LiesAt z.linked x.page_limit x.tenant w.space place f.t) (module_is h w place i x m f is) lies in
     (f.t, f.live, subst (λ s. LiesAt m.linked x.page_limit x.tenant s place f.t) (sym st.space) by_module)
 
-pub turned_here : (h : HostState) (w : World) (id : InstId) (q : ℕ) (x y : Resident) (m : LoadedModule) (answer : TurnEnd) (s2 : Space) → IsHost h w → resident_at h.residents id.place ≡ Some x → x.number ≡ id.number → slice_get h.modules x.of ≡ Some m
-    → (y.number ≡ x.number) × (y.of ≡ x.of) × (y.page_limit ≡ x.page_limit) → ((t : Tenant) → LiesAt m.linked x.page_limit x.tenant h.space id.place t → TurnsTo m.linked x.page_limit q h.space t answer id.place y.tenant s2)
-    → (w2 : World) × IsTurn w id q answer w2 × IsHost (record h { residents = slice_set h.residents id.place (Some y); space = s2 }) w2
-turned_here h w id q x y m answer s2 st at number is same turns =
-    let f = found h w id.place x st at in
-    let lies = lies_there h w id.place x st f in
-    let one = module_is h w id.place x m f is in
-    let by_module = subst (λ (z : LoadedModule). LiesAt z.linked x.page_limit x.tenant w.space id.place f.t) one lies in
+pub turned_here : (h : HostState) (w : World) (id : InstId) (q : ℕ) (x : Resident) (z : TenantState) (m : LoadedModule) (answer : TurnEnd) (s2 : Space) → IsHost h w → resident_at h.residents id.place ≡ Some x → x.number ≡ Some id.number → slice_get h.modules x.of ≡ Some m
+    → ((t : Tenant) → LiesAt m.linked x.page_limit x.tenant h.space id.place t → TurnsTo m.linked x.page_limit q h.space t answer id.place z s2)
+    → (w2 : World) × IsTurn w id q answer w2 × IsHost (record h { residents = slice_set h.residents id.place (Some (record x { tenant = z })); space = s2 }) w2
+turned_here h w id q x z m answer s2 st at number is turns =
+    let f = found h w id.place id.number x st at number in
+    let lies = lies_there h w id.place id.number x st f in
+    let one = module_is h w id.place id.number x m f is in
+    let by_module = subst (λ (l : LoadedModule). LiesAt l.linked x.page_limit x.tenant w.space id.place f.t) one lies in
     let to = turns f.t (subst (λ s. LiesAt m.linked x.page_limit x.tenant s id.place f.t) (sym st.space) by_module) in
-    let in_world = subst (λ s. TurnsTo m.linked x.page_limit q s f.t answer id.place y.tenant s2) st.space to in
-    turned_host h w id q x y answer s2 st at number f same (subst (λ (z : LoadedModule). TurnsTo z.linked x.page_limit q w.space f.t answer id.place y.tenant s2) (sym one) in_world)
+    let in_world = subst (λ s. TurnsTo m.linked x.page_limit q s f.t answer id.place z s2) st.space to in
+    turned_host h w id q x z answer s2 st at number f (subst (λ (l : LoadedModule). TurnsTo l.linked x.page_limit q w.space f.t answer id.place z s2) (sym one) in_world)
 
 -- its module is there
-pub no_module_less : (h : HostState) (w : World) (place : ℕ) (x : Resident) → IsHost h w → resident_at h.residents place ≡ Some x → slice_get h.modules x.of ≡ None → ⊥
-no_module_less h w place x st at none = let f = found h w place x st at in absurd (let bad : None ≡ Some f.is.loaded = sym none ∙ f.is.is_loaded in cc bad)
+pub no_module_less : (h : HostState) (w : World) (place i : ℕ) (x : Resident) → IsHost h w → resident_at h.residents place ≡ Some x → x.number ≡ Some i → slice_get h.modules x.of ≡ None → ⊥
+no_module_less h w place i x st at number none = let f = found h w place i x st at number in absurd (let bad : None ≡ Some f.is.loaded = sym none ∙ f.is.is_loaded in cc bad)
 
 -- ---- what is asked of the present call
 
@@ -252,48 +298,49 @@ refuel_stays t n t2 (has_more is_open stands) = record { place = refl; of = refl
 pub retry_stays : (t t2 : Tenant) → Retries t t2 → SameTenant t t2
 retry_stays t t2 (may_try is_open stands) = record { place = refl; of = refl; params = refl }
 
-pub asked_here : (h : HostState) (w : World) (id : InstId) (x y : Resident) (R : Tenant → Tenant → Type 0) → (st : IsHost h w) → resident_at h.residents id.place ≡ Some x → x.number ≡ id.number
-    → (y.number ≡ x.number) × (y.of ≡ x.of) × (y.page_limit ≡ x.page_limit) → ((t t2 : Tenant) → R t t2 → SameTenant t t2) → OfAnyTenant x.tenant (λ l limit bytes t. (t2 : Tenant) × R t t2 × IsTenant l limit y.tenant bytes t2)
+pub asked_found : (h : HostState) (w : World) (id : InstId) (x : Resident) (z : TenantState) (R : Tenant → Tenant → Type 0) → (st : IsHost h w) → resident_at h.residents id.place ≡ Some x → x.number ≡ Some id.number
+    → ((t t2 : Tenant) → R t t2 → SameTenant t t2) → (f : Found h w id.place id.number x) → (t2 : Tenant) × R f.t t2 × IsTenant f.is.loaded.linked x.page_limit z (view w.space f.t.place) t2
     → (e : Event) → ((t t2 : Tenant) → IsLive w id t → R t t2 → Happens w e (with_tenant w id.number (Some t2) w.space))
-    → (t t2 : Tenant) × IsLive w id t × R t t2 × IsHost (record h { residents = slice_set h.residents id.place (Some y) }) (with_tenant w id.number (Some t2) w.space)
-asked_here h w id x y R st at number same stays asked e happens =
-    let f = found h w id.place x st at in
-    let made = asked f.is.loaded.linked x.page_limit (view w.space f.t.place) f.t f.is.is in
+    → (t t2 : Tenant) × IsLive w id t × R t t2 × IsHost (record h { residents = slice_set h.residents id.place (Some (record x { tenant = z })) }) (with_tenant w id.number (Some t2) w.space)
+asked_found h w id x z R st at number stays f made e happens =
     let t2 = made.0 in
     let alike = stays f.t t2 made.1 in
-    let live : IsLive w id f.t = (subst (λ n. tenant w n ≡ Some f.t) number f.live, f.at) in
-    let represents : IsResident h.modules y w.space x.number t2 = record {
-      number = same.0;
-      of = same.1 ∙ f.is.of ∙ sym alike.of;
-      loaded = f.is.loaded;
-      is_loaded = ap (slice_get h.modules) same.1 ∙ f.is.is_loaded;
-      limit = subst (λ z. z ≤ t2.params.max / 16) (sym same.2) (subst (λ (p : Params). x.page_limit ≤ p.max / 16) (sym alike.params) f.is.limit);
-      is = subst (λ n. IsTenant f.is.loaded.linked n y.tenant (view w.space t2.place) t2) (sym same.2) (subst (λ i. IsTenant f.is.loaded.linked x.page_limit y.tenant (view w.space i) t2) (sym alike.place) made.2);
-    } in
+    let live : IsLive w id f.t = (f.live, f.at) in
+    let y : Resident = record x { tenant = z } in
+    let over : IsTenant f.is.loaded.linked x.page_limit z (view w.space t2.place) t2 = subst (λ i. IsTenant f.is.loaded.linked x.page_limit z (view w.space i) t2) (sym alike.place) made.2 in
+    let represents = same_owner h.modules x w.space w.space id.number f.t t2 z f.is alike.of alike.params over in
     let w2 = with_tenant w id.number (Some t2) w.space in
-    let reached : IsReached (with_tenant w x.number (Some t2) w.space) = subst (λ n. IsReached (with_tenant w n (Some t2) w.space)) (sym number) (reached_on w w2 e st.reached (happens f.t t2 live made.1)) in
-    let then = changed h w id.place x y t2 w.space st at same.0 (alike.place ∙ f.at) represents (λ j other. refl) reached in
-    let in_memory = subst (λ s. IsHost (record h { residents = slice_set h.residents id.place (Some y); space = s }) (with_tenant w x.number (Some t2) w.space)) (sym st.space) then in
-    (f.t, t2, live, made.1, subst (λ n. IsHost (record h { residents = slice_set h.residents id.place (Some y) }) (with_tenant w n (Some t2) w.space)) number in_memory)
+    let then = changed h w id.place id.number x y t2 w.space st at number (alike.place ∙ f.at) represents (λ j other. refl) (reached_on w w2 e st.reached (happens f.t t2 live made.1)) in
+    let rs = slice_set h.residents id.place (Some y) in
+    (f.t, t2, live, made.1, subst (λ s. IsHost (record h { residents = rs; space = s }) w2) (sym st.space) then)
+
+pub asked_here : (h : HostState) (w : World) (id : InstId) (x : Resident) (z : TenantState) (R : Tenant → Tenant → Type 0) → (st : IsHost h w) → resident_at h.residents id.place ≡ Some x → x.number ≡ Some id.number
+    → ((t t2 : Tenant) → R t t2 → SameTenant t t2) → OfAnyTenant x.tenant (λ l limit bytes t. (t2 : Tenant) × R t t2 × IsTenant l limit z bytes t2)
+    → (e : Event) → ((t t2 : Tenant) → IsLive w id t → R t t2 → Happens w e (with_tenant w id.number (Some t2) w.space))
+    → (t t2 : Tenant) × IsLive w id t × R t t2 × IsHost (record h { residents = slice_set h.residents id.place (Some (record x { tenant = z })) }) (with_tenant w id.number (Some t2) w.space)
+asked_here h w id x z R st at number stays asked e happens =
+    let f = found h w id.place id.number x st at number in
+    asked_found h w id x z R st at number stays f (asked f.is.loaded.linked x.page_limit (view w.space f.t.place) f.t f.is.is) e happens
 
 -- of whoever is there it is so
-pub of_who_is_there : (h : HostState) (w : World) (id : InstId) (x : Resident) (P : Tenant → Type 0) → IsHost h w → resident_at h.residents id.place ≡ Some x → x.number ≡ id.number → OfAnyTenant x.tenant (λ l limit bytes t. P t) → (t : Tenant) × IsLive w id t × P t
+pub of_who_is_there : (h : HostState) (w : World) (id : InstId) (x : Resident) (P : Tenant → Type 0) → IsHost h w → resident_at h.residents id.place ≡ Some x → x.number ≡ Some id.number → OfAnyTenant x.tenant (λ l limit bytes t. P t) → (t : Tenant) × IsLive w id t × P t
 of_who_is_there h w id x P st at number asked =
-    let f = found h w id.place x st at in
-    (f.t, (subst (λ n. tenant w n ≡ Some f.t) number f.live, f.at), asked f.is.loaded.linked x.page_limit (view w.space f.t.place) f.t f.is.is)
+    let f = found h w id.place id.number x st at number in
+    (f.t, (f.live, f.at), asked f.is.loaded.linked x.page_limit (view w.space f.t.place) f.t f.is.is)
 
 -- ---- a new host
 
-pub new_host : (h : HostState) (frames slots : ℕ) (tax : Tax) → h.modules ≡ [] → h.residents ≡ [] → h.next ≡ 0 → IsSound h.space → IsNew h.space frames slots tax → IsNewHost h frames slots tax
-new_host h frames slots tax modules residents next sound is =
+pub new_host : (h : HostState) (frames slots : ℕ) (tax : Tax) → h.modules ≡ [] → h.residents ≡ [] → h.live ≡ 0 → h.next ≡ 0 → IsSound h.space → IsNew h.space frames slots tax → IsNewHost h frames slots tax
+new_host h frames slots tax modules residents live next sound is =
     let w : World = record { modules = []; tenants = []; space = h.space } in
     let same : (j : ℕ) → LeftAlone j (empty_space frames slots tax) h.space = λ j. rw is.is (record { view = refl; wants = refl; claim = refl }) in
     let st : IsHost h w = record {
       reached = record { frames = frames; slots = slots; tax = tax; events = epoch ∷ []; happen = (w, (h.space, (same, sound), refl), refl) };
       modules = rw modules refl;
       space = refl;
+      live = live;
       next = next;
       there = λ i t e. absurd (let bad : None ≡ Some t = e in cc bad);
-      all = λ place x e. absurd (let bad : None ≡ Some x = sym (ap (λ (xs : List (Option Resident)). resident_at xs place) residents) ∙ e in cc bad);
+      all = λ place i x e n. absurd (let bad : None ≡ Some x = sym (ap (λ (xs : List (Option Resident)). resident_at xs place) residents) ∙ e in cc bad);
     } in
     (w, st, refl, refl, is)

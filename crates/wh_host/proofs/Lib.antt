@@ -2,3 +2,5 @@ mod Lending
 mod Viewing
 mod Turns
 mod Hosts
+mod Requests
+mod Comers

@@ -1,8 +1,10 @@
 -- What is asked of an instance, and what the host answers.
-use Rattle.std.specs.Prelude.{◌≡◌, ℕ, Result, Ok, Err}
+use Rattle.std.specs.Prelude.{◌≡◌, ℕ, ℤ, List, Option, Some, None, Result, Ok, Err}
+use Rattle.wh_host_model.specs.declared.plain.InstId.{InstId}
 use Rattle.wh_host_model.specs.Host.Worlds.{World}
-use Rattle.wh_host_model.specs.Host.Happens.{CallAnswer, call_ok, call_no_instance, call_no_call}
-use Rattle.wh_instance.specs.Invoked.{invoke_number}
+use Rattle.wh_host_model.specs.Host.Happens.{CallAnswer, call_ok, call_no_instance, call_no_call, InvokeAnswer, invoke_ok, invoke_no_instance, invoke_refused, invoke_wants_memory, IsInvoke}
+use Rattle.wh_host_model.specs.Host.Calls.{InvokeFault}
+use Rattle.wh_instance.specs.Invoked.{invoke_number, refusal_of}
 use Rattle.wh_host.specs.declared.error.HostError.{HostError}
 use Rattle.wh_host.specs.declared.error.HostError.TheVariants.{NoInstance, Invoke, NoCall}
 use Rattle.wh_host.specs.Hosting.{HostState, IsHost}
@@ -25,3 +27,21 @@ abbrev pub AnswersCall : HostState → (World → CallAnswer → World → Type 
 AnswersCall h asks result h2 =
     (w : World) → IsHost h w
     → (answer : CallAnswer) × (w2 : World) × IsCallAnswer result answer × asks w answer w2 × IsHost h2 w2
+
+-- a fault of the call, or want of memory
+abbrev pub refusal_answer : Option InvokeFault → InvokeAnswer
+refusal_answer (Some fault) = invoke_refused fault
+refusal_answer None = invoke_wants_memory
+
+-- the result is this answer to a call that is asked for
+abbrev pub IsInvokeAnswer : Result ℕ HostError → InvokeAnswer → Type 0
+IsInvokeAnswer (Ok at) answer = answer ≡ invoke_ok at
+IsInvokeAnswer (Err NoInstance) answer = answer ≡ invoke_no_instance
+IsInvokeAnswer (Err (Invoke e)) answer = answer ≡ refusal_answer (refusal_of e)
+IsInvokeAnswer (Err NoCall) answer = ⊥
+
+abbrev pub AnswersInvoke : HostState → InstId → List ℕ → List ℤ → ℕ → Result ℕ HostError → HostState → Type 0
+AnswersInvoke h id name given fuel result h2 =
+    (w : World) → IsHost h w
+    → (answer : InvokeAnswer) × (w2 : World) × IsInvokeAnswer result answer
+    × IsInvoke w id name given fuel answer w2 × IsHost h2 w2

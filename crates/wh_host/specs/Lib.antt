@@ -3,3 +3,7 @@ pub mod Lent
 pub mod Hosting
 pub mod Stored
 pub mod Asking
+pub mod Seats
+pub mod Loading
+pub mod Releasing
+pub mod Admitting

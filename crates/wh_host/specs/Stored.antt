@@ -11,9 +11,10 @@ use Rattle.wh_host.specs.Hosting.{HostState}
 
 abbrev pub stored_host : Coded HostState
 stored_host =
-    code_by (List LoadedModule × (List (Option Resident) × (Space × ℕ)))
-    (coded× (coded_list module_type.the_row.coded) (coded× (coded_list (coded_option resident_type.the_row.coded))
-    (coded× memory_type.the_row.coded coded_ℕ)))
-    (λ h. (h.modules, (h.residents, (h.space, h.next))))
-    (λ p. record { modules = p.0; residents = p.1.0; space = p.1.1.0; next = p.1.1.1 })
+    code_by (List LoadedModule × (List (Option Resident) × (ℕ × (Space × ℕ))))
+    (coded× (coded_list module_type.the_row.coded)
+    (coded× (coded_list (coded_option resident_type.the_row.coded))
+    (coded× coded_ℕ (coded× memory_type.the_row.coded coded_ℕ))))
+    (λ h. (h.modules, (h.residents, (h.live, (h.space, h.next)))))
+    (λ p. record { modules = p.0; residents = p.1.0; live = p.1.1.0; space = p.1.1.1.0; next = p.1.1.1.1 })
     (λ _. refl)

@@ -1,7 +1,7 @@
 //! What owners ask of the present calls of their instances.
 
 ghost use Rattle.std.specs.Prelude.{◌≡◌, OnErr};
-ghost use Rattle.wh_host_model.specs.Host.Happens.{IsRefuel, IsRetry};
+ghost use Rattle.wh_host_model.specs.Host.Happens.{IsCancel, IsRefuel, IsRetry};
 ghost use Rattle.wh_host.specs.Asking.{AnswersCall};
 
 use crate::error::HostError;
@@ -22,7 +22,7 @@ impl Host {
         let Some(resident) = self.residents.get_mut(id.place) else {
             return Err(HostError::NoInstance);
         };
-        if resident.number != id.number {
+        if !resident.has_number(id.number) {
             return Err(HostError::NoInstance);
         }
         if !resident.tenant.refuel(fuel) {
@@ -43,12 +43,36 @@ impl Host {
         let Some(resident) = self.residents.get_mut(id.place) else {
             return Err(HostError::NoInstance);
         };
-        if resident.number != id.number {
+        if !resident.has_number(id.number) {
             return Err(HostError::NoInstance);
         }
         if !resident.tenant.retry() {
             return Err(HostError::NoCall);
         }
+        Ok(())
+    }
+
+    /// Ends the present call of an instance where it is; what it has written stays. A start that is cancelled leaves the
+    /// instance dead, and the calls behind it end as dead.
+    ///
+    /// # Errors
+    /// `NoInstance`; `NoCall` where no call is open. Nothing is done then.
+    pub fn cancel(&mut self, id: InstId) -> Result<(), HostError>
+        ensures asks { AnswersCall self.old (λ w answer w2. IsCancel w id answer w2)
+            result self.new }
+        ensures err { OnErr result (self.new ≡ self.old) }
+    {
+        let Some(resident) = self.residents.get_mut(id.place) else {
+            return Err(HostError::NoInstance);
+        };
+        if !resident.has_number(id.number) {
+            return Err(HostError::NoInstance);
+        }
+        if !resident.tenant.cancel() {
+            return Err(HostError::NoCall);
+        }
+        self.memory.known();
+        self.memory.end(id.place);
         Ok(())
     }
 }

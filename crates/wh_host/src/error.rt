@@ -5,6 +5,7 @@ ghost use Rattle.wh_host.specs.Asking.{host_number};
 
 use thiserror::Error;
 use wh_instance::InvokeError;
+use wh_load::LoadError;
 
 /// Why a host doesn't do what is asked of an instance.
 #[derive(Clone, Copy, Debug, PartialEq, Eq, Error)]
@@ -31,4 +32,18 @@ impl HostError {
             HostError::NoCall => 8,
         }
     }
+}
+
+/// Why a host doesn't keep a module.
+#[derive(Clone, Copy, Debug, PartialEq, Eq, Error)]
+pub enum ModuleError {
+    /// The bytes aren't accepted as a module.
+    #[error("{0}")]
+    Bytes(LoadError),
+    /// 1024 modules are kept. Replies name it M1.
+    #[error("1024 modules are kept")]
+    ModulesFull,
+    /// A growth of memory was refused. Replies name it M2.
+    #[error("a growth of memory was refused")]
+    Memory,
 }

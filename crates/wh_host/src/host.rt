@@ -16,7 +16,7 @@ use wh_host_model::{InstId, Tax, TurnEnd};
 use wh_space::Memory;
 
 // The module of this number.
-fn module_at(modules: &Vec<LoadedModule>, number: usize) -> Option<&LoadedModule>
+pub(crate) fn module_at(modules: &Vec<LoadedModule>, number: usize) -> Option<&LoadedModule>
     ensures { option_copied result ≡ slice_get modules.now.items number }
 {
     modules.get(number)
@@ -27,6 +27,8 @@ fn module_at(modules: &Vec<LoadedModule>, number: usize) -> Option<&LoadedModule
 pub struct Host {
     pub(crate) modules: Vec<LoadedModule>,
     pub(crate) residents: Slab<Resident>,
+    // How many instances there are.
+    pub(crate) live: usize,
     pub(crate) memory: Memory,
     pub(crate) next: u64,
 }
@@ -44,6 +46,7 @@ impl Model for Host {
     ghost view = { λ h. record {
       modules = h.modules.items;
       residents = h.residents.slots;
+      live = h.live;
       space = h.memory;
       next = h.next;
     } };
@@ -51,6 +54,7 @@ impl Model for Host {
     ghost invariant = { λ h. (w : OneWorld) × StandsFor (record {
       modules = h.modules.items;
       residents = h.residents.slots;
+      live = h.live;
       space = h.memory;
       next = h.next;
     }) w };
@@ -74,6 +78,7 @@ impl Host {
         Ok(Host {
             modules: Vec::new(alloc),
             residents: Slab::new(alloc),
+            live: 0,
             memory,
             next: 0,
         })
@@ -87,7 +92,7 @@ impl Host {
         let Some(resident) = self.residents.get_mut(id.place) else {
             return TurnEnd::Idle;
         };
-        if resident.number != id.number {
+        if !resident.has_number(id.number) {
             return TurnEnd::Idle;
         }
         let Some(module) = module_at(&self.modules, resident.of) else {

@@ -1,35 +1,25 @@
 //! A host of many instances on one memory.
+//!
+//! Modules are loaded, instances of them are admitted, and their owners ask for calls of them, which run by turns: so many
+//! charges at a time. All linear memories (2.5.5 of the W3C WebAssembly Core Specification 1.0) lie on one pool of frames.
 #![tactic(auto)]
 
+mod admitting;
 mod asking;
+mod epochs;
 mod error;
 mod host;
+mod invoking;
+mod loading;
 mod parts;
+mod releasing;
+#[cfg(test)]
+mod tests;
 mod turning;
 
-pub use error::HostError;
+pub use error::{HostError, ModuleError};
 pub use host::Host;
+pub use loading::MOST_MODULES;
+pub use parts::ModuleId;
 pub use turning::turn_at;
-
-#[cfg(test)]
-mod tests {
-    use super::*;
-    use std::test::Fail;
-    use wh_host_model::{InstId, Tax, TurnEnd};
-
-    #[test]
-    fn nobody_is_there(rt: HostRuntime) -> Result<(), Fail> {
-        let tax = Tax { num: 3, den: 4 };
-        let mut host = Host::new(rt.alloc(), 4, 100, tax)?;
-        let nobody = InstId {
-            place: 0,
-            number: 0,
-        };
-        assert_eq!(rt; host.turn(nobody, 1000), TurnEnd::Idle);
-        assert_eq!(rt; host.refuel(nobody, 5), Err(HostError::NoInstance));
-        assert_eq!(rt; host.retry(nobody), Err(HostError::NoInstance));
-        assert_eq!(rt; HostError::NoInstance.number(), 1);
-        assert_eq!(rt; HostError::NoCall.number(), 8);
-        Ok(())
-    }
-}
+pub use wh_admit::{AdmitError, Params};

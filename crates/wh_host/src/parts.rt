@@ -1,5 +1,9 @@
 // What a host keeps.
 
+ghost use Rattle.std.specs.Prelude.{◌≡◌, ◌≢◌, Some};
+ghost use Rattle.std.specs.Bool.{MatchBool};
+
+use std::sync::Arc;
 use wh_imports::Linked;
 use wh_instance::Tenant;
 
@@ -7,17 +11,49 @@ use wh_instance::Tenant;
 #[derive(Drop)]
 pub struct LoadedModule {
     pub linked: Linked,
-    pub bytes: Vec<u8>,
+    pub bytes: Arc<Vec<u8>>,
+}
+
+/// Which module is meant.
+#[derive(Clone, Copy, Debug, PartialEq, Eq)]
+pub struct ModuleId {
+    /// How many modules were loaded before it.
+    pub number: usize,
+}
+
+/// What the owner of an instance has given it, but for the words of its input, which its store keeps.
+#[derive(Clone, Copy, Debug, PartialEq, Eq)]
+pub struct Given {
+    pub shares: u32,
+    pub min: u32,
+    pub max: u32,
+    pub fuel: u64,
+    pub base: u32,
+    pub salt: u64,
 }
 
 /// An instance that has a place.
 #[derive(Drop)]
 pub struct Resident {
-    /// How many instances were admitted before it.
-    pub number: u64,
+    /// How many instances were admitted before it. `None` where it was released, and its place is kept while a page of it is
+    /// on its way to swap or back.
+    pub number: Option<u64>,
     /// The number of its module.
     pub of: usize,
+    pub given: Given,
     /// To how many pages of 65536 bytes its memory may grow at most.
     pub page_limit: u32,
     pub tenant: Tenant,
+}
+
+impl Resident {
+    /// Whether it is the instance of this number.
+    pub fn has_number(&self, number: u64) -> bool
+        ensures { MatchBool result (self.now.number ≡ Some number) (self.now.number ≢ Some number) }
+    {
+        match self.number {
+            Some(own) => own == number,
+            None => false,
+        }
+    }
 }

@@ -4,6 +4,8 @@ ghost use Rattle.wh_instance.specs.Seen.{CanTurn, HasOutput, IsIdle};
 
 use crate::stages::Suspension;
 use crate::tenant::Tenant;
+use std::alloc::Global;
+use std::mem;
 
 impl Tenant {
     /// Whether no call is open, so that there is none to bring on.
@@ -26,10 +28,10 @@ impl Tenant {
         }
     }
 
-    /// The bytes that the host functions `put` and `emit` have written for it. The instance is given up.
-    pub fn into_output(self) -> Vec<u8>
-        ensures { HasOutput self result.items }
+    /// Takes out the bytes that the host functions `put` and `emit` have written for it, as it goes. It takes no memory.
+    pub fn take_output(&mut self, alloc: Global) -> Vec<u8>
+        ensures { HasOutput self.old result.items }
     {
-        self.store.output
+        mem::replace(&mut self.store.output, Vec::new(alloc))
     }
 }

@@ -5,10 +5,14 @@ mod call;
 mod released;
 mod reply;
 mod report;
+mod row;
 #[cfg(test)]
 mod tests;
+mod value;
 
 pub use call::{Call, Caller, Status};
 pub use released::write_released;
 pub use reply::{Place, Refusal, Reply, write_reply};
-pub use report::{write_frames, write_shared, write_slots};
+pub use report::{write_frames, write_row, write_shared, write_slots};
+pub use row::Row;
+pub use value::signed_value;

@@ -1,9 +1,12 @@
 //! The lines of the report.
 
-ghost use Rattle.std.specs.Prelude.{◌≡◌, ◌++◌, ◌≤◌, OnOk, string_bytes};
-ghost use Rattle.wh_host_model.specs.Lines.Texts.{frames_text, slots_text, shared_text};
+ghost use Rattle.std.specs.Prelude.{◌≡◌, ◌++◌, ◌≤◌, ◌-◌, ◌*◌, Some, OnOk, string_bytes};
+ghost use Rattle.wh_host_model.specs.Lines.Texts.{frames_text, slots_text, shared_text, column, row_weight, rho_text, row_text};
+ghost use Rattle.wh_replies.specs.View.{row_of};
 
+use crate::row::Row;
 use std::alloc::AllocError;
+use std::fmt;
 
 /// Puts `# frames N used U free F` behind a text.
 ///
@@ -40,4 +43,68 @@ pub fn write_shared(text: &mut String, frames: u64, sharers: u64) -> Result<(), 
         (string_bytes text.new ≡ string_bytes text.old ++ shared_text frames sharers) }
 {
     writeln!(text, "# shared frames {frames} sharers {sharers}")
+}
+
+/// What the pages weigh: `den` for each idle one, and `den - num` for each that was touched.
+fn weight(row: Row) -> u64
+    ensures { result ≡ row_weight (row_of row) }
+{
+    let idle = row.resident - row.touched;
+    u64::from(row.touched) * u64::from(row.tax.den - row.tax.num)
+        + u64::from(idle) * u64::from(row.tax.den)
+}
+
+/// What the shares weigh.
+fn weighed_shares(row: Row) -> u64
+    ensures { result ≡ row.shares * (row.tax.den - row.tax.num) }
+{
+    u64::from(row.shares) * u64::from(row.tax.den - row.tax.num)
+}
+
+/// The fraction of shares to weight, not reduced, or `-` where there is no weight.
+#[derive(Clone, Copy)]
+struct Rho {
+    row: Row,
+}
+
+impl fmt::Display for Rho {
+    ghost output = { λ rho. Some (rho_text (row_of rho.row)) };
+
+    fn fmt<W: fmt::Write>(&self, f: &mut fmt::Formatter<W>) -> fmt::Result {
+        let weight = weight(self.row);
+        if weight == 0 {
+            return write!(f, "-");
+        }
+        let shares = weighed_shares(self.row);
+        write!(f, "{shares}/{weight}")
+    }
+}
+
+/// Puts spaces up to the width, and then the number, behind a text.
+fn write_column(text: &mut String, width: usize, n: u64) -> Result<(), AllocError>
+    requires above { 1 ≤ width }
+    requires within { width ≤ 8 }
+    ensures { OnOk result (string_bytes text.new ≡ string_bytes text.old ++ column width n) }
+{
+    write!(text, "{n:>width$}")
+}
+
+/// Puts the line of an instance behind a text: `#`, its number, shares, least and greatest number of frames, resident,
+/// touched and swapped pages, right-aligned, and the fraction of its shares to what its pages weigh.
+///
+/// # Errors
+/// A growth of memory was refused; a beginning of the line may stand behind the text.
+pub fn write_row(text: &mut String, row: Row) -> Result<(), AllocError>
+    ensures { OnOk result (string_bytes text.new ≡ string_bytes text.old ++ row_text (row_of row)) }
+{
+    write!(text, "#")?;
+    write_column(text, 6, row.number)?;
+    write_column(text, 8, u64::from(row.shares))?;
+    write_column(text, 6, u64::from(row.min))?;
+    write_column(text, 6, u64::from(row.max))?;
+    write_column(text, 6, u64::from(row.resident))?;
+    write_column(text, 6, u64::from(row.touched))?;
+    write_column(text, 6, u64::from(row.swapped))?;
+    let rho = Rho { row };
+    writeln!(text, " {rho}")
 }

@@ -18,3 +18,5 @@ pub mod LeavingSlots
 pub mod LeavingMemory
 pub mod Transiting
 pub mod Moving
+pub mod Choosing
+pub mod Fetching

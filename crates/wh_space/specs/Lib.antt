@@ -1,6 +1,8 @@
 pub mod Arrivals
+pub mod Claiming
 pub mod Counts
 pub mod Guests
+pub mod Lacking
 pub mod Leaving
 pub mod Merges
 pub mod Pages

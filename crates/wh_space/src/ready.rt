@@ -27,7 +27,7 @@ fn shared_under(page: Page) -> Option<u32>
 
 impl Memory {
     // How many frames a write to this page wants.
-    fn wanted(&self, place: usize, number: u32) -> u32
+    pub(crate) fn wanted(&self, place: usize, number: u32) -> u32
         requires { number < length (get_or self.now.tables place []) }
         ensures count { result ≡ frames_for self.now place (number ∷ []) }
         ensures few { result ≤ 1 }
@@ -64,7 +64,7 @@ impl Memory {
     }
 
     // How many frames a write to this page and the next wants.
-    fn wanted_by_both(&self, place: usize, number: u32) -> u32
+    pub(crate) fn wanted_by_both(&self, place: usize, number: u32) -> u32
         requires page { number + 1 < length (get_or self.now.tables place []) }
         requires few { number + 1 < 2 ^ 32 }
         ensures { result ≡ frames_for self.now place (number ∷ (number + 1) ∷ []) }
@@ -79,7 +79,7 @@ impl Memory {
     }
 
     // How many frames the instance may take: the free ones, and those that are earmarked for it.
-    fn frames_for_it(&self, place: usize) -> u64
+    pub(crate) fn frames_for_it(&self, place: usize) -> u64
         ensures { result ≡ may_take self.now place }
     {
         u64::from(self.pool.free()) + u64::from(frames_kept(self.pins, place))

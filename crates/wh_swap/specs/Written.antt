@@ -1,5 +1,7 @@
 -- What a device over pages that lie elsewhere knows of its slots.
-use Rattle.std.specs.Prelude.{◌≡◌, ◌≢◌, ℕ, List, [], ◌∷◌, length, map, get_or, Option, Some, None, bytes_eq, cond}
+use Rattle.std.specs.Prelude.{◌≡◌, ◌≢◌, ◌==◌, ℕ, List, [], ◌∷◌, length, map, get_or, Option, Some, None, bytes_eq, cond}
+use Rattle.wh_host_model.specs.declared.plain.SwapError.{SwapError}
+use Rattle.wh_host_model.specs.declared.plain.SwapError.TheVariants.{Read, Write, Damaged}
 use Rattle.wh_swap.specs.declared.written.Written.{Written}
 use Rattle.wh_swap.specs.declared.stream.PageSwap.{PageSwap}
 
@@ -20,7 +22,11 @@ AreKept page held = (k : ℕ) → get_or held k [] ≢ [] → page k ≡ get_or 
 abbrev pub counted_misread : List ℕ → List ℕ → List ℕ → List ℕ
 counted_misread count wrote read = cond (bytes_eq read wrote) count (0 ∷ count)
 
--- what each slot of a device holds, how many writes and failed calls it had, and that each Ok read gave what was
+-- the fault that this number names
+abbrev pub fault_numbered : ℕ → SwapError
+fault_numbered n = cond (n == 1) Read (cond (n == 2) Write Damaged)
+
+-- what each slot of a device holds, how many writes and which faults it had, and that each Ok read gave what was
 -- written
 abbrev pub page_held : {P : Type 0} → PageSwap P → List (List ℕ)
 page_held device = all_written device.slots.items
@@ -28,8 +34,8 @@ page_held device = all_written device.slots.items
 abbrev pub page_writes : {P : Type 0} → PageSwap P → ℕ
 page_writes device = length device.writes.numbers
 
-abbrev pub page_failed : {P : Type 0} → PageSwap P → ℕ
-page_failed device = length device.failed.numbers
+abbrev pub page_faults : {P : Type 0} → PageSwap P → List SwapError
+page_faults device = map fault_numbered device.failed.numbers
 
 abbrev pub HasReadRight : {P : Type 0} → PageSwap P → Type 0
 HasReadRight device = device.misread.numbers ≡ []

@@ -1,11 +1,13 @@
 // What contracts count of a device's calls. It takes no bytes.
 
-ghost use Rattle.std.specs.Prelude.{◌≡◌, [], ◌∷◌};
-ghost use Rattle.wh_swap.specs.Written.{counted_misread};
+ghost use Rattle.std.specs.Prelude.{◌≡◌, [], ◌∷◌, map};
+ghost use Rattle.wh_host_model.specs.Faults.{swap_number};
+ghost use Rattle.wh_swap.specs.Written.{counted_misread, fault_numbered};
 
 use crate::written::Written;
 use boxcar::tag::{Names, Tag};
 use std::snapshot::Snapshot;
+use wh_host_model::SwapError;
 
 struct OneMore;
 
@@ -18,6 +20,30 @@ pub fn one_more(count: &Tag) -> Tag
     ensures { result.numbers ≡ 0 ∷ count.now.numbers }
 {
     Tag::of::<Tag, OneMore>(count)
+}
+
+// A fault, and those before it.
+#[derive(Drop)]
+struct Failing {
+    before: Snapshot<Tag>,
+    fault: SwapError,
+}
+
+struct OneFault;
+
+impl Names<Failing> for OneFault {
+    ghost numbers = { λ a. swap_number a.fault ∷ a.before.value.numbers };
+}
+
+// The same with the number of one more fault.
+pub fn one_fault(before: &Tag, fault: SwapError) -> Tag
+    ensures { map fault_numbered result.numbers
+        ≡ fault ∷ map fault_numbered before.now.numbers }
+{
+    Tag::of::<Failing, OneFault>(&Failing {
+        before: Snapshot::of(before),
+        fault,
+    })
 }
 
 // What an Ok read gave, and what was written before.

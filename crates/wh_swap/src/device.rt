@@ -1,6 +1,6 @@
 // What a swap device promises.
 
-ghost use Rattle.std.specs.Prelude.{◌≡◌, ◌≢◌, ◌+◌, ◌<◌, ℕ, List, [], length, get_or, slice_set, OnOk, OnErr, IfErr};
+ghost use Rattle.std.specs.Prelude.{◌≡◌, ◌≢◌, ◌+◌, ◌<◌, ℕ, List, [], ◌∷◌, length, get_or, slice_set, OnOk, OnErr, IfErr};
 ghost use Rattle.wh_host_model.specs.declared.plain.SwapError.{SwapError};
 
 use wh_host_model::SwapError;
@@ -13,8 +13,8 @@ pub trait SwapDev {
     /// How many writes there were.
     ghost writes: { Self → ℕ };
 
-    /// How many calls failed.
-    ghost failed: { Self → ℕ };
+    /// The faults of the calls that failed, the last one first.
+    ghost faults: { Self → List SwapError };
 
     /// Each Ok read so far, of a slot whose last write was Ok, gave what that write wrote.
     ghost honest: { Self → Type 0 };
@@ -33,8 +33,8 @@ pub trait SwapDev {
             → into.new ≡ get_or (held self.old) slot []) }
         ensures held { held self.new ≡ held self.old }
         ensures writes { writes self.new ≡ writes self.old }
-        ensures ok { OnOk result (failed self.new ≡ failed self.old) }
-        ensures err { OnErr result (failed self.new ≡ failed self.old + 1) }
+        ensures ok { OnOk result (faults self.new ≡ faults self.old) }
+        ensures err { IfErr result (λ fault. faults self.new ≡ fault ∷ faults self.old) }
         ensures which { IfErr result (λ fault. fault ≢ SwapError.Write) }
         ensures honest { honest self.new → honest self.old }
         ensures keeps { keeps self.old → keeps self.new }
@@ -50,8 +50,8 @@ pub trait SwapDev {
         ensures open { OnErr result (held self.new ≡ slice_set (held self.old) slot []) }
         ensures slots { length (held self.new) ≡ length (held self.old) }
         ensures writes { writes self.new ≡ writes self.old + 1 }
-        ensures ok { OnOk result (failed self.new ≡ failed self.old) }
-        ensures err { OnErr result (failed self.new ≡ failed self.old + 1) }
+        ensures ok { OnOk result (faults self.new ≡ faults self.old) }
+        ensures err { IfErr result (λ fault. faults self.new ≡ fault ∷ faults self.old) }
         ensures which { IfErr result (λ fault. fault ≡ SwapError.Write) }
         ensures honest { honest self.new → honest self.old }
         ensures keeps { keeps self.old → keeps self.new }

@@ -37,7 +37,7 @@ impl SwapDev for MemSwap {
 
     ghost writes = { memory_writes };
 
-    ghost failed = { λ _. 0 };
+    ghost faults = { λ _. [] };
 
     ghost honest = { λ _. ⊤ };
 

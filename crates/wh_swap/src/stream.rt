@@ -1,10 +1,10 @@
 // A swap device over pages that lie elsewhere, as in a file.
 
-ghost use Rattle.std.specs.Prelude.{◌≡◌, ◌≢◌, ◌+◌, ◌<◌, ℕ, None, [], length, get_or, replicate, IfOk, OnOk, OnErr, IfErr, IsErrOf};
+ghost use Rattle.std.specs.Prelude.{◌≡◌, ◌≢◌, ◌+◌, ◌<◌, ℕ, None, [], ◌∷◌, length, get_or, replicate, IfOk, OnOk, OnErr, IfErr, IsErrOf};
 ghost use Rattle.sha2.specs.Sha256.{sha256};
-ghost use Rattle.wh_swap.specs.Written.{AreKept, HasReadRight, page_held, page_writes, page_failed};
+ghost use Rattle.wh_swap.specs.Written.{AreKept, HasReadRight, page_held, page_writes, page_faults};
 
-use crate::counts::{compared, one_more};
+use crate::counts::{compared, one_fault, one_more};
 use crate::written::Written;
 use crate::{Pages, StreamPages, SwapDev};
 use boxcar::tag::Tag;
@@ -17,7 +17,8 @@ use wh_host_model::SwapError;
 pub struct PageSwap<P> {
     pages: P,
     slots: Vec<Option<Written>>,
-    // Of these, contracts know how many there were: writes, failed calls, and reads that gave other bytes.
+    // Of these, contracts know how many there were: writes, and reads that gave other bytes; and of failed calls which fault
+    // each had.
     writes: Tag,
     failed: Tag,
     misread: Tag,
@@ -71,7 +72,7 @@ impl<P: Pages> PageSwap<P> {
         P: Drop,
         ensures held { IfOk result (λ device. page_held device ≡ replicate slots []) }
         ensures writes { IfOk result (λ device. page_writes device ≡ 0) }
-        ensures failed { IfOk result (λ device. page_failed device ≡ 0) }
+        ensures faults { IfOk result (λ device. page_faults device ≡ []) }
         ensures honest { IfOk result HasReadRight }
         ensures keeps { IfOk result (λ device. P.tells pages
             → P.tells device.pages × AreKept (P.page device.pages) (page_held device)) }
@@ -94,7 +95,7 @@ impl<F: Read + Write + Seek + Drop> PageSwap<StreamPages<F>> {
     pub fn new(alloc: Global, stream: F, slots: u32) -> Result<StreamSwap<F>, AllocError>
         ensures held { IfOk result (λ device. page_held device ≡ replicate slots []) }
         ensures writes { IfOk result (λ device. page_writes device ≡ 0) }
-        ensures failed { IfOk result (λ device. page_failed device ≡ 0) }
+        ensures faults { IfOk result (λ device. page_faults device ≡ []) }
         ensures honest { IfOk result HasReadRight }
     {
         PageSwap::over(alloc, StreamPages::new(stream), slots)
@@ -106,7 +107,7 @@ impl<P: Pages> SwapDev for PageSwap<P> {
 
     ghost writes = { page_writes };
 
-    ghost failed = { page_failed };
+    ghost faults = { page_faults };
 
     ghost honest = { HasReadRight };
 
@@ -129,8 +130,8 @@ impl<P: Pages> SwapDev for PageSwap<P> {
             → into.new ≡ get_or (page_held self.old) slot []) }
         ensures held { page_held self.new ≡ page_held self.old }
         ensures writes { page_writes self.new ≡ page_writes self.old }
-        ensures ok { OnOk result (page_failed self.new ≡ page_failed self.old) }
-        ensures err { OnErr result (page_failed self.new ≡ page_failed self.old + 1) }
+        ensures ok { OnOk result (page_faults self.new ≡ page_faults self.old) }
+        ensures err { IfErr result (λ fault. page_faults self.new ≡ fault ∷ page_faults self.old) }
         ensures which { IfErr result (λ fault. fault ≢ SwapError.Write) }
         ensures honest { HasReadRight self.new → HasReadRight self.old }
         ensures keeps { P.tells self.old.pages
@@ -141,11 +142,11 @@ impl<P: Pages> SwapDev for PageSwap<P> {
             → HasReadRight self.old → HasReadRight self.new }
     {
         let Some(written) = &self.slots[slot as usize] else {
-            self.failed = one_more(&self.failed);
+            self.failed = one_fault(&self.failed, SwapError::Damaged);
             return Err(SwapError::Damaged);
         };
         if let Err(fault) = fetch(&mut self.pages, slot, written, into) {
-            self.failed = one_more(&self.failed);
+            self.failed = one_fault(&self.failed, fault);
             return Err(fault);
         }
         self.misread = compared(&self.misread, written, into);
@@ -156,7 +157,7 @@ impl<P: Pages> SwapDev for PageSwap<P> {
         self.writes = one_more(&self.writes);
         self.slots[slot as usize] = None;
         if self.pages.put(slot, from).is_err() {
-            self.failed = one_more(&self.failed);
+            self.failed = one_fault(&self.failed, SwapError::Write);
             return Err(SwapError::Write);
         }
         self.slots[slot as usize] = Some(Written::of(from));

@@ -23,7 +23,7 @@ slice_get-seam [] y = refl
 slice_get-seam (z ∷ xs) y = slice_get-seam xs y
 
 -- by cross products: the first is below the second, and the second at most the third
-cross_lt : (s1 w1 s2 w2 s3 w3 : ℕ) → s1 * w2 < s2 * w1 → s2 * w3 ≤ s3 * w2 → 0 < w3 → s1 * w3 < s3 * w1
+pub cross_lt : (s1 w1 s2 w2 s3 w3 : ℕ) → s1 * w2 < s2 * w1 → s2 * w3 ≤ s3 * w2 → 0 < w3 → s1 * w3 < s3 * w1
 cross_lt s1 w1 s2 w2 s3 w3 below most some =
     let left : (s1 * w2) * w3 < (s2 * w1) * w3 = mul-lt-mul_of_pos_right below some in
     let right : (s2 * w3) * w1 ≤ (s3 * w2) * w1 = mul-le-mul_right w1 most in
@@ -37,7 +37,7 @@ slice_get-front (y ∷ xs) (suc i) zero x e = e
 slice_get-front (y ∷ xs) (suc i) (suc k) x e = slice_get-front xs i k x e
 
 -- some pages, each at a price, have a price
-some_price : (a p t d : ℕ) → 0 < p → 0 < t → 0 < d → 0 < a * t + (p - a) * d
+pub some_price : (a p t d : ℕ) → 0 < p → 0 < t → 0 < d → 0 < a * t + (p - a) * d
 some_price zero p t d pages touched idle = rw (zero-mul, sub-zero) (omega (arith, mul-pos pages idle))
 some_price (suc a) p t d pages touched idle = omega (arith, mul-pos (zero-lt-suc a) touched)
 

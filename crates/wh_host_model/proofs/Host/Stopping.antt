@@ -81,19 +81,19 @@ reached go (has_had_its_turn x next u v y) = let f = computes_first x in by_step
 
 -- ---- it can't stop before, or go on behind
 
-further_on : {inst : Instance} {a c c2 : Config} (n j n2 : ℕ) → After inst a n c → After inst a n2 c2 → n + j ≡ n2 → After inst c j c2
+pub further_on : {inst : Instance} {a c c2 : Config} (n j n2 : ℕ) → After inst a n c → After inst a n2 c2 → n + j ≡ n2 → After inst c j c2
 further_on {inst} {a} {c} {c2} n j n2 x y e =
     let parts = after_splits inst n j a c2 (subst (λ i. After inst a i c2) (sym e) y) in
     subst (λ b. After inst b j c2) (one_after inst n a parts.0 c parts.1 x) parts.2
 
-done_stops : {inst : Instance} {j : ℕ} {s : Store} {f vs : List Value} {c : Config} → Leads inst (config s f (code vs nothing)) j c → j ≡ 0
+pub done_stops : {inst : Instance} {j : ℕ} {s : Store} {f vs : List Value} {c : Config} → Leads inst (config s f (code vs nothing)) j c → j ≡ 0
 done_stops stays = refl
 done_stops (goes_on k n x r) = absurd (done_stays x)
 
 trap_stays : {inst : Instance} {d k : ℕ} {s : Store} {x : Trap} {c : Config} → Reduces inst d (trapped s x) k c → ⊥
 trap_stays r = elim r [ ]
 
-trap_stops : {inst : Instance} {j : ℕ} {s : Store} {x : Trap} {c : Config} → Leads inst (trapped s x) j c → j ≡ 0
+pub trap_stops : {inst : Instance} {j : ℕ} {s : Store} {x : Trap} {c : Config} → Leads inst (trapped s x) j c → j ≡ 0
 trap_stops stays = refl
 trap_stops (goes_on k n x r) = absurd (trap_stays x)
 
@@ -110,25 +110,25 @@ pub record SameStop (to to2 : Upshot) (s s2 : Store) (d d2 : Doing) : Type 0 whe
   pub stores : s ≡ s2
   pub doings : d ≡ d2
 
-store_same : (s s2 : Store) (f f2 : List Value) (t t2 : Term) → config s f t ≡ config s2 f2 t2 → s ≡ s2
+pub store_same : (s s2 : Store) (f f2 : List Value) (t t2 : Term) → config s f t ≡ config s2 f2 t2 → s ≡ s2
 store_same s s2 f f2 t t2 e = cc e
 
-term_same : (s s2 : Store) (f f2 : List Value) (t t2 : Term) → config s f t ≡ config s2 f2 t2 → t ≡ t2
+pub term_same : (s s2 : Store) (f f2 : List Value) (t t2 : Term) → config s f t ≡ config s2 f2 t2 → t ≡ t2
 term_same s s2 f f2 t t2 e = cc e
 
-values_same : (vs ws : List Value) (is js : Code) → code vs is ≡ code ws js → vs ≡ ws
+pub values_same : (vs ws : List Value) (is js : Code) → code vs is ≡ code ws js → vs ≡ ws
 values_same vs ws is js e = cc e
 
-trap_same : (s s2 : Store) (x y : Trap) → trapped s x ≡ trapped s2 y → (s ≡ s2) × (x ≡ y)
+pub trap_same : (s s2 : Store) (x y : Trap) → trapped s x ≡ trapped s2 y → (s ≡ s2) × (x ≡ y)
 trap_same s s2 x y e = (cc e, cc e)
 
-never_trapped : (s s2 : Store) (x : Trap) (t : Term) → config s [] t ≡ trapped s2 x → ⊥
+pub never_trapped : (s s2 : Store) (x : Trap) (t : Term) → config s [] t ≡ trapped s2 x → ⊥
 never_trapped s s2 x t e = cc e
 
-done_has_no_next : {inst : Instance} {c : Config} (s : Store) (vs : List Value) → c ≡ config s [] (code vs nothing) → IsNext inst c → ⊥
+pub done_has_no_next : {inst : Instance} {c : Config} (s : Store) (vs : List Value) → c ≡ config s [] (code vs nothing) → IsNext inst c → ⊥
 done_has_no_next {inst} s vs e next = let n = subst (λ x. IsNext inst x) e next in done_stays n.1
 
-trap_has_no_next : {inst : Instance} {c : Config} (s : Store) (x : Trap) → c ≡ trapped s x → IsNext inst c → ⊥
+pub trap_has_no_next : {inst : Instance} {c : Config} (s : Store) (x : Trap) → c ≡ trapped s x → IsNext inst c → ⊥
 trap_has_no_next {inst} s x e next = let n = subst (λ y. IsNext inst y) e next in trap_stays n.1
 
 stop_same : {inst : Instance} {q n : ℕ} {call : Call} {c : Config} {to to2 : Upshot} {s s2 : Store} {d d2 : Doing} → StopsAt inst q call n c to s d → StopsAt inst q call n c to2 s2 d2 → SameStop to to2 s s2 d d2
@@ -157,7 +157,7 @@ stop_same (at_turn {s = s} {term = t} e next u v) (at_turn {s = s2} {term = t2} 
 
 -- ---- a call reaches one thing
 
-apart_by : (m n : ℕ) → (m ≡ n) ⊎ (((j : ℕ) × (m + suc j ≡ n)) ⊎ ((j : ℕ) × (n + suc j ≡ m)))
+pub apart_by : (m n : ℕ) → (m ≡ n) ⊎ (((j : ℕ) × (m + suc j ≡ n)) ⊎ ((j : ℕ) × (n + suc j ≡ m)))
 apart_by zero zero = inl refl
 apart_by zero (suc n) = inr (inl (n, omega arith))
 apart_by (suc m) zero = inr (inr (m, omega arith))

@@ -1,0 +1,245 @@
+-- An admission, and the host that it leaves.
+use Rattle.std.proofs.Common.{◌≡◌, ◌≢◌, ℕ, zero, suc, ◌+◌, ◌*◌, ◌/◌, ◌<◌, ◌≤◌, ◌⊎◌, ⊎_elim, inl, inr, false, Option, Some, None, List, [], ◌∷◌, ◌++◌, length, map, get_or, slice_get, replicate, refl, sym, ap, subst, ◌∙◌, arith}
+use Rattle.std.proofs.lemmas.List.{length-replicate}
+use Rattle.slab.specs.Slab.{Slab, Updates}
+use Rattle.wh_model.specs.Format.Limits.{most_segments}
+use Rattle.wh_model.specs.Format.Spelling.{Small}
+use Rattle.wh_model.specs.Format.Syntax.{Module, Limits}
+use Rattle.wh_model.specs.Execution.Instance.{first_size, last_size, fragments}
+use Rattle.wh_host_model.specs.declared.plain.InstId.{InstId}
+use Rattle.wh_host_model.specs.Space.Parts.{Space, minima, spreads, view}
+use Rattle.wh_host_model.specs.Space.Places.{Enters, HasRoomFor}
+use Rattle.wh_host_model.specs.Host.Spaces.{Arrives}
+use Rattle.wh_host_model.specs.Host.Worlds.{Params, Tenant, World, given_of, promised, empty_world}
+use Rattle.wh_host_model.specs.Host.Admission.{AdmitFault, no_module, shares, min_max, frames, swap, instances, memory, segments, admit_rank, StartsAs, MeetsFault, LetsIn, rest_of}
+use Rattle.wh_host_model.specs.Host.Events.{admit}
+use Rattle.wh_host_model.specs.Host.Happens.{admit_ok, admit_refused, IsAdmit, is_admitted, isnt_admitted, no_memory_to_admit}
+use Rattle.wh_host_model.proofs.Host.Bridges.{entrants_arrive}
+use Rattle.wh_host_model.proofs.Host.Running.{good_run}
+use Rattle.wh_host_model.proofs.Host.Empty.{good_empty}
+use Rattle.wh_syntax.specs.View.{view_data}
+use Rattle.wh_load.specs.Refusing.{view_linked}
+use Rattle.wh_initial.specs.Begins.{first_store}
+use Rattle.wh_admit.specs.declared.outcome.Admitted.{Admitted}
+use Rattle.wh_admit.specs.declared.room.Room.{Room}
+use Rattle.wh_admit.specs.Admitting.{RefusesFor}
+use Rattle.wh_admit.specs.Beginning.{BeginsAdmitted, BeginsAs}
+use Rattle.wh_admit.specs.Standing.{StandsForHost}
+use Rattle.wh_instance.specs.Tenancy.{IsTenant}
+use Rattle.wh_space.specs.Arrivals.{claimed}
+use Rattle.wh_space.specs.declared.guest.Promise.{Promise}
+use Rattle.wh_host.specs.declared.parts.LoadedModule.{LoadedModule}
+use Rattle.wh_host.specs.declared.parts.Resident.{Resident}
+use Rattle.wh_host.specs.Admitting.{BeginsResident, EntersNext, fault_answer}
+use Rattle.wh_host.specs.Hosting.{AreGivenAs, HostState, IsHost, IsResident, loaded_as, resident_at}
+use Rattle.wh_host.proofs.Hosts.{moved_on, one_more, one_value, reached_on, same_or_not}
+use Rattle.wh_host.proofs.Requests.{as_many_modules, module_there, sound_here}
+
+-- ---- before it
+
+pub stands : (h : HostState) (w : World) (k : ℕ) (m : LoadedModule) (room : Room) → IsHost h w → slice_get h.modules k ≡ Some m → room.frames + minima h.space ≡ length h.space.pool.frames → room.slots + spreads h.space ≡ length h.space.slots.uses → room.live ≡ h.live → StandsForHost w k (Some (view_linked m.linked)) room
+stands h w k m room st is some_frames some_slots live = record {
+  is_module = (loaded_as m, module_there h w k m st is, refl);
+  room_left = record {
+    frames = subst (λ (s : Space). room.frames + minima s ≡ length s.pool.frames) st.space some_frames;
+    slots = subst (λ (s : Space). room.slots + spreads s ≡ length s.slots.uses) st.space some_slots;
+    live = live ∙ st.live;
+  };
+}
+
+none_behind : {A : Type 0} (xs : List A) (k : ℕ) → slice_get xs k ≡ None → length xs ≤ k
+none_behind [] k e = omega arith
+none_behind (x ∷ xs) zero e = absurd (cc e)
+none_behind (x ∷ xs) (suc k) e = let h = none_behind xs k e in omega (arith, h)
+
+first_is_first : (other : AdmitFault) → admit_rank other < 1 → ⊥
+first_is_first no_module lt = omega (arith, lt)
+first_is_first shares lt = omega (arith, lt)
+first_is_first min_max lt = omega (arith, lt)
+first_is_first frames lt = omega (arith, lt)
+first_is_first swap lt = omega (arith, lt)
+first_is_first instances lt = omega (arith, lt)
+first_is_first memory lt = omega (arith, lt)
+first_is_first segments lt = omega (arith, lt)
+
+pub no_module_is_there : (h : HostState) (w : World) (k : ℕ) (p : Params) → IsHost h w → slice_get h.modules k ≡ None → IsAdmit w k p (admit_refused no_module) w
+no_module_is_there h w k p st none =
+    let count = as_many_modules h w st in
+    let behind = none_behind h.modules k none in
+    isnt_admitted (omega (arith, count, behind), λ other lt. absurd (first_is_first other lt))
+
+pub refused_as : (w : World) (k : ℕ) (p : Params) (m : Module) (room : Room) → StandsForHost w k (Some m) room → (o : Option AdmitFault) → RefusesFor (Some m) room p o → IsAdmit w k p (fault_answer o) w
+refused_as w k p m room is (Some fault) first = isnt_admitted (first w k is)
+refused_as w k p m room is None none = no_memory_to_admit (none w k is)
+
+-- ---- the module's segments
+
+few_segments : (b : List ℕ) (m : Module) → Small b m → length m.segments ≤ most_segments
+unfolding Small
+few_segments b m s = s.1.segments
+
+length_mapped : {A B : Type 0} (f : A → B) (xs : List A) → length (map f xs) ≡ length xs
+length_mapped f [] = refl
+length_mapped f (x ∷ xs) = ap suc (length_mapped f xs)
+
+pub module_is_small : (h : HostState) (w : World) (k : ℕ) (m : LoadedModule) → IsHost h w → slice_get h.modules k ≡ Some m → length m.linked.valid.decoded.segments.items ≤ most_segments
+module_is_small h w k m st is =
+    let r = st.reached in
+    let good = good_run r.events (empty_world r.frames r.slots r.tax) w (good_empty r.frames r.slots r.tax) r.happen in
+    let accepted = good.modules k (loaded_as m) (module_there h w k m st is) in
+    let few = few_segments (loaded_as m).bytes (view_linked m.linked) accepted.is_module.small in
+    let same : length (map view_data m.linked.valid.decoded.segments.items) ≡ length m.linked.valid.decoded.segments.items = length_mapped view_data m.linked.valid.decoded.segments.items in
+    omega (arith, few, same)
+
+-- ---- what is admitted
+
+abbrev pub promise_of : ℕ → Admitted → Promise
+promise_of number a = record { number = number; shares = a.shares; min = a.min; max = a.max }
+
+pub begins_as : (m : Module) (p : Params) (a : Admitted) → BeginsAdmitted (Some m) p a → BeginsAs m p a
+begins_as m p a b = subst (λ n. BeginsAs n p a) (sym (one_value m b.0 b.1)) b.2
+
+pub room_for : (h : HostState) (w : World) (k number : ℕ) (m : Module) (p : Params) (a : Admitted) → IsHost h w → ((fault : AdmitFault) → ¬ (MeetsFault w k p fault)) → BeginsAs m p a → HasRoomFor h.space (claimed (promise_of number a))
+room_for h w k number m p a st none b =
+    let some_frames = none frames in
+    let some_slots = none swap in
+    let least = b.min in
+    let most = b.max in
+    subst (λ (s : Space). HasRoomFor s (claimed (promise_of number a))) (sym st.space) (omega (arith, some_frames, least), omega (arith, some_slots, least, most))
+
+pub fits_in : (m : Module) (p : Params) (a : Admitted) → BeginsAs m p a → 16 * a.begun.pages ≤ a.max
+fits_in m p a b =
+    let few = b.instantiates.few_pages in
+    let same = b.instantiates.pages in
+    let most = b.max in
+    omega (arith, few, same, most)
+
+pub few_live : (h : HostState) (w : World) (k : ℕ) (p : Params) → IsHost h w → ((fault : AdmitFault) → ¬ (MeetsFault w k p fault)) → h.live < 4096
+few_live h w k p st none = let some = none instances in let e = st.live in omega (arith, some, e)
+
+-- ---- after it
+
+at_end : {A : Type 0} (xs : List (Option A)) (o : Option A) (j : ℕ) (a : A) → get_or (xs ++ o ∷ []) j None ≡ Some a → (get_or xs j None ≡ Some a) ⊎ ((j ≡ length xs) × (o ≡ Some a))
+at_end [] o zero a e = inr (refl, e)
+at_end [] o (suc j) a e = absurd (cc e)
+at_end (x ∷ xs) o zero a e = inl e
+at_end (x ∷ xs) o (suc j) a e = ⊎_elim (λ h. inl h) (λ (h : (j ≡ length xs) × (o ≡ Some a)). inr (omega (arith, h.0), h.1)) (at_end xs o j a e)
+
+still_there : {A : Type 0} (xs : List (Option A)) (o : Option A) (j : ℕ) (a : A) → get_or xs j None ≡ Some a → get_or (xs ++ o ∷ []) j None ≡ Some a
+still_there [] o j a e = absurd (cc e)
+still_there (x ∷ xs) o zero a e = e
+still_there (x ∷ xs) o (suc j) a e = still_there xs o j a e
+
+has_come : {A : Type 0} (xs : List (Option A)) (o : Option A) → get_or (xs ++ o ∷ []) (length xs) None ≡ o
+has_come [] o = refl
+has_come (x ∷ xs) o = has_come xs o
+
+one_longer : {A : Type 0} (xs : List A) (x : A) → length (xs ++ x ∷ []) ≡ 1 + length xs
+one_longer [] x = refl
+one_longer (y ∷ xs) x = let h = one_longer xs x in omega (arith, h)
+
+within_limit : (ls : List Limits) (limit : ℕ) → last_size ls limit ≤ limit
+within_limit [] limit = omega arith
+within_limit (l ∷ ls) limit = omega arith
+
+size_is : (m n : ℕ) → m ≡ n → 65536 * m ≡ n * 65536
+size_is m n e = omega (arith, e)
+
+claim_is : (number : ℕ) (a : Admitted) (p : Params) → a.shares ≡ p.shares → a.min ≡ p.min → a.max ≡ p.max → claimed (promise_of number a) ≡ promised number p
+claim_is number a p part least most = rw (part, least, most) refl
+
+pub admitted_here : (h : HostState) (w : World) (k : ℕ) (p : Params) (m : LoadedModule) (a : Admitted) (x : Resident) (place : ℕ) (rs rs1 rs2 : Slab Resident) (s2 : Space) → (st : IsHost h w) → slice_get h.modules k ≡ Some m
+    → ((fault : AdmitFault) → ¬ (MeetsFault w k p fault)) → BeginsAs (view_linked m.linked) p a → BeginsResident m.linked a h.next k (p.base, p.salt) x
+    → rs.slots ≡ h.residents → EntersNext rs h.space (promise_of h.next a) a.begun.pages place rs1 s2 → Updates rs1 rs2 place (Some x)
+    → (w2 : World) × IsAdmit w k p (admit_ok (record { place = place; number = h.next })) w2 × IsHost (record h { residents = rs2.slots; live = h.live + 1; space = s2; next = h.next + 1 }) w2
+admitted_here h w k p m a x place rs rs1 rs2 s2 st is none b begins are enters updates =
+    let i = b.instantiates in
+    let wasm = view_linked m.linked in
+    let s = first_store wasm (given_of p) i.globals i.elements in
+    let made = begins.begins (given_of p) i in
+    let t : Tenant = record {
+      place = place;
+      of = k;
+      params = p;
+      inst = i.inst;
+      rest = rest_of s;
+      doing = made.0;
+      ended = made.1;
+      open_calls = made.2;
+      stands_for = None;
+      dead = false;
+    } in
+    let entered = subst (λ (z : Space). Enters z place (claimed (promise_of h.next a)) a.begun.pages s2) st.space enters.enters in
+    let come = entrants_arrive w.space place (claimed (promise_of h.next a)) a.begun.pages s2 (sound_here h w st) entered in
+    let same_claim : claimed (promise_of h.next a) ≡ promised h.next p = claim_is h.next a p b.shares b.min b.max in
+    let pages : a.begun.pages ≡ first_size wasm.memories = i.pages in
+    let size : 65536 * a.begun.pages ≡ length s.bytes = size_is a.begun.pages (first_size wasm.memories) pages ∙ sym (length-replicate (first_size wasm.memories * 65536) 0) in
+    let arrives : Arrives place (promised h.next p) (length s.bytes) w.space s2 = subst (λ n. Arrives place (promised h.next p) n w.space s2) size (subst (λ c. Arrives place c (65536 * a.begun.pages) w.space s2) same_claim come) in
+    let w2 : World = record w { tenants = w.tenants ++ Some t ∷ []; space = s2 } in
+    let lets : LetsIn w k p place h.next w2 = record {
+      no_fault = none;
+      can_count = b.can_count;
+      given = b.given;
+      loaded = loaded_as m;
+      is_loaded = module_there h w k m st is;
+      inst = i.inst;
+      s = s;
+      pieces = fragments i.segments;
+      initial = i.is_initial;
+      doing = made.0;
+      ended = made.1;
+      open_calls = made.2;
+      starts = subst (λ n. StartsAs i.inst s (fragments i.segments) wasm.start n made.0 made.1 made.2) b.fuel made.3;
+      space = s2;
+      arrives = arrives;
+      next = st.next;
+      after = refl;
+    } in
+    let id : InstId = record { place = place; number = h.next } in
+    let happens : IsAdmit w k p (admit_ok id) w2 = is_admitted lets in
+    let zeros : view s2 place ≡ replicate (a.begun.pages * 65536) 0 = arrives.view ∙ ap (λ n. replicate n 0) (sym size ∙ size_is a.begun.pages a.begun.pages refl) in
+    let over : IsTenant m.linked x.page_limit x.tenant (view s2 place) t = subst (λ n. IsTenant m.linked n x.tenant (view s2 place) t) (sym begins.limit) (subst (λ bytes. IsTenant m.linked a.begun.page_limit x.tenant bytes t) (sym zeros) (made.4 t (record { inst_is = refl; rest = refl; doing = refl; ended_are = refl; open_are = refl; stands_for = refl; dead = refl }))) in
+    let limits : x.page_limit ≡ last_size wasm.memories (p.max / 16) = begins.limit ∙ i.page_limit ∙ i.prepares.page_limit in
+    let most = within_limit wasm.memories (p.max / 16) in
+    let represents : IsResident h.modules x s2 h.next t = record {
+      number = begins.number;
+      of = begins.of;
+      loaded = m;
+      is_loaded = ap (slice_get h.modules) begins.of ∙ is;
+      given = subst (λ g. AreGivenAs g p) (sym begins.given) (record { shares = b.shares; min = b.min; max = b.max; fuel = b.fuel; base = refl; salt = refl });
+      limit = omega (arith, limits, most);
+      is = over;
+    } in
+    let vacant : resident_at h.residents place ≡ None = ap (λ (zs : List (Option Resident)). resident_at zs place) (sym are) ∙ enters.vacant in
+    let still : (q : ℕ) → q ≢ place → resident_at rs2.slots q ≡ resident_at h.residents q = λ q other. updates.others q other ∙ ap (λ (zs : List (Option Resident)). resident_at zs q) (enters.slots ∙ are) in (
+      w2,
+      happens,
+      record {
+        reached = reached_on w w2 (admit k p) st.reached (admit_ok id, happens);
+        modules = st.modules;
+        space = refl;
+        live = let e = st.live in let more = one_more w.tenants t in omega (arith, e, more);
+        next = let e = st.next in let longer = one_longer w.tenants (Some t) in omega (arith, e, longer);
+        there = λ j u e.
+            ⊎_elim
+            (λ (old : get_or w.tenants j None ≡ Some u).
+            let f = st.there j u old in
+            let far : u.place ≢ place = λ q. absurd (let bad : None ≡ Some f.0 = sym vacant ∙ ap (resident_at h.residents) (sym q) ∙ f.1 in cc bad) in
+            (f.0, still u.place far ∙ f.1, moved_on h.modules f.0 w.space s2 j u f.2 (arrives.others u.place far).view))
+            (λ (new : (j ≡ length w.tenants) × (Some t ≡ Some u)).
+            let one = one_value t u new.1 in
+            let which : h.next ≡ j = st.next ∙ sym new.0 in
+            (x, ap (resident_at rs2.slots) (ap (λ (z : Tenant). z.place) (sym one)) ∙ updates.changed, subst (λ z. IsResident h.modules x s2 j z) one (subst (λ n. IsResident h.modules x s2 n t) which represents)))
+            (at_end w.tenants (Some t) j u e);
+        all = λ q j z e n.
+            ⊎_elim
+            (λ (here : q ≡ place).
+            let same : x ≡ z = one_value x z (sym updates.changed ∙ ap (resident_at rs2.slots) (sym here) ∙ e) in
+            let which : j ≡ length w.tenants = one_value j (length w.tenants) (sym n ∙ ap (λ (v : Resident). v.number) (sym same) ∙ begins.number ∙ ap Some st.next) in
+            (t, ap (λ c. get_or (w.tenants ++ Some t ∷ []) c None) which ∙ has_come w.tenants (Some t), sym here))
+            (λ (there : q ≢ place).
+            let f = st.all q j z (sym (still q there) ∙ e) n in
+            (f.0, still_there w.tenants (Some t) j f.0 f.1, f.2))
+            (same_or_not q place);
+      },
+    )

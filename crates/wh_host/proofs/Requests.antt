@@ -1,0 +1,292 @@
+-- What calls, ends of calls, epochs, modules and releases leave of the host for which the code's host stands.
+use Rattle.std.proofs.Common.{true, ◌≡◌, ◌≢◌, ℕ, zero, suc, ◌+◌, ◌<◌, ◌⊎◌, ⊎_elim, inl, inr, ◌≤◌, ℤ, Option, Some, None, List, [], ◌∷◌, ◌++◌, length, map, get_or, slice_get, slice_set, refl, sym, ap, subst, ◌∙◌, arith}
+use Rattle.std.proofs.lemmas.List.{get_or-set_other}
+use Rattle.wh_model.specs.Linking.Accepting.{IsAccepted, IsModule}
+use Rattle.wh_model.specs.declared.faults.FaultKind.{FaultKind}
+use Rattle.wh_model.specs.declared.faults.FaultKind.TheVariants.{Magic, Version, Truncated, SectionOrder, SectionSize, Leb, Utf8, UnknownByte, Float, Unsupported, Limit, CountMismatch, Memory as NoRoom}
+use Rattle.wh_model.specs.declared.faults.ValidKind.{ValidKind}
+use Rattle.wh_model.specs.declared.faults.ValidKind.TheVariants.{BadType, Index, Align, Arity, Const, DuplicateExport, Start, Limits, Height, ConstImmutable, Memory as NoRoomToCheck}
+use Rattle.wh_model.specs.Format.Syntax.{Module}
+use Rattle.wh_model.specs.Validity.Valid.{Valid}
+use Rattle.wh_model.specs.Validity.Heights.{Fits}
+use Rattle.wh_imports.specs.declared.error.LinkError.{LinkError}
+use Rattle.wh_imports.specs.declared.error.LinkError.TheVariants.{NoItem, Memory as NoRoomToLink}
+use Rattle.wh_imports.specs.Refusing.{RefusesLink}
+use Rattle.wh_load.specs.declared.error.LoadError.{LoadError}
+use Rattle.wh_load.specs.declared.error.LoadError.TheVariants.{Decode, Valid as Invalid, Link}
+use Rattle.wh_load.specs.Refusing.{RefusesBytes}
+use Rattle.wh_host.specs.Loading.{IsBytesAnswer, IsLinkAnswer, KeepsModule}
+use Rattle.wh_host_model.specs.declared.plain.InstId.{InstId}
+use Rattle.wh_host_model.specs.Space.Parts.{Space, Occupant, claim, occupant_at, view}
+use Rattle.wh_host_model.specs.Space.Sound.{IsSound}
+use Rattle.wh_host_model.specs.Space.Stores.{Epochs, ended}
+use Rattle.wh_host_model.specs.Space.Places.{Exits}
+use Rattle.wh_host_model.specs.Host.Spaces.{AllLeftAlone, Departs, OthersLeftAlone, StandsAlone}
+use Rattle.wh_host_model.specs.Space.Sight.{HasNoPins}
+use Rattle.wh_host_model.specs.Host.Worlds.{Tenant, Loaded, World, tenant, with_tenant, promised}
+use Rattle.wh_host_model.specs.Host.Calls.{InvokeFault, IsFirst, Meets, TakesCall, Cancels, ends}
+use Rattle.wh_host_model.specs.Host.Admission.{LoadsModule, LetsGo, broken, invalid, unlinked, modules_full, decoder_wants, validator_wants, linker_wants, host_wants}
+use Rattle.wh_host_model.specs.Host.Events.{epoch, invoke, cancel, load, release}
+use Rattle.wh_host_model.specs.Host.Happens.{IsLive, OnlyMoves, IsCancel, is_cancelled, IsInvoke, is_invoked, isnt_invoked, no_memory_to_invoke, invoke_ok, call_ok, LoadAnswer, load_refused, load_wants_memory, IsLoad, is_loaded, isnt_loaded, no_memory_to_load, load_ok, IsRelease, is_released}
+use Rattle.wh_host_model.proofs.Host.Bridges.{ends_well, epochs_leave_all, exits_depart}
+use Rattle.wh_host_model.proofs.Host.Holding.{memory_is_sound}
+use Rattle.wh_imports.specs.Joined.{LinkedState}
+use Rattle.wh_load.specs.Refusing.{view_linked}
+use Rattle.wh_instance.specs.declared.error.InvokeError.{InvokeError}
+use Rattle.wh_instance.specs.Asked.{CancelsTenant}
+use Rattle.wh_instance.specs.Invoked.{InvokesTenant, RefusesInvoke, RefusesCallFor, IsSomeTenant, refusal_of}
+use Rattle.wh_instance.specs.Seen.{HasOutput}
+use Rattle.wh_instance.specs.Tenancy.{IsTenant, TenantState}
+use Rattle.wh_host.specs.declared.parts.LoadedModule.{LoadedModule}
+use Rattle.wh_host.specs.declared.parts.Resident.{Resident}
+use Rattle.wh_host.specs.Asking.{refusal_answer}
+use Rattle.wh_host.specs.Seats.{PlaceIsLeft}
+use Rattle.wh_host.specs.Hosting.{HostState, IsHost, IsReached, loaded_as, resident_at}
+use Rattle.wh_host.proofs.Turns.{claimed_there}
+use Rattle.wh_host.proofs.Hosts.{SameTenant, asked_found, at_place, changed, closed_stays, found, length_set, module_is, moved_on, one_fewer, one_value, places, reached_on, same_or_not, same_owner, seat_set}
+
+-- ---- what is known of a host
+
+pub sound_here : (h : HostState) (w : World) → IsHost h w → IsSound w.space
+sound_here h w st = let r = st.reached in memory_is_sound r.frames r.slots r.tax r.events w r.happen
+
+-- who is there has its place in memory
+pub lives_there : (h : HostState) (w : World) (place i : ℕ) (x : Resident) → IsHost h w → resident_at h.residents place ≡ Some x → x.number ≡ Some i → (o : Occupant) × occupant_at h.space place o × (o.live ≡ true)
+lives_there h w place i x st at number =
+    let f = found h w place i x st at number in
+    let claims = (places w st.reached).claimed i f.t f.live in
+    subst (λ s. (o : Occupant) × occupant_at s place o × (o.live ≡ true)) (sym st.space) (claimed_there w.space place (promised i f.t.params) (ap (claim w.space) (sym f.at) ∙ claims))
+
+get_mapped : {A B : Type 0} (f : A → B) (xs : List A) (i : ℕ) (x : A) → slice_get xs i ≡ Some x → slice_get (map f xs) i ≡ Some (f x)
+get_mapped f [] i x e = absurd (cc e)
+get_mapped f (y ∷ xs) zero x e = ap Some (ap f (one_value y x e))
+get_mapped f (y ∷ xs) (suc i) x e = get_mapped f xs i x e
+
+-- the module of a number
+pub module_there : (h : HostState) (w : World) (k : ℕ) (m : LoadedModule) → IsHost h w → slice_get h.modules k ≡ Some m → slice_get w.modules k ≡ Some (loaded_as m)
+module_there h w k m st is = ap (λ (ls : List Loaded). slice_get ls k) (sym st.modules) ∙ get_mapped loaded_as h.modules k m is
+
+-- ---- the present call ends
+
+pub cancelled_here : (h : HostState) (w : World) (id : InstId) (x : Resident) (z : TenantState) → (st : IsHost h w) → resident_at h.residents id.place ≡ Some x → x.number ≡ Some id.number → CancelsTenant x.tenant z
+    → (w2 : World) × IsCancel w id call_ok w2 × IsHost (record h { residents = slice_set h.residents id.place (Some (record x { tenant = z })); space = ended h.space id.place }) w2
+cancelled_here h w id x z st at number asked =
+    let f = found h w id.place id.number x st at number in
+    let s2 = ended w.space id.place in
+    let who = subst (λ s. (o : Occupant) × occupant_at s id.place o × (o.live ≡ true)) st.space (lives_there h w id.place id.number x st at number) in
+    let well = ends_well w.space id.place who.0 (sound_here h w st) who.1 who.2 in
+    let there : view s2 f.t.place ≡ view w.space f.t.place = subst (λ n. view s2 n ≡ view w.space n) (sym f.at) well.0.view in
+    let made = asked f.is.loaded.linked x.page_limit (view w.space f.t.place) f.t f.is.is s2 there in
+    let t2 = made.2 in
+    let others = well.0.steps.others in
+    let stays = closed_stays s2 w.space f.t t2 made.4 (subst (λ n. OthersLeftAlone n w.space s2) (sym f.at) others) in
+    let cancels : Cancels w.space f.t s2 t2 = ends made.3 (subst (λ n. StandsAlone n None w.space s2) (sym f.at) well.0) (subst (λ n. HasNoPins s2 n) (sym f.at) well.1) made.4 in
+    let w2 = with_tenant w id.number (Some t2) s2 in
+    let happens : IsCancel w id call_ok w2 = is_cancelled (f.live, f.at) cancels in
+    let over : IsTenant f.is.loaded.linked x.page_limit z (view s2 t2.place) t2 = subst (λ b. IsTenant f.is.loaded.linked x.page_limit z b t2) (sym there ∙ ap (view s2) (sym stays.place)) made.5 in
+    let represents = same_owner h.modules x w.space s2 id.number f.t t2 z f.is stays.of stays.params over in
+    let then = changed h w id.place id.number x (record x { tenant = z }) t2 s2 st at number (stays.place ∙ f.at) represents (λ j other. (others j other).view) (reached_on w w2 (cancel id) st.reached (call_ok, happens)) in
+    let rs = slice_set h.residents id.place (Some (record x { tenant = z })) in
+    (w2, happens, subst (λ s. IsHost (record h { residents = rs; space = ended s id.place }) w2) (sym st.space) then)
+
+-- ---- a call comes
+
+takes_stays : (w : World) (t t2 : Tenant) {m : _} {name : List ℕ} {given : List ℤ} {fuel at : ℕ} → TakesCall m w.space t name given fuel at t2 → SameTenant t t2
+takes_stays w t t2 takes = rw takes.after (record { place = refl; of = refl; params = refl })
+
+pub some_tenant : (h : HostState) (w : World) (id : InstId) (x : Resident) (m : LoadedModule) → IsHost h w → resident_at h.residents id.place ≡ Some x → x.number ≡ Some id.number → slice_get h.modules x.of ≡ Some m → IsSomeTenant m.linked x.tenant
+some_tenant h w id x m st at number is =
+    let f = found h w id.place id.number x st at number in
+    (x.page_limit, view w.space f.t.place, f.t, subst (λ (l : LoadedModule). IsTenant l.linked x.page_limit x.tenant (view w.space f.t.place) f.t) (module_is h w id.place id.number x m f is) f.is.is)
+
+pub invoked_here : (h : HostState) (w : World) (id : InstId) (name : List ℕ) (given : List ℤ) (fuel at : ℕ) (x : Resident) (z : TenantState) (m : LoadedModule) → (st : IsHost h w) → resident_at h.residents id.place ≡ Some x → x.number ≡ Some id.number → slice_get h.modules x.of ≡ Some m
+    → InvokesTenant m.linked x.tenant name given fuel at z
+    → (w2 : World) × IsInvoke w id name given fuel (invoke_ok at) w2 × IsHost (record h { residents = slice_set h.residents id.place (Some (record x { tenant = z })) }) w2
+invoked_here h w id name given fuel at x z m st there number is asked =
+    let f = found h w id.place id.number x st there number in
+    let one = module_is h w id.place id.number x m f is in
+    let mine : IsTenant m.linked x.page_limit x.tenant (view w.space f.t.place) f.t = subst (λ (l : LoadedModule). IsTenant l.linked x.page_limit x.tenant (view w.space f.t.place) f.t) one f.is.is in
+    let made = asked x.page_limit (view w.space f.t.place) f.t w.space mine refl in
+    let back : IsTenant f.is.loaded.linked x.page_limit z (view w.space f.t.place) made.0 = subst (λ (l : LoadedModule). IsTenant l.linked x.page_limit z (view w.space f.t.place) made.0) (sym one) made.2 in
+    let known : slice_get w.modules f.t.of ≡ Some (loaded_as m) = ap (slice_get w.modules) (sym f.is.of) ∙ module_there h w x.of m st is in
+    let R : Tenant → Tenant → Type 0 = λ t t2. (slice_get w.modules t.of ≡ Some (loaded_as m)) × TakesCall (view_linked m.linked) w.space t name given fuel at t2 in
+    let go = asked_found h w id x z R st there number (λ t t2 r. takes_stays w t t2 r.1) f (made.0, (known, made.1), back) (invoke id name given fuel) (λ t t2 live r. (invoke_ok at, is_invoked live r.0 r.1)) in
+    (_, is_invoked go.2 go.3.0 go.3.1, go.4)
+
+refused_as : (w : World) (id : InstId) (name : List ℕ) (given : List ℤ) (fuel : ℕ) (t : Tenant) (l : LinkedState) (loaded : Loaded) → IsLive w id t → slice_get w.modules t.of ≡ Some loaded → loaded.m ≡ view_linked l → (o : Option InvokeFault) → RefusesCallFor o l t name given → IsInvoke w id name given fuel (refusal_answer o) w
+refused_as w id name given fuel t l loaded live is same (Some fault) first = isnt_invoked live is (subst (λ m. IsFirst m t name given fault) (sym same) first)
+refused_as w id name given fuel t l loaded live is same None none = no_memory_to_invoke live is (λ fault. subst (λ m. ¬ (Meets m t name given fault)) (sym same) (none fault))
+
+pub refused_here : (h : HostState) (w : World) (id : InstId) (name : List ℕ) (given : List ℤ) (fuel : ℕ) (x : Resident) (m : LoadedModule) (e : InvokeError) → (st : IsHost h w) → resident_at h.residents id.place ≡ Some x → x.number ≡ Some id.number → slice_get h.modules x.of ≡ Some m
+    → RefusesInvoke m.linked x.tenant name given e → IsInvoke w id name given fuel (refusal_answer (refusal_of e)) w
+refused_here h w id name given fuel x m e st there number is asked =
+    let f = found h w id.place id.number x st there number in
+    let mine : IsTenant m.linked x.page_limit x.tenant (view w.space f.t.place) f.t = subst (λ (l : LoadedModule). IsTenant l.linked x.page_limit x.tenant (view w.space f.t.place) f.t) (module_is h w id.place id.number x m f is) f.is.is in
+    let known : slice_get w.modules f.t.of ≡ Some (loaded_as m) = ap (slice_get w.modules) (sym f.is.of) ∙ module_there h w x.of m st is in
+    refused_as w id name given fuel f.t m.linked (loaded_as m) (f.live, f.at) known refl (refusal_of e) (asked x.page_limit (view w.space f.t.place) f.t w.space mine refl)
+
+-- ---- pages move
+
+pub moved_host : (h : HostState) (w : World) (s2 : Space) → IsHost h w → AllLeftAlone w.space s2 → IsReached (record w { space = s2 }) → IsHost (record h { space = s2 }) (record w { space = s2 })
+moved_host h w s2 st same reached = record {
+  reached = reached;
+  modules = st.modules;
+  space = refl;
+  live = st.live;
+  next = st.next;
+  there = λ i t e. let f = st.there i t e in (f.0, f.1, moved_on h.modules f.0 w.space s2 i t f.2 (same.0 t.place).view);
+  all = st.all;
+}
+
+pub epoch_here : (h : HostState) (w : World) (s2 : Space) → IsHost h w → Epochs h.space s2 → (w2 : World) × OnlyMoves w w2 × IsHost (record h { space = s2 }) w2
+epoch_here h w s2 st epochs =
+    let same = epochs_leave_all w.space s2 (sound_here h w st) (subst (λ s. Epochs s s2) st.space epochs) in
+    let w2 : World = record w { space = s2 } in
+    let only : OnlyMoves w w2 = (s2, same, refl) in
+    (w2, only, moved_host h w s2 st same (reached_on w w2 epoch st.reached only))
+
+-- ---- an instance goes
+
+pub gone_here : (h : HostState) (w : World) (id : InstId) (x : Resident) (z : TenantState) (output : List ℕ) (rs2 : List (Option Resident)) (s2 : Space) (live2 : ℕ) → (st : IsHost h w) → resident_at h.residents id.place ≡ Some x → x.number ≡ Some id.number
+    → HasOutput x.tenant output → Exits h.space id.place s2 → PlaceIsLeft (slice_set h.residents id.place (Some (record x { number = None; tenant = z }))) id.place rs2 → h.live ≡ 1 + live2
+    → (w2 : World) × IsRelease w id (Some output) w2 × IsHost (record h { residents = rs2; live = live2; space = s2 }) w2
+gone_here h w id x z output rs2 s2 live2 st at number put exits left lives =
+    let f = found h w id.place id.number x st at number in
+    let y : Resident = record x { number = None; tenant = z } in
+    let seats = seat_set h.residents id.place x (Some y) at in
+    let departs = exits_depart w.space id.place s2 (sound_here h w st) (subst (λ s. Exits s id.place s2) st.space exits) in
+    let w2 = with_tenant w id.number None s2 in
+    let goes : LetsGo w id.number f.t output w2 = record { space = s2; departs = subst (λ n. Departs n w.space s2) (sym f.at) departs; written = put f.is.loaded.linked x.page_limit (view w.space f.t.place) f.t f.is.is; after = refl } in
+    let happens : IsRelease w id (Some output) w2 = is_released (f.live, f.at) goes in
+    let still : (p : ℕ) → p ≢ id.place → resident_at rs2 p ≡ resident_at h.residents p = λ p other. left.0 p other ∙ seats.1 p other in
+    let counts = one_fewer w.tenants id.number f.t f.live in (
+      w2,
+      happens,
+      record {
+        reached = reached_on w w2 (release id) st.reached (Some output, happens);
+        modules = st.modules;
+        space = refl;
+        live = let e = st.live in omega (arith, e, counts, lives);
+        next = st.next ∙ sym (length_set w.tenants id.number None);
+        there = λ k a e.
+            ⊎_elim
+            (λ (p : (k ≡ id.number) × (None ≡ Some a)). absurd (cc p.1))
+            (λ (p : (k ≢ id.number) × (get_or w.tenants k None ≡ Some a)).
+            let g = st.there k a p.1 in
+            let r = g.2 in
+            let far : a.place ≢ id.place = λ q. p.0 (one_value k id.number (sym r.number ∙ ap (λ (v : Resident). v.number) (one_value g.0 x (sym g.1 ∙ ap (resident_at h.residents) q ∙ at)) ∙ number)) in
+            (g.0, still a.place far ∙ g.1, moved_on h.modules g.0 w.space s2 k a r (departs.others a.place far).view))
+            (at_place w.tenants id.number k None f.t a f.live e);
+        all = λ p k v e n.
+            ⊎_elim
+            (λ (q : p ≡ id.place).
+            let same : y ≡ v = one_value y v (sym seats.0 ∙ left.1 v (ap (resident_at rs2) (sym q) ∙ e)) in
+            absurd (let bad : None ≡ Some k = ap (λ (u : Resident). u.number) same ∙ n in cc bad))
+            (λ (q : p ≢ id.place).
+            let g = st.all p k v (sym (still p q) ∙ e) n in
+            let other : k ≢ id.number = λ same. q (sym g.2 ∙ ap (λ (u : Tenant). u.place) (one_value g.0 f.t (sym g.1 ∙ ap (tenant w) same ∙ f.live)) ∙ f.at) in
+            (g.0, get_or-set_other w.tenants id.number k None None other ∙ g.1, g.2))
+            (same_or_not p id.place);
+      },
+    )
+
+-- ---- a module comes
+
+still_loaded : {A : Type 0} (xs : List A) (y x : A) (i : ℕ) → slice_get xs i ≡ Some x → slice_get (xs ++ y ∷ []) i ≡ Some x
+still_loaded [] y x i e = absurd (cc e)
+still_loaded (z ∷ xs) y x zero e = e
+still_loaded (z ∷ xs) y x (suc i) e = still_loaded xs y x i e
+
+map_behind : {A B : Type 0} (f : A → B) (xs : List A) (x : A) → map f (xs ++ x ∷ []) ≡ map f xs ++ f x ∷ []
+map_behind f [] x = refl
+map_behind f (y ∷ xs) x = ap (λ zs. f y ∷ zs) (map_behind f xs x)
+
+length_mapped : {A B : Type 0} (f : A → B) (xs : List A) → length (map f xs) ≡ length xs
+length_mapped f [] = refl
+length_mapped f (x ∷ xs) = ap suc (length_mapped f xs)
+
+pub as_many_modules : (h : HostState) (w : World) → IsHost h w → length w.modules ≡ length h.modules
+as_many_modules h w st = ap length (sym st.modules) ∙ length_mapped loaded_as h.modules
+
+pub loaded_here : (h : HostState) (w : World) (bytes : List ℕ) (m : LoadedModule) (number : ℕ) → (st : IsHost h w) → m.bytes.value.items ≡ bytes → IsAccepted bytes (view_linked m.linked) → number ≡ length h.modules → number < 1024
+    → (w2 : World) × IsLoad w bytes (load_ok number) w2 × IsHost (record h { modules = h.modules ++ m ∷ [] }) w2
+loaded_here h w bytes m number st same accepted next few =
+    let count = as_many_modules h w st in
+    let new : Loaded = record { bytes = bytes; m = view_linked m.linked } in
+    let w2 : World = record w { modules = w.modules ++ new ∷ [] } in
+    let loads : LoadsModule w bytes number w2 = record { m = view_linked m.linked; accepted = accepted; few = omega (arith, count, next, few); next = next ∙ sym count; after = refl } in
+    let happens : IsLoad w bytes (load_ok number) w2 = is_loaded loads in (
+      w2,
+      happens,
+      record {
+        reached = reached_on w w2 (load bytes) st.reached (load_ok number, happens);
+        modules = map_behind loaded_as h.modules m ∙ ap (λ (ls : List Loaded). ls ++ loaded_as m ∷ []) st.modules ∙ ap (λ (b : List ℕ). w.modules ++ record { bytes = b; m = view_linked m.linked } ∷ []) same;
+        space = st.space;
+        live = st.live;
+        next = st.next;
+        there = λ i t e.
+            let f = st.there i t e in
+            let r = f.2 in
+            (f.0, f.1, record { number = r.number; of = r.of; loaded = r.loaded; is_loaded = still_loaded h.modules m r.loaded f.0.of r.is_loaded; given = r.given; limit = r.limit; is = r.is });
+        all = st.all;
+      },
+    )
+
+pub kept_here : (h : HostState) (w : World) (bytes : List ℕ) (linked : LinkedState) (ms2 : List LoadedModule) (number : ℕ) → (st : IsHost h w) → KeepsModule h.modules linked bytes ms2 → IsAccepted bytes (view_linked linked) → number ≡ length h.modules → number < 1024
+    → (w2 : World) × IsLoad w bytes (load_ok number) w2 × IsHost (record h { modules = ms2 }) w2
+kept_here h w bytes linked ms2 number st keeps accepted next few =
+    let made = loaded_here h w bytes keeps.0 number st keeps.2 (subst (λ l. IsAccepted bytes (view_linked l)) (sym keeps.1) accepted) next few in
+    (made.0, made.1, subst (λ ms. IsHost (record h { modules = ms }) made.0) (sym keeps.3) made.2)
+
+-- ---- no module comes
+
+no_room : (kind : FaultKind) → (kind ≡ NoRoom) ⊎ (kind ≢ NoRoom)
+no_room Magic = inr (λ e. cc e)
+no_room Version = inr (λ e. cc e)
+no_room Truncated = inr (λ e. cc e)
+no_room SectionOrder = inr (λ e. cc e)
+no_room SectionSize = inr (λ e. cc e)
+no_room Leb = inr (λ e. cc e)
+no_room Utf8 = inr (λ e. cc e)
+no_room UnknownByte = inr (λ e. cc e)
+no_room Float = inr (λ e. cc e)
+no_room Unsupported = inr (λ e. cc e)
+no_room Limit = inr (λ e. cc e)
+no_room CountMismatch = inr (λ e. cc e)
+no_room NoRoom = inl refl
+
+no_room_to_check : (kind : ValidKind) → (kind ≡ NoRoomToCheck) ⊎ (kind ≢ NoRoomToCheck)
+no_room_to_check BadType = inr (λ e. cc e)
+no_room_to_check Index = inr (λ e. cc e)
+no_room_to_check Align = inr (λ e. cc e)
+no_room_to_check Arity = inr (λ e. cc e)
+no_room_to_check Const = inr (λ e. cc e)
+no_room_to_check DuplicateExport = inr (λ e. cc e)
+no_room_to_check Start = inr (λ e. cc e)
+no_room_to_check Limits = inr (λ e. cc e)
+no_room_to_check Height = inr (λ e. cc e)
+no_room_to_check ConstImmutable = inr (λ e. cc e)
+no_room_to_check NoRoomToCheck = inl refl
+
+link_refused : (w : World) (bytes : List ℕ) (m : Module) (e : LinkError) → IsModule bytes m → Valid m → Fits m → RefusesLink m e → (answer : LoadAnswer) × IsLinkAnswer e answer × IsLoad w bytes answer w
+link_refused w bytes m (NoItem fault place) is valid fits first = (load_refused (unlinked fault place), refl, isnt_loaded (m, is, valid, fits, first))
+link_refused w bytes m NoRoomToLink is valid fits first = (load_wants_memory linker_wants, refl, no_memory_to_load (m, is, valid, fits))
+
+pub bytes_refused : (w : World) (bytes : List ℕ) (e : LoadError) → RefusesBytes bytes e → (answer : LoadAnswer) × IsBytesAnswer e answer × IsLoad w bytes answer w
+bytes_refused w bytes (Decode e) breaks =
+    ⊎_elim
+    (λ (none : e.kind ≡ NoRoom). (load_wants_memory decoder_wants, inr (none, refl), no_memory_to_load tt))
+    (λ (some : e.kind ≢ NoRoom). (load_refused (broken e.kind e.offset), inl (some, refl), isnt_loaded (breaks some)))
+    (no_room e.kind)
+bytes_refused w bytes (Invalid e) refuses =
+    ⊎_elim
+    (λ (none : e.kind ≡ NoRoomToCheck). (load_wants_memory validator_wants, inr (none, refl), no_memory_to_load (refuses.0, refuses.1)))
+    (λ (some : e.kind ≢ NoRoomToCheck). (load_refused invalid, inl (some, refl), isnt_loaded (refuses.0, refuses.1, refuses.2 some)))
+    (no_room_to_check e.kind)
+bytes_refused w bytes (Link e) refuses = link_refused w bytes refuses.0 e refuses.1 refuses.2 refuses.3 refuses.4
+
+pub modules_are_full : (h : HostState) (w : World) (bytes : List ℕ) (m : Module) → IsHost h w → IsAccepted bytes m → 1024 ≤ length h.modules → IsLoad w bytes (load_refused modules_full) w
+modules_are_full h w bytes m st accepted full = let count = as_many_modules h w st in isnt_loaded (m, accepted, omega (arith, count, full))
+
+pub no_room_to_keep : (h : HostState) (w : World) (bytes : List ℕ) (m : Module) → IsHost h w → IsAccepted bytes m → length h.modules < 1024 → IsLoad w bytes (load_wants_memory host_wants) w
+no_room_to_keep h w bytes m st accepted few = let count = as_many_modules h w st in no_memory_to_load (m, accepted, omega (arith, count, few))

@@ -1,0 +1,140 @@
+//! How instances come to a host.
+
+ghost use Rattle.std.specs.Prelude.{◌≡◌, ◌≤◌, ◌*◌, IfOk, OnErr, length};
+ghost use Rattle.wh_model.specs.Format.Limits.{most_segments};
+ghost use Rattle.wh_admit.specs.Views.{view_params};
+ghost use Rattle.wh_space.specs.Arrivals.{claimed};
+ghost use Rattle.wh_host_model.specs.Space.Places.{HasRoomFor as HasMemoryFor};
+ghost use Rattle.wh_host.specs.Admitting.{AnswersAdmit, BeginsResident, EntersNext};
+
+use crate::host::{Host, module_at};
+use crate::parts::{Given, ModuleId, Resident};
+use slab::Slab;
+use std::alloc::{AllocError, Global};
+use wh_admit::{AdmitError, Admitted, Params, Room, admit};
+use wh_host_model::InstId;
+use wh_imports::Linked;
+use wh_instance::Tenant;
+use wh_space::{Memory, Promise};
+
+// The instance that begins so, of the module of this number.
+fn new_resident(
+    alloc: Global,
+    linked: &Linked,
+    admitted: Admitted,
+    number: u64,
+    of: usize,
+    words: (u32, u64),
+) -> Result<Resident, AllocError>
+    requires few { length linked.now.valid.decoded.segments.items ≤ most_segments }
+    ensures { IfOk result (BeginsResident linked.now admitted number of words) }
+{
+    let Admitted {
+        begun,
+        machine,
+        shares,
+        min,
+        max,
+        fuel,
+    } = admitted;
+    let (base, salt) = words;
+    let page_limit = begun.page_limit;
+    let tenant = Tenant::new(alloc, linked, begun, machine, fuel)?;
+    Ok(Resident {
+        number: Some(number),
+        of,
+        given: Given {
+            shares,
+            min,
+            max,
+            fuel,
+            base,
+            salt,
+        },
+        page_limit,
+        tenant,
+    })
+}
+
+// Makes room for one more instance, and for its memory at the place that it will have: that place.
+fn enter_next(
+    residents: &mut Slab<Resident>,
+    memory: &mut Memory,
+    alloc: Global,
+    promise: Promise,
+    size: u32,
+) -> Result<usize, AllocError>
+    requires room { HasMemoryFor memory.old (claimed promise) }
+    requires shares { (1 ≤ promise.shares) × (promise.shares ≤ 1000000) }
+    requires bounds { (2 ≤ promise.min) × (promise.min ≤ promise.max) × (promise.max ≤ 65536) }
+    requires fits { 16 * size ≤ promise.max }
+    ensures ok { IfOk result (λ place.
+        EntersNext residents.old memory.old promise size place residents.new memory.new) }
+    ensures residents { OnErr result (residents.new.slots ≡ residents.old.slots) }
+    ensures memory { OnErr result (memory.new ≡ memory.old) }
+{
+    residents.reserve(1)?;
+    let place = residents.vacant_key();
+    if !memory.is_free(place) {
+        return Err(AllocError);
+    }
+    if !memory.is_fresh(promise.number) {
+        return Err(AllocError);
+    }
+    memory.enter(alloc, place, promise, size)?;
+    Ok(place)
+}
+
+impl Host {
+    /// Admits an instance of a module, with what its owner gives it. All that it will ever need is reserved now.
+    ///
+    /// # Errors
+    /// The first fault, in the order of their numbers; `Memory` where room is refused, or where 2^64 - 1 instances were
+    /// admitted. The host is as it was then.
+    pub fn admit(
+        &mut self,
+        alloc: Global,
+        of: ModuleId,
+        params: Params,
+    ) -> Result<InstId, AdmitError>
+        ensures admits { AnswersAdmit self.old of.number (view_params params) result self.new }
+        ensures err { OnErr result (self.new ≡ self.old) }
+    {
+        let Some(module) = module_at(&self.modules, of.number) else {
+            return Err(AdmitError::NoModule);
+        };
+        let room = Room {
+            frames: self.memory.frames_left(),
+            slots: self.memory.slots_left(),
+            live: self.live,
+        };
+        let words = (params.base, params.salt);
+        let admitted = match admit(alloc, Some(&module.linked), params, room) {
+            Ok(admitted) => admitted,
+            Err(error) => return Err(error),
+        };
+        let number = self.next;
+        let Some(next) = number.checked_add(1) else {
+            return Err(AdmitError::Memory);
+        };
+        let size = admitted.begun.pages;
+        let promise = Promise {
+            number,
+            shares: admitted.shares,
+            min: admitted.min,
+            max: admitted.max,
+        };
+        let made = new_resident(alloc, &module.linked, admitted, number, of.number, words);
+        let Ok(resident) = made else {
+            return Err(AdmitError::Memory);
+        };
+        let entered = enter_next(&mut self.residents, &mut self.memory, alloc, promise, size);
+        let Ok(place) = entered else {
+            return Err(AdmitError::Memory);
+        };
+        self.residents.insert_reserved(resident);
+        self.live += 1;
+        self.next = next;
+        Ok(InstId { place, number })
+    }
+}

@@ -1,0 +1,48 @@
+//! How instances go.
+
+ghost use Rattle.std.specs.Prelude.{◌≡◌, OnErr};
+ghost use Rattle.wh_host.specs.Releasing.{AnswersRelease};
+ghost use Rattle.wh_host.specs.Seats.{PlaceIsLeft};
+
+use crate::error::HostError;
+use crate::host::Host;
+use crate::parts::Resident;
+use slab::Slab;
+use std::alloc::Global;
+use wh_host_model::InstId;
+
+// Gives up a place that nobody has any more, where it is free.
+fn leave_place(residents: &mut Slab<Resident>, place: usize, is_free: bool)
+    ensures { PlaceIsLeft residents.old.slots place residents.new.slots }
+{
+    if is_free {
+        let _ = residents.try_remove(place);
+    }
+}
+
+impl Host {
+    /// Lets an instance go, whatever its calls are: its output. Its memory is free, and its number is never used again. Its
+    /// place is, once no page of it is on its way to swap or back.
+    ///
+    /// # Errors
+    /// `NoInstance`. Nothing is done then.
+    pub fn release(&mut self, alloc: Global, id: InstId) -> Result<Vec<u8>, HostError>
+        ensures goes { AnswersRelease self.old id result self.new }
+        ensures err { OnErr result (self.new ≡ self.old) }
+    {
+        let Some(resident) = self.residents.get_mut(id.place) else {
+            return Err(HostError::NoInstance);
+        };
+        if !resident.has_number(id.number) {
+            return Err(HostError::NoInstance);
+        }
+        resident.number = None;
+        let output = resident.tenant.take_output(alloc);
+        self.memory.known();
+        self.memory.exit(id.place);
+        let is_free = self.memory.is_free(id.place);
+        leave_place(&mut self.residents, id.place, is_free);
+        self.live -= 1;
+        Ok(output)
+    }
+}

@@ -1,0 +1,180 @@
+-- The answers to a script: the replies to its lines, but for those of reports, each call being run alone.
+use Rattle.std.specs.Prelude.{◌≡◌, ℕ, ◌+◌, ◌<◌, ◌≤◌, ◌⊎◌, Bool, true, false, List, [], ◌∷◌, ◌++◌, length, min, take, drop, Option, Some, None, ℤ}
+use Rattle.wh_model.specs.Format.Syntax.{Module}
+use Rattle.wh_model.specs.Execution.Replay.{Call, Standing, store_at, Replay}
+use Rattle.wh_host_model.specs.Script.{lines_of, is_skipped, longest_line}
+use Rattle.wh_host_model.specs.Host.Worlds.{Params, given_of}
+use Rattle.wh_host_model.specs.Host.Calls.{most_fuel}
+use Rattle.wh_host_model.specs.Lines.Settings.{Settings}
+use Rattle.wh_host_model.specs.Lines.Commands.{Command, keep, load, admit, invoke, drain, refuel, cancel, retry, scan, report, release, AsksCommand}
+use Rattle.wh_host_model.specs.Lines.Texts.{Reply, error, refuel_ok, refuel_refused, cancel_ok, cancel_refused, retry_refused, scan_ok, release_ok, release_refused, reply_text}
+use Rattle.wh_host_model.specs.Lines.Made.{Guest, Made, nothing_made, HasModule, NoModule, HasGuest, NoGuest, with_guest, first_open, with_first_open, cancel_first}
+use Rattle.wh_host_model.specs.Lines.Drains.{Drains}
+use Rattle.wh_host_model.specs.Lines.Receiving.{ReceivesModule, ReceivesGuest, ReceivesCall}
+
+-- what files hold, by their paths; none where one can't be opened or read
+abbrev pub Files : Type 0
+Files = List ℕ → Option (List ℕ)
+
+-- ---- one command
+
+-- it brings a module of this name
+abbrev pub NamesModule : Command → List ℕ → Type 0
+NamesModule (keep n bytes) name = n ≡ name
+NamesModule (load n path) name = n ≡ name
+NamesModule other name = ⊥
+
+-- and these are its bytes
+abbrev pub BringsBytes : Files → Command → List ℕ → Type 0
+BringsBytes files (keep name b) bytes = b ≡ bytes
+BringsBytes files (load name path) bytes = files path ≡ Some bytes
+BringsBytes files other bytes = ⊥
+
+-- it is for the instance of this name
+abbrev pub IsForGuest : Command → List ℕ → Type 0
+IsForGuest (invoke inst export fuel args) name = inst ≡ name
+IsForGuest (refuel inst fuel) name = inst ≡ name
+IsForGuest (cancel inst) name = inst ≡ name
+IsForGuest (retry inst) name = inst ≡ name
+IsForGuest (release inst) name = inst ≡ name
+IsForGuest other name = ⊥
+
+abbrev pub with_fuel : ℕ → Call → Call
+with_fuel n call = record call { fuel = min (call.fuel + n) most_fuel }
+
+-- What a command on the line of this number gets, behind a drain. Causes of errors are looked at in the order of their
+-- numbers: C2, no such name; C3, the name is taken; C4, no such file. Faults: H1, the instance is released; H8, it has
+-- no open call. No device has failed, so there is nothing to try again.
+pub data IsObeyed (scarce : Bool) (settings : Settings) (files : Files) (w : Made) (number : ℕ)
+    : Command → List Reply → Made → Type 0 where
+  module_name_is_taken : {command : Command} {name : List ℕ} {m : Module}
+      → NamesModule command name → HasModule w name m
+      → IsObeyed scarce settings files w number command (error 3 number ∷ []) w
+  no_file : {name path : List ℕ} → NoModule w name → files path ≡ None
+      → IsObeyed scarce settings files w number (load name path) (error 4 number ∷ []) w
+  module_comes : {command : Command} {name bytes : List ℕ} {reply : Reply} {w2 : Made}
+      → NamesModule command name → NoModule w name → BringsBytes files command bytes
+      → ReceivesModule scarce w name bytes reply w2 → IsObeyed scarce settings files w number command (reply ∷ []) w2
+  no_such_module : {inst of : List ℕ} {p : Params} → NoModule w of
+      → IsObeyed scarce settings files w number (admit inst of p) (error 2 number ∷ []) w
+  guest_name_is_taken : {inst of : List ℕ} {p : Params} {m : Module} (i : ℕ) {g : Guest}
+      → HasModule w of m → HasGuest w inst i g
+      → IsObeyed scarce settings files w number (admit inst of p) (error 3 number ∷ []) w
+  guest_comes : {inst of : List ℕ} {p : Params} {m : Module} {reply : Reply} {w2 : Made}
+      → HasModule w of m → NoGuest w inst → ReceivesGuest scarce settings w inst m p reply w2
+      → IsObeyed scarce settings files w number (admit inst of p) (reply ∷ []) w2
+  no_such_guest : {command : Command} {name : List ℕ} → IsForGuest command name → NoGuest w name
+      → IsObeyed scarce settings files w number command (error 2 number ∷ []) w
+  is_drained : IsObeyed scarce settings files w number drain [] w
+  is_scanned : IsObeyed scarce settings files w number scan (scan_ok ∷ []) w
+  -- its lines begin with `#`
+  is_reported : IsObeyed scarce settings files w number report [] w
+  is_refueled : {name : List ℕ} {n : ℕ} (i : ℕ) {g : Guest} {call : Call}
+      → HasGuest w name i g → g.is_released ≡ false → first_open g.calls ≡ Some call
+      → IsObeyed scarce settings files w number (refuel name n) (refuel_ok name ∷ [])
+      (with_guest w i (record g { calls = with_first_open (with_fuel n) g.calls }))
+  no_one_to_refuel : {name : List ℕ} {n : ℕ} (i : ℕ) {g : Guest} → HasGuest w name i g → g.is_released ≡ true
+      → IsObeyed scarce settings files w number (refuel name n) (refuel_refused name 1 ∷ []) w
+  no_call_to_refuel : {name : List ℕ} {n : ℕ} (i : ℕ) {g : Guest}
+      → HasGuest w name i g → g.is_released ≡ false → first_open g.calls ≡ None
+      → IsObeyed scarce settings files w number (refuel name n) (refuel_refused name 8 ∷ []) w
+  is_cancelled : {name : List ℕ} (i : ℕ) {g : Guest} {call : Call}
+      → HasGuest w name i g → g.is_released ≡ false → first_open g.calls ≡ Some call
+      → IsObeyed scarce settings files w number (cancel name) (cancel_ok name ∷ [])
+      (with_guest w i (record g { calls = cancel_first g.calls }))
+  no_one_to_cancel : {name : List ℕ} (i : ℕ) {g : Guest} → HasGuest w name i g → g.is_released ≡ true
+      → IsObeyed scarce settings files w number (cancel name) (cancel_refused name 1 ∷ []) w
+  no_call_to_cancel : {name : List ℕ} (i : ℕ) {g : Guest}
+      → HasGuest w name i g → g.is_released ≡ false → first_open g.calls ≡ None
+      → IsObeyed scarce settings files w number (cancel name) (cancel_refused name 8 ∷ []) w
+  no_one_to_retry : {name : List ℕ} (i : ℕ) {g : Guest} → HasGuest w name i g → g.is_released ≡ true
+      → IsObeyed scarce settings files w number (retry name) (retry_refused name 1 ∷ []) w
+  no_fault_to_retry : {name : List ℕ} (i : ℕ) {g : Guest} → HasGuest w name i g → g.is_released ≡ false
+      → IsObeyed scarce settings files w number (retry name) (retry_refused name 8 ∷ []) w
+  is_released : {name : List ℕ} (i : ℕ) {g : Guest} (z : Standing)
+      → HasGuest w name i g → g.is_released ≡ false → Replay g.m (given_of g.params) g.calls z
+      → IsObeyed scarce settings files w number (release name) (release_ok name (store_at z).output ∷ [])
+      (with_guest w i (record g { is_released = true }))
+  no_one_to_release : {name : List ℕ} (i : ℕ) {g : Guest} → HasGuest w name i g → g.is_released ≡ true
+      → IsObeyed scarce settings files w number (release name) (release_refused name 1 ∷ []) w
+
+-- ---- one line
+
+-- the line isn't skipped, and isn't too long
+abbrev pub IsRead : List ℕ → Type 0
+IsRead line = (is_skipped line ≡ false) × (length line ≤ longest_line)
+
+-- What a line gets. An `invoke` of an instance that there is gets nothing yet; before all else there is a drain. C1: it
+-- is too long, or asks for nothing that there is. C5: memory is wanted for it.
+pub data AnswersLine (scarce : Bool) (settings : Settings) (files : Files) (w : Made) (number : ℕ) (line : List ℕ)
+    : List Reply → Made → Type 0 where
+  skipped : is_skipped line ≡ true → AnswersLine scarce settings files w number line [] w
+  invoked : {inst export : List ℕ} {fuel : ℕ} {args : List ℤ} (i : ℕ) {g : Guest} {w2 : Made}
+      → IsRead line → AsksCommand line (invoke inst export fuel args) → HasGuest w inst i g
+      → ReceivesCall scarce w i g export fuel args w2 → AnswersLine scarce settings files w number line [] w2
+  obeyed : {command : Command} {lines replies : List Reply} {w1 w2 : Made}
+      → IsRead line → AsksCommand line command → Drains w lines w1
+      → IsObeyed scarce settings files w1 number command replies w2
+      → AnswersLine scarce settings files w number line (lines ++ replies) w2
+  too_long : {lines : List Reply} {w1 : Made} → is_skipped line ≡ false → longest_line < length line
+      → Drains w lines w1 → AnswersLine scarce settings files w number line (lines ++ error 1 number ∷ []) w1
+  no_command : {lines : List Reply} {w1 : Made} → IsRead line → ((command : Command) → ¬ (AsksCommand line command))
+      → Drains w lines w1 → AnswersLine scarce settings files w number line (lines ++ error 1 number ∷ []) w1
+  line_wants : {lines : List Reply} {w1 : Made} → scarce ≡ true → IsRead line
+      → Drains w lines w1 → AnswersLine scarce settings files w number line (lines ++ error 5 number ∷ []) w1
+
+-- ---- a script
+
+-- lines one after the other, the first having this number
+abbrev pub AnswersLines : Bool → Settings → Files → Made → ℕ → List (List ℕ) → List Reply → Made → Type 0
+AnswersLines scarce settings files w number [] replies w2 = (replies ≡ []) × (w2 ≡ w)
+AnswersLines scarce settings files w number (line ∷ lines) replies w2 =
+    (here rest : List Reply) × (between : Made) × (replies ≡ here ++ rest)
+    × AnswersLine scarce settings files w number line here between
+    × AnswersLines scarce settings files between (number + 1) lines rest w2
+
+-- all lines, and a drain at the end
+pub record AnswersScript (scarce : Bool) (settings : Settings) (files : Files) (script : List ℕ) (replies : List Reply)
+    : Type 0 where
+  pub before : Made
+  pub after : Made
+  pub to_lines : List Reply
+  pub last : List Reply
+  pub lines : AnswersLines scarce settings files nothing_made 1 (lines_of script) to_lines before
+  pub drains : Drains before last after
+  pub replies_are : replies ≡ to_lines ++ last
+
+abbrev pub replies_text : List Reply → List ℕ
+replies_text [] = []
+replies_text (reply ∷ replies) = reply_text reply ++ replies_text replies
+
+-- the text is what the script gets
+abbrev pub AreAnswers : Bool → Settings → Files → List ℕ → List ℕ → Type 0
+AreAnswers scarce settings files script text =
+    (replies : List Reply) × AnswersScript scarce settings files script replies × (text ≡ replies_text replies)
+
+-- ---- a beginning
+
+-- there may be a drain before the first of these lines: it isn't skipped, and is no `invoke` of an instance that there
+-- is, unless memory is wanted for it
+abbrev pub MayDrain : Bool → Made → List (List ℕ) → Type 0
+MayDrain scarce w [] = Unit {0}
+MayDrain scarce w (line ∷ lines) =
+    (is_skipped line ≡ false)
+    × ((scarce ≡ true)
+    ⊎ ((inst export : List ℕ) (fuel : ℕ) (args : List ℤ) → IsRead line → AsksCommand line (invoke inst export fuel args)
+    → NoGuest w inst))
+
+-- the text is a beginning of the text of these replies
+abbrev pub IsBeginning : List ℕ → List Reply → Type 0
+IsBeginning text replies = (rest : List ℕ) × (text ++ rest ≡ replies_text replies)
+
+-- The text is a beginning of what the script gets: of what some first lines get, or of that and of a drain behind them.
+pub data BeginAnswers (scarce : Bool) (settings : Settings) (files : Files) (script text : List ℕ) : Type 0 where
+  in_lines : (k : ℕ) (replies : List Reply) (w : Made)
+      → AnswersLines scarce settings files nothing_made 1 (take k (lines_of script)) replies w
+      → IsBeginning text replies → BeginAnswers scarce settings files script text
+  in_drain : (k : ℕ) (replies drained : List Reply) (w w2 : Made)
+      → AnswersLines scarce settings files nothing_made 1 (take k (lines_of script)) replies w
+      → MayDrain scarce w (drop k (lines_of script)) → Drains w drained w2 → IsBeginning text (replies ++ drained)
+      → BeginAnswers scarce settings files script text

@@ -1,0 +1,141 @@
+-- Modules, instances and calls as they come: whether they are taken on, and why not. Each fault is the first that is
+-- met. Where memory is scarce it may be wanted, where no other fault is met, or by who reads a module.
+use Rattle.std.specs.Prelude.{◌≡◌, ℕ, ◌+◌, ◌-◌, ◌<◌, ◌≤◌, ◌⊎◌, Bool, true, false, List, [], ◌∷◌, ◌++◌, length, Option, None, ℤ}
+use Rattle.wh_model.specs.declared.faults.FaultKind.{FaultKind}
+use Rattle.wh_model.specs.declared.faults.ValidKind.{ValidKind}
+use Rattle.wh_model.specs.declared.faults.ImportFault.{ImportFault}
+use Rattle.wh_model.specs.Format.Numbering.{fault_number, valid_number, import_number}
+use Rattle.wh_model.specs.Format.Syntax.{FuncType, Body, Module}
+use Rattle.wh_model.specs.Format.Spelling.{IsBroken}
+use Rattle.wh_model.specs.Validity.Valid.{Valid}
+use Rattle.wh_model.specs.Validity.Heights.{Fits}
+use Rattle.wh_model.specs.Linking.Imports.{IsFirstFault}
+use Rattle.wh_model.specs.Linking.Accepting.{IsModule, IsAccepted}
+use Rattle.wh_model.specs.Execution.Store.{Value, Instance, Store}
+use Rattle.wh_model.specs.Execution.Instance.{Piece, IsInitial, memory_min, segment_bounds, begins}
+use Rattle.wh_model.specs.Execution.Replay.{Outcome, returned, pending}
+use Rattle.wh_host_model.specs.Script.{Place}
+use Rattle.wh_host_model.specs.Replies.{IsValidFault}
+use Rattle.wh_host_model.specs.Host.Worlds.{Params, given_of}
+use Rattle.wh_host_model.specs.Host.Calls.{AreArguments, ExportsOwn, InvokeFault, no_export, arguments, queue_full, instance_dead, journal_full, rank, most_open, most_calls, new_entry}
+use Rattle.wh_host_model.specs.Host.Admission.{AdmitFault, no_module, shares, min_max, frames, swap, instances, memory, segments, admit_rank, most_modules, most_instances, start_entry}
+use Rattle.wh_host_model.specs.Lines.Settings.{Settings}
+use Rattle.wh_host_model.specs.Lines.Texts.{Refusal, broken, invalid, unlinked, no_link_memory, modules_full, no_room, Reply, module_ok, module_refused, admit_ok, admit_refused}
+use Rattle.wh_host_model.specs.Lines.Made.{Guest, Made, turned_down, taken_on, with_guest, with_invoked, live_sum, open_behind, start_failed}
+
+-- ---- modules
+
+-- why bytes aren't kept; which fault of the validator is named, and where, is left open
+pub data TurnsDownModule (w : Made) (bytes : List ℕ) : Refusal → Type 0 where
+  is_broken : (kind : FaultKind) {offset : ℕ}
+      → IsBroken bytes kind offset → TurnsDownModule w bytes (broken (fault_number kind) offset)
+  is_invalid : {m : Module} (kind : ValidKind) {place : Place}
+      → IsModule bytes m → ¬ (Valid m × Fits m) → IsValidFault kind
+      → TurnsDownModule w bytes (invalid (valid_number kind) place)
+  is_unlinked : {m : Module} (fault : ImportFault) {place : ℕ}
+      → IsModule bytes m → Valid m → Fits m → IsFirstFault m fault place
+      → TurnsDownModule w bytes (unlinked (import_number fault) place)
+  is_full : {m : Module} → IsAccepted bytes m → most_modules ≤ length w.modules → TurnsDownModule w bytes modules_full
+
+-- and which want of memory may be
+pub data WantsForModule (w : Made) (bytes : List ℕ) : Refusal → Type 0 where
+  decoder_wants : {offset : ℕ} → WantsForModule w bytes (broken 13 offset)
+  validator_wants : {m : Module} {place : Place} → IsModule bytes m → WantsForModule w bytes (invalid 11 place)
+  linker_wants : {m : Module} → IsModule bytes m → Valid m → Fits m → WantsForModule w bytes no_link_memory
+  host_wants : {m : Module} → IsAccepted bytes m → length w.modules < most_modules → WantsForModule w bytes no_room
+
+-- the reply to a module whose name is free
+pub data ReceivesModule (scarce : Bool) (w : Made) (name bytes : List ℕ) : Reply → Made → Type 0 where
+  module_is_kept : {m : Module} → IsAccepted bytes m → length w.modules < most_modules
+      → ReceivesModule scarce w name bytes (module_ok name)
+      (record w { modules = w.modules ++ record { name = name; m = m } ∷ [] })
+  module_isnt_kept : {why : Refusal} → TurnsDownModule w bytes why
+      → ReceivesModule scarce w name bytes (module_refused name why) w
+  module_is_wanting : {why : Refusal} → scarce ≡ true → WantsForModule w bytes why
+      → ReceivesModule scarce w name bytes (module_refused name why) w
+
+-- ---- instances
+
+-- the fault is met, whatever of the other ones is
+abbrev pub MeetsLimit : Settings → Made → Module → Params → AdmitFault → Type 0
+MeetsLimit settings w m p no_module = ⊥
+MeetsLimit settings w m p shares = (p.shares < 1) ⊎ (1000000 < p.shares)
+MeetsLimit settings w m p min_max = (p.min < 2) ⊎ (p.max < p.min) ⊎ (65536 < p.max)
+MeetsLimit settings w m p frames = settings.frames < live_sum (λ q. q.min) w.guests + p.min
+MeetsLimit settings w m p swap =
+    settings.slots < live_sum (λ q. (q.max - q.min) + 1) w.guests + ((p.max - p.min) + 1)
+MeetsLimit settings w m p instances = most_instances ≤ live_sum (λ q. 1) w.guests
+MeetsLimit settings w m p memory = IsInitial m (given_of p) memory_min
+MeetsLimit settings w m p segments = IsInitial m (given_of p) segment_bounds
+
+abbrev pub MeetsNoLimit : Settings → Made → Module → Params → Type 0
+MeetsNoLimit settings w m p = (fault : AdmitFault) → ¬ (MeetsLimit settings w m p fault)
+
+abbrev pub IsFirstLimit : Settings → Made → Module → Params → AdmitFault → Type 0
+IsFirstLimit settings w m p fault =
+    MeetsLimit settings w m p fault
+    × ((other : AdmitFault) → admit_rank other < admit_rank fault → ¬ (MeetsLimit settings w m p other))
+
+-- a start with nothing to do has ended at once
+abbrev pub first_outcome : List Piece → Option ℕ → Outcome
+first_outcome [] None = returned []
+first_outcome pieces func = pending
+
+abbrev pub new_guest : (name : List ℕ) → Module → Params → Instance → List Piece → Guest
+new_guest name m p inst pieces = record {
+  name = name;
+  m = m;
+  params = p;
+  inst = inst;
+  pieces = pieces;
+  is_released = false;
+  calls = (start_entry m.start p.fuel (first_outcome pieces m.start)).call ∷ [];
+  said = None;
+}
+
+-- the reply to an instance of this module, whose name is free; instances are numbered in order
+pub data ReceivesGuest (scarce : Bool) (settings : Settings) (w : Made) (name : List ℕ) (m : Module) (p : Params)
+    : Reply → Made → Type 0 where
+  is_admitted : {inst : Instance} {s : Store} {pieces : List Piece}
+      → MeetsNoLimit settings w m p → IsInitial m (given_of p) (begins inst s pieces)
+      → ReceivesGuest scarce settings w name m p (admit_ok name (length w.guests))
+      (record w { guests = w.guests ++ new_guest name m p inst pieces ∷ [] })
+  isnt_admitted : (fault : AdmitFault) → IsFirstLimit settings w m p fault
+      → ReceivesGuest scarce settings w name m p (admit_refused name (admit_rank fault)) w
+  admission_wants : scarce ≡ true → MeetsNoLimit settings w m p
+      → ReceivesGuest scarce settings w name m p (admit_refused name 9) w
+
+-- ---- calls
+
+-- the fault is met, whatever of the other ones is
+abbrev pub MeetsBar : Guest → List ℕ → List ℤ → InvokeFault → Type 0
+MeetsBar g name given no_export = (x : ℕ) (type : FuncType) (body : Body) → ¬ (ExportsOwn g.m g.inst name x type body)
+MeetsBar g name given arguments =
+    (x : ℕ) (type : FuncType) (body : Body) (vs : List Value) → ExportsOwn g.m g.inst name x type body
+    → ¬ (AreArguments type.params given vs)
+MeetsBar g name given queue_full = most_open ≤ open_behind g.calls
+MeetsBar g name given instance_dead = start_failed g.calls ≡ true
+MeetsBar g name given journal_full = most_calls ≤ length g.calls
+
+abbrev pub MeetsNoBar : Guest → List ℕ → List ℤ → Type 0
+MeetsNoBar g name given = (fault : InvokeFault) → ¬ (MeetsBar g name given fault)
+
+abbrev pub IsFirstBar : Guest → List ℕ → List ℤ → InvokeFault → Type 0
+IsFirstBar g name given fault =
+    MeetsBar g name given fault × ((other : InvokeFault) → rank other < rank fault → ¬ (MeetsBar g name given other))
+
+-- A call of an instance that there is: it is refused, H1 where that is released; or it stands at the end of the
+-- journal.
+pub data ReceivesCall (scarce : Bool) (w : Made) (i : ℕ) (g : Guest) (name : List ℕ) (fuel : ℕ) (given : List ℤ)
+    : Made → Type 0 where
+  guest_is_gone : g.is_released ≡ true → ReceivesCall scarce w i g name fuel given (with_invoked w (turned_down 1))
+  isnt_invoked : (fault : InvokeFault) → g.is_released ≡ false → IsFirstBar g name given fault
+      → ReceivesCall scarce w i g name fuel given (with_invoked w (turned_down (rank fault)))
+  is_invoked : {x : ℕ} {type : FuncType} {body : Body} (vs : List Value)
+      → g.is_released ≡ false → MeetsNoBar g name given → ExportsOwn g.m g.inst name x type body
+      → AreArguments type.params given vs
+      → ReceivesCall scarce w i g name fuel given
+      (with_invoked (with_guest w i (record g { calls = g.calls ++ (new_entry x vs given fuel).call ∷ [] }))
+      (taken_on i (length g.calls)))
+  invoke_wants : scarce ≡ true → g.is_released ≡ false → MeetsNoBar g name given
+      → ReceivesCall scarce w i g name fuel given (with_invoked w (turned_down 7))

@@ -1,0 +1,18 @@
+//! What holds of the answers to scripts.
+
+ghost use Rattle.wh_host_model.specs.Lines.AnswerLaws.{RunsOnce, DrainsOnce, LinesBegin};
+ghost use Rattle.wh_host_model.specs.Lines.Served.{ServedAsAlone};
+ghost use Rattle.wh_host_model.specs.Lines.Worked.{SevenIsAnswered, SevenIsPrinted, LoopIsAnswered, RefuelIsRefused};
+
+/// What holds of the definition of the answers to a script: what a drain prints is determined, an instance
+/// of a host that has been served has come as far as alone, and what the commands of three scripts get. The function does nothing; what it ensures are the laws and the examples.
+pub fn answers_hold()
+    ensures runs_once { RunsOnce }
+    ensures drains_once { DrainsOnce }
+    ensures lines_begin { LinesBegin }
+    ensures served_as_alone { ServedAsAlone }
+    ensures seven_is_answered { SevenIsAnswered }
+    ensures seven_is_printed { SevenIsPrinted }
+    ensures loop_is_answered { LoopIsAnswered }
+    ensures refuel_is_refused { RefuelIsRefused }
+{}

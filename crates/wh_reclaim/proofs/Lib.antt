@@ -1,0 +1,6 @@
+pub mod Paying
+pub mod Beginning
+pub mod Sending
+pub mod Going
+pub mod Providing
+pub mod Together

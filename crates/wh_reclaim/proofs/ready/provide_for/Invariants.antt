@@ -1,0 +1,24 @@
+use Rattle.std.proofs.Common.{◌≡◌, ◌+◌, ◌≤◌, ℕ, List}
+use Rattle.wh_host_model.specs.Frames.{one_if, tally}
+use Rattle.wh_host_model.specs.Space.Parts.{pinned_by}
+use Rattle.wh_host_model.specs.Space.Provide.{Move, Serves, ServesTruly, far, leaves}
+use Rattle.wh_reclaim.proofs.ready.provide_for.Given as goal
+
+-- these moves led here, and no call of the device has failed
+abbrev pub invariant-loop-memory : goal.invariant-loop-memory
+invariant-loop-memory g l = record {
+  moves : List Move;
+  serves : Serves l.fn.memory l.place l.need moves l.memory;
+  truly : g.D.SwapDev.honest l.device → ServesTruly l.fn.memory l.place l.need moves l.memory;
+  many : tally leaves moves ≡ l.left;
+  once : (q : ℕ) → tally (one_if q) (pinned_by l.memory.pins l.place) ≤ 1;
+  agrees : l.memory.slots.held ≡ g.D.SwapDev.held l.device;
+  writes : g.D.SwapDev.writes l.device ≡ g.D.SwapDev.writes l.fn.device + l.left;
+  failed : g.D.SwapDev.faults l.device ≡ g.D.SwapDev.faults l.fn.device;
+  honest : g.D.SwapDev.honest l.device → g.D.SwapDev.honest l.fn.device;
+  keeps : g.D.SwapDev.keeps l.fn.device → g.D.SwapDev.keeps l.device;
+  kept : g.D.SwapDev.keeps l.fn.device → g.D.SwapDev.honest l.fn.device → g.D.SwapDev.honest l.device;
+}
+
+abbrev pub decreases-loop-memory : goal.decreases-loop-memory
+decreases-loop-memory g l = far l.memory l.place l.need

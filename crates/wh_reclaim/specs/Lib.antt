@@ -1,0 +1,5 @@
+pub mod Choosing
+pub mod Lending
+pub mod Providing
+pub mod Tickets
+pub mod Together

@@ -1,0 +1,105 @@
+// Which page leaves.
+
+ghost use Rattle.std.specs.Prelude.{◌≡◌, ◌+◌, ◌<◌, None, MatchBool, MatchOption, length};
+ghost use Rattle.wh_host_model.specs.Space.Claims.{MustLeave, NoneMustLeave};
+ghost use Rattle.wh_host_model.specs.Tax.{CanPay};
+ghost use Rattle.wh_reclaim.specs.Choosing.{IsPayerBelow, PaysBefore};
+
+use std::cmp::Ordering;
+use wh_host_model::{Claim, Tax};
+use wh_model::Need;
+use wh_space::Memory;
+use wh_tax::cmp_rho;
+
+/// A page of the instance at a place.
+#[derive(Clone, Copy, Debug, PartialEq, Eq)]
+pub struct PageOf {
+    /// The place.
+    pub place: usize,
+    /// The number of the page.
+    pub page: u32,
+}
+
+// An instance that may have to pay.
+#[derive(Clone, Copy)]
+pub struct Payer {
+    pub place: usize,
+    // How many instances came before it.
+    pub number: u64,
+    pub claim: Claim,
+}
+
+// Whether the instance may have to pay: it is above its minimum, and has a page that can leave.
+fn can_pay(claim: &Claim) -> bool
+    ensures { MatchBool result (CanPay claim.now) (¬ CanPay claim.now) }
+{
+    claim.can_leave && claim.min < claim.pages
+}
+
+// Whether the first of two pays before the second: it has less to claim, or as little and the lower number.
+fn pays_before(tax: Tax, first: Payer, second: Payer) -> bool
+    ensures { MatchBool result (PaysBefore tax first second) (¬ PaysBefore tax first second) }
+{
+    match cmp_rho(tax, &first.claim, &second.claim) {
+        Ordering::Less => true,
+        Ordering::Equal => first.number < second.number,
+        Ordering::Greater => false,
+    }
+}
+
+// The one that pays, of those at the places below and the one at this place.
+fn next_payer(memory: &Memory, place: usize, payer: Option<Payer>) -> Option<Payer>
+    requires { IsPayerBelow memory.now place payer }
+    ensures { IsPayerBelow memory.now (place + 1) result }
+{
+    let Some((number, claim)) = memory.claim_at(place) else {
+        return payer;
+    };
+    if !can_pay(&claim) {
+        return payer;
+    }
+    let next = Payer {
+        place,
+        number,
+        claim,
+    };
+    let Some(best) = payer else {
+        return Some(next);
+    };
+    if pays_before(memory.tax(), next, best) {
+        return Some(next);
+    }
+    Some(best)
+}
+
+// The one that pays, or none where nobody has to. It looks at each instance, once.
+fn payer_of(memory: &Memory) -> Option<Payer>
+    ensures { IsPayerBelow memory.now (length memory.now.occupants) result }
+{
+    let mut payer = None;
+    for place in 0..memory.places() {
+        payer = next_payer(memory, place, payer);
+    }
+    payer
+}
+
+/// The page that has to leave where a step of the instance at this place lacks a frame: that of the one that pays, or where
+/// nobody has to pay one of its own; or none. It looks at each instance once, and takes no memory.
+pub fn page_to_take(memory: &Memory, place: usize, need: Need) -> Option<PageOf>
+    ensures { MatchOption result (NoneMustLeave memory.now place need)
+        (λ taken. MustLeave memory.now place need taken.place taken.page) }
+{
+    let Some(payer) = payer_of(memory) else {
+        let Some(page) = memory.given_page(place) else {
+            return None;
+        };
+        return Some(PageOf { place, page });
+    };
+    let Some(page) = memory.given_page(payer.place) else {
+        unreachable!()
+    };
+    Some(PageOf {
+        place: payer.place,
+        page,
+    })
+}

@@ -1,0 +1,17 @@
+//! The reclaimer: pages leave for the swap device and come from it.
+#![tactic(auto)]
+
+mod begin;
+mod choice;
+mod commit;
+mod ready;
+mod tickets;
+
+pub use begin::{evict_begin, fetch_begin};
+pub use choice::{PageOf, page_to_take};
+pub use commit::{evict_commit, fetch_commit};
+pub use ready::provide;
+pub use tickets::{Buf, EvictTicket, FetchTicket};
+
+#[cfg(test)]
+mod tests;

@@ -1,0 +1,273 @@
+// Making a step ready.
+
+ghost use Rattle.std.specs.Prelude.{◌≡◌, ◌+◌, ◌≤◌, ℕ, [], ◌∷◌, Some, Ok, IfErr, IfOk, OnErr, OnOk, get_or, length};
+ghost use Rattle.wh_host_model.specs.Frames.{one_if, tally};
+ghost use Rattle.wh_host_model.specs.declared.states.Page.TheVariants.{Swapped};
+ghost use Rattle.wh_host_model.specs.Space.Claims.{CanLeave};
+ghost use Rattle.wh_host_model.specs.Space.Errands.{tickets};
+ghost use Rattle.wh_host_model.specs.Space.Laws.{IsProvided};
+ghost use Rattle.wh_host_model.specs.Space.Moves.{Evicts, Fetches};
+ghost use Rattle.wh_host_model.specs.Space.Parts.{kept, pinned_by};
+ghost use Rattle.wh_host_model.specs.Space.Provide.{FailsToProvide, FailsTruly, IsServing, LacksFree, OthersKeepMinimum, Provides, ProvidesTruly};
+ghost use Rattle.wh_host_model.specs.Space.States.{page_at};
+ghost use Rattle.wh_host_model.specs.Space.Tickets.{StandsForFrame};
+ghost use Rattle.wh_model.specs.declared.memory.Need.{Need as Bytes};
+ghost use Rattle.wh_reclaim.specs.Providing.{GoesOn, LosesSlot, Revokes, left_by};
+
+use crate::choice::{PageOf, page_to_take};
+use crate::tickets::Buf;
+use wh_host_model::SwapError;
+use wh_model::Need;
+use wh_space::Memory;
+use wh_swap::SwapDev;
+
+/// What was made of one move.
+#[derive(Clone, Copy, Debug, PartialEq, Eq)]
+pub enum Made {
+    /// Nothing: the step lacks nothing but earmarks.
+    Done,
+    /// A page has come.
+    Came,
+    /// A page has left.
+    Left,
+}
+
+// A page leaves that can, in one go.
+fn send_away<D: SwapDev>(
+    memory: &mut Memory,
+    device: &mut D,
+    taken: PageOf,
+    bytes: &mut [u8; 4096],
+) -> Result<(), SwapError>
+    requires can { CanLeave memory.old taken.place taken.page }
+    requires slot { 1 ≤ length memory.old.slots.vacant }
+    requires agrees { memory.old.slots.held ≡ D.held device.old }
+    ensures agrees { memory.new.slots.held ≡ D.held device.new }
+    ensures writes { D.writes device.new ≡ D.writes device.old + 1 }
+    ensures evicts { OnOk result (Evicts memory.old taken.place taken.page memory.new) }
+    ensures loses { OnErr result (LosesSlot memory.old memory.new) }
+    ensures ok { OnOk result (D.faults device.new ≡ D.faults device.old) }
+    ensures err { IfErr result (λ fault. D.faults device.new ≡ fault ∷ D.faults device.old) }
+    ensures honest { D.honest device.new → D.honest device.old }
+    ensures keeps { D.keeps device.old → D.keeps device.new }
+    ensures kept { D.keeps device.old → D.honest device.old → D.honest device.new }
+{
+    memory.known();
+    let slot = memory.depart(taken.place, taken.page, bytes);
+    memory.known();
+    match device.write(slot, bytes) {
+        Ok(()) => {
+            memory.written(slot, bytes, true);
+            let _ = memory.end_evict(slot, true, bytes);
+            Ok(())
+        }
+        Err(fault) => {
+            memory.written(slot, bytes, false);
+            let _ = memory.end_evict(slot, false, bytes);
+            Err(fault)
+        }
+    }
+}
+
+// A page comes from its slot, in one go.
+fn bring<D: SwapDev>(
+    memory: &mut Memory,
+    device: &mut D,
+    place: usize,
+    page: u32,
+    slot: u32,
+    bytes: &mut [u8; 4096],
+) -> Result<(), SwapError>
+    requires page { page_at memory.old.tables place page ≡ Some (Swapped slot) }
+    requires frame { 1 ≤ length memory.old.pool.free }
+    requires pinned { length (pinned_by memory.old.pins place) ≤ 1 }
+    requires kept { kept memory.old.pins ≡ [] }
+    requires agrees { memory.old.slots.held ≡ D.held device.old }
+    ensures agrees { memory.new.slots.held ≡ D.held device.new }
+    ensures writes { D.writes device.new ≡ D.writes device.old }
+    ensures fetches { OnOk result (Fetches memory.old place page bytes.new memory.new) }
+    ensures given { OnOk result (D.honest device.new
+        → get_or memory.old.slots.held slot [] ≡ bytes.new) }
+    ensures same { OnErr result (memory.new ≡ memory.old) }
+    ensures ok { OnOk result (D.faults device.new ≡ D.faults device.old) }
+    ensures err { IfErr result (λ fault. D.faults device.new ≡ fault ∷ D.faults device.old) }
+    ensures honest { D.honest device.new → D.honest device.old }
+    ensures keeps { D.keeps device.old → D.keeps device.new }
+    ensures kept { D.keeps device.old → D.honest device.old → D.honest device.new }
+{
+    memory.known();
+    match device.read(slot, bytes) {
+        Ok(()) => {
+            memory.fetch(place, page, slot, bytes);
+            Ok(())
+        }
+        Err(fault) => Err(fault),
+    }
+}
+
+// A page leaves that has to.
+fn revoke<D: SwapDev>(
+    memory: &mut Memory,
+    device: &mut D,
+    place: usize,
+    need: Need,
+    bytes: &mut [u8; 4096],
+) -> Result<(), SwapError>
+    requires stands { StandsForFrame memory.old place need }
+    requires serving { IsServing memory.old place need }
+    requires none_out { tickets memory.old ≡ 0 }
+    requires lacks { LacksFree memory.old place need }
+    requires agrees { memory.old.slots.held ≡ D.held device.old }
+    ensures agrees { memory.new.slots.held ≡ D.held device.new }
+    ensures writes { D.writes device.new ≡ D.writes device.old + 1 }
+    ensures revokes { OnOk result (Revokes memory.old place need memory.new) }
+    ensures loses { OnErr result (LosesSlot memory.old memory.new) }
+    ensures ok { OnOk result (D.faults device.new ≡ D.faults device.old) }
+    ensures err { IfErr result (λ fault. D.faults device.new ≡ fault ∷ D.faults device.old) }
+    ensures honest { D.honest device.new → D.honest device.old }
+    ensures keeps { D.keeps device.old → D.keeps device.new }
+    ensures kept { D.keeps device.old → D.honest device.old → D.honest device.new }
+{
+    memory.known();
+    let Some(taken) = page_to_take(memory, place, need) else {
+        unreachable!()
+    };
+    send_away(memory, device, taken, bytes)
+}
+
+// One move nearer to the step, or none where nothing is lacking.
+fn go_on<D: SwapDev>(
+    memory: &mut Memory,
+    device: &mut D,
+    place: usize,
+    need: Need,
+    bytes: &mut [u8; 4096],
+) -> Result<Made, SwapError>
+    requires stands { StandsForFrame memory.old place need }
+    requires serving { IsServing memory.old place need }
+    requires none_out { tickets memory.old ≡ 0 }
+    requires once { (q : ℕ) → tally (one_if q) (pinned_by memory.old.pins place) ≤ 1 }
+    requires agrees { memory.old.slots.held ≡ D.held device.old }
+    ensures agrees { memory.new.slots.held ≡ D.held device.new }
+    ensures writes { IfOk result (λ made.
+        D.writes device.new ≡ D.writes device.old + left_by made) }
+    ensures goes_on { IfOk result (λ made.
+        GoesOn (D.honest device.new) memory.old place need made memory.new) }
+    ensures loses { OnErr result (LosesSlot memory.old memory.new) }
+    ensures ok { OnOk result (D.faults device.new ≡ D.faults device.old) }
+    ensures err { IfErr result (λ fault. D.faults device.new ≡ fault ∷ D.faults device.old) }
+    ensures honest { D.honest device.new → D.honest device.old }
+    ensures keeps { D.keeps device.old → D.keeps device.new }
+    ensures kept { D.keeps device.old → D.honest device.old → D.honest device.new }
+{
+    memory.known();
+    if let Some((page, slot)) = memory.swapped_page(place, need) {
+        if memory.free() == 0 {
+            return match revoke(memory, device, place, need, bytes) {
+                Ok(()) => Ok(Made::Left),
+                Err(fault) => Err(fault),
+            };
+        }
+        return match bring(memory, device, place, page, slot, bytes) {
+            Ok(()) => Ok(Made::Came),
+            Err(fault) => Err(fault),
+        };
+    }
+    if memory.frames_to_write(place, need) > memory.free() {
+        return match revoke(memory, device, place, need, bytes) {
+            Ok(()) => Ok(Made::Left),
+            Err(fault) => Err(fault),
+        };
+    }
+    Ok(Made::Done)
+}
+
+// Makes the step ready for which the instance at a place stands.
+fn provide_for<D: SwapDev>(
+    memory: &mut Memory,
+    device: &mut D,
+    place: usize,
+    need: Need,
+    bytes: &mut [u8; 4096],
+) -> Result<u64, SwapError>
+    requires stands { StandsForFrame memory.old place need }
+    requires none_out { tickets memory.old ≡ 0 }
+    requires agrees { memory.old.slots.held ≡ D.held device.old }
+    ensures agrees { memory.new.slots.held ≡ D.held device.new }
+    ensures provides { IfOk result (λ left. Provides memory.old place need left memory.new) }
+    ensures truly { IfOk result (λ left. D.honest device.new
+        → ProvidesTruly memory.old place need left memory.new) }
+    ensures fails { OnErr result (FailsToProvide memory.old place need memory.new) }
+    ensures fails_truly { OnErr result (D.honest device.new
+        → FailsTruly memory.old place need memory.new) }
+    ensures writes { IfOk result (λ left. D.writes device.new ≡ D.writes device.old + left) }
+    ensures ok { OnOk result (D.faults device.new ≡ D.faults device.old) }
+    ensures err { IfErr result (λ fault. D.faults device.new ≡ fault ∷ D.faults device.old) }
+    ensures honest { D.honest device.new → D.honest device.old }
+    ensures keeps { D.keeps device.old → D.keeps device.new }
+    ensures kept { D.keeps device.old → D.honest device.old → D.honest device.new }
+{
+    memory.known();
+    memory.known_pages();
+    memory.pin(place, need);
+    let mut left: u64 = 0;
+    loop {
+        match go_on(memory, device, place, need, bytes) {
+            Ok(Made::Done) => {
+                let wanted = memory.frames_to_write(place, need);
+                memory.earmark(place, wanted);
+                return Ok(left);
+            }
+            Ok(Made::Came) => {}
+            Ok(Made::Left) => left += 1,
+            Err(fault) => {
+                memory.unpin();
+                return Err(fault);
+            }
+        }
+    }
+}
+
+/// Makes the step ready for which the instance at this place stands: its resident pages are pinned, its swapped ones come,
+/// the first one first, and frames are earmarked for its writes. Where no frame is free, or too few for the writes, the page
+/// leaves that has to. Nothing is done where the instance doesn't stand for a frame. The buffer is of use while the call
+/// lasts. How many pages left, each by one write of the device.
+///
+/// # Errors
+/// That of the device's call that failed. The moves so far stay, and nothing is pinned or earmarked.
+pub fn provide<D: SwapDev>(
+    memory: &mut Memory,
+    device: &mut D,
+    place: usize,
+    buf: &mut Buf,
+) -> Result<u64, SwapError>
+    requires none_out { tickets memory.old ≡ 0 }
+    requires agrees { memory.old.slots.held ≡ D.held device.old }
+    ensures agrees { memory.new.slots.held ≡ D.held device.new }
+    ensures none_out { tickets memory.new ≡ 0 }
+    ensures idle { ((need : Bytes) → ¬ StandsForFrame memory.old place need)
+        → (memory.new ≡ memory.old) × (device.new ≡ device.old) × (result ≡ Ok 0) }
+    ensures provides { (need : Bytes) → StandsForFrame memory.old place need
+        → IfOk result (λ left. Provides memory.old place need left memory.new) }
+    ensures right { (need : Bytes) → StandsForFrame memory.old place need
+        → IfOk result (λ left. IsProvided memory.old place need left memory.new) }
+    ensures truly { (need : Bytes) → StandsForFrame memory.old place need → D.honest device.new
+        → IfOk result (λ left. ProvidesTruly memory.old place need left memory.new) }
+    ensures fails { (need : Bytes) → StandsForFrame memory.old place need
+        → OnErr result (FailsToProvide memory.old place need memory.new) }
+    ensures fails_truly { (need : Bytes) → StandsForFrame memory.old place need
+        → D.honest device.new → OnErr result (FailsTruly memory.old place need memory.new) }
+    ensures others { OthersKeepMinimum memory.old place memory.new }
+    ensures writes { IfOk result (λ left. D.writes device.new ≡ D.writes device.old + left) }
+    ensures ok { OnOk result (D.faults device.new ≡ D.faults device.old) }
+    ensures err { IfErr result (λ fault. D.faults device.new ≡ fault ∷ D.faults device.old) }
+    ensures honest { D.honest device.new → D.honest device.old }
+    ensures keeps { D.keeps device.old → D.keeps device.new }
+    ensures kept { D.keeps device.old → D.honest device.old → D.honest device.new }
+{
+    memory.known();
+    let Some(need) = memory.wanted_step(place) else {
+        return Ok(0);
+    };
+    provide_for(memory, device, place, need, buf)
+}

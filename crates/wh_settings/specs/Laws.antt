@@ -1,0 +1,8 @@
+-- What holds of the definitions alone.
+use Rattle.std.specs.Prelude.{◌≡◌, ℕ, List}
+use Rattle.wh_host_model.specs.Lines.Settings.{Settings}
+use Rattle.wh_settings.specs.Spelled.{SpellsSettings}
+
+-- bytes spell settings in one way at most
+abbrev pub SpellsOnce : Type 0
+SpellsOnce = (bytes : List ℕ) (s t : Settings) → SpellsSettings bytes s → SpellsSettings bytes t → s ≡ t
