@@ -1,0 +1,102 @@
+-- What is asked of the present call of an instance.
+use Rattle.std.proofs.Common.{◌≡◌, ℕ, ◌+◌, true, List, [], ◌∷◌, map, slice_get, Option, Some, Result, Ok, Err, refl, ap, sym, subst, ◌∙◌}
+use Rattle.wh_host_model.specs.declared.plain.InstId.{InstId}
+use Rattle.wh_host_model.specs.Host.Worlds.{World}
+use Rattle.wh_host_model.specs.Host.Happens.{CallAnswer, call_ok, call_no_instance, call_no_call}
+use Rattle.wh_host_model.specs.Lines.Settings.{Settings}
+use Rattle.wh_host_model.specs.Lines.Commands.{Command}
+use Rattle.wh_host_model.specs.Lines.Texts.{Reply}
+use Rattle.wh_host_model.specs.Lines.Made as made
+use Rattle.wh_host_model.specs.Lines.Made.{Made}
+use Rattle.wh_host_model.specs.Lines.Answers.{Files, IsObeyed}
+use Rattle.wh_host.specs.Hosting.{HostState, IsHost}
+use Rattle.wh_host.specs.Asking.{IsCallAnswer, AnswersCall, host_number}
+use Rattle.wh_host.specs.declared.error.HostError.{HostError}
+use Rattle.wh_host.specs.declared.error.HostError.TheVariants.{NoInstance, Invoke, NoCall}
+use Rattle.wh_script_model.specs.Following.{Knows, StaysWhole}
+use Rattle.wh_script_model.specs.Laws.{IsAsked}
+use Rattle.wh_engine.specs.declared.engine.Engine.{Engine}
+use Rattle.wh_engine.specs.declared.parts.Guest.{Guest}
+use Rattle.wh_engine.specs.Names.{AreNames, number_of}
+use Rattle.wh_engine.specs.Standing.{Stands}
+use Rattle.wh_engine.specs.Obeying.{IsNamed}
+use Rattle.wh_engine.proofs.Instances.{TouchesCalls, nothing, calls_of, names_stay, guests_stay, guest_at, placed_at}
+
+-- the engine with another host
+abbrev pub on_host : Engine → HostState → Engine
+on_host e h = record e { host = h }
+
+-- the host has changed under what is known of it, and calls alone
+pub stands_on : (settings : Settings) (e : Engine) (m m2 : Made) (h2 : HostState) (w2 : World) → Stands settings e m → IsHost h2 w2
+    → Knows settings w2 m2 (map (λ (x : Guest). x.id.place) e.guests.items) → TouchesCalls m m2 → Stands settings (on_host e h2) m2
+stands_on settings e m m2 h2 w2 s is2 knows2 nothing = record {
+  world = w2;
+  is = is2;
+  modules = s.modules;
+  knows = knows2;
+  module_names = s.module_names;
+  guest_names = s.guest_names;
+  guests = s.guests;
+  invoked = s.invoked;
+}
+stands_on settings e m m2 h2 w2 s is2 knows2 (calls_of i g calls at) = record {
+  world = w2;
+  is = is2;
+  modules = s.modules;
+  knows = knows2;
+  module_names = s.module_names;
+  guest_names = subst (AreNames (number_of e.guest_names)) (sym (names_stay m.guests i g (record g { calls = calls }) at refl)) s.guest_names;
+  guests = guests_stay 0 e.guests.items m.guests i g calls s.guests at;
+  invoked = s.invoked;
+}
+
+-- both memories are those of the host
+pub whole_of : (h h2 : HostState) (w w2 : World) → IsHost h w → IsHost h2 w2 → StaysWhole h.space h2.space → StaysWhole w.space w2.space
+whole_of h h2 w w2 is is2 whole = subst (λ s. StaysWhole w.space s) is2.space (subst (λ s. StaysWhole s h2.space) is.space whole)
+
+id_of : (x : Guest) (i : ℕ) → x.id.number ≡ i → x.id ≡ record { place = x.id.place; number = i }
+id_of x i e = ap (λ n. record { place = x.id.place; number = n }) e
+
+pub asked : (asks : World → InstId → CallAnswer → World → Type 0) (command : Command) (reply : CallAnswer → Reply) (name : List ℕ) → IsAsked asks command reply name
+    → ((settings : Settings) (files : Files) (m m2 : Made) (line : ℕ) (replies : List Reply) → IsObeyed true settings files m line command replies m2 → TouchesCalls m m2)
+    → (settings : Settings) (files : Files) (line : ℕ) (m : Made) (e : Engine) (h2 : HostState) (x : Guest) (i : ℕ) (r : Result Unit HostError)
+    → Stands settings e m → IsNamed m i name → slice_get e.guests.items i ≡ Some x → AnswersCall e.host (λ w a w2. asks w x.id a w2) r h2
+    → StaysWhole e.host.space h2.space
+    → (answer : CallAnswer) × IsCallAnswer r answer × (m2 : Made) × IsObeyed true settings files m line command (reply answer ∷ []) m2 × Stands settings (on_host e h2) m2
+asked asks command reply name law touches settings files line m e h2 x i r s named at answers whole =
+    let w = s.world in
+    let did = answers w s.is in
+    let answer = did.0 in
+    let w2 = did.1 in
+    let happened : asks w (record { place = x.id.place; number = i }) answer w2 =
+        subst (λ id. asks w id answer w2) (id_of x i (guest_at 0 e.guests.items m.guests i x s.guests at)) did.3 in
+    let is2 = did.4 in
+    let reached = s.is.reached in
+    let follows = law reached.frames reached.slots reached.tax reached.events w reached.happen settings files line m
+        (map (λ (y : Guest). y.id.place) e.guests.items) i x.id.place named.0 answer w2 s.knows named.1
+        (placed_at e.guests.items i x at) happened (whole_of e.host h2 w w2 s.is is2 whole) in
+    (answer, did.2, follows.0, follows.1, stands_on settings e m follows.0 h2 w2 s is2 follows.2 (touches settings files m follows.0 line _ follows.1))
+
+-- ---- by its result
+
+-- what came of it, where the host has answered Ok, and where not
+pub answered_ok : (command : Command) (reply : CallAnswer → Reply) (settings : Settings) (files : Files) (line : ℕ) (m : Made) (e : Engine) (h2 : HostState)
+    → ((answer : CallAnswer) × IsCallAnswer (Ok tt) answer × (m2 : Made) × IsObeyed true settings files m line command (reply answer ∷ []) m2 × Stands settings (on_host e h2) m2)
+    → (m2 : Made) × IsObeyed true settings files m line command (reply call_ok ∷ []) m2 × Stands settings (on_host e h2) m2
+answered_ok command reply settings files line m e h2 did =
+    subst (λ (answer : CallAnswer). (m2 : Made) × IsObeyed true settings files m line command (reply answer ∷ []) m2 × Stands settings (on_host e h2) m2) did.1 (did.2, did.3, did.4)
+
+-- the number by which the reply names it, where it hasn't
+pub answered_err : (command : Command) (reply : CallAnswer → Reply) (refused : ℕ → Reply) (settings : Settings) (files : Files) (line : ℕ) (m : Made) (e : Engine) (h2 : HostState)
+    (error : HostError) → reply call_no_instance ≡ refused 1 → reply call_no_call ≡ refused 8
+    → ((answer : CallAnswer) × IsCallAnswer (Err error) answer × (m2 : Made) × IsObeyed true settings files m line command (reply answer ∷ []) m2 × Stands settings (on_host e h2) m2)
+    → (m2 : Made) × IsObeyed true settings files m line command (refused (host_number error) ∷ []) m2 × Stands settings (on_host e h2) m2
+answered_err command reply refused settings files line m e h2 NoInstance none no_call did =
+    subst (λ (r : Reply). (m2 : Made) × IsObeyed true settings files m line command (r ∷ []) m2 × Stands settings (on_host e h2) m2) (ap reply did.1 ∙ none) (did.2, did.3, did.4)
+answered_err command reply refused settings files line m e h2 (Invoke error) none no_call did = absurd did.1
+answered_err command reply refused settings files line m e h2 NoCall none no_call did =
+    subst (λ (r : Reply). (m2 : Made) × IsObeyed true settings files m line command (r ∷ []) m2 × Stands settings (on_host e h2) m2) (ap reply did.1 ∙ no_call) (did.2, did.3, did.4)
+
+-- the one that is read at a place
+pub guest_there : (xs : List Guest) (i : ℕ) (x : Guest) → Some x ≡ slice_get xs i → slice_get xs i ≡ Some x
+guest_there xs i x e = sym e

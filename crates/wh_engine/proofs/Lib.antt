@@ -1,0 +1,4 @@
+pub mod Asked
+pub mod Instances
+pub mod Laws
+pub mod Naming

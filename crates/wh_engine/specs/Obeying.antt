@@ -1,0 +1,31 @@
+-- What commands get, and for which script an engine stands then.
+use Rattle.std.specs.Prelude.{◌≡◌, ℕ, true, List, [], ◌∷◌, slice_get, Some}
+use Rattle.wh_host_model.specs.Host.Worlds.{Params}
+use Rattle.wh_host_model.specs.Lines.Settings.{Settings}
+use Rattle.wh_host_model.specs.Lines.Commands.{Command}
+use Rattle.wh_host_model.specs.Lines.Texts.{Reply}
+use Rattle.wh_host_model.specs.Lines.Made.{NamedModule, Guest, Made, HasGuest}
+use Rattle.wh_host_model.specs.Lines.Receiving.{ReceivesModule, ReceivesGuest, ReceivesCall}
+use Rattle.wh_host_model.specs.Lines.Answers.{Files, IsObeyed}
+use Rattle.wh_engine.specs.declared.engine.Engine.{Engine}
+use Rattle.wh_engine.specs.Standing.{Stands}
+
+-- the instance of this number has the name
+abbrev pub IsNamed : Made → ℕ → List ℕ → Type 0
+IsNamed m i name = (g : Guest) × HasGuest m name i g
+
+-- a module whose name is free got this reply
+abbrev pub TakesModule : Settings → Made → (name bytes : List ℕ) → Reply → Engine → Type 0
+TakesModule settings m name bytes reply e2 =
+    (m2 : Made) × ReceivesModule true m name bytes reply m2 × Stands settings e2 m2
+
+-- an instance whose name is free, of the module of this number
+abbrev pub TakesGuest : Settings → Made → (name : List ℕ) (k : ℕ) (p : Params) → Reply → Engine → Type 0
+TakesGuest settings m name k p reply e2 =
+    (named : NamedModule) × (slice_get m.modules k ≡ Some named)
+    × (m2 : Made) × ReceivesGuest true settings m name named.m p reply m2 × Stands settings e2 m2
+
+-- and a command this one
+abbrev pub Obeys : Settings → Files → Made → (line : ℕ) → Command → Reply → Engine → Type 0
+Obeys settings files m line command reply e2 =
+    (m2 : Made) × IsObeyed true settings files m line command (reply ∷ []) m2 × Stands settings e2 m2

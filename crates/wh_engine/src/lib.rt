@@ -1,0 +1,10 @@
+//! What a script has made, and the host on which its calls run: one command after the other.
+#![tactic(auto)]
+
+mod asking;
+mod engine;
+mod modules;
+mod names;
+mod parts;
+
+pub use engine::Engine;

@@ -1,0 +1,85 @@
+// Modules that a script brings.
+
+ghost use Rattle.std.specs.Prelude.{◌≡◌, ◌<◌, ◌^◌, ℕ, List, Err, None, IfOk, OnErr};
+ghost use Rattle.wh_host_model.specs.Host.Happens.{LoadAnswer};
+ghost use Rattle.wh_host_model.specs.Lines.Texts.{module_refused};
+ghost use Rattle.wh_host_model.specs.Lines.Made.{Made};
+ghost use Rattle.wh_host_model.specs.Lines.Settings.{Settings};
+ghost use Rattle.wh_host.specs.Loading.{IsLoadAnswer};
+ghost use Rattle.wh_replies.specs.View.{reply_of, why_of};
+ghost use Rattle.wh_script_model.specs.Replies.{SaysModule};
+ghost use Rattle.wh_engine.specs.Names.{number_of};
+ghost use Rattle.wh_engine.specs.Standing.{Stands};
+ghost use Rattle.wh_engine.specs.Obeying.{TakesModule};
+
+use crate::engine::Engine;
+use std::alloc::{AllocError, Global};
+use wh_host::ModuleError;
+use wh_imports::LinkError;
+use wh_load::LoadError;
+use wh_replies::{Place, Refusal, Reply};
+
+// Why bytes aren't kept, as replies say it.
+fn refusal_of(error: ModuleError) -> Refusal
+    ensures { (name : List ℕ) (answer : LoadAnswer) → IsLoadAnswer (Err error) answer
+        → SaysModule name answer (module_refused name (why_of result)) }
+{
+    match error {
+        ModuleError::Bytes(LoadError::Decode(fault)) => Refusal::Broken {
+            kind: fault.kind.number(),
+            offset: fault.offset,
+        },
+        ModuleError::Bytes(LoadError::Valid(fault)) => {
+            let place = match fault.func {
+                Some(func) => Place::Instr {
+                    func,
+                    instr: fault.instr,
+                },
+                None => Place::Module,
+            };
+            Refusal::Invalid {
+                kind: fault.kind.number(),
+                place,
+            }
+        }
+        ModuleError::Bytes(LoadError::Link(LinkError::NoItem(fault, at))) => Refusal::Unlinked {
+            kind: fault.number(),
+            import: at,
+        },
+        ModuleError::Bytes(LoadError::Link(LinkError::Memory)) => Refusal::NoLinkMemory,
+        ModuleError::ModulesFull => Refusal::ModulesFull,
+        ModuleError::Memory => Refusal::NoRoom,
+    }
+}
+
+impl Engine {
+    /// Keeps the module that the bytes spell under a free name: what is answered.
+    ///
+    /// # Errors
+    /// A growth of memory for the name was refused. Nothing was done then.
+    pub fn keep<'a>(
+        &mut self,
+        alloc: Global,
+        name: &'a str,
+        bytes: &[u8],
+    ) -> Result<Reply<'a>, AllocError>
+        requires free { number_of self.old.module_names name.now ≡ None }
+        ensures ok { IfOk result (λ reply. (settings : Settings) (m : Made) → Stands settings self.old m
+            → TakesModule settings m name.now bytes.now (reply_of reply) self.new) }
+        ensures err { OnErr result ((settings : Settings) (m : Made) → Stands settings self.old m
+            → Stands settings self.new m) }
+    {
+        self.module_names.add(alloc, name, self.modules)?;
+        match self.host.load(alloc, bytes) {
+            Ok(_) => {
+                self.modules += 1;
+                Ok(Reply::ModuleOk { name })
+            }
+            Err(error) => {
+                self.module_names.remove(name);
+                let why = refusal_of(error);
+                Ok(Reply::ModuleRefused { name, why })
+            }
+        }
+    }
+}
