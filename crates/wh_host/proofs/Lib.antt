@@ -1,3 +1,4 @@
+mod Backed
 mod Lending
 mod Viewing
 mod Turns

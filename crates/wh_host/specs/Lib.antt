@@ -1,3 +1,4 @@
+pub mod Backing
 pub mod Lying
 pub mod Lent
 pub mod Hosting

@@ -5,6 +5,7 @@ ghost use Rattle.wh_model.specs.Format.Limits.{most_segments};
 ghost use Rattle.wh_admit.specs.Views.{view_params};
 ghost use Rattle.wh_space.specs.Arrivals.{claimed};
 ghost use Rattle.wh_host_model.specs.Space.Places.{HasRoomFor as HasMemoryFor};
+ghost use Rattle.wh_host.specs.Backing.{KeepsBacking};
 ghost use Rattle.wh_host.specs.Admitting.{AnswersAdmit, BeginsResident, EntersNext};
 
 use crate::host::{Host, module_at};
@@ -99,6 +100,7 @@ impl Host {
     ) -> Result<InstId, AdmitError>
         ensures admits { AnswersAdmit self.old of.number (view_params params) result self.new }
         ensures err { OnErr result (self.new ≡ self.old) }
+        ensures backing { KeepsBacking self.old.space self.new.space }
     {
         let Some(module) = module_at(&self.modules, of.number) else {
             return Err(AdmitError::NoModule);

@@ -2,6 +2,7 @@
 
 ghost use Rattle.std.specs.Prelude.{◌≡◌, OnErr};
 ghost use Rattle.wh_host_model.specs.Host.Happens.{IsCancel, IsRefuel, IsRetry};
+ghost use Rattle.wh_host.specs.Backing.{KeepsBacking};
 ghost use Rattle.wh_host.specs.Asking.{AnswersCall};
 
 use crate::error::HostError;
@@ -18,6 +19,7 @@ impl Host {
         ensures asks { AnswersCall self.old (λ w answer w2. IsRefuel w id fuel answer w2)
             result self.new }
         ensures err { OnErr result (self.new ≡ self.old) }
+        ensures backing { KeepsBacking self.old.space self.new.space }
     {
         let Some(resident) = self.residents.get_mut(id.place) else {
             return Err(HostError::NoInstance);
@@ -39,6 +41,7 @@ impl Host {
         ensures asks { AnswersCall self.old (λ w answer w2. IsRetry w id answer w2)
             result self.new }
         ensures err { OnErr result (self.new ≡ self.old) }
+        ensures backing { KeepsBacking self.old.space self.new.space }
     {
         let Some(resident) = self.residents.get_mut(id.place) else {
             return Err(HostError::NoInstance);
@@ -61,6 +64,7 @@ impl Host {
         ensures asks { AnswersCall self.old (λ w answer w2. IsCancel w id answer w2)
             result self.new }
         ensures err { OnErr result (self.new ≡ self.old) }
+        ensures backing { KeepsBacking self.old.space self.new.space }
     {
         let Some(resident) = self.residents.get_mut(id.place) else {
             return Err(HostError::NoInstance);

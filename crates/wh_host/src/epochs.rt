@@ -3,6 +3,7 @@
 ghost use Rattle.wh_host_model.specs.Host.Happens.{OnlyMoves};
 ghost use Rattle.wh_host_model.specs.Host.Worlds.{World};
 ghost use Rattle.wh_host_model.specs.Space.Stores.{Epochs};
+ghost use Rattle.wh_host.specs.Backing.{KeepsBacking};
 ghost use Rattle.wh_host.specs.Hosting.{IsHost};
 
 use crate::host::Host;
@@ -13,6 +14,7 @@ impl Host {
         ensures moves { (w : World) → IsHost self.old w
             → (w2 : World) × OnlyMoves w w2 × IsHost self.new w2 }
         ensures clears { Epochs self.old.space self.new.space }
+        ensures backing { KeepsBacking self.old.space self.new.space }
     {
         self.memory.known();
         self.memory.new_epoch();

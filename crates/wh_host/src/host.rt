@@ -4,6 +4,7 @@ ghost use Rattle.std.specs.Option.{option_copied};
 ghost use Rattle.std.specs.Prelude.{◌≡◌, IfErr, IfOk, slice_get};
 ghost use Rattle.wh_host_model.specs.Host.Worlds.{World};
 ghost use Rattle.wh_host_model.specs.Host.Happens.{IsTurn};
+ghost use Rattle.wh_host.specs.Backing.{KeepsBacking};
 ghost use Rattle.wh_host.specs.Hosting.{IsHost, IsNewHost};
 
 use crate::parts::{LoadedModule, Resident};
@@ -86,8 +87,9 @@ impl Host {
 
     /// Gives an instance a turn of q charges.
     pub fn turn(&mut self, id: InstId, q: u64) -> TurnEnd
-        ensures { (w : World) → IsHost self.old w
+        ensures turns { (w : World) → IsHost self.old w
             → (w2 : World) × IsTurn w id q result w2 × IsHost self.new w2 }
+        ensures backing { KeepsBacking self.old.space self.new.space }
     {
         let Some(resident) = self.residents.get_mut(id.place) else {
             return TurnEnd::Idle;

@@ -1,6 +1,7 @@
 //! Calls that owners ask of their instances.
 
 ghost use Rattle.std.specs.Prelude.{◌≡◌, OnErr};
+ghost use Rattle.wh_host.specs.Backing.{KeepsBacking};
 ghost use Rattle.wh_host.specs.Asking.{AnswersInvoke};
 
 use crate::error::HostError;
@@ -26,6 +27,7 @@ impl Host {
     ) -> Result<u32, HostError>
         ensures asks { AnswersInvoke self.old id name.now given.now fuel result self.new }
         ensures err { OnErr result (self.new ≡ self.old) }
+        ensures backing { KeepsBacking self.old.space self.new.space }
     {
         let Some(resident) = self.residents.get_mut(id.place) else {
             return Err(HostError::NoInstance);

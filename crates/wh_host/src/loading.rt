@@ -1,6 +1,7 @@
 //! How modules come to a host.
 
 ghost use Rattle.std.specs.Prelude.{◌≡◌, IfOk, OnErr, OnOk};
+ghost use Rattle.wh_host.specs.Backing.{KeepsBacking};
 ghost use Rattle.wh_host.specs.Loading.{AnswersLoad, KeepsModule};
 
 use crate::error::ModuleError;
@@ -50,6 +51,7 @@ impl Host {
     pub fn load(&mut self, alloc: Global, bytes: &[u8]) -> Result<ModuleId, ModuleError>
         ensures loads { AnswersLoad self.old bytes.now result self.new }
         ensures err { OnErr result (self.new ≡ self.old) }
+        ensures backing { KeepsBacking self.old.space self.new.space }
     {
         let linked = match load(alloc, bytes) {
             Ok(linked) => linked,

@@ -1,6 +1,7 @@
 //! How instances go.
 
 ghost use Rattle.std.specs.Prelude.{◌≡◌, OnErr};
+ghost use Rattle.wh_host.specs.Backing.{KeepsBacking};
 ghost use Rattle.wh_host.specs.Releasing.{AnswersRelease};
 ghost use Rattle.wh_host.specs.Seats.{PlaceIsLeft};
 
@@ -29,6 +30,7 @@ impl Host {
     pub fn release(&mut self, alloc: Global, id: InstId) -> Result<Vec<u8>, HostError>
         ensures goes { AnswersRelease self.old id result self.new }
         ensures err { OnErr result (self.new ≡ self.old) }
+        ensures backing { KeepsBacking self.old.space self.new.space }
     {
         let Some(resident) = self.residents.get_mut(id.place) else {
             return Err(HostError::NoInstance);

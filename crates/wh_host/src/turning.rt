@@ -2,6 +2,7 @@
 
 ghost use Rattle.std.specs.Prelude.{◌≡◌, ◌≢◌, []};
 ghost use Rattle.wh_host_model.specs.Host.Worlds.{Tenant as OneTenant};
+ghost use Rattle.wh_host.specs.Backing.{KeepsBacking};
 ghost use Rattle.wh_host.specs.Lying.{LiesAt};
 ghost use Rattle.wh_host.specs.Lent.{CanSettle, TurnsLent, TurnsTo, turn_end_of, settled_in};
 
@@ -22,9 +23,10 @@ fn turn_lent(
 ) -> Turned
     requires { (t : OneTenant) × (t.open_calls ≢ [])
         × LiesAt linked.now page_limit tenant.old memory.old place t }
-    ensures { (t : OneTenant) → t.open_calls ≢ []
+    ensures turns { (t : OneTenant) → t.open_calls ≢ []
         → LiesAt linked.now page_limit tenant.old memory.old place t
         → TurnsLent linked.now page_limit q memory.old t place tenant.new memory.new result }
+    ensures backing { KeepsBacking memory.old memory.new }
 {
     memory.known();
     let mut view = View {
@@ -87,8 +89,9 @@ pub fn turn_at(
     q: u64,
 ) -> TurnEnd
     requires { (t : OneTenant) × LiesAt linked.now page_limit tenant.old memory.old place t }
-    ensures { (t : OneTenant) → LiesAt linked.now page_limit tenant.old memory.old place t
+    ensures turns { (t : OneTenant) → LiesAt linked.now page_limit tenant.old memory.old place t
         → TurnsTo linked.now page_limit q memory.old t result place tenant.new memory.new }
+    ensures backing { KeepsBacking memory.old memory.new }
 {
     if tenant.is_idle() {
         return TurnEnd::Idle;

@@ -2,9 +2,11 @@
 use Rattle.std.specs.Prelude.{◌≡◌, ◌<◌, ℕ, List, [], ◌∷◌, Option, Some}
 use Rattle.wh_model.specs.Execution.Replay.{cancelled}
 use Rattle.wh_host_model.specs.Space.Parts.{Space, view}
-use Rattle.wh_host_model.specs.Host.Worlds.{Entry, Tenant}
+use Rattle.wh_host_model.specs.declared.plain.SwapError.{SwapError}
+use Rattle.wh_host_model.specs.Host.Worlds.{Entry, Tenant, for_device}
 use Rattle.wh_host_model.specs.Host.Answers.{ended_by, Closes}
 use Rattle.wh_host_model.specs.Host.Calls.{Refuels, Retries}
+use Rattle.wh_host_model.specs.Host.Happens.{AwaitsFrame}
 use Rattle.wh_imports.specs.Joined.{LinkedState}
 use Rattle.wh_journal.specs.Calls.{JournalCallState}
 use Rattle.wh_instance.specs.declared.stages.Suspension.{Suspension}
@@ -36,6 +38,16 @@ RetriesTenant x x2 = OfAnyTenant x (λ l limit bytes t. (t2 : Tenant) × Retries
 -- none does
 abbrev pub CannotRetry : TenantState → Type 0
 CannotRetry x = OfAnyTenant x (λ l limit bytes t. (t2 : Tenant) → ¬ (Retries t t2))
+
+-- its present call stands for a frame, and this device fault is kept with it
+abbrev pub FailsTenant : TenantState → SwapError → TenantState → Type 0
+FailsTenant x fault x2 =
+    OfAnyTenant x (λ l limit bytes t. AwaitsFrame t
+    × IsTenant l limit x2 bytes (record t { stands_for = Some (for_device fault) }))
+
+-- it doesn't stand for one
+abbrev pub AwaitsNoFrame : TenantState → Type 0
+AwaitsNoFrame x = OfAnyTenant x (λ l limit bytes t. ¬ (AwaitsFrame t))
 
 -- Its present call ends where it is; what it has written stays. It is closed over whatever space shows these bytes.
 abbrev pub CancelsTenant : TenantState → TenantState → Type 0

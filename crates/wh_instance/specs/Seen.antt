@@ -1,7 +1,10 @@
 -- What a host sees of an instance.
-use Rattle.std.specs.Prelude.{◌≡◌, ◌≢◌, ℕ, Bool, List, []}
+use Rattle.std.specs.Prelude.{◌≡◌, ◌≢◌, ℕ, Bool, true, false, List, [], length, Option, Some}
 use Rattle.std.specs.Bool.{MatchBool}
+use Rattle.wh_host_model.specs.Host.Happens.{AwaitsFrame}
 use Rattle.wh_host_model.specs.Host.Standing.{CanGoOn}
+use Rattle.wh_instance.specs.declared.stages.Suspension.{Suspension}
+use Rattle.wh_instance.specs.declared.stages.Suspension.TheVariants as stop
 use Rattle.wh_instance.specs.Tenancy.{TenantState}
 use Rattle.wh_instance.specs.Asked.{OfAnyTenant}
 
@@ -12,6 +15,19 @@ CanTurn x can = OfAnyTenant x (λ l limit bytes t. MatchBool can (CanGoOn t) (¬
 -- and whether no call of it is open
 abbrev pub IsIdle : TenantState → Bool → Type 0
 IsIdle x idle = OfAnyTenant x (λ l limit bytes t. MatchBool idle (t.open_calls ≡ []) (t.open_calls ≢ []))
+
+-- a call stands for a frame
+abbrev pub stands_at_frame : Option Suspension → Bool
+stands_at_frame (Some stop.Frame) = true
+stands_at_frame other = false
+
+-- and whether its present call does
+abbrev pub WaitsForFrame : TenantState → Bool → Type 0
+WaitsForFrame x waits = OfAnyTenant x (λ l limit bytes t. MatchBool waits (AwaitsFrame t) (¬ (AwaitsFrame t)))
+
+-- so many calls of it have ended
+abbrev pub IsPresent : TenantState → ℕ → Type 0
+IsPresent x call = OfAnyTenant x (λ l limit bytes t. length t.ended ≡ call)
 
 -- these bytes are the output of its store
 abbrev pub HasOutput : TenantState → List ℕ → Type 0

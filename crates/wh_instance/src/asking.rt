@@ -3,11 +3,12 @@
 ghost use Rattle.std.specs.Prelude.{◌≡◌, ◌∷◌, true, false, List};
 ghost use Rattle.std.specs.Bool.{MatchBool};
 ghost use Rattle.wh_journal.specs.Calls.{JournalCallState};
-ghost use Rattle.wh_instance.specs.Asked.{HasFuelAgain, HasNoOpenCall, RefuelsTenant, RetriesTenant, CannotRetry, CancelsTenant};
+ghost use Rattle.wh_instance.specs.Asked.{HasFuelAgain, HasNoOpenCall, RefuelsTenant, RetriesTenant, CannotRetry, CancelsTenant, FailsTenant, AwaitsNoFrame};
 
-use crate::settling::is_device;
+use crate::settling::{is_device, is_frame};
 use crate::stages::Suspension;
 use crate::tenant::Tenant;
+use wh_host_model::SwapError;
 use wh_journal::CallEnd;
 
 impl Tenant {
@@ -52,6 +53,19 @@ impl Tenant {
             return false;
         }
         self.stands_for = Some(Suspension::Frame);
+        true
+    }
+
+    /// A call of the swap device has failed, for the present call: the fault is kept with it, if it stands for a frame. It
+    /// waits for another try then. Whether it did stand for one.
+    pub fn fail(&mut self, fault: SwapError) -> bool
+        ensures some { result ≡ true → FailsTenant self.old fault self.new }
+        ensures none { result ≡ false → AwaitsNoFrame self.old × (self.new ≡ self.old) }
+    {
+        if !is_frame(self.stands_for) {
+            return false;
+        }
+        self.stands_for = Some(Suspension::Device(fault));
         true
     }
 

@@ -1,7 +1,8 @@
 //! What a host sees of an instance.
 
-ghost use Rattle.wh_instance.specs.Seen.{CanTurn, HasOutput, IsIdle};
+ghost use Rattle.wh_instance.specs.Seen.{CanTurn, HasOutput, IsIdle, IsPresent, WaitsForFrame};
 
+use crate::settling::is_frame;
 use crate::stages::Suspension;
 use crate::tenant::Tenant;
 use std::alloc::Global;
@@ -26,6 +27,20 @@ impl Tenant {
             None | Some(Suspension::Frame) => true,
             Some(Suspension::Fuel | Suspension::Device(_)) => false,
         }
+    }
+
+    /// Whether its present call stands for a frame.
+    pub fn awaits_frame(&self) -> bool
+        ensures { WaitsForFrame self.now result }
+    {
+        is_frame(self.stands_for)
+    }
+
+    /// The place of its present call in its journal, which is how many calls have ended.
+    pub fn present_call(&self) -> usize
+        ensures { IsPresent self.now result }
+    {
+        self.journal.ended_len()
     }
 
     /// Takes out the bytes that the host functions `put` and `emit` have written for it, as it goes. It takes no memory.

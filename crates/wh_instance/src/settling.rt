@@ -2,6 +2,7 @@
 
 ghost use Rattle.std.specs.Prelude.{◌≡◌, ◌∷◌, List};
 ghost use Rattle.wh_journal.specs.Calls.{JournalCallState, HasPresent};
+ghost use Rattle.wh_instance.specs.Seen.{stands_at_frame};
 ghost use Rattle.wh_instance.specs.Settling.{has_failed, is_fatal, closed, is_fault, answered, settled_to};
 
 use crate::computing::Came;
@@ -25,6 +26,16 @@ pub(crate) fn is_device(stands_for: Option<Suspension>) -> bool
 {
     match stands_for {
         Some(Suspension::Device(_)) => true,
+        _ => false,
+    }
+}
+
+// Whether it is a frame.
+pub(crate) fn is_frame(stands_for: Option<Suspension>) -> bool
+    ensures { result ≡ stands_at_frame stands_for }
+{
+    match stands_for {
+        Some(Suspension::Frame) => true,
         _ => false,
     }
 }

@@ -1,6 +1,7 @@
 pub mod Arrivals
 pub mod Claiming
 pub mod Counts
+pub mod Errands
 pub mod Guests
 pub mod Lacking
 pub mod Leaving

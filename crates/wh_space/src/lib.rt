@@ -11,6 +11,7 @@ mod counts;
 mod departing;
 mod ending;
 mod epochs;
+mod errands;
 mod frames;
 mod growth;
 mod guest;

@@ -1,12 +1,13 @@
-use Rattle.std.proofs.Common.{sym, subst}
+use Rattle.std.proofs.Common.{refl, sym, subst}
 use Rattle.wh_host_model.specs.declared.plain.TurnEnd.{TurnEnd}
 use Rattle.wh_host_model.specs.Space.Parts.{Space, view}
 use Rattle.wh_host.specs.Lent.{TurnsTo, settled_in}
+use Rattle.wh_host.proofs.Backed.{settled_backing, same_backing, then_backing}
 use Rattle.wh_host.proofs.Turns.{idle_turn}
 use Rattle.wh_host.proofs.turning.turn_at.Goals as goal
 
-pub returns-then-is_idle : goal.returns-then-is_idle
-returns-then-is_idle c t lies =
+pub returns-then-is_idle-clause-turns : goal.returns-then-is_idle-clause-turns
+returns-then-is_idle-clause-turns c t lies =
     idle_turn c.args.linked.now c.args.page_limit c.args.q c.args.tenant.now c.args.memory.now c.args.place t lies (c.if-is_idle.ensures c.args.linked.now c.args.page_limit (view c.args.memory.now c.args.place) t lies.is)
 
 pub turn_lent-turned-requires : goal.turn_lent-turned-requires
@@ -18,12 +19,23 @@ pub settle_at-requires : goal.settle_at-requires
 settle_at-requires c =
     let given = c.requires in
     let some = c.if-is_idle.ensures c.args.linked.now c.args.page_limit (view c.args.memory.now c.args.place) given.0 given.1.is in
-    (c.turn_lent-turned.ensures given.0 some given.1).0
+    (c.turn_lent-turned.ensures.turns given.0 some given.1).0
 
-pub returns : goal.returns
-returns c t lies =
+pub returns-clause-turns : goal.returns-clause-turns
+returns-clause-turns c t lies =
     let some = c.if-is_idle.ensures c.args.linked.now c.args.page_limit (view c.args.memory.now c.args.place) t lies.is in
-    let to = c.turn_lent-turned.ensures t some lies in
+    let to = c.turn_lent-turned.ensures.turns t some lies in
     let x2 = c.turn_lent-turned.new.tenant in
     let by_answer = subst (λ (z : TurnEnd). TurnsTo c.args.linked.now c.args.page_limit c.args.q c.args.memory.now t z c.args.place x2 (settled_in c.turn_lent-turned.new.memory c.args.place c.turn_lent-turned.result)) (sym c.settle_at.ensures.answer) to.1 in
     subst (λ (z : Space). TurnsTo c.args.linked.now c.args.page_limit c.args.q c.args.memory.now t c.settle_at.result c.args.place x2 z) (sym c.settle_at.ensures.leaves) by_answer
+
+pub returns-clause-backing : goal.returns-clause-backing
+returns-clause-backing c =
+    let s1 = c.turn_lent-turned.new.memory in
+    let settled = settled_in s1 c.args.place c.turn_lent-turned.result in
+    then_backing c.args.memory.now settled c.settle_at.new.memory
+    (then_backing c.args.memory.now s1 settled c.turn_lent-turned.ensures.backing (settled_backing s1 c.args.place c.turn_lent-turned.result))
+    (same_backing settled c.settle_at.new.memory c.settle_at.ensures.leaves)
+
+pub returns-then-is_idle-clause-backing : goal.returns-then-is_idle-clause-backing
+returns-then-is_idle-clause-backing c = same_backing c.args.memory.now c.args.memory.now refl

@@ -1,6 +1,7 @@
-use Rattle.std.proofs.Common.{◌≡◌, ◌+◌, ◌-◌, Some, None, refl, sym, subst, ◌∙◌, arith}
+use Rattle.std.proofs.Common.{ap, ◌≡◌, ◌+◌, ◌-◌, Some, None, refl, sym, subst, ◌∙◌, arith}
 use Rattle.wh_host_model.specs.Host.Happens.{no_one_to_release}
 use Rattle.wh_host.specs.Hosting.{HostState, IsHost, resident_at}
+use Rattle.wh_host.proofs.Backed.{exits_backing, same_backing, then_backing}
 use Rattle.wh_host.proofs.Hosts.{nobody, one_there, put_back, somebody_else}
 use Rattle.wh_host.proofs.Requests.{gone_here, lives_there}
 use Rattle.wh_host.proofs.host.Host.release.Goals as goal
@@ -69,3 +70,9 @@ returns-clause-goes c w st =
     let fewer : i.live ≡ 1 + (i.live - 1) = omega (arith, some) in
     let made = gone_here h w c.args.id x c.take_output-output.new.self c.take_output-output.result.items c.leave_place.new.residents.slots c.exit.new.self (i.live - 1) here (sym c.in-Some.ensures.value) c.if-not-has_number.ensures c.take_output-output.ensures c.exit.ensures c.leave_place.ensures fewer in
     (Some c.take_output-output.result.items, made.0, refl, made.1, made.2)
+
+pub returns-clause-backing : goal.returns-clause-backing
+returns-clause-backing c =
+    let s = c.self.inside.memory in
+    let here = same_backing c.args.self.now.space s (ap (λ (z : HostState). z.space) c.self.view_is) in
+    then_backing c.args.self.now.space s c.exit.new.self here (exits_backing s c.args.id.place c.exit.new.self c.exit.ensures)

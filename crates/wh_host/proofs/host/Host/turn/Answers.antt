@@ -3,8 +3,8 @@ use Rattle.wh_host.specs.Hosting.{HostState, IsHost, resident_at}
 use Rattle.wh_host.proofs.Hosts.{idle_host, nobody, somebody_else, put_back, lies_here, turned_here, no_module_less}
 use Rattle.wh_host.proofs.host.Host.turn.Goals as goal
 
-pub returns-in_default : goal.returns-in_default
-returns-in_default c w st =
+pub returns-in_default-clause-turns : goal.returns-in_default-clause-turns
+returns-in_default-clause-turns c w st =
     let i = c.self.inside in
     let h : HostState = record { modules = i.modules.items; residents = i.residents.slots; live = i.live; space = i.memory; next = i.next } in
     let here = subst (λ z. IsHost z w) (sym c.self.view_is) st in
@@ -17,8 +17,8 @@ invariant_of-self-then-not-has_number c =
     let inv = c.self.invariant in
     (inv.0, subst (λ z. IsHost z inv.0) (sym (put_back h c.args.id.place c.in-Some.resident.now (sym c.in-Some.ensures.value))) inv.1)
 
-pub returns-then-not-has_number : goal.returns-then-not-has_number
-returns-then-not-has_number c w st =
+pub returns-then-not-has_number-clause-turns : goal.returns-then-not-has_number-clause-turns
+returns-then-not-has_number-clause-turns c w st =
     let i = c.self.inside in
     let h : HostState = record { modules = i.modules.items; residents = i.residents.slots; live = i.live; space = i.memory; next = i.next } in
     let here = subst (λ z. IsHost z w) (sym c.self.view_is) st in
@@ -33,8 +33,8 @@ invariant_of-self-in_default-module_at c =
     let inv = c.self.invariant in
     (inv.0, subst (λ z. IsHost z inv.0) (sym (put_back h c.args.id.place c.in-Some.resident.now (sym c.in-Some.ensures.value))) inv.1)
 
-pub returns-in_default-module_at : goal.returns-in_default-module_at
-returns-in_default-module_at c w st =
+pub returns-in_default-module_at-clause-turns : goal.returns-in_default-module_at-clause-turns
+returns-in_default-module_at-clause-turns c w st =
     let i = c.self.inside in
     let h : HostState = record { modules = i.modules.items; residents = i.residents.slots; live = i.live; space = i.memory; next = i.next } in
     let here = subst (λ z. IsHost z w) (sym c.self.view_is) st in
@@ -53,12 +53,12 @@ invariant_of-self-2 c =
     let i = c.self.inside in
     let h : HostState = record { modules = i.modules.items; residents = i.residents.slots; live = i.live; space = i.memory; next = i.next } in
     let inv = c.self.invariant in
-    let made = turned_here h inv.0 c.args.id c.args.q c.in-Some.resident.now _ c.in-Some-module_at.module.now c.turn_at.result c.turn_at.new.memory inv.1 (sym c.in-Some.ensures.value) c.if-not-has_number.ensures (sym c.in-Some-module_at.ensures) c.turn_at.ensures in
+    let made = turned_here h inv.0 c.args.id c.args.q c.in-Some.resident.now _ c.in-Some-module_at.module.now c.turn_at.result c.turn_at.new.memory inv.1 (sym c.in-Some.ensures.value) c.if-not-has_number.ensures (sym c.in-Some-module_at.ensures) c.turn_at.ensures.turns in
     (made.0, made.2)
 
-pub returns : goal.returns
-returns c w st =
+pub returns-clause-turns : goal.returns-clause-turns
+returns-clause-turns c w st =
     let i = c.self.inside in
     let h : HostState = record { modules = i.modules.items; residents = i.residents.slots; live = i.live; space = i.memory; next = i.next } in
     let here = subst (λ z. IsHost z w) (sym c.self.view_is) st in
-    turned_here h w c.args.id c.args.q c.in-Some.resident.now _ c.in-Some-module_at.module.now c.turn_at.result c.turn_at.new.memory here (sym c.in-Some.ensures.value) c.if-not-has_number.ensures (sym c.in-Some-module_at.ensures) c.turn_at.ensures
+    turned_here h w c.args.id c.args.q c.in-Some.resident.now _ c.in-Some-module_at.module.now c.turn_at.result c.turn_at.new.memory here (sym c.in-Some.ensures.value) c.if-not-has_number.ensures (sym c.in-Some-module_at.ensures) c.turn_at.ensures.turns

@@ -1,0 +1,121 @@
+-- What keeps tickets, slots, frames and the tax as they are.
+use Rattle.std.proofs.Common.{◌≡◌, ℕ, ◌==◌, ◌<◌, nat_lt, cond, Bool, true, false, List, [], ◌∷◌, length, map, zero, suc, slice_get, Option, Some, None, inl, inr, refl, sym, ap, ◌∙◌, arith}
+use Rattle.wh_model.specs.declared.memory.Need.{Need}
+use Rattle.wh_host_model.specs.declared.states.Offer.{Offer}
+use Rattle.wh_host_model.specs.declared.states.Offer.TheVariants.{Skipped, Zeroed, Hinted, Stale, Merged, FalseMatch}
+use Rattle.wh_host_model.specs.declared.states.Slot.{Slot}
+use Rattle.wh_host_model.specs.declared.states.Slot.TheVariants.{Vacant, Taken, Evicting, EvictVoid, Fetching, FetchVoid}
+use Rattle.wh_host_model.specs.Space.Errands.{Errand, errand_for, pass_of}
+use Rattle.wh_host_model.specs.Space.Moves.{has_pins, unpinned}
+use Rattle.wh_host_model.specs.Space.Offers.{Offers}
+use Rattle.wh_host_model.specs.Space.Parts.{Claimed, Space}
+use Rattle.wh_host_model.specs.Space.Places.{Enters, Exits, released_use}
+use Rattle.wh_host_model.specs.Space.Scanning.{Scans}
+use Rattle.wh_host_model.specs.Space.Stores.{Epochs, ended, stood}
+use Rattle.wh_instance.specs.declared.stages.Turned.{Turned}
+use Rattle.wh_instance.specs.declared.stages.Turned.TheVariants as turned
+use Rattle.wh_space.specs.Views.{KeepsRest}
+use Rattle.wh_host.specs.Backing.{KeepsBacking}
+use Rattle.wh_host.specs.Hosting.{HostState}
+use Rattle.wh_host.specs.Lent.{settled_in}
+
+-- ---- nothing, and one thing after the other
+
+pub same_backing : (s s2 : Space) → s2 ≡ s → KeepsBacking s s2
+same_backing s s2 e = record { pass = ap pass_of e; frames = ap (λ (a : Space). length a.pool.frames) e; tax = ap (λ (a : Space). a.tax) e }
+
+pub then_backing : (a b c : Space) → KeepsBacking a b → KeepsBacking b c → KeepsBacking a c
+then_backing a b c first second = record { pass = second.pass ∙ first.pass; frames = second.frames ∙ first.frames; tax = second.tax ∙ first.tax }
+
+-- of hosts that are the same
+pub same_host_backing : (h h2 : HostState) → h2 ≡ h → KeepsBacking h.space h2.space
+same_host_backing h h2 e = same_backing h.space h2.space (ap (λ (z : HostState). z.space) e)
+
+-- ---- standing
+
+pub stood_backing : (s : Space) (i : ℕ) (need : Option Need) → KeepsBacking s (stood s i need)
+stood_backing s i need = record { pass = refl; frames = refl; tax = refl }
+
+unpinned_backing : (s : Space) (b : Bool) → KeepsBacking s (cond b (unpinned s) s)
+unpinned_backing s true = record { pass = refl; frames = refl; tax = refl }
+unpinned_backing s false = same_backing s s refl
+
+pub ended_backing : (s : Space) (i : ℕ) → KeepsBacking s (ended s i)
+ended_backing s i = then_backing s (stood s i None) (ended s i) (stood_backing s i None) (unpinned_backing (stood s i None) (has_pins s.pins i))
+
+pub settled_backing : (s : Space) (i : ℕ) (made : Turned) → KeepsBacking s (settled_in s i made)
+settled_backing s i turned.Kept = same_backing s s refl
+settled_backing s i turned.Ended = ended_backing s i
+settled_backing s i turned.Fuel = ended_backing s i
+settled_backing s i (turned.Frame need true) = stood_backing s i (Some need)
+settled_backing s i (turned.Frame need false) = then_backing s (ended s i) (stood (ended s i) i (Some need)) (ended_backing s i) (stood_backing (ended s i) i (Some need))
+settled_backing s i (turned.Again true) = stood_backing s i None
+settled_backing s i (turned.Again false) = ended_backing s i
+
+-- ---- steps
+
+pub rest_backing : (i : ℕ) (s s2 : Space) → KeepsRest i s s2 → KeepsBacking s s2
+rest_backing i s s2 keeps = record { pass = keeps.pass; frames = keeps.frames; tax = keeps.tax }
+
+pub epochs_backing : (s s2 : Space) → Epochs s s2 → KeepsBacking s s2
+epochs_backing s s2 is = record { pass = ap pass_of is; frames = ap (λ (a : Space). length a.pool.frames) is; tax = ap (λ (a : Space). a.tax) is }
+
+-- ---- who comes and goes
+
+pub enters_backing : (s : Space) (i : ℕ) (c : Claimed) (size : ℕ) (s2 : Space) → Enters s i c size s2 → KeepsBacking s s2
+enters_backing s i c size s2 enters = let is = enters.leaves in record { pass = ap pass_of is; frames = ap (λ (a : Space). length a.pool.frames) is; tax = ap (λ (a : Space). a.tax) is }
+
+errand_released : (i n : ℕ) (x : Slot) → errand_for (released_use i n x) ≡ errand_for x
+errand_released i n Vacant = refl
+errand_released i n Taken = go (nat_lt 0 n) where
+  go : (b : Bool) → errand_for (cond b Vacant Taken) ≡ None
+  go true = refl
+  go false = refl
+errand_released i n (Evicting j p) = go (i == j) where
+  go : (b : Bool) → errand_for (cond b (EvictVoid j) (Evicting j p)) ≡ errand_for (Evicting j p)
+  go true = refl
+  go false = refl
+errand_released i n (EvictVoid j) = refl
+errand_released i n (Fetching j p f) = go (i == j) where
+  go : (b : Bool) → errand_for (cond b (FetchVoid j f) (Fetching j p f)) ≡ errand_for (Fetching j p f)
+  go true = refl
+  go false = refl
+errand_released i n (FetchVoid j f) = refl
+
+one_use : (x y : Slot) → Some x ≡ Some y → x ≡ y
+one_use x y e = cc e
+
+one_length : (m n : ℕ) → suc m ≡ suc n → m ≡ n
+one_length m n e = omega (arith, e)
+
+same_errands : (xs ys : List Slot) → length ys ≡ length xs → ((k : ℕ) (x : Slot) → slice_get xs k ≡ Some x → (y : Slot) × (slice_get ys k ≡ Some y) × (errand_for y ≡ errand_for x)) → map errand_for ys ≡ map errand_for xs
+same_errands [] [] many each = refl
+same_errands [] (y ∷ ys) many each = absurd (cc many)
+same_errands (x ∷ xs) [] many each = absurd (cc many)
+same_errands (x ∷ xs) (y ∷ ys) many each =
+    let first = each zero x refl in
+    let head : errand_for y ≡ errand_for x = ap errand_for (one_use y first.0 first.1) ∙ first.2 in
+    let tail = same_errands xs ys (one_length (length ys) (length xs) many) (λ k z at. each (suc k) z at) in
+    cc (head, tail)
+
+pub exits_backing : (s : Space) (i : ℕ) (s2 : Space) → Exits s i s2 → KeepsBacking s s2
+exits_backing s i s2 exits =
+    let out = same_errands s.slots.uses s2.slots.uses exits.slots (λ k x at. (_, exits.uses k x at, errand_released i _ x)) in
+    let held = exits.held in
+    record { pass = cc (out, held); frames = ap (λ (zs : List (List ℕ)). length zs) exits.bytes; tax = exits.tax }
+
+-- ---- offers
+
+pub offers_backing : (hashes : List ℕ → ℕ) (s : Space) (i p hash : ℕ) (answer : Offer) (s2 : Space) → Offers hashes s i p hash answer s2 → KeepsBacking s s2
+offers_backing hashes s i p hash Skipped s2 (is, why) = same_backing s s2 is
+offers_backing hashes s i p hash FalseMatch s2 (is, why) = same_backing s s2 is
+offers_backing hashes s i p hash Hinted s2 (g, offered, some, none, is) = record { pass = ap pass_of is; frames = ap (λ (a : Space). length a.pool.frames) is; tax = ap (λ (a : Space). a.tax) is }
+offers_backing hashes s i p hash Stale s2 (g, f, j, q, offered, some, found, apart, other, changed, is) = record { pass = ap pass_of is; frames = ap (λ (a : Space). length a.pool.frames) is; tax = ap (λ (a : Space). a.tax) is }
+offers_backing hashes s i p hash Zeroed s2 (g, offered, zeros, is) = record { pass = ap pass_of is; frames = ap (λ (a : Space). length a.pool.frames) is; tax = ap (λ (a : Space). a.tax) is }
+offers_backing hashes s i p hash Merged s2 (g, f, offered, some, same, inl (n, found, is)) = record { pass = ap pass_of is; frames = ap (λ (a : Space). length a.pool.frames) is; tax = ap (λ (a : Space). a.tax) is }
+offers_backing hashes s i p hash Merged s2 (g, f, offered, some, same, inr (j, q, apart, hint, is)) = record { pass = ap pass_of is; frames = ap (λ (a : Space). length a.pool.frames) is; tax = ap (λ (a : Space). a.tax) is }
+
+pub scans_backing : (hashes : List ℕ → ℕ) (s : Space) (pages : List (ℕ × ℕ)) (s2 : Space) → Scans hashes s pages s2 → KeepsBacking s s2
+scans_backing hashes s [] s2 is = same_backing s s2 is
+scans_backing hashes s (page ∷ pages) s2 (hash, answer, mid, its, offer, rest) =
+    then_backing s mid s2 (offers_backing hashes s page.0 page.1 hash answer mid offer) (scans_backing hashes mid pages s2 rest)
