@@ -1,5 +1,6 @@
 -- What is asked of the present call of an instance.
-use Rattle.std.proofs.Common.{◌≡◌, ℕ, ◌+◌, true, List, [], ◌∷◌, map, slice_get, Option, Some, Result, Ok, Err, refl, ap, sym, subst, ◌∙◌}
+use Rattle.std.proofs.Common.{arith, ◌≡◌, ℕ, ◌+◌, ◌<◌, true, List, [], ◌∷◌, map, length, get_or, slice_get, Option, Some, Result, Ok, Err, refl, ap, sym, subst, ◌∙◌}
+use Rattle.std.proofs.lemmas.Option.{slice_get-get_or}
 use Rattle.wh_host_model.specs.declared.plain.InstId.{InstId}
 use Rattle.wh_host_model.specs.Host.Worlds.{World}
 use Rattle.wh_host_model.specs.Host.Happens.{CallAnswer, call_ok, call_no_instance, call_no_call}
@@ -57,6 +58,9 @@ whole_of h h2 w w2 is is2 whole = subst (λ s. StaysWhole w.space s) is2.space (
 id_of : (x : Guest) (i : ℕ) → x.id.number ≡ i → x.id ≡ record { place = x.id.place; number = i }
 id_of x i e = ap (λ n. record { place = x.id.place; number = n }) e
 
+own_number : (e : Engine) (m : Made) (settings : Settings) (i : ℕ) (x : Guest) → Stands settings e m → slice_get e.guests.items i ≡ Some x → x.id.number ≡ i
+own_number e m settings i x s at = let n = guest_at 0 e.guests.items m.guests i x s.guests at in omega (arith, n)
+
 pub asked : (asks : World → InstId → CallAnswer → World → Type 0) (command : Command) (reply : CallAnswer → Reply) (name : List ℕ) → IsAsked asks command reply name
     → ((settings : Settings) (files : Files) (m m2 : Made) (line : ℕ) (replies : List Reply) → IsObeyed true settings files m line command replies m2 → TouchesCalls m m2)
     → (settings : Settings) (files : Files) (line : ℕ) (m : Made) (e : Engine) (h2 : HostState) (x : Guest) (i : ℕ) (r : Result Unit HostError)
@@ -69,7 +73,7 @@ asked asks command reply name law touches settings files line m e h2 x i r s nam
     let answer = did.0 in
     let w2 = did.1 in
     let happened : asks w (record { place = x.id.place; number = i }) answer w2 =
-        subst (λ id. asks w id answer w2) (id_of x i (guest_at 0 e.guests.items m.guests i x s.guests at)) did.3 in
+        subst (λ id. asks w id answer w2) (id_of x i (own_number e m settings i x s at)) did.3 in
     let is2 = did.4 in
     let reached = s.is.reached in
     let follows = law reached.frames reached.slots reached.tax reached.events w reached.happen settings files line m
@@ -98,5 +102,5 @@ answered_err command reply refused settings files line m e h2 NoCall none no_cal
     subst (λ (r : Reply). (m2 : Made) × IsObeyed true settings files m line command (r ∷ []) m2 × Stands settings (on_host e h2) m2) (ap reply did.1 ∙ no_call) (did.2, did.3, did.4)
 
 -- the one that is read at a place
-pub guest_there : (xs : List Guest) (i : ℕ) (x : Guest) → Some x ≡ slice_get xs i → slice_get xs i ≡ Some x
-guest_there xs i x e = sym e
+pub guest_there : (xs : List Guest) (i : ℕ) (x : Guest) → i < length xs → x ≡ get_or xs i x → slice_get xs i ≡ Some x
+guest_there xs i x within e = slice_get-get_or xs i x within ∙ ap Some (sym e)

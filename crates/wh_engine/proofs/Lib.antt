@@ -1,4 +1,6 @@
 pub mod Asked
 pub mod Instances
+pub mod Kept
 pub mod Laws
 pub mod Naming
+pub mod Whole

@@ -1,5 +1,5 @@
 -- What commands get, and for which script an engine stands then.
-use Rattle.std.specs.Prelude.{◌≡◌, ℕ, true, List, [], ◌∷◌, slice_get, Some}
+use Rattle.std.specs.Prelude.{◌≡◌, ℕ, ℤ, true, List, [], ◌∷◌, slice_get, Some}
 use Rattle.wh_host_model.specs.Host.Worlds.{Params}
 use Rattle.wh_host_model.specs.Lines.Settings.{Settings}
 use Rattle.wh_host_model.specs.Lines.Commands.{Command}
@@ -24,6 +24,12 @@ abbrev pub TakesGuest : Settings → Made → (name : List ℕ) (k : ℕ) (p : P
 TakesGuest settings m name k p reply e2 =
     (named : NamedModule) × (slice_get m.modules k ≡ Some named)
     × (m2 : Made) × ReceivesGuest true settings m name named.m p reply m2 × Stands settings e2 m2
+
+-- a call was asked of the instance of this number
+abbrev pub TakesCall : Settings → Made → (i : ℕ) (export : List ℕ) (fuel : ℕ) (given : List ℤ) → Engine → Type 0
+TakesCall settings m i export fuel given e2 =
+    (g : Guest) × (slice_get m.guests i ≡ Some g)
+    × (m2 : Made) × ReceivesCall true m i g export fuel given m2 × Stands settings e2 m2
 
 -- and a command this one
 abbrev pub Obeys : Settings → Files → Made → (line : ℕ) → Command → Reply → Engine → Type 0

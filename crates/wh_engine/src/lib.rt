@@ -3,6 +3,7 @@
 
 mod asking;
 mod engine;
+mod guests;
 mod modules;
 mod names;
 mod parts;

@@ -72,7 +72,7 @@ impl Engine {
         self.module_names.add(alloc, name, self.modules)?;
         match self.host.load(alloc, bytes) {
             Ok(_) => {
-                self.modules += 1;
+                self.modules = self.modules.saturating_add(1);
                 Ok(Reply::ModuleOk { name })
             }
             Err(error) => {

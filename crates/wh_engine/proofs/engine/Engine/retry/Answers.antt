@@ -1,4 +1,4 @@
-use Rattle.std.proofs.Common.{refl, subst}
+use Rattle.std.proofs.Common.{Ok, Err, refl, sym}
 use Rattle.wh_host_model.specs.Host.Happens.{IsRetry}
 use Rattle.wh_host_model.specs.Lines.Commands.{retry}
 use Rattle.wh_host_model.specs.Lines.Texts.{retry_refused}
@@ -6,19 +6,20 @@ use Rattle.wh_script_model.specs.Replies.{retry_reply}
 use Rattle.wh_engine.proofs.Asked.{asked, answered_ok, answered_err, guest_there}
 use Rattle.wh_engine.proofs.Instances.{retry_touches}
 use Rattle.wh_engine.proofs.Laws.{retries_follow}
+use Rattle.wh_engine.proofs.Whole.{keeps_whole}
 use Rattle.wh_engine.proofs.engine.Engine.retry.Goals as goal
 
 pub returns-in-Ok : goal.returns-in-Ok
 returns-in-Ok c settings files line m s named =
     answered_ok (retry c.args.name.now) (retry_reply c.args.name.now) settings files line m c.args.self.now c.retry.new.self
     (asked (λ w id answer w2. IsRetry w id answer w2) (retry c.args.name.now) (retry_reply c.args.name.now) c.args.name.now (retries_follow c.args.name.now)
-    (λ settings files m m2 line replies o. retry_touches o) settings files line m c.args.self.now c.retry.new.self c.index.result.now c.args.number _
-    s named (guest_there c.args.self.now.guests.items c.args.number c.index.result.now c.index.ensures) c.in-Ok.ensures.asks ?)
+    (λ settings files m m2 line replies o. retry_touches o) settings files line m c.args.self.now c.retry.new.self c.index.result.now c.args.number (Ok tt)
+    s named (guest_there c.args.self.now.guests.items c.args.number c.index.result.now c.requires.there c.index.ensures) c.in-Ok.ensures.asks (keeps_whole c.args.self.now.host.space c.retry.new.self.space c.in-Ok.ensures.backing))
 
 pub returns-in-Err : goal.returns-in-Err
 returns-in-Err c settings files line m s named =
     let did = asked (λ w id answer w2. IsRetry w id answer w2) (retry c.args.name.now) (retry_reply c.args.name.now) c.args.name.now (retries_follow c.args.name.now)
-        (λ settings files m m2 line replies o. retry_touches o) settings files line m c.args.self.now c.retry.new.self c.index.result.now c.args.number _
-        s named (guest_there c.args.self.now.guests.items c.args.number c.index.result.now c.index.ensures) c.in-Err.ensures.asks ? in
+        (λ settings files m m2 line replies o. retry_touches o) settings files line m c.args.self.now c.retry.new.self c.index.result.now c.args.number (Err c.in-Err.error)
+        s named (guest_there c.args.self.now.guests.items c.args.number c.index.result.now c.requires.there c.index.ensures) c.in-Err.ensures.asks (keeps_whole c.args.self.now.host.space c.retry.new.self.space c.in-Err.ensures.backing) in
     let got = answered_err (retry c.args.name.now) (retry_reply c.args.name.now) (λ fault. retry_refused c.args.name.now fault) settings files line m c.args.self.now c.retry.new.self c.in-Err.error refl refl did in
-    rw c.number.ensures at got
+    rw (sym c.number.ensures) at got

@@ -1,0 +1,128 @@
+-- Modules that a script brings.
+use Rattle.std.proofs.Common.{arith, ◌≡◌, ◌≢◌, ℕ, ◌+◌, ◌<◌, ◌⊎◌, inl, inr, ⊎_elim, min, true, List, [], ◌∷◌, ◌++◌, map, length, slice_get, Bool, bytes_eq, Option, Some, None, Result, Ok, Err, refl, ap, sym, subst, ◌∙◌}
+use Rattle.std.specs.Map.{update}
+use Rattle.wh_model.specs.Linking.Accepting.{IsAccepted}
+use Rattle.wh_host_model.specs.Host.Worlds.{World}
+use Rattle.wh_host_model.specs.Host.Admission.{most_modules}
+use Rattle.wh_host_model.specs.Host.Happens.{LoadAnswer, load_ok, load_refused, load_wants_memory}
+use Rattle.wh_host_model.specs.Lines.Settings.{Settings}
+use Rattle.wh_host_model.specs.Lines.Texts.{Refusal, Reply, module_ok, module_refused}
+use Rattle.wh_host_model.specs.Lines.Made.{NamedModule, Made}
+use Rattle.wh_host_model.specs.Lines.Receiving.{ReceivesModule, module_is_kept, module_isnt_kept, module_is_wanting}
+use Rattle.wh_host.specs.Hosting.{HostState, IsHost}
+use Rattle.wh_host.specs.Loading.{AnswersLoad, IsLoadAnswer}
+use Rattle.wh_host.specs.declared.error.ModuleError.{ModuleError}
+use Rattle.wh_host.specs.declared.parts.ModuleId.{ModuleId}
+use Rattle.wh_script_model.specs.Following.{Knows}
+use Rattle.wh_script_model.specs.Replies.{SaysModule}
+use Rattle.wh_engine.specs.Names.{AreNames, number_of}
+use Rattle.wh_engine.specs.declared.engine.Engine.{Engine}
+use Rattle.wh_engine.specs.declared.names.Names.{Names}
+use Rattle.wh_engine.specs.declared.parts.Guest.{Guest}
+use Rattle.wh_engine.specs.Standing.{Stands}
+use Rattle.wh_engine.specs.Obeying.{TakesModule}
+use Rattle.wh_engine.proofs.Laws.{modules_follow}
+use Rattle.wh_engine.proofs.Naming.{named_next, unnamed, same_names}
+
+abbrev label : NamedModule → List ℕ
+label n = n.name
+
+labels_end : (ms : List NamedModule) (n : NamedModule) → map label (ms ++ n ∷ []) ≡ map label ms ++ n.name ∷ []
+labels_end [] n = refl
+labels_end (x ∷ ms) n = ap (λ ls. x.name ∷ ls) (labels_end ms n)
+
+one_longer : (ms : List NamedModule) (n : NamedModule) → length (ms ++ n ∷ []) ≡ length ms + 1
+one_longer [] n = refl
+one_longer (x ∷ ms) n = let e = one_longer ms n in omega (arith, e)
+
+-- what the law of modules says of an answer of the host
+law_of : (settings : Settings) (e : Engine) (m : Made) (name bytes : List ℕ) (h2 : HostState) (r : Result ModuleId ModuleError) (reply : Reply) (s : Stands settings e m)
+    → AnswersLoad e.host bytes r h2 → ((answer : LoadAnswer) → IsLoadAnswer r answer → SaysModule name answer reply)
+    → (m2 : Made) × (w2 : World) × ReceivesModule true m name bytes reply m2 × IsHost h2 w2
+    × Knows settings w2 m2 (map (λ (x : Guest). x.id.place) e.guests.items)
+law_of settings e m name bytes h2 r reply s answers says =
+    let did = answers s.world s.is in
+    let reached = s.is.reached in
+    let follows = modules_follow reached.frames reached.slots reached.tax reached.events s.world reached.happen settings m
+        (map (λ (x : Guest). x.id.place) e.guests.items) name bytes did.0 did.1 reply s.knows did.3 (says did.0 did.2) in
+    (follows.0, did.1, follows.1, did.4, follows.2)
+
+labelled : (ms : List NamedModule) → length (map label ms) ≡ length ms
+labelled [] = refl
+labelled (x ∷ ms) = let e = labelled ms in omega (arith, e)
+
+-- the engine with another host and other names of modules
+abbrev pub with_modules : Engine → HostState → Names → ℕ → Engine
+with_modules e h names k = record e { host = h; module_names = names; modules = k }
+
+ok_says : (name : List ℕ) (id : ModuleId) (answer : LoadAnswer) → IsLoadAnswer (Ok id) answer → SaysModule name answer (module_ok name)
+ok_says name id answer is = subst (λ a. SaysModule name a (module_ok name)) (sym is) refl
+
+kept_stands : (settings : Settings) (e : Engine) (m : Made) (name bytes : List ℕ) (h2 : HostState) (names : Names) (k : ℕ) → Stands settings e m
+    → ((other : List ℕ) → number_of names other ≡ update bytes_eq (number_of e.module_names) name (Some e.modules) other)
+    → (e.modules < most_modules → k ≡ e.modules + 1)
+    → (m2 : Made) (w2 : World) → ReceivesModule true m name bytes (module_ok name) m2 → IsHost h2 w2
+    → Knows settings w2 m2 (map (λ (x : Guest). x.id.place) e.guests.items)
+    → TakesModule settings m name bytes (module_ok name) (with_modules e h2 names k)
+kept_stands settings e m name bytes h2 names k s sets counts _ w2 (module_is_kept {spelled} accepted few) is2 knows2 =
+    let new : NamedModule = record { name = name; m = spelled } in
+    let after : Made = record m { modules = m.modules ++ new ∷ [] } in
+    let k_is : k ≡ e.modules + 1 = counts (subst (λ n. n < most_modules) (sym s.modules) few) in
+    (after, module_is_kept accepted few, record {
+      world = w2;
+      is = is2;
+      modules = k_is ∙ ap (λ n. n + 1) s.modules ∙ sym (one_longer m.modules new);
+      knows = knows2;
+      module_names = subst (AreNames (number_of names)) (sym (labels_end m.modules new))
+          (named_next (number_of e.module_names) (number_of names) (map label m.modules) name e.modules s.module_names (s.modules ∙ sym (labelled m.modules)) sets);
+      guest_names = s.guest_names;
+      guests = s.guests;
+      invoked = s.invoked;
+    })
+
+-- other names of the same modules
+pub with_names : (settings : Settings) (e : Engine) (m : Made) (h2 : HostState) (names : Names) (w2 : World) → Stands settings e m → AreNames (number_of names) (map label m.modules)
+    → IsHost h2 w2 → Knows settings w2 m (map (λ (x : Guest). x.id.place) e.guests.items) → Stands settings (with_modules e h2 names e.modules) m
+with_names settings e m h2 names w2 s are is2 knows2 = record {
+  world = w2;
+  is = is2;
+  modules = s.modules;
+  knows = knows2;
+  module_names = are;
+  guest_names = s.guest_names;
+  guests = s.guests;
+  invoked = s.invoked;
+}
+
+none_stands : (settings : Settings) (e : Engine) (m : Made) (name bytes : List ℕ) (h2 : HostState) (names : Names) (why : Refusal) → Stands settings e m
+    → AreNames (number_of names) (map label m.modules)
+    → (m2 : Made) (w2 : World) → ReceivesModule true m name bytes (module_refused name why) m2 → IsHost h2 w2
+    → Knows settings w2 m2 (map (λ (x : Guest). x.id.place) e.guests.items)
+    → TakesModule settings m name bytes (module_refused name why) (with_modules e h2 names e.modules)
+none_stands settings e m name bytes h2 names why s are _ w2 (module_isnt_kept turns_down) is2 knows2 =
+    (m, module_isnt_kept turns_down, with_names settings e m h2 names w2 s are is2 knows2)
+none_stands settings e m name bytes h2 names why s are _ w2 (module_is_wanting scarce wants) is2 knows2 =
+    (m, module_is_wanting scarce wants, with_names settings e m h2 names w2 s are is2 knows2)
+
+-- it was kept
+pub takes_kept : (settings : Settings) (e : Engine) (m : Made) (name bytes : List ℕ) (h2 : HostState) (names : Names) (k : ℕ) (id : ModuleId) → Stands settings e m
+    → AnswersLoad e.host bytes (Ok id) h2
+    → ((other : List ℕ) → number_of names other ≡ update bytes_eq (number_of e.module_names) name (Some e.modules) other)
+    → (e.modules < most_modules → k ≡ e.modules + 1)
+    → TakesModule settings m name bytes (module_ok name) (with_modules e h2 names k)
+takes_kept settings e m name bytes h2 names k id s answers sets counts =
+    let got = law_of settings e m name bytes h2 (Ok id) (module_ok name) s answers (λ answer is. ok_says name id answer is) in
+    kept_stands settings e m name bytes h2 names k s sets counts got.0 got.1 got.2 got.3 got.4
+
+-- it wasn't, and has no name again
+pub takes_none : (settings : Settings) (e : Engine) (m : Made) (name bytes : List ℕ) (h2 : HostState) (given names : Names) (error : ModuleError) (why : Refusal) → Stands settings e m
+    → number_of e.module_names name ≡ None
+    → AnswersLoad e.host bytes (Err error) h2
+    → ((other : List ℕ) → number_of given other ≡ update bytes_eq (number_of e.module_names) name (Some e.modules) other)
+    → ((other : List ℕ) → number_of names other ≡ update bytes_eq (number_of given) name None other)
+    → ((answer : LoadAnswer) → IsLoadAnswer (Err error) answer → SaysModule name answer (module_refused name why))
+    → TakesModule settings m name bytes (module_refused name why) (with_modules e h2 names e.modules)
+takes_none settings e m name bytes h2 given names error why s free answers sets clears says =
+    let got = law_of settings e m name bytes h2 (Err error) (module_refused name why) s answers says in
+    let are = unnamed (number_of e.module_names) (number_of given) (number_of names) (map label m.modules) name (Some e.modules) s.module_names free sets clears in
+    none_stands settings e m name bytes h2 names why s are got.0 got.1 got.2 got.3 got.4
