@@ -5,3 +5,4 @@ mod Turns
 mod Hosts
 mod Requests
 mod Comers
+mod Paged

@@ -6,5 +6,6 @@ pub mod Stored
 pub mod Asking
 pub mod Seats
 pub mod Loading
+pub mod Paging
 pub mod Releasing
 pub mod Admitting

@@ -12,6 +12,7 @@ mod host;
 mod invoking;
 mod loading;
 mod parts;
+mod providing;
 mod releasing;
 #[cfg(test)]
 mod tests;

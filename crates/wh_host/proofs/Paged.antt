@@ -1,0 +1,148 @@
+-- What pages that move leave of the host for which the code's host stands.
+use Rattle.std.proofs.Common.{◌≡◌, ◌≢◌, ℕ, zero, suc, ◌≤◌, ◌⊎◌, inl, inr, Bool, true, false, List, [], ◌∷◌, Option, Some, None, get_or, slice_get, slice_set, min, refl, sym, ap, subst, ◌∙◌, arith}
+use Rattle.std.specs.Bool.{MatchBool}
+use Rattle.wh_model.specs.declared.memory.Need.{Need}
+use Rattle.wh_model.specs.Execution.Store.{Instance, Store}
+use Rattle.wh_host_model.specs.declared.plain.InstId.{InstId}
+use Rattle.wh_host_model.specs.declared.plain.SwapError.{SwapError}
+use Rattle.wh_host_model.specs.Space.Errands.{tickets}
+use Rattle.wh_host_model.specs.Space.Parts.{Occupant, Space, need_of, view, wants}
+use Rattle.wh_host_model.specs.Space.Provide.{FailsTruly, ProvidesTruly}
+use Rattle.wh_host_model.specs.Space.Sound.{IsSound}
+use Rattle.wh_host_model.specs.Space.Tickets.{StandsForFrame}
+use Rattle.wh_host_model.specs.Host.Events.{Event, provide}
+use Rattle.wh_host_model.specs.Host.Happens.{AwaitsFrame, Happens, IsLive, MovesPages, NoInstance, has_failed, moved}
+use Rattle.wh_host_model.specs.Host.Spaces.{AllLeftAlone}
+use Rattle.wh_host_model.specs.Host.Standing.{FirstStandsDuly, StandsDuly}
+use Rattle.wh_host_model.specs.Host.Worlds.{Doing, Entry, Suspension, Tenant, World, for_device, for_frame, store_in, tenant, with_tenant}
+use Rattle.wh_host_model.proofs.Host.Bridges.{failures_leave_all, provisions_leave_all}
+use Rattle.wh_host_model.proofs.Host.Holding.{suspensions_are_right}
+use Rattle.wh_instance.specs.Asked.{AwaitsNoFrame, FailsTenant, OfAnyTenant}
+use Rattle.wh_instance.specs.Tenancy.{IsTenant, TenantState}
+use Rattle.wh_host.specs.declared.parts.Resident.{Resident}
+use Rattle.wh_host.specs.Hosting.{HostState, IsHost, resident_at}
+use Rattle.wh_host.specs.Paging.{IsAwaiting, WaitsFor}
+use Rattle.wh_host.proofs.Hosts.{changed, found, nobody, of_who_is_there, one_value, reached_on, same_owner, somebody_else}
+use Rattle.wh_host.proofs.Requests.{moved_host, sound_here}
+
+-- ---- who waits
+
+pub stands_there : (s : Space) (i : ℕ) (need : Need) → wants s i ≡ Some need → StandsForFrame s i need
+stands_there s i need e = rows s.occupants i e where
+  live : (t : Occupant) (b : Bool) → t.live ≡ b → need_of (Some t) ≡ Some need → (t.live ≡ true) × (t.stands ≡ Some need)
+  live t true is e = (is, let z : need_of (Some t) ≡ t.stands = rw is refl in sym z ∙ e)
+  live t false is e = absurd (let z : need_of (Some t) ≡ None = rw is refl in let bad : None ≡ Some need = sym z ∙ e in cc bad)
+
+  rows : (xs : List (Option Occupant)) (i : ℕ) → need_of (get_or xs i None) ≡ Some need → (t : Occupant) × (slice_get xs i ≡ Some (Some t)) × (t.live ≡ true) × (t.stands ≡ Some need)
+  rows [] i e = absurd (let bad : None ≡ Some need = e in cc bad)
+  rows (None ∷ xs) zero e = absurd (let bad : None ≡ Some need = e in cc bad)
+  rows (Some t ∷ xs) zero e = let h = live t t.live refl e in (t, refl, h.0, h.1)
+  rows (x ∷ xs) (suc i) e = rows xs i e
+
+wanted_by : (inst : Instance) (s : Store) (d : Doing) (es : List Entry) (wanted : Option Need) (o : Option Suspension) → FirstStandsDuly inst s d es wanted o → o ≡ Some for_frame → (need : Need) × (wanted ≡ Some need)
+wanted_by inst s d [] wanted o duly e = absurd (let bad : None ≡ Some for_frame = sym duly.1 ∙ e in cc bad)
+wanted_by inst s d (x ∷ es) wanted o duly e = let at : StandsDuly inst s d x.call wanted (Some for_frame) = subst (StandsDuly inst s d x.call wanted) e duly in (at.0, at.1)
+
+-- whoever stands for a frame wants bytes
+pub awaited : (h : HostState) (w : World) (id : InstId) (t : Tenant) → IsHost h w → IsLive w id t → AwaitsFrame t → (need : Need) × (wants w.space id.place ≡ Some need)
+awaited h w id t st live waits =
+    let r = st.reached in
+    let right = suspensions_are_right r.frames r.slots r.tax r.events w r.happen id.number t live.0 in
+    let some = wanted_by t.inst (store_in w.space t) t.doing t.open_calls (wants w.space t.place) t.stands_for right waits in
+    (some.0, subst (λ i. wants w.space i ≡ Some some.0) live.1 some.1)
+
+pub waits_there : (h : HostState) (w : World) (id : InstId) (x : Resident) → IsHost h w → resident_at h.residents id.place ≡ Some x → x.number ≡ Some id.number → OfAnyTenant x.tenant (λ l limit bytes t. AwaitsFrame t) → (need : Need) × WaitsFor h id need
+waits_there h w id x st at number asked =
+    let who = of_who_is_there h w id x AwaitsFrame st at number asked in
+    let need = awaited h w id who.0 st who.1 who.2 in
+    (need.0, (w, st, who, need.1))
+
+pub waits_stands : (h : HostState) (id : InstId) (need : Need) → WaitsFor h id need → StandsForFrame h.space id.place need
+waits_stands h id need (w, st, who, wanted) = subst (λ s. StandsForFrame s id.place need) (sym st.space) (stands_there w.space id.place need wanted)
+
+pub no_one_waits : (h : HostState) (id : InstId) (need : Need) → resident_at h.residents id.place ≡ None → ¬ (WaitsFor h id need)
+no_one_waits h id need none (w, st, who, wanted) = nobody h w id st none who.0 who.1
+
+pub another_waits : (h : HostState) (id : InstId) (need : Need) (x : Resident) → resident_at h.residents id.place ≡ Some x → x.number ≢ Some id.number → ¬ (WaitsFor h id need)
+another_waits h id need x at other (w, st, who, wanted) = somebody_else h w id x st at other who.0 who.1
+
+-- the instance of a number is one
+pub same_tenant : (w : World) (id : InstId) (t u : Tenant) → IsLive w id t → IsLive w id u → t ≡ u
+same_tenant w id t u a b = one_value t u (sym a.0 ∙ b.0)
+
+pub nothing_waits : (h : HostState) (id : InstId) (need : Need) (x : Resident) → resident_at h.residents id.place ≡ Some x → x.number ≡ Some id.number → OfAnyTenant x.tenant (λ l limit bytes t. ¬ (AwaitsFrame t)) → ¬ (WaitsFor h id need)
+nothing_waits h id need x at number none (w, st, who, wanted) =
+    let mine = of_who_is_there h w id x (λ t. ¬ (AwaitsFrame t)) st at number none in
+    mine.2 (subst AwaitsFrame (same_tenant w id who.0 mine.0 who.1 mine.1) who.2)
+
+-- whether it is told so
+pub told_of : (h : HostState) (w : World) (id : InstId) (x : Resident) (told : Bool) (P : Tenant → Type 0) → IsHost h w → resident_at h.residents id.place ≡ Some x → x.number ≡ Some id.number → OfAnyTenant x.tenant (λ l limit bytes t. MatchBool told (P t) (¬ (P t)))
+    → MatchBool told ((t : Tenant) × IsLive w id t × P t) (¬ ((t : Tenant) × IsLive w id t × P t))
+told_of h w id x true P st at number asked = of_who_is_there h w id x P st at number asked
+told_of h w id x false P st at number asked =
+    let mine = of_who_is_there h w id x (λ t. ¬ (P t)) st at number asked in
+    λ some. mine.2 (subst P (same_tenant w id some.0 mine.0 some.1 mine.1) some.2)
+
+-- ---- pages move
+
+pub moved_as : (h : HostState) (w : World) (id : InstId) (awaits : Tenant → Type 0) (fault : Option SwapError) (e : Event) (s2 : Space) → (st : IsHost h w) → AllLeftAlone w.space s2 → (fault ≡ None) ⊎ ((t : Tenant) → IsLive w id t → ¬ (awaits t))
+    → ((w2 : World) → MovesPages w id awaits fault w2 → Happens w e w2) → (w2 : World) × MovesPages w id awaits fault w2 × IsHost (record h { space = s2 }) w2
+moved_as h w id awaits fault e s2 st same none happens =
+    let w2 : World = record w { space = s2 } in
+    let moves : MovesPages w id awaits fault w2 = moved same none in
+    (w2, moves, moved_host h w s2 st same (reached_on w w2 e st.reached (happens w2 moves)))
+
+-- a fault is kept
+pub KeepsFaultAt : TenantState → (Tenant → Type 0) → SwapError → TenantState → Type 0
+KeepsFaultAt x awaits fault z = OfAnyTenant x (λ l limit bytes t. awaits t × IsTenant l limit z bytes (record t { stands_for = Some (for_device fault) }))
+
+pub fault_here : (h : HostState) (w : World) (id : InstId) (x : Resident) (z : TenantState) (awaits : Tenant → Type 0) (fault : SwapError) (e : Event) (s2 : Space) → (st : IsHost h w) → resident_at h.residents id.place ≡ Some x → x.number ≡ Some id.number → AllLeftAlone w.space s2
+    → KeepsFaultAt x.tenant awaits fault z → ((w2 : World) → MovesPages w id awaits (Some fault) w2 → Happens w e w2)
+    → (w2 : World) × MovesPages w id awaits (Some fault) w2 × IsHost (record h { residents = slice_set h.residents id.place (Some (record x { tenant = z })); space = s2 }) w2
+unfolding KeepsFaultAt
+fault_here h w id x z awaits fault e s2 st at number same keeps happens =
+    let f = found h w id.place id.number x st at number in
+    let made = keeps f.is.loaded.linked x.page_limit (view w.space f.t.place) f.t f.is.is in
+    let t2 : Tenant = record f.t { stands_for = Some (for_device fault) } in
+    let y : Resident = record x { tenant = z } in
+    let sees : view s2 f.t.place ≡ view w.space f.t.place = (same.0 f.t.place).view in
+    let over : IsTenant f.is.loaded.linked x.page_limit z (view s2 t2.place) t2 = subst (λ b. IsTenant f.is.loaded.linked x.page_limit z b t2) (sym sees) made.1 in
+    let represents = same_owner h.modules x w.space s2 id.number f.t t2 z f.is refl refl over in
+    let w2 = with_tenant w id.number (Some t2) s2 in
+    let moves : MovesPages w id awaits (Some fault) w2 = has_failed same refl (f.live, f.at) made.0 in
+    (w2, moves, changed h w id.place id.number x y t2 s2 st at number f.at represents (λ j other. (same.0 j).view) (reached_on w w2 e st.reached (happens w2 moves)))
+
+-- that of the present call, where it stands for a frame
+pub keeps_fault : (x z : TenantState) (fault : SwapError) (told : Bool) → (told ≡ true → FailsTenant x fault z) → (told ≡ false → AwaitsNoFrame x × (z ≡ x)) → OfAnyTenant x (λ l limit bytes t. AwaitsFrame t) → KeepsFaultAt x AwaitsFrame fault z
+unfolding KeepsFaultAt
+keeps_fault x z fault true some none waits l limit bytes t is = some refl l limit bytes t is
+keeps_fault x z fault false some none waits l limit bytes t is = absurd ((none refl).0 l limit bytes t is (waits l limit bytes t is))
+
+-- ---- a provision
+
+pub alone_in : (h : HostState) (w : World) (s2 : Space) → IsHost h w → AllLeftAlone h.space s2 → AllLeftAlone w.space s2
+alone_in h w s2 st same = subst (λ s. AllLeftAlone s s2) st.space same
+
+pub sound_in : (h : HostState) (w : World) → IsHost h w → IsSound h.space
+sound_in h w st = subst IsSound (sym st.space) (sound_here h w st)
+
+pub provided_here : (h : HostState) (w : World) (id : InstId) (x : Resident) (left : ℕ) (s2 : Space) → (st : IsHost h w) → resident_at h.residents id.place ≡ Some x → x.number ≡ Some id.number → OfAnyTenant x.tenant (λ l limit bytes t. AwaitsFrame t) → tickets h.space ≡ 0
+    → ((need : Need) → StandsForFrame h.space id.place need → ProvidesTruly h.space id.place need left s2) → (w2 : World) × MovesPages w id AwaitsFrame None w2 × IsHost (record h { space = s2 }) w2
+provided_here h w id x left s2 st at number waits none made =
+    let need = waits_there h w id x st at number waits in
+    let stands = waits_stands h id need.0 need.1 in
+    let same = alone_in h w s2 st (provisions_leave_all h.space id.place need.0 left s2 (sound_in h w st) none stands (made need.0 stands)) in
+    moved_as h w id AwaitsFrame None (provide id None) s2 st same (inl refl) (λ w2 moves. moves)
+
+pub failed_here : (h : HostState) (w : World) (id : InstId) (x : Resident) (z : TenantState) (fault : SwapError) (s2 : Space) → (st : IsHost h w) → resident_at h.residents id.place ≡ Some x → x.number ≡ Some id.number → OfAnyTenant x.tenant (λ l limit bytes t. AwaitsFrame t) → tickets h.space ≡ 0
+    → ((need : Need) → StandsForFrame h.space id.place need → FailsTruly h.space id.place need s2) → KeepsFaultAt x.tenant AwaitsFrame fault z
+    → (w2 : World) × MovesPages w id AwaitsFrame (Some fault) w2 × IsHost (record h { residents = slice_set h.residents id.place (Some (record x { tenant = z })); space = s2 }) w2
+failed_here h w id x z fault s2 st at number waits none made keeps =
+    let need = waits_there h w id x st at number waits in
+    let stands = waits_stands h id need.0 need.1 in
+    let same = alone_in h w s2 st (failures_leave_all h.space id.place need.0 s2 (sound_in h w st) none stands (made need.0 stands)) in
+    fault_here h w id x z AwaitsFrame fault (provide id (Some fault)) s2 st at number same keeps (λ w2 moves. moves)
+
+-- nothing is done
+pub nothing_moves : (h : HostState) (w : World) (id : InstId) (awaits : Tenant → Type 0) → (st : IsHost h w) → (w2 : World) × MovesPages w id awaits None w2 × IsHost h w2
+nothing_moves h w id awaits st = (w, moved (λ j. record { view = refl; wants = refl; claim = refl }, sound_here h w st) (inl refl), st)

@@ -1,0 +1,12 @@
+use Rattle.std.proofs.Common.{sym, subst}
+use Rattle.wh_host_model.specs.Host.Happens.{AwaitsFrame}
+use Rattle.wh_host.specs.Hosting.{HostState, IsHost}
+use Rattle.wh_host.proofs.Paged.{told_of}
+use Rattle.wh_host.proofs.host.Host.awaits_frame.Goals as goal
+
+pub returns : goal.returns
+returns c w st =
+    let i = c.self.inside in
+    let h : HostState = record { modules = i.modules.items; residents = i.residents.slots; live = i.live; space = i.memory; next = i.next } in
+    let here = subst (λ z. IsHost z w) (sym c.self.view_is) st in
+    told_of h w c.args.id c.in-Some.resident.now c.awaits_frame.result AwaitsFrame here (sym c.in-Some.ensures) c.if-not-has_number.ensures c.awaits_frame.ensures

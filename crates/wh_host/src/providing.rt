@@ -1,0 +1,98 @@
+//! How the next step of an instance is made ready, and who waits for that.
+
+ghost use Rattle.std.specs.Prelude.{◌≡◌, ◌+◌, ◌∷◌, Ok, IfErr, IfOk, OnErr, OnOk};
+ghost use Rattle.wh_host_model.specs.Host.Happens.{AwaitsFrame};
+ghost use Rattle.wh_host_model.specs.Space.Errands.{tickets};
+ghost use Rattle.wh_host_model.specs.Space.Laws.{IsProvided};
+ghost use Rattle.wh_host_model.specs.Space.Provide.{FailsTruly, OthersKeepMinimum, ProvidesTruly};
+ghost use Rattle.wh_model.specs.declared.memory.Need.{Need};
+ghost use Rattle.wh_host.specs.Paging.{IsAwaiting, IsGoing, MovesWith, Tells, WaitsFor, fault_of};
+
+use crate::host::Host;
+use wh_host_model::{InstId, SwapError};
+use wh_reclaim::{Buf, provide};
+use wh_swap::SwapDev;
+
+impl Host {
+    /// Whether a turn or a provision can bring the instance on: a call of it is open, and stands neither for fuel nor for a
+    /// device fault.
+    pub fn can_go_on(&self, id: InstId) -> bool
+        ensures { Tells self.now result (λ w. IsGoing w id) }
+    {
+        let Some(resident) = self.residents.get(id.place) else {
+            return false;
+        };
+        if !resident.has_number(id.number) {
+            return false;
+        }
+        resident.tenant.can_go_on()
+    }
+
+    /// Whether the present call of the instance stands for a frame, so that `provide` makes its next step ready.
+    pub fn awaits_frame(&self, id: InstId) -> bool
+        ensures { Tells self.now result (λ w. IsAwaiting w id) }
+    {
+        let Some(resident) = self.residents.get(id.place) else {
+            return false;
+        };
+        if !resident.has_number(id.number) {
+            return false;
+        }
+        resident.tenant.awaits_frame()
+    }
+
+    /// Makes the next step of the instance ready where its present call stands for a frame: pages come from the device, and
+    /// others leave for it, so long as that is needed. How many left, each by one write of the device. Else nothing is done;
+    /// so too where the call stands for a device fault, and waits for `retry`. It takes no memory: the buffer is of use
+    /// while the call lasts.
+    ///
+    /// The device holds what the slots hold, keeps what is written to it, and has read right so far; no ticket is out.
+    ///
+    /// # Errors
+    /// That of the device's call that failed. It is kept with the present call. The moves so far stay, and nothing is pinned
+    /// or earmarked.
+    pub fn provide<D: SwapDev>(
+        &mut self,
+        device: &mut D,
+        id: InstId,
+        buf: &mut Buf,
+    ) -> Result<u64, SwapError>
+        requires none_out { tickets self.old.space ≡ 0 }
+        requires agrees { self.old.space.slots.held ≡ D.held device.old }
+        requires keeps { D.keeps device.old }
+        requires honest { D.honest device.old }
+        ensures none_out { tickets self.new.space ≡ 0 }
+        ensures agrees { self.new.space.slots.held ≡ D.held device.new }
+        ensures keeps { D.keeps device.new }
+        ensures honest { D.honest device.new }
+        ensures moves { MovesWith self.old id AwaitsFrame (fault_of result) self.new }
+        ensures idle { ((need : Need) → ¬ WaitsFor self.old id need)
+            → (self.new ≡ self.old) × (device.new ≡ device.old) × (result ≡ Ok 0) }
+        ensures provides { (need : Need) → WaitsFor self.old id need → IfOk result (λ left.
+            ProvidesTruly self.old.space id.place need left self.new.space) }
+        ensures right { (need : Need) → WaitsFor self.old id need → IfOk result (λ left.
+            IsProvided self.old.space id.place need left self.new.space) }
+        ensures fails { (need : Need) → WaitsFor self.old id need → OnErr result
+            (FailsTruly self.old.space id.place need self.new.space) }
+        ensures others { OthersKeepMinimum self.old.space id.place self.new.space }
+        ensures writes { IfOk result (λ left. D.writes device.new ≡ D.writes device.old + left) }
+        ensures ok { OnOk result (D.faults device.new ≡ D.faults device.old) }
+        ensures err { IfErr result (λ fault. D.faults device.new ≡ fault ∷ D.faults device.old) }
+    {
+        let Some(resident) = self.residents.get_mut(id.place) else {
+            return Ok(0);
+        };
+        if !resident.has_number(id.number) {
+            return Ok(0);
+        }
+        if !resident.tenant.awaits_frame() {
+            return Ok(0);
+        }
+        let fault = match provide(&mut self.memory, device, id.place, buf) {
+            Ok(left) => return Ok(left),
+            Err(fault) => fault,
+        };
+        let _ = resident.tenant.fail(fault);
+        Err(fault)
+    }
+}
