@@ -55,10 +55,10 @@ stands_on settings e m m2 h2 w2 s is2 knows2 (calls_of i g calls at) = record {
 pub whole_of : (h h2 : HostState) (w w2 : World) → IsHost h w → IsHost h2 w2 → StaysWhole h.space h2.space → StaysWhole w.space w2.space
 whole_of h h2 w w2 is is2 whole = subst (λ s. StaysWhole w.space s) is2.space (subst (λ s. StaysWhole s h2.space) is.space whole)
 
-id_of : (x : Guest) (i : ℕ) → x.id.number ≡ i → x.id ≡ record { place = x.id.place; number = i }
+pub id_of : (x : Guest) (i : ℕ) → x.id.number ≡ i → x.id ≡ record { place = x.id.place; number = i }
 id_of x i e = ap (λ n. record { place = x.id.place; number = n }) e
 
-own_number : (e : Engine) (m : Made) (settings : Settings) (i : ℕ) (x : Guest) → Stands settings e m → slice_get e.guests.items i ≡ Some x → x.id.number ≡ i
+pub own_number : (e : Engine) (m : Made) (settings : Settings) (i : ℕ) (x : Guest) → Stands settings e m → slice_get e.guests.items i ≡ Some x → x.id.number ≡ i
 own_number e m settings i x s at = let n = guest_at 0 e.guests.items m.guests i x s.guests at in omega (arith, n)
 
 pub asked : (asks : World → InstId → CallAnswer → World → Type 0) (command : Command) (reply : CallAnswer → Reply) (name : List ℕ) → IsAsked asks command reply name

@@ -83,3 +83,23 @@ pub placed_at : (xs : List Guest) (i : ℕ) (x : Guest) → slice_get xs i ≡ S
 placed_at [] i x e = absurd (cc e)
 placed_at (y ∷ xs) zero x e = let is : y ≡ x = cc e in ap (λ (z : Guest). Some z.id.place) is
 placed_at (y ∷ xs) (suc i) x e = placed_at xs i x e
+
+pub guest_of : (k : ℕ) (xs : List Guest) (gs : List made.Guest) (i : ℕ) (x : Guest) → AreGuests k xs gs → slice_get xs i ≡ Some x → (g : made.Guest) × (slice_get gs i ≡ Some g)
+guest_of k [] gs i x are e = absurd (cc e)
+guest_of k (y ∷ xs) [] i x are e = absurd are
+guest_of k (y ∷ xs) (g ∷ gs) zero x are e = (g, refl)
+guest_of k (y ∷ xs) (g ∷ gs) (suc i) x are e = guest_of (k + 1) xs gs i x are.1 e
+
+-- ---- where calls are touched
+
+pub touched_modules : (m m1 : Made) → TouchesCalls m m1 → m1.modules ≡ m.modules
+touched_modules m _ nothing = refl
+touched_modules m _ (calls_of i g calls at) = refl
+
+pub touched_names : (m m1 : Made) → TouchesCalls m m1 → map (λ (x : made.Guest). x.name) m1.guests ≡ map (λ (x : made.Guest). x.name) m.guests
+touched_names m _ nothing = refl
+touched_names m _ (calls_of i g calls at) = names_stay m.guests i g (record g { calls = calls }) at refl
+
+pub touched_guests : (xs : List Guest) (m m1 : Made) → TouchesCalls m m1 → AreGuests 0 xs m.guests → AreGuests 0 xs m1.guests
+touched_guests xs m _ nothing are = are
+touched_guests xs m _ (calls_of i g calls at) are = guests_stay 0 xs m.guests i g calls are at

@@ -61,10 +61,12 @@ ok_says name id answer is = subst (λ a. SaysModule name a (module_ok name)) (sy
 kept_stands : (settings : Settings) (e : Engine) (m : Made) (name bytes : List ℕ) (h2 : HostState) (names : Names) (k : ℕ) → Stands settings e m
     → ((other : List ℕ) → number_of names other ≡ update bytes_eq (number_of e.module_names) name (Some e.modules) other)
     → (e.modules < most_modules → k ≡ e.modules + 1)
-    → (m2 : Made) (w2 : World) → ReceivesModule true m name bytes (module_ok name) m2 → IsHost h2 w2
+    → (m2 : Made) (w2 : World) (reply : Reply) → reply ≡ module_ok name → ReceivesModule true m name bytes reply m2 → IsHost h2 w2
     → Knows settings w2 m2 (map (λ (x : Guest). x.id.place) e.guests.items)
-    → TakesModule settings m name bytes (module_ok name) (with_modules e h2 names k)
-kept_stands settings e m name bytes h2 names k s sets counts _ w2 (module_is_kept {spelled} accepted few) is2 knows2 =
+    → TakesModule settings m name bytes reply (with_modules e h2 names k)
+kept_stands settings e m name bytes h2 names k s sets counts _ w2 _ is (module_isnt_kept turns_down) is2 knows2 = absurd (cc is)
+kept_stands settings e m name bytes h2 names k s sets counts _ w2 _ is (module_is_wanting scarce wants) is2 knows2 = absurd (cc is)
+kept_stands settings e m name bytes h2 names k s sets counts _ w2 _ is (module_is_kept {m = spelled} accepted few) is2 knows2 =
     let new : NamedModule = record { name = name; m = spelled } in
     let after : Made = record m { modules = m.modules ++ new ∷ [] } in
     let k_is : k ≡ e.modules + 1 = counts (subst (λ n. n < most_modules) (sym s.modules) few) in
@@ -96,12 +98,13 @@ with_names settings e m h2 names w2 s are is2 knows2 = record {
 
 none_stands : (settings : Settings) (e : Engine) (m : Made) (name bytes : List ℕ) (h2 : HostState) (names : Names) (why : Refusal) → Stands settings e m
     → AreNames (number_of names) (map label m.modules)
-    → (m2 : Made) (w2 : World) → ReceivesModule true m name bytes (module_refused name why) m2 → IsHost h2 w2
+    → (m2 : Made) (w2 : World) (reply : Reply) → reply ≡ module_refused name why → ReceivesModule true m name bytes reply m2 → IsHost h2 w2
     → Knows settings w2 m2 (map (λ (x : Guest). x.id.place) e.guests.items)
-    → TakesModule settings m name bytes (module_refused name why) (with_modules e h2 names e.modules)
-none_stands settings e m name bytes h2 names why s are _ w2 (module_isnt_kept turns_down) is2 knows2 =
+    → TakesModule settings m name bytes reply (with_modules e h2 names e.modules)
+none_stands settings e m name bytes h2 names why s are _ w2 _ is (module_is_kept accepted few) is2 knows2 = absurd (cc is)
+none_stands settings e m name bytes h2 names why s are _ w2 _ is (module_isnt_kept turns_down) is2 knows2 =
     (m, module_isnt_kept turns_down, with_names settings e m h2 names w2 s are is2 knows2)
-none_stands settings e m name bytes h2 names why s are _ w2 (module_is_wanting scarce wants) is2 knows2 =
+none_stands settings e m name bytes h2 names why s are _ w2 _ is (module_is_wanting scarce wants) is2 knows2 =
     (m, module_is_wanting scarce wants, with_names settings e m h2 names w2 s are is2 knows2)
 
 -- it was kept
@@ -112,7 +115,7 @@ pub takes_kept : (settings : Settings) (e : Engine) (m : Made) (name bytes : Lis
     → TakesModule settings m name bytes (module_ok name) (with_modules e h2 names k)
 takes_kept settings e m name bytes h2 names k id s answers sets counts =
     let got = law_of settings e m name bytes h2 (Ok id) (module_ok name) s answers (λ answer is. ok_says name id answer is) in
-    kept_stands settings e m name bytes h2 names k s sets counts got.0 got.1 got.2 got.3 got.4
+    kept_stands settings e m name bytes h2 names k s sets counts got.0 got.1 (module_ok name) refl got.2 got.3 got.4
 
 -- it wasn't, and has no name again
 pub takes_none : (settings : Settings) (e : Engine) (m : Made) (name bytes : List ℕ) (h2 : HostState) (given names : Names) (error : ModuleError) (why : Refusal) → Stands settings e m
@@ -125,4 +128,4 @@ pub takes_none : (settings : Settings) (e : Engine) (m : Made) (name bytes : Lis
 takes_none settings e m name bytes h2 given names error why s free answers sets clears says =
     let got = law_of settings e m name bytes h2 (Err error) (module_refused name why) s answers says in
     let are = unnamed (number_of e.module_names) (number_of given) (number_of names) (map label m.modules) name (Some e.modules) s.module_names free sets clears in
-    none_stands settings e m name bytes h2 names why s are got.0 got.1 got.2 got.3 got.4
+    none_stands settings e m name bytes h2 names why s are got.0 got.1 (module_refused name why) refl got.2 got.3 got.4
