@@ -6,3 +6,4 @@ mod Hosts
 mod Requests
 mod Comers
 mod Paged
+mod Carrying

@@ -11,7 +11,7 @@ use Rattle.wh_host_model.specs.Space.Provide.{FailsTruly, ProvidesTruly}
 use Rattle.wh_host_model.specs.Space.Sound.{IsSound}
 use Rattle.wh_host_model.specs.Space.Tickets.{StandsForFrame}
 use Rattle.wh_host_model.specs.Host.Events.{Event, provide}
-use Rattle.wh_host_model.specs.Host.Happens.{AwaitsFrame, Happens, IsLive, MovesPages, NoInstance, has_failed, moved}
+use Rattle.wh_host_model.specs.Host.Happens.{AwaitsFrame, Happens, IsLive, MovesPages, OnlyMoves, has_failed, moved}
 use Rattle.wh_host_model.specs.Host.Spaces.{AllLeftAlone}
 use Rattle.wh_host_model.specs.Host.Standing.{FirstStandsDuly, StandsDuly}
 use Rattle.wh_host_model.specs.Host.Worlds.{Doing, Entry, Suspension, Tenant, World, for_device, for_frame, store_in, tenant, with_tenant}
@@ -85,6 +85,12 @@ told_of h w id x false P st at number asked =
 
 -- ---- pages move
 
+pub alone_on : (a b c : Space) → AllLeftAlone a b → AllLeftAlone b c → AllLeftAlone a c
+alone_on a b c first second = (
+  λ j. let x = first.0 j in let y = second.0 j in record { view = y.view ∙ x.view; wants = y.wants ∙ x.wants; claim = y.claim ∙ x.claim },
+  second.1,
+)
+
 pub moved_as : (h : HostState) (w : World) (id : InstId) (awaits : Tenant → Type 0) (fault : Option SwapError) (e : Event) (s2 : Space) → (st : IsHost h w) → AllLeftAlone w.space s2 → (fault ≡ None) ⊎ ((t : Tenant) → IsLive w id t → ¬ (awaits t))
     → ((w2 : World) → MovesPages w id awaits fault w2 → Happens w e w2) → (w2 : World) × MovesPages w id awaits fault w2 × IsHost (record h { space = s2 }) w2
 moved_as h w id awaits fault e s2 st same none happens =
@@ -93,13 +99,12 @@ moved_as h w id awaits fault e s2 st same none happens =
     (w2, moves, moved_host h w s2 st same (reached_on w w2 e st.reached (happens w2 moves)))
 
 -- a fault is kept
-pub KeepsFaultAt : TenantState → (Tenant → Type 0) → SwapError → TenantState → Type 0
+abbrev pub KeepsFaultAt : TenantState → (Tenant → Type 0) → SwapError → TenantState → Type 0
 KeepsFaultAt x awaits fault z = OfAnyTenant x (λ l limit bytes t. awaits t × IsTenant l limit z bytes (record t { stands_for = Some (for_device fault) }))
 
 pub fault_here : (h : HostState) (w : World) (id : InstId) (x : Resident) (z : TenantState) (awaits : Tenant → Type 0) (fault : SwapError) (e : Event) (s2 : Space) → (st : IsHost h w) → resident_at h.residents id.place ≡ Some x → x.number ≡ Some id.number → AllLeftAlone w.space s2
     → KeepsFaultAt x.tenant awaits fault z → ((w2 : World) → MovesPages w id awaits (Some fault) w2 → Happens w e w2)
     → (w2 : World) × MovesPages w id awaits (Some fault) w2 × IsHost (record h { residents = slice_set h.residents id.place (Some (record x { tenant = z })); space = s2 }) w2
-unfolding KeepsFaultAt
 fault_here h w id x z awaits fault e s2 st at number same keeps happens =
     let f = found h w id.place id.number x st at number in
     let made = keeps f.is.loaded.linked x.page_limit (view w.space f.t.place) f.t f.is.is in
@@ -114,7 +119,6 @@ fault_here h w id x z awaits fault e s2 st at number same keeps happens =
 
 -- that of the present call, where it stands for a frame
 pub keeps_fault : (x z : TenantState) (fault : SwapError) (told : Bool) → (told ≡ true → FailsTenant x fault z) → (told ≡ false → AwaitsNoFrame x × (z ≡ x)) → OfAnyTenant x (λ l limit bytes t. AwaitsFrame t) → KeepsFaultAt x AwaitsFrame fault z
-unfolding KeepsFaultAt
 keeps_fault x z fault true some none waits l limit bytes t is = some refl l limit bytes t is
 keeps_fault x z fault false some none waits l limit bytes t is = absurd ((none refl).0 l limit bytes t is (waits l limit bytes t is))
 
@@ -146,3 +150,12 @@ failed_here h w id x z fault s2 st at number waits none made keeps =
 -- nothing is done
 pub nothing_moves : (h : HostState) (w : World) (id : InstId) (awaits : Tenant → Type 0) → (st : IsHost h w) → (w2 : World) × MovesPages w id awaits None w2 × IsHost h w2
 nothing_moves h w id awaits st = (w, moved (λ j. record { view = refl; wants = refl; claim = refl }, sound_here h w st) (inl refl), st)
+
+pub only_moved : (h : HostState) (w : World) (e : Event) (s2 : Space) → (st : IsHost h w) → AllLeftAlone w.space s2 → ((w2 : World) → OnlyMoves w w2 → Happens w e w2) → (w2 : World) × OnlyMoves w w2 × IsHost (record h { space = s2 }) w2
+only_moved h w e s2 st same happens =
+    let w2 : World = record w { space = s2 } in
+    let moves : OnlyMoves w w2 = (s2, same, refl) in
+    (w2, moves, moved_host h w s2 st same (reached_on w w2 e st.reached (happens w2 moves)))
+
+pub only_nothing : (h : HostState) (w : World) → (st : IsHost h w) → (w2 : World) × OnlyMoves w w2 × IsHost h w2
+only_nothing h w st = (w, (w.space, (λ j. record { view = refl; wants = refl; claim = refl }, sound_here h w st), refl), st)

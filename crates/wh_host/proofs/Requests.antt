@@ -57,7 +57,7 @@ lives_there h w place i x st at number =
     let claims = (places w st.reached).claimed i f.t f.live in
     subst (λ s. (o : Occupant) × occupant_at s place o × (o.live ≡ true)) (sym st.space) (claimed_there w.space place (promised i f.t.params) (ap (claim w.space) (sym f.at) ∙ claims))
 
-get_mapped : {A B : Type 0} (f : A → B) (xs : List A) (i : ℕ) (x : A) → slice_get xs i ≡ Some x → slice_get (map f xs) i ≡ Some (f x)
+pub get_mapped : {A B : Type 0} (f : A → B) (xs : List A) (i : ℕ) (x : A) → slice_get xs i ≡ Some x → slice_get (map f xs) i ≡ Some (f x)
 get_mapped f [] i x e = absurd (cc e)
 get_mapped f (y ∷ xs) zero x e = ap Some (ap f (one_value y x e))
 get_mapped f (y ∷ xs) (suc i) x e = get_mapped f xs i x e

@@ -1,4 +1,5 @@
 pub mod Backing
+pub mod Carried
 pub mod Lying
 pub mod Lent
 pub mod Hosting

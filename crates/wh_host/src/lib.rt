@@ -16,11 +16,13 @@ mod providing;
 mod releasing;
 #[cfg(test)]
 mod tests;
+mod transit;
 mod turning;
 
 pub use error::{HostError, ModuleError};
 pub use host::Host;
 pub use loading::MOST_MODULES;
 pub use parts::ModuleId;
+pub use transit::{Eviction, Fetch};
 pub use turning::turn_at;
 pub use wh_admit::{AdmitError, Params};

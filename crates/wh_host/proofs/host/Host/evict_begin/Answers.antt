@@ -1,0 +1,74 @@
+use Rattle.std.proofs.Common.{◌≡◌, [], Some, None, sym, ap, subst}
+use Rattle.wh_host_model.specs.Space.Tickets.{BeginsEvict}
+use Rattle.wh_host.specs.Hosting.{HostState, IsHost}
+use Rattle.wh_host.proofs.Carrying.{evict_begun, evicting_out}
+use Rattle.wh_host.proofs.Paged.{only_nothing}
+use Rattle.wh_host.proofs.host.Host.evict_begin.Goals as goal
+
+pub returns-in_default-clause-moves : goal.returns-in_default-clause-moves
+returns-in_default-clause-moves c w st =
+    only_nothing c.args.self.now w st
+
+pub returns-in_default-clause-begins : goal.returns-in_default-clause-begins
+returns-in_default-clause-begins c need waits =
+    absurd (c.in_default.ensures need waits)
+
+pub invariant_of-self : goal.invariant_of-self
+invariant_of-self c =
+    let i = c.self.inside in
+    let h : HostState = record { modules = i.modules.items; residents = i.residents.slots; live = i.live; space = i.memory; next = i.next } in
+    let inv = c.self.invariant in
+    let made = evict_begun h inv.0 c.args.id None [] c.evict_begin.new.memory inv.1 c.in-Err.ensures.begins in
+    (made.0, made.2)
+
+pub returns-in-Err-clause-moves : goal.returns-in-Err-clause-moves
+returns-in-Err-clause-moves c w st =
+    let i = c.self.inside in
+    let h : HostState = record { modules = i.modules.items; residents = i.residents.slots; live = i.live; space = i.memory; next = i.next } in
+    let here = subst (λ z. IsHost z w) (sym c.self.view_is) st in
+    evict_begun h w c.args.id None [] c.evict_begin.new.memory here c.in-Err.ensures.begins
+
+pub returns-in-Err-clause-begins : goal.returns-in-Err-clause-begins
+returns-in-Err-clause-begins c need waits =
+    let i = c.self.inside in
+    let h : HostState = record { modules = i.modules.items; residents = i.residents.slots; live = i.live; space = i.memory; next = i.next } in
+    let space : h.space ≡ c.args.self.now.space = ap (λ (z : HostState). z.space) c.self.view_is in
+    subst (λ s. BeginsEvict s c.args.id.place None [] c.evict_begin.new.memory) space c.in-Err.ensures.begins
+
+pub returns-in-Err-clause-idle : goal.returns-in-Err-clause-idle
+returns-in-Err-clause-idle c none =
+    absurd (none c.in-Some.ensures.0.0 c.in-Some.ensures.0.1)
+
+pub invariant_of-self-2 : goal.invariant_of-self-2
+invariant_of-self-2 c =
+    let i = c.self.inside in
+    let h : HostState = record { modules = i.modules.items; residents = i.residents.slots; live = i.live; space = i.memory; next = i.next } in
+    let inv = c.self.invariant in
+    let made = evict_begun h inv.0 c.args.id (Some c.in-Ok.ticket.slot) c.in-Ok.ticket.bytes c.evict_begin.new.memory inv.1 c.in-Ok.ensures.begins in
+    (made.0, made.2)
+
+pub returns-clause-moves : goal.returns-clause-moves
+returns-clause-moves c w st =
+    let i = c.self.inside in
+    let h : HostState = record { modules = i.modules.items; residents = i.residents.slots; live = i.live; space = i.memory; next = i.next } in
+    let here = subst (λ z. IsHost z w) (sym c.self.view_is) st in
+    evict_begun h w c.args.id (Some c.in-Ok.ticket.slot) c.in-Ok.ticket.bytes c.evict_begin.new.memory here c.in-Ok.ensures.begins
+
+pub returns-clause-begins : goal.returns-clause-begins
+returns-clause-begins c need waits =
+    let i = c.self.inside in
+    let h : HostState = record { modules = i.modules.items; residents = i.residents.slots; live = i.live; space = i.memory; next = i.next } in
+    let space : h.space ≡ c.args.self.now.space = ap (λ (z : HostState). z.space) c.self.view_is in
+    subst (λ s. BeginsEvict s c.args.id.place (Some c.in-Ok.ticket.slot) c.in-Ok.ticket.bytes c.evict_begin.new.memory) space c.in-Ok.ensures.begins
+
+pub returns-clause-idle : goal.returns-clause-idle
+returns-clause-idle c none =
+    absurd (none c.in-Some.ensures.0.0 c.in-Some.ensures.0.1)
+
+pub returns-clause-call : goal.returns-clause-call
+returns-clause-call c =
+    c.in-Some.ensures.1
+
+pub returns-clause-out : goal.returns-clause-out
+returns-clause-out c =
+    evicting_out c.evict_begin.new.memory c.in-Ok.ticket.slot c.in-Ok.ensures.out

@@ -1,0 +1,247 @@
+//! Pages that leave and come by tickets, with a device call between for which nobody waits.
+
+ghost use Rattle.std.specs.Prelude.{◌≡◌, ◌≢◌, ℕ, [], None, Some, IfErr, IfOk, IsErr, OnOk, MatchOption, get_or, is_ok};
+ghost use Rattle.wh_host_model.specs.Host.Happens.{AwaitsFrameFor};
+ghost use Rattle.wh_host_model.specs.Space.Errands.{to_read, to_write};
+ghost use Rattle.wh_host_model.specs.Space.Places.{IsFreePlace};
+ghost use Rattle.wh_host_model.specs.Space.Tickets.{BeginsEvict, BeginsFetch, CommitsFetch};
+ghost use Rattle.wh_model.specs.declared.memory.Need.{Need};
+ghost use Rattle.wh_space.specs.Errands.{ticket_place};
+ghost use Rattle.wh_host.specs.Carried.{EndsEvict, IsOut, IsPresentCall, KeepsFault, OnlyReleasedGo, bytes_to_write, evict_fault, fetch_fault, slot_to_read, slot_to_write};
+ghost use Rattle.wh_host.specs.Hosting.{resident_at};
+ghost use Rattle.wh_host.specs.Paging.{MovesOnly, MovesWith, WaitsFor};
+ghost use Rattle.wh_host.specs.declared.parts.Resident.{Resident as OneResident};
+
+use crate::host::Host;
+use crate::parts::Resident;
+use slab::Slab;
+use wh_host_model::{EvictEnd, FetchEnd, InstId, SwapError};
+use wh_reclaim::{
+    Buf, EvictTicket, FetchTicket, evict_begin, evict_commit, fetch_begin, fetch_commit,
+};
+use wh_space::Memory;
+
+/// A page is leaving for the next step of an instance. Its bytes are to be written to the ticket's slot, and it is to be
+/// brought back to `evict_commit`: it can't be copied, and not be let go.
+pub struct Eviction {
+    /// For whom it was begun.
+    pub id: InstId,
+    /// The place in its journal of the call for which it was.
+    pub call: usize,
+    /// The slot that is to be written, and the bytes.
+    pub ticket: EvictTicket,
+}
+
+/// A page is coming for the next step of an instance. The ticket's slot is to be read into its buffer, and it is to be
+/// brought back to `fetch_commit`: it can't be copied, and not be let go.
+pub struct Fetch {
+    /// For whom it was begun.
+    pub id: InstId,
+    /// The place in its journal of the call for which it was.
+    pub call: usize,
+    /// The slot that is to be read, and the buffer.
+    pub ticket: FetchTicket,
+}
+
+// The device's fault, where that is what the ticket came to.
+fn fault_of_evict(end: EvictEnd, device: Result<(), SwapError>) -> Option<SwapError>
+    ensures { result ≡ evict_fault end device }
+{
+    match (end, device) {
+        (EvictEnd::Failed, Err(fault)) => Some(fault),
+        _ => None,
+    }
+}
+
+fn fault_of_fetch(end: FetchEnd, device: Result<(), SwapError>) -> Option<SwapError>
+    ensures { result ≡ fetch_fault end device }
+{
+    match (end, device) {
+        (FetchEnd::Failed, Err(fault)) => Some(fault),
+        _ => None,
+    }
+}
+
+// Keeps the fault with this call of the instance, while that is its present one and stands for a frame.
+fn keep_fault(residents: &mut Slab<Resident>, id: InstId, call: usize, fault: Option<SwapError>)
+    ensures { KeepsFault residents.old.slots id call fault residents.new.slots }
+{
+    let Some(fault) = fault else {
+        return;
+    };
+    let Some(resident) = residents.get_mut(id.place) else {
+        return;
+    };
+    if !resident.has_number(id.number) {
+        return;
+    }
+    if !resident.tenant.awaits_frame() {
+        return;
+    }
+    if resident.tenant.present_call() != call {
+        return;
+    }
+    let _ = resident.tenant.fail(fault);
+}
+
+// Gives up the place of an instance that was released, where the memory has it free.
+fn leave_released(residents: &mut Slab<Resident>, memory: &Memory, place: Option<u32>)
+    ensures stays { OnlyReleasedGo residents.old.slots residents.new.slots }
+    ensures leaves { (at : ℕ) → place ≡ Some at → IsFreePlace memory.now at → (x : OneResident)
+        → resident_at residents.new.slots at ≡ Some x → x.number ≢ None }
+{
+    let Some(place) = place else {
+        return;
+    };
+    let place = place as usize;
+    if !memory.is_free(place) {
+        return;
+    }
+    let Some(resident) = residents.get(place) else {
+        return;
+    };
+    if resident.number.is_some() {
+        return;
+    }
+    let _ = residents.try_remove(place);
+}
+
+// The device has been called for the ticket, and it comes back to the memory.
+fn end_eviction(
+    memory: &mut Memory,
+    ticket: EvictTicket,
+    device: Result<(), SwapError>,
+) -> (EvictEnd, Buf)
+    requires { IsOut memory.old ticket.slot to_write }
+    ensures ends { EndsEvict memory.old ticket.slot (is_ok device) ticket.bytes result.0 memory.new }
+    ensures back { result.1.value ≡ ticket.bytes }
+{
+    memory.known();
+    memory.written(ticket.slot(), ticket.bytes(), device.is_ok());
+    evict_commit(memory, ticket, device)
+}
+
+impl Host {
+    // The place in its journal of the present call of the instance, where that stands for a frame.
+    fn waiting_call(&self, id: InstId) -> Option<usize>
+        ensures { MatchOption result ((need : Need) → ¬ WaitsFor self.now id need)
+            (λ call. ((need : Need) × WaitsFor self.now id need) × IsPresentCall self.now id call) }
+    {
+        let Some(resident) = self.residents.get(id.place) else {
+            return None;
+        };
+        if !resident.has_number(id.number) {
+            return None;
+        }
+        if !resident.tenant.awaits_frame() {
+            return None;
+        }
+        Some(resident.tenant.present_call())
+    }
+
+    /// A page begins to leave for the next step of the instance, where its present call stands for a frame: that of the one
+    /// that pays, or where nobody has to pay one of its own. No byte of any page changes.
+    ///
+    /// # Errors
+    /// The buffer, where the call doesn't stand for a frame, its step lacks no frame, no slot is vacant or no page has to
+    /// leave.
+    pub fn evict_begin(&mut self, id: InstId, buf: Buf) -> Result<Eviction, Buf>
+        ensures moves { MovesOnly self.old self.new }
+        ensures begins { (need : Need) → WaitsFor self.old id need → BeginsEvict self.old.space id.place
+            (slot_to_write result) (bytes_to_write result) self.new.space }
+        ensures idle { ((need : Need) → ¬ WaitsFor self.old id need)
+            → (self.new ≡ self.old) × IsErr result }
+        ensures whom { IfOk result (λ eviction. eviction.id ≡ id) }
+        ensures call { IfOk result (λ eviction. IsPresentCall self.old id eviction.call) }
+        ensures out { IfOk result (λ eviction. IsOut self.new.space eviction.ticket.slot to_write) }
+        ensures back { IfErr result (λ back. back ≡ buf) }
+    {
+        let Some(call) = self.waiting_call(id) else {
+            return Err(buf);
+        };
+        let ticket = match evict_begin(&mut self.memory, id.place, buf) {
+            Ok(ticket) => ticket,
+            Err(buf) => return Err(buf),
+        };
+        Ok(Eviction { id, call, ticket })
+    }
+
+    /// The first page that lies in a slot of the next step of the instance begins to come, where its present call stands for
+    /// a frame. No byte of any page changes.
+    ///
+    /// # Errors
+    /// The buffer, where the call doesn't stand for a frame, no page of its step lies in a slot, or no frame is free or
+    /// earmarked for it.
+    pub fn fetch_begin(&mut self, id: InstId, buf: Buf) -> Result<Fetch, Buf>
+        ensures moves { MovesOnly self.old self.new }
+        ensures begins { (need : Need) → WaitsFor self.old id need → BeginsFetch self.old.space id.place
+            (slot_to_read result) self.new.space }
+        ensures idle { ((need : Need) → ¬ WaitsFor self.old id need)
+            → (self.new ≡ self.old) × IsErr result }
+        ensures whom { IfOk result (λ fetched. fetched.id ≡ id) }
+        ensures call { IfOk result (λ fetched. IsPresentCall self.old id fetched.call) }
+        ensures out { IfOk result (λ fetched. IsOut self.new.space fetched.ticket.slot to_read) }
+        ensures back { IfErr result (λ back. back ≡ buf) }
+    {
+        let Some(call) = self.waiting_call(id) else {
+            return Err(buf);
+        };
+        let ticket = match fetch_begin(&mut self.memory, id.place, buf) {
+            Ok(ticket) => ticket,
+            Err(buf) => return Err(buf),
+        };
+        Ok(Fetch { id, call, ticket })
+    }
+
+    /// A page that was leaving: its ticket comes back with what the device answered to its write, and the buffer with it. The
+    /// answer is `Void` where the page was written meanwhile or its instance released, `Failed` where the device failed,
+    /// `Evicted` where the page is in its slot, and `Void` else. At `Failed` the fault is kept with the call for which it was
+    /// begun, while that is there and stands for a frame. The place of an instance that was released is given up with its
+    /// last ticket.
+    pub fn evict_commit(
+        &mut self,
+        eviction: Eviction,
+        device: Result<(), SwapError>,
+    ) -> (EvictEnd, Buf)
+        requires { IsOut self.old.space eviction.ticket.slot to_write }
+        ensures moves { MovesWith self.old eviction.id (AwaitsFrameFor eviction.call)
+            (evict_fault result.0 device) self.new }
+        ensures ends { EndsEvict self.old.space eviction.ticket.slot (is_ok device)
+            eviction.ticket.bytes result.0 self.new.space }
+        ensures leaves { (at : ℕ) → ticket_place self.old.space eviction.ticket.slot ≡ Some at
+            → IsFreePlace self.new.space at → resident_at self.new.residents at ≡ None }
+        ensures back { result.1.value ≡ eviction.ticket.bytes }
+    {
+        let Eviction { id, call, ticket } = eviction;
+        let place = self.memory.ticket_place(ticket.slot());
+        let (end, buf) = end_eviction(&mut self.memory, ticket, device);
+        keep_fault(&mut self.residents, id, call, fault_of_evict(end, device));
+        leave_released(&mut self.residents, &self.memory, place);
+        (end, buf)
+    }
+
+    /// A page that was coming: its ticket comes back with what the device answered to its read, and the buffer with it, which
+    /// holds what the slot holds where that was Ok. The answer is `Void` where its instance was released, `Fetched`, and the
+    /// page has these bytes, where the device answered Ok, and `Failed` else, and it lies in its slot as before. At `Failed`
+    /// the fault is kept with the call for which it was begun, while that is there and stands for a frame. The place of an
+    /// instance that was released is given up with its last ticket.
+    pub fn fetch_commit(&mut self, fetched: Fetch, device: Result<(), SwapError>) -> (FetchEnd, Buf)
+        requires out { IsOut self.old.space fetched.ticket.slot to_read }
+        requires read { OnOk device (get_or self.old.space.slots.held fetched.ticket.slot []
+            ≡ fetched.ticket.bytes) }
+        ensures moves { MovesWith self.old fetched.id (AwaitsFrameFor fetched.call)
+            (fetch_fault result.0 device) self.new }
+        ensures ends { CommitsFetch self.old.space fetched.ticket.slot (is_ok device)
+            fetched.ticket.bytes result.0 self.new.space }
+        ensures leaves { (at : ℕ) → ticket_place self.old.space fetched.ticket.slot ≡ Some at
+            → IsFreePlace self.new.space at → resident_at self.new.residents at ≡ None }
+        ensures back { result.1.value ≡ fetched.ticket.bytes }
+    {
+        let Fetch { id, call, ticket } = fetched;
+        let place = self.memory.ticket_place(ticket.slot());
+        let (end, buf) = fetch_commit(&mut self.memory, ticket, device);
+        keep_fault(&mut self.residents, id, call, fault_of_fetch(end, device));
+        leave_released(&mut self.residents, &self.memory, place);
+        (end, buf)
+    }
+}
