@@ -1,0 +1,58 @@
+-- What a script knows of the host that runs its calls.
+use Rattle.std.specs.Prelude.{◌≡◌, ◌≢◌, ℕ, ◌+◌, ◌-◌, true, List, length, Option, Some, None}
+use Rattle.std.specs.List.{AllZip}
+use Rattle.wh_model.specs.Execution.Replay.{Call}
+use Rattle.wh_host_model.specs.declared.plain.SwapError.{SwapError}
+use Rattle.wh_host_model.specs.Space.Errands.{tickets}
+use Rattle.wh_host_model.specs.Space.Parts.{Space, minima, spreads}
+use Rattle.wh_host_model.specs.Host.Worlds.{for_device, Tenant, Loaded, World, journal, journal_calls}
+use Rattle.wh_host_model.specs.Lines.Settings.{Settings}
+use Rattle.wh_host_model.specs.Lines.Made.{NamedModule, Guest, Made, live_sum}
+use Rattle.wh_host_model.specs.Lines.Drains.{ComesTo}
+use Rattle.wh_host_model.specs.Lines.Served.{IsTenantOf}
+
+-- how the calls that a script knows and those of a journal go together: they are the same, or those of the journal have
+-- come further
+abbrev pub AreSame : List Call → List Call → Type 0
+AreSame known calls = known ≡ calls
+
+abbrev pub ComeFurther : List Call → List Call → Type 0
+ComeFurther = AllZip ComesTo
+
+-- An instance of a script is that of the host, whose present call has met no fault of a device; or it was released.
+pub data IsFollowed (come : List Call → List Call → Type 0) (w : World) (g : Guest) : Option Tenant → Type 0 where
+  is_there : {t : Tenant} → IsTenantOf w t g → come g.calls (journal_calls (journal t))
+      → ((fault : SwapError) → t.stands_for ≢ Some (for_device fault)) → IsFollowed come w g (Some t)
+  is_gone : g.is_released ≡ true → IsFollowed come w g None
+
+-- an instance that is there has this place
+abbrev pub IsPlaced : ℕ → Option Tenant → Type 0
+IsPlaced place None = Unit {0}
+IsPlaced place (Some t) = t.place ≡ place
+
+-- The host has the modules of the script and its instances, each by its number, at these places; it has as many frames
+-- and slots as the settings say, and promised what the instances were given; and no page is on its way.
+pub record Follows (come : List Call → List Call → Type 0) (settings : Settings) (w : World) (m : Made)
+    (places : List ℕ) : Type 0 where
+  pub frames : length w.space.pool.frames ≡ settings.frames
+  pub slots : length w.space.slots.uses ≡ settings.slots
+  pub none_out : tickets w.space ≡ 0
+  pub minima : minima w.space ≡ live_sum (λ p. p.min) m.guests
+  pub spreads : spreads w.space ≡ live_sum (λ p. (p.max - p.min) + 1) m.guests
+  pub modules : AllZip (λ (named : NamedModule) (loaded : Loaded). named.m ≡ loaded.m) m.modules w.modules
+  pub guests : AllZip (IsFollowed come w) m.guests w.tenants
+  pub placed : AllZip IsPlaced places w.tenants
+
+-- and each instance's calls are as the script knows them
+abbrev pub Knows : Settings → World → Made → List ℕ → Type 0
+Knows = Follows AreSame
+
+-- or have come further
+abbrev pub Runs : Settings → World → Made → List ℕ → Type 0
+Runs = Follows ComeFurther
+
+-- no page begins or ends its way, and there are as many frames and slots as before
+pub record StaysWhole (s s2 : Space) : Type 0 where
+  pub frames : length s2.pool.frames ≡ length s.pool.frames
+  pub slots : length s2.slots.uses ≡ length s.slots.uses
+  pub none_out : tickets s2 ≡ tickets s

@@ -1,0 +1,124 @@
+-- How what a script has made follows what happens on the host.
+use Rattle.std.specs.Prelude.{◌≡◌, ℕ, true, List, [], ◌∷◌, ◌++◌, slice_get, Option, Some, None, ℤ}
+use Rattle.std.specs.List.{AllZip}
+use Rattle.wh_host_model.specs.declared.plain.InstId.{InstId}
+use Rattle.wh_host_model.specs.declared.plain.TurnEnd.{TurnEnd}
+use Rattle.wh_host_model.specs.Host.Worlds.{Params, Tenant, World, tenant}
+use Rattle.wh_host_model.specs.Host.Laws.{AfterEvents}
+use Rattle.wh_host_model.specs.Host.Happens.{IsTurn, LoadAnswer, IsLoad, AdmitAnswer, admit_ok, admit_refused, admit_wants_memory, IsAdmit, InvokeAnswer, IsInvoke, CallAnswer, IsRefuel, IsCancel, IsRetry, IsRelease, OnlyMoves}
+use Rattle.wh_host_model.specs.Lines.Settings.{Settings}
+use Rattle.wh_host_model.specs.Lines.Commands.{Command, refuel, cancel, retry, release}
+use Rattle.wh_host_model.specs.Lines.Texts.{Reply}
+use Rattle.wh_host_model.specs.Lines.Made.{NamedModule, Guest, Invoked, Made, HasGuest}
+use Rattle.wh_host_model.specs.Lines.Drains.{RunsAlone, SayStarts}
+use Rattle.wh_host_model.specs.Lines.Served.{IsServed}
+use Rattle.wh_host_model.specs.Lines.Receiving.{ReceivesModule, ReceivesGuest, ReceivesCall}
+use Rattle.wh_host_model.specs.Lines.Answers.{Files, IsObeyed}
+use Rattle.wh_script_model.specs.Following.{Knows, Runs, StaysWhole}
+use Rattle.wh_script_model.specs.Replies.{SaysModule, admit_reply, reception, refuel_reply, cancel_reply, retry_reply, release_reply}
+
+-- ---- commands
+
+-- a module comes
+abbrev pub ModulesFollow : Type 0
+ModulesFollow =
+    AfterEvents (λ w. (settings : Settings) (m : Made) (places : List ℕ) (name bytes : List ℕ) (answer : LoadAnswer) (w2 : World)
+    (reply : Reply) → Knows settings w m places → IsLoad w bytes answer w2 → SaysModule name answer reply
+    → (m2 : Made) × ReceivesModule true m name bytes reply m2 × Knows settings w2 m2 places)
+
+-- the places behind an answer to an admission
+abbrev pub places_after : List ℕ → AdmitAnswer → List ℕ
+places_after places (admit_ok id) = places ++ id.place ∷ []
+places_after places (admit_refused fault) = places
+places_after places admit_wants_memory = places
+
+-- an instance comes, of a module of the script
+abbrev pub GuestsFollow : Type 0
+GuestsFollow =
+    AfterEvents (λ w. (settings : Settings) (m : Made) (places : List ℕ) (k : ℕ) (named : NamedModule) (name : List ℕ) (p : Params)
+    (answer : AdmitAnswer) (w2 : World) → Knows settings w m places → slice_get m.modules k ≡ Some named
+    → IsAdmit w k p answer w2 → StaysWhole w.space w2.space
+    → (m2 : Made) × ReceivesGuest true settings m name named.m p (admit_reply name answer) m2
+    × Knows settings w2 m2 (places_after places answer))
+
+-- a call is asked of an instance
+abbrev pub CallsFollow : Type 0
+CallsFollow =
+    AfterEvents (λ w. (settings : Settings) (m : Made) (places : List ℕ) (i place : ℕ) (g : Guest) (name : List ℕ) (given : List ℤ)
+    (fuel : ℕ) (answer : InvokeAnswer) (w2 : World) → Knows settings w m places → slice_get m.guests i ≡ Some g
+    → slice_get places i ≡ Some place → IsInvoke w (record { place = place; number = i }) name given fuel answer w2
+    → StaysWhole w.space w2.space
+    → (m2 : Made) × ReceivesCall true m i g name fuel given m2
+    × (m2.invoked ≡ m.invoked ++ record { came = reception i answer; said = None } ∷ [])
+    × Knows settings w2 m2 places)
+
+-- the answer to what is asked of the present call of an instance
+abbrev pub IsAsked : (World → InstId → CallAnswer → World → Type 0) → Command → (CallAnswer → Reply) → List ℕ → Type 0
+IsAsked asks command reply name =
+    AfterEvents (λ w. (settings : Settings) (files : Files) (number : ℕ) (m : Made) (places : List ℕ) (i place : ℕ) (g : Guest)
+    (answer : CallAnswer) (w2 : World) → Knows settings w m places → HasGuest m name i g
+    → slice_get places i ≡ Some place → asks w (record { place = place; number = i }) answer w2
+    → StaysWhole w.space w2.space
+    → (m2 : Made) × IsObeyed true settings files m number command (reply answer ∷ []) m2 × Knows settings w2 m2 places)
+
+abbrev pub RefuelsFollow : Type 0
+RefuelsFollow =
+    (name : List ℕ) (n : ℕ)
+    → IsAsked (λ w id answer w2. IsRefuel w id n answer w2) (refuel name n) (refuel_reply name) name
+
+abbrev pub CancelsFollow : Type 0
+CancelsFollow =
+    (name : List ℕ) → IsAsked (λ w id answer w2. IsCancel w id answer w2) (cancel name) (cancel_reply name) name
+
+abbrev pub RetriesFollow : Type 0
+RetriesFollow =
+    (name : List ℕ) → IsAsked (λ w id answer w2. IsRetry w id answer w2) (retry name) (retry_reply name) name
+
+-- an instance goes
+abbrev pub ReleasesFollow : Type 0
+ReleasesFollow =
+    AfterEvents (λ w. (settings : Settings) (files : Files) (number : ℕ) (m : Made) (places : List ℕ) (i place : ℕ) (g : Guest)
+    (name : List ℕ) (answer : Option (List ℕ)) (w2 : World) → Knows settings w m places → HasGuest m name i g
+    → slice_get places i ≡ Some place → IsRelease w (record { place = place; number = i }) answer w2
+    → StaysWhole w.space w2.space
+    → (m2 : Made) × IsObeyed true settings files m number (release name) (release_reply name answer ∷ []) m2
+    × Knows settings w2 m2 places)
+
+-- ---- drains
+
+-- what is known runs from where it is
+abbrev pub DrainsBegin : Type 0
+DrainsBegin =
+    (settings : Settings) (w : World) (m : Made) (places : List ℕ) → Knows settings w m places
+    → Runs settings w m places
+
+-- turns bring calls further
+abbrev pub TurnsFollow : Type 0
+TurnsFollow =
+    AfterEvents (λ w. (settings : Settings) (m : Made) (places : List ℕ) (id : InstId) (q : ℕ) (answer : TurnEnd) (w2 : World)
+    → Runs settings w m places → IsTurn w id q answer w2 → StaysWhole w.space w2.space → Runs settings w2 m places)
+
+-- moves of pages don't, and what is known stays so
+abbrev pub MovesFollow : Type 0
+MovesFollow =
+    AfterEvents (λ w. (settings : Settings) (m : Made) (places : List ℕ) (w2 : World) → OnlyMoves w w2
+    → StaysWhole w.space w2.space
+    → (Knows settings w m places → Knows settings w2 m places) × (Runs settings w m places → Runs settings w2 m places))
+
+-- nobody has a call that can go on
+abbrev pub AllServed : World → Type 0
+AllServed w = (i : ℕ) (t : Tenant) → tenant w i ≡ Some t → IsServed t
+
+-- where nobody has, each instance's calls have run as they do alone
+abbrev pub DrainsEnd : Type 0
+DrainsEnd =
+    AfterEvents (λ w. (settings : Settings) (m : Made) (places : List ℕ) → Runs settings w m places → AllServed w
+    → (run : List Guest) × AllZip RunsAlone m.guests run
+    × Knows settings w (record m { guests = run }) places)
+
+-- to say how calls are changes nothing of that
+abbrev pub SayingFollows : Type 0
+SayingFollows =
+    (settings : Settings) (w : World) (m : Made) (places : List ℕ) (lines : List Reply) (said : List Guest)
+    (invoked : List Invoked) → Knows settings w m places → SayStarts m.guests lines said
+    → Knows settings w (record m { guests = said; invoked = invoked }) places
