@@ -1,0 +1,2 @@
+mod CommandsKnown
+mod Commands
