@@ -180,3 +180,49 @@ live_same w i place t u a b = same_Some t u (sym a.0 ∙ b.0)
 pub not_live : (w : World) (i place : ℕ) (t : Tenant) → slice_get w.tenants i ≡ Some None
     → ¬ (IsLive w (record { place = place; number = i }) t)
 not_live w i place t gone live = none-some t (sym (get_or_is w.tenants i None None gone) ∙ live.0)
+
+-- ---- one instance changes
+
+-- An instance of a script and the one of the host: the same as before but for the calls.
+pub record IsNext (w : World) (g g2 : Guest) (t2 : Tenant) (place : ℕ) : Type 0 where
+  pub params : g2.params ≡ g.params
+  pub gone : g2.is_released ≡ g.is_released
+  pub of_one : IsTenantOf w t2 g2
+  pub calls : g2.calls ≡ journal_calls (journal t2)
+  pub none : (fault : SwapError) → t2.stands_for ≢ Some (for_device fault)
+  pub lies : t2.place ≡ place
+
+-- the calls of one are these now
+pub tenant_calls : (w : World) (t t2 : Tenant) (g : Guest) (calls : List Call) → IsTenantOf w t g → t2.of ≡ t.of
+    → t2.params ≡ t.params → t2.inst ≡ t.inst → calls ≡ journal_calls (journal t2)
+    → IsTenantOf w t2 (record g { calls = calls })
+tenant_calls w t t2 g calls of_one of params inst same = record {
+  loaded = of_one.loaded;
+  is_loaded = ap (slice_get w.modules) of ∙ of_one.is_loaded;
+  of_one = of_one.of_one;
+  params = of_one.params ∙ sym params;
+  inst = of_one.inst ∙ sym inst;
+  is_live = of_one.is_live;
+  calls = all_come calls (journal_calls (journal t2)) same;
+}
+
+pub changed : {settings : Settings} {w : World} {m : Made} {places : List ℕ} (i place : ℕ) (g g2 : Guest) (t2 : Tenant)
+    (s2 : Space) → Knows settings w m places → slice_get m.guests i ≡ Some g → slice_get places i ≡ Some place
+    → StaysWhole w.space s2 → minima s2 ≡ minima w.space → spreads s2 ≡ spreads w.space → IsNext w g g2 t2 place
+    → Knows settings (with_tenant w i (Some t2) s2) (with_guest m i g2) places
+changed {w = w} {m = m} {places = places} i place g g2 t2 s2 known has lies whole least most new =
+    let w2 : World = with_tenant w i (Some t2) s2 in
+    let stay = zip_map (IsFollowed AreSame w) (IsFollowed AreSame w2) m.guests w.tenants
+    (λ h o. followed_there w w2 h o (λ k l e. e)) known.guests in
+    record {
+      frames = whole.frames ∙ known.frames;
+      slots = whole.slots ∙ known.slots;
+      none_out = whole.none_out ∙ known.none_out;
+      minima = least ∙ known.minima ∙ sym (sum_set (λ p. p.min) m.guests i g g2 has new.params new.gone);
+      spreads = most ∙ known.spreads
+          ∙ sym (sum_set (λ p. (p.max - p.min) + 1) m.guests i g g2 has new.params new.gone);
+      modules = known.modules;
+      guests = zip_set (IsFollowed AreSame w2) m.guests w.tenants i g2 (Some t2) stay
+          (is_there (tenant_there w w2 t2 g2 (λ k l e. e) new.of_one) new.calls new.none);
+      placed = zip_over IsPlaced places w.tenants i place (Some t2) known.placed lies new.lies;
+    }

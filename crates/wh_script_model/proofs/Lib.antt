@@ -1,2 +1,5 @@
+mod Journals
+mod SumsChange
 mod CommandsKnown
 mod Commands
+mod CommandsAsked

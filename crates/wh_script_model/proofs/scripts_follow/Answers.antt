@@ -1,5 +1,12 @@
 use Rattle.wh_script_model.proofs.Commands.{modules_follow}
+use Rattle.wh_script_model.proofs.CommandsAsked.{refuels_follow, retries_follow}
 use Rattle.wh_script_model.proofs.scripts_follow.Goals as goal
 
-pub returns : goal.returns
-returns c = record { modules = modules_follow }
+pub returns-clause-modules : goal.returns-clause-modules
+returns-clause-modules c = modules_follow
+
+pub returns-clause-retries : goal.returns-clause-retries
+returns-clause-retries c = retries_follow
+
+pub returns-clause-refuels : goal.returns-clause-refuels
+returns-clause-refuels c = refuels_follow
