@@ -1,17 +1,17 @@
 -- Commands, and what a script knows of its host behind them.
-use Rattle.std.proofs.Common.{◌≡◌, ℕ, ◌+◌, ◌<◌, ◌≤◌, true, List, [], ◌∷◌, ◌++◌, length, slice_get, Option, Some, None, refl, sym, ap, subst, ◌∙◌, arith}
-use Rattle.wh_host_model.specs.Host.Worlds.{Tenant, Loaded, World}
-use Rattle.wh_host_model.specs.Host.Admission.{LoadFault, broken, invalid, unlinked, modules_full, LoadWant, decoder_wants, validator_wants, linker_wants, host_wants, most_modules, RefusesLoad, MayWant, LoadsModule}
-use Rattle.wh_host_model.specs.Host.Happens.{LoadAnswer, IsLoad, is_loaded, isnt_loaded, no_memory_to_load}
+use Rattle.std.proofs.Common.{◌≡◌, ℕ, true, List, [], ◌∷◌, ◌++◌, length, refl, sym, subst, arith}
+use Rattle.wh_host_model.specs.Host.Worlds.{Loaded, World}
+use Rattle.wh_host_model.specs.Host.Admission.{LoadFault, broken, invalid, unlinked, modules_full, LoadWant, decoder_wants, validator_wants, linker_wants, host_wants, RefusesLoad, MayWant, LoadsModule}
+use Rattle.wh_host_model.specs.Host.Happens.{is_loaded, isnt_loaded, no_memory_to_load}
 use Rattle.wh_host_model.specs.Lines.Settings.{Settings}
-use Rattle.wh_host_model.specs.Lines.Texts.{Refusal, Reply, module_ok, module_refused}
-use Rattle.wh_host_model.specs.Lines.Made.{NamedModule, Guest, Made}
+use Rattle.wh_host_model.specs.Lines.Texts.{Refusal, module_ok, module_refused}
+use Rattle.wh_host_model.specs.Lines.Made.{NamedModule, Made}
 use Rattle.wh_host_model.specs.Lines.Receiving as receiving
 use Rattle.wh_host_model.specs.Lines.Receiving.{ReceivesModule}
-use Rattle.wh_script_model.specs.Following.{AreSame, IsFollowed, Follows, Knows}
-use Rattle.wh_script_model.specs.Replies.{SaysWhy, SaysWant, SaysModule}
+use Rattle.wh_script_model.specs.Following.{AreSame, IsFollowed, Knows}
+use Rattle.wh_script_model.specs.Replies.{SaysWhy, SaysWant}
 use Rattle.wh_script_model.specs.Laws.{ModulesFollow}
-use Rattle.wh_script_model.proofs.CommandsKnown.{zip_long, zip_map, zip_last, last_there, HasModulesOf, followed_there, found}
+use Rattle.wh_script_model.proofs.CommandsKnown.{zip_long, zip_map, zip_last, last_there, followed_there}
 
 -- ---- modules
 

@@ -1,11 +1,9 @@
 -- What is asked of the present call of an instance.
-use Rattle.std.proofs.Common.{◌≡◌, ◌≢◌, ℕ, ◌+◌, ◌<◌, ◌≤◌, ◌⊎◌, inl, inr, min, Bool, true, false, List, [], ◌∷◌, ◌++◌, slice_get, Option, Some, None, refl, sym, ap, subst, ◌∙◌, arith}
-use Rattle.std.proofs.lemmas.Option.{none-some, same_Some}
-use Rattle.wh_model.specs.Format.Syntax.{Module}
+use Rattle.std.proofs.Common.{◌≡◌, ◌≢◌, ℕ, inl, inr, true, List, [], ◌∷◌, ◌++◌, slice_get, Option, Some, None, refl, sym, ap, subst, ◌∙◌}
 use Rattle.wh_model.specs.Execution.Replay.{Call}
 use Rattle.wh_host_model.specs.declared.plain.SwapError.{SwapError}
-use Rattle.wh_host_model.specs.Host.Worlds.{Entry, Suspension, for_fuel, for_frame, for_device, Tenant, World, journal, journal_calls, tenant, with_tenant}
-use Rattle.wh_host_model.specs.Host.Calls.{more_fuel, StandsAfter, Refuels, has_more, Retries, may_try}
+use Rattle.wh_host_model.specs.Host.Worlds.{Suspension, for_fuel, for_frame, for_device, Tenant, World, journal, journal_calls, tenant, with_tenant}
+use Rattle.wh_host_model.specs.Host.Calls.{more_fuel, StandsAfter, Refuels, has_more, may_try}
 use Rattle.wh_host_model.specs.Host.Happens as happen
 use Rattle.wh_host_model.specs.Host.Happens.{IsLive, IsRefuel, IsRetry}
 use Rattle.wh_host_model.specs.Host.Journals.{InOrder}
@@ -20,8 +18,8 @@ use Rattle.wh_host_model.proofs.Host.Holding.{journals_are_in_order}
 use Rattle.wh_script_model.specs.Following.{Knows, StaysWhole}
 use Rattle.wh_script_model.specs.Replies.{refuel_reply, retry_reply}
 use Rattle.wh_script_model.specs.Laws.{RefuelsFollow, RetriesFollow}
-use Rattle.wh_script_model.proofs.Journals.{first_is, first_isnt, refueled_is}
-use Rattle.wh_script_model.proofs.CommandsKnown.{IsFound, found_gone, found_live, found, live_same, not_live, IsNext, tenant_calls, changed}
+use Rattle.wh_script_model.proofs.Journals.{ordered, none_open, first_is, refueled_is}
+use Rattle.wh_script_model.proofs.CommandsKnown.{IsFound, found_gone, found_live, found, live_same, not_live, tenant_calls, changed}
 
 -- ---- another try
 
@@ -58,18 +56,6 @@ after_fuel call (Some for_fuel) o2 none (inl a) fault e = let is = a.1 in cc (is
 after_fuel call (Some for_fuel) o2 none (inr a) fault e = let is = a.1 in cc (is, e)
 after_fuel call (Some for_frame) o2 none stands fault e = cc (stands, e)
 after_fuel call (Some (for_device f)) o2 none stands fault e = absurd (none f refl)
-
--- the order of the calls that a script knows
-ordered : (w : World) (t : Tenant) → HasJournal w t → (m : Module) × InOrder m t.inst t.dead t.ended t.open_calls
-ordered w t j = let l = j.loaded in (l.m, j.calls)
-
--- where no call is open the script knows of none
-none_open : (w : World) (t : Tenant) (g : Guest) → HasJournal w t → g.calls ≡ journal_calls (journal t)
-    → t.open_calls ≡ [] → first_open g.calls ≡ None
-none_open w t g j same none =
-    let order = ordered w t j in
-    let order2 = subst (λ os. InOrder order.0 t.inst t.dead t.ended os) none order.1 in
-    ap first_open (same ∙ ap (λ os. journal_calls (t.ended ++ os)) none) ∙ first_isnt order2
 
 refueled_so : {settings : Settings} {w : World} {m : Made} {places : List ℕ} (files : Files) (number i place : ℕ)
     (name : List ℕ) (n : ℕ) (g : Guest) (t t2 : Tenant) → Knows settings w m places → HasGuest m name i g

@@ -1,19 +1,20 @@
 -- What a script knows of its host, where one instance of it changes.
-use Rattle.std.proofs.Common.{◌≡◌, ◌≢◌, ℕ, ◌+◌, ◌-◌, ◌<◌, Bool, true, false, if◌then◌else◌, List, [], ◌∷◌, ◌++◌, length, slice_get, slice_set, Option, Some, None, zero, suc, refl, sym, ap, subst, ◌∙◌, arith}
+use Rattle.std.proofs.Common.{◌≡◌, ◌≢◌, ℕ, ◌+◌, ◌-◌, Bool, true, false, if◌then◌else◌, List, [], ◌∷◌, ◌++◌, length, slice_get, slice_set, Option, Some, None, zero, suc, refl, sym, ap, subst, ◌∙◌, arith}
 use Rattle.std.specs.List.{AllZip}
 use Rattle.std.proofs.lemmas.Option.{none-some, same_Some}
 use Rattle.wh_model.specs.Execution.Replay.{Outcome, returned, stopped, cancelled, dead, pending, Call}
 use Rattle.wh_host_model.specs.declared.plain.SwapError.{SwapError}
-use Rattle.wh_host_model.specs.declared.plain.InstId.{InstId}
 use Rattle.wh_host_model.specs.Space.Parts.{Space, minima, spreads}
-use Rattle.wh_host_model.specs.Host.Worlds.{Params, for_device, Tenant, Loaded, World, journal, journal_calls, tenant, with_tenant}
-use Rattle.wh_host_model.specs.Host.Happens.{IsLive, NoInstance}
+use Rattle.wh_host_model.specs.Space.Sound.{IsSound}
+use Rattle.wh_script_model.proofs.SumsChange.{IsQuiet}
+use Rattle.wh_host_model.specs.Host.Worlds.{Params, for_device, Tenant, Loaded, World, journal, journal_calls, with_tenant}
+use Rattle.wh_host_model.specs.Host.Happens.{IsLive}
 use Rattle.wh_host_model.specs.Lines.Settings.{Settings}
-use Rattle.wh_host_model.specs.Lines.Made.{Guest, Invoked, Made, live_sum, with_guest, is_open}
+use Rattle.wh_host_model.specs.Lines.Made.{Guest, Made, live_sum, with_guest, is_open}
 use Rattle.wh_host_model.specs.Lines.Drains.{ComesTo, had_ended, goes_on}
 use Rattle.wh_host_model.specs.Lines.Served.{IsTenantOf}
 use Rattle.wh_host_model.proofs.Space.Putting.{get_or_is}
-use Rattle.wh_script_model.specs.Following.{AreSame, IsFollowed, is_there, is_gone, IsPlaced, Follows, Knows, StaysWhole}
+use Rattle.wh_script_model.specs.Following.{AreSame, IsFollowed, is_there, is_gone, IsPlaced, Knows, StaysWhole}
 
 -- ---- two lists side by side
 
@@ -226,3 +227,13 @@ changed {w = w} {m = m} {places = places} i place g g2 t2 s2 known has lies whol
           (is_there (tenant_there w w2 t2 g2 (λ k l e. e) new.of_one) new.calls new.none);
       placed = zip_over IsPlaced places w.tenants i place (Some t2) known.placed lies new.lies;
     }
+
+-- ---- the memory of a host that is known
+
+pub quiet_before : {settings : Settings} {w : World} {m : Made} {places : List ℕ} → IsSound w.space
+    → Knows settings w m places → IsQuiet w.space
+quiet_before sound known = record { sound = sound; none_out = known.none_out }
+
+pub quiet_after : {settings : Settings} {w : World} {m : Made} {places : List ℕ} (s2 : Space) → IsSound s2
+    → Knows settings w m places → StaysWhole w.space s2 → IsQuiet s2
+quiet_after s2 sound known whole = record { sound = sound; none_out = whole.none_out ∙ known.none_out }

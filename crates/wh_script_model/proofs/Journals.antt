@@ -1,14 +1,15 @@
 -- What a script counts and changes in a journal: calls that have ended, and then those that are open.
-use Rattle.std.proofs.Common.{◌≡◌, ℕ, ◌+◌, ◌-◌, ◌<◌, ◌≤◌, min, Bool, true, false, if◌then◌else◌, List, [], ◌∷◌, ◌++◌, map, length, Option, Some, None, refl, sym, ap, subst, ◌∙◌, arith, append_assoc}
+use Rattle.std.proofs.Common.{◌≡◌, ℕ, ◌+◌, ◌-◌, min, Bool, true, false, List, [], ◌∷◌, ◌++◌, map, length, Some, None, refl, sym, ap, subst, ◌∙◌, arith, append_assoc}
 use Rattle.std.specs.List.{AllByRecursion}
 use Rattle.wh_model.specs.Format.Syntax.{Module}
 use Rattle.wh_model.specs.Execution.Store.{Instance}
 use Rattle.wh_model.specs.Execution.Replay.{Outcome, returned, stopped, cancelled, dead, pending, Call, fails}
-use Rattle.wh_host_model.specs.Host.Worlds.{Entry, Tenant, journal, journal_calls}
+use Rattle.wh_host_model.specs.Host.Laws.{HasJournal}
+use Rattle.wh_host_model.specs.Host.Worlds.{World, Entry, Tenant, journal, journal_calls}
 use Rattle.wh_host_model.specs.Host.Answers.{ended_by, dies}
 use Rattle.wh_host_model.specs.Host.Calls.{more_fuel}
 use Rattle.wh_host_model.specs.Host.Journals.{HasEnded, IsEnded, IsOpenCall, IsDeadCall, InOrder, is_starting, has_started, has_died}
-use Rattle.wh_host_model.specs.Lines.Made.{is_open, first_open, with_first_open, open_number, open_behind, start_failed, ended_so, cancel_first}
+use Rattle.wh_host_model.specs.Lines.Made.{Guest, is_open, first_open, with_first_open, open_number, open_behind, start_failed, ended_so, cancel_first}
 use Rattle.wh_host_model.specs.Lines.Answers.{with_fuel}
 use Rattle.wh_host_model.proofs.Host.Entries.{calls_join}
 use Rattle.wh_host_model.proofs.Lines.Once.{passes, stops_there}
@@ -173,3 +174,17 @@ start_failed_is (has_died a b c d) = c
 pub calls_long : (es : List Entry) → length (journal_calls es) ≡ length es
 calls_long [] = refl
 calls_long (e ∷ es) = let rest = calls_long es in omega (arith, rest)
+
+-- ---- of an instance
+
+-- the order of the calls that a script knows
+pub ordered : (w : World) (t : Tenant) → HasJournal w t → (m : Module) × InOrder m t.inst t.dead t.ended t.open_calls
+ordered w t j = let l = j.loaded in (l.m, j.calls)
+
+-- where no call is open the script knows of none
+pub none_open : (w : World) (t : Tenant) (g : Guest) → HasJournal w t → g.calls ≡ journal_calls (journal t)
+    → t.open_calls ≡ [] → first_open g.calls ≡ None
+none_open w t g j same none =
+    let order = ordered w t j in
+    let order2 = subst (λ os. InOrder order.0 t.inst t.dead t.ended os) none order.1 in
+    ap first_open (same ∙ ap (λ os. journal_calls (t.ended ++ os)) none) ∙ first_isnt order2

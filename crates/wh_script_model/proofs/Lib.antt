@@ -3,3 +3,4 @@ mod SumsChange
 mod CommandsKnown
 mod Commands
 mod CommandsAsked
+mod CommandsEnding

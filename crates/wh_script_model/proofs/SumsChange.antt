@@ -1,5 +1,5 @@
 -- The sums of what instances were promised, where the claim at one place is another.
-use Rattle.std.proofs.Common.{◌≡◌, ◌≢◌, ℕ, ◌+◌, ◌-◌, ◌<◌, ◌≤◌, ◌==◌, inl, inr, cond, Bool, true, false, List, [], ◌∷◌, length, get_or, slice_get, Option, Some, None, zero, suc, refl, sym, ap, subst, ◌∙◌, arith}
+use Rattle.std.proofs.Common.{◌≡◌, ◌≢◌, ℕ, ◌+◌, ◌-◌, ◌≤◌, inl, inr, cond, Bool, true, false, List, [], ◌∷◌, length, get_or, slice_get, Option, Some, None, zero, suc, refl, sym, ap, ◌∙◌, arith}
 use Rattle.std.proofs.lemmas.Bool.Decides.{nat_tests}
 use Rattle.wh_host_model.specs.Frames.{tally, one_if}
 use Rattle.wh_host_model.specs.declared.states.Slot.{Slot}
@@ -7,7 +7,9 @@ use Rattle.wh_host_model.specs.declared.states.Slot.TheVariants.{Vacant, Taken, 
 use Rattle.wh_host_model.specs.Space.Parts.{Space, Occupant, Claimed, occupant_at, claim_of, claim, of_occupant, minima, spreads}
 use Rattle.wh_host_model.specs.Space.Errands.{tickets, is_ticket, ticket_of}
 use Rattle.wh_host_model.specs.Space.Sound.{IsSound}
+use Rattle.wh_host_model.specs.Space.Places.{IsFreePlace}
 use Rattle.wh_host_model.specs.Host.Spaces.{OthersLeftAlone}
+use Rattle.wh_host_model.proofs.Space.Putting.{get_or_is}
 use Rattle.wh_host_model.proofs.Space.Sums.{tally_le}
 
 -- ---- where no ticket is out, all are live
@@ -134,3 +136,44 @@ pub spreads_change : (s s2 : Space) (i : ℕ) (c c2 : Option Claimed) → IsQuie
 spreads_change s s2 i c c2 quiet quiet2 others e e2 =
     let sums = claims_change (λ x. (x.max - x.min) + 1) s s2 i quiet quiet2 others in
     rw (sym e, sym e2) sums
+
+-- the claim there is the same
+pub minima_same : (s s2 : Space) (i : ℕ) → IsQuiet s → IsQuiet s2 → OthersLeftAlone i s s2 → claim s2 i ≡ claim s i
+    → minima s2 ≡ minima s
+minima_same s s2 i quiet quiet2 others e =
+    let sums = minima_change s s2 i (claim s i) (claim s i) quiet quiet2 others refl e in omega (arith, sums)
+
+pub spreads_same : (s s2 : Space) (i : ℕ) → IsQuiet s → IsQuiet s2 → OthersLeftAlone i s s2 → claim s2 i ≡ claim s i
+    → spreads s2 ≡ spreads s
+spreads_same s s2 i quiet quiet2 others e =
+    let sums = spreads_change s s2 i (claim s i) (claim s i) quiet quiet2 others refl e in omega (arith, sums)
+
+-- the place is taken
+pub minima_more : (s s2 : Space) (i : ℕ) (c : Claimed) → IsQuiet s → IsQuiet s2 → OthersLeftAlone i s s2
+    → claim s i ≡ None → claim s2 i ≡ Some c → minima s2 ≡ minima s + c.min
+minima_more s s2 i c quiet quiet2 others e e2 =
+    let sums = minima_change s s2 i None (Some c) quiet quiet2 others e e2 in omega (arith, sums)
+
+pub spreads_more : (s s2 : Space) (i : ℕ) (c : Claimed) → IsQuiet s → IsQuiet s2 → OthersLeftAlone i s s2
+    → claim s i ≡ None → claim s2 i ≡ Some c → spreads s2 ≡ spreads s + ((c.max - c.min) + 1)
+spreads_more s s2 i c quiet quiet2 others e e2 =
+    let sums = spreads_change s s2 i None (Some c) quiet quiet2 others e e2 in omega (arith, sums)
+
+-- the place is left
+pub minima_less : (s s2 : Space) (i : ℕ) (c : Claimed) → IsQuiet s → IsQuiet s2 → OthersLeftAlone i s s2
+    → claim s i ≡ Some c → claim s2 i ≡ None → minima s2 + c.min ≡ minima s
+minima_less s s2 i c quiet quiet2 others e e2 =
+    let sums = minima_change s s2 i (Some c) None quiet quiet2 others e e2 in omega (arith, sums)
+
+pub spreads_less : (s s2 : Space) (i : ℕ) (c : Claimed) → IsQuiet s → IsQuiet s2 → OthersLeftAlone i s s2
+    → claim s i ≡ Some c → claim s2 i ≡ None → spreads s2 + ((c.max - c.min) + 1) ≡ spreads s
+spreads_less s s2 i c quiet quiet2 others e e2 =
+    let sums = spreads_change s s2 i (Some c) None quiet quiet2 others e e2 in omega (arith, sums)
+
+-- nobody has a claim at a free place
+pub claim_free : (s : Space) (i : ℕ) → IsFreePlace s i → claim s i ≡ None
+claim_free s i (inl e) = ap claim_of (get_or_is s.occupants i None None e)
+claim_free s i (inr e) = ap (λ k. claim s k) e ∙ ap claim_of (past s.occupants) where
+  past : (os : List (Option Occupant)) → get_or os (length os) None ≡ None
+  past [] = refl
+  past (o ∷ os) = past os

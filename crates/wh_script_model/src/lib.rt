@@ -2,7 +2,7 @@
 //! the definition of a script's answers says.
 #![tactic(auto)]
 
-ghost use Rattle.wh_script_model.specs.Laws.{ModulesFollow, RefuelsFollow, RetriesFollow};
+ghost use Rattle.wh_script_model.specs.Laws.{CancelsFollow, ModulesFollow, RefuelsFollow, ReleasesFollow, RetriesFollow};
 
 /// A script and the host that runs its calls, after every list of events. The function does nothing; what it ensures are the
 /// laws: a request and its answer lead from one that follows the script to one that follows it then; turns bring calls further;
@@ -10,5 +10,7 @@ ghost use Rattle.wh_script_model.specs.Laws.{ModulesFollow, RefuelsFollow, Retri
 pub fn scripts_follow()
     ensures modules { ModulesFollow }
     ensures refuels { RefuelsFollow }
+    ensures cancels { CancelsFollow }
     ensures retries { RetriesFollow }
+    ensures releases { ReleasesFollow }
 {}

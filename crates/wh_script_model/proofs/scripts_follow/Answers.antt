@@ -1,5 +1,6 @@
 use Rattle.wh_script_model.proofs.Commands.{modules_follow}
 use Rattle.wh_script_model.proofs.CommandsAsked.{refuels_follow, retries_follow}
+use Rattle.wh_script_model.proofs.CommandsEnding.{cancels_follow, releases_follow}
 use Rattle.wh_script_model.proofs.scripts_follow.Goals as goal
 
 pub returns-clause-modules : goal.returns-clause-modules
@@ -10,3 +11,9 @@ returns-clause-retries c = retries_follow
 
 pub returns-clause-refuels : goal.returns-clause-refuels
 returns-clause-refuels c = refuels_follow
+
+pub returns-clause-cancels : goal.returns-clause-cancels
+returns-clause-cancels c = cancels_follow
+
+pub returns-clause-releases : goal.returns-clause-releases
+returns-clause-releases c = releases_follow
