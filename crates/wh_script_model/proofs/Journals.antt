@@ -188,3 +188,11 @@ none_open w t g j same none =
     let order = ordered w t j in
     let order2 = subst (λ os. InOrder order.0 t.inst t.dead t.ended os) none order.1 in
     ap first_open (same ∙ ap (λ os. journal_calls (t.ended ++ os)) none) ∙ first_isnt order2
+
+-- with one more behind all
+pub calls_last : (es os : List Entry) (e : Entry)
+    → journal_calls (es ++ os) ++ e.call ∷ [] ≡ journal_calls (es ++ (os ++ e ∷ []))
+calls_last es os e =
+    ap (λ cs. cs ++ e.call ∷ []) (calls_join es os)
+    ∙ append_assoc (journal_calls es) (journal_calls os) (e.call ∷ [])
+    ∙ ap (λ cs. journal_calls es ++ cs) (sym (calls_join os (e ∷ []))) ∙ sym (calls_join es (os ++ e ∷ []))

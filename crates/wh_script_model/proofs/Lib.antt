@@ -4,3 +4,4 @@ mod CommandsKnown
 mod Commands
 mod CommandsAsked
 mod CommandsEnding
+mod CommandsCalling

@@ -1,6 +1,7 @@
 use Rattle.wh_script_model.proofs.Commands.{modules_follow}
 use Rattle.wh_script_model.proofs.CommandsAsked.{refuels_follow, retries_follow}
 use Rattle.wh_script_model.proofs.CommandsEnding.{cancels_follow, releases_follow}
+use Rattle.wh_script_model.proofs.CommandsCalling.{calls_follow}
 use Rattle.wh_script_model.proofs.scripts_follow.Goals as goal
 
 pub returns-clause-modules : goal.returns-clause-modules
@@ -17,3 +18,6 @@ returns-clause-cancels c = cancels_follow
 
 pub returns-clause-releases : goal.returns-clause-releases
 returns-clause-releases c = releases_follow
+
+pub returns-clause-calls : goal.returns-clause-calls
+returns-clause-calls c = calls_follow
