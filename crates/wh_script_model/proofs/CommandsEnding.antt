@@ -1,12 +1,11 @@
 -- What ends a call or an instance: it is cancelled, or released.
-use Rattle.std.proofs.Common.{◌≡◌, ◌≢◌, ℕ, ◌+◌, ◌-◌, true, false, List, [], ◌∷◌, ◌++◌, slice_get, Option, Some, None, refl, sym, ap, subst, ◌∙◌, arith}
-use Rattle.std.proofs.lemmas.Option.{none-some, same_Some}
+use Rattle.std.proofs.Common.{◌≡◌, ℕ, ◌+◌, ◌-◌, true, false, List, [], ◌∷◌, ◌++◌, slice_get, Option, Some, None, refl, sym, ap, subst, ◌∙◌, arith}
+use Rattle.std.proofs.lemmas.Option.{same_Some}
 use Rattle.wh_model.specs.Format.Syntax.{Module}
 use Rattle.wh_model.specs.Execution.Replay.{cancelled, store_at, Replay}
-use Rattle.wh_host_model.specs.declared.plain.SwapError.{SwapError}
 use Rattle.wh_host_model.specs.Space.Parts.{Space, minima, spreads}
 use Rattle.wh_host_model.specs.Space.Sound.{IsSound}
-use Rattle.wh_host_model.specs.Host.Worlds.{Params, Entry, Rest, Doing, resting, has_left, computing, for_device, Tenant, World, given_of, promised, journal, journal_calls, tenant, with_tenant, standing_with, standing_in}
+use Rattle.wh_host_model.specs.Host.Worlds.{Params, Entry, Rest, Doing, resting, has_left, computing, Tenant, World, given_of, promised, journal, journal_calls, tenant, with_tenant, standing_with, standing_in}
 use Rattle.wh_host_model.specs.Host.Answers.{ended_by, Closes, faces_next, is_dead}
 use Rattle.wh_host_model.specs.Host.Calls.{Cancels, ends}
 use Rattle.wh_host_model.specs.Host.Admission.{LetsGo}
@@ -27,12 +26,9 @@ use Rattle.wh_script_model.specs.Replies.{cancel_reply, release_reply}
 use Rattle.wh_script_model.specs.Laws.{CancelsFollow, ReleasesFollow}
 use Rattle.wh_script_model.proofs.Journals.{ordered, none_open, first_is, cancelled_next, cancelled_start}
 use Rattle.wh_script_model.proofs.SumsChange.{minima_same, spreads_same, minima_less, spreads_less}
-use Rattle.wh_script_model.proofs.CommandsKnown.{IsFound, found_gone, found_live, found, live_same, not_live, IsNext, tenant_calls, changed, zip_map, zip_set, zip_over, sum_goes, followed_there, quiet_before, quiet_after}
+use Rattle.wh_script_model.proofs.CommandsKnown.{never_faulty, IsFound, found_gone, found_live, found, live_same, not_live, IsNext, tenant_calls, changed, zip_map, zip_set, zip_over, sum_goes, followed_there, quiet_before, quiet_after}
 
 -- ---- a call that is cancelled
-
-never_faulty : (fault : SwapError) → None ≢ Some (for_device fault)
-never_faulty fault e = none-some (for_device fault) e
 
 closed_next : (w : World) {m : Module} (s2 : Space) (t t2 : Tenant) (g : Guest) (e : Entry) (es : List Entry)
     (place : ℕ) → IsTenantOf w t g → t.place ≡ place → g.calls ≡ journal_calls (t.ended ++ e ∷ es)

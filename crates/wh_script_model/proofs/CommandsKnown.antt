@@ -193,6 +193,10 @@ pub record IsNext (w : World) (g g2 : Guest) (t2 : Tenant) (place : ℕ) : Type 
   pub none : (fault : SwapError) → t2.stands_for ≢ Some (for_device fault)
   pub lies : t2.place ≡ place
 
+-- it stands for nothing
+pub never_faulty : (fault : SwapError) → None ≢ Some (for_device fault)
+never_faulty fault e = none-some (for_device fault) e
+
 -- the calls of one are these now
 pub tenant_calls : (w : World) (t t2 : Tenant) (g : Guest) (calls : List Call) → IsTenantOf w t g → t2.of ≡ t.of
     → t2.params ≡ t.params → t2.inst ≡ t.inst → calls ≡ journal_calls (journal t2)

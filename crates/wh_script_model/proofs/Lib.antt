@@ -5,3 +5,4 @@ mod Commands
 mod CommandsAsked
 mod CommandsEnding
 mod CommandsCalling
+mod CommandsGuests

@@ -2,13 +2,14 @@
 //! the definition of a script's answers says.
 #![tactic(auto)]
 
-ghost use Rattle.wh_script_model.specs.Laws.{CallsFollow, CancelsFollow, ModulesFollow, RefuelsFollow, ReleasesFollow, RetriesFollow};
+ghost use Rattle.wh_script_model.specs.Laws.{CallsFollow, CancelsFollow, GuestsFollow, ModulesFollow, RefuelsFollow, ReleasesFollow, RetriesFollow};
 
 /// A script and the host that runs its calls, after every list of events. The function does nothing; what it ensures are the
 /// laws: a request and its answer lead from one that follows the script to one that follows it then; turns bring calls further;
 /// and where no call can go on, each has come as far as it does alone.
 pub fn scripts_follow()
     ensures modules { ModulesFollow }
+    ensures guests { GuestsFollow }
     ensures calls { CallsFollow }
     ensures refuels { RefuelsFollow }
     ensures cancels { CancelsFollow }

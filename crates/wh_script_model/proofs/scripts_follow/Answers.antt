@@ -2,6 +2,7 @@ use Rattle.wh_script_model.proofs.Commands.{modules_follow}
 use Rattle.wh_script_model.proofs.CommandsAsked.{refuels_follow, retries_follow}
 use Rattle.wh_script_model.proofs.CommandsEnding.{cancels_follow, releases_follow}
 use Rattle.wh_script_model.proofs.CommandsCalling.{calls_follow}
+use Rattle.wh_script_model.proofs.CommandsGuests.{guests_follow}
 use Rattle.wh_script_model.proofs.scripts_follow.Goals as goal
 
 pub returns-clause-modules : goal.returns-clause-modules
@@ -21,3 +22,6 @@ returns-clause-releases c = releases_follow
 
 pub returns-clause-calls : goal.returns-clause-calls
 returns-clause-calls c = calls_follow
+
+pub returns-clause-guests : goal.returns-clause-guests
+returns-clause-guests c = guests_follow
