@@ -1,14 +1,13 @@
 -- Drains: where they begin, moves of pages, and what is said at the end.
-use Rattle.std.proofs.Common.{◌≡◌, ℕ, zero, suc, ◌+◌, ◌-◌, Bool, true, false, List, [], ◌∷◌, Option, Some, None, get_or, refl, sym, ap, subst, ◌∙◌}
+use Rattle.std.proofs.Common.{◌≡◌, ℕ, suc, ◌+◌, ◌-◌, ◌⊎◌, ⊎_elim, inl, inr, Bool, true, false, List, [], ◌∷◌, Option, Some, None, get_or, refl, sym, ap, subst, ◌∙◌}
 use Rattle.std.specs.List.{AllZip}
-use Rattle.wh_model.specs.Execution.Replay.{Call}
+use Rattle.wh_model.specs.Execution.Replay.{Outcome, cancelled, Call}
 use Rattle.wh_host_model.specs.Space.Parts.{Space, minima, spreads}
-use Rattle.wh_host_model.specs.Host.Spaces.{AllLeftAlone}
-use Rattle.wh_host_model.specs.Host.Worlds.{Params, Tenant, World, journal, journal_calls, tenant}
+use Rattle.wh_host_model.specs.Host.Worlds.{Params, Tenant, World, journal, journal_calls}
 use Rattle.wh_host_model.specs.Lines.Settings.{Settings}
 use Rattle.wh_host_model.specs.Lines.Texts.{CallStatus, Reply}
-use Rattle.wh_host_model.specs.Lines.Made.{Guest, Made, live_sum}
-use Rattle.wh_host_model.specs.Lines.Drains.{ComesTo, RunsAlone, SaysStart, has_none, has_one, SayStarts}
+use Rattle.wh_host_model.specs.Lines.Made.{Guest, Made, live_sum, is_open}
+use Rattle.wh_host_model.specs.Lines.Drains.{ComesTo, had_ended, goes_on, RunsAlone, SaysStart, has_none, has_one, SayStarts}
 use Rattle.wh_host_model.specs.Lines.Drains as drains
 use Rattle.wh_host_model.specs.Lines.Served.{IsTenantOf}
 use Rattle.wh_host_model.proofs.Host.Holding.{memory_is_sound}
@@ -172,3 +171,80 @@ run_guests (g ∷ gs) (o ∷ ts) = run_guest g o ∷ run_guests gs ts
 -- whom calls have been run alone
 abbrev RunAlone : World → Tenant → Type 0
 RunAlone w t = (g : Guest) → IsTenantOf w t g → RunsAlone g (record g { calls = journal_calls (journal t) })
+
+pub open_or_not : (b : Bool) → (b ≡ true) ⊎ (b ≡ false)
+open_or_not true = inl refl
+open_or_not false = inr refl
+
+-- an open call wasn't cancelled
+pub not_cancelled : (o : Outcome) → is_open o ≡ true → ¬ (o ≡ cancelled)
+not_cancelled o open_yet e = let bad : true ≡ false = sym open_yet ∙ ap is_open e in absurd (cc bad)
+
+-- a call that comes no further
+pub comes_nowhere : (c : Call) → ComesTo c c
+comes_nowhere c =
+    ⊎_elim
+    (λ (open_yet : is_open c.outcome ≡ true). goes_on {outcome = c.outcome} {pieces = c.fragments} {charges = c.charges} open_yet (not_cancelled c.outcome open_yet))
+    (λ (closed : is_open c.outcome ≡ false). had_ended closed)
+    (open_or_not (is_open c.outcome))
+
+pub come_nowhere : (calls : List Call) → AllZip ComesTo calls calls
+come_nowhere [] = tt
+come_nowhere (c ∷ calls) = (comes_nowhere c, come_nowhere calls)
+
+-- one has run
+pub record HasRun (w : World) (g g2 : Guest) (o : Option Tenant) : Type 0 where
+  pub alone : RunsAlone g g2
+  pub followed : IsFollowed AreSame w g2 o
+  pub same : SameGuest g g2
+
+one_runs : (w : World) (g : Guest) (o : Option Tenant) → ((t : Tenant) → o ≡ Some t → RunAlone w t) → IsFollowed ComeFurther w g o
+    → HasRun w g (run_guest g o) o
+one_runs w g None alone (is_gone gone) =
+    record { alone = drains.is_gone gone; followed = is_gone gone; same = record { released = refl; params = refl } }
+one_runs w g (Some t) alone (is_there of_one further sound) =
+    let calls = journal_calls (journal t) in
+    let run : IsTenantOf w t (record g { calls = calls }) = record {
+      loaded = of_one.loaded;
+      is_loaded = of_one.is_loaded;
+      of_one = of_one.of_one;
+      params = of_one.params;
+      inst = of_one.inst;
+      is_live = of_one.is_live;
+      calls = come_nowhere calls;
+    } in
+    record { alone = alone t refl g of_one; followed = is_there run refl sound; same = record { released = refl; params = refl } }
+
+-- all have
+pub record HaveRun (w : World) (gs run : List Guest) (ts : List (Option Tenant)) : Type 0 where
+  pub alone : AllZip RunsAlone gs run
+  pub followed : AllZip (IsFollowed AreSame w) run ts
+  pub same : AllZip SameGuest gs run
+
+all_run : (w : World) (gs : List Guest) (ts : List (Option Tenant)) → ((i : ℕ) (t : Tenant) → get_or ts i None ≡ Some t → RunAlone w t)
+    → AllZip (IsFollowed ComeFurther w) gs ts → HaveRun w gs (run_guests gs ts) ts
+all_run w [] [] alone h = record { alone = tt; followed = tt; same = tt }
+all_run w [] (o ∷ ts) alone h = absurd h
+all_run w (g ∷ gs) [] alone h = absurd h
+all_run w (g ∷ gs) (o ∷ ts) alone h =
+    let first = one_runs w g o (alone 0) h.0 in
+    let others = all_run w gs ts (λ i. alone (suc i)) h.1 in
+    record { alone = (first.alone, others.alone); followed = (first.followed, others.followed); same = (first.same, others.same) }
+
+pub drains_end : DrainsEnd
+drains_end frames slots tax events w happens settings m places h served =
+    let run = run_guests m.guests w.tenants in
+    let have = all_run w m.guests w.tenants (λ i t there g of_one. served_as_alone frames slots tax events w happens i t g there (served i t there) of_one) h.guests in (
+      run,
+      have.alone,
+      record {
+        frames = h.frames;
+        slots = h.slots;
+        none_out = h.none_out;
+        minima = h.minima ∙ sym (same_live_sum (λ p. p.min) m.guests run have.same);
+        spreads = h.spreads ∙ sym (same_live_sum (λ p. (p.max - p.min) + 1) m.guests run have.same);
+        modules = h.modules;
+        guests = have.followed;
+        placed = h.placed;
+      },
+    )

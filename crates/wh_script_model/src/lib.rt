@@ -2,13 +2,15 @@
 //! the definition of a script's answers says.
 #![tactic(auto)]
 
-ghost use Rattle.wh_script_model.specs.Laws.{DrainsBegin, MovesFollow, SayingFollows};
+ghost use Rattle.wh_script_model.specs.Laws.{DrainsBegin, DrainsEnd, MovesFollow, SayingFollows, TurnsFollow};
 
 /// A script and the host that runs its calls, after every list of events. The function does nothing; what it ensures are the
 /// laws: a request and its answer lead from one that follows the script to one that follows it then; turns bring calls further;
 /// and where no call can go on, each has come as far as it does alone.
 pub fn scripts_follow()
     ensures begin { DrainsBegin }
+    ensures turns { TurnsFollow }
     ensures moves { MovesFollow }
+    ensures end { DrainsEnd }
     ensures saying { SayingFollows }
 {}
