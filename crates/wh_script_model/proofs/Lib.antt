@@ -1,8 +1,11 @@
-mod Journals
-mod SumsChange
-mod CommandsKnown
-mod Commands
-mod CommandsAsked
-mod CommandsEnding
-mod CommandsCalling
-mod CommandsGuests
+pub mod Sums
+pub mod Drains
+pub mod Turning
+pub mod Journals
+pub mod SumsChange
+pub mod CommandsKnown
+pub mod Commands
+pub mod CommandsAsked
+pub mod CommandsEnding
+pub mod CommandsCalling
+pub mod CommandsGuests

@@ -2,7 +2,7 @@
 //! the definition of a script's answers says.
 #![tactic(auto)]
 
-ghost use Rattle.wh_script_model.specs.Laws.{CallsFollow, CancelsFollow, GuestsFollow, ModulesFollow, RefuelsFollow, ReleasesFollow, RetriesFollow};
+ghost use Rattle.wh_script_model.specs.Laws.{CallsFollow, CancelsFollow, DrainsBegin, DrainsEnd, GuestsFollow, ModulesFollow, MovesFollow, RefuelsFollow, ReleasesFollow, RetriesFollow, SayingFollows, TurnsFollow};
 
 /// A script and the host that runs its calls, after every list of events. The function does nothing; what it ensures are the
 /// laws: a request and its answer lead from one that follows the script to one that follows it then; turns bring calls further;
@@ -15,4 +15,9 @@ pub fn scripts_follow()
     ensures cancels { CancelsFollow }
     ensures retries { RetriesFollow }
     ensures releases { ReleasesFollow }
+    ensures begin { DrainsBegin }
+    ensures turns { TurnsFollow }
+    ensures moves { MovesFollow }
+    ensures end { DrainsEnd }
+    ensures saying { SayingFollows }
 {}
