@@ -2,7 +2,6 @@
 use Rattle.std.specs.Prelude.{◌≡◌, ℕ, List, Option, Some, None}
 use Rattle.wh_model.specs.declared.ValidKind.{ValidKind}
 use Rattle.wh_model.specs.Format.Numbering.{fault_number, valid_number, import_number}
-use Rattle.wh_host_model.specs.declared.plain.InstId.{InstId}
 use Rattle.wh_host_model.specs.Script.{Place}
 use Rattle.wh_host_model.specs.Replies.{IsValidFault}
 use Rattle.wh_host_model.specs.Host.Admission.{LoadFault, broken, invalid, unlinked, modules_full, LoadWant, decoder_wants, validator_wants, linker_wants, host_wants, admit_rank}

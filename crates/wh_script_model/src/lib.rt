@@ -2,5 +2,22 @@
 //! the definition of a script's answers says.
 #![tactic(auto)]
 
-/// A script and the host that runs its calls, after every list of events.
-pub fn scripts_follow() {}
+ghost use Rattle.wh_script_model.specs.Laws.{CallsFollow, CancelsFollow, DrainsBegin, DrainsEnd, GuestsFollow, ModulesFollow, MovesFollow, RefuelsFollow, ReleasesFollow, RetriesFollow, SayingFollows, TurnsFollow};
+
+/// A script and the host that runs its calls, after every list of events. The function does nothing; what it ensures are the
+/// laws: a request and its answer lead from one that follows the script to one that follows it then; turns bring calls further;
+/// and where no call can go on, each has come as far as it does alone.
+pub fn scripts_follow()
+    ensures modules { ModulesFollow }
+    ensures guests { GuestsFollow }
+    ensures calls { CallsFollow }
+    ensures refuels { RefuelsFollow }
+    ensures cancels { CancelsFollow }
+    ensures retries { RetriesFollow }
+    ensures releases { ReleasesFollow }
+    ensures begin { DrainsBegin }
+    ensures turns { TurnsFollow }
+    ensures moves { MovesFollow }
+    ensures end { DrainsEnd }
+    ensures saying { SayingFollows }
+{}

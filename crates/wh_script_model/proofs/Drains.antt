@@ -1,0 +1,250 @@
+-- Drains: where they begin, moves of pages, and what is said at the end.
+use Rattle.std.proofs.Common.{◌≡◌, ℕ, suc, ◌+◌, ◌-◌, ◌⊎◌, ⊎_elim, inl, inr, Bool, true, false, List, [], ◌∷◌, Option, Some, None, get_or, refl, sym, ap, subst, ◌∙◌}
+use Rattle.std.specs.List.{AllZip}
+use Rattle.wh_model.specs.Execution.Replay.{Outcome, cancelled, Call}
+use Rattle.wh_host_model.specs.Space.Parts.{Space, minima, spreads}
+use Rattle.wh_host_model.specs.Host.Worlds.{Params, Tenant, World, journal, journal_calls}
+use Rattle.wh_host_model.specs.Lines.Settings.{Settings}
+use Rattle.wh_host_model.specs.Lines.Texts.{CallStatus, Reply}
+use Rattle.wh_host_model.specs.Lines.Made.{Guest, Made, live_sum, is_open}
+use Rattle.wh_host_model.specs.Lines.Drains.{ComesTo, had_ended, goes_on, RunsAlone, SaysStart, has_none, has_one, SayStarts}
+use Rattle.wh_host_model.specs.Lines.Drains as drains
+use Rattle.wh_host_model.specs.Lines.Served.{IsTenantOf}
+use Rattle.wh_host_model.proofs.Host.Holding.{memory_is_sound}
+use Rattle.wh_host_model.proofs.Lines.Serving.{served_as_alone}
+use Rattle.wh_script_model.specs.Following.{AreSame, ComeFurther, IsFollowed, is_there, is_gone, Follows, StaysWhole}
+use Rattle.wh_script_model.specs.Laws.{DrainsBegin, MovesFollow, DrainsEnd, SayingFollows}
+use Rattle.wh_script_model.proofs.Sums.{claims_decide}
+
+-- ---- lists side by side
+
+pub zip_so : {A B : Type 0} (R S : A → B → Type 0) → ((a : A) (b : B) → R a b → S a b) → (xs : List A) (ys : List B)
+    → AllZip R xs ys → AllZip S xs ys
+zip_so R S so [] [] h = tt
+zip_so R S so [] (y ∷ ys) h = absurd h
+zip_so R S so (x ∷ xs) [] h = absurd h
+zip_so R S so (x ∷ xs) (y ∷ ys) h = (so x y h.0, zip_so R S so xs ys h.1)
+
+-- ---- a drain begins
+
+begins_so : (w : World) (g : Guest) (o : Option Tenant) → IsFollowed AreSame w g o → IsFollowed ComeFurther w g o
+begins_so w g (Some t) (is_there of_one same sound) = is_there of_one of_one.calls sound
+begins_so w g None (is_gone gone) = is_gone gone
+
+pub drains_begin : DrainsBegin
+drains_begin settings w m places h = record {
+  frames = h.frames;
+  slots = h.slots;
+  none_out = h.none_out;
+  minima = h.minima;
+  spreads = h.spreads;
+  modules = h.modules;
+  guests = zip_so (IsFollowed AreSame w) (IsFollowed ComeFurther w) (begins_so w) m.guests w.tenants h.guests;
+  placed = h.placed;
+}
+
+-- ---- pages move
+
+-- an instance of one host is that of another with the same modules
+pub same_modules : (w w2 : World) (t : Tenant) (g : Guest) → w2.modules ≡ w.modules → IsTenantOf w t g → IsTenantOf w2 t g
+same_modules w w2 t g same h = record {
+  loaded = h.loaded;
+  is_loaded = rw same h.is_loaded;
+  of_one = h.of_one;
+  params = h.params;
+  inst = h.inst;
+  is_live = h.is_live;
+  calls = h.calls;
+}
+
+pub moved_followed : (come : List Call → List Call → Type 0) (w w2 : World) → w2.modules ≡ w.modules → (g : Guest) (o : Option Tenant)
+    → IsFollowed come w g o → IsFollowed come w2 g o
+moved_followed come w w2 same g (Some t) (is_there of_one calls sound) = is_there (same_modules w w2 t g same of_one) calls sound
+moved_followed come w w2 same g None (is_gone gone) = is_gone gone
+
+moved_so : (come : List Call → List Call → Type 0) (settings : Settings) (w : World) (s2 : Space) (m : Made) (places : List ℕ)
+    → StaysWhole w.space s2 → (minima s2 ≡ minima w.space) × (spreads s2 ≡ spreads w.space)
+    → Follows come settings w m places → Follows come settings (record w { space = s2 }) m places
+moved_so come settings w s2 m places whole sums h =
+    let w2 : World = record w { space = s2 } in
+    record {
+      frames = whole.frames ∙ h.frames;
+      slots = whole.slots ∙ h.slots;
+      none_out = whole.none_out ∙ h.none_out;
+      minima = sums.0 ∙ h.minima;
+      spreads = sums.1 ∙ h.spreads;
+      modules = h.modules;
+      guests = zip_so (IsFollowed come w) (IsFollowed come w2) (moved_followed come w w2 refl) m.guests w.tenants h.guests;
+      placed = h.placed;
+    }
+
+pub moves_follow : MovesFollow
+moves_follow frames slots tax events w happens settings m places w2 moves whole =
+    let s2 = moves.0 in
+    let sound = memory_is_sound frames slots tax events w happens in
+    let goal : World → Type 0 = λ v. StaysWhole w.space v.space
+    → (Follows AreSame settings w m places → Follows AreSame settings v m places)
+    × (Follows ComeFurther settings w m places → Follows ComeFurther settings v m places) in
+    let so : goal (record w { space = s2 }) = λ stays. (
+      λ h. moved_so AreSame settings w s2 m places stays
+          (claims_decide w.space s2 sound moves.1.1 h.none_out (stays.none_out ∙ h.none_out) (λ j. (moves.1.0 j).claim)) h,
+      λ h. moved_so ComeFurther settings w s2 m places stays
+          (claims_decide w.space s2 sound moves.1.1 h.none_out (stays.none_out ∙ h.none_out) (λ j. (moves.1.0 j).claim)) h,
+    ) in
+    subst goal (sym moves.2) so whole
+
+-- ---- what is said
+
+-- the sums over those who aren't released, where these are the same
+pub record SameGuest (g g2 : Guest) : Type 0 where
+  pub released : g2.is_released ≡ g.is_released
+  pub params : g2.params ≡ g.params
+
+pub same_live_sum : (amount : Params → ℕ) (gs gs2 : List Guest) → AllZip SameGuest gs gs2
+    → live_sum amount gs2 ≡ live_sum amount gs
+same_live_sum amount [] [] h = refl
+same_live_sum amount [] (g2 ∷ gs2) h = absurd h
+same_live_sum amount (g ∷ gs) [] h = absurd h
+same_live_sum amount (g ∷ gs) (g2 ∷ gs2) h =
+    let first = h.0 in
+    let rest = same_live_sum amount gs gs2 h.1 in
+    rw (first.released, first.params, rest) refl
+
+resaid : (w : World) (g : Guest) (o : Option Tenant) (status : Option CallStatus) → IsFollowed AreSame w g o
+    → IsFollowed AreSame w (record g { said = status }) o
+resaid w g (Some t) status (is_there of_one same sound) =
+    let said : IsTenantOf w t (record g { said = status }) = record {
+      loaded = of_one.loaded;
+      is_loaded = of_one.is_loaded;
+      of_one = of_one.of_one;
+      params = of_one.params;
+      inst = of_one.inst;
+      is_live = of_one.is_live;
+      calls = of_one.calls;
+    } in
+    is_there said same sound
+resaid w g None status (is_gone gone) = is_gone gone
+
+one_said : (w : World) (g g2 : Guest) (o : Option Tenant) (lines : List Reply) → SaysStart g lines g2
+    → IsFollowed AreSame w g o → IsFollowed AreSame w g2 o × SameGuest g g2
+one_said w g g2 o lines (has_none p q) h = (h, record { released = refl; params = refl })
+one_said w g g2 o lines (has_one n e x) h = (resaid w g o _ h, record { released = refl; params = refl })
+
+all_said : (w : World) (gs said : List Guest) (ts : List (Option Tenant)) (lines : List Reply) → SayStarts gs lines said
+    → AllZip (IsFollowed AreSame w) gs ts → AllZip (IsFollowed AreSame w) said ts × AllZip SameGuest gs said
+all_said w [] said [] lines says h =
+    subst (λ after. AllZip (IsFollowed AreSame w) after [] × AllZip SameGuest [] after) (sym says.1) (tt, tt)
+all_said w [] said (o ∷ ts) lines says h = absurd h
+all_said w (g ∷ gs) said [] lines says h = absurd h
+all_said w (g ∷ gs) said (o ∷ ts) lines (here, rest, g2, gs2, e, f, x, more) h =
+    let first = one_said w g g2 o here x h.0 in
+    let others = all_said w gs gs2 ts rest more h.1 in
+    subst (λ after. AllZip (IsFollowed AreSame w) after (o ∷ ts) × AllZip SameGuest (g ∷ gs) after) (sym f)
+    ((first.0, others.0), (first.1, others.1))
+
+pub saying_follows : SayingFollows
+saying_follows settings w m places lines said invoked h says =
+    let each = all_said w m.guests said w.tenants lines says h.guests in
+    record {
+      frames = h.frames;
+      slots = h.slots;
+      none_out = h.none_out;
+      minima = h.minima ∙ sym (same_live_sum (λ p. p.min) m.guests said each.1);
+      spreads = h.spreads ∙ sym (same_live_sum (λ p. (p.max - p.min) + 1) m.guests said each.1);
+      modules = h.modules;
+      guests = each.0;
+      placed = h.placed;
+    }
+
+-- ---- a drain ends
+
+-- how the guest of a tenant has run
+abbrev pub run_guest : Guest → Option Tenant → Guest
+run_guest g None = g
+run_guest g (Some t) = record g { calls = journal_calls (journal t) }
+
+abbrev pub run_guests : List Guest → List (Option Tenant) → List Guest
+run_guests [] ts = []
+run_guests (g ∷ gs) [] = []
+run_guests (g ∷ gs) (o ∷ ts) = run_guest g o ∷ run_guests gs ts
+
+-- whom calls have been run alone
+abbrev RunAlone : World → Tenant → Type 0
+RunAlone w t = (g : Guest) → IsTenantOf w t g → RunsAlone g (record g { calls = journal_calls (journal t) })
+
+pub open_or_not : (b : Bool) → (b ≡ true) ⊎ (b ≡ false)
+open_or_not true = inl refl
+open_or_not false = inr refl
+
+-- an open call wasn't cancelled
+pub not_cancelled : (o : Outcome) → is_open o ≡ true → ¬ (o ≡ cancelled)
+not_cancelled o open_yet e = let bad : true ≡ false = sym open_yet ∙ ap is_open e in absurd (cc bad)
+
+-- a call that comes no further
+pub comes_nowhere : (c : Call) → ComesTo c c
+comes_nowhere c =
+    ⊎_elim
+    (λ (open_yet : is_open c.outcome ≡ true). goes_on {outcome = c.outcome} {pieces = c.fragments} {charges = c.charges} open_yet (not_cancelled c.outcome open_yet))
+    (λ (closed : is_open c.outcome ≡ false). had_ended closed)
+    (open_or_not (is_open c.outcome))
+
+pub come_nowhere : (calls : List Call) → AllZip ComesTo calls calls
+come_nowhere [] = tt
+come_nowhere (c ∷ calls) = (comes_nowhere c, come_nowhere calls)
+
+-- one has run
+pub record HasRun (w : World) (g g2 : Guest) (o : Option Tenant) : Type 0 where
+  pub alone : RunsAlone g g2
+  pub followed : IsFollowed AreSame w g2 o
+  pub same : SameGuest g g2
+
+one_runs : (w : World) (g : Guest) (o : Option Tenant) → ((t : Tenant) → o ≡ Some t → RunAlone w t) → IsFollowed ComeFurther w g o
+    → HasRun w g (run_guest g o) o
+one_runs w g None alone (is_gone gone) =
+    record { alone = drains.is_gone gone; followed = is_gone gone; same = record { released = refl; params = refl } }
+one_runs w g (Some t) alone (is_there of_one further sound) =
+    let calls = journal_calls (journal t) in
+    let run : IsTenantOf w t (record g { calls = calls }) = record {
+      loaded = of_one.loaded;
+      is_loaded = of_one.is_loaded;
+      of_one = of_one.of_one;
+      params = of_one.params;
+      inst = of_one.inst;
+      is_live = of_one.is_live;
+      calls = come_nowhere calls;
+    } in
+    record { alone = alone t refl g of_one; followed = is_there run refl sound; same = record { released = refl; params = refl } }
+
+-- all have
+pub record HaveRun (w : World) (gs run : List Guest) (ts : List (Option Tenant)) : Type 0 where
+  pub alone : AllZip RunsAlone gs run
+  pub followed : AllZip (IsFollowed AreSame w) run ts
+  pub same : AllZip SameGuest gs run
+
+all_run : (w : World) (gs : List Guest) (ts : List (Option Tenant)) → ((i : ℕ) (t : Tenant) → get_or ts i None ≡ Some t → RunAlone w t)
+    → AllZip (IsFollowed ComeFurther w) gs ts → HaveRun w gs (run_guests gs ts) ts
+all_run w [] [] alone h = record { alone = tt; followed = tt; same = tt }
+all_run w [] (o ∷ ts) alone h = absurd h
+all_run w (g ∷ gs) [] alone h = absurd h
+all_run w (g ∷ gs) (o ∷ ts) alone h =
+    let first = one_runs w g o (alone 0) h.0 in
+    let others = all_run w gs ts (λ i. alone (suc i)) h.1 in
+    record { alone = (first.alone, others.alone); followed = (first.followed, others.followed); same = (first.same, others.same) }
+
+pub drains_end : DrainsEnd
+drains_end frames slots tax events w happens settings m places h served =
+    let run = run_guests m.guests w.tenants in
+    let have = all_run w m.guests w.tenants (λ i t there g of_one. served_as_alone frames slots tax events w happens i t g there (served i t there) of_one) h.guests in (
+      run,
+      have.alone,
+      record {
+        frames = h.frames;
+        slots = h.slots;
+        none_out = h.none_out;
+        minima = h.minima ∙ sym (same_live_sum (λ p. p.min) m.guests run have.same);
+        spreads = h.spreads ∙ sym (same_live_sum (λ p. (p.max - p.min) + 1) m.guests run have.same);
+        modules = h.modules;
+        guests = have.followed;
+        placed = h.placed;
+      },
+    )

@@ -1,0 +1,11 @@
+pub mod Sums
+pub mod Drains
+pub mod Turning
+pub mod Journals
+pub mod SumsChange
+pub mod CommandsKnown
+pub mod Commands
+pub mod CommandsAsked
+pub mod CommandsEnding
+pub mod CommandsCalling
+pub mod CommandsGuests
