@@ -28,7 +28,7 @@ use Rattle.wh_engine.specs.Standing.{Stands, AreGuests, IsInvoked, reception_of}
 use Rattle.wh_engine.specs.Obeying.{TakesCall}
 use Rattle.wh_engine.proofs.Asked.{whole_of, id_of, own_number}
 use Rattle.wh_engine.proofs.Instances.{TouchesCalls, nothing, calls_of, guest_of, placed_at, touched_guests, touched_modules, touched_names}
-use Rattle.wh_engine.proofs.Laws.{calls_follow}
+use Rattle.wh_script_model.proofs.CommandsCalling.{calls_follow}
 
 -- ---- what an `invoke` changes beside its own entry
 

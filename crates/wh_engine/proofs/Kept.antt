@@ -21,7 +21,7 @@ use Rattle.wh_engine.specs.declared.names.Names.{Names}
 use Rattle.wh_engine.specs.declared.parts.Guest.{Guest}
 use Rattle.wh_engine.specs.Standing.{Stands}
 use Rattle.wh_engine.specs.Obeying.{TakesModule}
-use Rattle.wh_engine.proofs.Laws.{modules_follow}
+use Rattle.wh_script_model.proofs.Commands.{modules_follow}
 use Rattle.wh_engine.proofs.Naming.{named_next, unnamed, same_names}
 
 abbrev label : NamedModule → List ℕ

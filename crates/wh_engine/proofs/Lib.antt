@@ -2,7 +2,6 @@ pub mod Asked
 pub mod Called
 pub mod Instances
 pub mod Kept
-pub mod Laws
 pub mod Naming
 pub mod Refitted
 pub mod Whole

@@ -5,7 +5,7 @@ use Rattle.wh_host_model.specs.Lines.Texts.{cancel_refused}
 use Rattle.wh_script_model.specs.Replies.{cancel_reply}
 use Rattle.wh_engine.proofs.Asked.{asked, answered_ok, answered_err, guest_there}
 use Rattle.wh_engine.proofs.Instances.{cancel_touches}
-use Rattle.wh_engine.proofs.Laws.{cancels_follow}
+use Rattle.wh_script_model.proofs.CommandsEnding.{cancels_follow}
 use Rattle.wh_engine.proofs.Whole.{keeps_whole}
 use Rattle.wh_engine.proofs.engine.Engine.cancel.Goals as goal
 

@@ -5,7 +5,7 @@ use Rattle.wh_host_model.specs.Lines.Texts.{refuel_refused}
 use Rattle.wh_script_model.specs.Replies.{refuel_reply}
 use Rattle.wh_engine.proofs.Asked.{asked, answered_ok, answered_err, guest_there}
 use Rattle.wh_engine.proofs.Instances.{refuel_touches}
-use Rattle.wh_engine.proofs.Laws.{refuels_follow}
+use Rattle.wh_script_model.proofs.CommandsAsked.{refuels_follow}
 use Rattle.wh_engine.proofs.Whole.{keeps_whole}
 use Rattle.wh_engine.proofs.engine.Engine.refuel.Goals as goal
 

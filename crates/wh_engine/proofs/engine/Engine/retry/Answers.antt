@@ -5,7 +5,7 @@ use Rattle.wh_host_model.specs.Lines.Texts.{retry_refused}
 use Rattle.wh_script_model.specs.Replies.{retry_reply}
 use Rattle.wh_engine.proofs.Asked.{asked, answered_ok, answered_err, guest_there}
 use Rattle.wh_engine.proofs.Instances.{retry_touches}
-use Rattle.wh_engine.proofs.Laws.{retries_follow}
+use Rattle.wh_script_model.proofs.CommandsAsked.{retries_follow}
 use Rattle.wh_engine.proofs.Whole.{keeps_whole}
 use Rattle.wh_engine.proofs.engine.Engine.retry.Goals as goal
 
