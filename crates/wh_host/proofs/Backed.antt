@@ -1,11 +1,11 @@
 -- What keeps tickets, slots, frames and the tax as they are.
-use Rattle.std.proofs.Common.{◌≡◌, ℕ, ◌==◌, ◌<◌, nat_lt, cond, Bool, true, false, List, [], ◌∷◌, length, map, zero, suc, slice_get, Option, Some, None, inl, inr, refl, sym, ap, ◌∙◌, arith}
+use Rattle.std.proofs.Common.{◌≡◌, ℕ, ◌==◌, nat_lt, cond, Bool, true, false, List, [], ◌∷◌, length, map, zero, suc, slice_get, Option, Some, None, inl, inr, refl, ap, ◌∙◌, arith}
 use Rattle.wh_model.specs.declared.memory.Need.{Need}
 use Rattle.wh_host_model.specs.declared.states.Offer.{Offer}
 use Rattle.wh_host_model.specs.declared.states.Offer.TheVariants.{Skipped, Zeroed, Hinted, Stale, Merged, FalseMatch}
 use Rattle.wh_host_model.specs.declared.states.Slot.{Slot}
 use Rattle.wh_host_model.specs.declared.states.Slot.TheVariants.{Vacant, Taken, Evicting, EvictVoid, Fetching, FetchVoid}
-use Rattle.wh_host_model.specs.Space.Errands.{Errand, errand_for, pass_of}
+use Rattle.wh_host_model.specs.Space.Errands.{errand_for, pass_of}
 use Rattle.wh_host_model.specs.Space.Moves.{has_pins, unpinned}
 use Rattle.wh_host_model.specs.Space.Offers.{Offers}
 use Rattle.wh_host_model.specs.Space.Parts.{Claimed, Space}

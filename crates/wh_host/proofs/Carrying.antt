@@ -7,7 +7,7 @@ use Rattle.wh_host_model.specs.declared.states.EvictEnd.{EvictEnd}
 use Rattle.wh_host_model.specs.declared.states.FetchEnd.{FetchEnd}
 use Rattle.wh_host_model.specs.declared.states.Slot.{Slot}
 use Rattle.wh_host_model.specs.declared.states.Slot.TheVariants.{Vacant, Taken, Evicting, EvictVoid, Fetching, FetchVoid}
-use Rattle.wh_host_model.specs.Space.Errands.{Errand, errand_for, to_read, to_write}
+use Rattle.wh_host_model.specs.Space.Errands.{errand_for, to_read, to_write}
 use Rattle.wh_host_model.specs.Space.Parts.{Occupant, Space, occupant_at, view}
 use Rattle.wh_host_model.specs.Space.Places.{IsFreePlace}
 use Rattle.wh_host_model.specs.Space.Sound.{IsSound}
@@ -21,7 +21,7 @@ use Rattle.wh_host_model.proofs.Space.Putting.{there_of}
 use Rattle.wh_instance.specs.Asked.{OfAnyTenant}
 use Rattle.wh_space.specs.Transits.{IsFetching}
 use Rattle.wh_host.specs.declared.parts.Resident.{Resident}
-use Rattle.wh_host.specs.Carried.{EndsEvict, HasKept, IsOut, IsPresentCall, KeepsFault, OnlyReleasedGo}
+use Rattle.wh_host.specs.Carried.{EndsEvict, IsOut, IsPresentCall, KeepsFault, OnlyReleasedGo}
 use Rattle.wh_host.specs.Hosting.{HostState, IsHost, resident_at}
 use Rattle.wh_host.proofs.Hosts.{of_who_is_there, one_value}
 use Rattle.wh_host.proofs.Paged.{alone_in, alone_on, fault_here, moved_as, only_moved, same_tenant, sound_in}

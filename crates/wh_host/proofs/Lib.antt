@@ -7,3 +7,4 @@ mod Requests
 mod Comers
 mod Paged
 mod Carrying
+mod Offering

@@ -1,5 +1,5 @@
 -- What pages that move leave of the host for which the code's host stands.
-use Rattle.std.proofs.Common.{◌≡◌, ◌≢◌, ℕ, zero, suc, ◌≤◌, ◌⊎◌, inl, inr, Bool, true, false, List, [], ◌∷◌, Option, Some, None, get_or, slice_get, slice_set, min, refl, sym, ap, subst, ◌∙◌, arith}
+use Rattle.std.proofs.Common.{◌≡◌, ◌≢◌, ℕ, zero, suc, ◌⊎◌, inl, Bool, true, false, List, [], ◌∷◌, Option, Some, None, get_or, slice_get, slice_set, refl, sym, subst, ◌∙◌}
 use Rattle.std.specs.Bool.{MatchBool}
 use Rattle.wh_model.specs.declared.memory.Need.{Need}
 use Rattle.wh_model.specs.Execution.Store.{Instance, Store}
@@ -14,14 +14,14 @@ use Rattle.wh_host_model.specs.Host.Events.{Event, provide}
 use Rattle.wh_host_model.specs.Host.Happens.{AwaitsFrame, Happens, IsLive, MovesPages, OnlyMoves, has_failed, moved}
 use Rattle.wh_host_model.specs.Host.Spaces.{AllLeftAlone}
 use Rattle.wh_host_model.specs.Host.Standing.{FirstStandsDuly, StandsDuly}
-use Rattle.wh_host_model.specs.Host.Worlds.{Doing, Entry, Suspension, Tenant, World, for_device, for_frame, store_in, tenant, with_tenant}
+use Rattle.wh_host_model.specs.Host.Worlds.{Doing, Entry, Suspension, Tenant, World, for_device, for_frame, store_in, with_tenant}
 use Rattle.wh_host_model.proofs.Host.Bridges.{failures_leave_all, provisions_leave_all}
 use Rattle.wh_host_model.proofs.Host.Holding.{suspensions_are_right}
 use Rattle.wh_instance.specs.Asked.{AwaitsNoFrame, FailsTenant, OfAnyTenant}
 use Rattle.wh_instance.specs.Tenancy.{IsTenant, TenantState}
 use Rattle.wh_host.specs.declared.parts.Resident.{Resident}
 use Rattle.wh_host.specs.Hosting.{HostState, IsHost, resident_at}
-use Rattle.wh_host.specs.Paging.{IsAwaiting, WaitsFor}
+use Rattle.wh_host.specs.Paging.{WaitsFor}
 use Rattle.wh_host.proofs.Hosts.{changed, found, nobody, of_who_is_there, one_value, reached_on, same_owner, somebody_else}
 use Rattle.wh_host.proofs.Requests.{moved_host, sound_here}
 

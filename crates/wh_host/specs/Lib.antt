@@ -10,3 +10,4 @@ pub mod Loading
 pub mod Paging
 pub mod Releasing
 pub mod Admitting
+pub mod Sharing

@@ -14,6 +14,7 @@ mod loading;
 mod parts;
 mod providing;
 mod releasing;
+mod scanning;
 #[cfg(test)]
 mod tests;
 mod transit;

@@ -1,4 +1,4 @@
-use Rattle.std.proofs.Common.{◌≡◌, Some, slice_set, inl, refl, sym, subst, ◌∙◌}
+use Rattle.std.proofs.Common.{Some, slice_set, inl, refl, sym, subst, ◌∙◌}
 use Rattle.wh_host.specs.Carried.{HasKept, KeepsFault}
 use Rattle.wh_host.proofs.Paged.{keeps_fault}
 use Rattle.wh_host.proofs.transit.keep_fault.Goals as goal

@@ -1,4 +1,4 @@
-use Rattle.std.proofs.Common.{◌≡◌, Some, is_ok, sym, ap, subst, ◌∙◌}
+use Rattle.std.proofs.Common.{◌≡◌, is_ok, sym, ap, subst, ◌∙◌}
 use Rattle.wh_space.specs.Errands.{ticket_place}
 use Rattle.wh_host.specs.Carried.{EndsEvict, KeepsFault, evict_fault}
 use Rattle.wh_host.specs.Hosting.{HostState, IsHost}

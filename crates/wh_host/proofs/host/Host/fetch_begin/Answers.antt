@@ -1,4 +1,4 @@
-use Rattle.std.proofs.Common.{◌≡◌, [], Some, None, sym, ap, subst}
+use Rattle.std.proofs.Common.{◌≡◌, Some, None, sym, ap, subst}
 use Rattle.wh_host_model.specs.Space.Tickets.{BeginsFetch}
 use Rattle.wh_host.specs.Hosting.{HostState, IsHost}
 use Rattle.wh_host.proofs.Carrying.{fetch_begun, fetching_out}

@@ -1,4 +1,4 @@
-use Rattle.std.proofs.Common.{◌≡◌, [], Some, OnOk, get_or, is_ok, sym, ap, subst, ◌∙◌}
+use Rattle.std.proofs.Common.{◌≡◌, [], OnOk, get_or, is_ok, sym, ap, subst, ◌∙◌}
 use Rattle.wh_host_model.specs.Space.Errands.{to_read}
 use Rattle.wh_host_model.specs.Space.Tickets.{CommitsFetch}
 use Rattle.wh_space.specs.Errands.{ticket_place}

@@ -1,8 +1,7 @@
-use Rattle.std.proofs.Common.{◌≡◌, ℕ, Some, None, Ok, Err, refl, sym, ap, subst, ◌∙◌}
-use Rattle.wh_host_model.specs.Host.Happens.{AwaitsFrame, MovesPages}
+use Rattle.std.proofs.Common.{◌≡◌, Some, refl, sym, ap, subst, ◌∙◌}
+use Rattle.wh_host_model.specs.Host.Happens.{AwaitsFrame}
 use Rattle.wh_host_model.specs.Space.Errands.{tickets}
 use Rattle.wh_host_model.specs.Space.Laws.{IsProvided}
-use Rattle.wh_host_model.specs.Space.Parts.{Space}
 use Rattle.wh_host_model.specs.Space.Provide.{FailsTruly, ProvidesTruly}
 use Rattle.wh_host.specs.Hosting.{HostState, IsHost, resident_at}
 use Rattle.wh_host.specs.Paging.{WaitsFor}

@@ -1,0 +1,82 @@
+//! Pages with equal bytes come to lie on one frame.
+
+ghost use Rattle.std.specs.Prelude.{◌≡◌, ◌+◌, ℕ, List, true, false, IfSome, IfNone, length};
+ghost use Rattle.wh_host_model.specs.Space.Offers.{OffersOf};
+ghost use Rattle.wh_host_model.specs.Space.Scanning.{IsDistinct, IsFullPass, Scans};
+ghost use Rattle.wh_scan.specs.Pass.{MayPass};
+ghost use Rattle.wh_host.specs.Backing.{KeepsBacking};
+ghost use Rattle.wh_host.specs.Paging.{MovesOnly};
+ghost use Rattle.wh_host.specs.Sharing.{CanOffer, CanScan, all_pages};
+
+use crate::host::Host;
+use wh_host_model::{InstId, Offer};
+use wh_kernels::PageHash;
+use wh_scan::{offer, scan_all};
+
+impl Host {
+    /// Offers all pages of all instances for sharing, by place and number, each under the hash of its bytes as they are.
+    /// Then as many frames are in use as there are distinct contents that aren't all zero, if the hash tells contents apart
+    /// and was the hash before. No byte of any page changes, and it takes no memory.
+    ///
+    /// Whether it was done: it is where frames and slots are fewer than 2^32 together, and so are the places.
+    pub fn scan<H: PageHash>(&mut self, hasher: &H) -> bool
+        ensures moves { MovesOnly self.old self.new }
+        ensures backing { KeepsBacking self.old.space self.new.space }
+        ensures done { CanScan self.old.space → result ≡ true }
+        ensures none { result ≡ false → self.new ≡ self.old }
+        ensures scans { result ≡ true → Scans (H.hashes hasher.now) self.old.space
+            (all_pages self.old.space) self.new.space }
+        ensures full { result ≡ true → MayPass (H.hashes hasher.now) self.old.space → IsFullPass
+            (H.hashes hasher.now) self.old.space (all_pages self.old.space) self.new.space }
+        ensures counts { result ≡ true → MayPass (H.hashes hasher.now) self.old.space
+            → (all : List (List ℕ)) → IsDistinct self.new.space all
+            → length all + length self.new.space.pool.free ≡ length self.new.space.pool.frames }
+    {
+        if !self.memory.has_few_pages() {
+            return false;
+        }
+        let places = self.memory.places();
+        if places > u32::MAX as usize {
+            return false;
+        }
+        self.memory.known();
+        scan_all(&mut self.memory, hasher, places as u32);
+        true
+    }
+
+    /// Offers a page of an instance for sharing, under any hash at all, and says what came of it. Where the instance is gone,
+    /// though another may be at its place, it is `Skipped`. No byte of any page changes.
+    ///
+    /// `None`, and nothing is done, where frames and slots are 2^32 together or more, or the place isn't below 2^32.
+    pub fn offer<H: PageHash>(
+        &mut self,
+        hasher: &H,
+        id: InstId,
+        page: u32,
+        hash: u64,
+    ) -> Option<Offer>
+        ensures moves { MovesOnly self.old self.new }
+        ensures backing { KeepsBacking self.old.space self.new.space }
+        ensures some { IfSome result (λ answer. OffersOf (H.hashes hasher.now) self.old.space
+            id.place id.number page hash answer self.new.space) }
+        ensures none { IfNone result ((¬ CanOffer self.old.space id.place)
+            × (self.new ≡ self.old)) }
+    {
+        if !self.memory.has_few_pages() {
+            return None;
+        }
+        let place = id.place;
+        if place > u32::MAX as usize {
+            return None;
+        }
+        let answer = offer(
+            &mut self.memory,
+            hasher,
+            place as u32,
+            id.number,
+            page,
+            hash,
+        );
+        Some(answer)
+    }
+}
