@@ -1,3 +1,4 @@
+pub mod Admitted
 pub mod Asked
 pub mod Called
 pub mod Instances

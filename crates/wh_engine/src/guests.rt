@@ -1,16 +1,77 @@
 // Instances that a script admits, calls and lets go.
 
-ghost use Rattle.std.specs.Prelude.{◌<◌, OnErr, OnOk, length};
+ghost use Rattle.std.specs.Prelude.{◌≡◌, ◌<◌, None, IfOk, OnErr, OnOk, length};
+ghost use Rattle.wh_commands.specs.Found.{params_of};
 ghost use Rattle.wh_host_model.specs.Lines.Made.{Made};
 ghost use Rattle.wh_host_model.specs.Lines.Settings.{Settings};
+ghost use Rattle.wh_replies.specs.View.{reply_of};
+ghost use Rattle.wh_engine.specs.Names.{number_of};
 ghost use Rattle.wh_engine.specs.Standing.{Stands};
-ghost use Rattle.wh_engine.specs.Obeying.{TakesCall};
+ghost use Rattle.wh_engine.specs.Obeying.{TakesCall, TakesGuest};
 
 use crate::engine::Engine;
-use crate::parts::{Invoked, Reception};
+use crate::parts::{Guest, Invoked, Reception};
 use std::alloc::{AllocError, Global};
+use wh_commands::Given;
+use wh_host::{ModuleId, Params};
+use wh_replies::Reply;
 
 impl Engine {
+    /// Admits an instance of the module of a number, under a free name: what is answered.
+    ///
+    /// # Errors
+    /// A growth of memory for what is kept of it was refused. Nothing was done then.
+    pub fn admit<'a>(
+        &mut self,
+        alloc: Global,
+        inst: &'a str,
+        of: usize,
+        given: Given,
+    ) -> Result<Reply<'a>, AllocError>
+        requires free { number_of self.old.guest_names inst.now ≡ None }
+        requires there { of < self.old.modules }
+        ensures ok { IfOk result (λ reply. (settings : Settings) (m : Made) → Stands settings self.old m
+            → TakesGuest settings m inst.now of (params_of given) (reply_of reply) self.new) }
+        ensures err { OnErr result ((settings : Settings) (m : Made) → Stands settings self.old m
+            → Stands settings self.new m) }
+    {
+        let name = String::from_str(alloc, inst)?;
+        self.guests.reserve(1)?;
+        self.guest_names.add(alloc, inst, self.guests.len())?;
+        let params = Params {
+            shares: given.shares,
+            min: given.min,
+            max: given.max,
+            fuel: given.fuel,
+            base: given.base,
+            salt: given.salt,
+            inputs: given.inputs,
+        };
+        match self.host.admit(alloc, ModuleId { number: of }, params) {
+            Ok(id) => {
+                let has_start = self.host.can_go_on(id);
+                self.guests.push_reserved(Guest {
+                    name,
+                    id,
+                    has_start,
+                    is_released: false,
+                    said: None,
+                });
+                Ok(Reply::AdmitOk {
+                    inst,
+                    number: id.number,
+                })
+            }
+            Err(error) => {
+                self.guest_names.remove(inst);
+                Ok(Reply::AdmitRefused {
+                    inst,
+                    fault: error.number(),
+                })
+            }
+        }
+    }
+
     /// Asks a call of the instance of a number. What came of it is said at the next drain.
     ///
     /// # Errors

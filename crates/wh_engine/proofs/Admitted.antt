@@ -1,0 +1,305 @@
+-- Instances that a script admits.
+use Rattle.std.proofs.Common.{arith, ◌≡◌, ◌≢◌, ℕ, zero, suc, ◌+◌, ◌<◌, ◌⊎◌, inl, inr, ◌↔◌, true, false, Bool, List, [], ◌∷◌, ◌++◌, map, length, get_or, slice_get, bytes_eq, string_bytes, option_map, Option, Some, None, Result, Ok, Err, refl, ap, sym, subst, ◌∙◌}
+use Rattle.std.specs.Bool.{MatchBool}
+use Rattle.std.specs.Global.{Vec}
+use Rattle.std.specs.List.{AllZip}
+use Rattle.std.specs.Map.{update}
+use Rattle.wh_model.specs.Format.Syntax.{Module}
+use Rattle.wh_model.specs.Execution.Instance.{Piece}
+use Rattle.wh_model.specs.Execution.Replay.{Outcome, returned, pending, Call}
+use Rattle.wh_host_model.specs.declared.plain.InstId.{InstId}
+use Rattle.std.proofs.Math.Seq.{get_or-append_seam}
+use Rattle.std.proofs.lemmas.Option.{same_Some}
+use Rattle.wh_model.specs.Execution.Store.{Instance, Store}
+use Rattle.wh_host_model.specs.Host.Worlds.{Params, Entry, Doing, Loaded, Tenant, World, tenant, journal, journal_calls}
+use Rattle.wh_host_model.specs.Host.Admission.{start_entry, StartsAs, writes, runs, ends, rest_of, LetsIn}
+use Rattle.wh_host_model.specs.Host.Happens.{AdmitAnswer, admit_ok, IsAdmit, is_admitted, isnt_admitted, no_memory_to_admit, IsLive}
+use Rattle.wh_host_model.specs.Host.Standing.{CanGoOn}
+use Rattle.wh_host_model.specs.Lines.Settings.{Settings}
+use Rattle.wh_host_model.specs.Lines.Texts as texts
+use Rattle.wh_host_model.specs.Lines.Texts.{Reply}
+use Rattle.wh_host_model.specs.Lines.Made as made
+use Rattle.wh_host_model.specs.Lines.Made.{Made, NamedModule}
+use Rattle.wh_host_model.specs.Lines.Receiving as receiving
+use Rattle.wh_host_model.specs.Lines.Receiving.{ReceivesGuest, first_outcome, new_guest}
+use Rattle.wh_host.specs.Hosting.{HostState, IsHost}
+use Rattle.wh_host.specs.Admitting.{AnswersAdmit, fault_answer}
+use Rattle.wh_host.specs.Paging.{IsGoing, Tells}
+use Rattle.wh_admit.specs.declared.error.AdmitError.{AdmitError}
+use Rattle.wh_admit.specs.declared.error.AdmitError.TheVariants.{NoModule, Shares, MinMax, Frames, Swap, Instances, MemoryMin, SegmentBounds, Memory}
+use Rattle.wh_admit.specs.Faults.{admit_number, fault_of}
+use Rattle.wh_script_model.specs.Following.{AreSame, IsFollowed, is_there, Knows, StaysWhole}
+use Rattle.wh_script_model.specs.Replies.{admit_reply}
+use Rattle.wh_script_model.specs.Laws.{places_after}
+use Rattle.wh_script_model.proofs.CommandsGuests.{guests_follow}
+use Rattle.wh_script_model.proofs.CommandsKnown.{zip_last}
+use Rattle.wh_host_model.specs.Host.Admission.{AdmitFault}
+use Rattle.wh_replies.specs.View.{status_of}
+use Rattle.wh_engine.specs.Names.{AreNames, number_of}
+use Rattle.wh_engine.specs.declared.engine.Engine.{Engine}
+use Rattle.wh_engine.specs.declared.names.Names.{Names}
+use Rattle.wh_engine.specs.declared.parts.Guest.{Guest}
+use Rattle.wh_engine.specs.Standing.{Stands, AreGuests, IsGuest}
+use Rattle.wh_engine.specs.Obeying.{TakesGuest}
+use Rattle.wh_engine.proofs.Asked.{whole_of}
+use Rattle.wh_engine.proofs.Naming.{named_next, unnamed}
+
+-- ---- whether there is a start
+
+abbrev HasNone : List Piece → Option ℕ → Type 0
+HasNone pieces func = (pieces ≡ []) × (func ≡ None)
+
+ends_at_once : (pieces : List Piece) (func : Option ℕ) → first_outcome pieces func ≡ returned [] → HasNone pieces func
+ends_at_once [] None e = (refl, refl)
+ends_at_once [] (Some x) e = absurd (cc e)
+ends_at_once (p ∷ pieces) func e = absurd (cc e)
+
+waits_first : (pieces : List Piece) (func : Option ℕ) → first_outcome pieces func ≡ pending → HasNone pieces func → ⊥
+waits_first [] None e none = cc e
+waits_first [] (Some x) e none = cc none.1
+waits_first (p ∷ pieces) func e none = cc none.0
+
+abbrev outcome_of : List Call → Outcome
+outcome_of [] = pending
+outcome_of (c ∷ cs) = c.outcome
+
+told_true : {A : Type 0} (x : A) (xs : List A) (told : Bool) → MatchBool told (x ∷ xs ≢ []) (¬ (x ∷ xs ≢ [])) → told ≡ true
+told_true x xs true is = refl
+told_true x xs false is = absurd (is (λ e. cc e))
+
+told_false : {A : Type 0} (xs : List A) (told : Bool) → xs ≡ [] → MatchBool told (xs ≢ []) (¬ (xs ≢ [])) → told ≡ true → ⊥
+told_false xs true none is e = is none
+told_false xs false none is e = cc e
+
+-- what can go on has a start, and only that
+starts_so : {inst : Instance} {s : Store} {first : List Piece} {func : Option ℕ} {fuel : ℕ} {d : Doing} {ended open_calls : List Entry} → StartsAs inst s first func fuel d ended open_calls
+    → (pieces : List Piece) → first_outcome pieces func ≡ outcome_of (journal_calls (ended ++ open_calls))
+    → (told : Bool) → MatchBool told (open_calls ≢ []) (¬ (open_calls ≢ [])) → (told ≡ true) ↔ ¬ (HasNone pieces func)
+starts_so {func = func} (writes some) pieces same told is = (λ e none. waits_first pieces func same none, λ h. told_true _ _ told is)
+starts_so {func = func} (runs none some faces) pieces same told is = (λ e none. waits_first pieces func same none, λ h. told_true _ _ told is)
+starts_so {func = func} (ends none lacks) pieces same told is = (λ e none. told_false _ told refl is e, λ h. absurd (h (ends_at_once pieces func same)))
+
+-- ---- the last of lists
+
+zip_end : {A B : Type 0} (R : A → B → Type 0) (xs : List A) (ys : List B) (x : A) (y : B) → AllZip R (xs ++ x ∷ []) (ys ++ y ∷ []) → R x y
+zip_end R [] [] x y h = h.0
+zip_end R [] (b ∷ []) x y h = absurd h.1
+zip_end R [] (b ∷ c ∷ ys) x y h = absurd h.1
+zip_end R (a ∷ []) [] x y h = absurd h.1
+zip_end R (a ∷ c ∷ xs) [] x y h = absurd h.1
+zip_end R (a ∷ xs) (b ∷ ys) x y h = zip_end R xs ys x y h.1
+
+guests_end : (k : ℕ) (xs : List Guest) (gs : List made.Guest) (x : Guest) (g : made.Guest) → AreGuests k xs gs → IsGuest (k + length xs) x g → AreGuests k (xs ++ x ∷ []) (gs ++ g ∷ [])
+guests_end k [] [] x g are is = let e : k + 0 ≡ k = omega arith in (subst (λ n. IsGuest n x g) e is, tt)
+guests_end k [] (h ∷ gs) x g are is = absurd are
+guests_end k (y ∷ xs) [] x g are is = absurd are
+guests_end k (y ∷ xs) (h ∷ gs) x g are is = let e : k + length (y ∷ xs) ≡ (k + 1) + length xs = omega arith in (are.0, guests_end (k + 1) xs gs x g are.1 (subst (λ n. IsGuest n x g) e is))
+
+pub guests_long : (k : ℕ) (xs : List Guest) (gs : List made.Guest) → AreGuests k xs gs → length xs ≡ length gs
+guests_long k [] [] are = refl
+guests_long k [] (g ∷ gs) are = absurd are
+guests_long k (x ∷ xs) [] are = absurd are
+guests_long k (x ∷ xs) (g ∷ gs) are = let e = guests_long (k + 1) xs gs are.1 in omega (arith, e)
+
+map_end : {A B : Type 0} (f : A → B) (xs : List A) (x : A) → map f (xs ++ x ∷ []) ≡ map f xs ++ f x ∷ []
+map_end f [] x = refl
+map_end f (y ∷ xs) x = ap (λ zs. f y ∷ zs) (map_end f xs x)
+
+map_long : {A B : Type 0} (f : A → B) (xs : List A) → length (map f xs) ≡ length xs
+map_long f [] = refl
+map_long f (x ∷ xs) = let e = map_long f xs in omega (arith, e)
+
+there_at : {A : Type 0} (xs : List A) (i : ℕ) → i < length xs → (x : A) × (slice_get xs i ≡ Some x)
+there_at [] i within = absurd (omega (arith, within))
+there_at (x ∷ xs) zero within = (x, refl)
+there_at (x ∷ xs) (suc i) within = let e : i < length xs = omega (arith, within) in there_at xs i e
+
+match_so : (b : Bool) {P Q R S : Type 0} → (P → R) → (Q → S) → MatchBool b P Q → MatchBool b R S
+match_so true f g h = f h
+match_so false f g h = g h
+
+-- ---- one that comes
+
+record IsEntered (w w2 : World) (k : ℕ) (p : Params) (id : InstId) : Type 0 where
+  lets : LetsIn w k p id.place id.number w2
+
+entered_as : (w w2 : World) (k : ℕ) (p : Params) (id : InstId) (answer : AdmitAnswer) → answer ≡ admit_ok id → IsAdmit w k p answer w2 → IsEntered w w2 k p id
+entered_as w w2 k p id _ e (is_admitted {id = own} lets) = let same : own ≡ id = cc e in record { lets = subst (λ x. LetsIn w k p x.place x.number w2) same lets }
+entered_as w _ k p id _ e (isnt_admitted first) = absurd (cc e)
+entered_as w _ k p id _ e (no_memory_to_admit none) = absurd (cc e)
+
+-- the tenant of an admission
+abbrev tenant_of : {w w2 : World} {k number : ℕ} {p : Params} {place : ℕ} → LetsIn w k p place number w2 → Tenant
+tenant_of {k = k} {p = p} {place = place} l = record {
+  place = place;
+  of = k;
+  params = p;
+  inst = l.inst;
+  rest = rest_of l.s;
+  doing = l.doing;
+  ended = l.ended;
+  open_calls = l.open_calls;
+  stands_for = None;
+  dead = false;
+}
+
+tenants_after : {w w2 : World} {k number place : ℕ} {p : Params} (l : LetsIn w k p place number w2) → w2.tenants ≡ w.tenants ++ Some (tenant_of l) ∷ []
+tenants_after l = ap (λ (z : World). z.tenants) l.after
+
+comes_there : {w w2 : World} {k number place : ℕ} {p : Params} (l : LetsIn w k p place number w2) → tenant w2 number ≡ Some (tenant_of l)
+comes_there {w = w} {w2 = w2} {number = number} l =
+    ap (λ ts. get_or ts number None) (tenants_after l) ∙ ap (λ n. get_or (w.tenants ++ Some (tenant_of l) ∷ []) n None) l.next ∙ get_or-append_seam w.tenants (Some (tenant_of l)) [] None
+
+calls_known : {w : World} {g : made.Guest} {t : Tenant} → IsFollowed AreSame w g (Some t) → g.calls ≡ journal_calls (journal t)
+calls_known (is_there of_one same none) = same
+
+start_known : {w w2 : World} {k number place : ℕ} {p : Params} (l : LetsIn w k p place number w2) {g : made.Guest} → IsFollowed AreSame w2 g (Some (tenant_of l)) → g.m.start ≡ l.loaded.m.start
+start_known {w = w} {w2 = w2} {k = k} l {g} (is_there of_one same none) =
+    let here : slice_get w2.modules k ≡ Some l.loaded = ap (λ (z : World). slice_get z.modules k) l.after ∙ l.is_loaded in
+    let one : of_one.loaded ≡ l.loaded = same_Some of_one.loaded l.loaded (sym of_one.is_loaded ∙ here) in
+    ap (λ (z : Module). z.start) of_one.of_one ∙ ap (λ (z : Loaded). z.m.start) one
+
+open_of : {w w2 : World} {k number place : ℕ} {p : Params} (l : LetsIn w k p place number w2) → IsGoing w2 (record { place = place; number = number }) → l.open_calls ≢ []
+open_of l going = let same : going.0 ≡ tenant_of l = same_Some going.0 (tenant_of l) (sym going.1.0 ∙ comes_there l) in subst (λ (t : Tenant). t.open_calls ≢ []) same going.2.0
+
+-- so it has a start where it can go on
+has_start : {w w2 : World} {k number place : ℕ} {p : Params} (l : LetsIn w k p place number w2) (gs : List made.Guest) (g : made.Guest) (pieces : List Piece) (h2 : HostState) (told : Bool)
+    → AllZip (IsFollowed AreSame w2) (gs ++ g ∷ []) w2.tenants → g.calls ≡ (start_entry g.m.start p.fuel (first_outcome pieces g.m.start)).call ∷ []
+    → IsHost h2 w2 → Tells h2 told (λ z. IsGoing z (record { place = place; number = number })) → (told ≡ true) ↔ ¬ (HasNone pieces g.m.start)
+has_start {w = w} {w2 = w2} {k = k} {number = number} {place = place} {p = p} l gs g pieces h2 told all calls is2 tells =
+    let followed = zip_end (IsFollowed AreSame w2) gs w.tenants g (Some (tenant_of l)) (subst (AllZip (IsFollowed AreSame w2) (gs ++ g ∷ [])) (tenants_after l) all) in
+    let known = calls_known followed in
+    let start : g.m.start ≡ l.loaded.m.start = start_known l followed in
+    let same : first_outcome pieces l.loaded.m.start ≡ outcome_of (journal_calls (l.ended ++ l.open_calls)) =
+        subst (λ f. first_outcome pieces f ≡ outcome_of (journal_calls (l.ended ++ l.open_calls))) start (ap outcome_of (sym calls ∙ known)) in
+    let is : MatchBool told (l.open_calls ≢ []) (¬ (l.open_calls ≢ [])) =
+        match_so told
+        (λ going. open_of l going)
+        (λ none some. none (tenant_of l, (comes_there l, refl), (some, inl refl)))
+        (tells w2 is2) in
+    subst (λ f. (told ≡ true) ↔ ¬ (HasNone pieces f)) (sym start) (starts_so l.starts pieces same told is)
+
+-- ---- the engine
+
+abbrev pub with_guests : Engine → HostState → Names → Vec Guest → Engine
+with_guests e h names xs = record e { host = h; guest_names = names; guests = xs }
+
+-- the new instance as the engine keeps it
+pub record IsNewGuest (x : Guest) (inst : List ℕ) (own : InstId) : Type 0 where
+  pub id : x.id ≡ own
+  pub name : string_bytes x.name ≡ inst
+  pub live : x.is_released ≡ false
+  pub unsaid : x.said ≡ None
+
+new_stands : (settings : Settings) (e : Engine) (m : Made) (named : NamedModule) (inst : List ℕ) (k : ℕ) (p : Params) (id : InstId) (h2 : HostState) (names : Names) (x : Guest) (xs : Vec Guest)
+    → (s : Stands settings e m) → slice_get m.modules k ≡ Some named
+    → ((other : List ℕ) → number_of names other ≡ update bytes_eq (number_of e.guest_names) inst (Some (length e.guests.items)) other)
+    → Tells h2 x.has_start (λ z. IsGoing z id) → IsNewGuest x inst id → xs.items ≡ e.guests.items ++ x ∷ []
+    → (w2 : World) → LetsIn s.world k p id.place id.number w2
+    → (m2 : Made) (reply : Reply) → reply ≡ texts.admit_ok inst id.number → ReceivesGuest true settings m inst named.m p reply m2 → IsHost h2 w2
+    → Knows settings w2 m2 (map (λ (y : Guest). y.id.place) e.guests.items ++ id.place ∷ [])
+    → TakesGuest settings m inst k p reply (with_guests e h2 names xs)
+new_stands settings e m named inst k p id h2 names x xs s at sets tells is items w2 lets _ _ eq (receiving.isnt_admitted fault first) is2 knows2 = absurd (cc eq)
+new_stands settings e m named inst k p id h2 names x xs s at sets tells is items w2 lets _ _ eq (receiving.admission_wants scarce none) is2 knows2 = absurd (cc eq)
+new_stands settings e m named inst k p id h2 names x xs s at sets tells is items w2 lets _ _ eq (receiving.is_admitted {inst = own} {s = store} {pieces = pieces} none initial) is2 knows2 =
+    let g = new_guest inst named.m p own pieces in
+    let long : length e.guests.items ≡ length m.guests = guests_long 0 e.guests.items m.guests s.guests in
+    let number : id.number ≡ length m.guests = cc eq in
+    let place : x.id.number ≡ 0 + length e.guests.items = let a = ap (λ (y : InstId). y.number) is.id in omega (arith, a, number, long) in
+    let at_end : IsGuest (0 + length e.guests.items) x g = record {
+      number = place;
+      name = is.name;
+      starts = has_start lets m.guests g pieces h2 x.has_start knows2.guests refl is2 tells;
+      released = is.live;
+      said = ap (λ o. option_map status_of o) is.unsaid;
+    } in
+    (named, at, record m { guests = m.guests ++ g ∷ [] }, receiving.is_admitted none initial, record {
+      world = w2;
+      is = is2;
+      modules = s.modules;
+      knows = subst (Knows settings w2 (record m { guests = m.guests ++ g ∷ [] }))
+          (sym (ap (λ ys. map (λ (y : Guest). y.id.place) ys) items ∙ map_end (λ (y : Guest). y.id.place) e.guests.items x
+          ∙ ap (λ (y : InstId). map (λ (z : Guest). z.id.place) e.guests.items ++ y.place ∷ []) is.id)) knows2;
+      module_names = s.module_names;
+      guest_names = subst (AreNames (number_of names)) (sym (map_end (λ (y : made.Guest). y.name) m.guests g))
+          (named_next (number_of e.guest_names) (number_of names) (map (λ (y : made.Guest). y.name) m.guests) inst (length e.guests.items) s.guest_names
+          (long ∙ sym (map_long (λ (y : made.Guest). y.name) m.guests)) sets);
+      guests = subst (λ ys. AreGuests 0 ys (m.guests ++ g ∷ [])) (sym items) (guests_end 0 e.guests.items m.guests x g s.guests at_end);
+      invoked = s.invoked;
+    })
+
+-- it is admitted
+pub admitted : (settings : Settings) (e : Engine) (m : Made) (inst : List ℕ) (k : ℕ) (p : Params) (id : InstId) (h2 : HostState) (names : Names) (x : Guest) (xs : Vec Guest)
+    → Stands settings e m → k < e.modules → AnswersAdmit e.host k p (Ok id) h2 → StaysWhole e.host.space h2.space
+    → ((other : List ℕ) → number_of names other ≡ update bytes_eq (number_of e.guest_names) inst (Some (length e.guests.items)) other)
+    → Tells h2 x.has_start (λ z. IsGoing z id) → IsNewGuest x inst id → xs.items ≡ e.guests.items ++ x ∷ []
+    → TakesGuest settings m inst k p (texts.admit_ok inst id.number) (with_guests e h2 names xs)
+admitted settings e m inst k p id h2 names x xs s within answers whole sets tells is items =
+    let w = s.world in
+    let did = answers w s.is in
+    let there = there_at m.modules k (subst (λ n. k < n) s.modules within) in
+    let entered = entered_as w did.1 k p id did.0 did.2 did.3 in
+    let reached = s.is.reached in
+    let follows = guests_follow reached.frames reached.slots reached.tax reached.events w reached.happen settings m (map (λ (y : Guest). y.id.place) e.guests.items) k there.0 inst p
+        (admit_ok id) did.1 s.knows there.1 (is_admitted entered.lets) (whole_of e.host h2 w did.1 s.is did.4 whole) in
+    new_stands settings e m there.0 inst k p id h2 names x xs s there.1 sets tells is items did.1 entered.lets follows.0 (texts.admit_ok inst id.number) refl follows.1 did.4 follows.2
+
+-- ---- one that doesn't come
+
+refused_as : (inst : List ℕ) (error : AdmitError) → admit_reply inst (fault_answer (fault_of error)) ≡ texts.admit_refused inst (admit_number error)
+refused_as inst NoModule = refl
+refused_as inst Shares = refl
+refused_as inst MinMax = refl
+refused_as inst Frames = refl
+refused_as inst Swap = refl
+refused_as inst Instances = refl
+refused_as inst MemoryMin = refl
+refused_as inst SegmentBounds = refl
+refused_as inst Memory = refl
+
+refused_engine : (settings : Settings) (e : Engine) (m : Made) (h2 : HostState) (names : Names) (xs : Vec Guest) → Stands settings e m
+    → AreNames (number_of names) (map (λ (y : made.Guest). y.name) m.guests) → xs.items ≡ e.guests.items
+    → (w2 : World) → IsHost h2 w2 → Knows settings w2 m (map (λ (y : Guest). y.id.place) e.guests.items) → Stands settings (with_guests e h2 names xs) m
+refused_engine settings e m h2 names xs s are items w2 is2 knows2 = record {
+  world = w2;
+  is = is2;
+  modules = s.modules;
+  knows = subst (λ ys. Knows settings w2 m (map (λ (y : Guest). y.id.place) ys)) (sym items) knows2;
+  module_names = s.module_names;
+  guest_names = are;
+  guests = subst (λ ys. AreGuests 0 ys m.guests) (sym items) s.guests;
+  invoked = s.invoked;
+}
+
+places_refused : (settings : Settings) (w2 : World) (m2 : Made) (places : List ℕ) (o : Option AdmitFault) → Knows settings w2 m2 (places_after places (fault_answer o)) → Knows settings w2 m2 places
+places_refused settings w2 m2 places (Some fault) knows = knows
+places_refused settings w2 m2 places None knows = knows
+
+refused_stands : (settings : Settings) (e : Engine) (m : Made) (named : NamedModule) (inst : List ℕ) (k : ℕ) (p : Params) (fault : ℕ) (h2 : HostState) (names : Names) (xs : Vec Guest)
+    → Stands settings e m → slice_get m.modules k ≡ Some named → AreNames (number_of names) (map (λ (y : made.Guest). y.name) m.guests) → xs.items ≡ e.guests.items
+    → (w2 : World) (m2 : Made) (reply : Reply) → reply ≡ texts.admit_refused inst fault → ReceivesGuest true settings m inst named.m p reply m2 → IsHost h2 w2
+    → Knows settings w2 m2 (map (λ (y : Guest). y.id.place) e.guests.items)
+    → TakesGuest settings m inst k p reply (with_guests e h2 names xs)
+refused_stands settings e m named inst k p fault h2 names xs s at are items w2 _ _ eq (receiving.is_admitted none initial) is2 knows2 = absurd (cc eq)
+refused_stands settings e m named inst k p fault h2 names xs s at are items w2 _ _ eq (receiving.isnt_admitted own first) is2 knows2 =
+    (named, at, m, receiving.isnt_admitted own first, refused_engine settings e m h2 names xs s are items w2 is2 knows2)
+refused_stands settings e m named inst k p fault h2 names xs s at are items w2 _ _ eq (receiving.admission_wants scarce none) is2 knows2 =
+    (named, at, m, receiving.admission_wants scarce none, refused_engine settings e m h2 names xs s are items w2 is2 knows2)
+
+pub refused : (settings : Settings) (e : Engine) (m : Made) (inst : List ℕ) (k : ℕ) (p : Params) (error : AdmitError) (h2 : HostState) (given names : Names) (xs : Vec Guest)
+    → Stands settings e m → k < e.modules → number_of e.guest_names inst ≡ None → AnswersAdmit e.host k p (Err error) h2 → StaysWhole e.host.space h2.space
+    → ((other : List ℕ) → number_of given other ≡ update bytes_eq (number_of e.guest_names) inst (Some (length e.guests.items)) other)
+    → ((other : List ℕ) → number_of names other ≡ update bytes_eq (number_of given) inst None other)
+    → xs.items ≡ e.guests.items
+    → TakesGuest settings m inst k p (texts.admit_refused inst (admit_number error)) (with_guests e h2 names xs)
+refused settings e m inst k p error h2 given names xs s within free answers whole sets clears items =
+    let w = s.world in
+    let did = answers w s.is in
+    let there = there_at m.modules k (subst (λ n. k < n) s.modules within) in
+    let reached = s.is.reached in
+    let follows = guests_follow reached.frames reached.slots reached.tax reached.events w reached.happen settings m (map (λ (y : Guest). y.id.place) e.guests.items) k there.0 inst p
+        (fault_answer (fault_of error)) did.1 s.knows there.1 (subst (λ a. IsAdmit w k p a did.1) did.2 did.3) (whole_of e.host h2 w did.1 s.is did.4 whole) in
+    let are = unnamed (number_of e.guest_names) (number_of given) (number_of names) (map (λ (y : made.Guest). y.name) m.guests) inst (Some (length e.guests.items)) s.guest_names free sets clears in
+    subst (λ r. TakesGuest settings m inst k p r (with_guests e h2 names xs)) (refused_as inst error)
+    (refused_stands settings e m there.0 inst k p (admit_number error) h2 names xs s there.1 are items did.1 follows.0 (admit_reply inst (fault_answer (fault_of error))) (refused_as inst error)
+    follows.1 did.4 (places_refused settings did.1 follows.0 (map (λ (y : Guest). y.id.place) e.guests.items) (fault_of error) follows.2))
