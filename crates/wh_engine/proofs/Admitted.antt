@@ -171,12 +171,12 @@ has_start {w = w} {w2 = w2} {k = k} {number = number} {place = place} {p = p} l 
     let known = calls_known followed in
     let start : g.m.start ≡ l.loaded.m.start = start_known l followed in
     let same : first_outcome pieces l.loaded.m.start ≡ outcome_of (journal_calls (l.ended ++ l.open_calls)) =
-        subst (λ f. first_outcome pieces f ≡ outcome_of (journal_calls (l.ended ++ l.open_calls))) start (ap outcome_of (sym calls ∙ known)) in
+    subst (λ f. first_outcome pieces f ≡ outcome_of (journal_calls (l.ended ++ l.open_calls))) start (ap outcome_of (sym calls ∙ known)) in
     let is : MatchBool told (l.open_calls ≢ []) (¬ (l.open_calls ≢ [])) =
-        match_so told
-        (λ going. open_of l going)
-        (λ none some. none (tenant_of l, (comes_there l, refl), (some, inl refl)))
-        (tells w2 is2) in
+    match_so told
+    (λ going. open_of l going)
+    (λ none some. none (tenant_of l, (comes_there l, refl), (some, inl refl)))
+    (tells w2 is2) in
     subst (λ f. (told ≡ true) ↔ ¬ (HasNone pieces f)) (sym start) (starts_so l.starts pieces same told is)
 
 -- ---- the engine
@@ -192,16 +192,16 @@ pub record IsNewGuest (x : Guest) (inst : List ℕ) (own : InstId) : Type 0 wher
   pub unsaid : x.said ≡ None
 
 new_stands : (settings : Settings) (e : Engine) (m : Made) (named : NamedModule) (inst : List ℕ) (k : ℕ) (p : Params) (id : InstId) (h2 : HostState) (names : Names) (x : Guest) (xs : Vec Guest)
-    → (s : Stands settings e m) → slice_get m.modules k ≡ Some named
+    → (s : Stands settings e m) → number_of e.guest_names inst ≡ None → slice_get m.modules k ≡ Some named
     → ((other : List ℕ) → number_of names other ≡ update bytes_eq (number_of e.guest_names) inst (Some (length e.guests.items)) other)
     → Tells h2 x.has_start (λ z. IsGoing z id) → IsNewGuest x inst id → xs.items ≡ e.guests.items ++ x ∷ []
     → (w2 : World) → LetsIn s.world k p id.place id.number w2
     → (m2 : Made) (reply : Reply) → reply ≡ texts.admit_ok inst id.number → ReceivesGuest true settings m inst named.m p reply m2 → IsHost h2 w2
     → Knows settings w2 m2 (map (λ (y : Guest). y.id.place) e.guests.items ++ id.place ∷ [])
     → TakesGuest settings m inst k p reply (with_guests e h2 names xs)
-new_stands settings e m named inst k p id h2 names x xs s at sets tells is items w2 lets _ _ eq (receiving.isnt_admitted fault first) is2 knows2 = absurd (cc eq)
-new_stands settings e m named inst k p id h2 names x xs s at sets tells is items w2 lets _ _ eq (receiving.admission_wants scarce none) is2 knows2 = absurd (cc eq)
-new_stands settings e m named inst k p id h2 names x xs s at sets tells is items w2 lets _ _ eq (receiving.is_admitted {inst = own} {s = store} {pieces = pieces} none initial) is2 knows2 =
+new_stands settings e m named inst k p id h2 names x xs s free at sets tells is items w2 lets _ _ eq (receiving.isnt_admitted fault first) is2 knows2 = absurd (cc eq)
+new_stands settings e m named inst k p id h2 names x xs s free at sets tells is items w2 lets _ _ eq (receiving.admission_wants scarce none) is2 knows2 = absurd (cc eq)
+new_stands settings e m named inst k p id h2 names x xs s free at sets tells is items w2 lets _ _ eq (receiving.is_admitted {inst = own} {s = store} {pieces = pieces} none initial) is2 knows2 =
     let g = new_guest inst named.m p own pieces in
     let long : length e.guests.items ≡ length m.guests = guests_long 0 e.guests.items m.guests s.guests in
     let number : id.number ≡ length m.guests = cc eq in
@@ -212,37 +212,42 @@ new_stands settings e m named inst k p id h2 names x xs s at sets tells is items
       starts = has_start lets m.guests g pieces h2 x.has_start knows2.guests refl is2 tells;
       released = is.live;
       said = ap (λ o. option_map status_of o) is.unsaid;
-    } in
-    (named, at, record m { guests = m.guests ++ g ∷ [] }, receiving.is_admitted none initial, record {
-      world = w2;
-      is = is2;
-      modules = s.modules;
-      knows = subst (Knows settings w2 (record m { guests = m.guests ++ g ∷ [] }))
-          (sym (ap (λ ys. map (λ (y : Guest). y.id.place) ys) items ∙ map_end (λ (y : Guest). y.id.place) e.guests.items x
-          ∙ ap (λ (y : InstId). map (λ (z : Guest). z.id.place) e.guests.items ++ y.place ∷ []) is.id)) knows2;
-      module_names = s.module_names;
-      guest_names = subst (AreNames (number_of names)) (sym (map_end (λ (y : made.Guest). y.name) m.guests g))
-          (named_next (number_of e.guest_names) (number_of names) (map (λ (y : made.Guest). y.name) m.guests) inst (length e.guests.items) s.guest_names
-          (long ∙ sym (map_long (λ (y : made.Guest). y.name) m.guests)) sets);
-      guests = subst (λ ys. AreGuests 0 ys (m.guests ++ g ∷ [])) (sym items) (guests_end 0 e.guests.items m.guests x g s.guests at_end);
-      invoked = s.invoked;
-    })
+    } in (
+      named,
+      at,
+      record m { guests = m.guests ++ g ∷ [] },
+      receiving.is_admitted none initial,
+      record {
+        world = w2;
+        is = is2;
+        modules = s.modules;
+        knows = subst (Knows settings w2 (record m { guests = m.guests ++ g ∷ [] }))
+            (sym (ap (λ ys. map (λ (y : Guest). y.id.place) ys) items ∙ map_end (λ (y : Guest). y.id.place) e.guests.items x
+            ∙ ap (λ (y : InstId). map (λ (z : Guest). z.id.place) e.guests.items ++ y.place ∷ []) is.id)) knows2;
+        module_names = s.module_names;
+        guest_names = subst (AreNames (number_of names)) (sym (map_end (λ (y : made.Guest). y.name) m.guests g))
+            (named_next (number_of e.guest_names) (number_of names) (map (λ (y : made.Guest). y.name) m.guests) inst (length e.guests.items) s.guest_names free
+            (long ∙ sym (map_long (λ (y : made.Guest). y.name) m.guests)) sets);
+        guests = subst (λ ys. AreGuests 0 ys (m.guests ++ g ∷ [])) (sym items) (guests_end 0 e.guests.items m.guests x g s.guests at_end);
+        invoked = s.invoked;
+      },
+    )
 
 -- it is admitted
 pub admitted : (settings : Settings) (e : Engine) (m : Made) (inst : List ℕ) (k : ℕ) (p : Params) (id : InstId) (h2 : HostState) (names : Names) (x : Guest) (xs : Vec Guest)
-    → Stands settings e m → k < e.modules → AnswersAdmit e.host k p (Ok id) h2 → StaysWhole e.host.space h2.space
+    → Stands settings e m → number_of e.guest_names inst ≡ None → k < e.modules → AnswersAdmit e.host k p (Ok id) h2 → StaysWhole e.host.space h2.space
     → ((other : List ℕ) → number_of names other ≡ update bytes_eq (number_of e.guest_names) inst (Some (length e.guests.items)) other)
     → Tells h2 x.has_start (λ z. IsGoing z id) → IsNewGuest x inst id → xs.items ≡ e.guests.items ++ x ∷ []
     → TakesGuest settings m inst k p (texts.admit_ok inst id.number) (with_guests e h2 names xs)
-admitted settings e m inst k p id h2 names x xs s within answers whole sets tells is items =
+admitted settings e m inst k p id h2 names x xs s free within answers whole sets tells is items =
     let w = s.world in
     let did = answers w s.is in
     let there = there_at m.modules k (subst (λ n. k < n) s.modules within) in
     let entered = entered_as w did.1 k p id did.0 did.2 did.3 in
     let reached = s.is.reached in
     let follows = guests_follow reached.frames reached.slots reached.tax reached.events w reached.happen settings m (map (λ (y : Guest). y.id.place) e.guests.items) k there.0 inst p
-        (admit_ok id) did.1 s.knows there.1 (is_admitted entered.lets) (whole_of e.host h2 w did.1 s.is did.4 whole) in
-    new_stands settings e m there.0 inst k p id h2 names x xs s there.1 sets tells is items did.1 entered.lets follows.0 (texts.admit_ok inst id.number) refl follows.1 did.4 follows.2
+    (admit_ok id) did.1 s.knows there.1 (is_admitted entered.lets) (whole_of e.host h2 w did.1 s.is did.4 whole) in
+    new_stands settings e m there.0 inst k p id h2 names x xs s free there.1 sets tells is items did.1 entered.lets follows.0 (texts.admit_ok inst id.number) refl follows.1 did.4 follows.2
 
 -- ---- one that doesn't come
 
@@ -298,7 +303,7 @@ refused settings e m inst k p error h2 given names xs s within free answers whol
     let there = there_at m.modules k (subst (λ n. k < n) s.modules within) in
     let reached = s.is.reached in
     let follows = guests_follow reached.frames reached.slots reached.tax reached.events w reached.happen settings m (map (λ (y : Guest). y.id.place) e.guests.items) k there.0 inst p
-        (fault_answer (fault_of error)) did.1 s.knows there.1 (subst (λ a. IsAdmit w k p a did.1) did.2 did.3) (whole_of e.host h2 w did.1 s.is did.4 whole) in
+    (fault_answer (fault_of error)) did.1 s.knows there.1 (subst (λ a. IsAdmit w k p a did.1) did.2 did.3) (whole_of e.host h2 w did.1 s.is did.4 whole) in
     let are = unnamed (number_of e.guest_names) (number_of given) (number_of names) (map (λ (y : made.Guest). y.name) m.guests) inst (Some (length e.guests.items)) s.guest_names free sets clears in
     subst (λ r. TakesGuest settings m inst k p r (with_guests e h2 names xs)) (refused_as inst error)
     (refused_stands settings e m there.0 inst k p (admit_number error) h2 names xs s there.1 are items did.1 follows.0 (admit_reply inst (fault_answer (fault_of error))) (refused_as inst error)

@@ -73,12 +73,12 @@ asked asks command reply name law touches settings files line m e h2 x i r s nam
     let answer = did.0 in
     let w2 = did.1 in
     let happened : asks w (record { place = x.id.place; number = i }) answer w2 =
-        subst (λ id. asks w id answer w2) (id_of x i (own_number e m settings i x s at)) did.3 in
+    subst (λ id. asks w id answer w2) (id_of x i (own_number e m settings i x s at)) did.3 in
     let is2 = did.4 in
     let reached = s.is.reached in
     let follows = law reached.frames reached.slots reached.tax reached.events w reached.happen settings files line m
-        (map (λ (y : Guest). y.id.place) e.guests.items) i x.id.place named.0 answer w2 s.knows named.1
-        (placed_at e.guests.items i x at) happened (whole_of e.host h2 w w2 s.is is2 whole) in
+    (map (λ (y : Guest). y.id.place) e.guests.items) i x.id.place named.0 answer w2 s.knows named.1
+    (placed_at e.guests.items i x at) happened (whole_of e.host h2 w w2 s.is is2 whole) in
     (answer, did.2, follows.0, follows.1, stands_on settings e m follows.0 h2 w2 s is2 follows.2 (touches settings files m follows.0 line _ follows.1))
 
 -- ---- by its result

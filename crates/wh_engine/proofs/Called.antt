@@ -101,11 +101,11 @@ called settings e m i x export fuel given h2 r came calls s at answers whole say
     let g = guest_of 0 e.guests.items m.guests i x s.guests at in
     let did = answers w s.is in
     let happened : IsInvoke w (record { place = x.id.place; number = i }) export given fuel did.0 did.1 =
-        subst (λ id. IsInvoke w id export given fuel did.0 did.1) (id_of x i (own_number e m settings i x s at)) did.3 in
+    subst (λ id. IsInvoke w id export given fuel did.0 did.1) (id_of x i (own_number e m settings i x s at)) did.3 in
     let reached = s.is.reached in
     let follows = calls_follow reached.frames reached.slots reached.tax reached.events w reached.happen settings m
-        (map (λ (y : Guest). y.id.place) e.guests.items) i x.id.place g.0 export given fuel did.0 did.1 s.knows g.1
-        (placed_at e.guests.items i x at) happened (whole_of e.host h2 w did.1 s.is did.4 whole) in
+    (map (λ (y : Guest). y.id.place) e.guests.items) i x.id.place g.0 export given fuel did.0 did.1 s.knows g.1
+    (placed_at e.guests.items i x at) happened (whole_of e.host h2 w did.1 s.is did.4 whole) in
     let b = before m i g.0 export fuel given follows.0 g.1 follows.1 in
     let is : IsInvoked (record { came = came; said = None }) (record { came = reception i did.0; said = None }) = record { came = says did.0 did.2; said = refl } in
     (g.0, g.1, follows.0, follows.1, called_stands settings e m b.0 follows.0 h2 did.1 calls _ _ s b.1 follows.2 entries is did.4 follows.3)

@@ -44,7 +44,7 @@ law_of settings e m name bytes h2 r reply s answers says =
     let did = answers s.world s.is in
     let reached = s.is.reached in
     let follows = modules_follow reached.frames reached.slots reached.tax reached.events s.world reached.happen settings m
-        (map (λ (x : Guest). x.id.place) e.guests.items) name bytes did.0 did.1 reply s.knows did.3 (says did.0 did.2) in
+    (map (λ (x : Guest). x.id.place) e.guests.items) name bytes did.0 did.1 reply s.knows did.3 (says did.0 did.2) in
     (follows.0, did.1, follows.1, did.4, follows.2)
 
 labelled : (ms : List NamedModule) → length (map label ms) ≡ length ms
@@ -58,29 +58,32 @@ with_modules e h names k = record e { host = h; module_names = names; modules = 
 ok_says : (name : List ℕ) (id : ModuleId) (answer : LoadAnswer) → IsLoadAnswer (Ok id) answer → SaysModule name answer (module_ok name)
 ok_says name id answer is = subst (λ a. SaysModule name a (module_ok name)) (sym is) refl
 
-kept_stands : (settings : Settings) (e : Engine) (m : Made) (name bytes : List ℕ) (h2 : HostState) (names : Names) (k : ℕ) → Stands settings e m
+kept_stands : (settings : Settings) (e : Engine) (m : Made) (name bytes : List ℕ) (h2 : HostState) (names : Names) (k : ℕ) → Stands settings e m → number_of e.module_names name ≡ None
     → ((other : List ℕ) → number_of names other ≡ update bytes_eq (number_of e.module_names) name (Some e.modules) other)
     → (e.modules < most_modules → k ≡ e.modules + 1)
     → (m2 : Made) (w2 : World) (reply : Reply) → reply ≡ module_ok name → ReceivesModule true m name bytes reply m2 → IsHost h2 w2
     → Knows settings w2 m2 (map (λ (x : Guest). x.id.place) e.guests.items)
     → TakesModule settings m name bytes reply (with_modules e h2 names k)
-kept_stands settings e m name bytes h2 names k s sets counts _ w2 _ is (module_isnt_kept turns_down) is2 knows2 = absurd (cc is)
-kept_stands settings e m name bytes h2 names k s sets counts _ w2 _ is (module_is_wanting scarce wants) is2 knows2 = absurd (cc is)
-kept_stands settings e m name bytes h2 names k s sets counts _ w2 _ is (module_is_kept {m = spelled} accepted few) is2 knows2 =
+kept_stands settings e m name bytes h2 names k s free sets counts _ w2 _ is (module_isnt_kept turns_down) is2 knows2 = absurd (cc is)
+kept_stands settings e m name bytes h2 names k s free sets counts _ w2 _ is (module_is_wanting scarce wants) is2 knows2 = absurd (cc is)
+kept_stands settings e m name bytes h2 names k s free sets counts _ w2 _ is (module_is_kept {m = spelled} accepted few) is2 knows2 =
     let new : NamedModule = record { name = name; m = spelled } in
     let after : Made = record m { modules = m.modules ++ new ∷ [] } in
-    let k_is : k ≡ e.modules + 1 = counts (subst (λ n. n < most_modules) (sym s.modules) few) in
-    (after, module_is_kept accepted few, record {
-      world = w2;
-      is = is2;
-      modules = k_is ∙ ap (λ n. n + 1) s.modules ∙ sym (one_longer m.modules new);
-      knows = knows2;
-      module_names = subst (AreNames (number_of names)) (sym (labels_end m.modules new))
-          (named_next (number_of e.module_names) (number_of names) (map label m.modules) name e.modules s.module_names (s.modules ∙ sym (labelled m.modules)) sets);
-      guest_names = s.guest_names;
-      guests = s.guests;
-      invoked = s.invoked;
-    })
+    let k_is : k ≡ e.modules + 1 = counts (subst (λ n. n < most_modules) (sym s.modules) few) in (
+      after,
+      module_is_kept accepted few,
+      record {
+        world = w2;
+        is = is2;
+        modules = k_is ∙ ap (λ n. n + 1) s.modules ∙ sym (one_longer m.modules new);
+        knows = knows2;
+        module_names = subst (AreNames (number_of names)) (sym (labels_end m.modules new))
+            (named_next (number_of e.module_names) (number_of names) (map label m.modules) name e.modules s.module_names free (s.modules ∙ sym (labelled m.modules)) sets);
+        guest_names = s.guest_names;
+        guests = s.guests;
+        invoked = s.invoked;
+      },
+    )
 
 -- other names of the same modules
 pub with_names : (settings : Settings) (e : Engine) (m : Made) (h2 : HostState) (names : Names) (w2 : World) → Stands settings e m → AreNames (number_of names) (map label m.modules)
@@ -108,14 +111,14 @@ none_stands settings e m name bytes h2 names why s are _ w2 _ is (module_is_want
     (m, module_is_wanting scarce wants, with_names settings e m h2 names w2 s are is2 knows2)
 
 -- it was kept
-pub takes_kept : (settings : Settings) (e : Engine) (m : Made) (name bytes : List ℕ) (h2 : HostState) (names : Names) (k : ℕ) (id : ModuleId) → Stands settings e m
+pub takes_kept : (settings : Settings) (e : Engine) (m : Made) (name bytes : List ℕ) (h2 : HostState) (names : Names) (k : ℕ) (id : ModuleId) → Stands settings e m → number_of e.module_names name ≡ None
     → AnswersLoad e.host bytes (Ok id) h2
     → ((other : List ℕ) → number_of names other ≡ update bytes_eq (number_of e.module_names) name (Some e.modules) other)
     → (e.modules < most_modules → k ≡ e.modules + 1)
     → TakesModule settings m name bytes (module_ok name) (with_modules e h2 names k)
-takes_kept settings e m name bytes h2 names k id s answers sets counts =
+takes_kept settings e m name bytes h2 names k id s free answers sets counts =
     let got = law_of settings e m name bytes h2 (Ok id) (module_ok name) s answers (λ answer is. ok_says name id answer is) in
-    kept_stands settings e m name bytes h2 names k s sets counts got.0 got.1 (module_ok name) refl got.2 got.3 got.4
+    kept_stands settings e m name bytes h2 names k s free sets counts got.0 got.1 (module_ok name) refl got.2 got.3 got.4
 
 -- it wasn't, and has no name again
 pub takes_none : (settings : Settings) (e : Engine) (m : Made) (name bytes : List ℕ) (h2 : HostState) (given names : Names) (error : ModuleError) (why : Refusal) → Stands settings e m

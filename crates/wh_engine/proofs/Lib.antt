@@ -5,4 +5,5 @@ pub mod Instances
 pub mod Kept
 pub mod Naming
 pub mod Refitted
+pub mod Released
 pub mod Whole

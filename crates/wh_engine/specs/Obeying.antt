@@ -1,12 +1,15 @@
 -- What commands get, and for which script an engine stands then.
-use Rattle.std.specs.Prelude.{◌≡◌, ℕ, ℤ, true, List, [], ◌∷◌, slice_get, Some}
+use Rattle.std.specs.Prelude.{◌≡◌, ℕ, ℤ, true, List, [], ◌∷◌, slice_get, Some, Result, Ok, Err}
+use Rattle.std.specs.Global.{Vec}
 use Rattle.wh_host_model.specs.Host.Worlds.{Params}
 use Rattle.wh_host_model.specs.Lines.Settings.{Settings}
 use Rattle.wh_host_model.specs.Lines.Commands.{Command}
-use Rattle.wh_host_model.specs.Lines.Texts.{Reply}
+use Rattle.wh_host_model.specs.Lines.Texts.{Reply, release_ok, release_refused}
 use Rattle.wh_host_model.specs.Lines.Made.{NamedModule, Guest, Made, HasGuest}
 use Rattle.wh_host_model.specs.Lines.Receiving.{ReceivesModule, ReceivesGuest, ReceivesCall}
 use Rattle.wh_host_model.specs.Lines.Answers.{Files, IsObeyed}
+use Rattle.wh_host.specs.Asking.{host_number}
+use Rattle.wh_host.specs.declared.error.HostError.{HostError}
 use Rattle.wh_engine.specs.declared.engine.Engine.{Engine}
 use Rattle.wh_engine.specs.Standing.{Stands}
 
@@ -35,3 +38,8 @@ TakesCall settings m i export fuel given e2 =
 abbrev pub Obeys : Settings → Files → Made → (line : ℕ) → Command → Reply → Engine → Type 0
 Obeys settings files m line command reply e2 =
     (m2 : Made) × IsObeyed true settings files m line command (reply ∷ []) m2 × Stands settings e2 m2
+
+-- what a release gets
+abbrev pub reply_to_release : (name : List ℕ) → Result (Vec ℕ) HostError → Reply
+reply_to_release name (Ok output) = release_ok name output.items
+reply_to_release name (Err error) = release_refused name (host_number error)

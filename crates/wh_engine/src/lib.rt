@@ -7,5 +7,6 @@ mod guests;
 mod modules;
 mod names;
 mod parts;
+mod releasing;
 
 pub use engine::Engine;

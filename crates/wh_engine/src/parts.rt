@@ -23,10 +23,7 @@ pub enum Reception {
     /// It was refused, with this number behind the H.
     TurnedDown(u8),
     /// It is the call at a place of the journal of the instance of this number.
-    TakenOn {
-        guest: usize,
-        place: u32,
-    },
+    TakenOn { guest: usize, place: u32 },
 }
 
 /// An `invoke`, and how its call was last said to be.

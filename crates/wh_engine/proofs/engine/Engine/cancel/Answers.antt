@@ -19,7 +19,7 @@ returns-in-Ok c settings files line m s named =
 pub returns-in-Err : goal.returns-in-Err
 returns-in-Err c settings files line m s named =
     let did = asked (λ w id answer w2. IsCancel w id answer w2) (cancel c.args.name.now) (cancel_reply c.args.name.now) c.args.name.now (cancels_follow c.args.name.now)
-        (λ settings files m m2 line replies o. cancel_touches o) settings files line m c.args.self.now c.cancel.new.self c.index.result.now c.args.number (Err c.in-Err.error)
-        s named (guest_there c.args.self.now.guests.items c.args.number c.index.result.now c.requires.there c.index.ensures) c.in-Err.ensures.asks (keeps_whole c.args.self.now.host.space c.cancel.new.self.space c.in-Err.ensures.backing) in
+    (λ settings files m m2 line replies o. cancel_touches o) settings files line m c.args.self.now c.cancel.new.self c.index.result.now c.args.number (Err c.in-Err.error)
+    s named (guest_there c.args.self.now.guests.items c.args.number c.index.result.now c.requires.there c.index.ensures) c.in-Err.ensures.asks (keeps_whole c.args.self.now.host.space c.cancel.new.self.space c.in-Err.ensures.backing) in
     let got = answered_err (cancel c.args.name.now) (cancel_reply c.args.name.now) (λ fault. cancel_refused c.args.name.now fault) settings files line m c.args.self.now c.cancel.new.self c.in-Err.error refl refl did in
     rw (sym c.number.ensures) at got

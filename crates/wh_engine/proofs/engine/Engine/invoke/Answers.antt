@@ -14,8 +14,8 @@ use Rattle.wh_engine.proofs.engine.Engine.invoke.Goals.{in-Ok, in-Err}
 pub returns-in_err-reserve-clause-err : goal.returns-in_err-reserve-clause-err
 returns-in_err-reserve-clause-err c =
     err_then c.from_residual.result (λ settings m s.
-        refitted settings c.args.self.now m c.args.self.now.module_names c.args.self.now.guest_names c.args.self.now.guests c.reserve.new.self s s.module_names s.guest_names
-        refl c.reserve.ensures.items)
+    refitted settings c.args.self.now m c.args.self.now.module_names c.args.self.now.guest_names c.args.self.now.guests c.reserve.new.self s s.module_names s.guest_names
+    refl c.reserve.ensures.items)
 
 pub returns-clause-ok : goal.returns-clause-ok
 returns-clause-ok c settings m s =
@@ -24,6 +24,6 @@ returns-clause-ok c settings m s =
     called settings c.args.self.now m c.args.number c.index.result.now c.args.export.now c.args.fuel c.args.args.now c.invoke.new.self c.invoke.result c.match-invoke.came
     c.push_reserved.new.self s there c.invoke.ensures.asks (keeps_whole c.args.self.now.host.space c.invoke.new.self.space c.invoke.ensures.backing)
     (elim c.match-invoke.branch [
-    | in-Ok w ↦ λ answer is. ap reception_of w.came-is ∙ taken_so c.args.number w.in-Ok.place answer (subst (λ r. IsInvokeAnswer r answer) w.in-Ok.is is)
-    | in-Err w ↦ λ answer is. ap reception_of (w.came-is ∙ ap (λ n. TurnedDown n) w.number.ensures) ∙ turned_so c.args.number w.in-Err.error answer (subst (λ r. IsInvokeAnswer r answer) w.in-Err.is is)
+      | in-Ok w ↦ λ answer is. ap reception_of w.came-is ∙ taken_so c.args.number w.in-Ok.place answer (subst (λ r. IsInvokeAnswer r answer) w.in-Ok.is is)
+      | in-Err w ↦ λ answer is. ap reception_of (w.came-is ∙ ap (λ n. TurnedDown n) w.number.ensures) ∙ turned_so c.args.number w.in-Err.error answer (subst (λ r. IsInvokeAnswer r answer) w.in-Err.is is)
     ]) entries
