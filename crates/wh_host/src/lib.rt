@@ -11,6 +11,8 @@ mod error;
 mod host;
 mod invoking;
 mod loading;
+#[cfg(test)]
+mod paging_tests;
 mod parts;
 mod providing;
 mod releasing;
