@@ -4,3 +4,5 @@ mod Turns
 mod Hosts
 mod Requests
 mod Comers
+mod Inputs
+mod Showings

@@ -7,3 +7,4 @@ pub mod Seats
 pub mod Loading
 pub mod Releasing
 pub mod Admitting
+pub mod Showing

@@ -13,6 +13,7 @@ mod invoking;
 mod loading;
 mod parts;
 mod releasing;
+mod showing;
 #[cfg(test)]
 mod tests;
 mod turning;
@@ -23,3 +24,4 @@ pub use loading::MOST_MODULES;
 pub use parts::ModuleId;
 pub use turning::turn_at;
 pub use wh_admit::{AdmitError, Params};
+pub use wh_transcript::Transcript;
