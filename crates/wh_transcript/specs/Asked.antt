@@ -1,5 +1,5 @@
 -- What an owner asked of an instance, and which transcripts are of that.
-use Rattle.std.specs.Prelude.{◌≡◌, ◌≢◌, ℕ, List, Option, Some, None, length, slice_get}
+use Rattle.std.specs.Prelude.{◌≡◌, Option, Some, None}
 use Rattle.std.specs.List.{AllZip}
 use Rattle.wh_journal.specs.Calls.{JournalCallState}
 use Rattle.wh_admit.specs.Views.{view_params}
@@ -14,11 +14,8 @@ EndsAsSaid None c = Unit {0}
 EndsAsSaid (Some e) c = (c.pieces ≡ e.pieces) × (c.charges ≡ e.charges) × (c.end ≡ e.end)
 
 -- it is the call that was asked for
-pub record IsCallAsked (r : RequestedCall) (c : JournalCallState) : Type 0 where
-  pub func : c.func ≡ r.func
-  pub given : c.given ≡ r.given.items
-  pub fuel : c.fuel ≡ r.fuel
-  pub ends : EndsAsSaid r.ending c
+abbrev pub IsCallAsked : RequestedCall → JournalCallState → Type 0
+IsCallAsked r c = (c.func ≡ r.func) × (c.given ≡ r.given.items) × (c.fuel ≡ r.fuel) × EndsAsSaid r.ending c
 
 -- the transcript is of these requests: the same module, given the same, and each call the one that was asked for
 pub record IsOfRequests (r : Requests) (t : TranscriptState) : Type 0 where

@@ -1,5 +1,5 @@
 -- What contracts see of a transcript, and what it shows of an instance.
-use Rattle.std.specs.Prelude.{◌≡◌, ℕ, ◌++◌, Bool, List, Option}
+use Rattle.std.specs.Prelude.{ℕ, ◌++◌, Bool, List, Option}
 use Rattle.wh_model.specs.declared.memory.Need.{Need}
 use Rattle.wh_model.specs.Format.Syntax.{Module}
 use Rattle.wh_model.specs.Linking.Accepting.{IsAccepted}
