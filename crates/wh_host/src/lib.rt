@@ -17,6 +17,7 @@ mod parts;
 mod providing;
 mod releasing;
 mod scanning;
+mod showing;
 #[cfg(test)]
 mod tests;
 mod transit;
@@ -29,3 +30,4 @@ pub use parts::ModuleId;
 pub use transit::{Eviction, Fetch};
 pub use turning::turn_at;
 pub use wh_admit::{AdmitError, Params};
+pub use wh_transcript::Transcript;
