@@ -13,7 +13,7 @@ use Rattle.wh_host_model.specs.Lines.Answers.{Files, IsObeyed}
 use Rattle.wh_host.specs.Hosting.{HostState, IsHost}
 use Rattle.wh_host.specs.Asking.{IsCallAnswer, AnswersCall, host_number}
 use Rattle.wh_host.specs.declared.error.HostError.{HostError}
-use Rattle.wh_host.specs.declared.error.HostError.TheVariants.{NoInstance, Invoke, NoCall}
+use Rattle.wh_host.specs.declared.error.HostError.TheVariants.{NoInstance, Invoke, NoCall, Memory}
 use Rattle.wh_script_model.specs.Following.{Knows, StaysWhole}
 use Rattle.wh_script_model.specs.Laws.{IsAsked}
 use Rattle.wh_engine.specs.declared.engine.Engine.{Engine}
@@ -98,6 +98,7 @@ pub answered_err : (command : Command) (reply : CallAnswer → Reply) (refused :
 answered_err command reply refused settings files line m e h2 NoInstance none no_call did =
     subst (λ (r : Reply). (m2 : Made) × IsObeyed true settings files m line command (r ∷ []) m2 × Stands settings (on_host e h2) m2) (ap reply did.1 ∙ none) (did.2, did.3, did.4)
 answered_err command reply refused settings files line m e h2 (Invoke error) none no_call did = absurd did.1
+answered_err command reply refused settings files line m e h2 Memory none no_call did = absurd did.1
 answered_err command reply refused settings files line m e h2 NoCall none no_call did =
     subst (λ (r : Reply). (m2 : Made) × IsObeyed true settings files m line command (r ∷ []) m2 × Stands settings (on_host e h2) m2) (ap reply did.1 ∙ no_call) (did.2, did.3, did.4)
 

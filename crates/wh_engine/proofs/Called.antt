@@ -12,6 +12,7 @@ use Rattle.wh_host_model.specs.Lines.Receiving.{ReceivesCall, guest_is_gone, isn
 use Rattle.wh_host.specs.Hosting.{HostState, IsHost}
 use Rattle.wh_host.specs.Asking.{AnswersInvoke, IsInvokeAnswer, refusal_answer, host_number}
 use Rattle.wh_host.specs.declared.error.HostError.{HostError}
+use Rattle.wh_host.specs.declared.error.HostError.TheVariants as host
 use Rattle.wh_host.specs.declared.error.HostError.TheVariants.{NoInstance, Invoke, NoCall}
 use Rattle.wh_instance.specs.Invoked.{refusal_of}
 use Rattle.wh_instance.specs.declared.error.InvokeError.{InvokeError}
@@ -63,6 +64,7 @@ pub turned_so : (i : ℕ) (e : HostError) (answer : InvokeAnswer) → IsInvokeAn
 turned_so i NoInstance answer is = ap (reception i) (sym is)
 turned_so i (Invoke e) answer is = refused_so i e ∙ ap (reception i) (sym is)
 turned_so i NoCall answer is = absurd is
+turned_so i host.Memory answer is = absurd is
 
 -- ---- the engine
 

@@ -1,6 +1,7 @@
 pub mod Admitted
 pub mod Asked
 pub mod Called
+pub mod Fresh
 pub mod Instances
 pub mod Kept
 pub mod Naming

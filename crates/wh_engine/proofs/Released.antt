@@ -16,7 +16,7 @@ use Rattle.wh_host.specs.Hosting.{HostState, IsHost}
 use Rattle.wh_host.specs.Releasing.{AnswersRelease, IsOutput}
 use Rattle.wh_host.specs.Asking.{host_number}
 use Rattle.wh_host.specs.declared.error.HostError.{HostError}
-use Rattle.wh_host.specs.declared.error.HostError.TheVariants.{NoInstance, Invoke, NoCall}
+use Rattle.wh_host.specs.declared.error.HostError.TheVariants.{NoInstance, Invoke, NoCall, Memory}
 use Rattle.wh_script_model.specs.Following.{Knows, StaysWhole}
 use Rattle.wh_script_model.specs.Replies.{release_reply}
 use Rattle.wh_script_model.proofs.CommandsEnding.{releases_follow}
@@ -78,6 +78,7 @@ refuses settings files line m e name h2 x i NoInstance s named at replies whole 
     (subst (λ (r : Reply). IsObeyed true settings files m line (release name) (r ∷ []) d.after) same d.obeyed) d.is_host d.knows
 refuses settings files line m e name h2 x i (Invoke error) s named at replies whole = absurd (does settings files line m e name h2 x i (Err (Invoke error)) s named at replies whole).is
 refuses settings files line m e name h2 x i NoCall s named at replies whole = absurd (does settings files line m e name h2 x i (Err NoCall) s named at replies whole).is
+refuses settings files line m e name h2 x i Memory s named at replies whole = absurd (does settings files line m e name h2 x i (Err Memory) s named at replies whole).is
 
 -- ---- it goes
 

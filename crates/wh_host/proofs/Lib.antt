@@ -8,3 +8,5 @@ mod Comers
 mod Paged
 mod Carrying
 mod Offering
+mod Inputs
+mod Showings

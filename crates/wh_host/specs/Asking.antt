@@ -6,7 +6,7 @@ use Rattle.wh_host_model.specs.Host.Happens.{CallAnswer, call_ok, call_no_instan
 use Rattle.wh_host_model.specs.Host.Calls.{InvokeFault}
 use Rattle.wh_instance.specs.Invoked.{invoke_number, refusal_of}
 use Rattle.wh_host.specs.declared.error.HostError.{HostError}
-use Rattle.wh_host.specs.declared.error.HostError.TheVariants.{NoInstance, Invoke, NoCall}
+use Rattle.wh_host.specs.declared.error.HostError.TheVariants.{NoInstance, Invoke, NoCall, Memory}
 use Rattle.wh_host.specs.Hosting.{HostState, IsHost}
 
 -- an error has the number by which the definitions order it
@@ -14,6 +14,7 @@ abbrev pub host_number : HostError → ℕ
 host_number NoInstance = 1
 host_number (Invoke e) = invoke_number e
 host_number NoCall = 8
+host_number Memory = 7
 
 -- the result is this answer to what is asked of the present call of an instance
 abbrev pub IsCallAnswer : Result Unit HostError → CallAnswer → Type 0
@@ -21,6 +22,7 @@ IsCallAnswer (Ok done) answer = answer ≡ call_ok
 IsCallAnswer (Err NoInstance) answer = answer ≡ call_no_instance
 IsCallAnswer (Err (Invoke e)) answer = ⊥
 IsCallAnswer (Err NoCall) answer = answer ≡ call_no_call
+IsCallAnswer (Err Memory) answer = ⊥
 
 -- for whatever host it stands, this is answered so, and leaves a host for which it stands then
 abbrev pub AnswersCall : HostState → (World → CallAnswer → World → Type 0) → Result Unit HostError → HostState → Type 0
@@ -39,6 +41,7 @@ IsInvokeAnswer (Ok at) answer = answer ≡ invoke_ok at
 IsInvokeAnswer (Err NoInstance) answer = answer ≡ invoke_no_instance
 IsInvokeAnswer (Err (Invoke e)) answer = answer ≡ refusal_answer (refusal_of e)
 IsInvokeAnswer (Err NoCall) answer = ⊥
+IsInvokeAnswer (Err Memory) answer = ⊥
 
 abbrev pub AnswersInvoke : HostState → InstId → List ℕ → List ℤ → ℕ → Result ℕ HostError → HostState → Type 0
 AnswersInvoke h id name given fuel result h2 =

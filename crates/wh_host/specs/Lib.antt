@@ -11,3 +11,4 @@ pub mod Paging
 pub mod Releasing
 pub mod Admitting
 pub mod Sharing
+pub mod Showing

@@ -5,7 +5,7 @@ use Rattle.wh_host_model.specs.declared.plain.InstId.{InstId}
 use Rattle.wh_host_model.specs.Host.Worlds.{World}
 use Rattle.wh_host_model.specs.Host.Happens.{IsRelease}
 use Rattle.wh_host.specs.declared.error.HostError.{HostError}
-use Rattle.wh_host.specs.declared.error.HostError.TheVariants.{NoInstance, Invoke, NoCall}
+use Rattle.wh_host.specs.declared.error.HostError.TheVariants.{NoInstance, Invoke, NoCall, Memory}
 use Rattle.wh_host.specs.Hosting.{HostState, IsHost}
 
 -- the result is this output, or that there is no such instance
@@ -14,6 +14,7 @@ IsOutput (Ok output) answer = answer ≡ Some output.items
 IsOutput (Err NoInstance) answer = answer ≡ None
 IsOutput (Err (Invoke e)) answer = ⊥
 IsOutput (Err NoCall) answer = ⊥
+IsOutput (Err Memory) answer = ⊥
 
 -- for whatever host it stands, this is answered so, and leaves a host for which it stands then
 abbrev pub AnswersRelease : HostState → InstId → Result (Vec ℕ) HostError → HostState → Type 0

@@ -19,6 +19,9 @@ pub enum HostError {
     /// No call of it is open; or, where it is to be tried again, the present one doesn't stand for a device fault.
     #[error("no call is there for which this can be asked")]
     NoCall,
+    /// A growth of memory was refused, where no call was asked for.
+    #[error("a growth of memory was refused")]
+    Memory,
 }
 
 impl HostError {
@@ -30,6 +33,7 @@ impl HostError {
             HostError::NoInstance => 1,
             HostError::Invoke(error) => error.number(),
             HostError::NoCall => 8,
+            HostError::Memory => 7,
         }
     }
 }

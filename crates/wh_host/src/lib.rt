@@ -11,10 +11,13 @@ mod error;
 mod host;
 mod invoking;
 mod loading;
+#[cfg(test)]
+mod paging_tests;
 mod parts;
 mod providing;
 mod releasing;
 mod scanning;
+mod showing;
 #[cfg(test)]
 mod tests;
 mod transit;
@@ -27,3 +30,4 @@ pub use parts::ModuleId;
 pub use transit::{Eviction, Fetch};
 pub use turning::turn_at;
 pub use wh_admit::{AdmitError, Params};
+pub use wh_transcript::Transcript;

@@ -11,6 +11,7 @@ mod beginning;
 mod computing;
 mod error;
 mod invoking;
+mod reading;
 mod seen;
 mod settling;
 mod stages;

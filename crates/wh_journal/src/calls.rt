@@ -1,9 +1,10 @@
 // The calls of a journal.
 
-ghost use Rattle.std.specs.Prelude.{◌≡◌, ◌+◌, ◌<◌, ◌^◌};
+ghost use Rattle.std.specs.Prelude.{◌≡◌, ◌+◌, ◌<◌, ◌^◌, IfOk};
 ghost use Rattle.wh_journal.specs.Calls.{with_progress, with_more_fuel, with_end};
 ghost use Rattle.wh_journal.specs.declared.calls.CallEnd.TheVariants.{Open};
 
+use std::alloc::{AllocError, Global};
 use std::marker::Model;
 use wh_model::Trap;
 
@@ -124,6 +125,26 @@ impl JournalCall {
         ensures { result ≡ self.now.end }
     {
         self.end
+    }
+
+    /// The same call once more.
+    ///
+    /// # Errors
+    /// `AllocError` where room is refused.
+    pub fn copy(&self, alloc: Global) -> Result<JournalCall, AllocError>
+        ensures { IfOk result (λ copy. copy ≡ self.now) }
+    {
+        let given = Vec::from_slice(alloc, &self.given)?;
+        let words = Vec::from_slice(alloc, &self.words)?;
+        Ok(JournalCall {
+            func: self.func,
+            given,
+            words,
+            fuel: self.fuel,
+            pieces: self.pieces,
+            charges: self.charges,
+            end: self.end,
+        })
     }
 
     /// It has written so many pieces more, and taken so many charges more.

@@ -1,6 +1,6 @@
 // The journal.
 
-ghost use Rattle.std.specs.Prelude.{◌≡◌, ◌+◌, List, [], ◌∷◌, ◌++◌, length, map, slice_get, option_copied, OnOk, OnErr};
+ghost use Rattle.std.specs.Prelude.{◌≡◌, ◌+◌, List, [], ◌∷◌, ◌++◌, length, map, slice_get, option_copied, IfOk, OnOk, OnErr};
 ghost use Rattle.std.specs.Bool.{MatchBool};
 ghost use Rattle.wh_journal.specs.Calls.{JournalCallState, HasPresent, CanGoFurther, with_progress, with_more_fuel, with_end};
 ghost use Rattle.wh_journal.specs.declared.calls.CallEnd.TheVariants.{Dead};
@@ -8,6 +8,17 @@ ghost use Rattle.wh_journal.specs.declared.calls.CallEnd.TheVariants.{Dead};
 use crate::calls::{CallEnd, JournalCall};
 use std::alloc::{AllocError, Global};
 use std::marker::Model;
+
+// These calls once more.
+fn copies_of(alloc: Global, calls: &[JournalCall]) -> Result<Vec<JournalCall>, AllocError>
+    ensures { IfOk result (λ copies. copies.items ≡ calls.now) }
+{
+    let mut copies = Vec::with_capacity(alloc, calls.len())?;
+    for call in calls {
+        copies.push(call.copy(alloc)?)?;
+    }
+    Ok(copies)
+}
 
 /// The calls of one instance in the order of their coming: those that have ended, and behind them the others, the
 /// first of which is the present call.
@@ -102,6 +113,17 @@ impl Journal {
         ensures { option_copied result ≡ slice_get (self.now.ended ++ self.now.open_calls) at }
     {
         self.calls.get(at)
+    }
+
+    /// All calls once more, in order.
+    ///
+    /// # Errors
+    /// `AllocError` where room is refused.
+    pub fn copies(&self, alloc: Global) -> Result<Vec<JournalCall>, AllocError>
+        ensures { IfOk result (λ copies.
+            copies.items ≡ self.now.ended ++ self.now.open_calls) }
+    {
+        copies_of(alloc, &self.calls)
     }
 
     /// The present call has written so many pieces more, and taken so many charges more.

@@ -24,6 +24,7 @@ mod merging;
 mod pages;
 mod pins;
 mod ready;
+mod reporting;
 mod reserving;
 mod room;
 mod serving;

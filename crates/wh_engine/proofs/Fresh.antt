@@ -1,0 +1,59 @@
+-- An engine on a new host.
+use Rattle.std.proofs.Common.{arith, ◌≡◌, ◌∙◌, ℕ, zero, suc, List, [], ◌∷◌, length, replicate, map, slice_get, Option, Some, None, refl, sym, ap, subst}
+use Rattle.wh_host_model.specs.declared.Tax.{Tax}
+use Rattle.wh_host_model.specs.declared.states.Slot.{Slot}
+use Rattle.wh_host_model.specs.declared.states.Slot.TheVariants.{Vacant}
+use Rattle.wh_host_model.specs.Frames.{tally}
+use Rattle.wh_host_model.specs.Pages.{zero_page}
+use Rattle.wh_host_model.specs.Space.Errands.{is_ticket, tickets}
+use Rattle.wh_host_model.specs.Space.Parts.{Space, minima, spreads}
+use Rattle.wh_host_model.specs.Lines.Made.{NamedModule, nothing_made}
+use Rattle.wh_host_model.specs.Lines.Settings.{Settings}
+use Rattle.wh_host.specs.Hosting.{HostState, IsNewHost}
+use Rattle.wh_space.specs.Arrivals.{IsNew}
+use Rattle.std.specs.List.{AllZip}
+use Rattle.wh_host_model.specs.Host.Worlds.{Loaded, World}
+use Rattle.wh_script_model.specs.Following.{AreSame, IsFollowed, IsPlaced, Knows}
+use Rattle.wh_engine.specs.Names.{AreNames, number_of}
+use Rattle.wh_engine.specs.declared.engine.Engine.{Engine}
+use Rattle.wh_engine.specs.declared.parts.Guest.{Guest}
+use Rattle.wh_engine.specs.Standing.{Stands, AreGuests, IsInvoked}
+
+none_vacant : (n : ℕ) → tally is_ticket (replicate n Vacant) ≡ 0
+none_vacant zero = refl
+none_vacant (suc n) = let k = none_vacant n in omega (arith, k)
+
+many : {A : Type 0} (n : ℕ) (x : A) → length (replicate n x) ≡ n
+many zero x = refl
+many (suc n) x = let k = many n x in omega (arith, k)
+
+pub no_names : (f : List ℕ → Option ℕ) → ((name : List ℕ) → f name ≡ None) → AreNames f []
+no_names f none = record {
+  found = λ name k e. absurd (cc (none name, e));
+  only = λ name k e. absurd (cc e);
+}
+
+knows_none : (settings : Settings) (w : World) (tax : Tax) → w.modules ≡ [] → w.tenants ≡ [] → IsNew w.space settings.frames settings.slots tax → Knows settings w nothing_made []
+knows_none settings w tax modules tenants new = record {
+  frames = ap (λ (s : Space). length s.pool.frames) new.is ∙ many settings.frames zero_page;
+  slots = ap (λ (s : Space). length s.slots.uses) new.is ∙ many settings.slots Vacant;
+  none_out = ap (λ (s : Space). tickets s) new.is ∙ none_vacant settings.slots;
+  minima = ap (λ (s : Space). minima s) new.is;
+  spreads = ap (λ (s : Space). spreads s) new.is;
+  modules = subst (λ ls. AllZip (λ (n : NamedModule) (l : Loaded). n.m ≡ l.m) [] ls) (sym modules) tt;
+  guests = subst (λ ts. AllZip (IsFollowed AreSame w) [] ts) (sym tenants) tt;
+  placed = subst (λ ts. AllZip IsPlaced [] ts) (sym tenants) tt;
+}
+
+pub fresh : (settings : Settings) (tax : Tax) (e : Engine) → IsNewHost e.host settings.frames settings.slots tax → ((name : List ℕ) → number_of e.module_names name ≡ None)
+    → ((name : List ℕ) → number_of e.guest_names name ≡ None) → e.guests.items ≡ [] → e.invoked.items ≡ [] → e.modules ≡ 0 → Stands settings e nothing_made
+fresh settings tax e new modules guests none no_call zero_many = record {
+  world = new.0;
+  is = new.1;
+  modules = zero_many;
+  knows = subst (λ xs. Knows settings new.0 nothing_made (map (λ (x : Guest). x.id.place) xs)) (sym none) (knows_none settings new.0 tax new.2 new.3 new.4);
+  module_names = no_names (number_of e.module_names) modules;
+  guest_names = no_names (number_of e.guest_names) guests;
+  guests = subst (λ xs. AreGuests 0 xs []) (sym none) tt;
+  invoked = subst (λ xs. AllZip IsInvoked xs []) (sym no_call) tt;
+}

@@ -1,0 +1,73 @@
+//! What a host shows of one of its instances.
+
+ghost use Rattle.std.specs.Prelude.{◌≡◌, IfOk};
+ghost use Rattle.wh_admit.specs.Views.{view_params};
+ghost use Rattle.wh_host.specs.Showing.{ShowsInstance, given_with, shown_of};
+ghost use Rattle.wh_transcript.specs.Transcripts.{IsReplayable};
+
+use crate::error::HostError;
+use crate::host::{Host, module_at};
+use crate::parts::{Given, Resident};
+use std::alloc::{AllocError, Global};
+use std::sync::Arc;
+use wh_admit::Params;
+use wh_host_model::InstId;
+use wh_transcript::Transcript;
+
+// What the owner of an instance gave it, with these words as its input.
+fn params_of(alloc: Global, given: Given, inputs: &[u64]) -> Result<Params, AllocError>
+    ensures { IfOk result (λ params. view_params params ≡ given_with given inputs.now) }
+{
+    let inputs = Vec::from_slice(alloc, inputs)?;
+    Ok(Params {
+        shares: u64::from(given.shares),
+        min: u64::from(given.min),
+        max: u64::from(given.max),
+        fuel: given.fuel,
+        base: given.base,
+        salt: given.salt,
+        inputs,
+    })
+}
+
+// The transcript of an instance of the module with these bytes.
+fn transcript_of(
+    alloc: Global,
+    resident: &Resident,
+    bytes: &Arc<Vec<u8>>,
+) -> Result<Transcript, AllocError>
+    requires { IsReplayable (shown_of resident.now bytes.now.value.items) }
+    ensures { IfOk result (λ transcript.
+        transcript ≡ shown_of resident.now bytes.now.value.items) }
+{
+    let tenant = &resident.tenant;
+    let params = params_of(alloc, resident.given, tenant.inputs())?;
+    let calls = tenant.journal().copies(alloc)?;
+    let bytes = Arc::try_clone(bytes)?;
+    Ok(Transcript::new(bytes, params, calls, tenant.stands_for()))
+}
+
+impl Host {
+    /// The transcript of an instance: the bytes of its module, what its owner gave it, its calls, and for what the first
+    /// open one stands.
+    ///
+    /// # Errors
+    /// `NoInstance`; `Memory` where room is refused.
+    pub fn transcript(&self, alloc: Global, id: InstId) -> Result<Transcript, HostError>
+        ensures { ShowsInstance self.now id result }
+    {
+        let Some(resident) = self.residents.get(id.place) else {
+            return Err(HostError::NoInstance);
+        };
+        if !resident.has_number(id.number) {
+            return Err(HostError::NoInstance);
+        }
+        let Some(module) = module_at(&self.modules, resident.of) else {
+            return Err(HostError::NoInstance);
+        };
+        match transcript_of(alloc, resident, &module.bytes) {
+            Ok(transcript) => Ok(transcript),
+            Err(_) => Err(HostError::Memory),
+        }
+    }
+}

@@ -1,0 +1,66 @@
+// What is told of slots and of swapped pages.
+
+ghost use Rattle.std.specs.Prelude.{◌≡◌, ◌+◌, ◌≤◌, length};
+ghost use Rattle.wh_host_model.specs.Frames.{tally};
+ghost use Rattle.wh_host_model.specs.Space.Parts.{Space};
+ghost use Rattle.wh_host_model.specs.Space.States.{count_of, swapped};
+
+use crate::memory::Memory;
+use wh_host_model::Page;
+use wh_pages::PageTable;
+
+// 1 where the page lies in a slot, and is neither on its way there nor back.
+fn one_if_swapped(page: Page) -> u32
+    ensures is { result ≡ swapped page }
+    ensures one { result ≤ 1 }
+{
+    if matches!(page, Page::Swapped(_)) {
+        1
+    } else {
+        0
+    }
+}
+
+// How many pages of a table lie in slots.
+fn swapped_in(table: &PageTable) -> u32
+    ensures { result ≡ tally swapped table.now.pages }
+{
+    let mut pages: u32 = 0;
+    for at in 0..table.len() {
+        pages += one_if_swapped(table.page(at));
+    }
+    pages
+}
+
+impl Memory {
+    /// How many frames there are.
+    pub fn frames(&self) -> u32
+        ensures { result ≡ length self.now.pool.frames }
+    {
+        self.pool.len()
+    }
+
+    /// How many slots there are.
+    pub fn slots(&self) -> u32
+        ensures { result ≡ length self.now.slots.uses }
+    {
+        self.slots.len()
+    }
+
+    /// How many slots are vacant.
+    pub fn vacant_slots(&self) -> u32
+        ensures { result ≡ length self.now.slots.vacant }
+    {
+        self.slots.vacant()
+    }
+
+    /// How many pages of the instance at a place lie in slots; 0 where nobody is there. It looks at its pages.
+    pub fn swapped_at(&self, place: usize) -> u32
+        ensures { result ≡ count_of swapped self.now.tables place }
+    {
+        if place >= self.tables.len() {
+            return 0;
+        }
+        swapped_in(&self.tables[place])
+    }
+}

@@ -1,0 +1,115 @@
+//! Transcripts.
+
+ghost use Rattle.std.specs.Prelude.{◌≡◌};
+ghost use Rattle.wh_admit.specs.Views.{view_params};
+ghost use Rattle.wh_transcript.specs.Transcripts.{IsReplayable};
+
+use std::marker::Model;
+use std::sync::Arc;
+use wh_admit::Params;
+use wh_instance::Suspension;
+use wh_journal::JournalCall;
+
+/// An instance of a host as it was when it was asked for: the bytes of its module, what its owner gave it, its calls in
+/// the order of their coming, the first of which is its start, and for what the first open one stands.
+///
+/// Its type keeps that the bytes spell a module that is accepted, and that these calls, with this fuel, these charges and
+/// these ends, are those of an instance of it which was given that; and that the first open call stands rightly for what
+/// it stands.
+#[derive(Drop)]
+pub struct Transcript {
+    bytes: Arc<Vec<u8>>,
+    params: Params,
+    calls: Vec<JournalCall>,
+    stands_for: Option<Suspension>,
+}
+
+impl Model for Transcript {
+    ghost use Rattle.wh_admit.specs.Views.{view_params as params_of};
+    ghost use Rattle.wh_transcript.specs.Transcripts.{TranscriptState, IsReplayable as CanBeReplayed};
+
+    ghost Value = { TranscriptState };
+
+    ghost use Rattle.wh_transcript.specs.Stored.{stored_transcript};
+
+    ghost coded = { stored_transcript };
+
+    ghost view = { λ t. record {
+      bytes = t.bytes.value.items;
+      params = params_of t.params;
+      calls = t.calls.items;
+      stands_for = t.stands_for;
+    } };
+
+    ghost invariant = { λ t. CanBeReplayed (record {
+      bytes = t.bytes.value.items;
+      params = params_of t.params;
+      calls = t.calls.items;
+      stands_for = t.stands_for;
+    }) };
+}
+
+impl Transcript {
+    /// The transcript of these.
+    pub fn new(
+        bytes: Arc<Vec<u8>>,
+        params: Params,
+        calls: Vec<JournalCall>,
+        stands_for: Option<Suspension>,
+    ) -> Transcript
+        requires { IsReplayable (record {
+          bytes = bytes.value.items;
+          params = view_params params;
+          calls = calls.items;
+          stands_for = stands_for;
+        }) }
+        ensures { result ≡ record {
+          bytes = bytes.value.items;
+          params = view_params params;
+          calls = calls.items;
+          stands_for = stands_for;
+        } }
+    {
+        Transcript {
+            bytes,
+            params,
+            calls,
+            stands_for,
+        }
+    }
+
+    /// What always holds of a transcript. It does nothing.
+    pub fn known(&self)
+        ensures { IsReplayable self.now }
+    {
+        let _ = &self.stands_for;
+    }
+
+    /// The bytes of its module.
+    pub fn bytes(&self) -> &[u8]
+        ensures { result.now ≡ self.now.bytes }
+    {
+        &self.bytes
+    }
+
+    /// What its owner gave it.
+    pub fn params(&self) -> &Params
+        ensures { view_params result.now ≡ self.now.params }
+    {
+        &self.params
+    }
+
+    /// Its calls in the order of their coming, the first of which is its start.
+    pub fn calls(&self) -> &[JournalCall]
+        ensures { result.now ≡ self.now.calls }
+    {
+        &self.calls
+    }
+
+    /// For what its first open call stands, if no turn of it is taken.
+    pub fn stands_for(&self) -> Option<Suspension>
+        ensures { result ≡ self.now.stands_for }
+    {
+        self.stands_for
+    }
+}
