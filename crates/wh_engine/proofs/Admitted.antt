@@ -39,10 +39,10 @@ use Rattle.wh_engine.specs.Names.{AreNames, number_of}
 use Rattle.wh_engine.specs.declared.engine.Engine.{Engine}
 use Rattle.wh_engine.specs.declared.names.Names.{Names}
 use Rattle.wh_engine.specs.declared.parts.Guest.{Guest}
-use Rattle.wh_engine.specs.Standing.{Stands, AreGuests, IsGuest}
+use Rattle.wh_engine.specs.Standing.{StandsForScript, AreGuests, IsGuest}
 use Rattle.wh_engine.specs.Obeying.{TakesGuest}
 use Rattle.wh_engine.proofs.Asked.{whole_of}
-use Rattle.wh_engine.proofs.Naming.{named_next, unnamed}
+use Rattle.wh_engine.proofs.Named.{named_next, unnamed}
 
 -- ---- whether there is a start
 
@@ -192,7 +192,7 @@ pub record IsNewGuest (x : Guest) (inst : List ℕ) (own : InstId) : Type 0 wher
   pub unsaid : x.said ≡ None
 
 new_stands : (settings : Settings) (e : Engine) (m : Made) (named : NamedModule) (inst : List ℕ) (k : ℕ) (p : Params) (id : InstId) (h2 : HostState) (names : Names) (x : Guest) (xs : Vec Guest)
-    → (s : Stands settings e m) → number_of e.guest_names inst ≡ None → slice_get m.modules k ≡ Some named
+    → (s : StandsForScript settings e m) → number_of e.guest_names inst ≡ None → slice_get m.modules k ≡ Some named
     → ((other : List ℕ) → number_of names other ≡ update bytes_eq (number_of e.guest_names) inst (Some (length e.guests.items)) other)
     → Tells h2 x.has_start (λ z. IsGoing z id) → IsNewGuest x inst id → xs.items ≡ e.guests.items ++ x ∷ []
     → (w2 : World) → LetsIn s.world k p id.place id.number w2
@@ -235,7 +235,7 @@ new_stands settings e m named inst k p id h2 names x xs s free at sets tells is 
 
 -- it is admitted
 pub admitted : (settings : Settings) (e : Engine) (m : Made) (inst : List ℕ) (k : ℕ) (p : Params) (id : InstId) (h2 : HostState) (names : Names) (x : Guest) (xs : Vec Guest)
-    → Stands settings e m → number_of e.guest_names inst ≡ None → k < e.modules → AnswersAdmit e.host k p (Ok id) h2 → StaysWhole e.host.space h2.space
+    → StandsForScript settings e m → number_of e.guest_names inst ≡ None → k < e.modules → AnswersAdmit e.host k p (Ok id) h2 → StaysWhole e.host.space h2.space
     → ((other : List ℕ) → number_of names other ≡ update bytes_eq (number_of e.guest_names) inst (Some (length e.guests.items)) other)
     → Tells h2 x.has_start (λ z. IsGoing z id) → IsNewGuest x inst id → xs.items ≡ e.guests.items ++ x ∷ []
     → TakesGuest settings m inst k p (texts.admit_ok inst id.number) (with_guests e h2 names xs)
@@ -262,9 +262,9 @@ refused_as inst MemoryMin = refl
 refused_as inst SegmentBounds = refl
 refused_as inst Memory = refl
 
-refused_engine : (settings : Settings) (e : Engine) (m : Made) (h2 : HostState) (names : Names) (xs : Vec Guest) → Stands settings e m
+refused_engine : (settings : Settings) (e : Engine) (m : Made) (h2 : HostState) (names : Names) (xs : Vec Guest) → StandsForScript settings e m
     → AreNames (number_of names) (map (λ (y : made.Guest). y.name) m.guests) → xs.items ≡ e.guests.items
-    → (w2 : World) → IsHost h2 w2 → Knows settings w2 m (map (λ (y : Guest). y.id.place) e.guests.items) → Stands settings (with_guests e h2 names xs) m
+    → (w2 : World) → IsHost h2 w2 → Knows settings w2 m (map (λ (y : Guest). y.id.place) e.guests.items) → StandsForScript settings (with_guests e h2 names xs) m
 refused_engine settings e m h2 names xs s are items w2 is2 knows2 = record {
   world = w2;
   is = is2;
@@ -281,7 +281,7 @@ places_refused settings w2 m2 places (Some fault) knows = knows
 places_refused settings w2 m2 places None knows = knows
 
 refused_stands : (settings : Settings) (e : Engine) (m : Made) (named : NamedModule) (inst : List ℕ) (k : ℕ) (p : Params) (fault : ℕ) (h2 : HostState) (names : Names) (xs : Vec Guest)
-    → Stands settings e m → slice_get m.modules k ≡ Some named → AreNames (number_of names) (map (λ (y : made.Guest). y.name) m.guests) → xs.items ≡ e.guests.items
+    → StandsForScript settings e m → slice_get m.modules k ≡ Some named → AreNames (number_of names) (map (λ (y : made.Guest). y.name) m.guests) → xs.items ≡ e.guests.items
     → (w2 : World) (m2 : Made) (reply : Reply) → reply ≡ texts.admit_refused inst fault → ReceivesGuest true settings m inst named.m p reply m2 → IsHost h2 w2
     → Knows settings w2 m2 (map (λ (y : Guest). y.id.place) e.guests.items)
     → TakesGuest settings m inst k p reply (with_guests e h2 names xs)
@@ -292,7 +292,7 @@ refused_stands settings e m named inst k p fault h2 names xs s at are items w2 _
     (named, at, m, receiving.admission_wants scarce none, refused_engine settings e m h2 names xs s are items w2 is2 knows2)
 
 pub refused : (settings : Settings) (e : Engine) (m : Made) (inst : List ℕ) (k : ℕ) (p : Params) (error : AdmitError) (h2 : HostState) (given names : Names) (xs : Vec Guest)
-    → Stands settings e m → k < e.modules → number_of e.guest_names inst ≡ None → AnswersAdmit e.host k p (Err error) h2 → StaysWhole e.host.space h2.space
+    → StandsForScript settings e m → k < e.modules → number_of e.guest_names inst ≡ None → AnswersAdmit e.host k p (Err error) h2 → StaysWhole e.host.space h2.space
     → ((other : List ℕ) → number_of given other ≡ update bytes_eq (number_of e.guest_names) inst (Some (length e.guests.items)) other)
     → ((other : List ℕ) → number_of names other ≡ update bytes_eq (number_of given) inst None other)
     → xs.items ≡ e.guests.items

@@ -25,8 +25,8 @@ use Rattle.wh_engine.specs.declared.parts.Invoked.{Invoked}
 use Rattle.wh_engine.specs.declared.parts.Reception.{Reception}
 use Rattle.wh_engine.specs.declared.parts.Reception.TheVariants.{TurnedDown, TakenOn}
 use Rattle.wh_engine.specs.Names.{AreNames, number_of}
-use Rattle.wh_engine.specs.Standing.{Stands, AreGuests, IsInvoked, reception_of}
-use Rattle.wh_engine.specs.Obeying.{TakesCall}
+use Rattle.wh_engine.specs.Standing.{StandsForScript, AreGuests, IsInvokedAs, reception_of}
+use Rattle.wh_engine.specs.Obeying.{TakesInvoke}
 use Rattle.wh_engine.proofs.Asked.{whole_of, id_of, own_number}
 use Rattle.wh_engine.proofs.Instances.{TouchesCalls, nothing, calls_of, guest_of, placed_at, touched_guests, touched_modules, touched_names}
 use Rattle.wh_script_model.proofs.CommandsCalling.{calls_follow}
@@ -68,7 +68,7 @@ turned_so i host.Memory answer is = absurd is
 
 -- ---- the engine
 
-one_more : (xs : List Invoked) (vs : List made.Invoked) (x : Invoked) (v : made.Invoked) → AllZip IsInvoked xs vs → IsInvoked x v → AllZip IsInvoked (xs ++ x ∷ []) (vs ++ v ∷ [])
+one_more : (xs : List Invoked) (vs : List made.Invoked) (x : Invoked) (v : made.Invoked) → AllZip IsInvokedAs xs vs → IsInvokedAs x v → AllZip IsInvokedAs (xs ++ x ∷ []) (vs ++ v ∷ [])
 one_more [] [] x v all one = (one, tt)
 one_more [] (w ∷ vs) x v all one = absurd all
 one_more (y ∷ xs) [] x v all one = absurd all
@@ -79,8 +79,8 @@ abbrev pub with_calls : Engine → HostState → Vec Invoked → Engine
 with_calls e h calls = record e { host = h; invoked = calls }
 
 called_stands : (settings : Settings) (e : Engine) (m m1 m2 : Made) (h2 : HostState) (w2 : World) (calls : Vec Invoked) (x : Invoked) (v : made.Invoked)
-    → Stands settings e m → IsBefore m m1 m2 → m2.invoked ≡ m.invoked ++ v ∷ [] → calls.items ≡ e.invoked.items ++ x ∷ [] → IsInvoked x v → IsHost h2 w2
-    → Knows settings w2 m2 (map (λ (y : Guest). y.id.place) e.guests.items) → Stands settings (with_calls e h2 calls) m2
+    → StandsForScript settings e m → IsBefore m m1 m2 → m2.invoked ≡ m.invoked ++ v ∷ [] → calls.items ≡ e.invoked.items ++ x ∷ [] → IsInvokedAs x v → IsHost h2 w2
+    → Knows settings w2 m2 (map (λ (y : Guest). y.id.place) e.guests.items) → StandsForScript settings (with_calls e h2 calls) m2
 called_stands settings e m m1 m2 h2 w2 calls x v s b entry entries is is2 knows2 = record {
   world = w2;
   is = is2;
@@ -90,14 +90,14 @@ called_stands settings e m m1 m2 h2 w2 calls x v s b entry entries is is2 knows2
   guest_names = subst (λ gs. AreNames (number_of e.guest_names) (map (λ (g : made.Guest). g.name) gs)) (sym b.guests)
       (subst (AreNames (number_of e.guest_names)) (sym (touched_names m m1 b.touches)) s.guest_names);
   guests = subst (AreGuests 0 e.guests.items) (sym b.guests) (touched_guests e.guests.items m m1 b.touches s.guests);
-  invoked = subst (λ vs. AllZip IsInvoked calls.items vs) (sym entry) (subst (λ xs. AllZip IsInvoked xs (m.invoked ++ v ∷ [])) (sym entries) (one_more e.invoked.items m.invoked x v s.invoked is));
+  invoked = subst (λ vs. AllZip IsInvokedAs calls.items vs) (sym entry) (subst (λ xs. AllZip IsInvokedAs xs (m.invoked ++ v ∷ [])) (sym entries) (one_more e.invoked.items m.invoked x v s.invoked is));
 }
 
 pub called : (settings : Settings) (e : Engine) (m : Made) (i : ℕ) (x : Guest) (export : List ℕ) (fuel : ℕ) (given : List ℤ) (h2 : HostState) (r : Result ℕ HostError) (came : Reception)
-    (calls : Vec Invoked) → Stands settings e m → slice_get e.guests.items i ≡ Some x → AnswersInvoke e.host x.id export given fuel r h2 → StaysWhole e.host.space h2.space
+    (calls : Vec Invoked) → StandsForScript settings e m → slice_get e.guests.items i ≡ Some x → AnswersInvoke e.host x.id export given fuel r h2 → StaysWhole e.host.space h2.space
     → ((answer : InvokeAnswer) → IsInvokeAnswer r answer → reception_of came ≡ reception i answer)
     → calls.items ≡ e.invoked.items ++ record { came = came; said = None } ∷ []
-    → TakesCall settings m i export fuel given (with_calls e h2 calls)
+    → TakesInvoke settings m i export fuel given (with_calls e h2 calls)
 called settings e m i x export fuel given h2 r came calls s at answers whole says entries =
     let w = s.world in
     let g = guest_of 0 e.guests.items m.guests i x s.guests at in
@@ -109,5 +109,5 @@ called settings e m i x export fuel given h2 r came calls s at answers whole say
     (map (λ (y : Guest). y.id.place) e.guests.items) i x.id.place g.0 export given fuel did.0 did.1 s.knows g.1
     (placed_at e.guests.items i x at) happened (whole_of e.host h2 w did.1 s.is did.4 whole) in
     let b = before m i g.0 export fuel given follows.0 g.1 follows.1 in
-    let is : IsInvoked (record { came = came; said = None }) (record { came = reception i did.0; said = None }) = record { came = says did.0 did.2; said = refl } in
+    let is : IsInvokedAs (record { came = came; said = None }) (record { came = reception i did.0; said = None }) = record { came = says did.0 did.2; said = refl } in
     (g.0, g.1, follows.0, follows.1, called_stands settings e m b.0 follows.0 h2 did.1 calls _ _ s b.1 follows.2 entries is did.4 follows.3)

@@ -17,7 +17,7 @@ use Rattle.wh_script_model.specs.Following.{AreSame, IsFollowed, IsPlaced, Knows
 use Rattle.wh_engine.specs.Names.{AreNames, number_of}
 use Rattle.wh_engine.specs.declared.engine.Engine.{Engine}
 use Rattle.wh_engine.specs.declared.parts.Guest.{Guest}
-use Rattle.wh_engine.specs.Standing.{Stands, AreGuests, IsInvoked}
+use Rattle.wh_engine.specs.Standing.{StandsForScript, AreGuests, IsInvokedAs}
 
 none_vacant : (n : ℕ) → tally is_ticket (replicate n Vacant) ≡ 0
 none_vacant zero = refl
@@ -46,7 +46,7 @@ knows_none settings w tax modules tenants new = record {
 }
 
 pub fresh : (settings : Settings) (tax : Tax) (e : Engine) → IsNewHost e.host settings.frames settings.slots tax → ((name : List ℕ) → number_of e.module_names name ≡ None)
-    → ((name : List ℕ) → number_of e.guest_names name ≡ None) → e.guests.items ≡ [] → e.invoked.items ≡ [] → e.modules ≡ 0 → Stands settings e nothing_made
+    → ((name : List ℕ) → number_of e.guest_names name ≡ None) → e.guests.items ≡ [] → e.invoked.items ≡ [] → e.modules ≡ 0 → StandsForScript settings e nothing_made
 fresh settings tax e new modules guests none no_call zero_many = record {
   world = new.0;
   is = new.1;
@@ -55,5 +55,5 @@ fresh settings tax e new modules guests none no_call zero_many = record {
   module_names = no_names (number_of e.module_names) modules;
   guest_names = no_names (number_of e.guest_names) guests;
   guests = subst (λ xs. AreGuests 0 xs []) (sym none) tt;
-  invoked = subst (λ xs. AllZip IsInvoked xs []) (sym no_call) tt;
+  invoked = subst (λ xs. AllZip IsInvokedAs xs []) (sym no_call) tt;
 }

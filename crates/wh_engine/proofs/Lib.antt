@@ -4,7 +4,8 @@ pub mod Called
 pub mod Fresh
 pub mod Instances
 pub mod Kept
-pub mod Naming
+pub mod LookedUp
+pub mod Named
 pub mod Refitted
 pub mod Released
 pub mod Whole

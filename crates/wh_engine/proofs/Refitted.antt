@@ -11,14 +11,14 @@ use Rattle.wh_engine.specs.declared.engine.Engine.{Engine}
 use Rattle.wh_engine.specs.declared.names.Names.{Names}
 use Rattle.wh_engine.specs.declared.parts.Guest.{Guest}
 use Rattle.wh_engine.specs.declared.parts.Invoked.{Invoked}
-use Rattle.wh_engine.specs.Standing.{Stands, AreGuests, IsInvoked}
+use Rattle.wh_engine.specs.Standing.{StandsForScript, AreGuests, IsInvokedAs}
 
 -- other names with the same numbers, and the same instances and calls in other vectors
-pub refitted : (settings : Settings) (e : Engine) (m : Made) (ms gs : Names) (xs : Vec Guest) (vs : Vec Invoked) → Stands settings e m
+pub refitted : (settings : Settings) (e : Engine) (m : Made) (ms gs : Names) (xs : Vec Guest) (vs : Vec Invoked) → StandsForScript settings e m
     → AreNames (number_of ms) (map (λ (n : made.NamedModule). n.name) m.modules)
     → AreNames (number_of gs) (map (λ (g : made.Guest). g.name) m.guests)
     → xs.items ≡ e.guests.items → vs.items ≡ e.invoked.items
-    → Stands settings (record { host = e.host; module_names = ms; guest_names = gs; guests = xs; invoked = vs; modules = e.modules }) m
+    → StandsForScript settings (record { host = e.host; module_names = ms; guest_names = gs; guests = xs; invoked = vs; modules = e.modules }) m
 refitted settings e m ms gs xs vs s modules guests same calls = record {
   world = s.world;
   is = s.is;
@@ -27,7 +27,7 @@ refitted settings e m ms gs xs vs s modules guests same calls = record {
   module_names = modules;
   guest_names = guests;
   guests = subst (λ ys. AreGuests 0 ys m.guests) (sym same) s.guests;
-  invoked = subst (λ ys. AllZip IsInvoked ys m.invoked) (sym calls) s.invoked;
+  invoked = subst (λ ys. AllZip IsInvokedAs ys m.invoked) (sym calls) s.invoked;
 }
 
 -- what holds anyway holds at Err

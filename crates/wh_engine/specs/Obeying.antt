@@ -11,33 +11,37 @@ use Rattle.wh_host_model.specs.Lines.Answers.{Files, IsObeyed}
 use Rattle.wh_host.specs.Asking.{host_number}
 use Rattle.wh_host.specs.declared.error.HostError.{HostError}
 use Rattle.wh_engine.specs.declared.engine.Engine.{Engine}
-use Rattle.wh_engine.specs.Standing.{Stands}
+use Rattle.wh_engine.specs.Standing.{StandsForScript}
 
 -- the instance of this number has the name
 abbrev pub IsNamed : Made → ℕ → List ℕ → Type 0
 IsNamed m i name = (g : Guest) × HasGuest m name i g
 
+-- and the module of this number
+abbrev pub IsModuleNamed : Made → ℕ → List ℕ → Type 0
+IsModuleNamed m k name = (named : NamedModule) × (slice_get m.modules k ≡ Some named) × (named.name ≡ name)
+
 -- a module whose name is free got this reply
 abbrev pub TakesModule : Settings → Made → (name bytes : List ℕ) → Reply → Engine → Type 0
 TakesModule settings m name bytes reply e2 =
-    (m2 : Made) × ReceivesModule true m name bytes reply m2 × Stands settings e2 m2
+    (m2 : Made) × ReceivesModule true m name bytes reply m2 × StandsForScript settings e2 m2
 
 -- an instance whose name is free, of the module of this number
 abbrev pub TakesGuest : Settings → Made → (name : List ℕ) (k : ℕ) (p : Params) → Reply → Engine → Type 0
 TakesGuest settings m name k p reply e2 =
     (named : NamedModule) × (slice_get m.modules k ≡ Some named)
-    × (m2 : Made) × ReceivesGuest true settings m name named.m p reply m2 × Stands settings e2 m2
+    × (m2 : Made) × ReceivesGuest true settings m name named.m p reply m2 × StandsForScript settings e2 m2
 
 -- a call was asked of the instance of this number
-abbrev pub TakesCall : Settings → Made → (i : ℕ) (export : List ℕ) (fuel : ℕ) (given : List ℤ) → Engine → Type 0
-TakesCall settings m i export fuel given e2 =
+abbrev pub TakesInvoke : Settings → Made → (i : ℕ) (export : List ℕ) (fuel : ℕ) (given : List ℤ) → Engine → Type 0
+TakesInvoke settings m i export fuel given e2 =
     (g : Guest) × (slice_get m.guests i ≡ Some g)
-    × (m2 : Made) × ReceivesCall true m i g export fuel given m2 × Stands settings e2 m2
+    × (m2 : Made) × ReceivesCall true m i g export fuel given m2 × StandsForScript settings e2 m2
 
 -- and a command this one
-abbrev pub Obeys : Settings → Files → Made → (line : ℕ) → Command → Reply → Engine → Type 0
-Obeys settings files m line command reply e2 =
-    (m2 : Made) × IsObeyed true settings files m line command (reply ∷ []) m2 × Stands settings e2 m2
+abbrev pub ObeysCommand : Settings → Files → Made → (line : ℕ) → Command → Reply → Engine → Type 0
+ObeysCommand settings files m line command reply e2 =
+    (m2 : Made) × IsObeyed true settings files m line command (reply ∷ []) m2 × StandsForScript settings e2 m2
 
 -- what a release gets
 abbrev pub reply_to_release : (name : List ℕ) → Result (Vec ℕ) HostError → Reply

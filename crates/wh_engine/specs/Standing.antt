@@ -33,13 +33,13 @@ abbrev pub reception_of : Reception → made.Reception
 reception_of (TurnedDown fault) = turned_down fault
 reception_of (TakenOn guest place) = taken_on guest place
 
-pub record IsInvoked (x : Invoked) (v : made.Invoked) : Type 0 where
+pub record IsInvokedAs (x : Invoked) (v : made.Invoked) : Type 0 where
   pub came : reception_of x.came ≡ v.came
   pub said : option_map status_of x.said ≡ v.said
 
 -- The engine stands for what the script has made: the host on which it runs knows it, each name has its number, and
 -- what is kept of instances and of calls is so.
-pub record Stands (settings : Settings) (e : Engine) (m : Made) : Type 0 where
+pub record StandsForScript (settings : Settings) (e : Engine) (m : Made) : Type 0 where
   pub world : World
   pub is : IsHost e.host world
   pub modules : e.modules ≡ length m.modules
@@ -47,4 +47,4 @@ pub record Stands (settings : Settings) (e : Engine) (m : Made) : Type 0 where
   pub module_names : AreNames (number_of e.module_names) (map (λ (n : made.NamedModule). n.name) m.modules)
   pub guest_names : AreNames (number_of e.guest_names) (map (λ (g : made.Guest). g.name) m.guests)
   pub guests : AreGuests 0 e.guests.items m.guests
-  pub invoked : AllZip IsInvoked e.invoked.items m.invoked
+  pub invoked : AllZip IsInvokedAs e.invoked.items m.invoked

@@ -6,8 +6,8 @@ ghost use Rattle.wh_host_model.specs.Lines.Commands.{cancel, refuel, retry};
 ghost use Rattle.wh_host_model.specs.Lines.Made.{Made};
 ghost use Rattle.wh_host_model.specs.Lines.Settings.{Settings};
 ghost use Rattle.wh_replies.specs.View.{reply_of};
-ghost use Rattle.wh_engine.specs.Standing.{Stands};
-ghost use Rattle.wh_engine.specs.Obeying.{IsNamed, Obeys};
+ghost use Rattle.wh_engine.specs.Standing.{StandsForScript};
+ghost use Rattle.wh_engine.specs.Obeying.{IsNamed, ObeysCommand};
 
 use crate::engine::Engine;
 use wh_replies::Reply;
@@ -17,8 +17,8 @@ impl Engine {
     pub fn refuel<'a>(&mut self, number: usize, name: &'a str, fuel: u64) -> Reply<'a>
         requires there { number < length self.old.guests.items }
         ensures { (settings : Settings) (files : Files) (line : ℕ) (m : Made)
-            → Stands settings self.old m → IsNamed m number name.now
-            → Obeys settings files m line (refuel name.now fuel) (reply_of result) self.new }
+            → StandsForScript settings self.old m → IsNamed m number name.now
+            → ObeysCommand settings files m line (refuel name.now fuel) (reply_of result) self.new }
     {
         match self.host.refuel(self.guests[number].id, fuel) {
             Ok(()) => Reply::RefuelOk { inst: name },
@@ -33,8 +33,8 @@ impl Engine {
     pub fn cancel<'a>(&mut self, number: usize, name: &'a str) -> Reply<'a>
         requires there { number < length self.old.guests.items }
         ensures { (settings : Settings) (files : Files) (line : ℕ) (m : Made)
-            → Stands settings self.old m → IsNamed m number name.now
-            → Obeys settings files m line (cancel name.now) (reply_of result) self.new }
+            → StandsForScript settings self.old m → IsNamed m number name.now
+            → ObeysCommand settings files m line (cancel name.now) (reply_of result) self.new }
     {
         match self.host.cancel(self.guests[number].id) {
             Ok(()) => Reply::CancelOk { inst: name },
@@ -49,8 +49,8 @@ impl Engine {
     pub fn retry<'a>(&mut self, number: usize, name: &'a str) -> Reply<'a>
         requires there { number < length self.old.guests.items }
         ensures { (settings : Settings) (files : Files) (line : ℕ) (m : Made)
-            → Stands settings self.old m → IsNamed m number name.now
-            → Obeys settings files m line (retry name.now) (reply_of result) self.new }
+            → StandsForScript settings self.old m → IsNamed m number name.now
+            → ObeysCommand settings files m line (retry name.now) (reply_of result) self.new }
     {
         match self.host.retry(self.guests[number].id) {
             Ok(()) => Reply::RetryOk { inst: name },

@@ -5,7 +5,7 @@ ghost use Rattle.wh_host_model.specs.declared.Tax.{Tax};
 ghost use Rattle.wh_host_model.specs.Lines.Made.{nothing_made};
 ghost use Rattle.wh_host_model.specs.Lines.Settings.{Settings};
 ghost use Rattle.wh_host.specs.Hosting.{IsNewHost};
-ghost use Rattle.wh_engine.specs.Standing.{Stands};
+ghost use Rattle.wh_engine.specs.Standing.{StandsForScript};
 
 use crate::names::Names;
 use crate::parts::{Guest, Invoked};
@@ -28,7 +28,7 @@ impl Engine {
     /// Nothing was made yet, on a new host.
     pub fn new(alloc: Global, host: Host) -> Engine
         ensures { (settings : Settings) (tax : Tax) → IsNewHost host settings.frames settings.slots tax
-            → Stands settings result nothing_made }
+            → StandsForScript settings result nothing_made }
     {
         Engine {
             host,

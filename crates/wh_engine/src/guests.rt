@@ -6,8 +6,8 @@ ghost use Rattle.wh_host_model.specs.Lines.Made.{Made};
 ghost use Rattle.wh_host_model.specs.Lines.Settings.{Settings};
 ghost use Rattle.wh_replies.specs.View.{reply_of};
 ghost use Rattle.wh_engine.specs.Names.{number_of};
-ghost use Rattle.wh_engine.specs.Standing.{Stands};
-ghost use Rattle.wh_engine.specs.Obeying.{TakesCall, TakesGuest};
+ghost use Rattle.wh_engine.specs.Standing.{StandsForScript};
+ghost use Rattle.wh_engine.specs.Obeying.{TakesInvoke, TakesGuest};
 
 use crate::engine::Engine;
 use crate::parts::{Guest, Invoked, Reception};
@@ -30,10 +30,10 @@ impl Engine {
     ) -> Result<Reply<'a>, AllocError>
         requires free { number_of self.old.guest_names inst.now ≡ None }
         requires there { of < self.old.modules }
-        ensures ok { IfOk result (λ reply. (settings : Settings) (m : Made) → Stands settings self.old m
+        ensures ok { IfOk result (λ reply. (settings : Settings) (m : Made) → StandsForScript settings self.old m
             → TakesGuest settings m inst.now of (params_of given) (reply_of reply) self.new) }
-        ensures err { OnErr result ((settings : Settings) (m : Made) → Stands settings self.old m
-            → Stands settings self.new m) }
+        ensures err { OnErr result ((settings : Settings) (m : Made) → StandsForScript settings self.old m
+            → StandsForScript settings self.new m) }
     {
         let name = String::from_str(alloc, inst)?;
         self.guests.reserve(1)?;
@@ -85,10 +85,10 @@ impl Engine {
         args: &[i128],
     ) -> Result<(), AllocError>
         requires there { number < length self.old.guests.items }
-        ensures ok { OnOk result ((settings : Settings) (m : Made) → Stands settings self.old m
-            → TakesCall settings m number export.now fuel args.now self.new) }
-        ensures err { OnErr result ((settings : Settings) (m : Made) → Stands settings self.old m
-            → Stands settings self.new m) }
+        ensures ok { OnOk result ((settings : Settings) (m : Made) → StandsForScript settings self.old m
+            → TakesInvoke settings m number export.now fuel args.now self.new) }
+        ensures err { OnErr result ((settings : Settings) (m : Made) → StandsForScript settings self.old m
+            → StandsForScript settings self.new m) }
     {
         self.invoked.reserve(1)?;
         let id = self.guests[number].id;

@@ -6,6 +6,7 @@ mod engine;
 mod guests;
 mod modules;
 mod names;
+mod naming;
 mod parts;
 mod releasing;
 

@@ -9,7 +9,7 @@ ghost use Rattle.wh_host.specs.Loading.{IsLoadAnswer};
 ghost use Rattle.wh_replies.specs.View.{reply_of, why_of};
 ghost use Rattle.wh_script_model.specs.Replies.{SaysModule};
 ghost use Rattle.wh_engine.specs.Names.{number_of};
-ghost use Rattle.wh_engine.specs.Standing.{Stands};
+ghost use Rattle.wh_engine.specs.Standing.{StandsForScript};
 ghost use Rattle.wh_engine.specs.Obeying.{TakesModule};
 
 use crate::engine::Engine;
@@ -64,10 +64,10 @@ impl Engine {
         bytes: &[u8],
     ) -> Result<Reply<'a>, AllocError>
         requires free { number_of self.old.module_names name.now ≡ None }
-        ensures ok { IfOk result (λ reply. (settings : Settings) (m : Made) → Stands settings self.old m
+        ensures ok { IfOk result (λ reply. (settings : Settings) (m : Made) → StandsForScript settings self.old m
             → TakesModule settings m name.now bytes.now (reply_of reply) self.new) }
-        ensures err { OnErr result ((settings : Settings) (m : Made) → Stands settings self.old m
-            → Stands settings self.new m) }
+        ensures err { OnErr result ((settings : Settings) (m : Made) → StandsForScript settings self.old m
+            → StandsForScript settings self.new m) }
     {
         self.module_names.add(alloc, name, self.modules)?;
         match self.host.load(alloc, bytes) {

@@ -5,8 +5,8 @@ ghost use Rattle.wh_host_model.specs.Lines.Answers.{Files};
 ghost use Rattle.wh_host_model.specs.Lines.Commands.{release};
 ghost use Rattle.wh_host_model.specs.Lines.Made.{Made};
 ghost use Rattle.wh_host_model.specs.Lines.Settings.{Settings};
-ghost use Rattle.wh_engine.specs.Standing.{Stands};
-ghost use Rattle.wh_engine.specs.Obeying.{IsNamed, Obeys, reply_to_release};
+ghost use Rattle.wh_engine.specs.Standing.{StandsForScript};
+ghost use Rattle.wh_engine.specs.Obeying.{IsNamed, ObeysCommand, reply_to_release};
 
 use crate::engine::Engine;
 use std::alloc::Global;
@@ -20,8 +20,8 @@ impl Engine {
     pub fn release(&mut self, alloc: Global, number: usize) -> Result<Vec<u8>, HostError>
         requires there { number < length self.old.guests.items }
         ensures { (settings : Settings) (files : Files) (line : ℕ) (m : Made) (name : List ℕ)
-            → Stands settings self.old m → IsNamed m number name
-            → Obeys settings files m line (release name) (reply_to_release name result) self.new }
+            → StandsForScript settings self.old m → IsNamed m number name
+            → ObeysCommand settings files m line (release name) (reply_to_release name result) self.new }
     {
         let id = self.guests[number].id;
         let output = match self.host.release(alloc, id) {

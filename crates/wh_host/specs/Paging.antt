@@ -37,6 +37,6 @@ abbrev pub MovesOnly : HostState → HostState → Type 0
 MovesOnly h h2 = (w : World) → IsHost h w → (w2 : World) × OnlyMoves w w2 × IsHost h2 w2
 
 -- the fault of a provision
-abbrev pub fault_of : Result ℕ SwapError → Option SwapError
-fault_of (Ok left) = None
-fault_of (Err fault) = Some fault
+abbrev pub provide_fault : Result ℕ SwapError → Option SwapError
+provide_fault (Ok left) = None
+provide_fault (Err fault) = Some fault

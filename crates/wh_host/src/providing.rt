@@ -6,7 +6,7 @@ ghost use Rattle.wh_host_model.specs.Space.Errands.{tickets};
 ghost use Rattle.wh_host_model.specs.Space.Laws.{IsProvided};
 ghost use Rattle.wh_host_model.specs.Space.Provide.{FailsTruly, OthersKeepMinimum, ProvidesTruly};
 ghost use Rattle.wh_model.specs.declared.memory.Need.{Need};
-ghost use Rattle.wh_host.specs.Paging.{IsAwaiting, IsGoing, MovesWith, Tells, WaitsFor, fault_of};
+ghost use Rattle.wh_host.specs.Paging.{IsAwaiting, IsGoing, MovesWith, Tells, WaitsFor, provide_fault};
 
 use crate::host::Host;
 use wh_host_model::{InstId, SwapError};
@@ -65,7 +65,7 @@ impl Host {
         ensures agrees { self.new.space.slots.held ≡ D.held device.new }
         ensures keeps { D.keeps device.new }
         ensures honest { D.honest device.new }
-        ensures moves { MovesWith self.old id AwaitsFrame (fault_of result) self.new }
+        ensures moves { MovesWith self.old id AwaitsFrame (provide_fault result) self.new }
         ensures idle { ((need : Need) → ¬ WaitsFor self.old id need)
             → (self.new ≡ self.old) × (device.new ≡ device.old) × (result ≡ Ok 0) }
         ensures provides { (need : Need) → WaitsFor self.old id need → IfOk result (λ left.

@@ -12,7 +12,7 @@ use Rattle.wh_host_model.specs.Lines.Drains as drains
 use Rattle.wh_host_model.specs.Lines.Served.{IsTenantOf}
 use Rattle.wh_host_model.proofs.Host.Holding.{memory_is_sound}
 use Rattle.wh_host_model.proofs.Lines.Serving.{served_as_alone}
-use Rattle.wh_script_model.specs.Following.{AreSame, ComeFurther, IsFollowed, is_there, is_gone, Follows, StaysWhole}
+use Rattle.wh_script_model.specs.Following.{AreSame, ComeFurther, IsFollowed, is_there, is_gone, FollowsScript, StaysWhole}
 use Rattle.wh_script_model.specs.Laws.{DrainsBegin, MovesFollow, DrainsEnd, SayingFollows}
 use Rattle.wh_script_model.proofs.Sums.{claims_decide}
 
@@ -64,7 +64,7 @@ moved_followed come w w2 same g None (is_gone gone) = is_gone gone
 
 moved_so : (come : List Call → List Call → Type 0) (settings : Settings) (w : World) (s2 : Space) (m : Made) (places : List ℕ)
     → StaysWhole w.space s2 → (minima s2 ≡ minima w.space) × (spreads s2 ≡ spreads w.space)
-    → Follows come settings w m places → Follows come settings (record w { space = s2 }) m places
+    → FollowsScript come settings w m places → FollowsScript come settings (record w { space = s2 }) m places
 moved_so come settings w s2 m places whole sums h =
     let w2 : World = record w { space = s2 } in
     record {
@@ -83,8 +83,8 @@ moves_follow frames slots tax events w happens settings m places w2 moves whole 
     let s2 = moves.0 in
     let sound = memory_is_sound frames slots tax events w happens in
     let goal : World → Type 0 = λ v. StaysWhole w.space v.space
-    → (Follows AreSame settings w m places → Follows AreSame settings v m places)
-    × (Follows ComeFurther settings w m places → Follows ComeFurther settings v m places) in
+    → (FollowsScript AreSame settings w m places → FollowsScript AreSame settings v m places)
+    × (FollowsScript ComeFurther settings w m places → FollowsScript ComeFurther settings v m places) in
     let so : goal (record w { space = s2 }) = λ stays. (
       λ h. moved_so AreSame settings w s2 m places stays
           (claims_decide w.space s2 sound moves.1.1 h.none_out (stays.none_out ∙ h.none_out) (λ j. (moves.1.0 j).claim)) h,

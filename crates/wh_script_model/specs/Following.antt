@@ -32,7 +32,7 @@ IsPlaced place (Some t) = t.place ≡ place
 
 -- The host has the modules of the script and its instances, each by its number, at these places; it has as many frames
 -- and slots as the settings say, and promised what the instances were given; and no page is on its way.
-pub record Follows (come : List Call → List Call → Type 0) (settings : Settings) (w : World) (m : Made)
+pub record FollowsScript (come : List Call → List Call → Type 0) (settings : Settings) (w : World) (m : Made)
     (places : List ℕ) : Type 0 where
   pub frames : length w.space.pool.frames ≡ settings.frames
   pub slots : length w.space.slots.uses ≡ settings.slots
@@ -45,11 +45,11 @@ pub record Follows (come : List Call → List Call → Type 0) (settings : Setti
 
 -- and each instance's calls are as the script knows them
 abbrev pub Knows : Settings → World → Made → List ℕ → Type 0
-Knows = Follows AreSame
+Knows = FollowsScript AreSame
 
 -- or have come further
-abbrev pub Runs : Settings → World → Made → List ℕ → Type 0
-Runs = Follows ComeFurther
+abbrev pub RunsKnown : Settings → World → Made → List ℕ → Type 0
+RunsKnown = FollowsScript ComeFurther
 
 -- no page begins or ends its way, and there are as many frames and slots as before
 pub record StaysWhole (s s2 : Space) : Type 0 where

@@ -14,7 +14,7 @@ use Rattle.wh_host_model.specs.Lines.Drains.{RunsAlone, SayStarts}
 use Rattle.wh_host_model.specs.Lines.Served.{IsServed}
 use Rattle.wh_host_model.specs.Lines.Receiving.{ReceivesModule, ReceivesGuest, ReceivesCall}
 use Rattle.wh_host_model.specs.Lines.Answers.{Files, IsObeyed}
-use Rattle.wh_script_model.specs.Following.{Knows, Runs, StaysWhole}
+use Rattle.wh_script_model.specs.Following.{Knows, RunsKnown, StaysWhole}
 use Rattle.wh_script_model.specs.Replies.{SaysModule, admit_reply, reception, refuel_reply, cancel_reply, retry_reply, release_reply}
 
 -- ---- commands
@@ -53,8 +53,8 @@ CallsFollow =
     × Knows settings w2 m2 places)
 
 -- the answer to what is asked of the present call of an instance
-abbrev pub IsAsked : (World → InstId → CallAnswer → World → Type 0) → Command → (CallAnswer → Reply) → List ℕ → Type 0
-IsAsked asks command reply name =
+abbrev pub FollowsCommand : (World → InstId → CallAnswer → World → Type 0) → Command → (CallAnswer → Reply) → List ℕ → Type 0
+FollowsCommand asks command reply name =
     AfterEvents (λ w. (settings : Settings) (files : Files) (number : ℕ) (m : Made) (places : List ℕ) (i place : ℕ) (g : Guest)
     (answer : CallAnswer) (w2 : World) → Knows settings w m places → HasGuest m name i g
     → slice_get places i ≡ Some place → asks w (record { place = place; number = i }) answer w2
@@ -64,15 +64,15 @@ IsAsked asks command reply name =
 abbrev pub RefuelsFollow : Type 0
 RefuelsFollow =
     (name : List ℕ) (n : ℕ)
-    → IsAsked (λ w id answer w2. IsRefuel w id n answer w2) (refuel name n) (refuel_reply name) name
+    → FollowsCommand (λ w id answer w2. IsRefuel w id n answer w2) (refuel name n) (refuel_reply name) name
 
 abbrev pub CancelsFollow : Type 0
 CancelsFollow =
-    (name : List ℕ) → IsAsked (λ w id answer w2. IsCancel w id answer w2) (cancel name) (cancel_reply name) name
+    (name : List ℕ) → FollowsCommand (λ w id answer w2. IsCancel w id answer w2) (cancel name) (cancel_reply name) name
 
 abbrev pub RetriesFollow : Type 0
 RetriesFollow =
-    (name : List ℕ) → IsAsked (λ w id answer w2. IsRetry w id answer w2) (retry name) (retry_reply name) name
+    (name : List ℕ) → FollowsCommand (λ w id answer w2. IsRetry w id answer w2) (retry name) (retry_reply name) name
 
 -- an instance goes
 abbrev pub ReleasesFollow : Type 0
@@ -90,20 +90,20 @@ ReleasesFollow =
 abbrev pub DrainsBegin : Type 0
 DrainsBegin =
     (settings : Settings) (w : World) (m : Made) (places : List ℕ) → Knows settings w m places
-    → Runs settings w m places
+    → RunsKnown settings w m places
 
 -- turns bring calls further
 abbrev pub TurnsFollow : Type 0
 TurnsFollow =
     AfterEvents (λ w. (settings : Settings) (m : Made) (places : List ℕ) (id : InstId) (q : ℕ) (answer : TurnEnd) (w2 : World)
-    → Runs settings w m places → IsTurn w id q answer w2 → StaysWhole w.space w2.space → Runs settings w2 m places)
+    → RunsKnown settings w m places → IsTurn w id q answer w2 → StaysWhole w.space w2.space → RunsKnown settings w2 m places)
 
 -- moves of pages don't, and what is known stays so
 abbrev pub MovesFollow : Type 0
 MovesFollow =
     AfterEvents (λ w. (settings : Settings) (m : Made) (places : List ℕ) (w2 : World) → OnlyMoves w w2
     → StaysWhole w.space w2.space
-    → (Knows settings w m places → Knows settings w2 m places) × (Runs settings w m places → Runs settings w2 m places))
+    → (Knows settings w m places → Knows settings w2 m places) × (RunsKnown settings w m places → RunsKnown settings w2 m places))
 
 -- nobody has a call that can go on
 abbrev pub AllServed : World → Type 0
@@ -112,7 +112,7 @@ AllServed w = (i : ℕ) (t : Tenant) → tenant w i ≡ Some t → IsServed t
 -- where nobody has, each instance's calls have run as they do alone
 abbrev pub DrainsEnd : Type 0
 DrainsEnd =
-    AfterEvents (λ w. (settings : Settings) (m : Made) (places : List ℕ) → Runs settings w m places → AllServed w
+    AfterEvents (λ w. (settings : Settings) (m : Made) (places : List ℕ) → RunsKnown settings w m places → AllServed w
     → (run : List Guest) × AllZip RunsAlone m.guests run
     × Knows settings w (record m { guests = run }) places)
 

@@ -4,7 +4,7 @@ use Rattle.std.proofs.Common.{bytes_eq}
 use Rattle.wh_engine.specs.Names.{number_of}
 use Rattle.wh_engine.specs.declared.parts.Guest.{Guest}
 use Rattle.wh_engine.proofs.Admitted.{admitted, refused}
-use Rattle.wh_engine.proofs.Naming.{same_names}
+use Rattle.wh_engine.proofs.Named.{same_names}
 use Rattle.wh_engine.proofs.Refitted.{err_then, refitted}
 use Rattle.wh_engine.proofs.Whole.{keeps_whole}
 use Rattle.wh_engine.proofs.engine.Engine.admit.Goals as goal

@@ -1,6 +1,6 @@
 use Rattle.std.proofs.Common.{arith, ℕ, List, Ok, Err, OnErr, refl}
 use Rattle.wh_engine.proofs.Kept.{takes_kept, takes_none}
-use Rattle.wh_engine.proofs.Naming.{same_names}
+use Rattle.wh_engine.proofs.Named.{same_names}
 use Rattle.wh_engine.proofs.Refitted.{err_then, refitted}
 use Rattle.wh_engine.specs.Names.{number_of}
 use Rattle.wh_engine.proofs.engine.Engine.keep.Goals as goal

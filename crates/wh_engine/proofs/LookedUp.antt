@@ -1,0 +1,34 @@
+-- What names stand for.
+use Rattle.std.proofs.Common.{◌≡◌, ◌∙◌, ℕ, zero, suc, List, [], ◌∷◌, map, slice_get, Option, Some, None, MatchOption, refl, sym, ap}
+use Rattle.std.proofs.lemmas.Option.{same_Some}
+use Rattle.wh_model.specs.Format.Syntax.{Module}
+use Rattle.wh_host_model.specs.Lines.Made as made
+use Rattle.wh_host_model.specs.Lines.Made.{NamedModule, Made, HasModule, HasGuest, NoGuest, NoModule}
+use Rattle.wh_engine.specs.Names.{AreNames}
+use Rattle.wh_engine.specs.Obeying.{IsModuleNamed, IsNamed}
+
+came_from : {A B : Type 0} (f : A → B) (xs : List A) (k : ℕ) (y : B) → slice_get (map f xs) k ≡ Some y → (x : A) × (slice_get xs k ≡ Some x) × (f x ≡ y)
+came_from f [] k y e = absurd (cc e)
+came_from f (x ∷ xs) zero y e = (x, refl, same_Some (f x) y e)
+came_from f (x ∷ xs) (suc k) y e = came_from f xs k y e
+
+goes_to : {A B : Type 0} (f : A → B) (xs : List A) (k : ℕ) (x : A) → slice_get xs k ≡ Some x → slice_get (map f xs) k ≡ Some (f x)
+goes_to f [] k x e = absurd (cc e)
+goes_to f (z ∷ xs) zero x e = ap (λ w. Some (f w)) (same_Some z x e)
+goes_to f (z ∷ xs) (suc k) x e = goes_to f xs k x e
+
+abbrev module_label : NamedModule → List ℕ
+module_label n = n.name
+
+abbrev guest_label : made.Guest → List ℕ
+guest_label g = g.name
+
+pub module_named : (f : List ℕ → Option ℕ) (m : Made) (name : List ℕ) (o : Option ℕ) → AreNames f (map (λ (n : NamedModule). n.name) m.modules) → o ≡ f name
+    → MatchOption o (NoModule m name) (λ k. IsModuleNamed m k name)
+module_named f m name None are e = λ spelled has. absurd (cc (e, are.only name has.0 (goes_to module_label m.modules has.0 _ has.1)))
+module_named f m name (Some k) are e = came_from module_label m.modules k name (are.found name k (sym e))
+
+pub guest_named : (f : List ℕ → Option ℕ) (m : Made) (name : List ℕ) (o : Option ℕ) → AreNames f (map (λ (g : made.Guest). g.name) m.guests) → o ≡ f name
+    → MatchOption o (NoGuest m name) (λ k. IsNamed m k name)
+guest_named f m name None are e = λ i g has. absurd (cc (e, are.only name i (goes_to guest_label m.guests i g has.0 ∙ ap (λ n. Some n) has.1)))
+guest_named f m name (Some k) are e = let d = came_from guest_label m.guests k name (are.found name k (sym e)) in (d.0, (d.1, d.2))
