@@ -6,6 +6,7 @@ ghost use Rattle.wh_host_model.specs.Space.Errands.{tickets};
 ghost use Rattle.wh_host_model.specs.Space.Laws.{IsProvided};
 ghost use Rattle.wh_host_model.specs.Space.Provide.{FailsTruly, OthersKeepMinimum, ProvidesTruly};
 ghost use Rattle.wh_model.specs.declared.memory.Need.{Need};
+ghost use Rattle.wh_reclaim.specs.Whole.{IsAsWhole};
 ghost use Rattle.wh_host.specs.Paging.{IsAwaiting, IsGoing, MovesWith, Tells, WaitsFor, provide_fault};
 
 use crate::host::Host;
@@ -75,6 +76,7 @@ impl Host {
         ensures fails { (need : Need) → WaitsFor self.old id need → OnErr result
             (FailsTruly self.old.space id.place need self.new.space) }
         ensures others { OthersKeepMinimum self.old.space id.place self.new.space }
+        ensures whole { IsAsWhole self.old.space self.new.space }
         ensures writes { IfOk result (λ left. D.writes device.new ≡ D.writes device.old + left) }
         ensures ok { OnOk result (D.faults device.new ≡ D.faults device.old) }
         ensures err { IfErr result (λ fault. D.faults device.new ≡ fault ∷ D.faults device.old) }

@@ -4,3 +4,4 @@ pub mod Sending
 pub mod Going
 pub mod Providing
 pub mod Together
+pub mod Whole

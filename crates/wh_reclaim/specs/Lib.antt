@@ -3,3 +3,4 @@ pub mod Lending
 pub mod Providing
 pub mod Tickets
 pub mod Together
+pub mod Whole

@@ -13,6 +13,7 @@ ghost use Rattle.wh_host_model.specs.Space.States.{page_at};
 ghost use Rattle.wh_host_model.specs.Space.Tickets.{StandsForFrame};
 ghost use Rattle.wh_model.specs.declared.memory.Need.{Need as Bytes};
 ghost use Rattle.wh_reclaim.specs.Providing.{GoesOn, LosesSlot, Revokes, left_by};
+ghost use Rattle.wh_reclaim.specs.Whole.{IsAsWhole};
 
 use crate::choice::{PageOf, page_to_take};
 use crate::tickets::Buf;
@@ -258,6 +259,7 @@ pub fn provide<D: SwapDev>(
     ensures fails_truly { (need : Bytes) → StandsForFrame memory.old place need
         → D.honest device.new → OnErr result (FailsTruly memory.old place need memory.new) }
     ensures others { OthersKeepMinimum memory.old place memory.new }
+    ensures whole { IsAsWhole memory.old memory.new }
     ensures writes { IfOk result (λ left. D.writes device.new ≡ D.writes device.old + left) }
     ensures ok { OnOk result (D.faults device.new ≡ D.faults device.old) }
     ensures err { IfErr result (λ fault. D.faults device.new ≡ fault ∷ D.faults device.old) }

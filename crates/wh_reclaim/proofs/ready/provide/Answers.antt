@@ -3,6 +3,7 @@ use Rattle.std.specs.Prelude.{IfOk, OnErr}
 use Rattle.wh_host_model.specs.Space.Provide.{FailsToProvide, FailsTruly, Provides, ProvidesTruly}
 use Rattle.wh_reclaim.proofs.Beginning.{wants_stands}
 use Rattle.wh_reclaim.proofs.Providing.{is_right, keeps_others, none_left, one_need, under_err, under_ok}
+use Rattle.wh_reclaim.proofs.Whole.{provides_whole}
 use Rattle.wh_reclaim.proofs.ready.provide.Goals as goal
 
 pub provide_for-requires-clause-stands : goal.provide_for-requires-clause-stands
@@ -41,3 +42,7 @@ returns-clause-others g c =
 pub returns-clause-none_out : goal.returns-clause-none_out
 returns-clause-none_out g c =
     none_left c.provide_for.result c.args.memory.now c.args.place c.in-Some.need c.provide_for.new.memory c.known.ensures.sound c.requires.none_out (wants_stands c.args.memory.now c.args.place c.in-Some.need (sym c.wanted_step.ensures ∙ c.in-Some.is)) c.provide_for.ensures.provides c.provide_for.ensures.fails
+
+pub returns-clause-whole : goal.returns-clause-whole
+returns-clause-whole g c =
+    provides_whole c.provide_for.result c.args.memory.now c.args.place c.in-Some.need c.provide_for.new.memory c.provide_for.ensures.provides c.provide_for.ensures.fails

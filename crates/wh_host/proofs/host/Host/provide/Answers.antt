@@ -3,6 +3,7 @@ use Rattle.wh_host_model.specs.Host.Happens.{AwaitsFrame}
 use Rattle.wh_host_model.specs.Space.Errands.{tickets}
 use Rattle.wh_host_model.specs.Space.Laws.{IsProvided}
 use Rattle.wh_host_model.specs.Space.Provide.{FailsTruly, ProvidesTruly}
+use Rattle.wh_reclaim.specs.Whole.{IsAsWhole}
 use Rattle.wh_host.specs.Hosting.{HostState, IsHost, resident_at}
 use Rattle.wh_host.specs.Paging.{WaitsFor}
 use Rattle.wh_host.proofs.Hosts.{put_back}
@@ -212,3 +213,13 @@ returns-clause-moves g c w st =
     let waits = c.if-not-awaits_frame.ensures in
     let keeps = keeps_fault x.tenant c.fail.new.self c.in-Err.fault c.fail.result c.fail.ensures.some c.fail.ensures.none waits in
     failed_here h w c.args.id x c.fail.new.self c.in-Err.fault c.provide.new.memory here at c.if-not-has_number.ensures waits none (λ need stands. c.in-Err.ensures.fails_truly need stands honest) keeps
+
+pub returns-in-Ok-clause-whole : goal.returns-in-Ok-clause-whole
+returns-in-Ok-clause-whole g c =
+    let space = ap (λ (z : HostState). z.space) c.self.view_is in
+    subst (λ s. IsAsWhole s c.provide.new.memory) space c.provide.ensures.whole
+
+pub returns-clause-whole : goal.returns-clause-whole
+returns-clause-whole g c =
+    let space = ap (λ (z : HostState). z.space) c.self.view_is in
+    subst (λ s. IsAsWhole s c.provide.new.memory) space c.provide.ensures.whole
