@@ -7,6 +7,7 @@
 #![tactic(auto)]
 
 mod arguments;
+mod files;
 mod program;
 #[cfg(test)]
 mod tests;

@@ -3,11 +3,17 @@
 
 mod asking;
 mod engine;
+mod fault;
 mod guests;
 mod modules;
 mod names;
 mod naming;
 mod parts;
 mod releasing;
+mod running;
+mod saying;
+mod sharing;
 
 pub use engine::Engine;
+pub use fault::ScriptFault;
+pub use running::TooManyTurns;

@@ -6,7 +6,7 @@ ghost use Rattle.std.specs.List.{All};
 ghost use Rattle.std.specs.Io.KnownBytes.{Consumes, Keeps, IsAtEnd};
 ghost use Rattle.wh_script.specs.Coming.{unread, coming, IsInChunk, Holds, TakesPiece, IsKind, ReadsLine, FailsAt};
 
-use crate::fault::ScriptFault;
+use wh_engine::ScriptFault;
 use memchr::memchr;
 use std::alloc::Global;
 use std::io::{ErrorKind, Read};

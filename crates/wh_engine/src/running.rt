@@ -1,0 +1,68 @@
+// Calls that run until none can go on.
+
+use crate::engine::Engine;
+use thiserror::Error;
+use wh_host::Host;
+use wh_host_model::InstId;
+use wh_reclaim::Buf;
+use wh_swap::SwapDev;
+
+/// There were more turns of one instance than can be counted: 2^64 - 1.
+#[derive(Clone, Copy, Debug, PartialEq, Eq, Error)]
+#[error("more turns than can be counted")]
+pub struct TooManyTurns;
+
+// Gives an instance turns, and makes its steps ready, until it can't go on. Where the device fails it can't.
+fn run_out<D: SwapDev>(
+    host: &mut Host,
+    device: &mut D,
+    buf: &mut Buf,
+    id: InstId,
+    quantum: u64,
+) -> Result<(), TooManyTurns> {
+    for _ in 0..u64::MAX {
+        if !host.can_go_on(id) {
+            return Ok(());
+        }
+        if host.awaits_frame(id) && host.provide(device, id, buf).is_err() {
+            return Ok(());
+        }
+        let _ = host.turn(id, quantum);
+    }
+    Err(TooManyTurns)
+}
+
+impl Engine {
+    /// Whether a call of some instance can go on.
+    pub fn can_go_on(&self) -> bool {
+        for guest in &self.guests {
+            if self.host.can_go_on(guest.id) {
+                return true;
+            }
+        }
+        false
+    }
+
+    /// Begins a new epoch, in which no page was touched yet.
+    pub fn epoch(&mut self) {
+        self.host.epoch();
+    }
+
+    /// Runs the calls of each instance, one instance after the other by number, in turns of so many charges, until none can
+    /// go on.
+    ///
+    /// # Errors
+    /// Where turns can't be counted any more.
+    pub fn run<D: SwapDev>(
+        &mut self,
+        device: &mut D,
+        buf: &mut Buf,
+        quantum: u64,
+    ) -> Result<(), TooManyTurns> {
+        for at in 0..self.guests.len() {
+            let id = self.guests[at].id;
+            run_out(&mut self.host, device, buf, id, quantum)?;
+        }
+        Ok(())
+    }
+}
