@@ -8,4 +8,6 @@ pub mod LookedUp
 pub mod Named
 pub mod Refitted
 pub mod Released
+pub mod Runs
+pub mod Sayings
 pub mod Whole

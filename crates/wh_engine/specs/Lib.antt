@@ -1,3 +1,5 @@
 pub mod Names
 pub mod Standing
 pub mod Obeying
+pub mod Draining
+pub mod Saying

@@ -1,5 +1,8 @@
 // Calls that run until none can go on.
 
+ghost use Rattle.std.specs.Prelude.{◌≡◌, OnOk};
+ghost use Rattle.wh_engine.specs.Draining.{HasAdded, IsBacked, RunsEach, RunsOut};
+
 use crate::engine::Engine;
 use thiserror::Error;
 use wh_host::Host;
@@ -19,13 +22,22 @@ fn run_out<D: SwapDev>(
     buf: &mut Buf,
     id: InstId,
     quantum: u64,
-) -> Result<(), TooManyTurns> {
+) -> Result<(), TooManyTurns>
+    requires { IsBacked host.old.space (D.held device.old) (D.keeps device.old)
+        (D.honest device.old) }
+    ensures backed { IsBacked host.new.space (D.held device.new) (D.keeps device.new)
+        (D.honest device.new) }
+    ensures faults { HasAdded (D.faults device.old) (D.faults device.new) }
+    ensures runs { OnOk result (D.faults device.new ≡ D.faults device.old
+        → RunsOut id.number id.place host.old host.new) }
+{
     for _ in 0..u64::MAX {
         if !host.can_go_on(id) {
             return Ok(());
         }
-        if host.awaits_frame(id) && host.provide(device, id, buf).is_err() {
-            return Ok(());
+        match host.provide(device, id, buf) {
+            Ok(_) => {}
+            Err(_) => return Ok(()),
         }
         let _ = host.turn(id, quantum);
     }
@@ -43,11 +55,6 @@ impl Engine {
         false
     }
 
-    /// Begins a new epoch, in which no page was touched yet.
-    pub fn epoch(&mut self) {
-        self.host.epoch();
-    }
-
     /// Runs the calls of each instance, one instance after the other by number, in turns of so many charges, until none can
     /// go on.
     ///
@@ -58,7 +65,15 @@ impl Engine {
         device: &mut D,
         buf: &mut Buf,
         quantum: u64,
-    ) -> Result<(), TooManyTurns> {
+    ) -> Result<(), TooManyTurns>
+        requires { IsBacked self.old.host.space (D.held device.old) (D.keeps device.old)
+            (D.honest device.old) }
+        ensures backed { IsBacked self.new.host.space (D.held device.new) (D.keeps device.new)
+            (D.honest device.new) }
+        ensures faults { HasAdded (D.faults device.old) (D.faults device.new) }
+        ensures runs { OnOk result (D.faults device.new ≡ D.faults device.old
+            → RunsEach self.old self.new) }
+    {
         for at in 0..self.guests.len() {
             let id = self.guests[at].id;
             run_out(&mut self.host, device, buf, id, quantum)?;

@@ -1,59 +1,82 @@
 // How calls are said to be.
 
+ghost use Rattle.std.specs.Prelude.{◌≡◌, ◌+◌, OnOk, string_bytes};
+ghost use Rattle.wh_replies.specs.View.{caller_of, status_of};
+ghost use Rattle.wh_script_model.specs.Said as said_spec;
+ghost use Rattle.wh_host_model.specs.Lines.Texts.{wants_fuel};
+ghost use Rattle.wh_instance.specs.Tenancy.{suspension_of};
+ghost use Rattle.wh_engine.specs.Saying.{IsFaultless, IsInvokedNow, IsReturnedSo, IsSaidAs, IsStatusAt, SaysAll, SaysAllCalls, SaysAllStarts, SaysCallOf, SaysOf, SaysStartOf};
+
 use crate::engine::Engine;
 use crate::parts::{Guest, Invoked, Reception};
 use std::alloc::AllocError;
-use wh_host::{CallStatus, Host, Suspension};
+use wh_host::{CallStatus, CallValue, Host, Suspension};
 use wh_replies::{Call, Caller, Reply, Status, signed_value, write_reply};
 
 // A call that was said to be so, once its instance is released.
-fn when_released(said: Status) -> Status {
+fn when_released(said: Status) -> Status
+    ensures { status_of result ≡ said_spec.when_released (status_of said) }
+{
     match said {
-        Status::Fuel { charges } | Status::Frame { charges, .. } => Status::Released { charges },
+        Status::Fuel { charges } => Status::Released { charges },
+        Status::Frame { charges, .. } => Status::Released { charges },
         Status::Queued => Status::Released { charges: 0 },
         status => status,
     }
 }
 
+// What is said of a call that has returned this; nothing, where the word isn't one of its type.
+fn returned_so(value: Option<CallValue>, charges: u64) -> Option<Status>
+    ensures { IsReturnedSo value charges result }
+{
+    let Some(value) = value else {
+        return Some(Status::Done { charges });
+    };
+    let value = signed_value(value.of, value.word)?;
+    Some(Status::Value { value, charges })
+}
+
 // What is said of a call of which the host tells this.
-fn said_of(told: CallStatus) -> Status {
+fn said_of(told: CallStatus) -> Option<Status>
+    ensures { IsSaidAs told result }
+{
     match told {
-        CallStatus::Returned {
-            value: Some(value),
-            charges,
-        } => Status::Value {
-            value: signed_value(value.of, value.word),
-            charges,
-        },
-        CallStatus::Returned {
-            value: None,
-            charges,
-        } => Status::Done { charges },
-        CallStatus::Trapped { trap, charges } => Status::Trap {
+        CallStatus::Returned { value, charges } => returned_so(value, charges),
+        CallStatus::Trapped { trap, charges } => Some(Status::Trap {
             trap: trap.number(),
             charges,
-        },
-        CallStatus::Cancelled { charges } => Status::Cancelled { charges },
-        CallStatus::Dead => Status::Dead,
-        CallStatus::Waiting => Status::Queued,
+        }),
+        CallStatus::Cancelled { charges } => Some(Status::Cancelled { charges }),
+        CallStatus::Dead => Some(Status::Dead),
+        CallStatus::Waiting => Some(Status::Queued),
         CallStatus::Present {
-            stands_for: Some(Suspension::Device(fault)),
+            stands_for,
             charges,
-        } => Status::Frame {
-            fault: fault.number(),
-            charges,
-        },
-        CallStatus::Present { charges, .. } => Status::Fuel { charges },
+        } => Some(standing_so(stands_for, charges)),
     }
 }
 
-// How the call at a place of the journal of an instance is; it was said to be so, if it was.
-fn status_now(host: &Host, guest: &Guest, place: u32, said: Option<Status>) -> Option<Status> {
+// What is said of the present call of an instance, which stands for this.
+fn standing_so(stands_for: Option<Suspension>, charges: u64) -> Status
+    ensures { IsFaultless (suspension_of stands_for) → status_of result ≡ wants_fuel charges }
+{
+    match stands_for {
+        Some(Suspension::Device(fault)) => Status::Frame {
+            fault: fault.number(),
+            charges,
+        },
+        _ => Status::Fuel { charges },
+    }
+}
+
+// How the call at a place of the journal of an instance is, which was last said to be so.
+fn status_now(host: &Host, guest: &Guest, place: u32, said: Option<Status>) -> Option<Status>
+    ensures { IsStatusAt host.now guest.now place said result }
+{
     if guest.is_released {
         return Some(when_released(said?));
     }
-    let told = host.call_status(guest.id, place)?;
-    Some(said_of(told))
+    said_of(host.call_status(guest.id, place)?)
 }
 
 // Puts the line of a call behind a text, where it differs from the last one.
@@ -62,7 +85,10 @@ fn say_line(
     who: Caller<'_>,
     said: Option<Status>,
     status: Status,
-) -> Result<(), AllocError> {
+) -> Result<(), AllocError>
+    ensures { OnOk result (SaysOf (caller_of who.entry) said status (string_bytes text.old)
+        (string_bytes text.new)) }
+{
     if said == Some(status) {
         return Ok(());
     }
@@ -71,7 +97,10 @@ fn say_line(
 }
 
 // Says how the start of an instance is, if it has one.
-fn say_start(host: &Host, guest: &mut Guest, text: &mut String) -> Result<(), AllocError> {
+fn say_start(host: &Host, guest: &mut Guest, text: &mut String) -> Result<(), AllocError>
+    ensures { OnOk result (SaysStartOf host.now guest.old guest.new (string_bytes text.old)
+        (string_bytes text.new)) }
+{
     if !guest.has_start {
         return Ok(());
     }
@@ -84,7 +113,9 @@ fn say_start(host: &Host, guest: &mut Guest, text: &mut String) -> Result<(), Al
 }
 
 // How the call of an `invoke` is.
-fn invoked_now(host: &Host, guests: &[Guest], invoked: Invoked) -> Option<Status> {
+fn invoked_now(host: &Host, guests: &[Guest], invoked: Invoked) -> Option<Status>
+    ensures { IsInvokedNow host.now guests.now invoked result }
+{
     match invoked.came {
         Reception::TurnedDown(fault) => Some(Status::Refused { fault }),
         Reception::TakenOn { guest, place } => {
@@ -94,24 +125,57 @@ fn invoked_now(host: &Host, guests: &[Guest], invoked: Invoked) -> Option<Status
     }
 }
 
+// Says how the call of the `invoke` with a number is.
+fn say_call(
+    host: &Host,
+    guests: &[Guest],
+    number: u64,
+    invoked: &mut Invoked,
+    text: &mut String,
+) -> Result<(), AllocError>
+    ensures { OnOk result (SaysCallOf host.now guests.now number invoked.old invoked.new
+        (string_bytes text.old) (string_bytes text.new)) }
+{
+    let Some(status) = invoked_now(host, guests, *invoked) else {
+        return Ok(());
+    };
+    say_line(text, Caller::Call(number), invoked.said, status)?;
+    invoked.said = Some(status);
+    Ok(())
+}
+
 impl Engine {
     /// Puts the lines of a drain behind a text: of each start, by the numbers of instances, and then of each call, by the
     /// numbers of their `invoke`s, of which another line is to be said than the last one.
     ///
     /// # Errors
     /// A growth of memory was refused; a beginning of the lines may stand behind the text.
-    pub fn say(&mut self, text: &mut String) -> Result<(), AllocError> {
+    pub fn say(&mut self, text: &mut String) -> Result<(), AllocError>
+        ensures { OnOk result (SaysAll self.old (string_bytes text.old) self.new
+            (string_bytes text.new)) }
+    {
+        self.say_starts(text)?;
+        self.say_calls(text)
+    }
+
+    fn say_starts(&mut self, text: &mut String) -> Result<(), AllocError>
+        ensures { OnOk result (SaysAllStarts self.old (string_bytes text.old) self.new
+            (string_bytes text.new)) }
+    {
         for at in 0..self.guests.len() {
             say_start(&self.host, &mut self.guests[at], text)?;
         }
+        Ok(())
+    }
+
+    fn say_calls(&mut self, text: &mut String) -> Result<(), AllocError>
+        ensures { OnOk result (SaysAllCalls self.old (string_bytes text.old) self.new
+            (string_bytes text.new)) }
+    {
         for at in 0..self.invoked.len() {
-            let invoked = self.invoked[at];
-            let Some(status) = invoked_now(&self.host, &self.guests, invoked) else {
-                continue;
-            };
             let number = at as u64 + 1;
-            say_line(text, Caller::Call(number), invoked.said, status)?;
-            self.invoked[at].said = Some(status);
+            let invoked = &mut self.invoked[at];
+            say_call(&self.host, &self.guests, number, invoked, text)?;
         }
         Ok(())
     }

@@ -123,12 +123,13 @@ fn writes_rows(rt: HostRuntime) -> Result<(), Fail> {
 
 #[test]
 fn reads_values_with_their_sign(rt: HostRuntime) {
-    assert_eq!(rt; signed_value(ValType::I32, 0xFFFF_FFFF), -1);
-    assert_eq!(rt; signed_value(ValType::I32, 0x7FFF_FFFF), 2147483647);
-    assert_eq!(rt; signed_value(ValType::I64, 0xFFFF_FFFF_FFFF_FFFF), -1);
+    assert_eq!(rt; signed_value(ValType::I32, 0xFFFF_FFFF), Some(-1));
+    assert_eq!(rt; signed_value(ValType::I32, 0x7FFF_FFFF), Some(2147483647));
+    assert_eq!(rt; signed_value(ValType::I64, 0xFFFF_FFFF_FFFF_FFFF), Some(-1));
     assert_eq!(rt;
         signed_value(ValType::I64, 0x8000_0000_0000_0000),
-        -9223372036854775808
+        Some(-9223372036854775808)
     );
-    assert_eq!(rt; signed_value(ValType::I64, 7), 7);
+    assert_eq!(rt; signed_value(ValType::I64, 7), Some(7));
+    assert_eq!(rt; signed_value(ValType::I32, 0x1_0000_0000), None);
 }

@@ -1,18 +1,18 @@
 //! The value of a call as a reply shows it.
 
-ghost use Rattle.std.specs.Prelude.{◌≡◌, ◌<◌, ◌^◌};
+ghost use Rattle.std.specs.Prelude.{◌≡◌, ◌<◌, ◌^◌, Some};
 ghost use Rattle.wh_model.specs.Execution.Numbers.{bits, signed};
 
 use wh_model::ValType;
 
-/// The signed number that a value of this type stands for, by its word: an i32 is a word below 2^32.
+/// The signed number that a value of this type stands for, by its word: an i32 is a word below 2^32. `None` where the word is
+/// none of this type.
 #[tactic(auto, using(crate::proofs::Signed::signs))]
-pub fn signed_value(of: ValType, word: u64) -> i64
-    requires { word < 2 ^ bits of }
-    ensures { result ≡ signed (bits of) word }
+pub fn signed_value(of: ValType, word: u64) -> Option<i64>
+    ensures { word < 2 ^ bits of → result ≡ Some (signed (bits of) word) }
 {
     match of {
-        ValType::I32 => i64::from((word as u32).cast_signed()),
-        ValType::I64 => word.cast_signed(),
+        ValType::I32 => Some(i64::from(u32::try_from(word).ok()?.cast_signed())),
+        ValType::I64 => Some(word.cast_signed()),
     }
 }

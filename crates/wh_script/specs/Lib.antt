@@ -1,6 +1,5 @@
-pub mod Refusals
+pub mod Sources
 pub mod Coming
-pub mod Commands
-pub mod Numbering
-pub mod Replies
+pub mod Spoken
+pub mod Sessions
 pub mod Runs

@@ -4,6 +4,7 @@
 
 mod files;
 mod lines;
+mod obeying;
 mod run;
 mod session;
 

@@ -9,3 +9,5 @@ pub mod CommandsAsked
 pub mod CommandsEnding
 pub mod CommandsCalling
 pub mod CommandsGuests
+pub mod Said
+pub mod SaidObeyed

@@ -1,5 +1,5 @@
 -- How what a script has made follows what happens on the host.
-use Rattle.std.specs.Prelude.{◌≡◌, ℕ, true, List, [], ◌∷◌, ◌++◌, slice_get, Option, Some, None, ℤ}
+use Rattle.std.specs.Prelude.{◌≡◌, ℕ, Bool, true, List, [], ◌∷◌, ◌++◌, slice_get, Option, Some, None, ℤ}
 use Rattle.std.specs.List.{AllZip}
 use Rattle.wh_host_model.specs.declared.plain.InstId.{InstId}
 use Rattle.wh_host_model.specs.declared.plain.TurnEnd.{TurnEnd}
@@ -9,12 +9,13 @@ use Rattle.wh_host_model.specs.Host.Happens.{IsTurn, LoadAnswer, IsLoad, AdmitAn
 use Rattle.wh_host_model.specs.Lines.Settings.{Settings}
 use Rattle.wh_host_model.specs.Lines.Commands.{Command, refuel, cancel, retry, release}
 use Rattle.wh_host_model.specs.Lines.Texts.{Reply}
-use Rattle.wh_host_model.specs.Lines.Made.{NamedModule, Guest, Invoked, Made, HasGuest}
-use Rattle.wh_host_model.specs.Lines.Drains.{RunsAlone, SayStarts}
+use Rattle.wh_host_model.specs.Lines.Made.{NamedModule, Guest, Invoked, Made, nothing_made, HasGuest}
+use Rattle.wh_host_model.specs.Lines.Drains.{RunsAlone, SayStarts, SayCalls}
 use Rattle.wh_host_model.specs.Lines.Served.{IsServed}
 use Rattle.wh_host_model.specs.Lines.Receiving.{ReceivesModule, ReceivesGuest, ReceivesCall}
 use Rattle.wh_host_model.specs.Lines.Answers.{Files, IsObeyed}
 use Rattle.wh_script_model.specs.Following.{Knows, RunsKnown, StaysWhole}
+use Rattle.wh_script_model.specs.Said.{AllAreSaid, IsWellMade}
 use Rattle.wh_script_model.specs.Replies.{SaysModule, admit_reply, reception, refuel_reply, cancel_reply, retry_reply, release_reply}
 
 -- ---- commands
@@ -122,3 +123,35 @@ SayingFollows =
     (settings : Settings) (w : World) (m : Made) (places : List ℕ) (lines : List Reply) (said : List Guest)
     (invoked : List Invoked) → Knows settings w m places → SayStarts m.guests lines said
     → Knows settings w (record m { guests = said; invoked = invoked }) places
+
+-- ---- what has been said
+
+-- what lines make is well made: from the beginning
+abbrev pub BeginsWell : Type 0
+BeginsWell = IsWellMade nothing_made
+
+-- while calls run
+abbrev pub RunsWell : Type 0
+RunsWell =
+    (m : Made) (run : List Guest) → IsWellMade m → AllZip RunsAlone m.guests run → IsWellMade (record m { guests = run })
+
+-- where it is said how they are: then it was said of all of them
+abbrev pub SaysWell : Type 0
+SaysWell =
+    (m : Made) (starts calls : List Reply) (guests : List Guest) (invoked : List Invoked) → IsWellMade m
+    → SayStarts m.guests starts guests → SayCalls guests 1 m.invoked calls invoked
+    → IsWellMade (record m { guests = guests; invoked = invoked })
+    × AllAreSaid (record m { guests = guests; invoked = invoked })
+
+-- where a call is asked for
+abbrev pub AsksWell : Type 0
+AsksWell =
+    (scarce : Bool) (m m2 : Made) (i : ℕ) (g : Guest) (name : List ℕ) (fuel : ℕ) (given : List ℤ)
+    → slice_get m.guests i ≡ Some g → ReceivesCall scarce m i g name fuel given m2 → IsWellMade m → IsWellMade m2
+
+-- and where a command is obeyed, once it was said of all calls how they are
+abbrev pub ObeysWell : Type 0
+ObeysWell =
+    (scarce : Bool) (settings : Settings) (files : Files) (m m2 : Made) (number : ℕ) (command : Command)
+    (replies : List Reply) → IsObeyed scarce settings files m number command replies m2
+    → IsWellMade m → AllAreSaid m → IsWellMade m2

@@ -1,3 +1,4 @@
 pub mod Following
 pub mod Replies
+pub mod Said
 pub mod Laws

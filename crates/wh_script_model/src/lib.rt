@@ -2,11 +2,12 @@
 //! the definition of a script's answers says.
 #![tactic(auto)]
 
-ghost use Rattle.wh_script_model.specs.Laws.{CallsFollow, CancelsFollow, DrainsBegin, DrainsEnd, GuestsFollow, ModulesFollow, MovesFollow, RefuelsFollow, ReleasesFollow, RetriesFollow, SayingFollows, TurnsFollow};
+ghost use Rattle.wh_script_model.specs.Laws.{AsksWell, BeginsWell, CallsFollow, CancelsFollow, DrainsBegin, DrainsEnd, GuestsFollow, ModulesFollow, MovesFollow, ObeysWell, RefuelsFollow, ReleasesFollow, RetriesFollow, RunsWell, SayingFollows, SaysWell, TurnsFollow};
 
 /// A script and the host that runs its calls, after every list of events. The function does nothing; what it ensures are the
 /// laws: a request and its answer lead from one that follows the script to one that follows it then; turns bring calls further;
-/// and where no call can go on, each has come as far as it does alone.
+/// and where no call can go on, each has come as far as it does alone. What lines make is well made: all its calls are there,
+/// and of those of released instances it was said how they were.
 pub fn scripts_follow()
     ensures modules { ModulesFollow }
     ensures guests { GuestsFollow }
@@ -20,4 +21,9 @@ pub fn scripts_follow()
     ensures moves { MovesFollow }
     ensures end { DrainsEnd }
     ensures saying { SayingFollows }
+    ensures begins_well { BeginsWell }
+    ensures runs_well { RunsWell }
+    ensures says_well { SaysWell }
+    ensures asks_well { AsksWell }
+    ensures obeys_well { ObeysWell }
 {}

@@ -1,8 +1,8 @@
 -- The answers to a script: the replies to its lines, but for those of reports, each call being run alone.
-use Rattle.std.specs.Prelude.{◌≡◌, ℕ, ◌+◌, ◌<◌, ◌≤◌, ◌⊎◌, Bool, true, false, List, [], ◌∷◌, ◌++◌, length, min, take, drop, Option, Some, None, ℤ}
+use Rattle.std.specs.Prelude.{◌≡◌, ℕ, ◌+◌, ◌<◌, ◌≤◌, Bool, true, false, List, [], ◌∷◌, ◌++◌, length, min, Option, Some, None, ℤ}
 use Rattle.wh_model.specs.Format.Syntax.{Module}
 use Rattle.wh_model.specs.Execution.Replay.{Call, Standing, store_at, Replay}
-use Rattle.wh_host_model.specs.Script.{lines_of, is_skipped, longest_line}
+use Rattle.wh_host_model.specs.Script.{is_skipped, longest_line}
 use Rattle.wh_host_model.specs.Host.Worlds.{Params, given_of}
 use Rattle.wh_host_model.specs.Host.Calls.{most_fuel}
 use Rattle.wh_host_model.specs.Lines.Settings.{Settings}
@@ -12,9 +12,15 @@ use Rattle.wh_host_model.specs.Lines.Made.{Guest, Made, nothing_made, HasModule,
 use Rattle.wh_host_model.specs.Lines.Drains.{Drains}
 use Rattle.wh_host_model.specs.Lines.Receiving.{ReceivesModule, ReceivesGuest, ReceivesCall}
 
--- what files hold, by their paths; none where one can't be opened or read
+-- Whether the file of a path may hold these bytes, or may be none that can be opened and read, by what is known of
+-- files. What a real file holds isn't known.
 abbrev pub Files : Type 0
-Files = List ℕ → Option (List ℕ)
+Files = List ℕ → Option (List ℕ) → Bool
+
+-- it is known that there are none
+abbrev pub no_files : Files
+no_files path None = true
+no_files path (Some bytes) = false
 
 -- ---- one command
 
@@ -27,7 +33,7 @@ NamesModule other name = ⊥
 -- and these are its bytes
 abbrev pub BringsBytes : Files → Command → List ℕ → Type 0
 BringsBytes files (keep name b) bytes = b ≡ bytes
-BringsBytes files (load name path) bytes = files path ≡ Some bytes
+BringsBytes files (load name path) bytes = files path (Some bytes) ≡ true
 BringsBytes files other bytes = ⊥
 
 -- it is for the instance of this name
@@ -50,7 +56,7 @@ pub data IsObeyed (scarce : Bool) (settings : Settings) (files : Files) (w : Mad
   module_name_is_taken : {command : Command} {name : List ℕ} {m : Module}
       → NamesModule command name → HasModule w name m
       → IsObeyed scarce settings files w number command (error 3 number ∷ []) w
-  no_file : {name path : List ℕ} → NoModule w name → files path ≡ None
+  no_file : {name path : List ℕ} → NoModule w name → files path None ≡ true
       → IsObeyed scarce settings files w number (load name path) (error 4 number ∷ []) w
   module_comes : {command : Command} {name bytes : List ℕ} {reply : Reply} {w2 : Made}
       → NamesModule command name → NoModule w name → BringsBytes files command bytes
@@ -133,48 +139,17 @@ AnswersLines scarce settings files w number (line ∷ lines) replies w2 =
     × AnswersLine scarce settings files w number line here between
     × AnswersLines scarce settings files between (number + 1) lines rest w2
 
--- all lines, and a drain at the end
-pub record AnswersScript (scarce : Bool) (settings : Settings) (files : Files) (script : List ℕ) (replies : List Reply)
-    : Type 0 where
+-- what the lines of a script get, and behind them the drain at its end
+pub record AnswersScript (scarce : Bool) (settings : Settings) (files : Files) (lines : List (List ℕ))
+    (replies : List Reply) : Type 0 where
   pub before : Made
   pub after : Made
   pub to_lines : List Reply
   pub last : List Reply
-  pub lines : AnswersLines scarce settings files nothing_made 1 (lines_of script) to_lines before
+  pub answers : AnswersLines scarce settings files nothing_made 1 lines to_lines before
   pub drains : Drains before last after
   pub replies_are : replies ≡ to_lines ++ last
 
 abbrev pub replies_text : List Reply → List ℕ
 replies_text [] = []
 replies_text (reply ∷ replies) = reply_text reply ++ replies_text replies
-
--- the text is what the script gets
-abbrev pub AreAnswers : Bool → Settings → Files → List ℕ → List ℕ → Type 0
-AreAnswers scarce settings files script text =
-    (replies : List Reply) × AnswersScript scarce settings files script replies × (text ≡ replies_text replies)
-
--- ---- a beginning
-
--- there may be a drain before the first of these lines: it isn't skipped, and is no `invoke` of an instance that there
--- is, unless memory is wanted for it
-abbrev pub MayDrain : Bool → Made → List (List ℕ) → Type 0
-MayDrain scarce w [] = Unit {0}
-MayDrain scarce w (line ∷ lines) =
-    (is_skipped line ≡ false)
-    × ((scarce ≡ true)
-    ⊎ ((inst export : List ℕ) (fuel : ℕ) (args : List ℤ) → IsRead line → AsksCommand line (invoke inst export fuel args)
-    → NoGuest w inst))
-
--- the text is a beginning of the text of these replies
-abbrev pub IsBeginning : List ℕ → List Reply → Type 0
-IsBeginning text replies = (rest : List ℕ) × (text ++ rest ≡ replies_text replies)
-
--- The text is a beginning of what the script gets: of what some first lines get, or of that and of a drain behind them.
-pub data BeginAnswers (scarce : Bool) (settings : Settings) (files : Files) (script text : List ℕ) : Type 0 where
-  in_lines : (k : ℕ) (replies : List Reply) (w : Made)
-      → AnswersLines scarce settings files nothing_made 1 (take k (lines_of script)) replies w
-      → IsBeginning text replies → BeginAnswers scarce settings files script text
-  in_drain : (k : ℕ) (replies drained : List Reply) (w w2 : Made)
-      → AnswersLines scarce settings files nothing_made 1 (take k (lines_of script)) replies w
-      → MayDrain scarce w (drop k (lines_of script)) → Drains w drained w2 → IsBeginning text (replies ++ drained)
-      → BeginAnswers scarce settings files script text

@@ -11,7 +11,7 @@ use Rattle.wh_host_model.specs.Lines.Texts.{call, done, wants_fuel, queued, canc
 use Rattle.wh_host_model.specs.Lines.Made.{Guest, Made, HasGuest}
 use Rattle.wh_host_model.specs.Lines.Drains.{Drains}
 use Rattle.wh_host_model.specs.Lines.Receiving.{ReceivesCall}
-use Rattle.wh_host_model.specs.Lines.Answers.{IsObeyed, replies_text}
+use Rattle.wh_host_model.specs.Lines.Answers.{no_files, IsObeyed, replies_text}
 
 -- ---- modules
 
@@ -51,7 +51,7 @@ some_params = record { shares = 100; min = 2; max = 16; fuel = 0; base = 0; salt
 
 -- a command on a line of this number, behind a drain, with the default settings and no files
 abbrev pub IsObeyedHere : Made → ℕ → Command → List Reply → Made → Type 0
-IsObeyedHere w number command replies w2 = IsObeyed false default_settings (λ path. None) w number command replies w2
+IsObeyedHere w number command replies w2 = IsObeyed false default_settings no_files w number command replies w2
 
 -- `invoke`
 abbrev pub IsCalled : Made → (inst export : List ℕ) → ℕ → List ℤ → Made → Type 0

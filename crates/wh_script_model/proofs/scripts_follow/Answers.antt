@@ -5,6 +5,8 @@ use Rattle.wh_script_model.proofs.CommandsCalling.{calls_follow}
 use Rattle.wh_script_model.proofs.CommandsGuests.{guests_follow}
 use Rattle.wh_script_model.proofs.Drains.{drains_begin, moves_follow, drains_end, saying_follows}
 use Rattle.wh_script_model.proofs.Turning.{turns_follow}
+use Rattle.wh_script_model.proofs.Said.{runs_well, says_well, all_said}
+use Rattle.wh_script_model.proofs.SaidObeyed.{nothing_well, call_well, obeys_well}
 use Rattle.wh_script_model.proofs.scripts_follow.Goals as goal
 
 pub returns-clause-modules : goal.returns-clause-modules
@@ -42,3 +44,19 @@ returns-clause-end c = drains_end
 
 pub returns-clause-saying : goal.returns-clause-saying
 returns-clause-saying c = saying_follows
+
+pub returns-clause-begins_well : goal.returns-clause-begins_well
+returns-clause-begins_well c = nothing_well
+
+pub returns-clause-runs_well : goal.returns-clause-runs_well
+returns-clause-runs_well c = runs_well
+
+pub returns-clause-says_well : goal.returns-clause-says_well
+returns-clause-says_well c m starts calls guests invoked h say_starts say_calls =
+    (says_well m starts calls guests invoked h say_starts say_calls, all_said m starts calls guests invoked say_starts say_calls)
+
+pub returns-clause-asks_well : goal.returns-clause-asks_well
+returns-clause-asks_well c = call_well
+
+pub returns-clause-obeys_well : goal.returns-clause-obeys_well
+returns-clause-obeys_well c = obeys_well

@@ -1,0 +1,41 @@
+use Rattle.std.proofs.Common.{arith, ◌≡◌, length, slice_get, Some, refl, ap, sym, subst, ◌∙◌}
+use Rattle.wh_engine.specs.Draining.{RunsEach}
+use Rattle.wh_engine.specs.declared.engine.Engine as code
+use Rattle.wh_engine.proofs.Asked.{on_host, guest_there}
+use Rattle.wh_engine.proofs.Runs.{added_none, added_more, none_first, runs_none, runs_next, ran_each}
+use Rattle.wh_engine.proofs.engine.Engine.run.Goals as goal
+
+pub loop-at-init : goal.loop-at-init
+loop-at-init g c = record {
+  backed = c.requires;
+  faults = added_none (g.D.SwapDev.faults c.args.device.now);
+  same = refl;
+  runs = λ same. runs_none c.args.self.now c.args.self.now.host;
+}
+
+pub returns-in_err-run_out-clause-faults : goal.returns-in_err-run_out-clause-faults
+returns-in_err-run_out-clause-faults g c =
+    let faults = g.D.SwapDev.faults in
+    added_more (faults c.args.device.now) (faults c.loop-at.device) (faults c.run_out.new.device) c.loop-at.invariant.faults c.run_out.ensures.faults
+
+pub loop-at-preserved : goal.loop-at-preserved
+loop-at-preserved g c =
+    let faults = g.D.SwapDev.faults in
+    let all = added_more (faults c.args.device.now) (faults c.loop-at.device) (faults c.run_out.new.device) c.loop-at.invariant.faults c.run_out.ensures.faults in
+    let many : length c.loop-at.self.guests.items ≡ length c.args.self.now.guests.items = ap (λ (e : code.Engine). length e.guests.items) c.loop-at.invariant.same in
+    let read = guest_there c.loop-at.self.guests.items c.loop-at.at c.index.result.now (omega (arith, many)) c.index.ensures in
+    let here = ap (λ (e : code.Engine). slice_get e.guests.items c.loop-at.at) (sym c.loop-at.invariant.same) ∙ read in
+    record {
+      backed = c.run_out.ensures.backed;
+      faults = all;
+      same = ap (λ e. on_host e c.run_out.new.host) c.loop-at.invariant.same;
+      runs = λ same.
+      let before = none_first (faults c.args.device.now) (faults c.loop-at.device) (faults c.run_out.new.device) c.loop-at.invariant.faults c.run_out.ensures.faults same in
+      runs_next c.args.self.now c.loop-at.at c.index.result.now c.args.self.now.host c.loop-at.self.host c.run_out.new.host (c.loop-at.invariant.runs before) here
+      (c.in_ok-run_out.ensures.runs (same ∙ sym before));
+    }
+
+pub returns-clause-runs : goal.returns-clause-runs
+returns-clause-runs g c same =
+    subst (RunsEach c.args.self.now) (sym c.loop-at.invariant.same)
+    (ran_each c.args.self.now c.loop-at.self.host c.loop-at.at (c.loop-at.invariant.runs same) (omega arith))

@@ -1,0 +1,325 @@
+-- What has been said of calls stays true of what the lines of a script make.
+use Rattle.std.proofs.Common.{◌≡◌, ◌≢◌, ℕ, zero, suc, ◌+◌, ◌⊎◌, ⊎_elim, inl, inr, Bool, true, false, if◌then◌else◌, List, [], ◌∷◌, ◌++◌, map, length, take, slice_get, slice_set, Option, Some, None, is_some, refl, sym, ap, subst, ◌∙◌, arith}
+use Rattle.std.specs.List.{AllZip, AllByRecursion}
+use Rattle.std.proofs.lemmas.Option.{none-some, same_Some}
+use Rattle.wh_model.specs.Execution.Store.{Instance, Store}
+use Rattle.wh_model.specs.Execution.Instance.{Piece, Parameters}
+use Rattle.wh_model.specs.Execution.Replay.{Outcome, returned, stopped, cancelled, dead, pending, Call, Waits, Standing, Replays, at_rest, ended, at_work, Replay}
+use Rattle.wh_model.specs.Format.Syntax.{Module}
+use Rattle.wh_host_model.specs.Lines.Texts as texts
+use Rattle.wh_host_model.specs.Lines.Texts.{CallStatus, Reply}
+use Rattle.wh_host_model.specs.Lines.Made.{Guest, Invoked, Made, turned_down, taken_on, Reception, with_guest, is_open, first_open, with_first_open, cancel_first, ended_so}
+use Rattle.wh_host_model.specs.Lines.Drains.{ComesTo, RunsAlone, is_gone, has_run, open_status, status_by, call_status, SaysLine, SaysStart, has_none, has_one, SayStarts, SaysCall, is_refused, is_taken, SayCalls}
+use Rattle.wh_host_model.proofs.Lines.Once.{end_closed}
+use Rattle.wh_script_model.specs.Said.{when_released, HasStart, IsSaid, WasSaid, AreSaid, IsAnyone, IsReleased, AllAreSaid, CallsAreThere, IsWellMade}
+
+-- ---- places of lists
+
+-- one is another then, or is as it was
+pub set_cases : {A : Type 0} (xs : List A) (i j : ℕ) (y z : A) → slice_get (slice_set xs i y) j ≡ Some z
+    → ((j ≡ i) × (z ≡ y)) ⊎ (slice_get xs j ≡ Some z)
+set_cases [] i j y z e = absurd (none-some z e)
+set_cases (x ∷ xs) zero zero y z e = inl (refl, sym (same_Some y z e))
+set_cases (x ∷ xs) zero (suc j) y z e = inr e
+set_cases (x ∷ xs) (suc i) zero y z e = inr e
+set_cases {A} (x ∷ xs) (suc i) (suc j) y z e =
+    ⊎_elim (λ (p : (j ≡ i) × (z ≡ y)). inl (ap suc p.0, p.1)) (λ (q : slice_get xs j ≡ Some z). inr q) (set_cases xs i j y z e)
+
+-- who was there is there, or is another
+pub set_there : {A : Type 0} (xs : List A) (i j : ℕ) (y x : A) → slice_get xs j ≡ Some x
+    → (slice_get (slice_set xs i y) j ≡ Some x) ⊎ ((j ≡ i) × (slice_get (slice_set xs i y) j ≡ Some y))
+set_there [] i j y x e = absurd (none-some x e)
+set_there (z ∷ xs) zero zero y x e = inr (refl, refl)
+set_there (z ∷ xs) zero (suc j) y x e = inl e
+set_there (z ∷ xs) (suc i) zero y x e = inl e
+set_there (z ∷ xs) (suc i) (suc j) y x e =
+    ⊎_elim (λ (p : slice_get (slice_set xs i y) j ≡ Some x). inl p)
+    (λ (q : (j ≡ i) × (slice_get (slice_set xs i y) j ≡ Some y)). inr (ap suc q.0, q.1)) (set_there xs i j y x e)
+
+-- the last one was added, or it is as it was
+pub push_cases : {A : Type 0} (xs : List A) (j : ℕ) (y z : A) → slice_get (xs ++ y ∷ []) j ≡ Some z
+    → (z ≡ y) ⊎ (slice_get xs j ≡ Some z)
+push_cases [] zero y z e = inl (sym (same_Some y z e))
+push_cases [] (suc j) y z e = absurd (none-some z e)
+push_cases (x ∷ xs) zero y z e = inr e
+push_cases (x ∷ xs) (suc j) y z e = push_cases xs j y z e
+
+pub push_there : {A : Type 0} (xs : List A) (j : ℕ) (y x : A) → slice_get xs j ≡ Some x → slice_get (xs ++ y ∷ []) j ≡ Some x
+push_there [] j y x e = absurd (none-some x e)
+push_there (z ∷ xs) zero y x e = e
+push_there (z ∷ xs) (suc j) y x e = push_there xs j y x e
+
+pub push_last : {A : Type 0} (xs : List A) (y : A) → slice_get (xs ++ y ∷ []) (length xs) ≡ Some y
+push_last [] y = refl
+push_last (x ∷ xs) y = push_last xs y
+
+-- ---- places of calls
+
+-- where one list has a call the other one has
+abbrev pub KeepsPlaces : List Call → List Call → Type 0
+KeepsPlaces calls calls2 = (k : ℕ) (c : Call) → slice_get calls k ≡ Some c → (c2 : Call) × (slice_get calls2 k ≡ Some c2)
+
+pub places_stay : (calls : List Call) → KeepsPlaces calls calls
+places_stay calls k c e = (c, e)
+
+-- the head is one, whatever it is
+over_head : (c d : Call) (calls calls2 : List Call) → KeepsPlaces calls calls2 → KeepsPlaces (c ∷ calls) (d ∷ calls2)
+over_head c d calls calls2 keeps zero x e = (d, refl)
+over_head c d calls calls2 keeps (suc k) x e = keeps k x e
+
+zip_places : (calls calls2 : List Call) → AllZip ComesTo calls calls2 → KeepsPlaces calls calls2
+zip_places [] [] all = places_stay []
+zip_places [] (d ∷ calls2) all = absurd all
+zip_places (c ∷ calls) [] all = absurd all
+zip_places (c ∷ calls) (d ∷ calls2) all = over_head c d calls calls2 (zip_places calls calls2 all.1)
+
+pub first_open_places : (change : Call → Call) (calls : List Call) → KeepsPlaces calls (with_first_open change calls)
+first_open_places change [] = places_stay []
+first_open_places change (c ∷ calls) =
+    elim (is_open c.outcome) as (λ b. KeepsPlaces (c ∷ calls) (if b then change c ∷ calls else c ∷ with_first_open change calls)) [
+      | true ↦ over_head c (change c) calls calls (places_stay calls)
+      | false ↦ over_head c c calls (with_first_open change calls) (first_open_places change calls)
+    ]
+
+map_places : (f : Call → Call) (calls : List Call) → KeepsPlaces calls (map f calls)
+map_places f [] = places_stay []
+map_places f (c ∷ calls) = over_head c (f c) calls (map f calls) (map_places f calls)
+
+pub cancel_places : (calls : List Call) → KeepsPlaces calls (cancel_first calls)
+cancel_places [] = places_stay []
+cancel_places (c ∷ calls) =
+    elim (is_open c.outcome) as (λ b. KeepsPlaces (c ∷ calls) (if b then ended_so cancelled c ∷ map (ended_so dead) calls else c ∷ with_first_open (ended_so cancelled) calls)) [
+      | true ↦ over_head c (ended_so cancelled c) calls (map (ended_so dead) calls) (map_places (ended_so dead) calls)
+      | false ↦ over_head c c calls (with_first_open (ended_so cancelled) calls) (first_open_places (ended_so cancelled) calls)
+    ]
+
+pub push_places : (calls : List Call) (d : Call) → KeepsPlaces calls (calls ++ d ∷ [])
+push_places calls d k c e = (c, push_there calls k d c e)
+
+-- ---- a call that waits behind an open one has taken no charge
+
+is_waiting : (calls : List Call) (place : ℕ) (c : Call) → AllByRecursion Waits calls → slice_get calls place ≡ Some c → c.charges ≡ 0
+is_waiting [] place c all e = absurd (none-some c e)
+is_waiting (d ∷ calls) zero c all e = subst (λ (x : Call). x.charges ≡ 0) (same_Some d c e) all.0.charges
+is_waiting (d ∷ calls) (suc place) c all e = is_waiting calls place c all.1 e
+
+passed : (b : Bool) (c : Call) (o : Option Call) → b ≡ false → is_some (if b then Some c else o) ≡ true → is_some o ≡ true
+passed true c o closed e = absurd (cc closed)
+passed false c o closed e = e
+
+unbegun : {inst : Instance} {s : Store} {ps : List Piece} {z : Standing} (calls : List Call) (place : ℕ) (c : Call) → Replays inst s ps calls z
+    → slice_get calls place ≡ Some c → is_some (first_open (take place calls)) ≡ true → c.charges ≡ 0
+unbegun [] place c r e w = absurd (none-some c e)
+unbegun (d ∷ calls) zero c r e w = absurd (cc w)
+unbegun (d ∷ calls) (suc place) c (ended ends r) e w =
+    unbegun calls place c r e (passed (is_open d.outcome) d (first_open (take place calls)) (end_closed ends) w)
+unbegun (d ∷ calls) (suc place) c (at_work open_yet stands waits) e w = is_waiting calls place c waits e
+
+pub waiting_has_none : (m : Module) (p : Parameters) (calls : List Call) (z : Standing) (place : ℕ) (c : Call) → Replay m p calls z
+    → slice_get calls place ≡ Some c → is_some (first_open (take place calls)) ≡ true → c.charges ≡ 0
+waiting_has_none m p [] z place c r e w = absurd r
+waiting_has_none m p (d ∷ calls) z place c r e w = unbegun (d ∷ calls) place c r.2.4 e w
+
+-- ---- how it is said
+
+-- of a released instance it is said so for ever
+gone_stays : (o : Outcome) (waits : Bool) (charges : ℕ) → status_by o true waits charges ≡ when_released (status_by o true waits charges)
+gone_stays (returned results) waits charges = refl
+gone_stays (stopped trap) waits charges = refl
+gone_stays cancelled waits charges = refl
+gone_stays dead waits charges = refl
+gone_stays pending waits charges = refl
+
+-- and where it is released now
+pub goes_so : (o : Outcome) (waits : Bool) (charges : ℕ) → (waits ≡ true → charges ≡ 0)
+    → status_by o true waits charges ≡ when_released (status_by o false waits charges)
+goes_so (returned results) waits charges none = refl
+goes_so (stopped trap) waits charges none = refl
+goes_so cancelled waits charges none = refl
+goes_so dead waits charges none = refl
+goes_so pending true charges none = ap (λ n. texts.released n) (none refl)
+goes_so pending false charges none = refl
+
+said_gone : (g : Guest) (place : ℕ) (c : Call) (said : Option CallStatus) → IsReleased g → IsSaid g place c said → WasSaid g place c said
+said_gone g place c said gone is =
+    let waits = is_some (first_open (take place g.calls)) in
+    let stays : call_status g place c ≡ when_released (call_status g place c) =
+    subst (λ b. status_by c.outcome b waits c.charges ≡ when_released (status_by c.outcome b waits c.charges)) (sym gone) (gone_stays c.outcome waits c.charges) in
+    (call_status g place c, is, stays)
+
+-- ---- calls run
+
+run_at : (gs run : List Guest) (j : ℕ) (r : Guest) → AllZip RunsAlone gs run → slice_get run j ≡ Some r
+    → (g : Guest) × (slice_get gs j ≡ Some g) × RunsAlone g r
+run_at [] [] j r all e = absurd (none-some r e)
+run_at [] (x ∷ run) j r all e = absurd all
+run_at (g ∷ gs) [] j r all e = absurd all
+run_at (g ∷ gs) (x ∷ run) zero r all e = (g, refl, subst (RunsAlone g) (same_Some x r e) all.0)
+run_at (g ∷ gs) (x ∷ run) (suc j) r all e = run_at gs run j r all.1 e
+
+ran_at : (gs run : List Guest) (j : ℕ) (g : Guest) → AllZip RunsAlone gs run → slice_get gs j ≡ Some g
+    → (r : Guest) × (slice_get run j ≡ Some r) × RunsAlone g r
+ran_at [] [] j g all e = absurd (none-some g e)
+ran_at [] (x ∷ run) j g all e = absurd all
+ran_at (y ∷ gs) [] j g all e = absurd all
+ran_at (y ∷ gs) (x ∷ run) zero g all e = (x, refl, subst (λ k. RunsAlone k x) (same_Some y g e) all.0)
+ran_at (y ∷ gs) (x ∷ run) (suc j) g all e = ran_at gs run j g all.1 e
+
+run_places : (g r : Guest) → RunsAlone g r → KeepsPlaces g.calls r.calls
+run_places g _ (is_gone gone) = places_stay g.calls
+run_places g _ (has_run {calls = calls} live come replay rest) = zip_places g.calls calls come
+
+-- who is released then was so, and has the same calls
+gone_before : (g r : Guest) → RunsAlone g r → IsReleased r → r ≡ g
+gone_before g _ (is_gone gone) released = refl
+gone_before g _ (has_run live come replay rest) released = absurd (cc (live, released))
+
+pub runs_well : (m : Made) (run : List Guest) → IsWellMade m → AllZip RunsAlone m.guests run → IsWellMade (record m { guests = run })
+runs_well m run h all = record {
+  there = record {
+    starts = λ j r e.
+    let d = run_at m.guests run j r all e in
+    let c = h.there.starts j d.0 d.1 in
+    run_places d.0 r d.2 0 c.0 c.1;
+    calls = λ n i place v at came.
+    let d = h.there.calls n i place v at came in
+    let r = ran_at m.guests run i d.0 all d.2 in
+    let c = run_places d.0 r.0 r.2 place d.1 d.3 in
+    (r.0, c.0, r.1, c.1);
+  };
+  gone = record {
+    starts = λ j r c e released has first.
+    let d = run_at m.guests run j r all e in
+    let same = gone_before d.0 r d.2 released in
+    h.gone.starts j r c (d.1 ∙ ap Some (sym same)) released has first;
+    calls = λ n i place v r c at came e released first.
+    let d = run_at m.guests run i r all e in
+    let same = gone_before d.0 r d.2 released in
+    h.gone.calls n i place v r c at came (d.1 ∙ ap Some (sym same)) released first;
+  };
+}
+
+-- ---- it is said how they are
+
+said_at : (gs gs2 : List Guest) (lines : List Reply) (j : ℕ) (g2 : Guest) → SayStarts gs lines gs2 → slice_get gs2 j ≡ Some g2
+    → (g : Guest) × (here : List Reply) × (slice_get gs j ≡ Some g) × SaysStart g here g2
+said_at [] gs2 lines j g2 says e = absurd (none-some g2 (ap (λ (xs : List Guest). slice_get xs j) (sym says.1) ∙ e))
+said_at (g ∷ gs) gs2 lines zero g2 (here, rest, k, ks, l, f, x, more) e =
+    let same : Some k ≡ Some g2 = ap (λ (xs : List Guest). slice_get xs 0) (sym f) ∙ e in
+    (g, here, refl, subst (SaysStart g here) (same_Some k g2 same) x)
+said_at (g ∷ gs) gs2 lines (suc j) g2 (here, rest, k, ks, l, f, x, more) e =
+    said_at gs ks rest j g2 more (ap (λ (xs : List Guest). slice_get xs (suc j)) (sym f) ∙ e)
+
+starts_at : (gs gs2 : List Guest) (lines : List Reply) (j : ℕ) (g : Guest) → SayStarts gs lines gs2 → slice_get gs j ≡ Some g
+    → (g2 : Guest) × (here : List Reply) × (slice_get gs2 j ≡ Some g2) × SaysStart g here g2
+starts_at [] gs2 lines j g says e = absurd (none-some g e)
+starts_at (y ∷ gs) gs2 lines zero g (here, rest, k, ks, l, f, x, more) e =
+    (k, here, ap (λ (xs : List Guest). slice_get xs 0) f, subst (λ z. SaysStart z here k) (same_Some y g e) x)
+starts_at (y ∷ gs) gs2 lines (suc j) g (here, rest, k, ks, l, f, x, more) e =
+    let d = starts_at gs ks rest j g more e in
+    (d.0, d.1, ap (λ (xs : List Guest). slice_get xs (suc j)) f ∙ d.2, d.3)
+
+-- but for what was last said of its start it is the same
+same_calls : (g g2 : Guest) (here : List Reply) → SaysStart g here g2 → g2.calls ≡ g.calls
+same_calls g _ here (has_none p q) = refl
+same_calls g _ here (has_one n e x) = refl
+
+still_said : (g g2 : Guest) (here : List Reply) (place : ℕ) (c : Call) (said : Option CallStatus) → SaysStart g here g2 → IsReleased g2 → slice_get g2.calls place ≡ Some c
+    → (IsReleased g → slice_get g.calls place ≡ Some c → WasSaid g place c said) → WasSaid g2 place c said
+still_said g _ here place c said (has_none p q) released first was = was released first
+still_said g _ here place c said (has_one n e x) released first was = was released first
+
+-- its start, if it has one, was said to be as it is
+start_said : (g g2 : Guest) (here : List Reply) (c : Call) → SaysStart g here g2 → HasStart g2 → slice_get g2.calls 0 ≡ Some c → IsSaid g2 0 c g2.said
+start_said g _ here c (has_none p q) has e = absurd (has (p, q))
+start_said g _ here c (has_one {first = first} n f x) has e =
+    ap (λ d. Some (call_status g 0 d)) (same_Some first c (sym f ∙ e))
+
+calls_at : (guests : List Guest) (n : ℕ) (vs vs2 : List Invoked) (lines : List Reply) (k : ℕ) (v2 : Invoked) → SayCalls guests n vs lines vs2 → slice_get vs2 k ≡ Some v2
+    → (v : Invoked) × (here : List Reply) × (number : ℕ) × (slice_get vs k ≡ Some v) × SaysCall guests number v here v2
+calls_at guests n [] vs2 lines k v2 says e = absurd (none-some v2 (ap (λ (xs : List Invoked). slice_get xs k) (sym says.1) ∙ e))
+calls_at guests n (v ∷ vs) vs2 lines zero v2 (here, rest, u, us, l, f, x, more) e =
+    let same : Some u ≡ Some v2 = ap (λ (xs : List Invoked). slice_get xs 0) (sym f) ∙ e in
+    (v, here, n, refl, subst (SaysCall guests n v here) (same_Some u v2 same) x)
+calls_at guests n (v ∷ vs) vs2 lines (suc k) v2 (here, rest, u, us, l, f, x, more) e =
+    calls_at guests (n + 1) vs us rest k v2 more (ap (λ (xs : List Invoked). slice_get xs (suc k)) (sym f) ∙ e)
+
+abbrev taken_guest : Reception → ℕ
+taken_guest (turned_down fault) = 0
+taken_guest (taken_on i place) = i
+
+abbrev taken_place : Reception → ℕ
+taken_place (turned_down fault) = 0
+taken_place (taken_on i place) = place
+
+-- what came of it is the same
+same_reception : (guests : List Guest) (n : ℕ) (v v2 : Invoked) (here : List Reply) → SaysCall guests n v here v2 → v2.came ≡ v.came
+same_reception guests n v _ here (is_refused e x) = refl
+same_reception guests n v _ here (is_taken e f g x) = refl
+
+-- a call that was taken was said to be as it is
+call_said : (guests : List Guest) (n : ℕ) (v v2 : Invoked) (here : List Reply) (i place : ℕ) (g : Guest) (c : Call) → SaysCall guests n v here v2
+    → v2.came ≡ taken_on i place → slice_get guests i ≡ Some g → slice_get g.calls place ≡ Some c → IsSaid g place c v2.said
+call_said guests n v _ here i place g c (is_refused {fault = fault} came x) e f first = absurd (cc (came, e))
+call_said guests n v _ here i place g c (is_taken {i = j} {place = at} {g = k} {c = d} came there here_it x) e f first =
+    let same_i : j ≡ i = ap taken_guest (sym came ∙ e) in
+    let same_at : at ≡ place = ap taken_place (sym came ∙ e) in
+    let same_g : k ≡ g = same_Some k g (sym there ∙ ap (slice_get guests) same_i ∙ f) in
+    let same_c : d ≡ c = same_Some d c (sym here_it ∙ ap (λ (y : Guest). slice_get y.calls at) same_g ∙ ap (slice_get g.calls) same_at ∙ first) in
+    ap Some (ap (λ (y : Guest). call_status y at d) same_g ∙ ap (λ (q : ℕ). call_status g q d) same_at ∙ ap (call_status g place) same_c)
+
+pub all_said : (m : Made) (starts calls : List Reply) (guests : List Guest) (invoked : List Invoked) → SayStarts m.guests starts guests
+    → SayCalls guests 1 m.invoked calls invoked → AllAreSaid (record m { guests = guests; invoked = invoked })
+all_said m starts calls guests invoked say_starts say_calls = record {
+  starts = λ j g2 c e anyone has first.
+  let d = said_at m.guests guests starts j g2 say_starts e in
+  start_said d.0 g2 d.1 c d.3 has first;
+  calls = λ n i place v g c at came e anyone first.
+  let d = calls_at guests 1 m.invoked invoked calls n v say_calls at in
+  call_said guests d.2 d.0 v d.1 i place g c d.4 came e first;
+}
+
+-- where only starts were said, too
+pub starts_well : (m : Made) (starts : List Reply) (guests : List Guest) → IsWellMade m → SayStarts m.guests starts guests → IsWellMade (record m { guests = guests })
+starts_well m starts guests h say_starts = record {
+  there = record {
+    starts = λ j g2 e.
+    let d = said_at m.guests guests starts j g2 say_starts e in
+    let c = h.there.starts j d.0 d.2 in
+    (c.0, ap (λ (xs : List Call). slice_get xs 0) (same_calls d.0 g2 d.1 d.3) ∙ c.1);
+    calls = λ n i place v at came.
+    let d = h.there.calls n i place v at came in
+    let r = starts_at m.guests guests starts i d.0 say_starts d.2 in
+    (r.0, d.1, r.2, ap (λ (xs : List Call). slice_get xs place) (same_calls d.0 r.0 r.1 r.3) ∙ d.3);
+  };
+  gone = record {
+    starts = λ j g2 c e released has first.
+    let d = said_at m.guests guests starts j g2 say_starts e in
+    said_gone g2 0 c g2.said released (start_said d.0 g2 d.1 c d.3 has first);
+    calls = λ n i place v g2 c at came e released first.
+    let d = said_at m.guests guests starts i g2 say_starts e in
+    still_said d.0 g2 d.1 place c v.said d.3 released first (λ gone first_of. h.gone.calls n i place v d.0 c at came d.2 gone first_of);
+  };
+}
+
+pub says_well : (m : Made) (starts calls : List Reply) (guests : List Guest) (invoked : List Invoked) → IsWellMade m → SayStarts m.guests starts guests
+    → SayCalls guests 1 m.invoked calls invoked → IsWellMade (record m { guests = guests; invoked = invoked })
+says_well m starts calls guests invoked h say_starts say_calls =
+    let all = all_said m starts calls guests invoked say_starts say_calls in
+    record {
+      there = record {
+        starts = λ j g2 e.
+        let d = said_at m.guests guests starts j g2 say_starts e in
+        let c = h.there.starts j d.0 d.2 in
+        (c.0, ap (λ (xs : List Call). slice_get xs 0) (same_calls d.0 g2 d.1 d.3) ∙ c.1);
+        calls = λ n i place v at came.
+        let u = calls_at guests 1 m.invoked invoked calls n v say_calls at in
+        let d = h.there.calls n i place u.0 u.3 (sym (same_reception guests u.2 u.0 v u.1 u.4) ∙ came) in
+        let r = starts_at m.guests guests starts i d.0 say_starts d.2 in
+        (r.0, d.1, r.2, ap (λ (xs : List Call). slice_get xs place) (same_calls d.0 r.0 r.1 r.3) ∙ d.3);
+      };
+      gone = record {
+        starts = λ j g c e released has first. said_gone g 0 c g.said released (all.starts j g c e tt has first);
+        calls = λ n i place v g c at came e released first. said_gone g place c v.said released (all.calls n i place v g c at came e tt first);
+      };
+    }

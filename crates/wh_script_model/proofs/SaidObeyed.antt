@@ -1,0 +1,239 @@
+-- What has been said of calls stays true where a line is obeyed.
+use Rattle.std.proofs.Common.{◌≡◌, ℕ, zero, suc, ◌+◌, ◌⊎◌, ⊎_elim, inl, inr, Bool, true, false, List, [], ◌∷◌, ◌++◌, length, take, slice_get, slice_set, Option, Some, None, is_some, ℤ, refl, sym, ap, subst, ◌∙◌}
+use Rattle.std.proofs.lemmas.Option.{none-some, same_Some}
+use Rattle.wh_model.specs.Format.Syntax.{Module}
+use Rattle.wh_model.specs.Execution.Replay.{Outcome, Call, Standing, Replay}
+use Rattle.wh_host_model.specs.Host.Worlds.{Params, given_of}
+use Rattle.wh_host_model.specs.Lines.Settings.{Settings}
+use Rattle.wh_host_model.specs.Lines.Commands.{Command}
+use Rattle.wh_host_model.specs.Lines.Texts.{CallStatus, Reply}
+use Rattle.wh_host_model.specs.Lines.Made.{Guest, Invoked, Made, turned_down, taken_on, Reception, with_guest, with_invoked, first_open, nothing_made}
+use Rattle.wh_host_model.specs.Lines.Drains.{status_by, call_status}
+use Rattle.wh_host_model.specs.Lines.Receiving.{ReceivesModule, module_is_kept, module_isnt_kept, module_is_wanting, ReceivesGuest, is_admitted, isnt_admitted, admission_wants, ReceivesCall, guest_is_gone, isnt_invoked, is_invoked, invoke_wants}
+use Rattle.wh_host_model.specs.Lines.Answers.{Files, IsObeyed, module_name_is_taken, no_file, module_comes, no_such_module, guest_name_is_taken, guest_comes, no_such_guest, is_drained, is_scanned, is_reported, is_refueled, no_one_to_refuel, no_call_to_refuel, is_cancelled, no_one_to_cancel, no_call_to_cancel, no_one_to_retry, no_fault_to_retry, is_released, no_one_to_release}
+use Rattle.wh_script_model.specs.Said.{when_released, HasStart, IsSaid, WasSaid, AreSaid, IsReleased, AllAreSaid, CallsAreThere, IsWellMade}
+use Rattle.wh_script_model.proofs.Said.{set_cases, set_there, push_cases, push_there, push_last, KeepsPlaces, places_stay, first_open_places, cancel_places, push_places, waiting_has_none, goes_so}
+
+pub nothing_well : IsWellMade nothing_made
+nothing_well = record {
+  there = record {
+    starts = λ j g e. absurd (none-some g e);
+    calls = λ n i place v at came. absurd (none-some v at);
+  };
+  gone = record {
+    starts = λ j g c e released has first. absurd (none-some g e);
+    calls = λ n i place v g c at came e released first. absurd (none-some v at);
+  };
+}
+
+-- ---- an instance has other calls, or is released
+
+not_released : (g : Guest) → g.is_released ≡ false → IsReleased g → ⊥
+not_released g live gone = cc (live, gone)
+
+-- its calls are there still
+there_with : (guests : List Guest) (invoked : List Invoked) (i : ℕ) (g h : Guest) → slice_get guests i ≡ Some g → KeepsPlaces g.calls h.calls
+    → CallsAreThere guests invoked → CallsAreThere (slice_set guests i h) invoked
+there_with guests invoked i g h at keeps there = record {
+  starts = λ j k e.
+  ⊎_elim
+  (λ (p : (j ≡ i) × (k ≡ h)).
+    let c = there.starts i g at in
+    let c2 = keeps 0 c.0 c.1 in
+    (c2.0, ap (λ (x : Guest). slice_get x.calls 0) p.1 ∙ c2.1))
+  (λ (q : slice_get guests j ≡ Some k). there.starts j k q)
+  (set_cases guests i j h k e);
+  calls = λ n j place v e came.
+  let d = there.calls n j place v e came in
+  let T : Type 0 = (k : Guest) × (c : Call) × (slice_get (slice_set guests i h) j ≡ Some k) × (slice_get k.calls place ≡ Some c) in
+  let stays : slice_get (slice_set guests i h) j ≡ Some d.0 → T = λ p. (d.0, d.1, p, d.3) in
+  let changes : (j ≡ i) × (slice_get (slice_set guests i h) j ≡ Some h) → T = λ q.
+  let same : d.0 ≡ g = same_Some d.0 g (sym d.2 ∙ ap (slice_get guests) q.0 ∙ at) in
+  let c2 = keeps place d.1 (ap (λ (x : Guest). slice_get x.calls place) (sym same) ∙ d.3) in
+  (h, c2.0, q.1, c2.1) in
+  ⊎_elim stays changes (set_there guests i j h d.0 d.2);
+}
+
+-- and nobody else is released
+gone_with : (guests : List Guest) (invoked : List Invoked) (i : ℕ) (h : Guest) → h.is_released ≡ false
+    → AreSaid IsReleased WasSaid guests invoked → AreSaid IsReleased WasSaid (slice_set guests i h) invoked
+gone_with guests invoked i h live gone = record {
+  starts = λ j k c e released has first.
+  ⊎_elim
+  (λ (p : (j ≡ i) × (k ≡ h)). absurd (not_released h live (ap (λ (x : Guest). x.is_released) (sym p.1) ∙ released)))
+  (λ (q : slice_get guests j ≡ Some k). gone.starts j k c q released has first)
+  (set_cases guests i j h k e);
+  calls = λ n j place v k c at came e released first.
+  ⊎_elim
+  (λ (p : (j ≡ i) × (k ≡ h)). absurd (not_released h live (ap (λ (x : Guest). x.is_released) (sym p.1) ∙ released)))
+  (λ (q : slice_get guests j ≡ Some k). gone.calls n j place v k c at came q released first)
+  (set_cases guests i j h k e);
+}
+
+with_well : (m : Made) (i : ℕ) (g h : Guest) → slice_get m.guests i ≡ Some g → h.is_released ≡ false → KeepsPlaces g.calls h.calls → IsWellMade m
+    → IsWellMade (with_guest m i h)
+with_well m i g h at live keeps well = record {
+  there = there_with m.guests m.invoked i g h at keeps well.there;
+  gone = gone_with m.guests m.invoked i h live well.gone;
+}
+
+-- it goes, and was said to be so before
+was_said : (g : Guest) (z : Standing) (place : ℕ) (c : Call) (said : Option CallStatus) → g.is_released ≡ false → Replay g.m (given_of g.params) g.calls z
+    → slice_get g.calls place ≡ Some c → IsSaid g place c said → WasSaid (record g { is_released = true }) place c said
+was_said g z place c said live replay at is =
+    let waits = is_some (first_open (take place g.calls)) in
+    let none = λ (w : waits ≡ true). waiting_has_none g.m (given_of g.params) g.calls z place c replay at w in
+    let now : call_status g place c ≡ status_by c.outcome false waits c.charges = ap (λ b. status_by c.outcome b waits c.charges) live in
+    (status_by c.outcome false waits c.charges, is ∙ ap Some now, goes_so c.outcome waits c.charges none)
+
+released_well : (m : Made) (i : ℕ) (g : Guest) (z : Standing) → slice_get m.guests i ≡ Some g → g.is_released ≡ false → Replay g.m (given_of g.params) g.calls z
+    → IsWellMade m → AllAreSaid m → IsWellMade (with_guest m i (record g { is_released = true }))
+released_well m i g z at live replay well all =
+    let h : Guest = record g { is_released = true } in
+    record {
+      there = there_with m.guests m.invoked i g h at (places_stay g.calls) well.there;
+      gone = record {
+        starts = λ j k c e released has first.
+        let here : (j ≡ i) × (k ≡ h) → WasSaid k 0 c k.said = λ p.
+        let first_of : slice_get g.calls 0 ≡ Some c = ap (λ (x : Guest). slice_get x.calls 0) (sym p.1) ∙ first in
+        let has_of : HasStart g = λ nothing. has (subst (λ (x : Guest). (x.pieces ≡ []) × (x.m.start ≡ None)) (sym p.1) nothing) in
+        subst (λ (x : Guest). WasSaid x 0 c x.said) (sym p.1) (was_said g z 0 c g.said live replay first_of (all.starts i g c at tt has_of first_of)) in
+        ⊎_elim here (λ (q : slice_get m.guests j ≡ Some k). well.gone.starts j k c q released has first) (set_cases m.guests i j h k e);
+        calls = λ n j place v k c at_v came e released first.
+        let here : (j ≡ i) × (k ≡ h) → WasSaid k place c v.said = λ p.
+        let first_of : slice_get g.calls place ≡ Some c = ap (λ (x : Guest). slice_get x.calls place) (sym p.1) ∙ first in
+        let came_of : v.came ≡ taken_on i place = came ∙ ap (λ x. taken_on x place) p.0 in
+        subst (λ (x : Guest). WasSaid x place c v.said) (sym p.1) (was_said g z place c v.said live replay first_of (all.calls n i place v g c at_v came_of at tt first_of)) in
+        ⊎_elim here (λ (q : slice_get m.guests j ≡ Some k). well.gone.calls n j place v k c at_v came q released first) (set_cases m.guests i j h k e);
+      };
+    }
+
+-- ---- what comes
+
+module_well : (m m2 : Made) (name bytes : List ℕ) (reply : Reply) (scarce : Bool)
+    → ReceivesModule scarce m name bytes reply m2 → IsWellMade m → IsWellMade m2
+module_well m _ name bytes reply scarce (module_is_kept a f) h = record { there = h.there; gone = h.gone }
+module_well m _ name bytes reply scarce (module_isnt_kept r) h = h
+module_well m _ name bytes reply scarce (module_is_wanting s r) h = h
+
+-- one more instance, which is there and has a call
+one_more_guest : (m : Made) (h : Guest) (c : Call) → slice_get h.calls 0 ≡ Some c → h.is_released ≡ false → IsWellMade m
+    → IsWellMade (record m { guests = m.guests ++ h ∷ [] })
+one_more_guest m h c first_of live well = record {
+  there = record {
+    starts = λ j k e.
+    ⊎_elim
+    (λ (p : k ≡ h). (c, ap (λ (x : Guest). slice_get x.calls 0) p ∙ first_of))
+    (λ (q : slice_get m.guests j ≡ Some k). well.there.starts j k q)
+    (push_cases m.guests j h k e);
+    calls = λ n j place v e came.
+    let d = well.there.calls n j place v e came in
+    (d.0, d.1, push_there m.guests j h d.0 d.2, d.3);
+  };
+  gone = record {
+    starts = λ j k c2 e released has first.
+    ⊎_elim
+    (λ (p : k ≡ h). absurd (not_released h live (ap (λ (x : Guest). x.is_released) (sym p) ∙ released)))
+    (λ (q : slice_get m.guests j ≡ Some k). well.gone.starts j k c2 q released has first)
+    (push_cases m.guests j h k e);
+    calls = λ n j place v k c2 at came e released first.
+    ⊎_elim
+    (λ (p : k ≡ h). absurd (not_released h live (ap (λ (x : Guest). x.is_released) (sym p) ∙ released)))
+    (λ (q : slice_get m.guests j ≡ Some k). well.gone.calls n j place v k c2 at came q released first)
+    (push_cases m.guests j h k e);
+  };
+}
+
+guest_well : (m m2 : Made) (scarce : Bool) (settings : Settings) (name : List ℕ) (x : Module) (p : Params) (reply : Reply)
+    → ReceivesGuest scarce settings m name x p reply m2 → IsWellMade m → IsWellMade m2
+guest_well m _ scarce settings name x p reply (is_admitted n initial) h = one_more_guest m _ _ refl refl h
+guest_well m _ scarce settings name x p reply (isnt_admitted fault f) h = h
+guest_well m _ scarce settings name x p reply (admission_wants s n) h = h
+
+-- one more `invoke`
+one_more_call : (m : Made) (came : Reception) → ((i place : ℕ) → came ≡ taken_on i place
+    → (g : Guest) × (c : Call) × (slice_get m.guests i ≡ Some g) × (slice_get g.calls place ≡ Some c) × (g.is_released ≡ false))
+    → IsWellMade m → IsWellMade (with_invoked m came)
+one_more_call m came there_of well =
+    let new : Invoked = record { came = came; said = None } in
+    record {
+      there = record {
+        starts = well.there.starts;
+        calls = λ n i place v e is.
+        let T : Type 0 = (g : Guest) × (c : Call) × (slice_get m.guests i ≡ Some g) × (slice_get g.calls place ≡ Some c) in
+        let here : v ≡ new → T = λ p.
+        let d = there_of i place (ap (λ (x : Invoked). x.came) (sym p) ∙ is) in
+        (d.0, d.1, d.2, d.3) in
+        ⊎_elim here (λ (q : slice_get m.invoked n ≡ Some v). well.there.calls n i place v q is) (push_cases m.invoked n new v e);
+      };
+      gone = record {
+        starts = well.gone.starts;
+        calls = λ n i place v g c at is e released first.
+        let here : v ≡ new → WasSaid g place c v.said = λ p.
+        let d = there_of i place (ap (λ (x : Invoked). x.came) (sym p) ∙ is) in
+        let same : d.0 ≡ g = same_Some d.0 g (sym d.2 ∙ e) in
+        absurd (not_released g (ap (λ (x : Guest). x.is_released) (sym same) ∙ d.4) released) in
+        ⊎_elim here (λ (q : slice_get m.invoked n ≡ Some v). well.gone.calls n i place v g c q is e released first) (push_cases m.invoked n new v at);
+      };
+    }
+
+turned_well : (m : Made) (fault : ℕ) → IsWellMade m → IsWellMade (with_invoked m (turned_down fault))
+turned_well m fault h = one_more_call m (turned_down fault) (λ i place e. absurd (cc e)) h
+
+abbrev guest_taken : Reception → ℕ
+guest_taken (turned_down fault) = 0
+guest_taken (taken_on i place) = i
+
+abbrev place_taken : Reception → ℕ
+place_taken (turned_down fault) = 0
+place_taken (taken_on i place) = place
+
+set_at : (gs : List Guest) (i : ℕ) (g h : Guest) → slice_get gs i ≡ Some g → slice_get (slice_set gs i h) i ≡ Some h
+set_at [] i g h e = absurd (none-some g e)
+set_at (x ∷ gs) zero g h e = refl
+set_at (x ∷ gs) (suc i) g h e = set_at gs i g h e
+
+pub call_well : (scarce : Bool) (m m2 : Made) (i : ℕ) (g : Guest) (name : List ℕ) (fuel : ℕ) (given : List ℤ)
+    → slice_get m.guests i ≡ Some g → ReceivesCall scarce m i g name fuel given m2 → IsWellMade m → IsWellMade m2
+call_well scarce m _ i g name fuel given at (guest_is_gone r) h = turned_well m 1 h
+call_well scarce m _ i g name fuel given at (isnt_invoked fault l f) h = turned_well m _ h
+call_well scarce m _ i g name fuel given at (is_invoked vs live n x a) h =
+    let k : Guest = record g { calls = g.calls ++ _ ∷ [] } in
+    let between = with_well m i g k at live (push_places g.calls _) h in
+    one_more_call (with_guest m i k) (taken_on i (length g.calls))
+    (λ j place e.
+      let same_i : i ≡ j = ap guest_taken e in
+      let same_place : length g.calls ≡ place = ap place_taken e in
+      (k, _, ap (slice_get (slice_set m.guests i k)) (sym same_i) ∙ set_at m.guests i g k at, ap (slice_get k.calls) (sym same_place) ∙ push_last g.calls _, live))
+    between
+call_well scarce m _ i g name fuel given at (invoke_wants s l n) h = turned_well m 7 h
+
+-- ---- a command
+
+pub obeys_well : (scarce : Bool) (settings : Settings) (files : Files) (m m2 : Made) (number : ℕ) (command : Command)
+    (replies : List Reply) → IsObeyed scarce settings files m number command replies m2 → IsWellMade m → AllAreSaid m → IsWellMade m2
+obeys_well scarce settings files m m2 number command replies (module_name_is_taken n x) h all = h
+obeys_well scarce settings files m m2 number command replies (no_file n f) h all = h
+obeys_well scarce settings files m m2 number command replies (module_comes {name = name} {bytes = bytes} {reply = reply} n f b x) h all =
+    module_well m m2 name bytes reply scarce x h
+obeys_well scarce settings files m m2 number command replies (no_such_module n) h all = h
+obeys_well scarce settings files m m2 number command replies (guest_name_is_taken i x g) h all = h
+obeys_well scarce settings files m m2 number command replies (guest_comes {inst = inst} {p = p} {m = x} {reply = reply} n f r) h all =
+    guest_well m m2 scarce settings inst x p reply r h
+obeys_well scarce settings files m m2 number command replies (no_such_guest f n) h all = h
+obeys_well scarce settings files m m2 number command replies is_drained h all = h
+obeys_well scarce settings files m m2 number command replies is_scanned h all = h
+obeys_well scarce settings files m m2 number command replies is_reported h all = h
+obeys_well scarce settings files m _ number command replies (is_refueled i {g = g} n live f) h all =
+    with_well m i g (record g { calls = _ }) n.0 live (first_open_places _ g.calls) h
+obeys_well scarce settings files m m2 number command replies (no_one_to_refuel i n l) h all = h
+obeys_well scarce settings files m m2 number command replies (no_call_to_refuel i n l f) h all = h
+obeys_well scarce settings files m _ number command replies (is_cancelled i {g = g} n live f) h all =
+    with_well m i g (record g { calls = _ }) n.0 live (cancel_places g.calls) h
+obeys_well scarce settings files m m2 number command replies (no_one_to_cancel i n l) h all = h
+obeys_well scarce settings files m m2 number command replies (no_call_to_cancel i n l f) h all = h
+obeys_well scarce settings files m m2 number command replies (no_one_to_retry i n l) h all = h
+obeys_well scarce settings files m m2 number command replies (no_fault_to_retry i n l) h all = h
+obeys_well scarce settings files m _ number command replies (is_released i {g = g} z n live r) h all =
+    released_well m i g z n.0 live r h all
+obeys_well scarce settings files m m2 number command replies (no_one_to_release i n l) h all = h

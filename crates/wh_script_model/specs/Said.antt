@@ -1,0 +1,62 @@
+-- What has been said of calls, whatever the lines of a script have made.
+use Rattle.std.specs.Prelude.{◌≡◌, ℕ, true, List, [], slice_get, Option, Some, None}
+use Rattle.wh_model.specs.Execution.Replay.{Call}
+use Rattle.wh_host_model.specs.Lines.Texts as texts
+use Rattle.wh_host_model.specs.Lines.Texts.{CallStatus, done, trapped, wants_fuel, wants_frame, queued, cancelled, dead, refused}
+use Rattle.wh_host_model.specs.Lines.Made.{Guest, Invoked, Made, taken_on}
+use Rattle.wh_host_model.specs.Lines.Drains.{call_status}
+
+-- how a call is said to be once its instance is released, which was said to be so before
+abbrev pub when_released : CallStatus → CallStatus
+when_released (done value charges) = done value charges
+when_released (trapped trap charges) = trapped trap charges
+when_released (wants_fuel charges) = texts.released charges
+when_released (wants_frame fault charges) = texts.released charges
+when_released queued = texts.released 0
+when_released (cancelled charges) = cancelled charges
+when_released (texts.released charges) = texts.released charges
+when_released dead = dead
+when_released (refused fault) = refused fault
+
+-- its start has pieces to write or a function to call, so that lines are said of it
+abbrev pub HasStart : Guest → Type 0
+HasStart g = ¬ ((g.pieces ≡ []) × (g.m.start ≡ None))
+
+-- it was said of the call at this place how it is
+abbrev pub IsSaid : Guest → ℕ → Call → Option CallStatus → Type 0
+IsSaid g place c said = said ≡ Some (call_status g place c)
+
+-- or how it was when its instance was released
+abbrev pub WasSaid : Guest → ℕ → Call → Option CallStatus → Type 0
+WasSaid g place c said = (status : CallStatus) × (said ≡ Some status) × (call_status g place c ≡ when_released status)
+
+-- so it is with the start of each instance of this kind, and with each call of an `invoke`
+pub record AreSaid (kind : Guest → Type 0) (so : Guest → ℕ → Call → Option CallStatus → Type 0)
+    (guests : List Guest) (invoked : List Invoked) : Type 0 where
+  pub starts : (i : ℕ) (g : Guest) (c : Call) → slice_get guests i ≡ Some g → kind g → HasStart g
+      → slice_get g.calls 0 ≡ Some c → so g 0 c g.said
+  pub calls : (n i place : ℕ) (v : Invoked) (g : Guest) (c : Call) → slice_get invoked n ≡ Some v
+      → v.came ≡ taken_on i place → slice_get guests i ≡ Some g → kind g → slice_get g.calls place ≡ Some c
+      → so g place c v.said
+
+abbrev pub IsAnyone : Guest → Type 0
+IsAnyone g = Unit {0}
+
+abbrev pub IsReleased : Guest → Type 0
+IsReleased g = g.is_released ≡ true
+
+-- of all of them it was said how they are
+abbrev pub AllAreSaid : Made → Type 0
+AllAreSaid m = AreSaid IsAnyone IsSaid m.guests m.invoked
+
+-- each instance has its start, and each `invoke` that was taken has its call
+pub record CallsAreThere (guests : List Guest) (invoked : List Invoked) : Type 0 where
+  pub starts : (i : ℕ) (g : Guest) → slice_get guests i ≡ Some g → (c : Call) × (slice_get g.calls 0 ≡ Some c)
+  pub calls : (n i place : ℕ) (v : Invoked) → slice_get invoked n ≡ Some v → v.came ≡ taken_on i place
+      → (g : Guest) × (c : Call) × (slice_get guests i ≡ Some g) × (slice_get g.calls place ≡ Some c)
+
+-- What the lines of a script have made: its calls are there, and of those of released instances it was said how they
+-- were when these were released.
+pub record IsWellMade (m : Made) : Type 0 where
+  pub there : CallsAreThere m.guests m.invoked
+  pub gone : AreSaid IsReleased WasSaid m.guests m.invoked
