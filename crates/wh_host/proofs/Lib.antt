@@ -10,3 +10,4 @@ mod Carrying
 mod Offering
 mod Inputs
 mod Showings
+mod Tellings

@@ -13,6 +13,7 @@ use Rattle.wh_imports.specs.Joined.{LinkedState}
 use Rattle.wh_load.specs.Refusing.{view_linked}
 use Rattle.wh_journal.specs.Calls.{JournalCallState}
 use Rattle.wh_instance.specs.Tenancy.{IsTenant, RepresentsEach, TenantState}
+use Rattle.wh_instance.proofs.Told.{join_each}
 use Rattle.wh_transcript.specs.Transcripts.{IsReplayable}
 use Rattle.wh_host.specs.declared.parts.Given.{Given}
 use Rattle.wh_host.specs.declared.parts.LoadedModule.{LoadedModule}
@@ -22,12 +23,6 @@ use Rattle.wh_host.specs.Showing.{Shows, given_with, shown_of}
 use Rattle.wh_host.proofs.Hosts.{found, one_value}
 use Rattle.wh_host.proofs.Inputs.{replay_inputs, standing_inputs}
 use Rattle.wh_host.proofs.Requests.{module_there}
-
-join_each : (cs ds : List JournalCallState) (es fs : List Entry) → RepresentsEach cs es → RepresentsEach ds fs → RepresentsEach (cs ++ ds) (es ++ fs)
-join_each [] ds [] fs none more = more
-join_each [] ds (e ∷ es) fs none more = absurd none
-join_each (c ∷ cs) ds [] fs some more = absurd some
-join_each (c ∷ cs) ds (e ∷ es) fs some more = (some.0, join_each cs ds es fs some.1 more)
 
 -- what it was given, by its parts
 params_by : (g : Given) (inputs : List ℕ) (p : Params) → AreGivenAs g p → inputs ≡ p.inputs → given_with g inputs ≡ p

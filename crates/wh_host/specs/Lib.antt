@@ -12,3 +12,4 @@ pub mod Releasing
 pub mod Admitting
 pub mod Sharing
 pub mod Showing
+pub mod Telling

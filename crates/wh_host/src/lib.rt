@@ -18,6 +18,9 @@ mod providing;
 mod releasing;
 mod scanning;
 mod showing;
+mod telling;
+#[cfg(test)]
+mod telling_tests;
 #[cfg(test)]
 mod tests;
 mod transit;
@@ -30,4 +33,5 @@ pub use parts::ModuleId;
 pub use transit::{Eviction, Fetch};
 pub use turning::turn_at;
 pub use wh_admit::{AdmitError, Params};
+pub use wh_instance::{CallStatus, CallValue, Suspension};
 pub use wh_transcript::Transcript;

@@ -10,3 +10,4 @@ mod Requested
 mod Newcomers
 mod Taken
 mod Bounds
+pub mod Told

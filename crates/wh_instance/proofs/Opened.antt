@@ -16,7 +16,7 @@ use Rattle.wh_host_model.specs.Host.Worlds.{Rest, Doing, resting, computing, sto
 use Rattle.wh_host_model.specs.Host.Admission.{rest_of}
 use Rattle.wh_host_model.specs.Host.Turns.{Opens, Computes, to_end, out_of_fuel, to_wait, to_go_on, returns, traps, uses_fuel, waits, has_had_its_turn}
 use Rattle.wh_control.specs.Represents.{Func, CallsState, RepresentsCalls, bits_of, result_of, IsFunc}
-use Rattle.wh_control.specs.Parts.{ProgramParts, funcs_in}
+use Rattle.wh_control.specs.Parts.{ProgramParts, funcs_in, IsInstance}
 use Rattle.wh_control.specs.declared.store.Store as code_store
 use Rattle.wh_control.proofs.Entries.{Callee, of_host, of_module, callee}
 use Rattle.wh_control.proofs.Jumps.{all_at}
@@ -39,11 +39,14 @@ declared_by : (p : ProgramParts) (c : Context) (index : ℕ) (type : FuncType) (
 declared_by p c index type body each (of_host k at is) = absurd (cc is)
 declared_by p c index type body each (of_module g y i at is) = subst (λ (t : FuncType). t.results ≡ operand (result_of t)) (sym (own_type is)) (each y g at)
 
-pub declared : {p : ProgramParts} {k : code_store.Store} {flat : List ℕ} {most : ℕ} {c : Context} {inst : Instance} {s : Store} (index : ℕ) (type : FuncType) (body : Body) → RepresentsInstance p k flat most c inst s → slice_get inst.funcs index ≡ Some (own type body) → type.results ≡ operand (result_of type)
-declared {p} {c = c} {inst = inst} index type body st is_own =
-    let program = st.instance.program in
+pub declared_in : (p : ProgramParts) (c : Context) (inst : Instance) (index : ℕ) (type : FuncType) (body : Body) → IsInstance p c inst → slice_get inst.funcs index ≡ Some (own type body) → type.results ≡ operand (result_of type)
+declared_in p c inst index type body is is_own =
+    let program = is.program in
     declared_by p c index type body (λ y g at. let f = all_at (IsFunc c) (funcs_in p) y g program.each at in f.results)
     (callee p.hosts (funcs_in p) index (own type body) (ap (λ fs. slice_get fs index) (sym program.funcs_are) ∙ is_own))
+
+pub declared : {p : ProgramParts} {k : code_store.Store} {flat : List ℕ} {most : ℕ} {c : Context} {inst : Instance} {s : Store} (index : ℕ) (type : FuncType) (body : Body) → RepresentsInstance p k flat most c inst s → slice_get inst.funcs index ≡ Some (own type body) → type.results ≡ operand (result_of type)
+declared {p} {c = c} {inst = inst} index type body st is_own = declared_in p c inst index type body st.instance is_own
 
 -- one value at most is its own reverse
 short_reverse : (us : List Value) (t : Option ValType) → map type_of us ≡ operand t → reverse us ≡ us

@@ -9,3 +9,4 @@ pub mod Beginning
 pub mod Invoked
 pub mod Seen
 pub mod Stored
+pub mod Told

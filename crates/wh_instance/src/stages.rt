@@ -1,7 +1,7 @@
 //! Where the present call of an instance is, for what it stands, and what a turn of it comes to.
 
 use wh_host_model::SwapError;
-use wh_model::Need;
+use wh_model::{Need, Trap, ValType};
 
 /// Where the present call of an instance is.
 #[derive(Clone, Copy, Debug, PartialEq, Eq)]
@@ -46,4 +46,41 @@ pub enum Turned {
     },
     /// It was a turn without charges of a call for which a device call failed: nothing was done, and the fault is kept.
     Kept,
+}
+
+/// A value that a call has returned.
+#[derive(Clone, Copy, Debug, PartialEq, Eq)]
+pub struct CallValue {
+    /// Its type.
+    pub of: ValType,
+    /// Its bits, as a number below 2^32 or 2^64.
+    pub word: u64,
+}
+
+/// How far a call is.
+#[derive(Clone, Copy, Debug, PartialEq, Eq)]
+pub enum CallStatus {
+    /// It has returned a value, or none.
+    Returned {
+        value: Option<CallValue>,
+        charges: u64,
+    },
+    /// It has trapped.
+    Trapped {
+        trap: Trap,
+        charges: u64,
+    },
+    /// Its owner has cancelled it.
+    Cancelled {
+        charges: u64,
+    },
+    /// It stood behind a start that trapped or was cancelled, and did nothing.
+    Dead,
+    /// It waits behind another open call.
+    Waiting,
+    /// It is the present call, and stands for this, if it does.
+    Present {
+        stands_for: Option<Suspension>,
+        charges: u64,
+    },
 }

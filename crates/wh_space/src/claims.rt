@@ -49,6 +49,19 @@ fn resident_in(table: &PageTable) -> (u32, u32)
     (pages, touched)
 }
 
+// The same of the instance at a place; none where nobody is there.
+pub fn resident_of(tables: &Vec<PageTable>, place: usize) -> (u32, u32)
+    ensures pages { result.0 ≡ tally resident (get_or (pages_in tables.now.items) place []) }
+    ensures touched { result.1 ≡ active (get_or (pages_in tables.now.items) place [])
+        (get_or (marks_in tables.now.items) place []) }
+    ensures within { result.1 ≤ result.0 }
+{
+    if place >= tables.len() {
+        return (0, 0);
+    }
+    resident_in(&tables[place])
+}
+
 // Whether a page stands on a frame and isn't leaving.
 fn is_staying(page: Page) -> bool
     ensures { MatchBool result (stays page ≡ 1) (stays page ≡ 0) }

@@ -1,10 +1,12 @@
-// What is told of slots and of swapped pages.
+// What is told of frames and slots, and of the pages of an instance.
 
 ghost use Rattle.std.specs.Prelude.{◌≡◌, ◌+◌, ◌≤◌, length};
 ghost use Rattle.wh_host_model.specs.Frames.{tally};
-ghost use Rattle.wh_host_model.specs.Space.Parts.{Space};
+ghost use Rattle.wh_host_model.specs.Space.Claims.{active_of};
+ghost use Rattle.wh_host_model.specs.Space.Parts.{pages_of};
 ghost use Rattle.wh_host_model.specs.Space.States.{count_of, swapped};
 
+use crate::claims::resident_of;
 use crate::memory::Memory;
 use wh_host_model::Page;
 use wh_pages::PageTable;
@@ -62,5 +64,16 @@ impl Memory {
             return 0;
         }
         swapped_in(&self.tables[place])
+    }
+
+    /// How many pages of the instance at a place stand on frames, and how many of these were touched in this epoch; 0 where
+    /// nobody is there. It looks at its pages.
+    pub fn resident_at(&self, place: usize) -> (u32, u32)
+        ensures pages { result.0 ≡ pages_of self.now place }
+        ensures touched { result.1 ≡ active_of self.now place }
+        ensures within { result.1 ≤ result.0 }
+        ensures few { result.0 ≤ 65536 }
+    {
+        resident_of(&self.tables, place)
     }
 }

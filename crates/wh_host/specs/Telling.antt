@@ -1,0 +1,19 @@
+-- What a host tells of one call.
+use Rattle.std.specs.Prelude.{◌≡◌, ℕ, slice_get, Option, Some, None}
+use Rattle.wh_host_model.specs.declared.plain.InstId.{InstId}
+use Rattle.wh_host_model.specs.Host.Worlds.{Entry, Tenant, World, journal}
+use Rattle.wh_host_model.specs.Host.Happens.{IsLive}
+use Rattle.wh_instance.specs.declared.stages.CallStatus.{CallStatus}
+use Rattle.wh_instance.specs.Told.{IsCallStatus, waits_at}
+use Rattle.wh_host.specs.Hosting.{HostState, IsHost}
+
+-- The instance is there and has a call at this place of its journal, of which this is told; or there is no such call.
+abbrev pub IsTold : World → InstId → ℕ → Option CallStatus → Type 0
+IsTold w id at None = (t : Tenant) → IsLive w id t → slice_get (journal t) at ≡ None
+IsTold w id at (Some status) =
+    (t : Tenant) × (e : Entry) × IsLive w id t × (slice_get (journal t) at ≡ Some e)
+    × IsCallStatus status (waits_at (journal t) at) t.stands_for e.call
+
+-- for whatever host it stands
+abbrev pub TellsOf : HostState → InstId → ℕ → Option CallStatus → Type 0
+TellsOf h id at told = (w : World) → IsHost h w → IsTold w id at told
