@@ -29,7 +29,7 @@ use Rattle.wh_script_model.proofs.Drains.{drains_begin, drains_end, moves_follow
 use Rattle.wh_script_model.proofs.Turning.{turns_follow}
 use Rattle.wh_engine.specs.declared.engine.Engine.{Engine}
 use Rattle.wh_engine.specs.declared.parts.Guest.{Guest}
-use Rattle.wh_engine.specs.Draining.{IsBacked, HasAdded, BringsOn, GoesOn, IsServedAt, RunsOut, RunsEach}
+use Rattle.wh_engine.specs.Draining.{IsBacked, HasAdded, BringsOn, GoesOn, IsServedAt, RunsOut, RunsEach, StaysSo}
 use Rattle.wh_engine.specs.Standing.{StandsForScript, AreGuests, IsGuest}
 use Rattle.wh_engine.specs.Names.{AreNames, number_of}
 use Rattle.wh_engine.proofs.Asked.{on_host, whole_of}
@@ -284,3 +284,23 @@ ran_each e h2 count first all_of settings m s =
       guests = run_keeps 0 e.guests.items m.guests end.0 end.1 s.guests;
       invoked = s.invoked;
     })
+
+-- ---- pages move
+
+pub stays_so : (e : Engine) (h2 : HostState) → ((w : World) → IsHost e.host w → (w2 : World) × OnlyMoves w w2 × IsHost h2 w2)
+    → KeepsBacking e.host.space h2.space → StaysSo e (on_host e h2)
+stays_so e h2 moves keeps settings m s =
+    let w = s.world in
+    let did = moves w s.is in
+    let reached = s.is.reached in
+    record {
+      world = did.0;
+      is = did.2;
+      modules = s.modules;
+      knows = (moves_follow reached.frames reached.slots reached.tax reached.events w reached.happen settings m (places_of e) did.0 did.1
+          (whole_of e.host h2 w did.0 s.is did.2 (keeps_whole e.host.space h2.space keeps))).0 s.knows;
+      module_names = s.module_names;
+      guest_names = s.guest_names;
+      guests = s.guests;
+      invoked = s.invoked;
+    }

@@ -1,8 +1,9 @@
 -- What is said of calls, one after the other.
-use Rattle.std.proofs.Common.{arith, ◌≡◌, ◌≢◌, ℕ, ◌+◌, ◌<◌, zero, suc, Bool, true, false, List, [], ◌∷◌, ◌++◌, map, length, take, get_or, ◌≤◌, slice_get, slice_set, Option, Some, None, option_map, is_some, refl, ap, sym, subst, ◌∙◌, append_assoc, append-nil, length-append}
+use Rattle.std.proofs.Common.{arith, ◌≡◌, ◌≢◌, ℕ, ◌+◌, ◌<◌, zero, suc, Bool, true, false, List, [], ◌∷◌, ◌++◌, map, length, take, Result, Ok, Err, OnOk, get_or, ◌≤◌, slice_get, slice_set, Option, Some, None, option_map, is_some, refl, ap, sym, subst, ◌∙◌, append_assoc, append-nil, length-append}
 use Rattle.std.proofs.lemmas.Option.{same_Some, none-some}
 use Rattle.std.specs.List.{AllZip, AllByRecursion}
 use Rattle.std.specs.Global.{Vec}
+use Rattle.wh_model.specs.Execution.Instance.{Piece}
 use Rattle.wh_model.specs.Execution.Replay.{Outcome, Call}
 use Rattle.wh_host_model.specs.declared.plain.SwapError.{SwapError}
 use Rattle.wh_host_model.specs.declared.plain.InstId.{InstId}
@@ -13,7 +14,7 @@ use Rattle.wh_host_model.specs.Lines.Texts as texts
 use Rattle.wh_host_model.specs.Lines.Texts.{CallStatus, Reply, done, trapped, wants_fuel, wants_frame, queued, cancelled, dead, refused, reply_text}
 use Rattle.wh_host_model.specs.Lines.Made as made
 use Rattle.wh_host_model.specs.Lines.Made.{Made, first_open}
-use Rattle.wh_host_model.specs.Lines.Drains.{call_status, status_by, SaysLine, as_before, anew, SaysStart, has_none, has_one, SayStarts, SaysCall, SayCalls}
+use Rattle.wh_host_model.specs.Lines.Drains.{call_status, status_by, SaysLine, as_before, anew, SaysStart, has_none, has_one, SayStarts, SaysCall, is_refused, is_taken, SayCalls}
 use Rattle.wh_host_model.specs.Lines.Answers.{replies_text}
 use Rattle.wh_host.specs.Hosting.{HostState, IsHost}
 use Rattle.wh_replies.specs.View.{status_of}
@@ -147,13 +148,13 @@ places_same (y ∷ xs) zero x x2 e same =
 places_same (y ∷ xs) (suc i) x x2 e same = ap (λ ps. y.id.place ∷ ps) (places_same xs i x x2 e same)
 
 -- the first element of what is left
-pub first_left : {A : Type 0} (done rest : List A) (n : ℕ) → length done + length rest ≡ n → length done < n → (x : A) × (more : List A) × (rest ≡ x ∷ more)
-first_left done [] n e less = absurd (omega arith)
-first_left done (x ∷ rest) n e less = (x, rest, refl)
+pub first_left : {A : Type 0} (taken rest : List A) (n : ℕ) → length taken + length rest ≡ n → length taken < n → (x : A) × (more : List A) × (rest ≡ x ∷ more)
+first_left taken [] n e less = absurd (omega arith)
+first_left taken (x ∷ rest) n e less = (x, rest, refl)
 
-pub at_middle : {A : Type 0} (done rest : List A) (x : A) → slice_get (done ++ x ∷ rest) (length done) ≡ Some x
+pub at_middle : {A : Type 0} (taken rest : List A) (x : A) → slice_get (taken ++ x ∷ rest) (length taken) ≡ Some x
 at_middle [] rest x = refl
-at_middle (y ∷ done) rest x = at_middle done rest x
+at_middle (y ∷ taken) rest x = at_middle taken rest x
 
 -- ---- what the host shows
 
@@ -190,11 +191,11 @@ code_guest k (x ∷ xs) (y ∷ gs) zero g are e = (x, refl, subst (λ n. IsGuest
 code_guest k (x ∷ xs) (y ∷ gs) (suc i) g are e =
     let d = code_guest (k + 1) xs gs i g are.1 e in (d.0, d.1, subst (λ n. IsGuest n d.0 g) (omega arith) d.2)
 
-zip_many : {A B : Type 0} {R : A → B → Type 0} (xs : List A) (ys : List B) → AllZip R xs ys → length xs ≡ length ys
-zip_many [] [] all = refl
-zip_many [] (y ∷ ys) all = absurd all
-zip_many (x ∷ xs) [] all = absurd all
-zip_many (x ∷ xs) (y ∷ ys) all = let n = zip_many xs ys all.1 in omega arith
+zip_many : {A B : Type 0} (R : A → B → Type 0) (xs : List A) (ys : List B) → AllZip R xs ys → length xs ≡ length ys
+zip_many R [] [] all = refl
+zip_many R [] (y ∷ ys) all = absurd all
+zip_many R (x ∷ xs) [] all = absurd all
+zip_many R (x ∷ xs) (y ∷ ys) all = let n = zip_many R xs ys all.1 in omega arith
 
 zip_here : (xs : List Invoked) (said rest : List made.Invoked) (v : made.Invoked) (x : Invoked) → AllZip IsInvokedAs xs (said ++ v ∷ rest) → slice_get xs (length said) ≡ Some x → IsInvokedAs x v
 zip_here [] [] rest v x all e = absurd all
@@ -224,20 +225,20 @@ shows settings e m i x g s at placed number released = record {
 -- ---- starts
 
 pub record StartsSoFar (e : Engine) (m : Made) (xs : List Guest) (count : ℕ) (text now : List ℕ) : Type 0 where
-  pub done : List made.Guest
+  pub taken : List made.Guest
   pub rest : List made.Guest
   pub said : List made.Guest
   pub lines : List Reply
-  pub split : m.guests ≡ done ++ rest
-  pub counted : length done ≡ count
-  pub says : SayStarts done lines said
+  pub split : m.guests ≡ taken ++ rest
+  pub counted : length taken ≡ count
+  pub says : SayStarts taken lines said
   pub are : AreGuests 0 xs (said ++ rest)
   pub adds : AddsLines lines text now
   pub placed : map (λ (x : Guest). x.id.place) xs ≡ places_of e
 
 pub no_start_said : (settings : Settings) (e : Engine) (m : Made) (text : List ℕ) → StandsForScript settings e m → StartsSoFar e m e.guests.items 0 text text
 no_start_said settings e m text s = record {
-  done = [];
+  taken = [];
   rest = m.guests;
   said = [];
   lines = [];
@@ -253,31 +254,31 @@ pub start_said_next : (settings : Settings) (e : Engine) (m : Made) (xs : List G
     → StartsSoFar e m xs count text now → slice_get xs count ≡ Some x → SaysStartOf e.host x x2 now now2
     → StartsSoFar e m (slice_set xs count x2) (count + 1) text now2
 start_said_next settings e m xs count text now now2 x x2 s well so at says =
-    let n = as_many_said so.done so.said so.lines so.says in
+    let n = as_many_said so.taken so.said so.lines so.says in
     let all : length so.said + length so.rest ≡ length xs = sym (length-append so.said so.rest) ∙ sym (guests_many 0 xs (so.said ++ so.rest) so.are) in
     let within : count < length xs = there_within xs count x at in
-    let head = first_left so.done so.rest (length xs) (omega (arith, n, all)) (omega (arith, so.counted)) in
+    let head = first_left so.taken so.rest (length xs) (omega (arith, n, all)) (omega (arith, so.counted)) in
     let g = head.0 in
     let more = head.1 in
     let count_said : length so.said ≡ count = n ∙ so.counted in
     let are : AreGuests 0 xs (so.said ++ g ∷ more) = subst (λ r. AreGuests 0 xs (so.said ++ r)) head.2 so.are in
     let at_said : slice_get xs (length so.said) ≡ Some x = ap (slice_get xs) count_said ∙ at in
     let is : IsGuest count x g = subst (λ k. IsGuest k x g) (omega (arith, count_said)) (guest_here 0 xs so.said more g x are at_said) in
-    let split : m.guests ≡ so.done ++ g ∷ more = so.split ∙ ap (λ r. so.done ++ r) head.2 in
-    let of_script : slice_get m.guests count ≡ Some g = ap (λ (gs : List made.Guest). slice_get gs count) split ∙ ap (slice_get (so.done ++ g ∷ more)) (sym so.counted) ∙ at_middle so.done more g in
+    let split : m.guests ≡ so.taken ++ g ∷ more = so.split ∙ ap (λ r. so.taken ++ r) head.2 in
+    let of_script : slice_get m.guests count ≡ Some g = ap (λ (gs : List made.Guest). slice_get gs count) split ∙ ap (slice_get (so.taken ++ g ∷ more)) (sym so.counted) ∙ at_middle so.taken more g in
     let place : slice_get (places_of e) count ≡ Some x.id.place = ap (λ (ps : List ℕ). slice_get ps count) (sym so.placed) ∙ placed_at xs count x at in
     let shown = shows settings e m count x g s of_script place is.number is.released in
     let first = well.there.starts count g of_script in
     let did = says count g first.0 is shown first.1 (λ gone has. well.gone.starts count g first.0 of_script gone has first.1) in
     let g2 = did.1 in
     record {
-      done = so.done ++ g ∷ [];
+      taken = so.taken ++ g ∷ [];
       rest = more;
       said = so.said ++ g2 ∷ [];
       lines = so.lines ++ did.0;
-      split = split ∙ sym (append_assoc so.done (g ∷ []) more);
-      counted = length-append so.done (g ∷ []) ∙ ap (λ k. k + 1) so.counted;
-      says = starts_join so.done so.said so.lines did.0 g g2 so.says did.2;
+      split = split ∙ sym (append_assoc so.taken (g ∷ []) more);
+      counted = length-append so.taken (g ∷ []) ∙ ap (λ k. k + 1) so.counted;
+      says = starts_join so.taken so.said so.lines did.0 g g2 so.says did.2;
       are = subst (AreGuests 0 (slice_set xs count x2)) (sym (append_assoc so.said (g2 ∷ []) more))
           (subst (λ k. AreGuests 0 (slice_set xs k x2) (so.said ++ g2 ∷ more)) count_said
             (guests_said 0 xs so.said more x2 g g2 are (subst (λ k. IsGuest k x2 g2) (omega (arith, count_said)) did.4)));
@@ -299,10 +300,10 @@ pub starts_are_said : (settings : Settings) (e : Engine) (m : Made) (xs : Vec Gu
     → StartsSoFar e m xs.items count text now → length xs.items ≤ count
     → (lines : List Reply) × (guests : List made.Guest) × SayStarts m.guests lines guests × AddsLines lines text now × StandsForScript settings (with_starts e xs) (record m { guests = guests })
 starts_are_said settings e m xs count text now s so end =
-    let n = as_many_said so.done so.said so.lines so.says in
+    let n = as_many_said so.taken so.said so.lines so.says in
     let all : length so.said + length so.rest ≡ length xs.items = sym (length-append so.said so.rest) ∙ sym (guests_many 0 xs.items (so.said ++ so.rest) so.are) in
     let none : so.rest ≡ [] = no_length so.rest (omega (arith, n, all, so.counted)) in
-    let whole : m.guests ≡ so.done = so.split ∙ ap (λ r. so.done ++ r) none ∙ append-nil so.done in
+    let whole : m.guests ≡ so.taken = so.split ∙ ap (λ r. so.taken ++ r) none ∙ append-nil so.taken in
     let says : SayStarts m.guests so.lines so.said = subst (λ gs. SayStarts gs so.lines so.said) (sym whole) so.says in
     let are : AreGuests 0 xs.items so.said = subst (AreGuests 0 xs.items) (ap (λ r. so.said ++ r) none ∙ append-nil so.said) so.are in
     (so.lines, so.said, says, so.adds, record {
@@ -320,19 +321,19 @@ starts_are_said settings e m xs count text now s so end =
 -- ---- calls
 
 pub record CallsSoFar (m : Made) (xs : List Invoked) (count : ℕ) (text now : List ℕ) : Type 0 where
-  pub done : List made.Invoked
+  pub taken : List made.Invoked
   pub rest : List made.Invoked
   pub said : List made.Invoked
   pub lines : List Reply
-  pub split : m.invoked ≡ done ++ rest
-  pub counted : length done ≡ count
-  pub says : SayCalls m.guests 1 done lines said
+  pub split : m.invoked ≡ taken ++ rest
+  pub counted : length taken ≡ count
+  pub says : SayCalls m.guests 1 taken lines said
   pub are : AllZip IsInvokedAs xs (said ++ rest)
   pub adds : AddsLines lines text now
 
 pub no_call_said : (settings : Settings) (e : Engine) (m : Made) (text : List ℕ) → StandsForScript settings e m → CallsSoFar m e.invoked.items 0 text text
 no_call_said settings e m text s = record {
-  done = [];
+  taken = [];
   rest = m.invoked;
   said = [];
   lines = [];
@@ -357,29 +358,29 @@ pub call_said_next : (settings : Settings) (e : Engine) (m : Made) (xs : List In
     → CallsSoFar m xs count text now → slice_get xs count ≡ Some x → number ≡ count + 1 → SaysCallOf e.host e.guests.items number x x2 now now2
     → CallsSoFar m (slice_set xs count x2) (count + 1) text now2
 call_said_next settings e m xs count number text now now2 x x2 s well so at numbered says =
-    let n = as_many_calls m.guests 1 so.done so.said so.lines so.says in
-    let all : length so.said + length so.rest ≡ length xs = sym (length-append so.said so.rest) ∙ sym (zip_many xs (so.said ++ so.rest) so.are) in
+    let n = as_many_calls m.guests 1 so.taken so.said so.lines so.says in
+    let all : length so.said + length so.rest ≡ length xs = sym (length-append so.said so.rest) ∙ sym (zip_many IsInvokedAs xs (so.said ++ so.rest) so.are) in
     let within : count < length xs = there_within xs count x at in
-    let head = first_left so.done so.rest (length xs) (omega (arith, n, all)) (omega (arith, so.counted)) in
+    let head = first_left so.taken so.rest (length xs) (omega (arith, n, all)) (omega (arith, so.counted)) in
     let v = head.0 in
     let more = head.1 in
     let count_said : length so.said ≡ count = n ∙ so.counted in
     let are : AllZip IsInvokedAs xs (so.said ++ v ∷ more) = subst (λ r. AllZip IsInvokedAs xs (so.said ++ r)) head.2 so.are in
     let at_said : slice_get xs (length so.said) ≡ Some x = ap (slice_get xs) count_said ∙ at in
     let is = zip_here xs so.said more v x are at_said in
-    let split : m.invoked ≡ so.done ++ v ∷ more = so.split ∙ ap (λ r. so.done ++ r) head.2 in
-    let of_script : slice_get m.invoked count ≡ Some v = ap (λ (vs : List made.Invoked). slice_get vs count) split ∙ ap (slice_get (so.done ++ v ∷ more)) (sym so.counted) ∙ at_middle so.done more v in
+    let split : m.invoked ≡ so.taken ++ v ∷ more = so.split ∙ ap (λ r. so.taken ++ r) head.2 in
+    let of_script : slice_get m.invoked count ≡ Some v = ap (λ (vs : List made.Invoked). slice_get vs count) split ∙ ap (slice_get (so.taken ++ v ∷ more)) (sym so.counted) ∙ at_middle so.taken more v in
     let did = says m.guests v is (has_its_call settings e m count v s well of_script) in
     let v2 = did.1 in
-    let same_number : number ≡ 1 + length so.done = omega (arith, so.counted, numbered) in
+    let same_number : number ≡ 1 + length so.taken = omega (arith, so.counted, numbered) in
     record {
-      done = so.done ++ v ∷ [];
+      taken = so.taken ++ v ∷ [];
       rest = more;
       said = so.said ++ v2 ∷ [];
       lines = so.lines ++ did.0;
-      split = split ∙ sym (append_assoc so.done (v ∷ []) more);
-      counted = length-append so.done (v ∷ []) ∙ ap (λ k. k + 1) so.counted;
-      says = calls_join m.guests 1 so.done so.said so.lines did.0 v v2 so.says (subst (λ k. SaysCall m.guests k v did.0 v2) same_number did.2);
+      split = split ∙ sym (append_assoc so.taken (v ∷ []) more);
+      counted = length-append so.taken (v ∷ []) ∙ ap (λ k. k + 1) so.counted;
+      says = calls_join m.guests 1 so.taken so.said so.lines did.0 v v2 so.says (subst (λ k. SaysCall m.guests k v did.0 v2) same_number did.2);
       are = subst (AllZip IsInvokedAs (slice_set xs count x2)) (sym (append_assoc so.said (v2 ∷ []) more))
           (subst (λ k. AllZip IsInvokedAs (slice_set xs k x2) (so.said ++ v2 ∷ more)) count_said (zip_said xs so.said more x2 v v2 are did.4));
       adds = adds_more so.lines did.0 text now now2 so.adds did.3;
@@ -392,10 +393,10 @@ pub calls_are_said : (settings : Settings) (e : Engine) (m : Made) (xs : Vec Inv
     → CallsSoFar m xs.items count text now → length xs.items ≤ count
     → (lines : List Reply) × (invoked : List made.Invoked) × SayCalls m.guests 1 m.invoked lines invoked × AddsLines lines text now × StandsForScript settings (with_said e xs) (record m { invoked = invoked })
 calls_are_said settings e m xs count text now s so end =
-    let n = as_many_calls m.guests 1 so.done so.said so.lines so.says in
-    let all : length so.said + length so.rest ≡ length xs.items = sym (length-append so.said so.rest) ∙ sym (zip_many xs.items (so.said ++ so.rest) so.are) in
+    let n = as_many_calls m.guests 1 so.taken so.said so.lines so.says in
+    let all : length so.said + length so.rest ≡ length xs.items = sym (length-append so.said so.rest) ∙ sym (zip_many IsInvokedAs xs.items (so.said ++ so.rest) so.are) in
     let none : so.rest ≡ [] = no_length so.rest (omega (arith, n, all, so.counted)) in
-    let whole : m.invoked ≡ so.done = so.split ∙ ap (λ r. so.done ++ r) none ∙ append-nil so.done in
+    let whole : m.invoked ≡ so.taken = so.split ∙ ap (λ r. so.taken ++ r) none ∙ append-nil so.taken in
     let says : SayCalls m.guests 1 m.invoked so.lines so.said = subst (λ vs. SayCalls m.guests 1 vs so.lines so.said) (sym whole) so.says in
     (so.lines, so.said, says, so.adds, record {
       world = s.world;
@@ -424,3 +425,34 @@ both_said e mid e2 text between text2 starts calls settings m s well =
     let a = starts settings m s well in
     let b = calls settings (record m { guests = a.1 }) a.4 (starts_well m a.0 a.1 well a.2) in
     (a.0, b.0, a.1, b.1, a.2, b.2, adds_more a.0 b.0 text between text2 a.3 b.3, b.4)
+
+-- ---- parts
+
+both_empty : (ps : List Piece) (o : Option ℕ) → ¬ (¬ ((ps ≡ []) × (o ≡ None))) → (ps ≡ []) × (o ≡ None)
+both_empty [] None none = (refl, refl)
+both_empty [] (Some x) none = absurd (none (λ both. cc both.1))
+both_empty (p ∷ ps) o none = absurd (none (λ both. cc both.0))
+
+-- it is said how a call is that was taken
+pub takes_so : (guests : List made.Guest) (number : ℕ) (v : made.Invoked) (i place : ℕ) (g : made.Guest) (c : Call) (status : CallStatus) (lines : List Reply) → v.came ≡ made.taken_on i place
+    → slice_get guests i ≡ Some g → slice_get g.calls place ≡ Some c → status ≡ call_status g place c → SaysLine (texts.call number) v.said status lines
+    → SaysCall guests number v lines (record v { said = Some status })
+takes_so guests number v i place g c status lines came at first e says =
+    let P : CallStatus → Type 0 = λ s. SaysLine (texts.call number) v.said s lines → SaysCall guests number v lines (record v { said = Some s }) in
+    let there : P (call_status g place c) = λ line. is_taken came at first line in
+    subst P (sym e) there says
+
+pub starts_so : (g : made.Guest) (c : Call) (name : List ℕ) (said : Option CallStatus) (status : CallStatus) (lines : List Reply) → name ≡ g.name → said ≡ g.said → status ≡ call_status g 0 c
+    → HasStart g → slice_get g.calls 0 ≡ Some c → SaysLine (texts.start name) said status lines
+    → SaysStart g lines (record g { said = Some (call_status g 0 c) })
+starts_so g c name said status lines named before e has first says =
+    has_one has first (subst (λ n. SaysLine (texts.start n) g.said (call_status g 0 c) lines) named
+      (subst (λ o. SaysLine (texts.start name) o (call_status g 0 c) lines) before (subst (λ s. SaysLine (texts.start name) said s lines) e says)))
+
+pub no_start : (g : made.Guest) → ¬ (HasStart g) → (g.pieces ≡ []) × (g.m.start ≡ None)
+no_start g none = both_empty g.pieces g.m.start none
+
+-- what holds where a line was added holds of it
+pub on_ok_then : {A E : Type 0} {P Q : Type 0} (r : Result A E) → OnOk r P → (P → Q) → OnOk r Q
+on_ok_then (Ok x) p f = f p
+on_ok_then (Err e) p f = tt

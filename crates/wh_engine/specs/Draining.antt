@@ -59,3 +59,7 @@ RunsEach e e2 =
     (settings : Settings) (m : Made) → StandsForScript settings e m
     → (run : List made.Guest) × AllZip RunsAlone m.guests run
     × StandsForScript settings e2 (record m { guests = run })
+
+-- pages alone have moved: whatever script the engine stood for, it stands for it still
+abbrev pub StaysSo : Engine → Engine → Type 0
+StaysSo e e2 = (settings : Settings) (m : Made) → StandsForScript settings e m → StandsForScript settings e2 m

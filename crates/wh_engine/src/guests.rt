@@ -7,6 +7,7 @@ ghost use Rattle.wh_host_model.specs.Lines.Settings.{Settings};
 ghost use Rattle.wh_replies.specs.View.{reply_of};
 ghost use Rattle.wh_engine.specs.Names.{number_of};
 ghost use Rattle.wh_engine.specs.Standing.{StandsForScript};
+ghost use Rattle.wh_host.specs.Backing.{KeepsBacking};
 ghost use Rattle.wh_engine.specs.Obeying.{TakesInvoke, TakesGuest};
 
 use crate::engine::Engine;
@@ -34,6 +35,7 @@ impl Engine {
             → TakesGuest settings m inst.now of (params_of given) (reply_of reply) self.new) }
         ensures err { OnErr result ((settings : Settings) (m : Made) → StandsForScript settings self.old m
             → StandsForScript settings self.new m) }
+        ensures backing { KeepsBacking self.old.host.space self.new.host.space }
     {
         let name = String::from_str(alloc, inst)?;
         self.guests.reserve(1)?;
@@ -89,6 +91,7 @@ impl Engine {
             → TakesInvoke settings m number export.now fuel args.now self.new) }
         ensures err { OnErr result ((settings : Settings) (m : Made) → StandsForScript settings self.old m
             → StandsForScript settings self.new m) }
+        ensures backing { KeepsBacking self.old.host.space self.new.host.space }
     {
         self.invoked.reserve(1)?;
         let id = self.guests[number].id;

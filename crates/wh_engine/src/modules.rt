@@ -10,6 +10,7 @@ ghost use Rattle.wh_replies.specs.View.{reply_of, why_of};
 ghost use Rattle.wh_script_model.specs.Replies.{SaysModule};
 ghost use Rattle.wh_engine.specs.Names.{number_of};
 ghost use Rattle.wh_engine.specs.Standing.{StandsForScript};
+ghost use Rattle.wh_host.specs.Backing.{KeepsBacking};
 ghost use Rattle.wh_engine.specs.Obeying.{TakesModule};
 
 use crate::engine::Engine;
@@ -68,6 +69,7 @@ impl Engine {
             → TakesModule settings m name.now bytes.now (reply_of reply) self.new) }
         ensures err { OnErr result ((settings : Settings) (m : Made) → StandsForScript settings self.old m
             → StandsForScript settings self.new m) }
+        ensures backing { KeepsBacking self.old.host.space self.new.host.space }
     {
         self.module_names.add(alloc, name, self.modules)?;
         match self.host.load(alloc, bytes) {

@@ -1,7 +1,8 @@
 // Calls that run until none can go on.
 
 ghost use Rattle.std.specs.Prelude.{◌≡◌, OnOk};
-ghost use Rattle.wh_engine.specs.Draining.{HasAdded, IsBacked, RunsEach, RunsOut};
+ghost use Rattle.wh_host.specs.Backing.{KeepsBacking};
+ghost use Rattle.wh_engine.specs.Draining.{HasAdded, IsBacked, RunsEach, RunsOut, StaysSo};
 
 use crate::engine::Engine;
 use thiserror::Error;
@@ -53,6 +54,14 @@ impl Engine {
             }
         }
         false
+    }
+
+    /// Begins a new epoch, in which no page was touched yet.
+    pub fn epoch(&mut self)
+        ensures stands { StaysSo self.old self.new }
+        ensures backing { KeepsBacking self.old.host.space self.new.host.space }
+    {
+        self.host.epoch();
     }
 
     /// Runs the calls of each instance, one instance after the other by number, in turns of so many charges, until none can

@@ -1,11 +1,18 @@
 // Pages of a script's instances that come to one frame.
 
+ghost use Rattle.wh_host.specs.Backing.{KeepsBacking};
+ghost use Rattle.wh_engine.specs.Draining.{StaysSo};
+
 use crate::engine::Engine;
 use wh_kernels::PageHash;
 
 impl Engine {
-    /// Offers all pages of all instances for sharing, each under its hash.
-    pub fn scan<H: PageHash>(&mut self, hasher: &H) {
+    /// Offers all pages of all instances for sharing, each under its hash. It is done where frames and slots are fewer than
+    /// 2^32 together, as settings have it.
+    pub fn scan<H: PageHash>(&mut self, hasher: &H)
+        ensures stands { StaysSo self.old self.new }
+        ensures backing { KeepsBacking self.old.host.space self.new.host.space }
+    {
         let _ = self.host.scan(hasher);
     }
 }

@@ -1,10 +1,5 @@
 pub mod Coming
-pub mod Hex
-pub mod Kept
-pub mod OneText
-pub mod Refusing
-pub mod Requests
-pub mod Runs
-pub mod Words
 pub mod Written
-pub mod SomeText
+pub mod Spoken
+pub mod Answering
+pub mod SoFar

@@ -1,9 +1,10 @@
 -- What a line of a script gets, and what is made then.
-use Rattle.std.specs.Prelude.{◌≡◌, ℕ, ◌⊎◌, true, List, [], ◌∷◌, ◌++◌, string_bytes}
+use Rattle.std.specs.Prelude.{◌≡◌, ℕ, ◌⊎◌, true, List, [], ◌∷◌, ◌++◌, replicate, string_bytes}
 use Rattle.wh_host_model.specs.Lines.Settings.{Settings}
 use Rattle.wh_host_model.specs.Lines.Commands.{Command, AsksCommand}
 use Rattle.wh_host_model.specs.Lines.Texts.{Reply, error}
-use Rattle.wh_host_model.specs.Lines.Made.{Made}
+use Rattle.wh_host_model.specs.Space.Errands.{tickets}
+use Rattle.wh_host_model.specs.Lines.Made.{Made, nothing_made}
 use Rattle.wh_host_model.specs.Lines.Drains.{Drains}
 use Rattle.wh_host_model.specs.Lines.Receiving.{ReceivesModule}
 use Rattle.wh_host_model.specs.Lines.Answers.{Files, IsObeyed, IsRead, AnswersLine}
@@ -89,3 +90,10 @@ TriesModule number name bytes s s2 =
     → (reply : Reply) × (m2 : Made)
     × (ReceivesModule true m name bytes reply m2 ⊎ ((reply ≡ error 5 number) × (m2 ≡ m)))
     × SpeaksBehind (reply ∷ []) (text_of s) (text_of s2) × StandsForScript settings s2.engine m2
+
+-- Nothing was made yet, on a new host, whose slots hold nothing.
+pub record IsFresh (settings : Settings) (s : Session) : Type 0 where
+  pub is : IsSession settings s nothing_made
+  pub none_out : tickets s.engine.host.space ≡ 0
+  pub held : s.engine.host.space.slots.held ≡ replicate settings.slots []
+  pub empty : text_of s ≡ []

@@ -1,5 +1,12 @@
 //! A script from its first line to its end.
 
+ghost use Rattle.std.specs.Prelude.{◌≡◌, [], IfErr, IfOk, OnOk, replicate};
+ghost use Rattle.wh_engine.specs.Draining.{IsBacked};
+ghost use Rattle.wh_settings.specs.View.{settings_of};
+ghost use Rattle.wh_script.specs.Runs.{Runs};
+ghost use Rattle.wh_script.specs.Sessions.{IsFresh, text_of};
+ghost use Rattle.wh_script.specs.Spoken.{IsSent};
+
 use crate::files::FileSource;
 use crate::lines::{Line, Lines};
 use crate::session::Session;
@@ -12,7 +19,10 @@ use wh_swap::SwapDev;
 
 impl Session {
     // A script that has made nothing, on a new host.
-    fn new(alloc: Global, settings: &Settings) -> Result<Session, ScriptFault> {
+    fn new(alloc: Global, settings: &Settings) -> Result<Session, ScriptFault>
+        ensures fresh { IfOk result (λ session. IsFresh (settings_of settings.now) session) }
+        ensures err { IfErr result (λ e. e ≡ ScriptFault.Memory) }
+    {
         let Ok(host) = Host::new(alloc, settings.frames, settings.slots, settings.tax) else {
             return Err(ScriptFault::Memory);
         };
@@ -30,7 +40,13 @@ impl Session {
     }
 
     // Writes the text, whole and at once, and begins another.
-    fn send<W: Write>(&mut self, writer: &mut W) -> Result<(), ScriptFault> {
+    fn send<W: Write>(&mut self, writer: &mut W) -> Result<(), ScriptFault>
+        ensures sent { IsSent (W.contents writer.old) (W.contents writer.new) result
+            (text_of self.old) }
+        ensures empty { OnOk result (text_of self.new ≡ []) }
+        ensures same { self.new.engine ≡ self.old.engine }
+        ensures err { IfErr result (λ e. e ≡ ScriptFault.Output) }
+    {
         if self.text.is_empty() {
             return Ok(());
         }
@@ -40,7 +56,14 @@ impl Session {
     }
 }
 
-/// Reads a script to its end, and writes the replies.
+/// Reads a script to its end, and writes what its lines get: each command is obeyed on one host with these settings, and each
+/// call is run until it ends or stands for fuel. Modules of files come from a source; pages that leave memory go to a swap
+/// device that nothing was written to yet.
+///
+/// # Errors
+/// `Script` where the reader fails, after what the lines get that it gave; `Output` where the writer fails, after a beginning
+/// of what first lines get; `Memory` where there is none for the host or the engine itself, or where lines or turns can't be
+/// counted, after what the first lines get. Want of memory for a request is answered in its reply.
 pub fn run_script<R: Read, W: Write, F: FileSource, D: SwapDev>(
     alloc: Global,
     settings: &Settings,
@@ -48,7 +71,15 @@ pub fn run_script<R: Read, W: Write, F: FileSource, D: SwapDev>(
     writer: &mut W,
     files: &mut F,
     device: &mut D,
-) -> Result<(), ScriptFault> {
+) -> Result<(), ScriptFault>
+    requires slots { D.held device.old ≡ replicate settings.now.slots [] }
+    requires keeps { D.keeps device.old }
+    requires honest { D.honest device.old }
+    // Where no call of the device failed: what the lines get was written, and nothing but reports besides.
+    ensures runs { D.faults device.new ≡ D.faults device.old
+        → Runs (settings_of settings.now) (F.may_hold files.old) (R.remaining reader.old)
+        (R.remaining reader.new) (W.contents writer.old) (W.contents writer.new) result }
+{
     let mut session = Session::new(alloc, settings)?;
     let mut lines = Lines::new(alloc)?;
     for number in 1..u64::MAX {
@@ -67,7 +98,10 @@ pub fn run_script<R: Read, W: Write, F: FileSource, D: SwapDev>(
 }
 
 /// Writes all of the bytes, or as many as the writer takes.
-fn write_whole<W: Write>(writer: &mut W, bytes: &[u8]) -> Result<(), ScriptFault> {
+fn write_whole<W: Write>(writer: &mut W, bytes: &[u8]) -> Result<(), ScriptFault>
+    ensures sent { IsSent (W.contents writer.old) (W.contents writer.new) result bytes.now }
+    ensures output { IfErr result (λ e. e ≡ ScriptFault.Output) }
+{
     let mut rest = bytes;
     for _ in 0..u64::MAX {
         if rest.is_empty() {

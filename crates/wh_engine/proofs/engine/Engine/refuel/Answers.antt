@@ -9,15 +9,15 @@ use Rattle.wh_script_model.proofs.CommandsAsked.{refuels_follow}
 use Rattle.wh_engine.proofs.Whole.{keeps_whole}
 use Rattle.wh_engine.proofs.engine.Engine.refuel.Goals as goal
 
-pub returns-in-Ok : goal.returns-in-Ok
-returns-in-Ok c settings files line m s named =
+pub returns-in-Ok-clause-obeys : goal.returns-in-Ok-clause-obeys
+returns-in-Ok-clause-obeys c settings files line m s named =
     answered_ok (refuel c.args.name.now c.args.fuel) (refuel_reply c.args.name.now) settings files line m c.args.self.now c.refuel.new.self
     (asked (λ w id answer w2. IsRefuel w id c.args.fuel answer w2) (refuel c.args.name.now c.args.fuel) (refuel_reply c.args.name.now) c.args.name.now (refuels_follow c.args.name.now c.args.fuel)
     (λ settings files m m2 line replies o. refuel_touches o) settings files line m c.args.self.now c.refuel.new.self c.index.result.now c.args.number (Ok tt)
     s named (guest_there c.args.self.now.guests.items c.args.number c.index.result.now c.requires.there c.index.ensures) c.in-Ok.ensures.asks (keeps_whole c.args.self.now.host.space c.refuel.new.self.space c.in-Ok.ensures.backing))
 
-pub returns-in-Err : goal.returns-in-Err
-returns-in-Err c settings files line m s named =
+pub returns-in-Err-clause-obeys : goal.returns-in-Err-clause-obeys
+returns-in-Err-clause-obeys c settings files line m s named =
     let did = asked (λ w id answer w2. IsRefuel w id c.args.fuel answer w2) (refuel c.args.name.now c.args.fuel) (refuel_reply c.args.name.now) c.args.name.now (refuels_follow c.args.name.now c.args.fuel)
     (λ settings files m m2 line replies o. refuel_touches o) settings files line m c.args.self.now c.refuel.new.self c.index.result.now c.args.number (Err c.in-Err.error)
     s named (guest_there c.args.self.now.guests.items c.args.number c.index.result.now c.requires.there c.index.ensures) c.in-Err.ensures.asks (keeps_whole c.args.self.now.host.space c.refuel.new.self.space c.in-Err.ensures.backing) in

@@ -7,14 +7,14 @@ use Rattle.wh_engine.proofs.Released.{goes, refuses}
 use Rattle.wh_engine.proofs.Whole.{keeps_whole}
 use Rattle.wh_engine.proofs.engine.Engine.release.Goals as goal
 
-pub returns-in-Err : goal.returns-in-Err
-returns-in-Err c settings files line m name s named =
+pub returns-in-Err-clause-obeys : goal.returns-in-Err-clause-obeys
+returns-in-Err-clause-obeys c settings files line m name s named =
     refuses settings files line m c.args.self.now name c.release.new.self c.index.result.now c.args.number c.in-Err.error s named
     (guest_there c.args.self.now.guests.items c.args.number c.index.result.now c.requires.there c.index.ensures) c.in-Err.ensures.goes
     (keeps_whole c.args.self.now.host.space c.release.new.self.space c.in-Err.ensures.backing)
 
-pub returns : goal.returns
-returns c settings files line m name s named =
+pub returns-clause-obeys : goal.returns-clause-obeys
+returns-clause-obeys c settings files line m name s named =
     let read = guest_there c.args.self.now.guests.items c.args.number c.index.result.now c.requires.there c.index.ensures in
     let written = guest_there c.args.self.now.guests.items c.args.number c.index_mut.result.now c.requires.there c.index_mut.ensures.value in
     let same = same_Some c.index.result.now c.index_mut.result.now (sym read ∙ written) in
