@@ -1,6 +1,7 @@
 // How calls are said to be.
 
-ghost use Rattle.std.specs.Prelude.{◌≡◌, ◌+◌, OnOk, string_bytes};
+ghost use Rattle.std.specs.Bool.{MatchBool};
+ghost use Rattle.std.specs.Prelude.{◌≡◌, ◌≢◌, Some, OnOk, string_bytes};
 ghost use Rattle.wh_replies.specs.View.{caller_of, status_of};
 ghost use Rattle.wh_script_model.specs.Said as said_spec;
 ghost use Rattle.wh_host_model.specs.Lines.Texts.{wants_fuel};
@@ -79,6 +80,16 @@ fn status_now(host: &Host, guest: &Guest, place: u32, said: Option<Status>) -> O
     said_of(host.call_status(guest.id, place)?)
 }
 
+// Whether this was said last.
+fn was_said(said: Option<Status>, status: Status) -> bool
+    ensures { MatchBool result (said ≡ Some status) (said ≢ Some status) }
+{
+    match said {
+        Some(last) => last == status,
+        None => false,
+    }
+}
+
 // Puts the line of a call behind a text, where it differs from the last one.
 fn say_line(
     text: &mut String,
@@ -89,7 +100,7 @@ fn say_line(
     ensures { OnOk result (SaysOf (caller_of who.entry) said status (string_bytes text.old)
         (string_bytes text.new)) }
 {
-    if said == Some(status) {
+    if was_said(said, status) {
         return Ok(());
     }
     let call = Call { who, is: status };

@@ -1,5 +1,5 @@
-use Rattle.std.proofs.Common.{refl, ap, sym, subst, ◌∙◌, option_map}
-use Rattle.std.proofs.lemmas.Option.{same_Some}
+use Rattle.std.proofs.Common.{Some, refl, ap, sym, subst, ◌∙◌, option_map}
+use Rattle.std.proofs.lemmas.Option.{same_Some, slice_get-get_or}
 use Rattle.wh_host_model.specs.Lines.Drains.{is_refused}
 use Rattle.wh_replies.specs.View.{status_of}
 use Rattle.wh_replies.specs.declared.call.Status.TheVariants.{Refused}
@@ -19,7 +19,9 @@ returns-in_ok-guest-in-TakenOn c guests v number is has =
     let place = c.in-TakenOn.place in
     let came = sym is.came ∙ ap reception_of c.in-TakenOn.is in
     let d = has i place came in
-    let same = same_Some d.0 c.in_ok-guest-in-TakenOn.guest.now (sym d.3 ∙ c.in_ok-guest-in-TakenOn.ensures.lookup) in
+    let found = c.in_ok-guest-in-TakenOn.ensures.lookup in
+    let there = slice_get-get_or c.args.guests.now i c.in_ok-guest-in-TakenOn.guest.now found.3.0 ∙ ap Some (sym found.1) in
+    let same = same_Some d.0 c.in_ok-guest-in-TakenOn.guest.now (sym d.3 ∙ there) in
     let shows = subst (λ y. ShowsCalls c.args.host.now y d.1) same d.6 in
     let s = c.status_now.ensures d.1 d.2 shows d.5 (λ gone. subst (WasSaid d.1 place d.2) (sym is.said) (d.7 gone)) in
     (s.0, s.1, λ lines says. takes_so guests number v i place d.1 d.2 (status_of s.0) lines came d.4 d.5 s.2 says)

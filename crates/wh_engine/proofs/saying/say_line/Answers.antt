@@ -5,13 +5,13 @@ use Rattle.wh_replies.specs.View.{caller_of, status_of}
 use Rattle.wh_engine.proofs.Sayings.{adds_none, adds_one, another_line, on_ok_then}
 use Rattle.wh_engine.proofs.saying.say_line.Goals as goal
 
-pub returns-then-eq : goal.returns-then-eq
-returns-then-eq c = ([], as_before (ap (option_map status_of) c.if-eq.ensures), adds_none (string_bytes c.args.text.now))
+pub returns-then-was_said : goal.returns-then-was_said
+returns-then-was_said c = ([], as_before (ap (option_map status_of) c.if-was_said.ensures), adds_none (string_bytes c.args.text.now))
 
 pub returns : goal.returns
 returns c =
     on_ok_then c.write_reply.result c.write_reply.ensures (λ e. (
       call_is (caller_of c.args.who) (status_of c.args.status) ∷ [],
-      anew (another_line c.args.said c.args.status c.if-eq.ensures),
+      anew (another_line c.args.said c.args.status c.if-was_said.ensures),
       adds_one (call_is (caller_of c.args.who) (status_of c.args.status)) (string_bytes c.args.text.now) (string_bytes c.write_reply.new.text) e,
     ))

@@ -1,0 +1,42 @@
+use Rattle.std.proofs.Common.{arith, ◌≡◌, length, ◌+◌, slice_get, get_or, Some, refl, ap, sym, subst, ◌∙◌, string_bytes}
+use Rattle.std.proofs.lemmas.List.{length-set}
+use Rattle.std.proofs.lemmas.Option.{slice_get-get_or}
+use Rattle.wh_engine.specs.declared.engine.Engine as code
+use Rattle.wh_engine.specs.declared.parts.Invoked.{Invoked}
+use Rattle.wh_engine.specs.Saying.{SaysCallOf}
+use Rattle.wh_engine.specs.Standing.{StandsForScript}
+use Rattle.wh_engine.proofs.Sayings.{with_said, no_call_said, call_said_next, calls_are_said}
+use Rattle.wh_engine.proofs.engine.Engine.say_calls.Goals as goal
+
+pub loop-at-init : goal.loop-at-init
+loop-at-init c = record {
+  same = refl;
+  many = refl;
+  so_far = λ settings m s well. no_call_said settings c.args.self.now m (string_bytes c.args.text.now) s;
+}
+
+pub index_mut-invoked-requires : goal.index_mut-invoked-requires
+index_mut-invoked-requires c = omega (arith, c.loop-at.invariant.many)
+
+pub loop-at-preserved : goal.loop-at-preserved
+loop-at-preserved c =
+    let l = c.loop-at in
+    let x = c.index_mut-invoked.result.now in
+    let read : slice_get l.self.invoked.items l.at ≡ Some x = slice_get-get_or l.self.invoked.items l.at x (omega (arith, l.invariant.many)) ∙ ap Some (sym c.index_mut-invoked.ensures.value) in
+    let host = ap (λ (e : code.Engine). e.host) l.invariant.same in
+    let guests = ap (λ (e : code.Engine). e.guests.items) l.invariant.same in
+    let says = subst (λ xs. SaysCallOf l.self.host xs (l.at + 1) x c.say_call.new.invoked (string_bytes l.text) (string_bytes c.say_call.new.text)) guests c.in_ok-say_call.ensures in
+    record {
+      same = ap (λ e. with_said e _) l.invariant.same;
+      many = length-set l.self.invoked.items l.at c.say_call.new.invoked ∙ l.invariant.many;
+      so_far = λ settings m s well.
+      call_said_next settings c.args.self.now m l.self.invoked.items l.at (l.at + 1) (string_bytes c.args.text.now) (string_bytes l.text) (string_bytes c.say_call.new.text) x c.say_call.new.invoked
+      s well (l.invariant.so_far settings m s well) read refl
+      (subst (λ h. SaysCallOf h c.args.self.now.guests.items (l.at + 1) x c.say_call.new.invoked (string_bytes l.text) (string_bytes c.say_call.new.text)) host says);
+    }
+
+pub returns : goal.returns
+returns c settings m s well =
+    let l = c.loop-at in
+    let d = calls_are_said settings c.args.self.now m l.self.invoked l.at (string_bytes c.args.text.now) (string_bytes l.text) s (l.invariant.so_far settings m s well) (omega (arith, l.invariant.many)) in
+    (d.0, d.1, d.2, d.3, subst (λ e. StandsForScript settings e (record m { invoked = d.1 })) (sym l.invariant.same) d.4)
