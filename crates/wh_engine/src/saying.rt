@@ -61,12 +61,15 @@ fn said_of(told: CallStatus) -> Option<Status>
 fn standing_so(stands_for: Option<Suspension>, charges: u64) -> Status
     ensures { IsFaultless (suspension_of stands_for) → status_of result ≡ wants_fuel charges }
 {
-    match stands_for {
-        Some(Suspension::Device(fault)) => Status::Frame {
+    let Some(suspension) = stands_for else {
+        return Status::Fuel { charges };
+    };
+    match suspension {
+        Suspension::Device(fault) => Status::Frame {
             fault: fault.number(),
             charges,
         },
-        _ => Status::Fuel { charges },
+        Suspension::Fuel | Suspension::Frame => Status::Fuel { charges },
     }
 }
 

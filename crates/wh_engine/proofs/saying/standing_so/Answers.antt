@@ -2,5 +2,6 @@ use Rattle.std.proofs.Common.{Some, ap, ◌∙◌}
 use Rattle.wh_instance.specs.Tenancy.{suspension_of}
 use Rattle.wh_engine.proofs.saying.standing_so.Goals as goal
 
-pub returns-in-Some-Device : goal.returns-in-Some-Device
-returns-in-Some-Device c faultless = absurd (faultless c.in-Some-Device.fault (ap suspension_of (c.in-Some-Device.is ∙ ap Some c.in-Some-Device.field-0-is)))
+pub returns-in-Device : goal.returns-in-Device
+returns-in-Device c faultless =
+    absurd (faultless c.in-Device.fault (ap suspension_of (c.in-Some.is ∙ ap Some c.in-Device.is)))

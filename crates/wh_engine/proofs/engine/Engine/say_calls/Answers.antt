@@ -1,6 +1,7 @@
 use Rattle.std.proofs.Common.{arith, ◌≡◌, length, ◌+◌, slice_get, get_or, Some, refl, ap, sym, subst, ◌∙◌, string_bytes}
 use Rattle.std.proofs.lemmas.List.{length-set}
 use Rattle.std.proofs.lemmas.Option.{slice_get-get_or}
+use Rattle.std.specs.Vec.{with_item}
 use Rattle.wh_engine.specs.declared.engine.Engine as code
 use Rattle.wh_engine.specs.declared.parts.Invoked.{Invoked}
 use Rattle.wh_engine.specs.Saying.{SaysCallOf}
@@ -24,10 +25,10 @@ loop-at-preserved c =
     let x = c.index_mut-invoked.result.now in
     let read : slice_get l.self.invoked.items l.at ≡ Some x = slice_get-get_or l.self.invoked.items l.at x (omega (arith, l.invariant.many)) ∙ ap Some (sym c.index_mut-invoked.ensures.value) in
     let host = ap (λ (e : code.Engine). e.host) l.invariant.same in
-    let guests = ap (λ (e : code.Engine). e.guests.items) l.invariant.same in
+    let guests = c.deref.ensures.value ∙ ap (λ (e : code.Engine). e.guests.items) l.invariant.same in
     let says = subst (λ xs. SaysCallOf l.self.host xs (l.at + 1) x c.say_call.new.invoked (string_bytes l.text) (string_bytes c.say_call.new.text)) guests c.in_ok-say_call.ensures in
     record {
-      same = ap (λ e. with_said e _) l.invariant.same;
+      same = ap (λ e. with_said e (with_item l.self.invoked l.at c.say_call.new.invoked)) l.invariant.same;
       many = length-set l.self.invoked.items l.at c.say_call.new.invoked ∙ l.invariant.many;
       so_far = λ settings m s well.
       call_said_next settings c.args.self.now m l.self.invoked.items l.at (l.at + 1) (string_bytes c.args.text.now) (string_bytes l.text) (string_bytes c.say_call.new.text) x c.say_call.new.invoked

@@ -1,5 +1,6 @@
 use Rattle.std.proofs.Common.{arith, ◌≡◌, length, slice_get, Some, refl, ap, sym, subst, ◌∙◌, string_bytes}
 use Rattle.std.proofs.lemmas.List.{length-set}
+use Rattle.std.specs.Vec.{with_item}
 use Rattle.wh_engine.specs.declared.engine.Engine as code
 use Rattle.wh_engine.specs.Saying.{SaysStartOf}
 use Rattle.wh_engine.specs.Standing.{StandsForScript}
@@ -20,7 +21,7 @@ loop-at-preserved c =
     let read = guest_there l.self.guests.items l.at c.index_mut.result.now (omega arith) c.index_mut.ensures.value in
     let host = ap (λ (e : code.Engine). e.host) l.invariant.same in
     record {
-      same = ap (λ e. with_starts e _) l.invariant.same;
+      same = ap (λ e. with_starts e (with_item l.self.guests l.at c.say_start.new.guest)) l.invariant.same;
       many = length-set l.self.guests.items l.at c.say_start.new.guest ∙ l.invariant.many;
       so_far = λ settings m s well.
       start_said_next settings c.args.self.now m l.self.guests.items l.at (string_bytes c.args.text.now) (string_bytes l.text) (string_bytes c.say_start.new.text) c.index_mut.result.now c.say_start.new.guest
