@@ -11,3 +11,6 @@ mod Offering
 mod Inputs
 mod Showings
 mod Tellings
+mod Ordering
+mod Sharings
+mod Reports

@@ -13,3 +13,5 @@ pub mod Admitting
 pub mod Sharing
 pub mod Showing
 pub mod Telling
+pub mod Reporting
+pub mod Seating

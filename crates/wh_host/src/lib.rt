@@ -16,7 +16,9 @@ mod paging_tests;
 mod parts;
 mod providing;
 mod releasing;
+mod reporting;
 mod scanning;
+mod seating;
 mod showing;
 mod telling;
 #[cfg(test)]

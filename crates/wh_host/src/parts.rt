@@ -21,6 +21,13 @@ pub struct ModuleId {
     pub number: usize,
 }
 
+/// An instance by its number, and its place.
+#[derive(Clone, Copy, Debug, PartialEq, Eq)]
+pub struct Seat {
+    pub number: u64,
+    pub place: usize,
+}
+
 /// What the owner of an instance has given it, but for the words of its input, which its store keeps.
 #[derive(Clone, Copy, Debug, PartialEq, Eq)]
 pub struct Given {

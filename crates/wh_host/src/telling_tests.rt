@@ -1,9 +1,12 @@
-//! What is told of calls.
+//! What is told of calls and in reports.
 
+use crate::paging_tests::BYTES;
 use crate::tests::{DYING, ENDLESS, SEVEN, given, host_of};
-use crate::{CallStatus, CallValue, Suspension};
+use crate::{CallStatus, CallValue, Host, Suspension};
+use std::alloc::Global;
 use std::test::Fail;
 use wh_host_model::{InstId, TurnEnd};
+use wh_kernels::FnvHash;
 use wh_model::{Trap, ValType};
 
 #[test]
@@ -73,5 +76,58 @@ fn fuel_and_ends_are_told(rt: HostRuntime) -> Result<(), Fail> {
         )
     );
     assert_eq!(rt; host.call_status(b, 1), Some(CallStatus::Dead));
+    Ok(())
+}
+
+// Stores this byte at address 0. Whether that was done.
+fn stored(alloc: Global, host: &mut Host, id: InstId, byte: i128) -> bool {
+    if host.invoke(alloc, id, "s", &[0, byte], 1000).is_err() {
+        return false;
+    }
+    host.turn(id, 1000) == TurnEnd::Ended
+}
+
+/// Three instances of one module have a page of equal bytes, and then one of them another.
+#[test]
+fn a_report_shows_how_frames_are_shared(rt: HostRuntime) -> Result<(), Fail> {
+    let alloc = rt.alloc();
+    let mut host = host_of(alloc, 1024, 4096)?;
+    let bytes = host.load(alloc, &BYTES)?;
+    let a = host.admit(alloc, bytes, given(alloc, 2, 16, 0))?;
+    let b = host.admit(alloc, bytes, given(alloc, 2, 16, 0))?;
+    let c = host.admit(alloc, bytes, given(alloc, 2, 16, 0))?;
+    assert!(rt; stored(alloc, &mut host, a, 1));
+    assert!(rt; stored(alloc, &mut host, b, 1));
+    assert!(rt; stored(alloc, &mut host, c, 1));
+    assert!(rt; host.scan(&FnvHash));
+    let text = host.report(alloc)?;
+    let want =
+        "# frames 1024 used 1 free 1023\n# slots 4096 used 0 free 4096\n# shared frames 1 sharers 3\n#     0     100     2    16     1     1     0 100/1\n#     1     100     2    16     1     1     0 100/1\n#     2     100     2    16     1     1     0 100/1\n";
+    assert_eq!(rt; text.as_str(), want);
+    host.epoch();
+    assert!(rt; stored(alloc, &mut host, a, 2));
+    let text = host.report(alloc)?;
+    let want =
+        "# frames 1024 used 2 free 1022\n# slots 4096 used 0 free 4096\n# shared frames 1 sharers 2\n#     0     100     2    16     1     1     0 100/1\n#     1     100     2    16     1     0     0 100/4\n#     2     100     2    16     1     0     0 100/4\n";
+    assert_eq!(rt; text.as_str(), want);
+    Ok(())
+}
+
+/// A place that is used again is shown by the number of who has it.
+#[test]
+fn a_report_goes_by_number(rt: HostRuntime) -> Result<(), Fail> {
+    let alloc = rt.alloc();
+    let mut host = host_of(alloc, 8, 64)?;
+    let seven = host.load(alloc, &SEVEN)?;
+    let a = host.admit(alloc, seven, given(alloc, 2, 16, 0))?;
+    let _ = host.admit(alloc, seven, given(alloc, 3, 16, 0))?;
+    let output = host.release(alloc, a)?;
+    assert_eq!(rt; output.len(), 0);
+    let c = host.admit(alloc, seven, given(alloc, 4, 16, 0))?;
+    assert_eq!(rt; c.place, a.place);
+    let text = host.report(alloc)?;
+    let want =
+        "# frames 8 used 0 free 8\n# slots 64 used 0 free 64\n# shared frames 0 sharers 0\n#     1     100     3    16     0     0     0 -\n#     2     100     4    16     0     0     0 -\n";
+    assert_eq!(rt; text.as_str(), want);
     Ok(())
 }

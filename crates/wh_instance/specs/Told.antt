@@ -42,7 +42,8 @@ waits_at es at = is_some (first_open (take at (journal_calls es)))
 abbrev pub IsToldAt : Tenant → ℕ → Option CallStatus → Type 0
 IsToldAt t at None = slice_get (journal t) at ≡ None
 IsToldAt t at (Some status) =
-    (e : Entry) × (slice_get (journal t) at ≡ Some e) × IsCallStatus status (waits_at (journal t) at) t.stands_for e.call
+    (e : Entry) × (slice_get (journal t) at ≡ Some e)
+    × IsCallStatus status (waits_at (journal t) at) t.stands_for e.call
 
 -- so for whatever instance of this module it stands, its calls being in order
 abbrev pub TellsCall : LinkedState → TenantState → ℕ → Option CallStatus → Type 0
@@ -52,7 +53,7 @@ TellsCall l x at told =
 
 -- ---- within the crate
 
--- in whatever instance of the module, such values are what a call of this function returned, the last one being this word
+-- in whatever instance of the module: what a call of this function returned, the last value being this word, is this
 abbrev pub IsReturnedAs : LinkedState → Option ℕ → Option ℕ → Option CallValue → Type 0
 IsReturnedAs l func word told =
     (c : Context) (inst : Instance) (call : Call) (vs : List Value) → IsInstance (linked_parts l) c inst

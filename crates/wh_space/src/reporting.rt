@@ -3,13 +3,15 @@
 ghost use Rattle.std.specs.Prelude.{◌≡◌, ◌+◌, ◌≤◌, length};
 ghost use Rattle.wh_host_model.specs.Frames.{tally};
 ghost use Rattle.wh_host_model.specs.Space.Claims.{active_of};
+ghost use Rattle.wh_host_model.specs.Space.Errands.{is_ticket, tickets};
 ghost use Rattle.wh_host_model.specs.Space.Parts.{pages_of};
 ghost use Rattle.wh_host_model.specs.Space.States.{count_of, swapped};
 
 use crate::claims::resident_of;
 use crate::memory::Memory;
-use wh_host_model::Page;
+use wh_host_model::{Page, Slot};
 use wh_pages::PageTable;
+use wh_swap::Slots;
 
 // 1 where the page lies in a slot, and is neither on its way there nor back.
 fn one_if_swapped(page: Page) -> u32
@@ -32,6 +34,29 @@ fn swapped_in(table: &PageTable) -> u32
         pages += one_if_swapped(table.page(at));
     }
     pages
+}
+
+// 1 where a ticket is out for the slot.
+fn one_if_ticket(used: Slot) -> u32
+    ensures is { result ≡ is_ticket used }
+    ensures one { result ≤ 1 }
+{
+    match used {
+        Slot::Vacant | Slot::Taken => 0,
+        Slot::Evicting { .. } | Slot::EvictVoid { .. } => 1,
+        Slot::Fetching { .. } | Slot::FetchVoid { .. } => 1,
+    }
+}
+
+// For how many slots tickets are out.
+fn tickets_in(slots: &Slots) -> u32
+    ensures { result ≡ tally is_ticket slots.now.uses }
+{
+    let mut tickets: u32 = 0;
+    for slot in 0..slots.len() {
+        tickets += one_if_ticket(slots.get(slot));
+    }
+    tickets
 }
 
 impl Memory {
@@ -75,5 +100,12 @@ impl Memory {
         ensures few { result.0 ≤ 65536 }
     {
         resident_of(&self.tables, place)
+    }
+
+    /// How many tickets are out, void ones included. It goes over all slots.
+    pub fn tickets(&self) -> u32
+        ensures { result ≡ tickets self.now }
+    {
+        tickets_in(&self.slots)
     }
 }

@@ -1,0 +1,161 @@
+-- The report is that of whatever host the code's stands for.
+use Rattle.std.proofs.Common.{◌≡◌, ℕ, zero, suc, ◌+◌, ◌-◌, ◌++◌, ◌<◌, ◌≤◌, Result, Ok, Err, IfOk, OnOk, Option, Some, None, List, [], ◌∷◌, length, take, get_or, slice_get, refl, sym, ap, subst, ◌∙◌, arith, true, false, Bool}
+use Rattle.std.specs.List.{All, AllByRecursion}
+use Rattle.std.proofs.lemmas.List.{append-nil, append_assoc}
+use Rattle.wh_host_model.specs.Frames.{one_if, tally}
+use Rattle.wh_host_model.specs.declared.states.Slot.{Slot}
+use Rattle.wh_host_model.specs.declared.states.Slot.TheVariants.{Vacant, Taken, Evicting, EvictVoid, Fetching, FetchVoid}
+use Rattle.wh_host_model.specs.Space.Parts.{Claimed, Occupant, Space, claim, claim_of, occupant_at}
+use Rattle.wh_host_model.specs.Space.Sound.{IsSound, IsUsed}
+use Rattle.wh_host_model.specs.Host.Worlds.{Tenant, World, promised, tenant}
+use Rattle.wh_host_model.specs.Lines.Texts.{frames_text, row_text, shared_text, slots_text}
+use Rattle.wh_host_model.proofs.Space.Putting.{there_of}
+use Rattle.wh_host_model.proofs.Tally.{length-le_from_once}
+use Rattle.wh_host.specs.declared.parts.Resident.{Resident}
+use Rattle.wh_host.specs.declared.parts.Seat.{Seat}
+use Rattle.wh_host.specs.Hosting.{AreGivenAs, HostState, IsHost, IsReached, resident_at}
+use Rattle.wh_host.specs.Reporting.{ReportsHost, all_sharers, head_text, report_text, row_in, rows_text, shared_frames}
+use Rattle.wh_host.specs.Seating.{AreInOrder, AreSeats, CanBeShown, line_row, line_text, lines_text, number_at, seated_number, seats_by}
+use Rattle.wh_host.proofs.Hosts.{found, one_value, places, some_within}
+use Rattle.wh_host.proofs.Ordering.{AreSeated, all_by, in_order, to_all, all_also, IsSeatOf}
+use Rattle.wh_host.proofs.Requests.{lives_there, sound_here}
+use Rattle.wh_host.proofs.Turns.{claimed_there}
+
+-- ---- no more slots are vacant than there are
+
+vacant_once : (s : Space) (k : ℕ) (o : Option Slot) → IsUsed s k o → tally (one_if k) s.slots.vacant ≤ 1
+vacant_once s k None used = let a = used.2 in omega (arith, a)
+vacant_once s k (Some Vacant) used = let a = used.2 in omega (arith, a)
+vacant_once s k (Some Taken) used = let a = used.2 in omega (arith, a)
+vacant_once s k (Some (Evicting i p)) used = let a = used.2 in omega (arith, a)
+vacant_once s k (Some (EvictVoid i)) used = let a = used.2 in omega (arith, a)
+vacant_once s k (Some (Fetching i p f)) used = let a = used.2 in omega (arith, a)
+vacant_once s k (Some (FetchVoid i f)) used = let a = used.2 in omega (arith, a)
+
+past_none : {A : Type 0} (xs : List A) (k : ℕ) → length xs ≤ k → slice_get xs k ≡ None
+past_none [] k past = refl
+past_none (x ∷ xs) zero past = absurd (omega (arith, past))
+past_none (x ∷ xs) (suc k) past = past_none xs k (omega (arith, past))
+
+pub few_vacant : (s : Space) → IsSound s → length s.slots.vacant ≤ length s.slots.uses
+few_vacant s sound =
+    let used = sound.slots.used in
+    length-le_from_once (length s.slots.uses) s.slots.vacant (λ k. vacant_once s k (slice_get s.slots.uses k) (used k)) (λ k past. (subst (IsUsed s k) (past_none s.slots.uses k past) (used k)).2)
+
+-- ---- who is there
+
+numbered : (o : Option Resident) (i : ℕ) → seated_number o ≡ Some i → (x : Resident) × (o ≡ Some x) × (x.number ≡ Some i)
+numbered None i is = absurd (let bad : None ≡ Some i = is in cc bad)
+numbered (Some x) i is = (x, refl, is)
+
+seated : (h : HostState) (w : World) → IsHost h w → AreSeated (number_at h.residents) (length h.space.occupants) w.tenants
+seated h w st = record {
+  there = λ i t live.
+      (let f = st.there i t live in
+      let o = lives_there h w t.place i f.0 st f.1 f.2.number in
+      (ap seated_number f.1 ∙ f.2.number, there_of h.space.occupants t.place (Some o.0) o.1));
+  all = λ place i is. (let x = numbered (resident_at h.residents place) i is in st.all place i x.0 x.1 x.2);
+}
+
+pub seats_are : (h : HostState) (seats : List Seat) → AreInOrder h.residents (length h.space.occupants) seats → AreSeats h seats
+seats_are h seats order w st = in_order (number_at h.residents) (length h.space.occupants) w.tenants seats (seated h w st) order.0 order.1
+
+-- ---- shares
+
+get_at : {A : Type 0} (xs : List (Option A)) (i : ℕ) (o : Option A) → slice_get xs i ≡ Some o → get_or xs i None ≡ o
+get_at [] i o is = absurd (let bad : None ≡ Some o = is in cc bad)
+get_at (x ∷ xs) zero o is = cc is
+get_at (x ∷ xs) (suc i) o is = get_at xs i o is
+
+shares_of : (t : Occupant) (c : Claimed) → t.live ≡ true → claim_of (Some t) ≡ Some c → c.shares ≡ t.shares
+shares_of t c live is =
+    let mine : Claimed = record { number = t.number; shares = t.shares; min = t.min; max = t.max } in
+    let z : claim_of (Some t) ≡ Some mine = rw live refl in
+    ap (λ (k : Claimed). k.shares) (one_value c mine (sym is ∙ z))
+
+-- a live instance has at most so many
+shares_few : (w : World) (i : ℕ) (t : Tenant) → IsReached w → IsSound w.space → tenant w i ≡ Some t → t.params.shares ≤ 1000000
+shares_few w i t reached sound live =
+    let claims = (places w reached).claimed i t live in
+    let o = claimed_there w.space t.place (promised i t.params) claims in
+    let mine : claim_of (Some o.0) ≡ Some (promised i t.params) = ap claim_of (sym (get_at w.space.occupants t.place (Some o.0) o.1)) ∙ claims in
+    let same = shares_of o.0 (promised i t.params) o.2 mine in
+    let has = sound.occupants.have t.place (Some o.0) o.1 in
+    let most = has.6 in
+    omega (arith, same, most)
+
+seat_shown : (h : HostState) (w : World) → IsHost h w → (seat : Seat) → IsSeatOf w.tenants seat → CanBeShown h.residents seat
+seat_shown h w st seat of x at =
+    let f = st.there seat.number of.0 of.1 in
+    let same : f.0 ≡ x = one_value f.0 x (sym f.1 ∙ ap (resident_at h.residents) of.2 ∙ at) in
+    let given = ap (λ (z : Resident). z.given.shares) same in
+    let as_given = f.2.given.shares in
+    let few = shares_few w seat.number of.0 st.reached (sound_here h w st) of.1 in
+    omega (arith, given, as_given, few)
+
+pub all_shown : (h : HostState) (w : World) (seats : List Seat) → IsHost h w → AreSeats h seats → All (CanBeShown h.residents) seats
+all_shown h w seats st are =
+    subst (All (CanBeShown h.residents)) (sym (are w st)) (to_all (CanBeShown h.residents) (seats_by 0 w.tenants) (all_also (IsSeatOf w.tenants) (CanBeShown h.residents) (seat_shown h w st) (seats_by 0 w.tenants) (all_by w.tenants)))
+
+-- ---- lines
+
+pub one_line_more : (s : Space) (rs : List (Option Resident)) (seats : List Seat) (k : ℕ) (seat : Seat) → slice_get seats k ≡ Some seat → lines_text s rs (take (suc k) seats) ≡ lines_text s rs (take k seats) ++ line_text s seat (resident_at rs seat.place)
+one_line_more s rs [] k seat is = absurd (let bad : None ≡ Some seat = is in cc bad)
+one_line_more s rs (z ∷ zs) zero seat is = let same : z ≡ seat = cc is in append-nil (line_text s z (resident_at rs z.place)) ∙ ap (λ (u : Seat). line_text s u (resident_at rs u.place)) same
+one_line_more s rs (z ∷ zs) (suc k) seat is =
+    let first = line_text s z (resident_at rs z.place) in
+    ap (λ more. first ++ more) (one_line_more s rs zs k seat is) ∙ sym (append_assoc first (lines_text s rs (take k zs)) (line_text s seat (resident_at rs seat.place)))
+
+pub line_step : (s : Space) (rs : List (Option Resident)) (seats : List Seat) (k : ℕ) (seat : Seat) (start a b : List ℕ) → slice_get seats k ≡ Some seat → a ≡ start ++ lines_text s rs (take k seats) → b ≡ a ++ line_text s seat (resident_at rs seat.place) → b ≡ start ++ lines_text s rs (take (k + 1) seats)
+line_step s rs seats k seat start a b at before more =
+    let line = line_text s seat (resident_at rs seat.place) in
+    let next : k + 1 ≡ suc k = omega arith in
+    more ∙ ap (λ q. q ++ line) before ∙ append_assoc start (lines_text s rs (take k seats)) line ∙ ap (λ q. start ++ q) (sym (one_line_more s rs seats k seat at))
+    ∙ ap (λ n. start ++ lines_text s rs (take n seats)) (sym next)
+
+same_row : (s : Space) (i : ℕ) (x : Resident) (t : Tenant) (seat : Seat) → seat ≡ record { number = i; place = t.place } → AreGivenAs x.given t.params → line_row s seat x ≡ row_in s i t
+same_row s i x t seat at is = rw at (rw is.shares (rw is.min (rw is.max refl)))
+
+rows_same : (s : Space) (rs : List (Option Resident)) (i : ℕ) (ts : List (Option Tenant)) → ((k : ℕ) (t : Tenant) → get_or ts k None ≡ Some t → (x : Resident) × (resident_at rs t.place ≡ Some x) × AreGivenAs x.given t.params) → lines_text s rs (seats_by i ts) ≡ rows_text s i ts
+rows_same s rs i [] has = refl
+rows_same s rs i (None ∷ ts) has = rows_same s rs (i + 1) ts (λ k t is. has (suc k) t is)
+rows_same s rs i (Some t ∷ ts) has =
+    let h = has 0 t refl in
+    let seat : Seat = record { number = i; place = t.place } in
+    let first : line_text s seat (resident_at rs t.place) ≡ row_text (row_in s i t) = ap (line_text s seat) h.1 ∙ ap row_text (same_row s i h.0 t seat refl h.2) in
+    let tail = rows_same s rs (i + 1) ts (λ k u is. has (suc k) u is) in
+    ap (λ a. a ++ lines_text s rs (seats_by (i + 1) ts)) first ∙ ap (λ b. row_text (row_in s i t) ++ b) tail
+
+-- ---- the first three lines
+
+pub on_ok : {A E : Type 0} (r : Result A E) (P Q : Type 0) → (P → Q) → OnOk r P → OnOk r Q
+on_ok (Ok a) P Q then h = then h
+on_ok (Err e) P Q then h = h
+
+pub if_ok : {A E : Type 0} (r : Result A E) (P Q : A → Type 0) → ((a : A) → P a → Q a) → IfOk r P → IfOk r Q
+if_ok (Ok a) P Q then h = then a h
+if_ok (Err e) P Q then h = h
+
+three_behind : (a x y z : List ℕ) → ((a ++ x) ++ y) ++ z ≡ a ++ ((x ++ y) ++ z)
+three_behind a x y z = ap (λ b. b ++ z) (append_assoc a x y) ∙ append_assoc a (x ++ y) z
+
+pub head_written : (s : Space) (frames used slots used_slots shared sharers : ℕ) (a b c d : List ℕ) → b ≡ a ++ frames_text frames used → c ≡ b ++ slots_text slots used_slots → d ≡ c ++ shared_text shared sharers
+    → frames ≡ length s.pool.frames → used ≡ length s.pool.frames - length s.pool.free → slots ≡ length s.slots.uses → used_slots ≡ length s.slots.uses - length s.slots.vacant → shared ≡ shared_frames s → sharers ≡ all_sharers s → d ≡ a ++ head_text s
+head_written s frames used slots used_slots shared sharers a b c d first second third e1 e2 e3 e4 e5 e6 =
+    let x = frames_text frames used in
+    let y = slots_text slots used_slots in
+    let z = shared_text shared sharers in
+    let all : d ≡ a ++ ((x ++ y) ++ z) = third ∙ ap (λ q. q ++ z) second ∙ ap (λ q. (q ++ y) ++ z) first ∙ three_behind a x y z in
+    let one : x ≡ frames_text (length s.pool.frames) (length s.pool.frames - length s.pool.free) = ap (λ n. frames_text n used) e1 ∙ ap (frames_text (length s.pool.frames)) e2 in
+    let two : y ≡ slots_text (length s.slots.uses) (length s.slots.uses - length s.slots.vacant) = ap (λ n. slots_text n used_slots) e3 ∙ ap (slots_text (length s.slots.uses)) e4 in
+    let tri : z ≡ shared_text (shared_frames s) (all_sharers s) = ap (λ n. shared_text n sharers) e5 ∙ ap (shared_text (shared_frames s)) e6 in
+    all ∙ ap (λ q. a ++ ((q ++ y) ++ z)) one ∙ ap (λ q. a ++ ((frames_text (length s.pool.frames) (length s.pool.frames - length s.pool.free) ++ q) ++ z)) two
+    ∙ ap (λ q. a ++ ((frames_text (length s.pool.frames) (length s.pool.frames - length s.pool.free) ++ slots_text (length s.slots.uses) (length s.slots.uses - length s.slots.vacant)) ++ q)) tri
+
+-- ---- the whole
+
+pub report_is : (h : HostState) (seats : List Seat) (text : List ℕ) → AreSeats h seats → text ≡ head_text h.space ++ lines_text h.space h.residents seats → ReportsHost h text
+report_is h seats text are is w st =
+    let here : text ≡ head_text w.space ++ lines_text w.space h.residents seats = subst (λ s. text ≡ head_text s ++ lines_text s h.residents seats) st.space is in
+    here ∙ ap (λ (zs : List Seat). head_text w.space ++ lines_text w.space h.residents zs) (are w st)
+    ∙ ap (λ b. head_text w.space ++ b) (rows_same w.space h.residents 0 w.tenants (λ k t live. let f = st.there k t live in (f.0, f.1, f.2.given)))
