@@ -3,7 +3,9 @@ use Rattle.std.proofs.Common.{◌≡◌, ℕ, ◌<◌, ◌⊎◌, ⊎_elim, true
 use Rattle.std.specs.List.{AllZip}
 use Rattle.wh_host_model.specs.Script.{is_skipped, longest_line}
 use Rattle.wh_host_model.specs.Lines.Settings.{Settings}
-use Rattle.wh_host_model.specs.Lines.Commands.{Command, keep, load, admit, invoke, AsksCommand}
+use Rattle.wh_host_model.specs.Lines.Commands.{Command, invoke, AsksCommand}
+use Rattle.wh_host_model.specs.Lines.Commands as commands
+use Rattle.wh_host.specs.Reporting.{ReportsHost}
 use Rattle.wh_host_model.specs.Lines.Texts.{Reply, error}
 use Rattle.std.proofs.lemmas.Option.{same_Some}
 use Rattle.wh_host_model.specs.Lines.Made.{Made, Guest, HasGuest, NoGuest}
@@ -23,7 +25,7 @@ use Rattle.wh_engine.specs.Saying.{AddsLines, SaysAll}
 use Rattle.wh_script.specs.declared.session.Session.{Session}
 use Rattle.wh_script.specs.Spoken.{SpeaksBehind}
 use Rattle.wh_script.specs.Sessions.{IsSession, text_of, IsDrained, GetsReply, is_obeyed, is_wanting, ObeysIt, AnswersIt, AnswersAsked, SaysIt, RefusesIt, TriesModule}
-use Rattle.wh_script.proofs.Spoken.{behind_none, behind_join, behind_lines, behind_one}
+use Rattle.wh_script.proofs.Spoken.{behind_none, behind_join, behind_lines, behind_report}
 
 -- ---- drains
 
@@ -149,3 +151,12 @@ asks_call files number i name export fuel given s s2 same named takes line read 
     let has : HasGuest m name i g = (at, ap (λ (x : Guest). x.name) (sym same_guest) ∙ who.1.1) in
     ([], t.2, answers.invoked i read asks has t.3, subst (SpeaksBehind [] (text_of s)) (sym same) (behind_none (text_of s)),
       record { stands = t.4; well = call_well true m t.2 i g export fuel given at t.3 is.well })
+
+-- ---- reports
+
+pub reports_it : (files : Files) (number : ℕ) (s s2 : Session) (report : List ℕ) → ReportsHost s.engine.host report → text_of s2 ≡ text_of s ++ report → s2.engine ≡ s.engine
+    → ObeysIt files number commands.report s s2
+reports_it files number s s2 report reports e same settings m is all =
+    let w = is.stands.world in
+    ([], m, is_obeyed answers.is_reported, behind_report w (text_of s) (text_of s2) (e ∙ ap (λ xs. text_of s ++ xs) (reports w is.stands.is)),
+      same_session settings s s2 m same is)

@@ -1,16 +1,20 @@
 -- The text that a script gets.
 use Rattle.std.specs.Prelude.{◌≡◌, ℕ, List, [], ◌∷◌, ◌++◌, Option, Result, Ok, Err}
-use Rattle.std.specs.Io.KnownBytes.{Appends, Keeps}
+use Rattle.std.specs.Io.KnownBytes.{Appends}
 use Rattle.wh_host_model.specs.Host.Worlds.{World}
 use Rattle.wh_host_model.specs.Lines.Texts.{Reply, reply_text}
+use Rattle.wh_host.specs.Reporting.{report_text}
 use Rattle.wh_engine.specs.declared.fault.ScriptFault.{ScriptFault}
-use Rattle.wh_engine.specs.declared.fault.ScriptFault.TheVariants.{Settings, Script, Output, Swap, Memory, Threads, Transcript}
+use Rattle.wh_engine.specs.declared.fault.ScriptFault.TheVariants.{Output}
 
--- The text is that of these replies, in order. Reports may stand among them, each line of which begins with `#`.
+-- The text is that of these replies, in order. Reports of hosts may stand among them, each line of which begins with
+-- `#`.
 pub data Speaks : List Reply → List ℕ → Type 0 where
   says_nothing : Speaks [] []
   says_reply : {replies : List Reply} {text : List ℕ} (reply : Reply)
       → Speaks replies text → Speaks (reply ∷ replies) (reply_text reply ++ text)
+  says_report : {replies : List Reply} {text : List ℕ} (w : World)
+      → Speaks replies text → Speaks replies (report_text w ++ text)
 
 -- so does what stands behind a text
 abbrev pub SpeaksBehind : List Reply → List ℕ → List ℕ → Type 0

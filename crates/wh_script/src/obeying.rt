@@ -74,11 +74,12 @@ impl Session {
                 module,
                 given,
             } => self.admit(inst, module, given, number),
-            Command::Invoke { .. } | Command::Drain | Command::Report => Ok(()),
+            Command::Invoke { .. } | Command::Drain => Ok(()),
             Command::Refuel { inst, fuel } => self.refuel(inst, fuel, number),
             Command::Cancel { inst } => self.cancel(inst, number),
             Command::Retry { inst } => self.retry(inst, number),
             Command::Scan => self.scan(),
+            Command::Report => self.report(),
             Command::Release { inst } => self.release(inst, number),
         }
     }
@@ -247,6 +248,22 @@ impl Session {
             HashKind::Constant => self.engine.scan(&ConstantHash),
         }
         self.say(Reply::ScanOk)
+    }
+
+    // Shows memory and instances, in lines that begin with `#`.
+    fn report(&mut self) -> Result<(), ScriptFault>
+        ensures obeys { OnOk result ((files : List ℕ → Option (List ℕ) → Bool) (number : ℕ)
+            → ObeysIt files number lines.report self.old self.new) }
+        ensures backing { KeepsBacking self.old.engine.host.space self.new.engine.host.space }
+        ensures err { IfErr result (λ e. e ≡ ScriptFault.Memory) }
+    {
+        let Ok(report) = self.engine.report(self.alloc) else {
+            return Err(ScriptFault::Memory);
+        };
+        match self.text.push_str(&report) {
+            Ok(()) => Ok(()),
+            Err(_) => Err(ScriptFault::Memory),
+        }
     }
 
     // Lets an instance go, and shows its output.
