@@ -18,7 +18,7 @@ use wh_model::{BinaryOp, CompareOp, ConvertOp, TestOp, Trap, UnaryOp, ValType};
 /// A count of an operand's bits (`iclz`, `ictz` and `ipopcnt` of the standard, 4.3.2), from 0 to N.
 ///
 /// The operand is below 2^N at the type's N.
-#[inline]
+#[inline(always)]
 #[tactic(auto, using(crate::proofs::Words::count_results), unfolding(wh_model::specs::Execution::Numbers::unary))]
 pub fn unop(width: ValType, op: UnaryOp, operand: u64) -> u64
     requires { operand < 2 ^ bits width }
@@ -37,7 +37,7 @@ pub fn unop(width: ValType, op: UnaryOp, operand: u64) -> u64
 /// The operands are below 2^N at the type's N, and so is the result. Counts of shifts and rotations are taken modulo N.
 /// A division or a remainder by 0 is [`Trap::DivideByZero`], whatever the dividend, and the signed division of the
 /// least number by -1 is [`Trap::Overflow`]; the remainder of that division is 0. The other operators never trap.
-#[inline]
+#[inline(always)]
 #[tactic(auto, using(crate::proofs::Words::results), unfolding(wh_model::specs::Execution::Numbers::binary))]
 pub fn binop(width: ValType, op: BinaryOp, left: u64, right: u64) -> Result<u64, Trap>
     requires left_fits { left < 2 ^ bits width }
@@ -65,7 +65,7 @@ pub fn binop(width: ValType, op: BinaryOp, left: u64, right: u64) -> Result<u64,
 }
 
 /// A test of one integer, of either type (`ieqz` of the standard, 4.3.2), with an i32 result: 1 if it holds, else 0.
-#[inline]
+#[inline(always)]
 #[tactic(auto, unfolding(wh_model::specs::Execution::Numbers::test, wh_model::specs::Execution::Numbers::truth))]
 pub fn testop(op: TestOp, operand: u64) -> u64
     ensures value { result ≡ test op operand }
@@ -80,7 +80,7 @@ pub fn testop(op: TestOp, operand: u64) -> u64
 /// it holds, else 0.
 ///
 /// The operands are below 2^N at the type's N.
-#[inline]
+#[inline(always)]
 #[tactic(auto, unfolding(wh_model::specs::Execution::Numbers::compare, wh_model::specs::Execution::Numbers::holds, wh_model::specs::Execution::Numbers::truth))]
 pub fn relop(width: ValType, op: CompareOp, left: u64, right: u64) -> u64
     requires left_fits { left < 2 ^ bits width }
@@ -106,7 +106,7 @@ pub fn relop(width: ValType, op: CompareOp, left: u64, right: u64) -> u64
 ///
 /// The operand is below 2^N at the N of the type that the conversion takes, and the result at that of the type that
 /// it gives.
-#[inline]
+#[inline(always)]
 #[tactic(auto, unfolding(wh_model::specs::Execution::Numbers::convert, wh_model::specs::Execution::Numbers::wrap, wh_model::specs::Execution::Numbers::extend_s, wh_model::specs::Execution::Numbers::extend_u))]
 pub fn convert(op: ConvertOp, operand: u64) -> u64
     requires { operand < 2 ^ bits (operand_type op) }
@@ -120,7 +120,7 @@ pub fn convert(op: ConvertOp, operand: u64) -> u64
     }
 }
 
-#[inline]
+#[inline(always)]
 #[tactic(auto, using(crate::proofs::Words::sums))]
 fn add(width: ValType, left: u64, right: u64) -> u64
     ensures { result ≡ iadd (bits width) left right }
@@ -128,7 +128,7 @@ fn add(width: ValType, left: u64, right: u64) -> u64
     wrap(width, left.wrapping_add(right))
 }
 
-#[inline]
+#[inline(always)]
 #[tactic(auto, using(crate::proofs::Words::sums))]
 fn sub(width: ValType, left: u64, right: u64) -> u64
     requires { right < 2 ^ bits width }
@@ -137,7 +137,7 @@ fn sub(width: ValType, left: u64, right: u64) -> u64
     wrap(width, left.wrapping_sub(right))
 }
 
-#[inline]
+#[inline(always)]
 #[tactic(auto, using(crate::proofs::Words::sums))]
 fn mul(width: ValType, left: u64, right: u64) -> u64
     ensures { result ≡ imul (bits width) left right }
@@ -145,7 +145,7 @@ fn mul(width: ValType, left: u64, right: u64) -> u64
     wrap(width, left.wrapping_mul(right))
 }
 
-#[inline]
+#[inline(always)]
 #[tactic(auto, unfolding(wh_model::specs::Execution::Numbers::idiv_u))]
 fn div_u(left: u64, right: u64) -> Result<u64, Trap>
     ensures { result ≡ idiv_u left right }
@@ -156,7 +156,7 @@ fn div_u(left: u64, right: u64) -> Result<u64, Trap>
     Ok(left / right)
 }
 
-#[inline]
+#[inline(always)]
 #[tactic(auto, using(crate::proofs::Quotients::quotients))]
 fn div_s(width: ValType, left: u64, right: u64) -> Result<u64, Trap>
     requires left_fits { left < 2 ^ bits width }
@@ -174,7 +174,7 @@ fn div_s(width: ValType, left: u64, right: u64) -> Result<u64, Trap>
     Ok(from_signed(width, dividend / divisor))
 }
 
-#[inline]
+#[inline(always)]
 #[tactic(auto, using(crate::proofs::Quotients::remainders))]
 fn rem_u(left: u64, right: u64) -> Result<u64, Trap>
     ensures { result ≡ irem_u left right }
@@ -186,7 +186,7 @@ fn rem_u(left: u64, right: u64) -> Result<u64, Trap>
 }
 
 // The least number by -1 leaves 0, where the machine's own instruction would stop.
-#[inline]
+#[inline(always)]
 #[tactic(auto, using(crate::proofs::Quotients::remainders))]
 fn rem_s(width: ValType, left: u64, right: u64) -> Result<u64, Trap>
     requires left_fits { left < 2 ^ bits width }
@@ -201,7 +201,7 @@ fn rem_s(width: ValType, left: u64, right: u64) -> Result<u64, Trap>
     Ok(from_signed(width, dividend.wrapping_rem(divisor)))
 }
 
-#[inline]
+#[inline(always)]
 #[tactic(auto, using(crate::proofs::Shifts::shifts))]
 fn shl(width: ValType, left: u64, right: u64) -> u64
     ensures { result ≡ ishl (bits width) left right }
@@ -209,7 +209,7 @@ fn shl(width: ValType, left: u64, right: u64) -> u64
     wrap(width, left << shift_count(width, right))
 }
 
-#[inline]
+#[inline(always)]
 #[tactic(auto, using(crate::proofs::Shifts::shifts))]
 fn shr_s(width: ValType, left: u64, right: u64) -> u64
     requires { left < 2 ^ bits width }
@@ -218,7 +218,7 @@ fn shr_s(width: ValType, left: u64, right: u64) -> u64
     from_signed(width, to_signed(width, left) >> shift_count(width, right))
 }
 
-#[inline]
+#[inline(always)]
 #[tactic(auto, unfolding(wh_model::specs::Execution::Numbers::ishr_u))]
 fn shr_u(width: ValType, left: u64, right: u64) -> u64
     ensures { result ≡ ishr_u (bits width) left right }
@@ -226,7 +226,7 @@ fn shr_u(width: ValType, left: u64, right: u64) -> u64
     left >> shift_count(width, right)
 }
 
-#[inline]
+#[inline(always)]
 #[tactic(auto, using(crate::proofs::Shifts::rotations))]
 fn rotl(width: ValType, left: u64, right: u64) -> u64
     requires { left < 2 ^ bits width }
@@ -239,7 +239,7 @@ fn rotl(width: ValType, left: u64, right: u64) -> u64
     }
 }
 
-#[inline]
+#[inline(always)]
 #[tactic(auto, using(crate::proofs::Shifts::rotations))]
 fn rotr(width: ValType, left: u64, right: u64) -> u64
     requires { left < 2 ^ bits width }
@@ -252,7 +252,7 @@ fn rotr(width: ValType, left: u64, right: u64) -> u64
     }
 }
 
-#[inline]
+#[inline(always)]
 #[tactic(auto, using(crate::proofs::Counts::counts))]
 fn clz(width: ValType, word: u64) -> u64
     requires { word < 2 ^ bits width }
@@ -264,7 +264,7 @@ fn clz(width: ValType, word: u64) -> u64
     }
 }
 
-#[inline]
+#[inline(always)]
 #[tactic(auto, using(crate::proofs::Counts::counts))]
 fn ctz(width: ValType, word: u64) -> u64
     requires { word < 2 ^ bits width }
@@ -277,7 +277,7 @@ fn ctz(width: ValType, word: u64) -> u64
 }
 
 /// The low bits of a word, as many as the type has.
-#[inline]
+#[inline(always)]
 fn wrap(width: ValType, word: u64) -> u64
     ensures { result ≡ word % 2 ^ bits width }
 {
@@ -288,7 +288,7 @@ fn wrap(width: ValType, word: u64) -> u64
 }
 
 /// The signed number that a word stands for.
-#[inline]
+#[inline(always)]
 #[tactic(auto, using(crate::proofs::Words::signs))]
 fn to_signed(width: ValType, word: u64) -> i64
     requires { word < 2 ^ bits width }
@@ -301,7 +301,7 @@ fn to_signed(width: ValType, word: u64) -> i64
 }
 
 /// The word that stands for a signed number.
-#[inline]
+#[inline(always)]
 #[tactic(auto, using(crate::proofs::Words::signs))]
 fn from_signed(width: ValType, number: i64) -> u64
     ensures { result ≡ unsigned (bits width) number }
@@ -310,7 +310,7 @@ fn from_signed(width: ValType, number: i64) -> u64
 }
 
 /// The least signed number of the type.
-#[inline]
+#[inline(always)]
 fn least(width: ValType) -> i64
     ensures { result ≡ neg_ℤ (pos (2 ^ (bits width - 1))) }
 {
@@ -321,7 +321,7 @@ fn least(width: ValType) -> i64
 }
 
 /// The count of a shift or a rotation, modulo the number of bits.
-#[inline]
+#[inline(always)]
 fn shift_count(width: ValType, count: u64) -> u32
     ensures { result ≡ count % bits width }
 {

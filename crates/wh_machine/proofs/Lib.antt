@@ -20,3 +20,4 @@ pub mod Progress
 pub mod Takings
 pub mod Coming
 pub mod Seeing
+pub mod Quickly

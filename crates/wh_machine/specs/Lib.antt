@@ -11,3 +11,5 @@ pub mod Opening
 pub mod Waiting
 pub mod Stepping
 pub mod Looking
+pub mod Tried
+pub mod Quick

@@ -3,6 +3,7 @@
 ghost use Rattle.std.specs.Prelude.{◌≡◌, ℕ, ◌^◌, ◌<◌, List, ◌∷◌, length};
 ghost use Rattle.wh_model.specs.declared.memory.Grown.TheVariants.{Done, Refused};
 ghost use Rattle.wh_syntax.specs.declared.instr.Instr.TheVariants.{GlobalGet, GlobalSet, Load, Store as StoreAt, MemorySize, MemoryGrow};
+ghost use Rattle.wh_machine.specs.declared.machine.Exec.TheVariants.{Charged};
 ghost use Rattle.wh_machine.specs.Alone.{ComesNextInStore, IsExecInStore, ComesNextInMemory, IsExecInMemory, FoundReadyInMemory};
 ghost use Rattle.wh_machine.specs.Waiting.{IsUncharged};
 
@@ -15,24 +16,22 @@ use wh_model::{Got, Grown, LoadOp, StoreOp, Trap};
 
 /// `global.get`
 #[inline(always)]
-pub fn exec_global_get(stack: &mut Stack, store: &Store, global: u32) -> Exec
+pub fn exec_global_get(stack: &mut Stack, store: &Store, global: u32)
     requires { ComesNextInStore stack.old store.now (GlobalGet global) }
-    ensures { IsExecInStore stack.old store.now (GlobalGet global) result stack.new store.now }
+    ensures { IsExecInStore stack.old store.now (GlobalGet global) Charged stack.new store.now }
 {
     stack.words.push(store.globals[global as usize]);
     advance(stack);
-    Exec::Charged
 }
 
 /// `global.set`
 #[inline(always)]
-pub fn exec_global_set(stack: &mut Stack, store: &mut Store, global: u32) -> Exec
+pub fn exec_global_set(stack: &mut Stack, store: &mut Store, global: u32)
     requires { ComesNextInStore stack.old store.old (GlobalSet global) }
-    ensures { IsExecInStore stack.old store.old (GlobalSet global) result stack.new store.new }
+    ensures { IsExecInStore stack.old store.old (GlobalSet global) Charged stack.new store.new }
 {
     store.globals[global as usize] = stack.words.pop();
     advance(stack);
-    Exec::Charged
 }
 
 /// `memory.size`, in pages of 65536 bytes

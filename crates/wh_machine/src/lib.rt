@@ -14,7 +14,9 @@ mod instructions;
 mod machine;
 mod opening;
 mod operands;
+mod quick;
 mod stepping;
+mod tries;
 mod variables;
 
 pub use asking::asks;

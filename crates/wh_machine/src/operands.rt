@@ -1,6 +1,6 @@
 //! Instructions on operands alone (4.4.1, 4.4.2).
 
-ghost use Rattle.std.specs.Prelude.{◌≡◌, ◌≢◌, ℕ, ◌^◌, ◌<◌, ◌⊎◌, List, ◌∷◌, Ok, Err, IfOk, IfErr};
+ghost use Rattle.std.specs.Prelude.{◌≡◌, ◌≢◌, ℕ, ◌^◌, ◌<◌, ◌⊎◌, List, ◌∷◌, Ok, Err, IfOk, IfErr, IsTrue, IsFalse};
 ghost use Rattle.wh_model.specs.Execution.Numbers as numbers;
 ghost use Rattle.wh_model.specs.Execution.Numbers.{bits};
 
@@ -89,6 +89,32 @@ pub fn binary(words: &mut ValueStack, width: ValType, op: BinaryOp) -> Result<()
             Ok(())
         }
         Err(trap) => Err(trap),
+    }
+}
+
+/// A binary operator of this type, unless it traps; whether it was done. Where it wasn't the words are as they were.
+#[inline(always)]
+pub fn try_operator(words: &mut ValueStack, width: ValType, op: BinaryOp) -> bool
+    requires { (y x : ℕ) × (rest : List ℕ) × (words.old ≡ y ∷ x ∷ rest) × (y < 2 ^ bits width)
+        × (x < 2 ^ bits width) }
+    ensures done { IsTrue result
+        → (y x : ℕ) (rest : List ℕ) → words.old ≡ y ∷ x ∷ rest
+        → (r : ℕ) × (words.new ≡ r ∷ rest) × (numbers.binary width op x y ≡ Ok r)
+        × (r < 2 ^ bits width) }
+    ensures same { IsFalse result → words.new ≡ words.old }
+{
+    let second = words.pop();
+    let first = words.pop();
+    match binop(width, op, first, second) {
+        Ok(value) => {
+            words.push(value);
+            true
+        }
+        Err(_) => {
+            words.push(first);
+            words.push(second);
+            false
+        }
     }
 }
 
