@@ -2,7 +2,6 @@
 
 ghost use Rattle.std.specs.Prelude.{◌≡◌, ◌<◌, Some, IfErr, IfOk, length, map, slice_get};
 ghost use Rattle.wh_host.specs.Rolls.{IsRollOf, bytes_in, listed_by, listed_seats, spelled_by, view_listed};
-ghost use Rattle.wh_host.specs.declared.parts.LoadedModule.{LoadedModule as OneModule};
 
 use crate::error::HostError;
 use crate::host::Host;
