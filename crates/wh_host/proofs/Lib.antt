@@ -14,3 +14,4 @@ mod Tellings
 mod Ordering
 mod Sharings
 mod Reports
+mod Enrolling

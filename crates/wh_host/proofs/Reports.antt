@@ -1,11 +1,11 @@
 -- The report is that of whatever host the code's stands for.
-use Rattle.std.proofs.Common.{◌≡◌, ℕ, zero, suc, ◌+◌, ◌-◌, ◌++◌, ◌<◌, ◌≤◌, Result, Ok, Err, IfOk, OnOk, Option, Some, None, List, [], ◌∷◌, length, take, get_or, slice_get, refl, sym, ap, subst, ◌∙◌, arith, true, false, Bool}
-use Rattle.std.specs.List.{All, AllByRecursion}
+use Rattle.std.proofs.Common.{◌≡◌, ℕ, zero, suc, ◌+◌, ◌-◌, ◌++◌, ◌≤◌, Result, Ok, Err, IfOk, OnOk, Option, Some, None, List, [], ◌∷◌, length, take, get_or, slice_get, refl, sym, ap, subst, ◌∙◌, arith, true}
+use Rattle.std.specs.List.{All}
 use Rattle.std.proofs.lemmas.List.{append-nil, append_assoc}
 use Rattle.wh_host_model.specs.Frames.{one_if, tally}
 use Rattle.wh_host_model.specs.declared.states.Slot.{Slot}
 use Rattle.wh_host_model.specs.declared.states.Slot.TheVariants.{Vacant, Taken, Evicting, EvictVoid, Fetching, FetchVoid}
-use Rattle.wh_host_model.specs.Space.Parts.{Claimed, Occupant, Space, claim, claim_of, occupant_at}
+use Rattle.wh_host_model.specs.Space.Parts.{Claimed, Occupant, Space, claim_of}
 use Rattle.wh_host_model.specs.Space.Sound.{IsSound, IsUsed}
 use Rattle.wh_host_model.specs.Host.Worlds.{Tenant, World, promised, tenant}
 use Rattle.wh_host_model.specs.Lines.Texts.{frames_text, row_text, shared_text, slots_text}
@@ -14,9 +14,9 @@ use Rattle.wh_host_model.proofs.Tally.{length-le_from_once}
 use Rattle.wh_host.specs.declared.parts.Resident.{Resident}
 use Rattle.wh_host.specs.declared.parts.Seat.{Seat}
 use Rattle.wh_host.specs.Hosting.{AreGivenAs, HostState, IsHost, IsReached, resident_at}
-use Rattle.wh_host.specs.Reporting.{ReportsHost, all_sharers, head_text, report_text, row_in, rows_text, shared_frames}
+use Rattle.wh_host.specs.Reporting.{ReportsHost, all_sharers, head_text, row_in, rows_text, shared_frames}
 use Rattle.wh_host.specs.Seating.{AreInOrder, AreSeats, CanBeShown, line_row, line_text, lines_text, number_at, seated_number, seats_by}
-use Rattle.wh_host.proofs.Hosts.{found, one_value, places, some_within}
+use Rattle.wh_host.proofs.Hosts.{one_value, places}
 use Rattle.wh_host.proofs.Ordering.{AreSeated, all_by, in_order, to_all, all_also, IsSeatOf}
 use Rattle.wh_host.proofs.Requests.{lives_there, sound_here}
 use Rattle.wh_host.proofs.Turns.{claimed_there}

@@ -1,5 +1,5 @@
 -- How many frames are shared, by what the content table has.
-use Rattle.std.proofs.Common.{◌≡◌, ℕ, zero, suc, ◌+◌, ◌<◌, ◌≤◌, min, Option, Some, None, List, [], ◌∷◌, length, take, slice_get, refl, sym, ap, subst, ◌∙◌, arith}
+use Rattle.std.proofs.Common.{◌≡◌, ℕ, zero, suc, ◌+◌, min, Some, List, [], ◌∷◌, length, slice_get, refl, sym, ap, subst, ◌∙◌, arith}
 use Rattle.wh_host_model.specs.Frames.{tally}
 use Rattle.wh_host_model.specs.declared.states.Mark.{Mark}
 use Rattle.wh_host_model.specs.declared.states.Mark.TheVariants.{Plain, Hint, Sharers}

@@ -1,18 +1,17 @@
 -- What the code has of an instance is its transcript.
-use Rattle.std.proofs.Common.{◌≡◌, ℕ, ◌++◌, List, [], ◌∷◌, Some, slice_get, refl, sym, ap, subst, ◌∙◌}
+use Rattle.std.proofs.Common.{◌≡◌, ℕ, List, Some, slice_get, refl, sym, ap, subst, ◌∙◌}
 use Rattle.wh_model.specs.Linking.Accepting.{IsAccepted}
 use Rattle.wh_model.specs.Execution.Instance.{begins, IsInitial}
 use Rattle.wh_model.specs.Execution.Replay.{Replay}
 use Rattle.wh_host_model.specs.Space.Parts.{view, wants}
-use Rattle.wh_host_model.specs.Host.Worlds.{Entry, Loaded, Params, Tenant, World, given_of, journal, journal_calls, standing_in, store_in, tenant}
+use Rattle.wh_host_model.specs.Host.Worlds.{Loaded, Params, Tenant, World, given_of, journal, journal_calls, standing_in, store_in, tenant}
 use Rattle.wh_host_model.specs.Host.Journals.{InOrder}
 use Rattle.wh_host_model.specs.Host.Laws.{IsReplayed}
 use Rattle.wh_host_model.specs.Host.Standing.{FirstStandsDuly}
 use Rattle.wh_host_model.proofs.Host.Holding.{instances_replay, journals_are_in_order, suspensions_are_right}
 use Rattle.wh_imports.specs.Joined.{LinkedState}
 use Rattle.wh_load.specs.Refusing.{view_linked}
-use Rattle.wh_journal.specs.Calls.{JournalCallState}
-use Rattle.wh_instance.specs.Tenancy.{IsTenant, RepresentsEach, TenantState}
+use Rattle.wh_instance.specs.Tenancy.{IsTenant, TenantState}
 use Rattle.wh_instance.proofs.Told.{join_each}
 use Rattle.wh_transcript.specs.Transcripts.{IsReplayable}
 use Rattle.wh_host.specs.declared.parts.Given.{Given}
@@ -25,11 +24,11 @@ use Rattle.wh_host.proofs.Inputs.{replay_inputs, standing_inputs}
 use Rattle.wh_host.proofs.Requests.{module_there}
 
 -- what it was given, by its parts
-params_by : (g : Given) (inputs : List ℕ) (p : Params) → AreGivenAs g p → inputs ≡ p.inputs → given_with g inputs ≡ p
+pub params_by : (g : Given) (inputs : List ℕ) (p : Params) → AreGivenAs g p → inputs ≡ p.inputs → given_with g inputs ≡ p
 params_by g inputs p is same = rw is.shares (rw is.min (rw is.max (rw is.fuel (rw is.base (rw is.salt (rw same refl))))))
 
 -- the words that the code has are those that were given
-inputs_are : (l : LinkedState) (limit : ℕ) (x : TenantState) (w : World) (t : Tenant) → IsTenant l limit x (view w.space t.place) t → IsReplayed w t → x.store.inputs.items ≡ t.params.inputs
+pub inputs_are : (l : LinkedState) (limit : ℕ) (x : TenantState) (w : World) (t : Tenant) → IsTenant l limit x (view w.space t.place) t → IsReplayed w t → x.store.inputs.items ≡ t.params.inputs
 inputs_are l limit x w t is r =
     let has = is.store in
     sym has.1.store.inputs ∙ sym (standing_inputs (view w.space t.place) t.rest t.doing) ∙ replay_inputs r.loaded.m (given_of t.params) (journal_calls (journal t)) (standing_in w.space t) r.replay

@@ -1,5 +1,5 @@
 -- What is told of a call of who is there.
-use Rattle.std.proofs.Common.{◌≡◌, ℕ, Option, Some, None, slice_get, sym, ap, subst, ◌∙◌}
+use Rattle.std.proofs.Common.{◌≡◌, ℕ, Option, Some, None, slice_get, ap, subst, ◌∙◌}
 use Rattle.wh_host_model.specs.declared.plain.InstId.{InstId}
 use Rattle.wh_host_model.specs.Host.Happens.{IsLive, NoInstance}
 use Rattle.wh_host_model.specs.Host.Worlds.{Tenant, World, journal}

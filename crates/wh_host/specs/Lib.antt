@@ -15,3 +15,4 @@ pub mod Showing
 pub mod Telling
 pub mod Reporting
 pub mod Seating
+pub mod Rolls

@@ -1,6 +1,6 @@
 //! The report of a host.
 
-ghost use Rattle.std.specs.Prelude.{◌≡◌, ◌++◌, ◌<◌, ◌≤◌, Some, IfErr, IfOk, OnOk, length, slice_get, string_bytes};
+ghost use Rattle.std.specs.Prelude.{◌≡◌, ◌++◌, ◌≤◌, IfErr, IfOk, OnOk, string_bytes};
 ghost use Rattle.std.specs.List.{All};
 ghost use Rattle.wh_host_model.specs.Lines.Texts.{row_text};
 ghost use Rattle.wh_host_model.specs.Space.Sound.{IsSound};
@@ -10,6 +10,7 @@ ghost use Rattle.wh_host.specs.Seating.{CanBeShown, line_row, lines_text};
 use crate::error::HostError;
 use crate::host::Host;
 use crate::parts::{Resident, Seat};
+use crate::seating::seat_at;
 use slab::Slab;
 use std::alloc::{AllocError, Global};
 use wh_replies::{Row, write_frames, write_row, write_shared, write_slots};
@@ -53,13 +54,6 @@ fn write_line(
         tax: memory.tax(),
     };
     write_row(text, row)
-}
-
-fn seat_at(seats: &[Seat], at: usize) -> Seat
-    requires { at < length seats.now }
-    ensures { slice_get seats.now at ≡ Some result }
-{
-    seats[at]
 }
 
 // Puts the lines of these instances behind a text.

@@ -1,6 +1,6 @@
 // The instances of a host by number.
 
-ghost use Rattle.std.specs.Prelude.{◌≡◌, IfOk, length};
+ghost use Rattle.std.specs.Prelude.{◌≡◌, ◌<◌, Some, IfOk, length, slice_get};
 ghost use Rattle.std.specs.List.Sorted.{IsNonDecreasingBy, IsPermutation};
 ghost use Rattle.wh_host.specs.Seating.{AreInOrder, AreSeats, number_at, seats_below};
 ghost use Rattle.wh_host.specs.declared.parts.Seat.{Seat as OneSeat};
@@ -18,6 +18,13 @@ fn number_at(residents: &Slab<Resident>, place: usize) -> Option<u64>
         Some(resident) => resident.number,
         None => None,
     }
+}
+
+pub fn seat_at(seats: &[Seat], at: usize) -> Seat
+    requires { at < length seats.now }
+    ensures { slice_get seats.now at ≡ Some result }
+{
+    seats[at]
 }
 
 // Who is there at the places below this one, by place.

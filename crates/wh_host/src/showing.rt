@@ -15,7 +15,7 @@ use wh_host_model::InstId;
 use wh_transcript::Transcript;
 
 // What the owner of an instance gave it, with these words as its input.
-fn params_of(alloc: Global, given: Given, inputs: &[u64]) -> Result<Params, AllocError>
+pub fn params_of(alloc: Global, given: Given, inputs: &[u64]) -> Result<Params, AllocError>
     ensures { IfOk result (λ params. view_params params ≡ given_with given inputs.now) }
 {
     let inputs = Vec::from_slice(alloc, inputs)?;

@@ -131,3 +131,32 @@ fn a_report_goes_by_number(rt: HostRuntime) -> Result<(), Fail> {
     assert_eq!(rt; text.as_str(), want);
     Ok(())
 }
+
+/// A roll of a module and an instance that has a call open, behind one that was released.
+#[test]
+fn a_roll_lists_what_is_there(rt: HostRuntime) -> Result<(), Fail> {
+    let alloc = rt.alloc();
+    let mut host = host_of(alloc, 1024, 4096)?;
+    let endless = host.load(alloc, &ENDLESS)?;
+    let a = host.admit(alloc, endless, given(alloc, 2, 16, 0))?;
+    let b = host.admit(alloc, endless, given(alloc, 3, 16, 0))?;
+    let output = host.release(alloc, a)?;
+    assert_eq!(rt; output.len(), 0);
+    assert_eq!(rt; host.invoke(alloc, b, "f", &[], 5), Ok(1));
+    assert_eq!(rt; host.turn(b, 1000), TurnEnd::Fuel);
+    let roll = host.roll(alloc)?;
+    assert_eq!(rt; (roll.next(), roll.tickets()), (2, 0));
+    let modules = roll.modules();
+    assert_eq!(rt; modules.len(), 1);
+    assert_eq!(rt; modules[0].as_slice(), ENDLESS.as_slice());
+    let instances = roll.instances();
+    assert_eq!(rt; instances.len(), 1);
+    let enrolled = &instances[0];
+    assert_eq!(rt; enrolled.id, b);
+    assert_eq!(rt; enrolled.of, endless);
+    assert_eq!(rt; (enrolled.params.min, enrolled.params.max), (3, 16));
+    assert_eq!(rt; (enrolled.calls, enrolled.open_calls), (2, 1));
+    assert!(rt; !enrolled.dead);
+    assert_eq!(rt; enrolled.stands_for, Some(Suspension::Fuel));
+    Ok(())
+}

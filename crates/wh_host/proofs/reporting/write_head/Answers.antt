@@ -1,4 +1,4 @@
-use Rattle.std.proofs.Common.{◌≡◌, ◌++◌, ◌≤◌, arith, string_bytes, sym, ◌∙◌}
+use Rattle.std.proofs.Common.{◌≡◌, ◌++◌, arith, string_bytes, ◌∙◌}
 use Rattle.wh_host_model.specs.Lines.Texts.{shared_text}
 use Rattle.wh_host.specs.Reporting.{head_text}
 use Rattle.wh_host.proofs.Reports.{few_vacant, head_written, on_ok}

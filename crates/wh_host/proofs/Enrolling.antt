@@ -1,0 +1,106 @@
+-- The roll is that of whatever host the code's stands for.
+use Rattle.std.proofs.Common.{◌≡◌, ℕ, zero, suc, ◌+◌, ◌++◌, Bool, Option, Some, None, List, [], ◌∷◌, length, map, take, get_or, slice_get, refl, sym, ap, subst, ◌∙◌, arith}
+use Rattle.std.proofs.lemmas.List.{append-nil, append_assoc, length-append, map-append}
+use Rattle.wh_host_model.specs.Space.Errands.{tickets}
+use Rattle.wh_host_model.specs.Host.Worlds.{Entry, Loaded, Params, Suspension, Tenant, World, journal, tenant}
+use Rattle.wh_host_model.proofs.Host.Holding.{instances_replay}
+use Rattle.wh_journal.specs.Calls.{JournalCallState}
+use Rattle.wh_instance.specs.Tenancy.{RepresentsEach, suspension_of}
+use Rattle.wh_host.specs.declared.parts.LoadedModule.{LoadedModule}
+use Rattle.wh_host.specs.declared.parts.Resident.{Resident}
+use Rattle.wh_host.specs.declared.parts.Seat.{Seat}
+use Rattle.wh_host.specs.declared.rolling.Enrolled.{Enrolled}
+use Rattle.wh_host.specs.Hosting.{HostState, IsHost, IsResident, loaded_as, resident_at}
+use Rattle.wh_host.specs.Rolls.{IsRollOf, Listed, RollState, all_listed, listed_as, listed_by, listed_in, listed_seats, spelled_by, view_listed}
+use Rattle.wh_host.specs.Seating.{AreSeats, seats_by}
+use Rattle.wh_host.specs.Showing.{given_with}
+use Rattle.wh_host.proofs.Showings.{inputs_are, params_by}
+
+-- ---- modules
+
+spelled_as : (ms : List LoadedModule) → map spelled_by ms ≡ map (λ (l : Loaded). l.bytes) (map loaded_as ms)
+spelled_as [] = refl
+spelled_as (m ∷ ms) = ap (λ more. spelled_by m ∷ more) (spelled_as ms)
+
+-- ---- one instance
+
+as_long : (cs : List JournalCallState) (es : List Entry) → RepresentsEach cs es → length cs ≡ length es
+as_long [] [] h = refl
+as_long [] (e ∷ es) h = absurd h
+as_long (c ∷ cs) [] h = absurd h
+as_long (c ∷ cs) (e ∷ es) h = ap suc (as_long cs es h.1)
+
+same_listed : (h : HostState) (w : World) (i : ℕ) (t : Tenant) (x : Resident) → IsHost h w → tenant w i ≡ Some t → IsResident h.modules x w.space i t → listed_by (record { number = i; place = t.place }) x ≡ listed_as i t
+same_listed h w i t x st live is =
+    let run = st.reached in
+    let r = instances_replay run.frames run.slots run.tax run.events w run.happen i t live in
+    let params = params_by x.given x.tenant.store.inputs.items t.params is.given (inputs_are is.loaded.linked x.page_limit x.tenant w t is.is r) in
+    let over = is.is in
+    let ended = as_long x.tenant.journal.ended t.ended over.ended in
+    let opens = as_long x.tenant.journal.open_calls t.open_calls over.open_calls in
+    let both = length-append t.ended t.open_calls in
+    let calls : length x.tenant.journal.ended + length x.tenant.journal.open_calls ≡ length (journal t) = omega (arith, ended, opens, both) in
+    let dead = over.dead in
+    let stands = sym over.stands_for in
+    let of = is.of in
+    ap (λ n. put n (given_with x.given x.tenant.store.inputs.items) (length x.tenant.journal.ended + length x.tenant.journal.open_calls) (length x.tenant.journal.open_calls) x.tenant.dead (suspension_of x.tenant.stands_for)) of
+    ∙ ap (λ p. put t.of p (length x.tenant.journal.ended + length x.tenant.journal.open_calls) (length x.tenant.journal.open_calls) x.tenant.dead (suspension_of x.tenant.stands_for)) params
+    ∙ ap (λ n. put t.of t.params n (length x.tenant.journal.open_calls) x.tenant.dead (suspension_of x.tenant.stands_for)) calls
+    ∙ ap (λ n. put t.of t.params (length (journal t)) n x.tenant.dead (suspension_of x.tenant.stands_for)) opens
+    ∙ ap (λ b. put t.of t.params (length (journal t)) (length t.open_calls) b (suspension_of x.tenant.stands_for)) dead
+    ∙ ap (put t.of t.params (length (journal t)) (length t.open_calls) t.dead) stands
+  where
+    put : ℕ → Params → ℕ → ℕ → Bool → Option Suspension → Listed
+    put of params calls opens dead stands = record { number = i; place = t.place; of = of; params = params; calls = calls; open_calls = opens; dead = dead; stands_for = stands }
+
+-- ---- all of them
+
+pub one_more_listed : (rs : List (Option Resident)) (seats : List Seat) (k : ℕ) (seat : Seat) → slice_get seats k ≡ Some seat → listed_seats rs (take (suc k) seats) ≡ listed_seats rs (take k seats) ++ listed_in seat (resident_at rs seat.place)
+one_more_listed rs [] k seat is = absurd (let bad : None ≡ Some seat = is in cc bad)
+one_more_listed rs (z ∷ zs) zero seat is = let same : z ≡ seat = cc is in append-nil (listed_in z (resident_at rs z.place)) ∙ ap (λ (u : Seat). listed_in u (resident_at rs u.place)) same
+one_more_listed rs (z ∷ zs) (suc k) seat is =
+    let first = listed_in z (resident_at rs z.place) in
+    ap (λ more. first ++ more) (one_more_listed rs zs k seat is) ∙ sym (append_assoc first (listed_seats rs (take k zs)) (listed_in seat (resident_at rs seat.place)))
+
+pub pushed_listed : (a b : List Enrolled) (e : Enrolled) (l : Listed) → b ≡ a ++ e ∷ [] → view_listed e ≡ l → map view_listed b ≡ map view_listed a ++ l ∷ []
+pushed_listed a b e l is same = ap (map view_listed) is ∙ map-append view_listed a (e ∷ []) ∙ ap (λ (z : Listed). map view_listed a ++ z ∷ []) same
+
+pub listed_step : (rs : List (Option Resident)) (seats : List Seat) (k : ℕ) (seat : Seat) (a b : List Listed) → slice_get seats k ≡ Some seat → a ≡ listed_seats rs (take k seats) → b ≡ a ++ listed_in seat (resident_at rs seat.place) → b ≡ listed_seats rs (take (k + 1) seats)
+listed_step rs seats k seat a b at before more =
+    let here = listed_in seat (resident_at rs seat.place) in
+    let next : k + 1 ≡ suc k = omega arith in
+    more ∙ ap (λ q. q ++ here) before ∙ sym (one_more_listed rs seats k seat at) ∙ ap (λ n. listed_seats rs (take n seats)) (sym next)
+
+-- who is there, as it is listed under this number
+abbrev IsListedAt : List (Option Resident) → ℕ → Tenant → Type 0
+IsListedAt rs n t = (x : Resident) × (resident_at rs t.place ≡ Some x) × (listed_by (record { number = n; place = t.place }) x ≡ listed_as n t)
+
+shifted : (rs : List (Option Resident)) (i k : ℕ) (t : Tenant) → IsListedAt rs (i + suc k) t → IsListedAt rs ((i + 1) + k) t
+shifted rs i k t h = let same : i + suc k ≡ (i + 1) + k = omega arith in subst (λ n. IsListedAt rs n t) same h
+
+all_same : (rs : List (Option Resident)) (i : ℕ) (ts : List (Option Tenant)) → ((k : ℕ) (t : Tenant) → get_or ts k None ≡ Some t → IsListedAt rs (i + k) t) → listed_seats rs (seats_by i ts) ≡ all_listed i ts
+all_same rs i [] has = refl
+all_same rs i (None ∷ ts) has = all_same rs (i + 1) ts (λ k t is. shifted rs i k t (has (suc k) t is))
+all_same rs i (Some t ∷ ts) has =
+    let zero_more : i + 0 ≡ i = omega arith in
+    let h = subst (λ n. IsListedAt rs n t) zero_more (has 0 t refl) in
+    let seat : Seat = record { number = i; place = t.place } in
+    let first : listed_in seat (resident_at rs t.place) ≡ listed_as i t ∷ [] = ap (listed_in seat) h.1 ∙ ap (λ l. l ∷ []) h.2 in
+    let tail = all_same rs (i + 1) ts (λ k u is. shifted rs i k u (has (suc k) u is)) in
+    ap (λ a. a ++ listed_seats rs (seats_by (i + 1) ts)) first ∙ ap (λ b. listed_as i t ∷ b) tail
+
+-- ---- the whole
+
+pub roll_is : (h : HostState) (seats : List Seat) (modules : List (List ℕ)) (next out : ℕ) (instances : List Listed) → AreSeats h seats → modules ≡ map spelled_by h.modules → next ≡ h.next → out ≡ tickets h.space → instances ≡ listed_seats h.residents seats
+    → IsRollOf h (record { modules = modules; next = next; tickets_out = out; instances = instances })
+roll_is h seats modules next out instances are e1 e2 e3 e4 w st =
+    let bytes : modules ≡ map (λ (l : Loaded). l.bytes) w.modules = e1 ∙ spelled_as h.modules ∙ ap (map (λ (l : Loaded). l.bytes)) st.modules in
+    let many = e2 ∙ st.next in
+    let tickets_out = e3 ∙ ap tickets st.space in
+    let zeroth : (k : ℕ) → 0 + k ≡ k = λ k. omega arith in
+    let listed : instances ≡ all_listed 0 w.tenants = e4 ∙ ap (listed_seats h.residents) (are w st) ∙ all_same h.residents 0 w.tenants (λ k t live. (let f = st.there k t live in
+    subst (λ n. IsListedAt h.residents n t) (sym (zeroth k)) (f.0, f.1, same_listed h w k t f.0 st live f.2))) in
+    ap (λ (b : List (List ℕ)). let r : RollState = record { modules = b; next = next; tickets_out = out; instances = instances } in r) bytes
+    ∙ ap (λ (n : ℕ). let r : RollState = record { modules = map (λ (l : Loaded). l.bytes) w.modules; next = n; tickets_out = out; instances = instances } in r) many
+    ∙ ap (λ (n : ℕ). let r : RollState = record { modules = map (λ (l : Loaded). l.bytes) w.modules; next = length w.tenants; tickets_out = n; instances = instances } in r) tickets_out
+    ∙ ap (λ (ls : List Listed). let r : RollState = record { modules = map (λ (l : Loaded). l.bytes) w.modules; next = length w.tenants; tickets_out = tickets w.space; instances = ls } in r) listed
