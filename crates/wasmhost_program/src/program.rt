@@ -1,6 +1,7 @@
 //! The program: words, settings, a script, replies and a status.
 
 ghost use Rattle.std.specs.Prelude.{◌≤◌};
+ghost use Rattle.wasmhost_program.specs.Written.{WritesReplies};
 
 use crate::arguments::{Arguments, Refused, read_args};
 use crate::files::{ScriptFile, SystemFiles, file_bytes};
@@ -53,7 +54,9 @@ fn run_with<R: Read, W: Write>(
     settings: &Settings,
     reader: &mut R,
     output: &mut W,
-) -> Result<(), ScriptFault> {
+) -> Result<(), ScriptFault>
+    ensures { WritesReplies (W.contents output.old) (W.contents output.new) }
+{
     // Swapping to a file isn't there yet.
     if settings.swap.is_some() {
         return Err(ScriptFault::Swap);
@@ -70,7 +73,9 @@ fn run_given<W: Write>(
     rt: &(impl Files + Input + AllocGlobal),
     given: Arguments<'_>,
     output: &mut W,
-) -> Result<(), ScriptFault> {
+) -> Result<(), ScriptFault>
+    ensures { WritesReplies (W.contents output.old) (W.contents output.new) }
+{
     let settings = settings_at(rt, given.settings)?;
     match given.script {
         Some(path) => {
@@ -102,6 +107,8 @@ pub fn answer<W: Write>(
     errors: &mut impl Write,
 ) -> u8
     ensures status { result ≤ 2 }
+    // Nothing but replies and reports is written to the output.
+    ensures replies { WritesReplies (W.contents output.old) (W.contents output.new) }
 {
     let outcome = match read_args(rt.alloc(), words) {
         Ok(given) => run_given(rt, given, output),

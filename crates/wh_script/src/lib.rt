@@ -3,6 +3,7 @@
 #![tactic(auto)]
 
 mod files;
+mod finding;
 mod lines;
 mod obeying;
 mod run;

@@ -59,7 +59,7 @@ impl Session {
         command: Command<'_>,
         number: u64,
     ) -> Result<(), ScriptFault>
-        requires { DrainsFirst command.entry }
+        requires { DrainsFirst command }
         ensures obeys { OnOk result ((asked : lines.Command) → Says command.entry asked
             → ObeysIt (F.may_hold files.old) number asked self.old self.new) }
         ensures backing { KeepsBacking self.old.engine.host.space self.new.engine.host.space }
@@ -105,7 +105,7 @@ impl Session {
             self.old self.new) }
         ensures err { IfErr result (λ e. e ≡ ScriptFault.Memory) }
     {
-        let Some(guest) = self.engine.guest_number(inst) else {
+        let Some(guest) = self.find_guest(inst) else {
             return self.refuse(device, LineError::NoName, number);
         };
         match self.engine.invoke(self.alloc, guest, export, fuel, &args) {
@@ -182,7 +182,7 @@ impl Session {
         ensures backing { KeepsBacking self.old.engine.host.space self.new.engine.host.space }
         ensures err { IfErr result (λ e. e ≡ ScriptFault.Memory) }
     {
-        let Some(of) = self.engine.module_number(module) else {
+        let Some(of) = self.find_module(module) else {
             return self.complain(LineError::NoName, number);
         };
         if self.engine.guest_number(inst).is_some() {
@@ -201,7 +201,7 @@ impl Session {
         ensures backing { KeepsBacking self.old.engine.host.space self.new.engine.host.space }
         ensures err { IfErr result (λ e. e ≡ ScriptFault.Memory) }
     {
-        let Some(guest) = self.engine.guest_number(inst) else {
+        let Some(guest) = self.find_guest(inst) else {
             return self.complain(LineError::NoName, number);
         };
         let reply = self.engine.refuel(guest, inst, fuel);
@@ -215,7 +215,7 @@ impl Session {
         ensures backing { KeepsBacking self.old.engine.host.space self.new.engine.host.space }
         ensures err { IfErr result (λ e. e ≡ ScriptFault.Memory) }
     {
-        let Some(guest) = self.engine.guest_number(inst) else {
+        let Some(guest) = self.find_guest(inst) else {
             return self.complain(LineError::NoName, number);
         };
         let reply = self.engine.cancel(guest, inst);
@@ -229,7 +229,7 @@ impl Session {
         ensures backing { KeepsBacking self.old.engine.host.space self.new.engine.host.space }
         ensures err { IfErr result (λ e. e ≡ ScriptFault.Memory) }
     {
-        let Some(guest) = self.engine.guest_number(inst) else {
+        let Some(guest) = self.find_guest(inst) else {
             return self.complain(LineError::NoName, number);
         };
         let reply = self.engine.retry(guest, inst);
@@ -273,7 +273,7 @@ impl Session {
         ensures backing { KeepsBacking self.old.engine.host.space self.new.engine.host.space }
         ensures err { IfErr result (λ e. e ≡ ScriptFault.Memory) }
     {
-        let Some(guest) = self.engine.guest_number(inst) else {
+        let Some(guest) = self.find_guest(inst) else {
             return self.complain(LineError::NoName, number);
         };
         match self.engine.release(self.alloc, guest) {
