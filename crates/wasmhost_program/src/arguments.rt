@@ -22,34 +22,16 @@ impl From<Error> for Refused {
     }
 }
 
-/// What a command line names.
-#[derive(Clone, Copy, Debug, PartialEq, Eq)]
-pub struct Arguments<'a> {
-    /// The path of the settings; without one they are the default ones.
-    pub settings: Option<&'a str>,
-    /// The path of the script; without one it is standard input.
-    pub script: Option<&'a str>,
-}
-
-/// What the words of a command line name. The first word is the program's name.
+/// The path of the script, or nothing where it is standard input. The first word is the program's name.
 ///
 /// # Errors
 /// `Line` for words that the program doesn't accept, `--help` among them; `Memory` where there is none to read them.
-pub fn read_args<'a>(alloc: Global, words: &'a [String]) -> Result<Arguments<'a>, Refused> {
-    let settings = Arg::new(alloc, "settings")
-        .long("settings")
-        .value_name("FILE")
-        .help("A document in TOML with the settings of the host");
+pub fn read_args<'a>(alloc: Global, words: &'a [String]) -> Result<Option<&'a str>, Refused> {
     let script = Arg::new(alloc, "SCRIPT").help("A file of requests; standard input without it");
     let command = Command::new(alloc, "wasmhost")
-        .about("Runs WebAssembly modules as a script of requests asks it to")
-        .arg(settings)
-        .map_err(Error::from)?
+        .about("Answers a script of requests on WebAssembly modules")
         .arg(script)
         .map_err(Error::from)?;
     let matches = command.try_get_matches_from(words)?;
-    Ok(Arguments {
-        settings: matches.get_str("settings"),
-        script: matches.get_str("SCRIPT"),
-    })
+    Ok(matches.get_str("SCRIPT"))
 }

@@ -7,7 +7,6 @@
 #![tactic(auto)]
 
 mod arguments;
-mod files;
 mod program;
 #[cfg(test)]
 mod tests;

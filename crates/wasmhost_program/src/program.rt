@@ -1,18 +1,15 @@
-//! The program: words, settings, a script, replies and a status.
+//! The program: words, a script, replies and a status.
 
 ghost use Rattle.std.specs.Prelude.{◌≤◌};
 ghost use Rattle.wasmhost_program.specs.Written.{WritesReplies};
 
-use crate::arguments::{Arguments, Refused, read_args};
-use crate::files::{ScriptFile, SystemFiles, file_bytes};
-use std::io::{ErrorKind, Read, Write};
+use crate::arguments::{Refused, read_args};
+use std::fs::File;
+use std::io::{ErrorKind, Write};
 use std::process::ExitCode;
 use std::rt::{Env, Files};
 use std::{env, io};
-use wh_engine::ScriptFault;
-use wh_script::run_script;
-use wh_settings::{Settings, SettingsError, read_settings};
-use wh_swap::MemSwap;
+use wh_script::{ScriptFault, run_script};
 
 /// The status where the whole script was answered.
 pub const ANSWERED: u8 = 0;
@@ -28,65 +25,31 @@ fn words(rt: &(impl Env + AllocGlobal)) -> io::Result<Vec<String>> {
     Ok(env::args(rt)?.collect(rt.alloc())?)
 }
 
-/// The settings in the file of a path, or the default ones.
-fn settings_at(
+/// Runs the script of this file.
+fn run_file<W: Write>(
     rt: &(impl Files + AllocGlobal),
-    path: Option<&str>,
-) -> Result<Settings, ScriptFault> {
-    let Some(path) = path else {
-        return Ok(Settings::default());
-    };
-    let bytes = match file_bytes(rt, rt.alloc(), path) {
-        Ok(Some(bytes)) => bytes,
-        Ok(None) => return Err(ScriptFault::Settings),
-        Err(_) => return Err(ScriptFault::Memory),
-    };
-    match read_settings(rt.alloc(), &bytes) {
-        Ok(settings) => Ok(settings),
-        Err(SettingsError::Invalid) => Err(ScriptFault::Settings),
-        Err(SettingsError::Memory) => Err(ScriptFault::Memory),
-    }
-}
-
-/// Runs a script with these settings, on pages that are swapped to memory.
-fn run_with<R: Read, W: Write>(
-    rt: &(impl Files + AllocGlobal),
-    settings: &Settings,
-    reader: &mut R,
+    path: &str,
     output: &mut W,
 ) -> Result<(), ScriptFault>
     ensures { WritesReplies (W.contents output.old) (W.contents output.new) }
 {
-    // Swapping to a file isn't there yet.
-    if settings.swap.is_some() {
-        return Err(ScriptFault::Swap);
-    }
-    let Ok(mut device) = MemSwap::new(rt.alloc(), settings.slots) else {
-        return Err(ScriptFault::Memory);
+    let Ok(mut file) = File::open(rt, path) else {
+        return Err(ScriptFault::Script);
     };
-    let mut files = SystemFiles { rt };
-    run_script(rt.alloc(), settings, reader, output, &mut files, &mut device)
+    run_script(rt.alloc(), &mut file, output)
 }
 
-/// Runs the script that a command line names.
+/// Runs the script of this file, or of standard input.
 fn run_given<W: Write>(
     rt: &(impl Files + Input + AllocGlobal),
-    given: Arguments<'_>,
+    script: Option<&str>,
     output: &mut W,
 ) -> Result<(), ScriptFault>
     ensures { WritesReplies (W.contents output.old) (W.contents output.new) }
 {
-    let settings = settings_at(rt, given.settings)?;
-    match given.script {
-        Some(path) => {
-            let mut script = ScriptFile {
-                rt,
-                path,
-                file: None,
-            };
-            run_with(rt, &settings, &mut script, output)
-        }
-        None => run_with(rt, &settings, &mut rt.reader(), output),
+    match script {
+        Some(path) => run_file(rt, path, output),
+        None => run_script(rt.alloc(), &mut rt.reader(), output),
     }
 }
 
@@ -107,11 +70,11 @@ pub fn answer<W: Write>(
     errors: &mut impl Write,
 ) -> u8
     ensures status { result ≤ 2 }
-    // Nothing but replies and reports is written to the output.
+    // Nothing but replies is written to the output.
     ensures replies { WritesReplies (W.contents output.old) (W.contents output.new) }
 {
     let outcome = match read_args(rt.alloc(), words) {
-        Ok(given) => run_given(rt, given, output),
+        Ok(script) => run_given(rt, script, output),
         Err(Refused::Memory) => Err(ScriptFault::Memory),
         Err(Refused::Line(error)) => {
             let _ = write!(errors, "{error}");

@@ -1,5 +1,10 @@
 pub mod Coming
+pub mod Hex
+pub mod Kept
+pub mod OneText
+pub mod Refusing
+pub mod Requests
+pub mod Runs
+pub mod Words
 pub mod Written
-pub mod Spoken
-pub mod Answering
-pub mod SoFar
+pub mod SomeText

@@ -1,5 +1,6 @@
-pub mod Sources
+pub mod Refusals
 pub mod Coming
-pub mod Spoken
-pub mod Sessions
+pub mod Commands
+pub mod Numbering
+pub mod Replies
 pub mod Runs
