@@ -3,7 +3,7 @@
 ghost use Rattle.std.specs.Prelude.{◌≡◌, ℕ, Bool, List, Option, None, IfErr, OnOk};
 ghost use Rattle.wh_engine.specs.Names.{number_of};
 ghost use Rattle.wh_commands.specs.Found.{Says, params_of};
-ghost use Rattle.wh_engine.specs.Draining.{HasAdded, IsBacked};
+ghost use Rattle.wh_engine.specs.Draining.{HasAdded, IsBacked, StaysSo};
 ghost use Rattle.wh_host.specs.Backing.{KeepsBacking};
 ghost use Rattle.wh_host_model.specs.Lines.Commands as lines;
 ghost use Rattle.wh_host_model.specs.Requests.{IsHex};
@@ -243,11 +243,20 @@ impl Session {
         ensures backing { KeepsBacking self.old.engine.host.space self.new.engine.host.space }
         ensures err { IfErr result (λ e. e ≡ ScriptFault.Memory) }
     {
+        self.merge_pages();
+        self.say(Reply::ScanOk)
+    }
+
+    // Offers all pages for sharing, under the hash of the settings.
+    fn merge_pages(&mut self)
+        ensures stands { StaysSo self.old.engine self.new.engine }
+        ensures backing { KeepsBacking self.old.engine.host.space self.new.engine.host.space }
+        ensures text { self.new.text ≡ self.old.text }
+    {
         match self.hash {
             HashKind::Fnv64 => self.engine.scan(&FnvHash),
             HashKind::Constant => self.engine.scan(&ConstantHash),
         }
-        self.say(Reply::ScanOk)
     }
 
     // Shows memory and instances, in lines that begin with `#`.

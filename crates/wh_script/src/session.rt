@@ -2,7 +2,8 @@
 
 ghost use Rattle.std.specs.Prelude.{◌≡◌, ℕ, List, IfErr, OnOk};
 ghost use Rattle.wh_commands.specs.Causes.{cause_number};
-ghost use Rattle.wh_engine.specs.Draining.{HasAdded, IsBacked};
+ghost use Rattle.wh_engine.specs.Draining.{HasAdded, IsBacked, StaysSo};
+ghost use Rattle.wh_host.specs.Backing.{KeepsBacking};
 ghost use Rattle.wh_host_model.specs.Lines.Texts.{error};
 ghost use Rattle.wh_replies.specs.View.{reply_of};
 ghost use Rattle.wh_script.specs.Coming.{IsKind};
@@ -52,6 +53,18 @@ impl Session {
         self.say(Reply::Error { cause, line })
     }
 
+    // Begins a new epoch, where some call can go on.
+    fn begin(&mut self)
+        ensures stands { StaysSo self.old.engine self.new.engine }
+        ensures backing { KeepsBacking self.old.engine.host.space self.new.engine.host.space }
+        ensures text { self.new.text ≡ self.old.text }
+    {
+        if !self.engine.can_go_on() {
+            return;
+        }
+        self.engine.epoch();
+    }
+
     /// Runs all calls until none can go on, and puts the lines of those that have another one now behind the text.
     ///
     /// # Errors
@@ -66,9 +79,7 @@ impl Session {
             → IsDrained self.old self.new) }
         ensures err { IfErr result (λ e. e ≡ ScriptFault.Memory) }
     {
-        if self.engine.can_go_on() {
-            self.engine.epoch();
-        }
+        self.begin();
         if self
             .engine
             .run(device, &mut self.buf, self.quantum)
@@ -106,7 +117,8 @@ impl Session {
         ensures err { IfErr result (λ e. e ≡ ScriptFault.Memory) }
     {
         match kind {
-            Line::End | Line::Skipped => Ok(()),
+            Line::End => Ok(()),
+            Line::Skipped => Ok(()),
             Line::TooLong => self.refuse(device, LineError::Syntax, number),
             Line::Kept => match parse(self.alloc, held) {
                 Ok(command) => self.obey(device, files, command, number),
