@@ -92,7 +92,7 @@ TriesModule number name bytes s s2 =
     × SpeaksBehind (reply ∷ []) (text_of s) (text_of s2) × StandsForScript settings s2.engine m2
 
 -- Nothing was made yet, on a new host, whose slots hold nothing.
-pub record IsFresh (settings : Settings) (s : Session) : Type 0 where
+pub record IsNewSession (settings : Settings) (s : Session) : Type 0 where
   pub is : IsSession settings s nothing_made
   pub none_out : tickets s.engine.host.space ≡ 0
   pub held : s.engine.host.space.slots.held ≡ replicate settings.slots []

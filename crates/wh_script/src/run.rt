@@ -4,7 +4,7 @@ ghost use Rattle.std.specs.Prelude.{◌≡◌, [], IfErr, IfOk, OnOk, replicate}
 ghost use Rattle.wh_engine.specs.Draining.{IsBacked};
 ghost use Rattle.wh_settings.specs.View.{settings_of};
 ghost use Rattle.wh_script.specs.Runs.{Runs};
-ghost use Rattle.wh_script.specs.Sessions.{IsFresh, text_of};
+ghost use Rattle.wh_script.specs.Sessions.{IsNewSession, text_of};
 ghost use Rattle.wh_script.specs.Spoken.{IsSent};
 
 use crate::files::FileSource;
@@ -20,7 +20,7 @@ use wh_swap::SwapDev;
 impl Session {
     // A script that has made nothing, on a new host.
     fn new(alloc: Global, settings: &Settings) -> Result<Session, ScriptFault>
-        ensures fresh { IfOk result (λ session. IsFresh (settings_of settings.now) session) }
+        ensures fresh { IfOk result (λ session. IsNewSession (settings_of settings.now) session) }
         ensures err { IfErr result (λ e. e ≡ ScriptFault.Memory) }
     {
         let Ok(host) = Host::new(alloc, settings.frames, settings.slots, settings.tax) else {
