@@ -29,7 +29,7 @@ use Rattle.wh_script_model.proofs.Drains.{drains_begin, drains_end, moves_follow
 use Rattle.wh_script_model.proofs.Turning.{turns_follow}
 use Rattle.wh_engine.specs.declared.engine.Engine.{Engine}
 use Rattle.wh_engine.specs.declared.parts.Guest.{Guest}
-use Rattle.wh_engine.specs.Draining.{IsBacked, HasAdded, BringsOn, GoesOn, IsServedAt, RunsOut, RunsEach, StaysSo}
+use Rattle.wh_engine.specs.Draining.{IsBacked, HasAdded, BringsOn, BringsFurther, IsServedAt, RunsOut, RunsEach, StaysSo}
 use Rattle.wh_engine.specs.Standing.{StandsForScript, AreGuests, IsGuest}
 use Rattle.wh_engine.specs.Names.{AreNames, number_of}
 use Rattle.wh_engine.proofs.Asked.{on_host, whole_of}
@@ -85,10 +85,10 @@ backed_keeps s s2 held keeps honest k b = record {
 
 -- ---- one turn, or one provision
 
-pub goes_nowhere : (i : ℕ) (h : HostState) → GoesOn i h h
+pub goes_nowhere : (i : ℕ) (h : HostState) → BringsFurther i h h
 goes_nowhere i h settings m places w is known = (w, is, record { known = known; others = λ j other. refl })
 
-pub goes_further : (i : ℕ) (h h1 h2 : HostState) → GoesOn i h h1 → GoesOn i h1 h2 → GoesOn i h h2
+pub goes_further : (i : ℕ) (h h1 h2 : HostState) → BringsFurther i h h1 → BringsFurther i h1 h2 → BringsFurther i h h2
 goes_further i h h1 h2 p q settings m places w is known =
     let a = p settings m places w is known in
     let b = q settings m places a.0 a.1 a.2.known in
@@ -100,7 +100,7 @@ turn_leaves w _ id q answer (of_one {t2 = t2} there turned) j other = get_or-set
 
 pub turned : (h h2 : HostState) (id : InstId) (q : ℕ) (answer : TurnEnd)
     → ((w : World) → IsHost h w → (w2 : World) × IsTurn w id q answer w2 × IsHost h2 w2)
-    → KeepsBacking h.space h2.space → GoesOn id.number h h2
+    → KeepsBacking h.space h2.space → BringsFurther id.number h h2
 turned h h2 id q answer turns keeps settings m places w is known =
     let did = turns w is in
     let reached = is.reached in
@@ -122,7 +122,7 @@ whole_moves s s2 whole none none2 = record { frames = whole.frames; slots = whol
 
 pub provided : (h h2 : HostState) (id : InstId) (left : ℕ)
     → MovesWith h id AwaitsFrame (provide_fault (Ok left)) h2 → IsAsWhole h.space h2.space → tickets h.space ≡ 0 → tickets h2.space ≡ 0
-    → GoesOn id.number h h2
+    → BringsFurther id.number h h2
 provided h h2 id left moves whole none none2 settings m places w is known =
     let did = moves w is in
     let only = only_moved w did.0 id AwaitsFrame did.1 in
@@ -180,7 +180,7 @@ is_served_at settings m places w id known at not t there =
     (λ can. not (t, (there, placed_there places w.tenants id.number id.place t known.placed at there), can))
     (followed_at w m.guests w.tenants id.number t known.guests there)
 
-pub ran_out : (h h2 : HostState) (id : InstId) → GoesOn id.number h h2 → Tells h2 false (λ w. IsGoing w id) → RunsOut id.number id.place h h2
+pub ran_out : (h h2 : HostState) (id : InstId) → BringsFurther id.number h h2 → Tells h2 false (λ w. IsGoing w id) → RunsOut id.number id.place h h2
 ran_out h h2 id goes tells settings m places w is known at =
     let did = goes settings m places w is known in
     (did.0, did.1, did.2, is_served_at settings m places did.0 id did.2.known at (tells did.0 did.1))

@@ -37,8 +37,8 @@ pub record BringsOn (settings : Settings) (m : Made) (places : List ℕ) (i : �
   pub others : (j : ℕ) → j ≢ i → tenant w2 j ≡ tenant w j
 
 -- whatever a script has made and the host stands for, it comes further so
-abbrev pub GoesOn : ℕ → HostState → HostState → Type 0
-GoesOn i h h2 =
+abbrev pub BringsFurther : ℕ → HostState → HostState → Type 0
+BringsFurther i h h2 =
     (settings : Settings) (m : Made) (places : List ℕ) (w : World) → IsHost h w → RunsKnown settings w m places
     → (w2 : World) × IsHost h2 w2 × BringsOn settings m places i w w2
 

@@ -9,7 +9,7 @@ use Rattle.wh_model.specs.Format.Syntax.{Module}
 use Rattle.wh_host_model.specs.Lines.Texts as texts
 use Rattle.wh_host_model.specs.Lines.Texts.{CallStatus, Reply}
 use Rattle.wh_host_model.specs.Lines.Made.{Guest, Invoked, Made, turned_down, taken_on, Reception, with_guest, is_open, first_open, with_first_open, cancel_first, ended_so}
-use Rattle.wh_host_model.specs.Lines.Drains.{ComesTo, RunsAlone, is_gone, has_run, open_status, status_by, call_status, SaysLine, SaysStart, has_none, has_one, SayStarts, SaysCall, is_refused, is_taken, SayCalls}
+use Rattle.wh_host_model.specs.Lines.Drains.{ComesTo, RunsAlone, is_gone, has_run, open_status, status_by, call_status, SaysLine, SaysStart, has_none, has_one, SayStarts, SaysCall, is_refused, is_taken, SayCalls, Drains}
 use Rattle.wh_host_model.proofs.Lines.Once.{end_closed}
 use Rattle.wh_script_model.specs.Said.{when_released, HasStart, IsSaid, WasSaid, AreSaid, IsAnyone, IsReleased, AllAreSaid, CallsAreThere, IsWellMade}
 
@@ -323,3 +323,21 @@ says_well m starts calls guests invoked h say_starts say_calls =
         calls = λ n i place v g c at came e released first. said_gone g place c v.said released (all.calls n i place v g c at came e tt first);
       };
     }
+
+-- ---- who is there behind a drain was there before, under the same name
+
+run_name : (g r : Guest) → RunsAlone g r → r.name ≡ g.name
+run_name g _ (is_gone gone) = refl
+run_name g _ (has_run live come replay rest) = refl
+
+said_name : (g g2 : Guest) (here : List Reply) → SaysStart g here g2 → g2.name ≡ g.name
+said_name g _ here (has_none p q) = refl
+said_name g _ here (has_one n e x) = refl
+
+pub drained_guest : (m m2 : Made) (lines : List Reply) (i : ℕ) (g2 : Guest) → Drains m lines m2 → slice_get m2.guests i ≡ Some g2
+    → (g : Guest) × (slice_get m.guests i ≡ Some g) × (g2.name ≡ g.name)
+drained_guest m m2 lines i g2 drains at =
+    let there : slice_get drains.guests i ≡ Some g2 = ap (λ (x : Made). slice_get x.guests i) (sym drains.after) ∙ at in
+    let said = said_at drains.run drains.guests drains.starts i g2 drains.say_starts there in
+    let ran = run_at m.guests drains.run i said.0 drains.each_runs said.2 in
+    (ran.0, ran.1, said_name said.0 g2 said.1 said.3 ∙ run_name ran.0 said.0 ran.2)
