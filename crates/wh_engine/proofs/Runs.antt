@@ -103,12 +103,15 @@ pub turned : (h h2 : HostState) (id : InstId) (q : ℕ) (answer : TurnEnd)
     → KeepsBacking h.space h2.space → BringsFurther id.number h h2
 turned h h2 id q answer turns keeps settings m places w is known =
     let did = turns w is in
-    let reached = is.reached in
-    (did.0, did.2, record {
-      known = turns_follow reached.frames reached.slots reached.tax reached.events w reached.happen settings m places id q answer did.0 known did.1
-          (whole_of h h2 w did.0 is did.2 (keeps_whole h.space h2.space keeps));
-      others = turn_leaves w did.0 id q answer did.1;
-    })
+    let reached = is.reached in (
+      did.0,
+      did.2,
+      record {
+        known = turns_follow reached.frames reached.slots reached.tax reached.events w reached.happen settings m places id q answer did.0 known did.1
+            (whole_of h h2 w did.0 is did.2 (keeps_whole h.space h2.space keeps));
+        others = turn_leaves w did.0 id q answer did.1;
+      },
+    )
 
 only_moved : (w w2 : World) (id : InstId) (awaits : Tenant → Type 0) → MovesPages w id awaits None w2 → OnlyMoves w w2
 only_moved w _ id awaits (moved {s2 = s2} alone why) = (s2, alone, refl)
@@ -126,12 +129,15 @@ pub provided : (h h2 : HostState) (id : InstId) (left : ℕ)
 provided h h2 id left moves whole none none2 settings m places w is known =
     let did = moves w is in
     let only = only_moved w did.0 id AwaitsFrame did.1 in
-    let reached = is.reached in
-    (did.0, did.2, record {
-      known = (moves_follow reached.frames reached.slots reached.tax reached.events w reached.happen settings m places did.0 only
-          (whole_of h h2 w did.0 is did.2 (whole_moves h.space h2.space whole none none2))).1 known;
-      others = λ j other. moves_leave w did.0 only j;
-    })
+    let reached = is.reached in (
+      did.0,
+      did.2,
+      record {
+        known = (moves_follow reached.frames reached.slots reached.tax reached.events w reached.happen settings m places did.0 only
+            (whole_of h h2 w did.0 is did.2 (whole_moves h.space h2.space whole none none2))).1 known;
+        others = λ j other. moves_leave w did.0 only j;
+      },
+    )
 
 -- ---- one that can't go on
 
@@ -218,12 +224,15 @@ runs_next e i x h h1 h2 first at out settings m w are is known =
     let a = first settings m w are is known in
     let number : x.id.number ≡ i = let n = guest_at 0 e.guests.items m.guests i x are at in omega (arith, n) in
     let place : slice_get (places_of e) x.id.number ≡ Some x.id.place = ap (slice_get (places_of e)) number ∙ placed_at e.guests.items i x at in
-    let b = out settings m (places_of e) a.0 a.1 a.2.known place in
-    (b.0, b.1, record {
-      known = b.2.known;
-      served = λ j below. served_next a.0 b.0 i j a.2.served (λ k other. b.2.others k (λ (e : k ≡ x.id.number). other (e ∙ number)))
-          (subst (IsServedAt b.0) number b.3) below (below_or_at j i below);
-    })
+    let b = out settings m (places_of e) a.0 a.1 a.2.known place in (
+      b.0,
+      b.1,
+      record {
+        known = b.2.known;
+        served = λ j below. served_next a.0 b.0 i j a.2.served (λ k other. b.2.others k (λ (e : k ≡ x.id.number). other (e ∙ number)))
+            (subst (IsServedAt b.0) number b.3) below (below_or_at j i below);
+      },
+    )
 
 -- ---- the end
 
@@ -272,18 +281,21 @@ ran_each e h2 count first all_of settings m s =
     let reached = did.1.reached in
     let all : AllServed w2 = λ i t there.
     did.2.served i (let n = within_zip (follow.IsFollowed follow.ComeFurther w2) m.guests w2.tenants i t did.2.known.guests there in
-        let k = as_many_guests 0 e.guests.items m.guests s.guests in omega arith) t there in
-    let end = drains_end reached.frames reached.slots reached.tax reached.events w2 reached.happen settings m (places_of e) did.2.known all in
-    (end.0, end.1, record {
-      world = w2;
-      is = did.1;
-      modules = s.modules;
-      knows = end.2;
-      module_names = s.module_names;
-      guest_names = subst (AreNames (number_of e.guest_names)) (sym (names_run m.guests end.0 end.1)) s.guest_names;
-      guests = run_keeps 0 e.guests.items m.guests end.0 end.1 s.guests;
-      invoked = s.invoked;
-    })
+    let k = as_many_guests 0 e.guests.items m.guests s.guests in omega arith) t there in
+    let end = drains_end reached.frames reached.slots reached.tax reached.events w2 reached.happen settings m (places_of e) did.2.known all in (
+      end.0,
+      end.1,
+      record {
+        world = w2;
+        is = did.1;
+        modules = s.modules;
+        knows = end.2;
+        module_names = s.module_names;
+        guest_names = subst (AreNames (number_of e.guest_names)) (sym (names_run m.guests end.0 end.1)) s.guest_names;
+        guests = run_keeps 0 e.guests.items m.guests end.0 end.1 s.guests;
+        invoked = s.invoked;
+      },
+    )
 
 -- ---- pages move
 

@@ -92,9 +92,16 @@ pub starts_join : (gs said : List made.Guest) (lines here : List Reply) (g g2 : 
     → SayStarts (gs ++ g ∷ []) (lines ++ here) (said ++ g2 ∷ [])
 starts_join [] said lines here g g2 p x =
     (here, [], g2, [], ap (λ xs. xs ++ here) p.0 ∙ sym (append-nil here), ap (λ xs. xs ++ g2 ∷ []) p.1, x, (refl, refl))
-starts_join (y ∷ gs) said lines here g g2 (first, rest, k, ks, l, f, z, more) x =
-    (first, rest ++ here, k, ks ++ g2 ∷ [], ap (λ xs. xs ++ here) l ∙ append_assoc first rest here, ap (λ xs. xs ++ g2 ∷ []) f, z,
-      starts_join gs ks rest here g g2 more x)
+starts_join (y ∷ gs) said lines here g g2 (first, rest, k, ks, l, f, z, more) x = (
+  first,
+  rest ++ here,
+  k,
+  ks ++ g2 ∷ [],
+  ap (λ xs. xs ++ here) l ∙ append_assoc first rest here,
+  ap (λ xs. xs ++ g2 ∷ []) f,
+  z,
+  starts_join gs ks rest here g g2 more x,
+)
 
 pub calls_join : (guests : List made.Guest) (n : ℕ) (vs said : List made.Invoked) (lines here : List Reply) (v v2 : made.Invoked) → SayCalls guests n vs lines said
     → SaysCall guests (n + length vs) v here v2 → SayCalls guests n (vs ++ v ∷ []) (lines ++ here) (said ++ v2 ∷ [])
@@ -102,9 +109,16 @@ calls_join guests n [] said lines here v v2 p x =
     let now : SaysCall guests n v here v2 = subst (λ k. SaysCall guests k v here v2) (omega arith) x in
     (here, [], v2, [], ap (λ xs. xs ++ here) p.0 ∙ sym (append-nil here), ap (λ xs. xs ++ v2 ∷ []) p.1, now, (refl, refl))
 calls_join guests n (y ∷ vs) said lines here v v2 (first, rest, k, ks, l, f, z, more) x =
-    let later : SaysCall guests (n + 1 + length vs) v here v2 = subst (λ j. SaysCall guests j v here v2) (omega arith) x in
-    (first, rest ++ here, k, ks ++ v2 ∷ [], ap (λ xs. xs ++ here) l ∙ append_assoc first rest here, ap (λ xs. xs ++ v2 ∷ []) f, z,
-      calls_join guests (n + 1) vs ks rest here v v2 more later)
+    let later : SaysCall guests (n + 1 + length vs) v here v2 = subst (λ j. SaysCall guests j v here v2) (omega arith) x in (
+      first,
+      rest ++ here,
+      k,
+      ks ++ v2 ∷ [],
+      ap (λ xs. xs ++ here) l ∙ append_assoc first rest here,
+      ap (λ xs. xs ++ v2 ∷ []) f,
+      z,
+      calls_join guests (n + 1) vs ks rest here v v2 more later,
+    )
 
 pub as_many_said : (gs said : List made.Guest) (lines : List Reply) → SayStarts gs lines said → length said ≡ length gs
 as_many_said [] said lines p = ap (λ (xs : List made.Guest). length xs) p.1
@@ -218,8 +232,8 @@ shows settings e m i x g s at placed number released = record {
   world = s.world;
   is = s.is;
   live = λ alive.
-  let d = followed_same s.world m.guests s.world.tenants i g s.knows.guests at alive in
-  (d.0, (ap (λ n. tenant s.world n) number ∙ d.1, placed_there (places_of e) s.world.tenants i x.id.place d.0 s.knows.placed placed d.1), d.2, d.3);
+      let d = followed_same s.world m.guests s.world.tenants i g s.knows.guests at alive in
+      (d.0, (ap (λ n. tenant s.world n) number ∙ d.1, placed_there (places_of e) s.world.tenants i x.id.place d.0 s.knows.placed placed d.1), d.2, d.3);
 }
 
 -- ---- starts
@@ -281,7 +295,7 @@ start_said_next settings e m xs count text now now2 x x2 s well so at says =
       says = starts_join so.taken so.said so.lines did.0 g g2 so.says did.2;
       are = subst (AreGuests 0 (slice_set xs count x2)) (sym (append_assoc so.said (g2 ∷ []) more))
           (subst (λ k. AreGuests 0 (slice_set xs k x2) (so.said ++ g2 ∷ more)) count_said
-            (guests_said 0 xs so.said more x2 g g2 are (subst (λ k. IsGuest k x2 g2) (omega (arith, count_said)) did.4)));
+          (guests_said 0 xs so.said more x2 g g2 are (subst (λ k. IsGuest k x2 g2) (omega (arith, count_said)) did.4)));
       adds = adds_more so.lines did.0 text now now2 so.adds did.3;
       placed = places_same xs count x x2 at did.5 ∙ so.placed;
     }
@@ -305,18 +319,23 @@ starts_are_said settings e m xs count text now s so end =
     let none : so.rest ≡ [] = no_length so.rest (omega (arith, n, all, so.counted)) in
     let whole : m.guests ≡ so.taken = so.split ∙ ap (λ r. so.taken ++ r) none ∙ append-nil so.taken in
     let says : SayStarts m.guests so.lines so.said = subst (λ gs. SayStarts gs so.lines so.said) (sym whole) so.says in
-    let are : AreGuests 0 xs.items so.said = subst (AreGuests 0 xs.items) (ap (λ r. so.said ++ r) none ∙ append-nil so.said) so.are in
-    (so.lines, so.said, says, so.adds, record {
-      world = s.world;
-      is = s.is;
-      modules = s.modules;
-      knows = subst (Knows settings s.world (record m { guests = so.said })) (sym so.placed)
-          (saying_follows settings s.world m (places_of e) so.lines so.said m.invoked s.knows says);
-      module_names = s.module_names;
-      guest_names = subst (AreNames (number_of e.guest_names)) (sym (names_said m.guests so.said so.lines says)) s.guest_names;
-      guests = are;
-      invoked = s.invoked;
-    })
+    let are : AreGuests 0 xs.items so.said = subst (AreGuests 0 xs.items) (ap (λ r. so.said ++ r) none ∙ append-nil so.said) so.are in (
+      so.lines,
+      so.said,
+      says,
+      so.adds,
+      record {
+        world = s.world;
+        is = s.is;
+        modules = s.modules;
+        knows = subst (Knows settings s.world (record m { guests = so.said })) (sym so.placed)
+            (saying_follows settings s.world m (places_of e) so.lines so.said m.invoked s.knows says);
+        module_names = s.module_names;
+        guest_names = subst (AreNames (number_of e.guest_names)) (sym (names_said m.guests so.said so.lines says)) s.guest_names;
+        guests = are;
+        invoked = s.invoked;
+      },
+    )
 
 -- ---- calls
 
@@ -350,9 +369,16 @@ has_its_call : (settings : Settings) (e : Engine) (m : Made) (n : ℕ) (v : made
 has_its_call settings e m n v s well at i place came =
     let d = well.there.calls n i place v at came in
     let x = code_guest 0 e.guests.items m.guests i d.0 s.guests d.2 in
-    let is : IsGuest i x.0 d.0 = subst (λ k. IsGuest k x.0 d.0) (omega arith) x.2 in
-    (x.0, d.0, d.1, x.1, d.2, d.3, shows settings e m i x.0 d.0 s d.2 (placed_at e.guests.items i x.0 x.1) is.number is.released,
-      λ gone. well.gone.calls n i place v d.0 d.1 at came d.2 gone d.3)
+    let is : IsGuest i x.0 d.0 = subst (λ k. IsGuest k x.0 d.0) (omega arith) x.2 in (
+      x.0,
+      d.0,
+      d.1,
+      x.1,
+      d.2,
+      d.3,
+      shows settings e m i x.0 d.0 s d.2 (placed_at e.guests.items i x.0 x.1) is.number is.released,
+      λ gone. well.gone.calls n i place v d.0 d.1 at came d.2 gone d.3,
+    )
 
 pub call_said_next : (settings : Settings) (e : Engine) (m : Made) (xs : List Invoked) (count number : ℕ) (text now now2 : List ℕ) (x x2 : Invoked) → StandsForScript settings e m → IsWellMade m
     → CallsSoFar m xs count text now → slice_get xs count ≡ Some x → number ≡ count + 1 → SaysCallOf e.host e.guests.items number x x2 now now2
@@ -397,26 +423,31 @@ calls_are_said settings e m xs count text now s so end =
     let all : length so.said + length so.rest ≡ length xs.items = sym (length-append so.said so.rest) ∙ sym (zip_many IsInvokedAs xs.items (so.said ++ so.rest) so.are) in
     let none : so.rest ≡ [] = no_length so.rest (omega (arith, n, all, so.counted)) in
     let whole : m.invoked ≡ so.taken = so.split ∙ ap (λ r. so.taken ++ r) none ∙ append-nil so.taken in
-    let says : SayCalls m.guests 1 m.invoked so.lines so.said = subst (λ vs. SayCalls m.guests 1 vs so.lines so.said) (sym whole) so.says in
-    (so.lines, so.said, says, so.adds, record {
-      world = s.world;
-      is = s.is;
-      modules = s.modules;
-      knows = record {
-        frames = s.knows.frames;
-        slots = s.knows.slots;
-        none_out = s.knows.none_out;
-        minima = s.knows.minima;
-        spreads = s.knows.spreads;
-        modules = s.knows.modules;
-        guests = s.knows.guests;
-        placed = s.knows.placed;
-      };
-      module_names = s.module_names;
-      guest_names = s.guest_names;
-      guests = s.guests;
-      invoked = subst (AllZip IsInvokedAs xs.items) (ap (λ r. so.said ++ r) none ∙ append-nil so.said) so.are;
-    })
+    let says : SayCalls m.guests 1 m.invoked so.lines so.said = subst (λ vs. SayCalls m.guests 1 vs so.lines so.said) (sym whole) so.says in (
+      so.lines,
+      so.said,
+      says,
+      so.adds,
+      record {
+        world = s.world;
+        is = s.is;
+        modules = s.modules;
+        knows = record {
+          frames = s.knows.frames;
+          slots = s.knows.slots;
+          none_out = s.knows.none_out;
+          minima = s.knows.minima;
+          spreads = s.knows.spreads;
+          modules = s.knows.modules;
+          guests = s.knows.guests;
+          placed = s.knows.placed;
+        };
+        module_names = s.module_names;
+        guest_names = s.guest_names;
+        guests = s.guests;
+        invoked = subst (AllZip IsInvokedAs xs.items) (ap (λ r. so.said ++ r) none ∙ append-nil so.said) so.are;
+      },
+    )
 
 -- ---- both
 
@@ -447,7 +478,7 @@ pub starts_so : (g : made.Guest) (c : Call) (name : List ℕ) (said : Option Cal
     → SaysStart g lines (record g { said = Some (call_status g 0 c) })
 starts_so g c name said status lines named before e has first says =
     has_one has first (subst (λ n. SaysLine (texts.start n) g.said (call_status g 0 c) lines) named
-      (subst (λ o. SaysLine (texts.start name) o (call_status g 0 c) lines) before (subst (λ s. SaysLine (texts.start name) said s lines) e says)))
+    (subst (λ o. SaysLine (texts.start name) o (call_status g 0 c) lines) before (subst (λ s. SaysLine (texts.start name) said s lines) e says)))
 
 pub no_start : (g : made.Guest) → ¬ (HasStart g) → (g.pieces ≡ []) × (g.m.start ≡ None)
 no_start g none = both_empty g.pieces g.m.start none

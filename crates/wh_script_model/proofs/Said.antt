@@ -178,24 +178,24 @@ pub runs_well : (m : Made) (run : List Guest) → IsWellMade m → AllZip RunsAl
 runs_well m run h all = record {
   there = record {
     starts = λ j r e.
-    let d = run_at m.guests run j r all e in
-    let c = h.there.starts j d.0 d.1 in
-    run_places d.0 r d.2 0 c.0 c.1;
+        let d = run_at m.guests run j r all e in
+        let c = h.there.starts j d.0 d.1 in
+        run_places d.0 r d.2 0 c.0 c.1;
     calls = λ n i place v at came.
-    let d = h.there.calls n i place v at came in
-    let r = ran_at m.guests run i d.0 all d.2 in
-    let c = run_places d.0 r.0 r.2 place d.1 d.3 in
-    (r.0, c.0, r.1, c.1);
+        let d = h.there.calls n i place v at came in
+        let r = ran_at m.guests run i d.0 all d.2 in
+        let c = run_places d.0 r.0 r.2 place d.1 d.3 in
+        (r.0, c.0, r.1, c.1);
   };
   gone = record {
     starts = λ j r c e released has first.
-    let d = run_at m.guests run j r all e in
-    let same = gone_before d.0 r d.2 released in
-    h.gone.starts j r c (d.1 ∙ ap Some (sym same)) released has first;
+        let d = run_at m.guests run j r all e in
+        let same = gone_before d.0 r d.2 released in
+        h.gone.starts j r c (d.1 ∙ ap Some (sym same)) released has first;
     calls = λ n i place v r c at came e released first.
-    let d = run_at m.guests run i r all e in
-    let same = gone_before d.0 r d.2 released in
-    h.gone.calls n i place v r c at came (d.1 ∙ ap Some (sym same)) released first;
+        let d = run_at m.guests run i r all e in
+        let same = gone_before d.0 r d.2 released in
+        h.gone.calls n i place v r c at came (d.1 ∙ ap Some (sym same)) released first;
   };
 }
 
@@ -272,11 +272,11 @@ pub all_said : (m : Made) (starts calls : List Reply) (guests : List Guest) (inv
     → SayCalls guests 1 m.invoked calls invoked → AllAreSaid (record m { guests = guests; invoked = invoked })
 all_said m starts calls guests invoked say_starts say_calls = record {
   starts = λ j g2 c e anyone has first.
-  let d = said_at m.guests guests starts j g2 say_starts e in
-  start_said d.0 g2 d.1 c d.3 has first;
+      let d = said_at m.guests guests starts j g2 say_starts e in
+      start_said d.0 g2 d.1 c d.3 has first;
   calls = λ n i place v g c at came e anyone first.
-  let d = calls_at guests 1 m.invoked invoked calls n v say_calls at in
-  call_said guests d.2 d.0 v d.1 i place g c d.4 came e first;
+      let d = calls_at guests 1 m.invoked invoked calls n v say_calls at in
+      call_said guests d.2 d.0 v d.1 i place g c d.4 came e first;
 }
 
 -- where only starts were said, too
@@ -284,21 +284,21 @@ pub starts_well : (m : Made) (starts : List Reply) (guests : List Guest) → IsW
 starts_well m starts guests h say_starts = record {
   there = record {
     starts = λ j g2 e.
-    let d = said_at m.guests guests starts j g2 say_starts e in
-    let c = h.there.starts j d.0 d.2 in
-    (c.0, ap (λ (xs : List Call). slice_get xs 0) (same_calls d.0 g2 d.1 d.3) ∙ c.1);
+        let d = said_at m.guests guests starts j g2 say_starts e in
+        let c = h.there.starts j d.0 d.2 in
+        (c.0, ap (λ (xs : List Call). slice_get xs 0) (same_calls d.0 g2 d.1 d.3) ∙ c.1);
     calls = λ n i place v at came.
-    let d = h.there.calls n i place v at came in
-    let r = starts_at m.guests guests starts i d.0 say_starts d.2 in
-    (r.0, d.1, r.2, ap (λ (xs : List Call). slice_get xs place) (same_calls d.0 r.0 r.1 r.3) ∙ d.3);
+        let d = h.there.calls n i place v at came in
+        let r = starts_at m.guests guests starts i d.0 say_starts d.2 in
+        (r.0, d.1, r.2, ap (λ (xs : List Call). slice_get xs place) (same_calls d.0 r.0 r.1 r.3) ∙ d.3);
   };
   gone = record {
     starts = λ j g2 c e released has first.
-    let d = said_at m.guests guests starts j g2 say_starts e in
-    said_gone g2 0 c g2.said released (start_said d.0 g2 d.1 c d.3 has first);
+        let d = said_at m.guests guests starts j g2 say_starts e in
+        said_gone g2 0 c g2.said released (start_said d.0 g2 d.1 c d.3 has first);
     calls = λ n i place v g2 c at came e released first.
-    let d = said_at m.guests guests starts i g2 say_starts e in
-    still_said d.0 g2 d.1 place c v.said d.3 released first (λ gone first_of. h.gone.calls n i place v d.0 c at came d.2 gone first_of);
+        let d = said_at m.guests guests starts i g2 say_starts e in
+        still_said d.0 g2 d.1 place c v.said d.3 released first (λ gone first_of. h.gone.calls n i place v d.0 c at came d.2 gone first_of);
   };
 }
 
@@ -309,14 +309,14 @@ says_well m starts calls guests invoked h say_starts say_calls =
     record {
       there = record {
         starts = λ j g2 e.
-        let d = said_at m.guests guests starts j g2 say_starts e in
-        let c = h.there.starts j d.0 d.2 in
-        (c.0, ap (λ (xs : List Call). slice_get xs 0) (same_calls d.0 g2 d.1 d.3) ∙ c.1);
+            let d = said_at m.guests guests starts j g2 say_starts e in
+            let c = h.there.starts j d.0 d.2 in
+            (c.0, ap (λ (xs : List Call). slice_get xs 0) (same_calls d.0 g2 d.1 d.3) ∙ c.1);
         calls = λ n i place v at came.
-        let u = calls_at guests 1 m.invoked invoked calls n v say_calls at in
-        let d = h.there.calls n i place u.0 u.3 (sym (same_reception guests u.2 u.0 v u.1 u.4) ∙ came) in
-        let r = starts_at m.guests guests starts i d.0 say_starts d.2 in
-        (r.0, d.1, r.2, ap (λ (xs : List Call). slice_get xs place) (same_calls d.0 r.0 r.1 r.3) ∙ d.3);
+            let u = calls_at guests 1 m.invoked invoked calls n v say_calls at in
+            let d = h.there.calls n i place u.0 u.3 (sym (same_reception guests u.2 u.0 v u.1 u.4) ∙ came) in
+            let r = starts_at m.guests guests starts i d.0 say_starts d.2 in
+            (r.0, d.1, r.2, ap (λ (xs : List Call). slice_get xs place) (same_calls d.0 r.0 r.1 r.3) ∙ d.3);
       };
       gone = record {
         starts = λ j g c e released has first. said_gone g 0 c g.said released (all.starts j g c e tt has first);

@@ -36,22 +36,22 @@ there_with : (guests : List Guest) (invoked : List Invoked) (i : ℕ) (g h : Gue
     → CallsAreThere guests invoked → CallsAreThere (slice_set guests i h) invoked
 there_with guests invoked i g h at keeps there = record {
   starts = λ j k e.
-  ⊎_elim
-  (λ (p : (j ≡ i) × (k ≡ h)).
-    let c = there.starts i g at in
-    let c2 = keeps 0 c.0 c.1 in
-    (c2.0, ap (λ (x : Guest). slice_get x.calls 0) p.1 ∙ c2.1))
-  (λ (q : slice_get guests j ≡ Some k). there.starts j k q)
-  (set_cases guests i j h k e);
+      ⊎_elim
+      (λ (p : (j ≡ i) × (k ≡ h)).
+      let c = there.starts i g at in
+      let c2 = keeps 0 c.0 c.1 in
+      (c2.0, ap (λ (x : Guest). slice_get x.calls 0) p.1 ∙ c2.1))
+      (λ (q : slice_get guests j ≡ Some k). there.starts j k q)
+      (set_cases guests i j h k e);
   calls = λ n j place v e came.
-  let d = there.calls n j place v e came in
-  let T : Type 0 = (k : Guest) × (c : Call) × (slice_get (slice_set guests i h) j ≡ Some k) × (slice_get k.calls place ≡ Some c) in
-  let stays : slice_get (slice_set guests i h) j ≡ Some d.0 → T = λ p. (d.0, d.1, p, d.3) in
-  let changes : (j ≡ i) × (slice_get (slice_set guests i h) j ≡ Some h) → T = λ q.
-  let same : d.0 ≡ g = same_Some d.0 g (sym d.2 ∙ ap (slice_get guests) q.0 ∙ at) in
-  let c2 = keeps place d.1 (ap (λ (x : Guest). slice_get x.calls place) (sym same) ∙ d.3) in
-  (h, c2.0, q.1, c2.1) in
-  ⊎_elim stays changes (set_there guests i j h d.0 d.2);
+      let d = there.calls n j place v e came in
+      let T : Type 0 = (k : Guest) × (c : Call) × (slice_get (slice_set guests i h) j ≡ Some k) × (slice_get k.calls place ≡ Some c) in
+      let stays : slice_get (slice_set guests i h) j ≡ Some d.0 → T = λ p. (d.0, d.1, p, d.3) in
+      let changes : (j ≡ i) × (slice_get (slice_set guests i h) j ≡ Some h) → T = λ q.
+      let same : d.0 ≡ g = same_Some d.0 g (sym d.2 ∙ ap (slice_get guests) q.0 ∙ at) in
+      let c2 = keeps place d.1 (ap (λ (x : Guest). slice_get x.calls place) (sym same) ∙ d.3) in
+      (h, c2.0, q.1, c2.1) in
+      ⊎_elim stays changes (set_there guests i j h d.0 d.2);
 }
 
 -- and nobody else is released
@@ -59,15 +59,15 @@ gone_with : (guests : List Guest) (invoked : List Invoked) (i : ℕ) (h : Guest)
     → AreSaid IsReleased WasSaid guests invoked → AreSaid IsReleased WasSaid (slice_set guests i h) invoked
 gone_with guests invoked i h live gone = record {
   starts = λ j k c e released has first.
-  ⊎_elim
-  (λ (p : (j ≡ i) × (k ≡ h)). absurd (not_released h live (ap (λ (x : Guest). x.is_released) (sym p.1) ∙ released)))
-  (λ (q : slice_get guests j ≡ Some k). gone.starts j k c q released has first)
-  (set_cases guests i j h k e);
+      ⊎_elim
+      (λ (p : (j ≡ i) × (k ≡ h)). absurd (not_released h live (ap (λ (x : Guest). x.is_released) (sym p.1) ∙ released)))
+      (λ (q : slice_get guests j ≡ Some k). gone.starts j k c q released has first)
+      (set_cases guests i j h k e);
   calls = λ n j place v k c at came e released first.
-  ⊎_elim
-  (λ (p : (j ≡ i) × (k ≡ h)). absurd (not_released h live (ap (λ (x : Guest). x.is_released) (sym p.1) ∙ released)))
-  (λ (q : slice_get guests j ≡ Some k). gone.calls n j place v k c at came q released first)
-  (set_cases guests i j h k e);
+      ⊎_elim
+      (λ (p : (j ≡ i) × (k ≡ h)). absurd (not_released h live (ap (λ (x : Guest). x.is_released) (sym p.1) ∙ released)))
+      (λ (q : slice_get guests j ≡ Some k). gone.calls n j place v k c at came q released first)
+      (set_cases guests i j h k e);
 }
 
 with_well : (m : Made) (i : ℕ) (g h : Guest) → slice_get m.guests i ≡ Some g → h.is_released ≡ false → KeepsPlaces g.calls h.calls → IsWellMade m
@@ -94,17 +94,17 @@ released_well m i g z at live replay well all =
       there = there_with m.guests m.invoked i g h at (places_stay g.calls) well.there;
       gone = record {
         starts = λ j k c e released has first.
-        let here : (j ≡ i) × (k ≡ h) → WasSaid k 0 c k.said = λ p.
-        let first_of : slice_get g.calls 0 ≡ Some c = ap (λ (x : Guest). slice_get x.calls 0) (sym p.1) ∙ first in
-        let has_of : HasStart g = λ nothing. has (subst (λ (x : Guest). (x.pieces ≡ []) × (x.m.start ≡ None)) (sym p.1) nothing) in
-        subst (λ (x : Guest). WasSaid x 0 c x.said) (sym p.1) (was_said g z 0 c g.said live replay first_of (all.starts i g c at tt has_of first_of)) in
-        ⊎_elim here (λ (q : slice_get m.guests j ≡ Some k). well.gone.starts j k c q released has first) (set_cases m.guests i j h k e);
+            let here : (j ≡ i) × (k ≡ h) → WasSaid k 0 c k.said = λ p.
+            let first_of : slice_get g.calls 0 ≡ Some c = ap (λ (x : Guest). slice_get x.calls 0) (sym p.1) ∙ first in
+            let has_of : HasStart g = λ nothing. has (subst (λ (x : Guest). (x.pieces ≡ []) × (x.m.start ≡ None)) (sym p.1) nothing) in
+            subst (λ (x : Guest). WasSaid x 0 c x.said) (sym p.1) (was_said g z 0 c g.said live replay first_of (all.starts i g c at tt has_of first_of)) in
+            ⊎_elim here (λ (q : slice_get m.guests j ≡ Some k). well.gone.starts j k c q released has first) (set_cases m.guests i j h k e);
         calls = λ n j place v k c at_v came e released first.
-        let here : (j ≡ i) × (k ≡ h) → WasSaid k place c v.said = λ p.
-        let first_of : slice_get g.calls place ≡ Some c = ap (λ (x : Guest). slice_get x.calls place) (sym p.1) ∙ first in
-        let came_of : v.came ≡ taken_on i place = came ∙ ap (λ x. taken_on x place) p.0 in
-        subst (λ (x : Guest). WasSaid x place c v.said) (sym p.1) (was_said g z place c v.said live replay first_of (all.calls n i place v g c at_v came_of at tt first_of)) in
-        ⊎_elim here (λ (q : slice_get m.guests j ≡ Some k). well.gone.calls n j place v k c at_v came q released first) (set_cases m.guests i j h k e);
+            let here : (j ≡ i) × (k ≡ h) → WasSaid k place c v.said = λ p.
+            let first_of : slice_get g.calls place ≡ Some c = ap (λ (x : Guest). slice_get x.calls place) (sym p.1) ∙ first in
+            let came_of : v.came ≡ taken_on i place = came ∙ ap (λ x. taken_on x place) p.0 in
+            subst (λ (x : Guest). WasSaid x place c v.said) (sym p.1) (was_said g z place c v.said live replay first_of (all.calls n i place v g c at_v came_of at tt first_of)) in
+            ⊎_elim here (λ (q : slice_get m.guests j ≡ Some k). well.gone.calls n j place v k c at_v came q released first) (set_cases m.guests i j h k e);
       };
     }
 
@@ -122,25 +122,25 @@ one_more_guest : (m : Made) (h : Guest) (c : Call) → slice_get h.calls 0 ≡ S
 one_more_guest m h c first_of live well = record {
   there = record {
     starts = λ j k e.
-    ⊎_elim
-    (λ (p : k ≡ h). (c, ap (λ (x : Guest). slice_get x.calls 0) p ∙ first_of))
-    (λ (q : slice_get m.guests j ≡ Some k). well.there.starts j k q)
-    (push_cases m.guests j h k e);
+        ⊎_elim
+        (λ (p : k ≡ h). (c, ap (λ (x : Guest). slice_get x.calls 0) p ∙ first_of))
+        (λ (q : slice_get m.guests j ≡ Some k). well.there.starts j k q)
+        (push_cases m.guests j h k e);
     calls = λ n j place v e came.
-    let d = well.there.calls n j place v e came in
-    (d.0, d.1, push_there m.guests j h d.0 d.2, d.3);
+        let d = well.there.calls n j place v e came in
+        (d.0, d.1, push_there m.guests j h d.0 d.2, d.3);
   };
   gone = record {
     starts = λ j k c2 e released has first.
-    ⊎_elim
-    (λ (p : k ≡ h). absurd (not_released h live (ap (λ (x : Guest). x.is_released) (sym p) ∙ released)))
-    (λ (q : slice_get m.guests j ≡ Some k). well.gone.starts j k c2 q released has first)
-    (push_cases m.guests j h k e);
+        ⊎_elim
+        (λ (p : k ≡ h). absurd (not_released h live (ap (λ (x : Guest). x.is_released) (sym p) ∙ released)))
+        (λ (q : slice_get m.guests j ≡ Some k). well.gone.starts j k c2 q released has first)
+        (push_cases m.guests j h k e);
     calls = λ n j place v k c2 at came e released first.
-    ⊎_elim
-    (λ (p : k ≡ h). absurd (not_released h live (ap (λ (x : Guest). x.is_released) (sym p) ∙ released)))
-    (λ (q : slice_get m.guests j ≡ Some k). well.gone.calls n j place v k c2 at came q released first)
-    (push_cases m.guests j h k e);
+        ⊎_elim
+        (λ (p : k ≡ h). absurd (not_released h live (ap (λ (x : Guest). x.is_released) (sym p) ∙ released)))
+        (λ (q : slice_get m.guests j ≡ Some k). well.gone.calls n j place v k c2 at came q released first)
+        (push_cases m.guests j h k e);
   };
 }
 
@@ -160,20 +160,20 @@ one_more_call m came there_of well =
       there = record {
         starts = well.there.starts;
         calls = λ n i place v e is.
-        let T : Type 0 = (g : Guest) × (c : Call) × (slice_get m.guests i ≡ Some g) × (slice_get g.calls place ≡ Some c) in
-        let here : v ≡ new → T = λ p.
-        let d = there_of i place (ap (λ (x : Invoked). x.came) (sym p) ∙ is) in
-        (d.0, d.1, d.2, d.3) in
-        ⊎_elim here (λ (q : slice_get m.invoked n ≡ Some v). well.there.calls n i place v q is) (push_cases m.invoked n new v e);
+            let T : Type 0 = (g : Guest) × (c : Call) × (slice_get m.guests i ≡ Some g) × (slice_get g.calls place ≡ Some c) in
+            let here : v ≡ new → T = λ p.
+            let d = there_of i place (ap (λ (x : Invoked). x.came) (sym p) ∙ is) in
+            (d.0, d.1, d.2, d.3) in
+            ⊎_elim here (λ (q : slice_get m.invoked n ≡ Some v). well.there.calls n i place v q is) (push_cases m.invoked n new v e);
       };
       gone = record {
         starts = well.gone.starts;
         calls = λ n i place v g c at is e released first.
-        let here : v ≡ new → WasSaid g place c v.said = λ p.
-        let d = there_of i place (ap (λ (x : Invoked). x.came) (sym p) ∙ is) in
-        let same : d.0 ≡ g = same_Some d.0 g (sym d.2 ∙ e) in
-        absurd (not_released g (ap (λ (x : Guest). x.is_released) (sym same) ∙ d.4) released) in
-        ⊎_elim here (λ (q : slice_get m.invoked n ≡ Some v). well.gone.calls n i place v g c q is e released first) (push_cases m.invoked n new v at);
+            let here : v ≡ new → WasSaid g place c v.said = λ p.
+            let d = there_of i place (ap (λ (x : Invoked). x.came) (sym p) ∙ is) in
+            let same : d.0 ≡ g = same_Some d.0 g (sym d.2 ∙ e) in
+            absurd (not_released g (ap (λ (x : Guest). x.is_released) (sym same) ∙ d.4) released) in
+            ⊎_elim here (λ (q : slice_get m.invoked n ≡ Some v). well.gone.calls n i place v g c q is e released first) (push_cases m.invoked n new v at);
       };
     }
 
@@ -202,9 +202,9 @@ call_well scarce m _ i g name fuel given at (is_invoked vs live n x a) h =
     let between = with_well m i g k at live (push_places g.calls _) h in
     one_more_call (with_guest m i k) (taken_on i (length g.calls))
     (λ j place e.
-      let same_i : i ≡ j = ap guest_taken e in
-      let same_place : length g.calls ≡ place = ap place_taken e in
-      (k, _, ap (slice_get (slice_set m.guests i k)) (sym same_i) ∙ set_at m.guests i g k at, ap (slice_get k.calls) (sym same_place) ∙ push_last g.calls _, live))
+    let same_i : i ≡ j = ap guest_taken e in
+    let same_place : length g.calls ≡ place = ap place_taken e in
+    (k, _, ap (slice_get (slice_set m.guests i k)) (sym same_i) ∙ set_at m.guests i g k at, ap (slice_get k.calls) (sym same_place) ∙ push_last g.calls _, live))
     between
 call_well scarce m _ i g name fuel given at (invoke_wants s l n) h = turned_well m 7 h
 

@@ -35,8 +35,8 @@ loop-preserved g c =
           (record { none_out = p.none_out; agrees = p.agrees; is_kept = p.keeps; is_honest = p.honest });
       faults = (c.loop.invariant.faults.0, one ∙ c.loop.invariant.faults.1);
       goes = λ same.
-      goes_further c.args.id.number c.args.host.now between c.turn.new.self
-      (goes_further c.args.id.number c.args.host.now c.loop.host between (c.loop.invariant.goes (sym one ∙ same))
-        (provided c.loop.host between c.args.id c.in-Ok.field-0 c.in-Ok.ensures.moves p.whole c.loop.invariant.backed.none_out p.none_out))
-      (turned between c.turn.new.self c.args.id c.args.quantum c.turn.result c.turn.ensures.turns c.turn.ensures.backing);
+          goes_further c.args.id.number c.args.host.now between c.turn.new.self
+          (goes_further c.args.id.number c.args.host.now c.loop.host between (c.loop.invariant.goes (sym one ∙ same))
+          (provided c.loop.host between c.args.id c.in-Ok.field-0 c.in-Ok.ensures.moves p.whole c.loop.invariant.backed.none_out p.none_out))
+          (turned between c.turn.new.self c.args.id c.args.quantum c.turn.result c.turn.ensures.turns c.turn.ensures.backing);
     }

@@ -18,6 +18,10 @@ returns c guests v is has =
     let same = same_Some d.0 status (sym d.1 ∙ c.in-Some.is) in
     let s = c.in_ok-say_line.ensures in
     let line = subst (λ o. SaysLine (texts.call c.args.number) o (status_of status) s.0) is.said s.1 in
-    let says = d.2 s.0 (subst (λ z. SaysLine (texts.call c.args.number) v.said (status_of z) s.0) (sym same) line) in
-    (s.0, record v { said = Some (status_of status) }, subst (λ z. SaysCall guests c.args.number v s.0 (record v { said = Some (status_of z) })) same says, s.2,
-      record { came = is.came; said = refl })
+    let says = d.2 s.0 (subst (λ z. SaysLine (texts.call c.args.number) v.said (status_of z) s.0) (sym same) line) in (
+      s.0,
+      record v { said = Some (status_of status) },
+      subst (λ z. SaysCall guests c.args.number v s.0 (record v { said = Some (status_of z) })) same says,
+      s.2,
+      record { came = is.came; said = refl },
+    )

@@ -18,7 +18,11 @@ returns c i g k is shows first was =
     let status = c.in-Some.status in
     let same = same_Some d.0 status (sym d.1 ∙ c.in-Some.is) in
     let e = ap status_of (sym same) ∙ d.2 in
-    let s = c.in_ok-say_line.ensures in
-    (s.0, record g { said = Some (call_status g 0 k) },
+    let s = c.in_ok-say_line.ensures in (
+      s.0,
+      record g { said = Some (call_status g 0 k) },
       starts_so g k c.deref.result.now (option_map status_of c.args.guest.now.said) (status_of status) s.0 (c.deref.ensures ∙ is.name) is.said e has first s.1,
-      s.2, record { number = is.number; name = is.name; starts = is.starts; released = is.released; said = ap Some e }, refl)
+      s.2,
+      record { number = is.number; name = is.name; starts = is.starts; released = is.released; said = ap Some e },
+      refl,
+    )

@@ -30,9 +30,9 @@ loop-at-preserved g c =
       faults = all;
       same = ap (λ e. on_host e c.run_out.new.host) c.loop-at.invariant.same;
       runs = λ same.
-      let before = none_first (faults c.args.device.now) (faults c.loop-at.device) (faults c.run_out.new.device) c.loop-at.invariant.faults c.run_out.ensures.faults same in
-      runs_next c.args.self.now c.loop-at.at c.index.result.now c.args.self.now.host c.loop-at.self.host c.run_out.new.host (c.loop-at.invariant.runs before) here
-      (c.in_ok-run_out.ensures.runs (same ∙ sym before));
+          let before = none_first (faults c.args.device.now) (faults c.loop-at.device) (faults c.run_out.new.device) c.loop-at.invariant.faults c.run_out.ensures.faults same in
+          runs_next c.args.self.now c.loop-at.at c.index.result.now c.args.self.now.host c.loop-at.self.host c.run_out.new.host (c.loop-at.invariant.runs before) here
+          (c.in_ok-run_out.ensures.runs (same ∙ sym before));
     }
 
 pub returns-clause-runs : goal.returns-clause-runs

@@ -5,5 +5,5 @@ use Rattle.wh_engine.proofs.engine.Engine.say.Goals as goal
 pub returns : goal.returns
 returns c =
     on_ok_then c.say_calls.result c.say_calls.ensures (λ calls.
-      both_said c.args.self.now c.say_starts.new.self c.say_calls.new.self (string_bytes c.args.text.now) (string_bytes c.say_starts.new.text) (string_bytes c.say_calls.new.text)
-      c.in_ok-say_starts.ensures calls)
+    both_said c.args.self.now c.say_starts.new.self c.say_calls.new.self (string_bytes c.args.text.now) (string_bytes c.say_starts.new.text) (string_bytes c.say_calls.new.text)
+    c.in_ok-say_starts.ensures calls)

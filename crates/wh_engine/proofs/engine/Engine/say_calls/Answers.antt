@@ -31,9 +31,9 @@ loop-at-preserved c =
       same = ap (λ e. with_said e (with_item l.self.invoked l.at c.say_call.new.invoked)) l.invariant.same;
       many = length-set l.self.invoked.items l.at c.say_call.new.invoked ∙ l.invariant.many;
       so_far = λ settings m s well.
-      call_said_next settings c.args.self.now m l.self.invoked.items l.at (l.at + 1) (string_bytes c.args.text.now) (string_bytes l.text) (string_bytes c.say_call.new.text) x c.say_call.new.invoked
-      s well (l.invariant.so_far settings m s well) read refl
-      (subst (λ h. SaysCallOf h c.args.self.now.guests.items (l.at + 1) x c.say_call.new.invoked (string_bytes l.text) (string_bytes c.say_call.new.text)) host says);
+          call_said_next settings c.args.self.now m l.self.invoked.items l.at (l.at + 1) (string_bytes c.args.text.now) (string_bytes l.text) (string_bytes c.say_call.new.text) x c.say_call.new.invoked
+          s well (l.invariant.so_far settings m s well) read refl
+          (subst (λ h. SaysCallOf h c.args.self.now.guests.items (l.at + 1) x c.say_call.new.invoked (string_bytes l.text) (string_bytes c.say_call.new.text)) host says);
     }
 
 pub returns : goal.returns

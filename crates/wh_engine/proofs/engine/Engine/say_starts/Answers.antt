@@ -24,9 +24,9 @@ loop-at-preserved c =
       same = ap (λ e. with_starts e (with_item l.self.guests l.at c.say_start.new.guest)) l.invariant.same;
       many = length-set l.self.guests.items l.at c.say_start.new.guest ∙ l.invariant.many;
       so_far = λ settings m s well.
-      start_said_next settings c.args.self.now m l.self.guests.items l.at (string_bytes c.args.text.now) (string_bytes l.text) (string_bytes c.say_start.new.text) c.index_mut.result.now c.say_start.new.guest
-      s well (l.invariant.so_far settings m s well) read
-      (subst (λ h. SaysStartOf h c.index_mut.result.now c.say_start.new.guest (string_bytes l.text) (string_bytes c.say_start.new.text)) host c.in_ok-say_start.ensures);
+          start_said_next settings c.args.self.now m l.self.guests.items l.at (string_bytes c.args.text.now) (string_bytes l.text) (string_bytes c.say_start.new.text) c.index_mut.result.now c.say_start.new.guest
+          s well (l.invariant.so_far settings m s well) read
+          (subst (λ h. SaysStartOf h c.index_mut.result.now c.say_start.new.guest (string_bytes l.text) (string_bytes c.say_start.new.text)) host c.in_ok-say_start.ensures);
     }
 
 pub returns : goal.returns
