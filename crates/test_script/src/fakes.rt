@@ -1,6 +1,35 @@
-//! A reader that gives a byte at a time, or fails; a writer that fails; a reader and a writer that are interrupted.
+//! A reader that gives a byte at a time, or fails; a writer that fails; a reader and a writer that are interrupted; files to
+//! load.
 
-use std::io::{Error, ErrorKind, Read, Result, Write};
+use crate::guests::GUESTS;
+use std::alloc::Global;
+use std::io::{Error, ErrorKind, Read, Result as IoResult, Write};
+use wh_script::{FileError, Source};
+
+/// The path of a file for which there is no memory.
+const TOO_MUCH: &str = "too_much";
+
+/// The modules to load, each by its path. There is no memory for one file more, and no other can be read.
+#[derive(Drop)]
+pub struct Shelf;
+
+impl Source for Shelf {
+    ghost use Rattle.std.specs.Prelude.{true};
+
+    ghost files = { λ shelf path bytes. true };
+
+    fn read(&self, alloc: Global, path: &str) -> Result<Vec<u8>, FileError> {
+        if path == TOO_MUCH {
+            return Err(FileError::Memory);
+        }
+        for (name, bytes) in GUESTS {
+            if name == path {
+                return hex::decode(alloc, bytes).map_err(|_| FileError::Memory);
+            }
+        }
+        Err(FileError::Unreadable)
+    }
+}
 
 /// A reader that gives one byte at a time, and at a place fails in place of giving more.
 #[derive(Drop)]
@@ -12,7 +41,7 @@ pub struct Trickle<'a> {
 }
 
 impl Read for Trickle<'_> {
-    fn read(&mut self, buf: &mut [u8]) -> Result<usize> {
+    fn read(&mut self, buf: &mut [u8]) -> IoResult<usize> {
         if self.fails_after == 0 {
             return Err(Error::from(ErrorKind::Other));
         }
@@ -41,7 +70,7 @@ pub struct Tired {
 }
 
 impl Write for Tired {
-    fn write(&mut self, buf: &[u8]) -> Result<usize> {
+    fn write(&mut self, buf: &[u8]) -> IoResult<usize> {
         if self.writes == 0 {
             return Err(Error::from(ErrorKind::Other));
         }
@@ -50,7 +79,7 @@ impl Write for Tired {
         Ok(buf.len())
     }
 
-    fn flush(&mut self) -> Result<()> {
+    fn flush(&mut self) -> IoResult<()> {
         self.flushes = self.flushes.saturating_add(1);
         Ok(())
     }
@@ -68,7 +97,7 @@ pub struct Disturbed<'a> {
 }
 
 impl Read for Disturbed<'_> {
-    fn read(&mut self, buf: &mut [u8]) -> Result<usize> {
+    fn read(&mut self, buf: &mut [u8]) -> IoResult<usize> {
         if self.undisturbed == 0 && self.interruptions > 0 {
             self.interruptions -= 1;
             return Err(Error::from(ErrorKind::Interrupted));
@@ -99,7 +128,7 @@ pub struct Halting {
 }
 
 impl Write for Halting {
-    fn write(&mut self, buf: &[u8]) -> Result<usize> {
+    fn write(&mut self, buf: &[u8]) -> IoResult<usize> {
         if self.undisturbed == 0 && !self.is_over {
             self.is_over = true;
             return Err(Error::from(ErrorKind::Interrupted));
@@ -110,7 +139,7 @@ impl Write for Halting {
         Ok(count)
     }
 
-    fn flush(&mut self) -> Result<()> {
+    fn flush(&mut self) -> IoResult<()> {
         Ok(())
     }
 }

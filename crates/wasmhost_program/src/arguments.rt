@@ -22,16 +22,34 @@ impl From<Error> for Refused {
     }
 }
 
-/// The path of the script, or nothing where it is standard input. The first word is the program's name.
+/// What a command line asks for.
+#[derive(Clone, Copy, Debug)]
+pub struct Arguments<'a> {
+    /// The path of the settings. Without one they are as they are by default.
+    pub settings: Option<&'a str>,
+    /// The path of the script. Without one it is standard input.
+    pub script: Option<&'a str>,
+}
+
+/// What these words ask for. The first one is the program's name.
 ///
 /// # Errors
 /// `Line` for words that the program doesn't accept, `--help` among them; `Memory` where there is none to read them.
-pub fn read_args<'a>(alloc: Global, words: &'a [String]) -> Result<Option<&'a str>, Refused> {
+pub fn read_args<'a>(alloc: Global, words: &'a [String]) -> Result<Arguments<'a>, Refused> {
+    let settings = Arg::new(alloc, "settings")
+        .long("settings")
+        .value_name("FILE")
+        .help("A file of settings, in TOML; without it they are as they are by default");
     let script = Arg::new(alloc, "SCRIPT").help("A file of requests; standard input without it");
     let command = Command::new(alloc, "wasmhost")
-        .about("Answers a script of requests on WebAssembly modules")
+        .about("Runs WebAssembly modules as a script of requests asks for it")
+        .arg(settings)
+        .map_err(Error::from)?
         .arg(script)
         .map_err(Error::from)?;
     let matches = command.try_get_matches_from(words)?;
-    Ok(matches.get_str("SCRIPT"))
+    Ok(Arguments {
+        settings: matches.get_str("settings"),
+        script: matches.get_str("SCRIPT"),
+    })
 }

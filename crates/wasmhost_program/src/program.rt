@@ -1,15 +1,17 @@
-//! The program: words, a script, replies and a status.
+//! The program: words, settings, a script, replies and a status.
 
 ghost use Rattle.std.specs.Prelude.{◌≤◌};
 ghost use Rattle.wasmhost_program.specs.Written.{WritesReplies};
 
-use crate::arguments::{Refused, read_args};
-use std::fs::File;
-use std::io::{ErrorKind, Write};
+use crate::arguments::{Arguments, Refused, read_args};
+use crate::files::{LateFile, SystemFiles};
+use std::io::{ErrorKind, Read, Write};
 use std::process::ExitCode;
 use std::rt::{Env, Files};
-use std::{env, io};
+use std::{env, fs, io};
 use wh_script::{ScriptFault, run_script};
+use wh_settings::{Settings, SettingsError, read_settings};
+use wh_swap::MemSwap;
 
 /// The status where the whole script was answered.
 pub const ANSWERED: u8 = 0;
@@ -25,32 +27,63 @@ fn words(rt: &(impl Env + AllocGlobal)) -> io::Result<Vec<String>> {
     Ok(env::args(rt)?.collect(rt.alloc())?)
 }
 
-/// Runs the script of this file.
-fn run_file<W: Write>(
+/// The settings of this file, or those by default.
+fn settings_of_file(
     rt: &(impl Files + AllocGlobal),
-    path: &str,
-    output: &mut W,
-) -> Result<(), ScriptFault>
-    ensures { WritesReplies (W.contents output.old) (W.contents output.new) }
-{
-    let Ok(mut file) = File::open(rt, path) else {
-        return Err(ScriptFault::Script);
+    path: Option<&str>,
+) -> Result<Settings, ScriptFault> {
+    let Some(path) = path else {
+        return Ok(Settings::default());
     };
-    run_script(rt.alloc(), &mut file, output)
+    let bytes = match fs::read(rt, path) {
+        Ok(bytes) => bytes,
+        Err(error) if error.kind() == ErrorKind::OutOfMemory => return Err(ScriptFault::Memory),
+        Err(_) => return Err(ScriptFault::Settings),
+    };
+    match read_settings(rt.alloc(), &bytes) {
+        Ok(settings) => Ok(settings),
+        Err(SettingsError::Memory) => Err(ScriptFault::Memory),
+        Err(SettingsError::Invalid) => Err(ScriptFault::Settings),
+    }
 }
 
-/// Runs the script of this file, or of standard input.
-fn run_given<W: Write>(
-    rt: &(impl Files + Input + AllocGlobal),
-    script: Option<&str>,
+/// Runs a script with these settings. Pages are swapped to memory.
+fn run_with<R: Read, W: Write>(
+    rt: &(impl Files + AllocGlobal),
+    settings: &Settings,
+    reader: &mut R,
     output: &mut W,
 ) -> Result<(), ScriptFault>
     ensures { WritesReplies (W.contents output.old) (W.contents output.new) }
 {
-    match script {
-        Some(path) => run_file(rt, path, output),
-        None => run_script(rt.alloc(), &mut rt.reader(), output),
+    let Ok(mut device) = MemSwap::new(rt.alloc(), settings.slots) else {
+        return Err(ScriptFault::Memory);
+    };
+    let source = SystemFiles { rt };
+    run_script(rt.alloc(), settings, &source, &mut device, reader, output)
+}
+
+/// Runs the script of a command line with its settings.
+fn run_given<W: Write>(
+    rt: &(impl Files + Input + AllocGlobal),
+    given: Arguments<'_>,
+    output: &mut W,
+) -> Result<(), ScriptFault>
+    ensures { WritesReplies (W.contents output.old) (W.contents output.new) }
+{
+    let settings = settings_of_file(rt, given.settings)?;
+    if settings.swap.is_some() {
+        return Err(ScriptFault::Swap);
     }
+    let Some(path) = given.script else {
+        return run_with(rt, &settings, &mut rt.reader(), output);
+    };
+    let mut script = LateFile {
+        rt,
+        path,
+        file: None,
+    };
+    run_with(rt, &settings, &mut script, output)
 }
 
 /// Says why the program stops. A failed write of that has nobody to be told.
@@ -70,11 +103,11 @@ pub fn answer<W: Write>(
     errors: &mut impl Write,
 ) -> u8
     ensures status { result ≤ 2 }
-    // Nothing but replies is written to the output.
+    // Nothing but what answers a script is written to the output.
     ensures replies { WritesReplies (W.contents output.old) (W.contents output.new) }
 {
     let outcome = match read_args(rt.alloc(), words) {
-        Ok(script) => run_given(rt, script, output),
+        Ok(given) => run_given(rt, given, output),
         Err(Refused::Memory) => Err(ScriptFault::Memory),
         Err(Refused::Line(error)) => {
             let _ = write!(errors, "{error}");

@@ -27,7 +27,12 @@ fn words(rt: &HostRuntime, line: &[&str]) -> Result<Vec<String>, Fail> {
 }
 
 /// Command lines that get no reply, each with its status and the beginning of what stands on standard error.
-const WITHOUT_A_REPLY: [(&[&str], u8, &str); 4] = [
+const WITHOUT_A_REPLY: [(&[&str], u8, &str); 5] = [
+    (
+        &["wasmhost", "--settings", "no/such.toml"],
+        STOPPED,
+        "wasmhost: settings\n",
+    ),
     (
         &["wasmhost", "no/such.script"],
         STOPPED,
@@ -79,5 +84,29 @@ fn a_failed_write_stops_the_program(rt: HostRuntime) -> Result<(), Fail> {
     assert_eq!(rt; stopped, STOPPED);
     assert_eq!(rt; str::from_utf8(errors.as_slice()), Ok("wasmhost: output\n"));
     assert_eq!(rt; unheard, STOPPED);
+    Ok(())
+}
+
+/// Settings, each with why the program stops for them.
+const UNFIT: [(&str, &str); 3] = [
+    ("frames = 1\n", "wasmhost: settings\n"),
+    ("speed = 1\n", "wasmhost: settings\n"),
+    ("swap = \"pages\"\n", "wasmhost: swap\n"),
+];
+
+#[test]
+fn settings_that_are_unfit_stop_the_program(rt: HostRuntime) -> Result<(), Fail> {
+    let path = "wasmhost_program_tests.toml";
+    let words = words(&rt, &["wasmhost", "--settings", path, "no/such.script"])?;
+    for (settings, complaint) in UNFIT {
+        fs::write(&rt, path, settings)?;
+        let mut output = Vec::new(rt.alloc());
+        let mut errors = Vec::new(rt.alloc());
+        let status = answer(&rt, &words, &mut output, &mut errors);
+        fs::remove_file(&rt, path)?;
+        assert_eq!(rt; status, STOPPED, "{settings}");
+        assert_eq!(rt; output.len(), 0, "{settings}");
+        assert_eq!(rt; str::from_utf8(errors.as_slice()), Ok(complaint));
+    }
     Ok(())
 }

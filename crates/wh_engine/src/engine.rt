@@ -27,8 +27,10 @@ pub struct Engine {
 impl Engine {
     /// Nothing was made yet, on a new host.
     pub fn new(alloc: Global, host: Host) -> Engine
-        ensures { (settings : Settings) (tax : Tax) → IsNewHost host settings.frames settings.slots tax
+        ensures stands { (settings : Settings) (tax : Tax)
+            → IsNewHost host settings.frames settings.slots tax
             → StandsForScript settings result nothing_made }
+        ensures host { result.host ≡ host }
     {
         Engine {
             host,

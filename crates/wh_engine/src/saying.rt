@@ -165,16 +165,18 @@ impl Engine {
     /// # Errors
     /// A growth of memory was refused; a beginning of the lines may stand behind the text.
     pub fn say(&mut self, text: &mut String) -> Result<(), AllocError>
-        ensures { OnOk result (SaysAll self.old (string_bytes text.old) self.new
+        ensures says { OnOk result (SaysAll self.old (string_bytes text.old) self.new
             (string_bytes text.new)) }
+        ensures host { self.new.host ≡ self.old.host }
     {
         self.say_starts(text)?;
         self.say_calls(text)
     }
 
     fn say_starts(&mut self, text: &mut String) -> Result<(), AllocError>
-        ensures { OnOk result (SaysAllStarts self.old (string_bytes text.old) self.new
+        ensures says { OnOk result (SaysAllStarts self.old (string_bytes text.old) self.new
             (string_bytes text.new)) }
+        ensures host { self.new.host ≡ self.old.host }
     {
         for at in 0..self.guests.len() {
             say_start(&self.host, &mut self.guests[at], text)?;
@@ -183,8 +185,9 @@ impl Engine {
     }
 
     fn say_calls(&mut self, text: &mut String) -> Result<(), AllocError>
-        ensures { OnOk result (SaysAllCalls self.old (string_bytes text.old) self.new
+        ensures says { OnOk result (SaysAllCalls self.old (string_bytes text.old) self.new
             (string_bytes text.new)) }
+        ensures host { self.new.host ≡ self.old.host }
     {
         for at in 0..self.invoked.len() {
             let number = at as u64 + 1;

@@ -1,32 +1,42 @@
 -- A run line by line: what was read and written so far, and how it ends.
-use Rattle.std.proofs.Common.{◌≡◌, ◌≢◌, ℕ, ◌+◌, List, [], ◌∷◌, ◌++◌, length, All, Option, Some, None, Ok, Err, refl, sym, ap, subst, subst₂, ◌∙◌, append-nil, append_assoc, arith, length-append}
+use Rattle.std.proofs.Common.{◌≡◌, ◌≢◌, ℕ, ◌+◌, ◌⊎◌, inl, inr, true, List, [], ◌∷◌, ◌++◌, length, All, Option, Some, None, Result, Ok, Err, refl, sym, ap, subst, subst₂, ◌∙◌, append-nil, append_assoc, arith, length-append}
 use Rattle.std.specs.Io.KnownBytes.{Appends, Consumes, IsAtEnd, prepend_known}
 use Rattle.wh_host_model.specs.Script.{lines_of}
-use Rattle.wh_host_model.specs.Replies.{Modules, no_modules, Replying, ReplyOrWant, LineReply, Replies}
-use Rattle.wh_script.specs.declared.fault.ScriptFault.{ScriptFault}
-use Rattle.wh_script.specs.declared.fault.ScriptFault.TheVariants.{Script, Output, Memory}
+use Rattle.wh_host_model.specs.Lines.Settings.{Settings}
+use Rattle.wh_host_model.specs.Lines.Texts.{Reply}
+use Rattle.wh_host_model.specs.Lines.Made.{Made, nothing_made}
+use Rattle.wh_host_model.specs.Lines.Answers.{Files, AnswersLine, AnswersLines, AnswersScript}
+use Rattle.wh_engine.specs.declared.engine.Engine.{Engine}
+use Rattle.wh_engine.specs.declared.fault.ScriptFault.{ScriptFault}
+use Rattle.wh_engine.specs.declared.fault.ScriptFault.TheVariants.{Settings as SettingsFault, Script, Output, Swap, Memory, Threads, Transcript}
+use Rattle.wh_engine.specs.Standing.{StandsForScript}
+use Rattle.wh_script_model.proofs.SaidObeyed.{nothing_well}
 use Rattle.wh_script.specs.declared.lines.Line.{Line}
 use Rattle.wh_script.specs.declared.lines.Line.TheVariants.{Kept, TooLong, Skipped, End}
 use Rattle.wh_script.specs.Coming.{TakesLines, IsKind, ReadsLine, FailsAt}
-use Rattle.wh_script.specs.Replies.{AppendsFront, Sent}
-use Rattle.wh_script.specs.Runs.{AreLines, AreFirstLines, GaveLines, Runs}
+use Rattle.wh_script.specs.Speaking.{Speaks, says_nothing}
+use Rattle.wh_script.specs.Answering.{ServesScript, HasDrained, Answers}
+use Rattle.wh_script.specs.Runs.{AreLines, AreFirstLines, GaveLines, AppendsFront, Sent, Runs}
 use Rattle.wh_script.proofs.Coming.{takes_more}
-use Rattle.wh_script.proofs.Written.{appends_nothing, appends_keeps, appends_more}
+use Rattle.wh_script.proofs.Speaking.{speaks_on}
+use Rattle.wh_script.proofs.Written.{appends_nothing, appends_more}
 
--- lines were taken up to this number, and what they get was written
-abbrev pub SoFar : Option (List ℕ) → Option (List ℕ) → Option (List ℕ) → Option (List ℕ) → ℕ → Modules → Type 0
-SoFar script coming before after number modules = (lines : List (List ℕ)) × (text : List ℕ) × TakesLines script coming lines × (length lines + 1 ≡ number)
-    × Replies ReplyOrWant no_modules 1 lines text modules × Appends before after text
+-- lines were taken up to this number, and what answers them was written
+abbrev pub SoFar : Settings → Files → Option (List ℕ) → Option (List ℕ) → Option (List ℕ) → Option (List ℕ) → ℕ → Engine → Type 0
+SoFar settings files script coming before after number e = (lines : List (List ℕ)) × (replies : List Reply) × (m : Made) × (text : List ℕ)
+    × TakesLines script coming lines × (length lines + 1 ≡ number) × AnswersLines true settings files nothing_made 1 lines replies m × Speaks replies text
+    × Appends before after text × ServesScript settings e m
 
--- one more line gets its reply
-replies_more : (gets : Replying) (before mid after : Modules) (number : ℕ) (lines : List (List ℕ)) (line text reply : List ℕ) → Replies gets before number lines text mid
-    → LineReply gets mid (number + length lines) line reply after → Replies gets before number (lines ++ line ∷ []) (text ++ reply) after
-replies_more gets before mid after number [] line text reply p r =
-    let here : LineReply gets before number line reply after = subst₂ (λ m n. LineReply gets m n line reply after) p.1 (omega arith) r in
+-- one more line gets its replies
+answers_more : (settings : Settings) (files : Files) (before mid after : Made) (number : ℕ) (lines : List (List ℕ)) (line : List ℕ) (replies reply : List Reply)
+    → AnswersLines true settings files before number lines replies mid → AnswersLine true settings files mid (number + length lines) line reply after
+    → AnswersLines true settings files before number (lines ++ line ∷ []) (replies ++ reply) after
+answers_more settings files before mid after number [] line replies reply p r =
+    let here : AnswersLine true settings files before number line reply after = subst₂ (λ m n. AnswersLine true settings files m n line reply after) p.1 (omega arith) r in
     (reply, [], after, ap (λ xs. xs ++ reply) p.0 ∙ sym (append-nil reply), here, (refl, refl))
-replies_more gets before mid after number (l ∷ lines) line text reply p r =
-    let later : LineReply gets mid (number + 1 + length lines) line reply after = subst (λ n. LineReply gets mid n line reply after) (omega arith) r in
-    (p.0, p.1 ++ reply, p.2, ap (λ xs. xs ++ reply) p.3 ∙ append_assoc p.0 p.1 reply, p.4, replies_more gets p.2 mid after (number + 1) lines line p.1 reply p.5 later)
+answers_more settings files before mid after number (l ∷ lines) line replies reply p r =
+    let later : AnswersLine true settings files mid (number + 1 + length lines) line reply after = subst (λ n. AnswersLine true settings files mid n line reply after) (omega arith) r in
+    (p.0, p.1 ++ reply, p.2, ap (λ xs. xs ++ reply) p.3 ∙ append_assoc p.0 p.1 reply, p.4, answers_more settings files p.2 mid after (number + 1) lines line p.1 reply p.5 later)
 
 first_lines : (a b : Option (List ℕ)) (lines : List (List ℕ)) → TakesLines a b lines → AreFirstLines a lines
 first_lines None b lines p = tt
@@ -54,48 +64,115 @@ line_of TooLong a b held more reads = reads
 line_of Skipped a b held more reads = reads
 line_of End a b held more reads = absurd (more refl)
 
-pub starts : (a w : Option (List ℕ)) (left : List ℕ) (modules : Modules) → left ≡ [] → modules ≡ no_modules → SoFar a (prepend_known left a) w w 1 modules
-starts None w left modules e none = ([], [], tt, refl, (refl, none), appends_nothing w)
-starts (Some xs) w left modules e none = ([], [], rw e ([], refl, refl), refl, (refl, none), appends_nothing w)
+pub starts : (settings : Settings) (files : Files) (a w : Option (List ℕ)) (left : List ℕ) (e : Engine) → left ≡ [] → StandsForScript settings e nothing_made
+    → SoFar settings files a (prepend_known left a) w w 1 e
+starts settings files None w left e none stands = ([], [], nothing_made, [], tt, refl, (refl, refl), says_nothing, appends_nothing w, (stands, nothing_well))
+starts settings files (Some xs) w left e none stands =
+    ([], [], nothing_made, [], rw none ([], refl, refl), refl, (refl, refl), says_nothing, appends_nothing w, (stands, nothing_well))
 
-module _ (a b before mid : Option (List ℕ)) (number : ℕ) (modules : Modules) (so_far : SoFar a b before mid number modules) where
-  pub ends : (left : Option (List ℕ)) → IsAtEnd b → Runs a left before mid (Ok tt)
-  ends left end = (so_far.0, so_far.1, all_lines a b so_far.0 so_far.2 end, (modules, so_far.4), so_far.5)
+nothing_first : (a : Option (List ℕ)) → AreFirstLines a []
+nothing_first None = tt
+nothing_first (Some xs) = (lines_of xs, refl)
 
-  pub stops : (left : Option (List ℕ)) → Runs a left before mid (Err Memory)
-  stops left = (so_far.0, so_far.1, first_lines a b so_far.0 so_far.2, (modules, so_far.4), so_far.5)
+pub begins_nothing : (settings : Settings) (files : Files) (a left w : Option (List ℕ)) → Runs settings files a left w w (Err Memory)
+begins_nothing settings files a left w = ([], [], nothing_first a, ([], nothing_made, (refl, refl), says_nothing), appends_nothing w)
 
-  pub read_fails : (left : Option (List ℕ)) (e : ScriptFault) → e ≢ Output → FailsAt b left (Err e) → Runs a left before mid (Err e)
-  read_fails left Script other at = (so_far.0, so_far.1, gave_lines a b left so_far.0 at.0 so_far.2 at.1 at.2, (modules, so_far.4), so_far.5)
-  read_fails left Output other at = absurd (other refl)
-  read_fails left Memory other at = stops left
+module _ (settings : Settings) (files : Files) (a b before mid : Option (List ℕ)) (number : ℕ) (e : Engine) (so_far : SoFar settings files a b before mid number e) where
+  pub stops : (left : Option (List ℕ)) → Runs settings files a left before mid (Err Memory)
+  stops left = (so_far.0, so_far.3, first_lines a b so_far.0 so_far.4, (so_far.1, so_far.2, so_far.6, so_far.7), so_far.8)
 
-  module _ (c after left : Option (List ℕ)) (next : Modules) (kind : Line) (held : List ℕ) (more : kind ≢ End) (reads : ReadsLine b c kind held) where
-    pub goes_on : ((line : List ℕ) → IsKind kind held line → (text : List ℕ) × LineReply ReplyOrWant modules number line text next × Appends mid after text) → SoFar a c before after (number + 1) next
-    goes_on answers =
-        let line = line_of kind b c held more reads in
-        let answer = answers line.0 line.2 in
-        let e : number ≡ 1 + length so_far.0 = omega (arith, so_far.3) in (
-          so_far.0 ++ line.0 ∷ [],
-          so_far.1 ++ answer.0,
-          takes_more a b c so_far.0 (line.0 ∷ []) so_far.2 line.1,
-          omega (arith, so_far.3, length-append so_far.0 (line.0 ∷ [])),
-          replies_more ReplyOrWant no_modules modules next 1 so_far.0 line.0 so_far.1 answer.0 so_far.4 (subst (λ n. LineReply ReplyOrWant modules n line.0 answer.0 next) e answer.1),
-          appends_more before mid after so_far.1 answer.0 so_far.5 answer.2,
+  pub read_fails : (left : Option (List ℕ)) (fault : ScriptFault) → (fault ≡ Script) ⊎ (fault ≡ Memory) → FailsAt b left (Err fault) → Runs settings files a left before mid (Err fault)
+  read_fails left Script which at = (so_far.0, so_far.3, gave_lines a b left so_far.0 at.0 so_far.4 at.1 at.2, (so_far.1, so_far.2, so_far.6, so_far.7), so_far.8)
+  read_fails left Memory which at = stops left
+  read_fails left Output which at = neither which
+    where
+      neither : (Output ≡ Script) ⊎ (Output ≡ Memory) → Runs settings files a left before mid (Err Output)
+      neither (inl h) = absurd (cc h)
+      neither (inr h) = absurd (cc h)
+  read_fails left SettingsFault which at = neither which
+    where
+      neither : (SettingsFault ≡ Script) ⊎ (SettingsFault ≡ Memory) → ⊥
+      neither (inl h) = absurd (cc h)
+      neither (inr h) = absurd (cc h)
+  read_fails left Swap which at = neither which
+    where
+      neither : (Swap ≡ Script) ⊎ (Swap ≡ Memory) → ⊥
+      neither (inl h) = absurd (cc h)
+      neither (inr h) = absurd (cc h)
+  read_fails left Threads which at = neither which
+    where
+      neither : (Threads ≡ Script) ⊎ (Threads ≡ Memory) → ⊥
+      neither (inl h) = absurd (cc h)
+      neither (inr h) = absurd (cc h)
+  read_fails left Transcript which at = neither which
+    where
+      neither : (Transcript ≡ Script) ⊎ (Transcript ≡ Memory) → ⊥
+      neither (inl h) = absurd (cc h)
+      neither (inr h) = absurd (cc h)
+
+  module _ (e2 : Engine) (text : List ℕ) (after left : Option (List ℕ)) where
+    -- the drain at the end
+    pub ends : HasDrained e [] e2 text → IsAtEnd b → (r : Result Unit ScriptFault) → Sent mid after r text → Runs settings files a left before after r
+    ends drained end (Ok x) sent =
+        let d = drained settings so_far.2 so_far.9 in
+        let said = subst (λ xs. Speaks d.0 xs) (sym d.3.2) d.3.1 in
+        let whole : AnswersScript true settings files so_far.0 (so_far.1 ++ d.0) = record { before = so_far.2; after = d.1; to_lines = so_far.1; last = d.0; answers = so_far.6; drains = d.2; replies_are = refl } in
+        (so_far.0, so_far.3 ++ text, all_lines a b so_far.0 so_far.4 end, (so_far.1 ++ d.0, whole, speaks_on so_far.1 d.0 so_far.3 text so_far.7 said), appends_more before mid after so_far.3 text so_far.8 sent)
+    ends drained end (Err Output) sent =
+        let d = drained settings so_far.2 so_far.9 in
+        let said = subst (λ xs. Speaks d.0 xs) (sym d.3.2) d.3.1 in
+        let whole : AnswersScript true settings files so_far.0 (so_far.1 ++ d.0) = record { before = so_far.2; after = d.1; to_lines = so_far.1; last = d.0; answers = so_far.6; drains = d.2; replies_are = refl } in (
+          so_far.0,
+          so_far.3 ++ text,
+          first_lines a b so_far.0 so_far.4,
+          inr (so_far.1 ++ d.0, whole, speaks_on so_far.1 d.0 so_far.3 text so_far.7 said),
+          front_of before mid after so_far.3 text so_far.8 sent,
         )
+    ends drained end (Err SettingsFault) sent = elim sent [ ]
+    ends drained end (Err Script) sent = elim sent [ ]
+    ends drained end (Err Swap) sent = elim sent [ ]
+    ends drained end (Err Memory) sent = elim sent [ ]
+    ends drained end (Err Threads) sent = elim sent [ ]
+    ends drained end (Err Transcript) sent = elim sent [ ]
 
-    pub write_fails : (e : ScriptFault) → ((line : List ℕ) → IsKind kind held line → (text : List ℕ) × LineReply ReplyOrWant modules number line text next × Sent mid after (Err e) text) → Runs a left before after (Err e)
-    write_fails Script answers = let line = line_of kind b c held more reads in elim (answers line.0 line.2).2 [ ]
-    write_fails Output answers =
-        let line = line_of kind b c held more reads in
-        let answer = answers line.0 line.2 in
-        let e : number ≡ 1 + length so_far.0 = omega (arith, so_far.3) in (
-          so_far.0 ++ line.0 ∷ [],
-          so_far.1 ++ answer.0,
-          first_lines a c (so_far.0 ++ line.0 ∷ []) (takes_more a b c so_far.0 (line.0 ∷ []) so_far.2 line.1),
-          (next, replies_more ReplyOrWant no_modules modules next 1 so_far.0 line.0 so_far.1 answer.0 so_far.4 (subst (λ n. LineReply ReplyOrWant modules n line.0 answer.0 next) e answer.1)),
-          front_of before mid after so_far.1 answer.0 so_far.5 answer.2,
-        )
-    write_fails Memory answers =
-        let line = line_of kind b c held more reads in
-        (so_far.0, so_far.1, first_lines a b so_far.0 so_far.2, (modules, so_far.4), appends_keeps before mid after so_far.1 so_far.5 (answers line.0 line.2).2)
+    module _ (c : Option (List ℕ)) (kind : Line) (held : List ℕ) (more : kind ≢ End) (reads : ReadsLine b c kind held)
+        (answers : (line : List ℕ) → IsKind kind held line → Answers files number line e [] e2 text) where
+      pub goes_on : Appends mid after text → SoFar settings files a c before after (number + 1) e2
+      goes_on sent =
+          let line = line_of kind b c held more reads in
+          let answer = answers line.0 line.2 settings so_far.2 so_far.9 in
+          let n : number ≡ 1 + length so_far.0 = omega (arith, so_far.5) in
+          let said = subst (λ xs. Speaks answer.0 xs) (sym answer.3.2) answer.3.1 in (
+            so_far.0 ++ line.0 ∷ [],
+            so_far.1 ++ answer.0,
+            answer.1,
+            so_far.3 ++ text,
+            takes_more a b c so_far.0 (line.0 ∷ []) so_far.4 line.1,
+            omega (arith, so_far.5, length-append so_far.0 (line.0 ∷ [])),
+            answers_more settings files nothing_made so_far.2 answer.1 1 so_far.0 line.0 so_far.1 answer.0 so_far.6
+                (subst (λ k. AnswersLine true settings files so_far.2 k line.0 answer.0 answer.1) n answer.2),
+            speaks_on so_far.1 answer.0 so_far.3 text so_far.7 said,
+            appends_more before mid after so_far.3 text so_far.8 sent,
+            answer.4,
+          )
+
+      pub write_fails : (fault : ScriptFault) → Sent mid after (Err fault) text → Runs settings files a left before after (Err fault)
+      write_fails Output sent =
+          let line = line_of kind b c held more reads in
+          let answer = answers line.0 line.2 settings so_far.2 so_far.9 in
+          let n : number ≡ 1 + length so_far.0 = omega (arith, so_far.5) in
+          let said = subst (λ xs. Speaks answer.0 xs) (sym answer.3.2) answer.3.1 in
+          let all = answers_more settings files nothing_made so_far.2 answer.1 1 so_far.0 line.0 so_far.1 answer.0 so_far.6
+          (subst (λ k. AnswersLine true settings files so_far.2 k line.0 answer.0 answer.1) n answer.2) in (
+            so_far.0 ++ line.0 ∷ [],
+            so_far.3 ++ text,
+            first_lines a c (so_far.0 ++ line.0 ∷ []) (takes_more a b c so_far.0 (line.0 ∷ []) so_far.4 line.1),
+            inl (so_far.1 ++ answer.0, answer.1, all, speaks_on so_far.1 answer.0 so_far.3 text so_far.7 said),
+            front_of before mid after so_far.3 text so_far.8 sent,
+          )
+      write_fails SettingsFault sent = elim sent [ ]
+      write_fails Script sent = elim sent [ ]
+      write_fails Swap sent = elim sent [ ]
+      write_fails Memory sent = elim sent [ ]
+      write_fails Threads sent = elim sent [ ]
+      write_fails Transcript sent = elim sent [ ]

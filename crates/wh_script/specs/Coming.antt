@@ -6,8 +6,8 @@ use Rattle.std.specs.Io.KnownBytes.{prepend_known, Consumes, IsAtEnd}
 use Rattle.wh_script.specs.declared.lines.Lines.{Lines}
 use Rattle.wh_script.specs.declared.lines.Line.{Line}
 use Rattle.wh_script.specs.declared.lines.Line.TheVariants.{Kept, TooLong, Skipped, End}
-use Rattle.wh_script.specs.declared.fault.ScriptFault.{ScriptFault}
-use Rattle.wh_script.specs.declared.fault.ScriptFault.TheVariants.{Script, Output, Memory}
+use Rattle.wh_engine.specs.declared.fault.ScriptFault.{ScriptFault}
+use Rattle.wh_engine.specs.declared.fault.ScriptFault.TheVariants.{Script}
 use Rattle.wh_host_model.specs.Script.{lines_of, is_skipped, longest_line}
 
 -- what lies unread in the chunk
@@ -62,5 +62,4 @@ ReadsLine old new Skipped held = (line : List ℕ) × TakesLines old new (line �
 abbrev pub FailsAt : Option (List ℕ) → Option (List ℕ) → Result Line ScriptFault → Type 0
 FailsAt old new (Ok kind) = ⊤
 FailsAt old new (Err Script) = (begun : List ℕ) × All (λ b. b ≢ 10) begun × Consumes old new begun
-FailsAt old new (Err Output) = ⊤
-FailsAt old new (Err Memory) = ⊤
+FailsAt old new (Err fault) = ⊤

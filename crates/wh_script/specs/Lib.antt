@@ -1,6 +1,5 @@
-pub mod Refusals
 pub mod Coming
-pub mod Commands
-pub mod Numbering
-pub mod Replies
+pub mod Speaking
+pub mod Starting
+pub mod Answering
 pub mod Runs

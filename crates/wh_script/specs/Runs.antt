@@ -1,11 +1,16 @@
--- What a run of the engine reads and writes.
-use Rattle.std.specs.Prelude.{◌≡◌, ◌≢◌, ℕ, List, ◌++◌, All, Result, Ok, Err, Option, None, Some, ⊤}
-use Rattle.std.specs.Io.KnownBytes.{Appends}
-use Rattle.wh_script.specs.declared.fault.ScriptFault.{ScriptFault}
-use Rattle.wh_script.specs.declared.fault.ScriptFault.TheVariants.{Script, Output, Memory}
+-- What a run of a script reads and writes.
+use Rattle.std.specs.Prelude.{◌≡◌, ◌≢◌, ℕ, true, List, ◌++◌, All, Result, Ok, Err, Option, None, Some, ⊤, ◌⊎◌}
+use Rattle.std.specs.Io.KnownBytes.{Appends, Keeps}
 use Rattle.wh_host_model.specs.Script.{lines_of}
-use Rattle.wh_host_model.specs.Replies.{ReplyOrWant, AreReplies}
-use Rattle.wh_script.specs.Replies.{AppendsFront}
+use Rattle.wh_host_model.specs.Lines.Settings.{Settings}
+use Rattle.wh_host_model.specs.Lines.Texts.{Reply}
+use Rattle.wh_host_model.specs.Lines.Made.{Made, nothing_made}
+use Rattle.wh_host_model.specs.Lines.Answers.{Files, AnswersLines, AnswersScript}
+use Rattle.wh_engine.specs.declared.fault.ScriptFault.{ScriptFault}
+use Rattle.wh_engine.specs.declared.fault.ScriptFault.TheVariants.{Script, Output, Memory}
+use Rattle.wh_script.specs.Speaking.{Speaks}
+
+-- ---- lines
 
 -- the lines of the script, where its bytes are known
 abbrev pub AreLines : Option (List ℕ) → List (List ℕ) → Type 0
@@ -26,21 +31,45 @@ GaveLines (Some script) (Some left) lines =
     (given begun : List ℕ) × (script ≡ given ++ begun ++ left) × All (λ b. b ≢ 10) begun
     × (lines_of script ≡ lines ++ lines_of (begun ++ left))
 
+-- ---- texts
+
+-- the known bytes grew by a beginning of the text
+abbrev pub AppendsFront : Option (List ℕ) → Option (List ℕ) → List ℕ → Type 0
+AppendsFront old new text = (front back : List ℕ) × (text ≡ front ++ back) × Appends old new front
+
+-- a text was written: whole at Ok, a beginning of it where the writer failed
+abbrev pub Sent : Option (List ℕ) → Option (List ℕ) → Result Unit ScriptFault → List ℕ → Type 0
+Sent old new (Ok _) text = Appends old new text
+Sent old new (Err Output) text = AppendsFront old new text
+Sent old new (Err fault) text = ⊥
+
+-- the text answers the whole script
+abbrev pub IsWhole : Settings → Files → List (List ℕ) → List ℕ → Type 0
+IsWhole settings files lines text = (replies : List Reply) × AnswersScript true settings files lines replies × Speaks replies text
+
+-- or these lines, with no drain behind them
+abbrev pub IsPartial : Settings → Files → List (List ℕ) → List ℕ → Type 0
+IsPartial settings files lines text =
+    (replies : List Reply) × (m : Made) × AnswersLines true settings files nothing_made 1 lines replies m × Speaks replies text
+
+-- ---- runs
+
 -- What a run did, from the script to what the reader has left, and from the writer's bytes before to those after, by
--- how it ended. To the end: the replies to all lines were written. Where the writer failed: a beginning of the replies
--- to the first lines. Where the reader failed: the replies to the lines that it gave. Where memory was wanted: those to
--- the first lines.
-abbrev pub Runs : Option (List ℕ) → Option (List ℕ) → Option (List ℕ) → Option (List ℕ) → Result Unit ScriptFault
-    → Type 0
-Runs script left before after (Ok _) =
-    (lines : List (List ℕ)) × (text : List ℕ) × AreLines script lines × AreReplies ReplyOrWant lines text
+-- how it ended. To the end: what answers the script was written. Where the writer failed: a beginning of what answers
+-- the first lines. Where the reader failed: what answers the lines that it gave. Where memory was wanted: what answers
+-- the first lines. It ends in no other way.
+abbrev pub Runs : Settings → Files → Option (List ℕ) → Option (List ℕ) → Option (List ℕ) → Option (List ℕ)
+    → Result Unit ScriptFault → Type 0
+Runs settings files script left before after (Ok _) =
+    (lines : List (List ℕ)) × (text : List ℕ) × AreLines script lines × IsWhole settings files lines text
     × Appends before after text
-Runs script left before after (Err Output) =
-    (lines : List (List ℕ)) × (text : List ℕ) × AreFirstLines script lines × AreReplies ReplyOrWant lines text
-    × AppendsFront before after text
-Runs script left before after (Err Script) =
-    (lines : List (List ℕ)) × (text : List ℕ) × GaveLines script left lines × AreReplies ReplyOrWant lines text
+Runs settings files script left before after (Err Output) =
+    (lines : List (List ℕ)) × (text : List ℕ) × AreFirstLines script lines
+    × (IsPartial settings files lines text ⊎ IsWhole settings files lines text) × AppendsFront before after text
+Runs settings files script left before after (Err Script) =
+    (lines : List (List ℕ)) × (text : List ℕ) × GaveLines script left lines × IsPartial settings files lines text
     × Appends before after text
-Runs script left before after (Err Memory) =
-    (lines : List (List ℕ)) × (text : List ℕ) × AreFirstLines script lines × AreReplies ReplyOrWant lines text
+Runs settings files script left before after (Err Memory) =
+    (lines : List (List ℕ)) × (text : List ℕ) × AreFirstLines script lines × IsPartial settings files lines text
     × Appends before after text
+Runs settings files script left before after (Err fault) = ⊥

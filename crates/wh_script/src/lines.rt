@@ -1,15 +1,15 @@
 //! The lines of a script, one at a time, in memory of a fixed size.
 
-ghost use Rattle.std.specs.Prelude.{◌≡◌, ◌≢◌, ℕ, ◌+◌, ◌<◌, ◌≤◌, false, List, [], ◌∷◌, ◌++◌, drop, length, IfOk, OnOk, IfErr, OnErr};
+ghost use Rattle.std.specs.Prelude.{◌≡◌, ◌≢◌, ◌⊎◌, ℕ, ◌+◌, ◌<◌, ◌≤◌, false, List, [], ◌∷◌, ◌++◌, drop, length, IfOk, OnOk, IfErr, OnErr};
 ghost use Rattle.std.specs.Bool.{MatchBool, OnTrue};
 ghost use Rattle.std.specs.List.{All};
 ghost use Rattle.std.specs.Io.KnownBytes.{Consumes, Keeps, IsAtEnd};
 ghost use Rattle.wh_script.specs.Coming.{unread, coming, IsInChunk, Holds, TakesPiece, IsKind, ReadsLine, FailsAt};
 
-use crate::fault::ScriptFault;
 use memchr::memchr;
 use std::alloc::Global;
 use std::io::{ErrorKind, Read};
+use wh_engine::ScriptFault;
 
 /// The greatest length of a line, in bytes without its newline.
 pub const LONGEST_LINE: usize = 2200000;
@@ -87,7 +87,7 @@ impl Lines {
         ensures failed { FailsAt (coming self.old (R.remaining reader.old)) (R.remaining reader.new)
             result }
         ensures within { OnOk result (IsInChunk self.new) }
-        ensures err { IfErr result (λ e. e ≢ ScriptFault.Output) }
+        ensures err { IfErr result (λ e. (e ≡ ScriptFault.Script) ⊎ (e ≡ ScriptFault.Memory)) }
     {
         self.line.clear();
         self.is_long = false;

@@ -36,8 +36,14 @@ loop-at-preserved c =
           (subst (λ h. SaysCallOf h c.args.self.now.guests.items (l.at + 1) x c.say_call.new.invoked (string_bytes l.text) (string_bytes c.say_call.new.text)) host says);
     }
 
-pub returns : goal.returns
-returns c settings m s well =
+pub returns-clause-says : goal.returns-clause-says
+returns-clause-says c settings m s well =
     let l = c.loop-at in
     let d = calls_are_said settings c.args.self.now m l.self.invoked l.at (string_bytes c.args.text.now) (string_bytes l.text) s (l.invariant.so_far settings m s well) (omega (arith, l.invariant.many)) in
     (d.0, d.1, d.2, d.3, subst (λ e. StandsForScript settings e (record m { invoked = d.1 })) (sym l.invariant.same) d.4)
+
+pub returns-clause-host : goal.returns-clause-host
+returns-clause-host c = ap (λ (e : code.Engine). e.host) c.loop-at.invariant.same
+
+pub returns-in_err-say_call-clause-host : goal.returns-in_err-say_call-clause-host
+returns-in_err-say_call-clause-host c = ap (λ (e : code.Engine). e.host) c.loop-at.invariant.same

@@ -29,8 +29,14 @@ loop-at-preserved c =
           (subst (λ h. SaysStartOf h c.index_mut.result.now c.say_start.new.guest (string_bytes l.text) (string_bytes c.say_start.new.text)) host c.in_ok-say_start.ensures);
     }
 
-pub returns : goal.returns
-returns c settings m s well =
+pub returns-clause-says : goal.returns-clause-says
+returns-clause-says c settings m s well =
     let l = c.loop-at in
     let d = starts_are_said settings c.args.self.now m l.self.guests l.at (string_bytes c.args.text.now) (string_bytes l.text) s (l.invariant.so_far settings m s well) (omega (arith, l.invariant.many)) in
     (d.0, d.1, d.2, d.3, subst (λ e. StandsForScript settings e (record m { guests = d.1 })) (sym l.invariant.same) d.4)
+
+pub returns-clause-host : goal.returns-clause-host
+returns-clause-host c = ap (λ (e : code.Engine). e.host) c.loop-at.invariant.same
+
+pub returns-in_err-say_start-clause-host : goal.returns-in_err-say_start-clause-host
+returns-in_err-say_start-clause-host c = ap (λ (e : code.Engine). e.host) c.loop-at.invariant.same

@@ -1,0 +1,101 @@
+//! A script, and what it gets.
+
+use crate::shelf::Shelf;
+use anyhow::{Result, bail};
+use std::alloc::Global;
+use wh_script::run_script;
+use wh_settings::{Settings, read_settings};
+use wh_swap::MemSwap;
+
+/// A script, with what it is run with and what it is to get.
+#[derive(Drop)]
+pub struct Script {
+    /// Its name.
+    pub name: String,
+    /// The document of its settings.
+    pub settings: String,
+    /// Whether its last line ends as the others do.
+    pub is_ended: bool,
+    /// Its lines.
+    pub given: String,
+    /// The replies that it is to get.
+    pub wanted: String,
+}
+
+/// Adds a line.
+pub fn add_line(text: &mut String, line: &str) -> Result<()> {
+    text.push_str(line)?;
+    text.push_str("\n")?;
+    Ok(())
+}
+
+/// What is written where these lines are obeyed.
+fn written(alloc: Global, shelf: &Shelf, settings: &Settings, lines: &str) -> Result<Vec<u8>> {
+    let mut device = MemSwap::new(alloc, settings.slots)?;
+    let mut reader = lines.as_bytes();
+    let mut writer = Vec::new(alloc);
+    match run_script(
+        alloc,
+        settings,
+        shelf,
+        &mut device,
+        &mut reader,
+        &mut writer,
+    ) {
+        Ok(()) => Ok(writer),
+        Err(fault) => bail!("the script stops: {fault}"),
+    }
+}
+
+/// A text without its lines that begin with `#`.
+fn without_reports(alloc: Global, text: &str) -> Result<String> {
+    let mut kept = String::new(alloc);
+    for line in text.split_inclusive('\n') {
+        if !line.starts_with('#') {
+            kept.push_str(line)?;
+        }
+    }
+    Ok(kept)
+}
+
+/// How many lines a text has.
+pub fn count_lines(text: &str) -> usize {
+    text.split_terminator('\n').count()
+}
+
+impl Script {
+    /// What it gets, without reports.
+    pub fn replies(&self, alloc: Global, shelf: &Shelf) -> Result<String> {
+        let settings = match read_settings(alloc, self.settings.as_bytes()) {
+            Ok(settings) => settings,
+            Err(error) => bail!("{error}"),
+        };
+        let lines = if self.is_ended {
+            self.given.as_str()
+        } else {
+            self.given.strip_suffix('\n').unwrap_or_default()
+        };
+        let bytes = written(alloc, shelf, &settings, lines)?;
+        match str::from_utf8(&bytes) {
+            Ok(text) => without_reports(alloc, text),
+            Err(_) => bail!("the replies aren't text"),
+        }
+    }
+
+    /// Prints where replies first differ from those wanted.
+    pub fn print_difference(&self, rt: &impl Print, replies: &str) -> Result<()> {
+        let name = self.name.as_str();
+        let mut found = replies.split('\n');
+        let mut number = 0usize;
+        for wanted in self.wanted.split('\n') {
+            number = number.saturating_add(1);
+            let came = found.next().unwrap_or("nothing");
+            if came != wanted {
+                println!(rt; "script {name}, reply {number}: wanted {wanted:?}; came {came:?}")?;
+                return Ok(());
+            }
+        }
+        println!(rt; "script {name}: more than {number} replies")?;
+        Ok(())
+    }
+}

@@ -1,0 +1,133 @@
+-- What lines get.
+use Rattle.std.proofs.lemmas.Option.{same_Some}
+use Rattle.std.proofs.Common.{◌≡◌, ◌∙◌, ℕ, ℤ, ◌<◌, ◌≤◌, ◌⊎◌, inl, inr, Bool, true, false, List, [], ◌∷◌, ◌++◌, length, slice_get, Option, Some, None, MatchOption, Result, Ok, Err, OnOk, OnErr, is_err, refl, sym, ap, subst}
+use Rattle.wh_host_model.specs.Script.{is_skipped, longest_line}
+use Rattle.wh_host_model.specs.Lines.Settings.{Settings}
+use Rattle.wh_host_model.specs.Lines.Commands.{Command, keep, load, admit, invoke, drain, refuel, cancel, retry, scan, report, release, AsksCommand}
+use Rattle.wh_host_model.specs.Lines.Texts.{Reply, error}
+use Rattle.wh_host_model.specs.Lines.Made.{Guest, Made, HasGuest, NoGuest}
+use Rattle.wh_host_model.specs.Lines.Drains.{Drains}
+use Rattle.wh_host_model.specs.Lines.Receiving.{ReceivesCall}
+use Rattle.wh_host_model.specs.Lines.Answers.{Files, IsRead, IsObeyed, no_such_guest, AnswersLine, skipped, invoked, obeyed, too_long, no_command, line_wants}
+use Rattle.wh_commands.specs.declared.error.LineError.{LineError}
+use Rattle.wh_commands.specs.declared.error.LineError.TheVariants.{Syntax, NoName, NameTaken, File, Memory}
+use Rattle.wh_commands.specs.declared.command.Command.{Command as Code}
+use Rattle.wh_commands.specs.Causes.{cause_number}
+use Rattle.wh_commands.specs.Found.{FindsAsked}
+use Rattle.wh_script_model.specs.Said.{AllAreSaid, IsWellMade}
+use Rattle.wh_script_model.proofs.SaidObeyed.{call_well, obeys_well}
+use Rattle.wh_engine.specs.declared.engine.Engine.{Engine}
+use Rattle.wh_engine.specs.Obeying.{TakesInvoke, IsNamed}
+use Rattle.wh_engine.specs.Standing.{StandsForScript}
+use Rattle.wh_script.specs.declared.lines.Line.{Line}
+use Rattle.wh_script.specs.declared.lines.Line.TheVariants.{Kept, TooLong, Skipped, End}
+use Rattle.wh_script.specs.Coming.{IsKind}
+use Rattle.wh_script.specs.Answering.{ServesScript, HasDrained, Complains, GetsReplies, is_obeyed, is_wanting, Obeys, Answers, AnswersCommand}
+use Rattle.wh_script.proofs.Speaking.{adds_none, adds_more}
+use Rattle.wh_script.proofs.Drained.{no_guest_then}
+
+pub is_skipped_line : (files : Files) (number : ℕ) (line : List ℕ) (e : Engine) (text : List ℕ) → is_skipped line ≡ true → Answers files number line e text e text
+is_skipped_line files number line e text is settings m s = ([], m, skipped is, adds_none text, s)
+
+pub is_too_long : (files : Files) (number : ℕ) (line text text2 : List ℕ) (e e2 : Engine) → is_skipped line ≡ false → longest_line < length line
+    → Complains (error 1 number) e text e2 text2 → Answers files number line e text e2 text2
+is_too_long files number line text text2 e e2 read long complains settings m s =
+    let c = complains settings m s in
+    (c.0 ++ error 1 number ∷ [], c.1, too_long read long c.2, c.3, c.4)
+
+pub is_no_command : (files : Files) (number : ℕ) (line text text2 : List ℕ) (e e2 : Engine) → IsRead line → ((command : Command) → ¬ (AsksCommand line command))
+    → Complains (error 1 number) e text e2 text2 → Answers files number line e text e2 text2
+is_no_command files number line text text2 e e2 read none complains settings m s =
+    let c = complains settings m s in
+    (c.0 ++ error 1 number ∷ [], c.1, no_command read none c.2, c.3, c.4)
+
+pub wants_memory : (files : Files) (number : ℕ) (line text text2 : List ℕ) (e e2 : Engine) → IsRead line
+    → Complains (error 5 number) e text e2 text2 → Answers files number line e text e2 text2
+wants_memory files number line text text2 e e2 read complains settings m s =
+    let c = complains settings m s in
+    (c.0 ++ error 5 number ∷ [], c.1, line_wants refl read c.2, c.3, c.4)
+
+-- a line whose command isn't found
+pub isnt_found : (files : Files) (number : ℕ) (line text text2 : List ℕ) (e e2 : Engine) (r : Result Code LineError) (cause : LineError) → r ≡ Err cause
+    → ((asked : Command) → AsksCommand line asked → FindsAsked r asked) → (cause ≡ Syntax) ⊎ (cause ≡ Memory) → IsRead line
+    → Complains (error (cause_number cause) number) e text e2 text2 → Answers files number line e text e2 text2
+isnt_found files number line text text2 e e2 r Syntax is only which read complains =
+    is_no_command files number line text text2 e e2 read (λ asked asks. subst (λ x. FindsAsked x asked) is (only asked asks)) complains
+isnt_found files number line text text2 e e2 r NoName is only which read complains = other_cause which
+  where
+    other_cause : (NoName ≡ Syntax) ⊎ (NoName ≡ Memory) → Answers files number line e text e2 text2
+    other_cause (inl h) = absurd (cc h)
+    other_cause (inr h) = absurd (cc h)
+isnt_found files number line text text2 e e2 r NameTaken is only which read complains = other_cause which
+  where
+    other_cause : (NameTaken ≡ Syntax) ⊎ (NameTaken ≡ Memory) → Answers files number line e text e2 text2
+    other_cause (inl h) = absurd (cc h)
+    other_cause (inr h) = absurd (cc h)
+isnt_found files number line text text2 e e2 r File is only which read complains = other_cause which
+  where
+    other_cause : (File ≡ Syntax) ⊎ (File ≡ Memory) → Answers files number line e text e2 text2
+    other_cause (inl h) = absurd (cc h)
+    other_cause (inr h) = absurd (cc h)
+isnt_found files number line text text2 e e2 r Memory is only which read complains = wants_memory files number line text text2 e e2 read complains
+
+-- ---- commands
+
+pub is_received : (files : Files) (number i : ℕ) (inst export : List ℕ) (fuel : ℕ) (args : List ℤ) (e e2 : Engine) (text : List ℕ)
+    → ((settings : Settings) (m : Made) → StandsForScript settings e m → IsNamed m i inst)
+    → ((settings : Settings) (m : Made) → StandsForScript settings e m → TakesInvoke settings m i export fuel args e2)
+    → AnswersCommand files number (invoke inst export fuel args) e text e2 text
+is_received files number i inst export fuel args e e2 text named takes line read asks settings m s =
+    let has = named settings m s.0 in
+    let took = takes settings m s.0 in
+    let same : took.0 ≡ has.0 = same_Some took.0 has.0 (sym took.1 ∙ has.1.0) in
+    let received : ReceivesCall true m i has.0 export fuel args took.2 = subst (λ g. ReceivesCall true m i g export fuel args took.2) same took.3 in
+    ([], took.2, invoked i read asks has.1 received, adds_none text, (took.4, call_well true m took.2 i has.0 export fuel args has.1.0 received s.1))
+
+pub has_no_guest : (files : Files) (number : ℕ) (inst export : List ℕ) (fuel : ℕ) (args : List ℤ) (e e2 : Engine) (text text2 : List ℕ)
+    → ((settings : Settings) (m : Made) → StandsForScript settings e m → NoGuest m inst)
+    → Complains (error 2 number) e text e2 text2 → AnswersCommand files number (invoke inst export fuel args) e text e2 text2
+has_no_guest files number inst export fuel args e e2 text text2 none complains line read asks settings m s =
+    let c = complains settings m s in
+    (c.0 ++ error 2 number ∷ [], c.1, obeyed {command = invoke inst export fuel args} read asks c.2 (no_such_guest refl (no_guest_then m c.1 c.0 inst c.2 (none settings m s.0))), c.3, c.4)
+
+pub invoke_wants : (files : Files) (number : ℕ) (command : Command) (e e1 e2 : Engine) (text text2 : List ℕ)
+    → ((settings : Settings) (m : Made) → StandsForScript settings e m → StandsForScript settings e1 m)
+    → Complains (error 5 number) e1 text e2 text2 → AnswersCommand files number command e text e2 text2
+invoke_wants files number command e e1 e2 text text2 stays complains line read asks settings m s =
+    wants_memory files number line text text2 e1 e2 read complains settings m (stays settings m s.0, s.1)
+
+gets_line : (settings : Settings) (files : Files) (m m1 m2 : Made) (number : ℕ) (command : Command) (line : List ℕ) (lines replies : List Reply) → IsRead line → AsksCommand line command
+    → Drains m lines m1 → GetsReplies settings files m1 number command replies m2 → AnswersLine true settings files m number line (lines ++ replies) m2
+gets_line settings files m m1 m2 number command line lines replies read asks drains (is_obeyed o) = obeyed read asks drains o
+gets_line settings files m m1 _ number command line lines _ read asks drains is_wanting = line_wants refl read drains
+
+gets_well : (settings : Settings) (files : Files) (m1 m2 : Made) (number : ℕ) (command : Command) (replies : List Reply) → GetsReplies settings files m1 number command replies m2
+    → IsWellMade m1 → AllAreSaid m1 → IsWellMade m2
+gets_well settings files m1 m2 number command replies (is_obeyed o) well all = obeys_well true settings files m1 m2 number command replies o well all
+gets_well settings files m1 _ number command _ is_wanting well all = well
+
+pub drained_obeyed : (files : Files) (number : ℕ) (command : Command) (e e1 e2 : Engine) (text mid text2 : List ℕ) → HasDrained e text e1 mid → Obeys files number command e1 mid e2 text2
+    → AnswersCommand files number command e text e2 text2
+drained_obeyed files number command e e1 e2 text mid text2 drained obeys line read asks settings m s =
+    let d = drained settings m s in
+    let o = obeys settings d.1 d.4.0 in (
+      d.0 ++ o.0,
+      o.1,
+      gets_line settings files m d.1 o.1 number command line d.0 o.0 read asks d.2 o.2,
+      adds_more d.0 o.0 text mid text2 d.3 o.3,
+      (o.4, gets_well settings files d.1 o.1 number command o.0 o.2 d.4.1 d.5),
+    )
+
+-- ---- kinds of lines
+
+pub skips : (kind : Line) (held line : List ℕ) → (kind ≡ End) ⊎ (kind ≡ Skipped) → IsKind kind held line → is_skipped line ≡ true
+skips kind held line (inl e) is = elim (subst (λ k. IsKind k held line) e is) [ ]
+skips kind held line (inr e) is = subst (λ k. IsKind k held line) e is
+
+pub where_ok : {A E P : Type 0} (r : Result A E) → false ≡ is_err r → OnOk r P → P
+where_ok (Ok x) e p = p
+where_ok (Err x) e p = absurd (cc e)
+
+pub where_err : {A E P : Type 0} (r : Result A E) → true ≡ is_err r → OnErr r P → P
+where_err (Ok x) e p = absurd (cc e)
+where_err (Err x) e p = p

@@ -1,0 +1,16 @@
+use Rattle.std.proofs.Common.{subst, sym, string_bytes}
+use Rattle.wh_commands.specs.Causes.{cause_number}
+use Rattle.wh_host_model.specs.Lines.Texts.{error}
+use Rattle.wh_engine.proofs.Sayings.{on_ok_then}
+use Rattle.wh_script.specs.Answering.{Complains}
+use Rattle.wh_script.proofs.Drained.{complains}
+use Rattle.wh_script.proofs.session.Session.complain_drained.Goals as goal
+
+pub returns-clause-complains : goal.returns-clause-complains
+returns-clause-complains g c =
+    let text = string_bytes c.args.self.now.text in
+    let text2 = string_bytes c.complain.new.self.text in
+    let reply = error (cause_number c.args.cause) c.args.number in
+    on_ok_then c.complain.result c.complain.ensures.said (λ said same.
+    subst (λ e. Complains reply c.args.self.now.engine text e text2) (sym c.complain.ensures.engine)
+    (complains c.args.self.now.engine c.drain.new.self.engine text (string_bytes c.drain.new.self.text) text2 reply (c.in_ok-drain.ensures.drains same) said))

@@ -1,0 +1,245 @@
+// What a command gets, once all calls have run.
+
+ghost use Rattle.std.specs.Prelude.{◌≡◌, ◌++◌, ℕ, List, None, OnOk, IfErr, string_bytes};
+ghost use Rattle.wh_host_model.specs.Requests.{IsHex};
+ghost use Rattle.wh_host_model.specs.Lines.Answers.{BringsBytes, Files, NamesModule};
+ghost use Rattle.wh_host_model.specs.Lines.Commands as asked_of;
+ghost use Rattle.wh_host_model.specs.Lines.Texts.{release_ok, reply_text};
+ghost use Rattle.wh_commands.specs.Found.{Says, params_of};
+ghost use Rattle.wh_engine.specs.Names.{number_of};
+ghost use Rattle.wh_host.specs.Backing.{KeepsBacking};
+ghost use Rattle.wh_script.specs.Answering.{IsNoInvoke, Obeys};
+
+use crate::files::{FileError, Source};
+use crate::session::Session;
+use wh_commands::{Command, Given, LineError};
+use wh_engine::ScriptFault;
+use wh_kernels::{ConstantHash, FnvHash};
+use wh_replies::{Reply, write_released};
+use wh_settings::HashKind;
+
+impl Session {
+    /// Puts what a command gets behind the text. A call is asked for elsewhere, since it is taken before all calls have run.
+    ///
+    /// # Errors
+    /// `Memory` where room for the reply is refused.
+    pub fn obey<S: Source>(
+        &mut self,
+        source: &S,
+        command: Command<'_>,
+        number: u64,
+    ) -> Result<(), ScriptFault>
+        ensures obeys { OnOk result ((asked : asked_of.Command) → Says command.entry asked
+            → IsNoInvoke asked → Obeys (S.files source.now) number asked self.old.engine
+            (string_bytes self.old.text) self.new.engine (string_bytes self.new.text)) }
+        ensures backing { KeepsBacking self.old.engine.host.space self.new.engine.host.space }
+        ensures err { IfErr result (λ e. e ≡ ScriptFault.Memory) }
+    {
+        match command {
+            Command::Module { name, hex } => self.module(name, hex, number),
+            Command::Load { name, path } => self.load(source, name, path, number),
+            Command::Admit {
+                inst,
+                module,
+                given,
+            } => self.admit(inst, module, given, number),
+            Command::Drain | Command::Invoke { .. } => Ok(()),
+            Command::Refuel { inst, fuel } => self.refuel(inst, fuel, number),
+            Command::Cancel { inst } => self.cancel(inst, number),
+            Command::Retry { inst } => self.retry(inst, number),
+            Command::Scan => self.scan(),
+            Command::Report => self.report(),
+            Command::Release { inst } => self.release(inst, number),
+        }
+    }
+
+    /// `module NAME HEX`.
+    fn module(&mut self, name: &str, hex: &str, number: u64) -> Result<(), ScriptFault>
+        ensures obeys { OnOk result ((files : Files) (bytes : List ℕ) → IsHex hex.now bytes
+            → Obeys files number (asked_of.keep name.now bytes) self.old.engine
+            (string_bytes self.old.text) self.new.engine (string_bytes self.new.text)) }
+        ensures backing { KeepsBacking self.old.engine.host.space self.new.engine.host.space }
+        ensures err { IfErr result (λ e. e ≡ ScriptFault.Memory) }
+    {
+        if self.engine.module_number(name).is_some() {
+            return self.complain(LineError::NameTaken, number);
+        }
+        let Ok(bytes) = hex::decode(self.alloc, hex) else {
+            return self.complain(LineError::Memory, number);
+        };
+        self.keep(name, &bytes, number)
+    }
+
+    /// `load NAME PATH`.
+    fn load<S: Source>(
+        &mut self,
+        source: &S,
+        name: &str,
+        path: &str,
+        number: u64,
+    ) -> Result<(), ScriptFault>
+        ensures obeys { OnOk result (Obeys (S.files source.now) number
+            (asked_of.load name.now path.now) self.old.engine (string_bytes self.old.text)
+            self.new.engine (string_bytes self.new.text)) }
+        ensures backing { KeepsBacking self.old.engine.host.space self.new.engine.host.space }
+        ensures err { IfErr result (λ e. e ≡ ScriptFault.Memory) }
+    {
+        if self.engine.module_number(name).is_some() {
+            return self.complain(LineError::NameTaken, number);
+        }
+        match source.read(self.alloc, path) {
+            Ok(bytes) => self.keep(name, &bytes, number),
+            Err(FileError::Unreadable) => self.complain(LineError::File, number),
+            Err(FileError::Memory) => self.complain(LineError::Memory, number),
+        }
+    }
+
+    /// Keeps the module of these bytes under a free name.
+    fn keep(&mut self, name: &str, bytes: &[u8], number: u64) -> Result<(), ScriptFault>
+        requires free { number_of self.old.engine.module_names name.now ≡ None }
+        ensures obeys { OnOk result ((files : Files) (asked : asked_of.Command)
+            → NamesModule asked name.now → BringsBytes files asked bytes.now
+            → Obeys files number asked self.old.engine (string_bytes self.old.text)
+            self.new.engine (string_bytes self.new.text)) }
+        ensures backing { KeepsBacking self.old.engine.host.space self.new.engine.host.space }
+        ensures err { IfErr result (λ e. e ≡ ScriptFault.Memory) }
+    {
+        match self.engine.keep(self.alloc, name, bytes) {
+            Ok(reply) => self.reply(reply),
+            Err(_) => self.complain(LineError::Memory, number),
+        }
+    }
+
+    /// `admit INST MODULE SHARES MIN MAX FUEL BASE SALT [INPUT ..]`.
+    fn admit(
+        &mut self,
+        inst: &str,
+        name: &str,
+        given: Given,
+        number: u64,
+    ) -> Result<(), ScriptFault>
+        ensures obeys { OnOk result ((files : Files) → Obeys files number
+            (asked_of.admit inst.now name.now (params_of given)) self.old.engine
+            (string_bytes self.old.text) self.new.engine (string_bytes self.new.text)) }
+        ensures backing { KeepsBacking self.old.engine.host.space self.new.engine.host.space }
+        ensures err { IfErr result (λ e. e ≡ ScriptFault.Memory) }
+    {
+        let Some(of) = self.module_named(name) else {
+            return self.complain(LineError::NoName, number);
+        };
+        if self.engine.guest_number(inst).is_some() {
+            return self.complain(LineError::NameTaken, number);
+        }
+        match self.engine.admit(self.alloc, inst, of, given) {
+            Ok(reply) => self.reply(reply),
+            Err(_) => self.complain(LineError::Memory, number),
+        }
+    }
+
+    /// `refuel INST N`.
+    fn refuel(&mut self, inst: &str, fuel: u64, number: u64) -> Result<(), ScriptFault>
+        ensures obeys { OnOk result ((files : Files) → Obeys files number
+            (asked_of.refuel inst.now fuel) self.old.engine (string_bytes self.old.text)
+            self.new.engine (string_bytes self.new.text)) }
+        ensures backing { KeepsBacking self.old.engine.host.space self.new.engine.host.space }
+        ensures err { IfErr result (λ e. e ≡ ScriptFault.Memory) }
+    {
+        let Some(guest) = self.guest_named(inst) else {
+            return self.complain(LineError::NoName, number);
+        };
+        let reply = self.engine.refuel(guest, inst, fuel);
+        self.reply(reply)
+    }
+
+    /// `cancel INST`.
+    fn cancel(&mut self, inst: &str, number: u64) -> Result<(), ScriptFault>
+        ensures obeys { OnOk result ((files : Files) → Obeys files number
+            (asked_of.cancel inst.now) self.old.engine (string_bytes self.old.text)
+            self.new.engine (string_bytes self.new.text)) }
+        ensures backing { KeepsBacking self.old.engine.host.space self.new.engine.host.space }
+        ensures err { IfErr result (λ e. e ≡ ScriptFault.Memory) }
+    {
+        let Some(guest) = self.guest_named(inst) else {
+            return self.complain(LineError::NoName, number);
+        };
+        let reply = self.engine.cancel(guest, inst);
+        self.reply(reply)
+    }
+
+    /// `retry INST`.
+    fn retry(&mut self, inst: &str, number: u64) -> Result<(), ScriptFault>
+        ensures obeys { OnOk result ((files : Files) → Obeys files number
+            (asked_of.retry inst.now) self.old.engine (string_bytes self.old.text)
+            self.new.engine (string_bytes self.new.text)) }
+        ensures backing { KeepsBacking self.old.engine.host.space self.new.engine.host.space }
+        ensures err { IfErr result (λ e. e ≡ ScriptFault.Memory) }
+    {
+        let Some(guest) = self.guest_named(inst) else {
+            return self.complain(LineError::NoName, number);
+        };
+        let reply = self.engine.retry(guest, inst);
+        self.reply(reply)
+    }
+
+    /// `scan`.
+    fn scan(&mut self) -> Result<(), ScriptFault>
+        ensures obeys { OnOk result ((files : Files) (number : ℕ) → Obeys files number asked_of.scan
+            self.old.engine (string_bytes self.old.text) self.new.engine
+            (string_bytes self.new.text)) }
+        ensures backing { KeepsBacking self.old.engine.host.space self.new.engine.host.space }
+        ensures err { IfErr result (λ e. e ≡ ScriptFault.Memory) }
+    {
+        match self.hash {
+            HashKind::Fnv64 => self.engine.scan(&FnvHash),
+            HashKind::Constant => self.engine.scan(&ConstantHash),
+        }
+        self.reply(Reply::ScanOk)
+    }
+
+    /// `report`.
+    fn report(&mut self) -> Result<(), ScriptFault>
+        ensures obeys { OnOk result ((files : Files) (number : ℕ)
+            → Obeys files number asked_of.report self.old.engine (string_bytes self.old.text)
+            self.new.engine (string_bytes self.new.text)) }
+        ensures backing { KeepsBacking self.old.engine.host.space self.new.engine.host.space }
+        ensures err { IfErr result (λ e. e ≡ ScriptFault.Memory) }
+    {
+        let Ok(report) = self.engine.report(self.alloc) else {
+            return Err(ScriptFault::Memory);
+        };
+        let Ok(()) = self.text.push_str(&report) else {
+            return Err(ScriptFault::Memory);
+        };
+        Ok(())
+    }
+
+    /// `release INST`.
+    fn release(&mut self, inst: &str, number: u64) -> Result<(), ScriptFault>
+        ensures obeys { OnOk result ((files : Files) → Obeys files number
+            (asked_of.release inst.now) self.old.engine (string_bytes self.old.text)
+            self.new.engine (string_bytes self.new.text)) }
+        ensures backing { KeepsBacking self.old.engine.host.space self.new.engine.host.space }
+        ensures err { IfErr result (λ e. e ≡ ScriptFault.Memory) }
+    {
+        let Some(guest) = self.guest_named(inst) else {
+            return self.complain(LineError::NoName, number);
+        };
+        match self.engine.release(self.alloc, guest) {
+            Ok(output) => self.say_released(inst, &output),
+            Err(error) => self.reply(Reply::ReleaseRefused {
+                inst,
+                fault: error.number(),
+            }),
+        }
+    }
+
+    /// Puts the reply to a release behind the text.
+    fn say_released(&mut self, inst: &str, output: &[u8]) -> Result<(), ScriptFault>
+        ensures said { OnOk result (string_bytes self.new.text
+            ≡ string_bytes self.old.text ++ reply_text (release_ok inst.now output.now)) }
+        ensures engine { self.new.engine ≡ self.old.engine }
+        ensures err { IfErr result (λ e. e ≡ ScriptFault.Memory) }
+    {
+        write_released(self.alloc, &mut self.text, inst, output).map_err(|_| ScriptFault::Memory)
+    }
+}

@@ -1,0 +1,41 @@
+// Replies that are written.
+
+ghost use Rattle.std.specs.Prelude.{◌≡◌, IfErr};
+ghost use Rattle.wh_script.specs.Runs.{Sent};
+
+use std::io::{ErrorKind, Write};
+use wh_engine::ScriptFault;
+
+/// Writes the bytes, all of them and at once. Where there are none the writer isn't touched.
+///
+/// # Errors
+/// `Output` where the writer fails; a beginning of the bytes may be written.
+pub fn send<W: Write>(writer: &mut W, bytes: &[u8]) -> Result<(), ScriptFault>
+    ensures sent { Sent (W.contents writer.old) (W.contents writer.new) result bytes.now }
+{
+    if bytes.is_empty() {
+        return Ok(());
+    }
+    write_whole(writer, bytes)?;
+    writer.flush().map_err(|_| ScriptFault::Output)
+}
+
+// Writes all of the bytes, or as many as the writer takes.
+fn write_whole<W: Write>(writer: &mut W, bytes: &[u8]) -> Result<(), ScriptFault>
+    ensures sent { Sent (W.contents writer.old) (W.contents writer.new) result bytes.now }
+    ensures output { IfErr result (λ e. e ≡ ScriptFault.Output) }
+{
+    let mut rest = bytes;
+    for _ in 0..u64::MAX {
+        if rest.is_empty() {
+            return Ok(());
+        }
+        match writer.write(rest) {
+            Ok(0) => return Err(ScriptFault::Output),
+            Ok(count) => rest = &rest[count..],
+            Err(e) if e.kind() == ErrorKind::Interrupted => {}
+            Err(_) => return Err(ScriptFault::Output),
+        }
+    }
+    Err(ScriptFault::Output)
+}
