@@ -45,7 +45,7 @@ def is_right(number, line, wanted, before):
         return True
     if wanted == "error C3 line 5":
         return before[1] != "module seven ok" and line == "module seven ok"
-    return re.fullmatch(f"module {name} refused (D13 at \\d+|V11 module|V11 func \\d+ instr \\d+|L3)", line) is not None
+    return re.fullmatch(f"module {name} refused (D13 at \\d+|V11 module|V11 func \\d+ instr \\d+|L3|M2)", line) is not None
 
 
 whole = run()
@@ -69,7 +69,7 @@ with tempfile.TemporaryDirectory() as folder:
         else:
             assert (refused.returncode, refused.stderr, len(lines)) == (0, b"", len(wanted)), (requests, refused)
             wanting += lines != wanted
-            kinds |= {found for found in re.findall("D13|V11|L3|C5", refused.stdout.decode())}
+            kinds |= {found for found in re.findall("D13|V11|L3|M2|C5", refused.stdout.decode())}
     assert requests > 0 and (refused.returncode, refused.stdout) == (0, whole.stdout), requests
-assert kinds == {"D13", "V11", "L3", "C5"}, kinds
+assert kinds == {"D13", "V11", "L3", "M2", "C5"}, kinds
 print(f"{requests} requests for memory refused in turn: {wanting} in a reply, {stopped} by stopping; every reply was right")
