@@ -1,8 +1,16 @@
 -- What the program writes.
-use Rattle.std.specs.Prelude.{ℕ, true, List, Option, ◌⊎◌}
+use Rattle.std.specs.Prelude.{ℕ, true, List, [], Option, Some, None, ◌⊎◌}
 use Rattle.wh_host_model.specs.Lines.Answers.{Files}
 use Rattle.wh_host_model.specs.Lines.Settings.{Settings}
+use Rattle.wh_engine.specs.Draining.{HasServed}
+use Rattle.wh_swap.specs.declared.stream.PageSwap.{PageSwap}
+use Rattle.wh_swap.specs.Written.{HasReadRight, page_faults}
 use Rattle.wh_script.specs.Runs.{AppendsFront, IsPartial, IsWhole}
+
+-- the device over a file, if there is one, has given what was written to it, and no call of it failed
+abbrev pub HasServedSo : {P : Type 0} → Option (PageSwap P) → Type 0
+HasServedSo None = Unit {0}
+HasServedSo (Some device) = HasServed (HasReadRight device) [] (page_faults device)
 
 -- any file may hold any bytes, or none
 abbrev pub any_files : Files

@@ -11,6 +11,8 @@ mod arguments;
 mod files;
 mod program;
 #[cfg(test)]
+mod swap_tests;
+#[cfg(test)]
 mod tests;
 
-pub use program::{ANSWERED, NOT_ACCEPTED, STOPPED, answer, run};
+pub use program::{ANSWERED, NOT_ACCEPTED, Outcome, STOPPED, answer, run};

@@ -1,17 +1,21 @@
 //! The program: words, settings, a script, replies and a status.
 
-ghost use Rattle.std.specs.Prelude.{◌≤◌};
-ghost use Rattle.wasmhost_program.specs.Written.{WritesReplies};
+ghost use Rattle.std.specs.Prelude.{◌≡◌, ◌≤◌, replicate, [], IfOk, MatchOption};
+ghost use Rattle.wh_engine.specs.Draining.{HasServed};
+ghost use Rattle.wh_script.specs.Starting.{IsEmptyDevice};
+ghost use Rattle.wh_swap.specs.Written.{HasReadRight, page_faults, page_held};
+ghost use Rattle.wasmhost_program.specs.Written.{HasServedSo, WritesReplies};
 
 use crate::arguments::{Arguments, Refused, read_args};
 use crate::files::{LateFile, SystemFiles};
-use std::io::{ErrorKind, Read, Write};
+use std::fs::OpenOptions;
+use std::io::{ErrorKind, Write};
 use std::process::ExitCode;
 use std::rt::{Env, Files};
 use std::{env, fs, io};
 use wh_script::{ScriptFault, run_script};
 use wh_settings::{Settings, SettingsError, read_settings};
-use wh_swap::MemSwap;
+use wh_swap::{MemSwap, StreamSwap, SwapDev};
 
 /// The status where the whole script was answered.
 pub const ANSWERED: u8 = 0;
@@ -47,11 +51,68 @@ fn settings_of_file(
     }
 }
 
-/// Runs a script with these settings. Pages are swapped to memory.
-fn run_with<R: Read, W: Write>(
-    rt: &(impl Files + AllocGlobal),
+/// What came of a command line.
+#[derive(Drop)]
+pub struct Outcome<F> {
+    /// The status: 0 to 2.
+    pub status: u8,
+    /// The device to which pages were swapped, where the settings name a file for it.
+    pub swap: Option<StreamSwap<F>>,
+}
+
+/// A device over this file, which is made where it isn't there. What it held is lost.
+fn open_swap<E: Files + AllocGlobal>(
+    rt: &E,
+    path: &str,
+    slots: u32,
+) -> Result<StreamSwap<E::File>, ScriptFault>
+    ensures held { IfOk result (λ device. page_held device ≡ replicate slots []) }
+    ensures faults { IfOk result (λ device. page_faults device ≡ []) }
+{
+    let mut options = OpenOptions::new();
+    options.read(true);
+    options.write(true);
+    options.create(true);
+    options.truncate(true);
+    let Ok(file) = options.open(rt, path) else {
+        return Err(ScriptFault::Swap);
+    };
+    let Ok(device) = StreamSwap::new(rt.alloc(), file, slots) else {
+        return Err(ScriptFault::Memory);
+    };
+    Ok(device)
+}
+
+/// Runs a script with these settings, from standard input where it has no path. Pages are swapped to the device.
+fn run_over<E: Files + Input + AllocGlobal, D: SwapDev, W: Write>(
+    rt: &E,
     settings: &Settings,
-    reader: &mut R,
+    device: &mut D,
+    script: Option<&str>,
+    output: &mut W,
+) -> Result<(), ScriptFault>
+    requires { IsEmptyDevice settings.now.slots (D.held device.old) }
+    ensures { HasServed (D.honest device.new) (D.faults device.old) (D.faults device.new)
+        → WritesReplies (W.contents output.old) (W.contents output.new) }
+{
+    let source = SystemFiles { rt };
+    let Some(path) = script else {
+        let mut reader = rt.reader();
+        return run_script(rt.alloc(), settings, &source, device, &mut reader, output);
+    };
+    let mut reader = LateFile {
+        rt,
+        path,
+        file: None,
+    };
+    run_script(rt.alloc(), settings, &source, device, &mut reader, output)
+}
+
+/// Runs a script with these settings, in which no file for swap is named. Pages are swapped to memory.
+fn run_in_memory<E: Files + Input + AllocGlobal, W: Write>(
+    rt: &E,
+    settings: &Settings,
+    script: Option<&str>,
     output: &mut W,
 ) -> Result<(), ScriptFault>
     ensures { WritesReplies (W.contents output.old) (W.contents output.new) }
@@ -59,31 +120,32 @@ fn run_with<R: Read, W: Write>(
     let Ok(mut device) = MemSwap::new(rt.alloc(), settings.slots) else {
         return Err(ScriptFault::Memory);
     };
-    let source = SystemFiles { rt };
-    run_script(rt.alloc(), settings, &source, &mut device, reader, output)
+    run_over(rt, settings, &mut device, script, output)
 }
 
-/// Runs the script of a command line with its settings.
-fn run_given<W: Write>(
-    rt: &(impl Files + Input + AllocGlobal),
+/// Runs the script of a command line with its settings. The device comes back, where the settings name a file for it.
+fn run_given<E: Files + Input + AllocGlobal, W: Write>(
+    rt: &E,
     given: Arguments<'_>,
     output: &mut W,
-) -> Result<(), ScriptFault>
-    ensures { WritesReplies (W.contents output.old) (W.contents output.new) }
+) -> (Result<(), ScriptFault>, Option<StreamSwap<E::File>>)
+    ensures { HasServedSo result.1
+        → WritesReplies (W.contents output.old) (W.contents output.new) }
 {
-    let settings = settings_of_file(rt, given.settings)?;
-    if settings.swap.is_some() {
-        return Err(ScriptFault::Swap);
+    let settings = match settings_of_file(rt, given.settings) {
+        Ok(settings) => settings,
+        Err(fault) => return (Err(fault), None),
+    };
+    let Some(path) = &settings.swap else {
+        return (run_in_memory(rt, &settings, given.script, output), None);
+    };
+    match open_swap(rt, path, settings.slots) {
+        Ok(mut device) => {
+            let outcome = run_over(rt, &settings, &mut device, given.script, output);
+            (outcome, Some(device))
+        }
+        Err(fault) => (Err(fault), None),
     }
-    let Some(path) = given.script else {
-        return run_with(rt, &settings, &mut rt.reader(), output);
-    };
-    let mut script = LateFile {
-        rt,
-        path,
-        file: None,
-    };
-    run_with(rt, &settings, &mut script, output)
 }
 
 /// Says why the program stops. A failed write of that has nobody to be told.
@@ -95,29 +157,35 @@ fn stop(errors: &mut impl Write, fault: ScriptFault) -> u8
 }
 
 /// Answers the script that the words of a command line name, the first of them being the program's: the replies go to
-/// `output`, and why it stops or isn't begun to `errors`. The result is the status.
-pub fn answer<W: Write>(
-    rt: &(impl Files + Input + AllocGlobal),
+/// `output`, and why it stops or isn't begun to `errors`.
+pub fn answer<E: Files + Input + AllocGlobal, W: Write>(
+    rt: &E,
     words: &[String],
     output: &mut W,
     errors: &mut impl Write,
-) -> u8
-    ensures status { result ≤ 2 }
-    // Nothing but what answers a script is written to the output.
-    ensures replies { WritesReplies (W.contents output.old) (W.contents output.new) }
+) -> Outcome<E::File>
+    ensures status { result.status ≤ 2 }
+    // Nothing but what answers a script is written to the output: so it is where pages are swapped to memory, and over a
+    // file where that has given what was written to it, and no call of it failed.
+    ensures replies { HasServedSo result.swap
+        → WritesReplies (W.contents output.old) (W.contents output.new) }
 {
-    let outcome = match read_args(rt.alloc(), words) {
+    let (outcome, swap) = match read_args(rt.alloc(), words) {
         Ok(given) => run_given(rt, given, output),
-        Err(Refused::Memory) => Err(ScriptFault::Memory),
+        Err(Refused::Memory) => (Err(ScriptFault::Memory), None),
         Err(Refused::Line(error)) => {
             let _ = write!(errors, "{error}");
-            return NOT_ACCEPTED;
+            return Outcome {
+                status: NOT_ACCEPTED,
+                swap: None,
+            };
         }
     };
-    match outcome {
+    let status = match outcome {
         Ok(()) => ANSWERED,
         Err(fault) => stop(errors, fault),
-    }
+    };
+    Outcome { status, swap }
 }
 
 /// Runs the program, with the words, the streams and the files of this process.
@@ -133,5 +201,6 @@ pub fn run(rt: HostRuntime) -> ExitCode {
             return ExitCode::from(NOT_ACCEPTED);
         }
     };
-    ExitCode::from(answer(&rt, &words, &mut io::writer(&rt), &mut errors))
+    let outcome = answer(&rt, &words, &mut io::writer(&rt), &mut errors);
+    ExitCode::from(outcome.status)
 }

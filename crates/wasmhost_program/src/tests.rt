@@ -57,7 +57,7 @@ fn what_has_no_script_ends_without_a_reply(rt: HostRuntime) -> Result<(), Fail> 
         let words = words(&rt, line)?;
         let mut output = Vec::new(rt.alloc());
         let mut errors = Vec::new(rt.alloc());
-        let status = answer(&rt, &words, &mut output, &mut errors);
+        let status = answer(&rt, &words, &mut output, &mut errors).status;
         assert_eq!(rt; status, wanted, "{complaint}");
         assert_eq!(rt; output.len(), 0, "{complaint}");
         assert!(rt;
@@ -75,9 +75,9 @@ fn a_failed_write_stops_the_program(rt: HostRuntime) -> Result<(), Fail> {
     let words = words(&rt, &["wasmhost", path])?;
     let mut output = Vec::new(rt.alloc());
     let mut errors = Vec::new(rt.alloc());
-    let status = answer(&rt, &words, &mut output, &mut errors);
-    let stopped = answer(&rt, &words, &mut Full, &mut errors);
-    let unheard = answer(&rt, &words, &mut Full, &mut Full);
+    let status = answer(&rt, &words, &mut output, &mut errors).status;
+    let stopped = answer(&rt, &words, &mut Full, &mut errors).status;
+    let unheard = answer(&rt, &words, &mut Full, &mut Full).status;
     fs::remove_file(&rt, path)?;
     assert_eq!(rt; status, ANSWERED);
     assert_eq!(rt; str::from_utf8(output.as_slice()), Ok("error C1 line 1\n"));
@@ -88,10 +88,11 @@ fn a_failed_write_stops_the_program(rt: HostRuntime) -> Result<(), Fail> {
 }
 
 /// Settings, each with why the program stops for them.
-const UNFIT: [(&str, &str); 3] = [
+const UNFIT: [(&str, &str); 4] = [
     ("frames = 1\n", "wasmhost: settings\n"),
     ("speed = 1\n", "wasmhost: settings\n"),
-    ("swap = \"pages\"\n", "wasmhost: swap\n"),
+    ("swap = \"/\"\n", "wasmhost: swap\n"),
+    ("swap = \"no/such/pages\"\n", "wasmhost: swap\n"),
 ];
 
 #[test]
@@ -102,7 +103,7 @@ fn settings_that_are_unfit_stop_the_program(rt: HostRuntime) -> Result<(), Fail>
         fs::write(&rt, path, settings)?;
         let mut output = Vec::new(rt.alloc());
         let mut errors = Vec::new(rt.alloc());
-        let status = answer(&rt, &words, &mut output, &mut errors);
+        let status = answer(&rt, &words, &mut output, &mut errors).status;
         fs::remove_file(&rt, path)?;
         assert_eq!(rt; status, STOPPED, "{settings}");
         assert_eq!(rt; output.len(), 0, "{settings}");

@@ -7,6 +7,8 @@ use Rattle.std.specs.Map.{update}
 use Rattle.wh_model.specs.Format.Syntax.{Module}
 use Rattle.wh_model.specs.Execution.Instance.{Piece}
 use Rattle.wh_model.specs.Execution.Replay.{Outcome, returned, pending, Call}
+use Rattle.wh_host.proofs.Hosts.{reached_on}
+use Rattle.wh_host_model.specs.Host.Events as events
 use Rattle.wh_host_model.specs.declared.plain.InstId.{InstId}
 use Rattle.std.proofs.Math.Seq.{get_or-append_seam}
 use Rattle.std.proofs.lemmas.Option.{same_Some}
@@ -39,7 +41,7 @@ use Rattle.wh_engine.specs.Names.{AreNames, number_of}
 use Rattle.wh_engine.specs.declared.engine.Engine.{Engine}
 use Rattle.wh_engine.specs.declared.names.Names.{Names}
 use Rattle.wh_engine.specs.declared.parts.Guest.{Guest}
-use Rattle.wh_engine.specs.Standing.{StandsForScript, AreGuests, IsGuest}
+use Rattle.wh_engine.specs.Standing.{IsLed, StandsForScript, AreGuests, IsGuest}
 use Rattle.wh_engine.specs.Obeying.{TakesGuest}
 use Rattle.wh_engine.proofs.Asked.{whole_of}
 use Rattle.wh_engine.proofs.Named.{named_next, unnamed}
@@ -196,7 +198,7 @@ new_stands : (settings : Settings) (e : Engine) (m : Made) (named : NamedModule)
     → ((other : List ℕ) → number_of names other ≡ update bytes_eq (number_of e.guest_names) inst (Some (length e.guests.items)) other)
     → Tells h2 x.has_start (λ z. IsGoing z id) → IsNewGuest x inst id → xs.items ≡ e.guests.items ++ x ∷ []
     → (w2 : World) → LetsIn s.world k p id.place id.number w2
-    → (m2 : Made) (reply : Reply) → reply ≡ texts.admit_ok inst id.number → ReceivesGuest true settings m inst named.m p reply m2 → IsHost h2 w2
+    → (m2 : Made) (reply : Reply) → reply ≡ texts.admit_ok inst id.number → ReceivesGuest true settings m inst named.m p reply m2 → IsLed h2 w2
     → Knows settings w2 m2 (map (λ (y : Guest). y.id.place) e.guests.items ++ id.place ∷ [])
     → TakesGuest settings m inst k p reply (with_guests e h2 names xs)
 new_stands settings e m named inst k p id h2 names x xs s free at sets tells is items w2 lets _ _ eq (receiving.isnt_admitted fault first) is2 knows2 = absurd (cc eq)
@@ -209,7 +211,7 @@ new_stands settings e m named inst k p id h2 names x xs s free at sets tells is 
     let at_end : IsGuest (0 + length e.guests.items) x g = record {
       number = place;
       name = is.name;
-      starts = has_start lets m.guests g pieces h2 x.has_start knows2.guests refl is2 tells;
+      starts = has_start lets m.guests g pieces h2 x.has_start knows2.guests refl is2.0 tells;
       released = is.live;
       said = ap (λ o. option_map status_of o) is.unsaid;
     } in (
@@ -241,13 +243,14 @@ pub admitted : (settings : Settings) (e : Engine) (m : Made) (inst : List ℕ) (
     → TakesGuest settings m inst k p (texts.admit_ok inst id.number) (with_guests e h2 names xs)
 admitted settings e m inst k p id h2 names x xs s free within answers whole sets tells is items =
     let w = s.world in
-    let did = answers w s.is in
+    let did = answers w s.is.0 in
     let there = there_at m.modules k (subst (λ n. k < n) s.modules within) in
     let entered = entered_as w did.1 k p id did.0 did.2 did.3 in
-    let reached = s.is.reached in
+    let reached = s.is.1 in
+    let led : IsLed h2 did.1 = (did.4, reached_on w did.1 (events.admit k p) reached (did.0, did.3)) in
     let follows = guests_follow reached.frames reached.slots reached.tax reached.events w reached.happen settings m (map (λ (y : Guest). y.id.place) e.guests.items) k there.0 inst p
-    (admit_ok id) did.1 s.knows there.1 (is_admitted entered.lets) (whole_of e.host h2 w did.1 s.is did.4 whole) in
-    new_stands settings e m there.0 inst k p id h2 names x xs s free there.1 sets tells is items did.1 entered.lets follows.0 (texts.admit_ok inst id.number) refl follows.1 did.4 follows.2
+    (admit_ok id) did.1 s.knows there.1 (is_admitted entered.lets) (whole_of e.host h2 w did.1 s.is.0 did.4 whole) in
+    new_stands settings e m there.0 inst k p id h2 names x xs s free there.1 sets tells is items did.1 entered.lets follows.0 (texts.admit_ok inst id.number) refl follows.1 led follows.2
 
 -- ---- one that doesn't come
 
@@ -264,7 +267,7 @@ refused_as inst Memory = refl
 
 refused_engine : (settings : Settings) (e : Engine) (m : Made) (h2 : HostState) (names : Names) (xs : Vec Guest) → StandsForScript settings e m
     → AreNames (number_of names) (map (λ (y : made.Guest). y.name) m.guests) → xs.items ≡ e.guests.items
-    → (w2 : World) → IsHost h2 w2 → Knows settings w2 m (map (λ (y : Guest). y.id.place) e.guests.items) → StandsForScript settings (with_guests e h2 names xs) m
+    → (w2 : World) → IsLed h2 w2 → Knows settings w2 m (map (λ (y : Guest). y.id.place) e.guests.items) → StandsForScript settings (with_guests e h2 names xs) m
 refused_engine settings e m h2 names xs s are items w2 is2 knows2 = record {
   world = w2;
   is = is2;
@@ -282,7 +285,7 @@ places_refused settings w2 m2 places None knows = knows
 
 refused_stands : (settings : Settings) (e : Engine) (m : Made) (named : NamedModule) (inst : List ℕ) (k : ℕ) (p : Params) (fault : ℕ) (h2 : HostState) (names : Names) (xs : Vec Guest)
     → StandsForScript settings e m → slice_get m.modules k ≡ Some named → AreNames (number_of names) (map (λ (y : made.Guest). y.name) m.guests) → xs.items ≡ e.guests.items
-    → (w2 : World) (m2 : Made) (reply : Reply) → reply ≡ texts.admit_refused inst fault → ReceivesGuest true settings m inst named.m p reply m2 → IsHost h2 w2
+    → (w2 : World) (m2 : Made) (reply : Reply) → reply ≡ texts.admit_refused inst fault → ReceivesGuest true settings m inst named.m p reply m2 → IsLed h2 w2
     → Knows settings w2 m2 (map (λ (y : Guest). y.id.place) e.guests.items)
     → TakesGuest settings m inst k p reply (with_guests e h2 names xs)
 refused_stands settings e m named inst k p fault h2 names xs s at are items w2 _ _ eq (receiving.is_admitted none initial) is2 knows2 = absurd (cc eq)
@@ -299,12 +302,13 @@ pub refused : (settings : Settings) (e : Engine) (m : Made) (inst : List ℕ) (k
     → TakesGuest settings m inst k p (texts.admit_refused inst (admit_number error)) (with_guests e h2 names xs)
 refused settings e m inst k p error h2 given names xs s within free answers whole sets clears items =
     let w = s.world in
-    let did = answers w s.is in
+    let did = answers w s.is.0 in
     let there = there_at m.modules k (subst (λ n. k < n) s.modules within) in
-    let reached = s.is.reached in
+    let reached = s.is.1 in
+    let led : IsLed h2 did.1 = (did.4, reached_on w did.1 (events.admit k p) reached (did.0, did.3)) in
     let follows = guests_follow reached.frames reached.slots reached.tax reached.events w reached.happen settings m (map (λ (y : Guest). y.id.place) e.guests.items) k there.0 inst p
-    (fault_answer (fault_of error)) did.1 s.knows there.1 (subst (λ a. IsAdmit w k p a did.1) did.2 did.3) (whole_of e.host h2 w did.1 s.is did.4 whole) in
+    (fault_answer (fault_of error)) did.1 s.knows there.1 (subst (λ a. IsAdmit w k p a did.1) did.2 did.3) (whole_of e.host h2 w did.1 s.is.0 did.4 whole) in
     let are = unnamed (number_of e.guest_names) (number_of given) (number_of names) (map (λ (y : made.Guest). y.name) m.guests) inst (Some (length e.guests.items)) s.guest_names free sets clears in
     subst (λ r. TakesGuest settings m inst k p r (with_guests e h2 names xs)) (refused_as inst error)
     (refused_stands settings e m there.0 inst k p (admit_number error) h2 names xs s there.1 are items did.1 follows.0 (admit_reply inst (fault_answer (fault_of error))) (refused_as inst error)
-    follows.1 did.4 (places_refused settings did.1 follows.0 (map (λ (y : Guest). y.id.place) e.guests.items) (fault_of error) follows.2))
+    follows.1 led (places_refused settings did.1 follows.0 (map (λ (y : Guest). y.id.place) e.guests.items) (fault_of error) follows.2))

@@ -1,9 +1,11 @@
 -- What is asked of the present call of an instance.
 use Rattle.std.proofs.Common.{arith, ◌≡◌, ℕ, ◌+◌, ◌<◌, true, List, [], ◌∷◌, map, length, get_or, slice_get, Option, Some, Result, Ok, Err, refl, ap, sym, subst, ◌∙◌}
 use Rattle.std.proofs.lemmas.Option.{slice_get-get_or}
+use Rattle.wh_host.proofs.Hosts.{reached_on}
+use Rattle.wh_host_model.specs.Host.Events.{Event}
 use Rattle.wh_host_model.specs.declared.plain.InstId.{InstId}
 use Rattle.wh_host_model.specs.Host.Worlds.{World}
-use Rattle.wh_host_model.specs.Host.Happens.{CallAnswer, call_ok, call_no_instance, call_no_call}
+use Rattle.wh_host_model.specs.Host.Happens.{CallAnswer, call_ok, call_no_instance, call_no_call, Happens}
 use Rattle.wh_host_model.specs.Lines.Settings.{Settings}
 use Rattle.wh_host_model.specs.Lines.Commands.{Command}
 use Rattle.wh_host_model.specs.Lines.Texts.{Reply}
@@ -19,7 +21,7 @@ use Rattle.wh_script_model.specs.Laws.{FollowsCommand}
 use Rattle.wh_engine.specs.declared.engine.Engine.{Engine}
 use Rattle.wh_engine.specs.declared.parts.Guest.{Guest}
 use Rattle.wh_engine.specs.Names.{AreNames, number_of}
-use Rattle.wh_engine.specs.Standing.{StandsForScript}
+use Rattle.wh_engine.specs.Standing.{IsLed, StandsForScript}
 use Rattle.wh_engine.specs.Obeying.{IsNamed}
 use Rattle.wh_engine.proofs.Instances.{TouchesCalls, nothing, calls_of, names_stay, guests_stay, guest_at, placed_at}
 
@@ -28,7 +30,7 @@ abbrev pub on_host : Engine → HostState → Engine
 on_host e h = record e { host = h }
 
 -- the host has changed under what is known of it, and calls alone
-pub stands_on : (settings : Settings) (e : Engine) (m m2 : Made) (h2 : HostState) (w2 : World) → StandsForScript settings e m → IsHost h2 w2
+pub stands_on : (settings : Settings) (e : Engine) (m m2 : Made) (h2 : HostState) (w2 : World) → StandsForScript settings e m → IsLed h2 w2
     → Knows settings w2 m2 (map (λ (x : Guest). x.id.place) e.guests.items) → TouchesCalls m m2 → StandsForScript settings (on_host e h2) m2
 stands_on settings e m m2 h2 w2 s is2 knows2 nothing = record {
   world = w2;
@@ -63,23 +65,25 @@ own_number e m settings i x s at = let n = guest_at 0 e.guests.items m.guests i 
 
 pub asked : (asks : World → InstId → CallAnswer → World → Type 0) (command : Command) (reply : CallAnswer → Reply) (name : List ℕ) → FollowsCommand asks command reply name
     → ((settings : Settings) (files : Files) (m m2 : Made) (line : ℕ) (replies : List Reply) → IsObeyed true settings files m line command replies m2 → TouchesCalls m m2)
+    → (event : InstId → Event) → ((w w2 : World) (id : InstId) (answer : CallAnswer) → asks w id answer w2 → Happens w (event id) w2)
     → (settings : Settings) (files : Files) (line : ℕ) (m : Made) (e : Engine) (h2 : HostState) (x : Guest) (i : ℕ) (r : Result Unit HostError)
     → StandsForScript settings e m → IsNamed m i name → slice_get e.guests.items i ≡ Some x → AnswersCall e.host (λ w a w2. asks w x.id a w2) r h2
     → StaysWhole e.host.space h2.space
     → (answer : CallAnswer) × IsCallAnswer r answer × (m2 : Made) × IsObeyed true settings files m line command (reply answer ∷ []) m2 × StandsForScript settings (on_host e h2) m2
-asked asks command reply name law touches settings files line m e h2 x i r s named at answers whole =
+asked asks command reply name law touches event happens settings files line m e h2 x i r s named at answers whole =
     let w = s.world in
-    let did = answers w s.is in
+    let did = answers w s.is.0 in
     let answer = did.0 in
     let w2 = did.1 in
     let happened : asks w (record { place = x.id.place; number = i }) answer w2 =
     subst (λ id. asks w id answer w2) (id_of x i (own_number e m settings i x s at)) did.3 in
     let is2 = did.4 in
-    let reached = s.is.reached in
+    let reached = s.is.1 in
+    let led : IsLed h2 w2 = (is2, reached_on w w2 (event (record { place = x.id.place; number = i })) reached (happens w w2 (record { place = x.id.place; number = i }) answer happened)) in
     let follows = law reached.frames reached.slots reached.tax reached.events w reached.happen settings files line m
     (map (λ (y : Guest). y.id.place) e.guests.items) i x.id.place named.0 answer w2 s.knows named.1
-    (placed_at e.guests.items i x at) happened (whole_of e.host h2 w w2 s.is is2 whole) in
-    (answer, did.2, follows.0, follows.1, stands_on settings e m follows.0 h2 w2 s is2 follows.2 (touches settings files m follows.0 line _ follows.1))
+    (placed_at e.guests.items i x at) happened (whole_of e.host h2 w w2 s.is.0 is2 whole) in
+    (answer, did.2, follows.0, follows.1, stands_on settings e m follows.0 h2 w2 s led follows.2 (touches settings files m follows.0 line _ follows.1))
 
 -- ---- by its result
 

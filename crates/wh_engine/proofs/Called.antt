@@ -2,6 +2,8 @@
 use Rattle.std.proofs.Common.{arith, ◌≡◌, ℕ, ◌+◌, true, List, [], ◌∷◌, ◌++◌, map, length, slice_get, ℤ, Option, Some, None, Result, Ok, Err, refl, ap, sym, subst, ◌∙◌}
 use Rattle.std.specs.List.{AllZip}
 use Rattle.std.specs.Global.{Vec}
+use Rattle.wh_host.proofs.Hosts.{reached_on}
+use Rattle.wh_host_model.specs.Host.Events as events
 use Rattle.wh_host_model.specs.Host.Worlds.{World}
 use Rattle.wh_host_model.specs.Host.Calls.{InvokeFault}
 use Rattle.wh_host_model.specs.Host.Happens.{InvokeAnswer, IsInvoke}
@@ -25,7 +27,7 @@ use Rattle.wh_engine.specs.declared.parts.Invoked.{Invoked}
 use Rattle.wh_engine.specs.declared.parts.Reception.{Reception}
 use Rattle.wh_engine.specs.declared.parts.Reception.TheVariants.{TurnedDown, TakenOn}
 use Rattle.wh_engine.specs.Names.{AreNames, number_of}
-use Rattle.wh_engine.specs.Standing.{StandsForScript, AreGuests, IsInvokedAs, reception_of}
+use Rattle.wh_engine.specs.Standing.{IsLed, StandsForScript, AreGuests, IsInvokedAs, reception_of}
 use Rattle.wh_engine.specs.Obeying.{TakesInvoke}
 use Rattle.wh_engine.proofs.Asked.{whole_of, id_of, own_number}
 use Rattle.wh_engine.proofs.Instances.{TouchesCalls, nothing, calls_of, guest_of, placed_at, touched_guests, touched_modules, touched_names}
@@ -79,7 +81,7 @@ abbrev pub with_calls : Engine → HostState → Vec Invoked → Engine
 with_calls e h calls = record e { host = h; invoked = calls }
 
 called_stands : (settings : Settings) (e : Engine) (m m1 m2 : Made) (h2 : HostState) (w2 : World) (calls : Vec Invoked) (x : Invoked) (v : made.Invoked)
-    → StandsForScript settings e m → IsBefore m m1 m2 → m2.invoked ≡ m.invoked ++ v ∷ [] → calls.items ≡ e.invoked.items ++ x ∷ [] → IsInvokedAs x v → IsHost h2 w2
+    → StandsForScript settings e m → IsBefore m m1 m2 → m2.invoked ≡ m.invoked ++ v ∷ [] → calls.items ≡ e.invoked.items ++ x ∷ [] → IsInvokedAs x v → IsLed h2 w2
     → Knows settings w2 m2 (map (λ (y : Guest). y.id.place) e.guests.items) → StandsForScript settings (with_calls e h2 calls) m2
 called_stands settings e m m1 m2 h2 w2 calls x v s b entry entries is is2 knows2 = record {
   world = w2;
@@ -101,13 +103,14 @@ pub called : (settings : Settings) (e : Engine) (m : Made) (i : ℕ) (x : Guest)
 called settings e m i x export fuel given h2 r came calls s at answers whole says entries =
     let w = s.world in
     let g = guest_of 0 e.guests.items m.guests i x s.guests at in
-    let did = answers w s.is in
+    let did = answers w s.is.0 in
     let happened : IsInvoke w (record { place = x.id.place; number = i }) export given fuel did.0 did.1 =
     subst (λ id. IsInvoke w id export given fuel did.0 did.1) (id_of x i (own_number e m settings i x s at)) did.3 in
-    let reached = s.is.reached in
+    let reached = s.is.1 in
+    let led : IsLed h2 did.1 = (did.4, reached_on w did.1 (events.invoke (record { place = x.id.place; number = i }) export given fuel) reached (did.0, happened)) in
     let follows = calls_follow reached.frames reached.slots reached.tax reached.events w reached.happen settings m
     (map (λ (y : Guest). y.id.place) e.guests.items) i x.id.place g.0 export given fuel did.0 did.1 s.knows g.1
-    (placed_at e.guests.items i x at) happened (whole_of e.host h2 w did.1 s.is did.4 whole) in
+    (placed_at e.guests.items i x at) happened (whole_of e.host h2 w did.1 s.is.0 did.4 whole) in
     let b = before m i g.0 export fuel given follows.0 g.1 follows.1 in
     let is : IsInvokedAs (record { came = came; said = None }) (record { came = reception i did.0; said = None }) = record { came = says did.0 did.2; said = refl } in
-    (g.0, g.1, follows.0, follows.1, called_stands settings e m b.0 follows.0 h2 did.1 calls _ _ s b.1 follows.2 entries is did.4 follows.3)
+    (g.0, g.1, follows.0, follows.1, called_stands settings e m b.0 follows.0 h2 did.1 calls _ _ s b.1 follows.2 entries is led follows.3)

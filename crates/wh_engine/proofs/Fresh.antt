@@ -49,9 +49,9 @@ pub fresh : (settings : Settings) (tax : Tax) (e : Engine) → IsNewHost e.host 
     → ((name : List ℕ) → number_of e.guest_names name ≡ None) → e.guests.items ≡ [] → e.invoked.items ≡ [] → e.modules ≡ 0 → StandsForScript settings e nothing_made
 fresh settings tax e new modules guests none no_call zero_many = record {
   world = new.0;
-  is = new.1;
+  is = (new.1, new.2);
   modules = zero_many;
-  knows = subst (λ xs. Knows settings new.0 nothing_made (map (λ (x : Guest). x.id.place) xs)) (sym none) (knows_none settings new.0 tax new.2 new.3 new.4);
+  knows = subst (λ xs. Knows settings new.0 nothing_made (map (λ (x : Guest). x.id.place) xs)) (sym none) (knows_none settings new.0 tax new.3 new.4 new.5);
   module_names = no_names (number_of e.module_names) modules;
   guest_names = no_names (number_of e.guest_names) guests;
   guests = subst (λ xs. AreGuests 0 xs []) (sym none) tt;

@@ -2,6 +2,8 @@
 use Rattle.std.proofs.Common.{arith, ◌≡◌, ◌≢◌, ℕ, ◌+◌, ◌<◌, ◌⊎◌, inl, inr, ⊎_elim, min, true, List, [], ◌∷◌, ◌++◌, map, length, slice_get, Bool, bytes_eq, Option, Some, None, Result, Ok, Err, refl, ap, sym, subst, ◌∙◌}
 use Rattle.std.specs.Map.{update}
 use Rattle.wh_model.specs.Linking.Accepting.{IsAccepted}
+use Rattle.wh_host.proofs.Hosts.{reached_on}
+use Rattle.wh_host_model.specs.Host.Events as events
 use Rattle.wh_host_model.specs.Host.Worlds.{World}
 use Rattle.wh_host_model.specs.Host.Admission.{most_modules}
 use Rattle.wh_host_model.specs.Host.Happens.{LoadAnswer, load_ok, load_refused, load_wants_memory}
@@ -19,7 +21,7 @@ use Rattle.wh_engine.specs.Names.{AreNames, number_of}
 use Rattle.wh_engine.specs.declared.engine.Engine.{Engine}
 use Rattle.wh_engine.specs.declared.names.Names.{Names}
 use Rattle.wh_engine.specs.declared.parts.Guest.{Guest}
-use Rattle.wh_engine.specs.Standing.{StandsForScript}
+use Rattle.wh_engine.specs.Standing.{IsLed, StandsForScript}
 use Rattle.wh_engine.specs.Obeying.{TakesModule}
 use Rattle.wh_script_model.proofs.Commands.{modules_follow}
 use Rattle.wh_engine.proofs.Named.{named_next, unnamed, same_names}
@@ -38,14 +40,14 @@ one_longer (x ∷ ms) n = let e = one_longer ms n in omega (arith, e)
 -- what the law of modules says of an answer of the host
 law_of : (settings : Settings) (e : Engine) (m : Made) (name bytes : List ℕ) (h2 : HostState) (r : Result ModuleId ModuleError) (reply : Reply) (s : StandsForScript settings e m)
     → AnswersLoad e.host bytes r h2 → ((answer : LoadAnswer) → IsLoadAnswer r answer → SaysModule name answer reply)
-    → (m2 : Made) × (w2 : World) × ReceivesModule true m name bytes reply m2 × IsHost h2 w2
+    → (m2 : Made) × (w2 : World) × ReceivesModule true m name bytes reply m2 × IsLed h2 w2
     × Knows settings w2 m2 (map (λ (x : Guest). x.id.place) e.guests.items)
 law_of settings e m name bytes h2 r reply s answers says =
-    let did = answers s.world s.is in
-    let reached = s.is.reached in
+    let did = answers s.world s.is.0 in
+    let reached = s.is.1 in
     let follows = modules_follow reached.frames reached.slots reached.tax reached.events s.world reached.happen settings m
     (map (λ (x : Guest). x.id.place) e.guests.items) name bytes did.0 did.1 reply s.knows did.3 (says did.0 did.2) in
-    (follows.0, did.1, follows.1, did.4, follows.2)
+    (follows.0, did.1, follows.1, (did.4, reached_on s.world did.1 (events.load bytes) reached (did.0, did.3)), follows.2)
 
 labelled : (ms : List NamedModule) → length (map label ms) ≡ length ms
 labelled [] = refl
@@ -61,7 +63,7 @@ ok_says name id answer is = subst (λ a. SaysModule name a (module_ok name)) (sy
 kept_stands : (settings : Settings) (e : Engine) (m : Made) (name bytes : List ℕ) (h2 : HostState) (names : Names) (k : ℕ) → StandsForScript settings e m → number_of e.module_names name ≡ None
     → ((other : List ℕ) → number_of names other ≡ update bytes_eq (number_of e.module_names) name (Some e.modules) other)
     → (e.modules < most_modules → k ≡ e.modules + 1)
-    → (m2 : Made) (w2 : World) (reply : Reply) → reply ≡ module_ok name → ReceivesModule true m name bytes reply m2 → IsHost h2 w2
+    → (m2 : Made) (w2 : World) (reply : Reply) → reply ≡ module_ok name → ReceivesModule true m name bytes reply m2 → IsLed h2 w2
     → Knows settings w2 m2 (map (λ (x : Guest). x.id.place) e.guests.items)
     → TakesModule settings m name bytes reply (with_modules e h2 names k)
 kept_stands settings e m name bytes h2 names k s free sets counts _ w2 _ is (module_isnt_kept turns_down) is2 knows2 = absurd (cc is)
@@ -87,7 +89,7 @@ kept_stands settings e m name bytes h2 names k s free sets counts _ w2 _ is (mod
 
 -- other names of the same modules
 pub with_names : (settings : Settings) (e : Engine) (m : Made) (h2 : HostState) (names : Names) (w2 : World) → StandsForScript settings e m → AreNames (number_of names) (map label m.modules)
-    → IsHost h2 w2 → Knows settings w2 m (map (λ (x : Guest). x.id.place) e.guests.items) → StandsForScript settings (with_modules e h2 names e.modules) m
+    → IsLed h2 w2 → Knows settings w2 m (map (λ (x : Guest). x.id.place) e.guests.items) → StandsForScript settings (with_modules e h2 names e.modules) m
 with_names settings e m h2 names w2 s are is2 knows2 = record {
   world = w2;
   is = is2;
@@ -101,7 +103,7 @@ with_names settings e m h2 names w2 s are is2 knows2 = record {
 
 none_stands : (settings : Settings) (e : Engine) (m : Made) (name bytes : List ℕ) (h2 : HostState) (names : Names) (why : Refusal) → StandsForScript settings e m
     → AreNames (number_of names) (map label m.modules)
-    → (m2 : Made) (w2 : World) (reply : Reply) → reply ≡ module_refused name why → ReceivesModule true m name bytes reply m2 → IsHost h2 w2
+    → (m2 : Made) (w2 : World) (reply : Reply) → reply ≡ module_refused name why → ReceivesModule true m name bytes reply m2 → IsLed h2 w2
     → Knows settings w2 m2 (map (λ (x : Guest). x.id.place) e.guests.items)
     → TakesModule settings m name bytes reply (with_modules e h2 names e.modules)
 none_stands settings e m name bytes h2 names why s are _ w2 _ is (module_is_kept accepted few) is2 knows2 = absurd (cc is)

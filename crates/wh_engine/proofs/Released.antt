@@ -3,6 +3,8 @@ use Rattle.std.proofs.Common.{arith, ◌≡◌, ℕ, zero, suc, ◌+◌, ◌<◌
 use Rattle.std.specs.Global.{Vec}
 use Rattle.std.specs.Vec.{with_item}
 use Rattle.std.proofs.lemmas.Option.{same_Some}
+use Rattle.wh_host.proofs.Hosts.{reached_on}
+use Rattle.wh_host_model.specs.Host.Events as events
 use Rattle.wh_host_model.specs.Host.Worlds.{World}
 use Rattle.wh_host_model.specs.Host.Happens.{IsRelease}
 use Rattle.wh_host_model.specs.Lines.Settings.{Settings}
@@ -23,7 +25,7 @@ use Rattle.wh_script_model.proofs.CommandsEnding.{releases_follow}
 use Rattle.wh_engine.specs.Names.{AreNames, number_of}
 use Rattle.wh_engine.specs.declared.engine.Engine.{Engine}
 use Rattle.wh_engine.specs.declared.parts.Guest.{Guest}
-use Rattle.wh_engine.specs.Standing.{StandsForScript, AreGuests, IsGuest}
+use Rattle.wh_engine.specs.Standing.{IsLed, StandsForScript, AreGuests, IsGuest}
 use Rattle.wh_engine.specs.Obeying.{IsNamed, ObeysCommand, reply_to_release}
 use Rattle.wh_engine.proofs.Asked.{on_host, stands_on, whole_of, id_of, own_number}
 use Rattle.wh_engine.proofs.Instances.{TouchesCalls, nothing, names_stay, placed_at}
@@ -35,7 +37,7 @@ record DoesRelease (settings : Settings) (files : Files) (line : ℕ) (m : Made)
   after : Made
   world : World
   obeyed : IsObeyed true settings files m line (release name) (release_reply name answer ∷ []) after
-  is_host : IsHost h2 world
+  is_host : IsLed h2 world
   knows : Knows settings world after (map (λ (y : Guest). y.id.place) e.guests.items)
 
 does : (settings : Settings) (files : Files) (line : ℕ) (m : Made) (e : Engine) (name : List ℕ) (h2 : HostState) (x : Guest) (i : ℕ) (r : Result (Vec ℕ) HostError)
@@ -43,14 +45,14 @@ does : (settings : Settings) (files : Files) (line : ℕ) (m : Made) (e : Engine
     → DoesRelease settings files line m e name h2 r
 does settings files line m e name h2 x i r s named at replies whole =
     let w = s.world in
-    let did = replies w s.is in
+    let did = replies w s.is.0 in
     let happened : IsRelease w (record { place = x.id.place; number = i }) did.0 did.1 =
     subst (λ id. IsRelease w id did.0 did.1) (id_of x i (own_number e m settings i x s at)) did.3 in
-    let reached = s.is.reached in
+    let reached = s.is.1 in
     let follows = releases_follow reached.frames reached.slots reached.tax reached.events w reached.happen settings files line m
     (map (λ (y : Guest). y.id.place) e.guests.items) i x.id.place named.0 name did.0 did.1 s.knows named.1
-    (placed_at e.guests.items i x at) happened (whole_of e.host h2 w did.1 s.is did.4 whole) in
-    record { answer = did.0; is = did.2; after = follows.0; world = did.1; obeyed = follows.1; is_host = did.4; knows = follows.2 }
+    (placed_at e.guests.items i x at) happened (whole_of e.host h2 w did.1 s.is.0 did.4 whole) in
+    record { answer = did.0; is = did.2; after = follows.0; world = did.1; obeyed = follows.1; is_host = (did.4, reached_on w did.1 (events.release (record { place = x.id.place; number = i })) reached (did.0, happened)); knows = follows.2 }
 
 -- ---- it was released before
 
@@ -63,7 +65,7 @@ refused_after e (answers.is_released i z has live replay) = absurd (cc e)
 refused_after e (answers.no_one_to_release i has gone) = refl
 
 refused_stands : (settings : Settings) (files : Files) (line : ℕ) (m : Made) (e : Engine) (name : List ℕ) (h2 : HostState) (m2 : Made) (w2 : World) (reply : Reply) → StandsForScript settings e m
-    → reply ≡ release_refused name 1 → IsObeyed true settings files m line (release name) (reply ∷ []) m2 → IsHost h2 w2
+    → reply ≡ release_refused name 1 → IsObeyed true settings files m line (release name) (reply ∷ []) m2 → IsLed h2 w2
     → Knows settings w2 m2 (map (λ (y : Guest). y.id.place) e.guests.items) → ObeysCommand settings files m line (release name) reply (on_host e h2)
 refused_stands settings files line m e name h2 m2 w2 reply s is obeyed is2 knows2 =
     (m2, obeyed, stands_on settings e m m2 h2 w2 s is2 knows2 (subst (λ z. TouchesCalls m z) (sym (refused_after is obeyed)) nothing))
@@ -115,7 +117,7 @@ with_gone e h i x = record e { host = h; guests = with_item e.guests i (record x
 
 gone_stands : (settings : Settings) (files : Files) (line : ℕ) (m : Made) (e : Engine) (name output : List ℕ) (h2 : HostState) (x : Guest) (i : ℕ) (g : made.Guest) → StandsForScript settings e m
     → HasGuest m name i g → slice_get e.guests.items i ≡ Some x
-    → (m2 : Made) (w2 : World) (reply : Reply) → reply ≡ release_ok name output → IsObeyed true settings files m line (release name) (reply ∷ []) m2 → IsHost h2 w2
+    → (m2 : Made) (w2 : World) (reply : Reply) → reply ≡ release_ok name output → IsObeyed true settings files m line (release name) (reply ∷ []) m2 → IsLed h2 w2
     → Knows settings w2 m2 (map (λ (y : Guest). y.id.place) e.guests.items) → ObeysCommand settings files m line (release name) reply (with_gone e h2 i x)
 gone_stands settings files line m e name output h2 x i g s has at m2 w2 _ eq (answers.module_name_is_taken names taken) is2 knows2 = absurd names
 gone_stands settings files line m e name output h2 x i g s has at m2 w2 _ eq (answers.module_comes names free brings receives) is2 knows2 = absurd names

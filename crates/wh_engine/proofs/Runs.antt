@@ -5,10 +5,12 @@ use Rattle.std.specs.List.{AllZip}
 use Rattle.std.proofs.lemmas.List.{get_or-set_other}
 use Rattle.std.proofs.lemmas.Bool.{cases_lt}
 use Rattle.std.proofs.lemmas.Option.{same_Some}
+use Rattle.wh_host.proofs.Hosts.{reached_on}
 use Rattle.wh_host_model.specs.declared.plain.InstId.{InstId}
 use Rattle.wh_host_model.specs.declared.plain.SwapError.{SwapError}
 use Rattle.wh_host_model.specs.declared.plain.TurnEnd.{TurnEnd}
-use Rattle.wh_host_model.specs.Space.Errands.{tickets, pass_of, Pass}
+use Rattle.wh_host_model.specs.Space.Errands.{tickets}
+use Rattle.wh_host_model.specs.Host.Events as events
 use Rattle.wh_host_model.specs.Space.Parts.{Space}
 use Rattle.wh_host_model.specs.Host.Worlds.{Suspension, for_fuel, for_frame, for_device, Entry, Tenant, World, tenant, with_tenant}
 use Rattle.wh_host_model.specs.Host.Happens.{IsLive, IsTurn, of_none, of_one, MovesPages, moved, has_failed, AwaitsFrame, OnlyMoves}
@@ -29,8 +31,8 @@ use Rattle.wh_script_model.proofs.Drains.{drains_begin, drains_end, moves_follow
 use Rattle.wh_script_model.proofs.Turning.{turns_follow}
 use Rattle.wh_engine.specs.declared.engine.Engine.{Engine}
 use Rattle.wh_engine.specs.declared.parts.Guest.{Guest}
-use Rattle.wh_engine.specs.Draining.{IsBacked, HasAdded, BringsOn, BringsFurther, IsServedAt, RunsOut, RunsEach, StaysSo}
-use Rattle.wh_engine.specs.Standing.{StandsForScript, AreGuests, IsGuest}
+use Rattle.wh_engine.specs.Draining.{StaysTrue, HasAdded, HasServed, BringsOn, BringsFurther, IsServedAt, RunsOut, RunsEach, StaysSo}
+use Rattle.wh_engine.specs.Standing.{IsLed, StandsForScript, AreGuests, IsGuest}
 use Rattle.wh_engine.specs.Names.{AreNames, number_of}
 use Rattle.wh_engine.proofs.Asked.{on_host, whole_of}
 use Rattle.wh_engine.proofs.Instances.{guest_at, placed_at}
@@ -75,13 +77,18 @@ not_one_more a b c fault p e same =
 
 -- ---- the device
 
-pub backed_keeps : (s s2 : Space) (held : List (List ℕ)) (keeps honest : Type 0) → KeepsBacking s s2 → IsBacked s held keeps honest → IsBacked s2 held keeps honest
-backed_keeps s s2 held keeps honest k b = record {
-  none_out = (keeps_whole s s2 k).none_out ∙ b.none_out;
-  agrees = ap (λ (p : Pass). p.held) k.pass ∙ b.agrees;
-  is_kept = b.is_kept;
-  is_honest = b.is_honest;
-}
+pub true_same : (keeps honest : Type 0) → StaysTrue keeps honest keeps honest
+true_same keeps honest = record { was_honest = λ h. h; goes_on = λ h. h; stays_honest = λ k h. h }
+
+pub true_then : (k1 h1 k2 h2 k3 h3 : Type 0) → StaysTrue k1 h1 k2 h2 → StaysTrue k2 h2 k3 h3 → StaysTrue k1 h1 k3 h3
+true_then k1 h1 k2 h2 k3 h3 a b = record { was_honest = λ h. a.was_honest (b.was_honest h); goes_on = λ k. b.goes_on (a.goes_on k); stays_honest = λ k h. b.stays_honest (a.goes_on k) (a.stays_honest k h) }
+
+-- where it has served well in all, it had on the way, and has since
+pub served_first : (k1 h1 k2 h2 : Type 0) (a b c : List SwapError) → StaysTrue k1 h1 k2 h2 → HasAdded a b → HasAdded b c → HasServed h2 a c → HasServed h1 a b
+served_first k1 h1 k2 h2 a b c t p q s = (t.was_honest s.0, none_first a b c p q s.1)
+
+pub served_rest : (h : Type 0) (a b c : List SwapError) → HasAdded a b → HasAdded b c → HasServed h a c → HasServed h b c
+served_rest h a b c p q s = (s.0, s.1 ∙ sym (none_first a b c p q s.1))
 
 -- ---- one turn, or one provision
 
@@ -102,13 +109,13 @@ pub turned : (h h2 : HostState) (id : InstId) (q : ℕ) (answer : TurnEnd)
     → ((w : World) → IsHost h w → (w2 : World) × IsTurn w id q answer w2 × IsHost h2 w2)
     → KeepsBacking h.space h2.space → BringsFurther id.number h h2
 turned h h2 id q answer turns keeps settings m places w is known =
-    let did = turns w is in
-    let reached = is.reached in (
+    let did = turns w is.0 in
+    let reached = is.1 in (
       did.0,
-      did.2,
+      (did.2, reached_on w did.0 (events.turn id q) reached (answer, did.1)),
       record {
         known = turns_follow reached.frames reached.slots reached.tax reached.events w reached.happen settings m places id q answer did.0 known did.1
-            (whole_of h h2 w did.0 is did.2 (keeps_whole h.space h2.space keeps));
+            (whole_of h h2 w did.0 is.0 did.2 (keeps_whole h.space h2.space keeps));
         others = turn_leaves w did.0 id q answer did.1;
       },
     )
@@ -127,14 +134,14 @@ pub provided : (h h2 : HostState) (id : InstId) (left : ℕ)
     → MovesWith h id AwaitsFrame (provide_fault (Ok left)) h2 → IsAsWhole h.space h2.space → tickets h.space ≡ 0 → tickets h2.space ≡ 0
     → BringsFurther id.number h h2
 provided h h2 id left moves whole none none2 settings m places w is known =
-    let did = moves w is in
+    let did = moves w is.0 in
     let only = only_moved w did.0 id AwaitsFrame did.1 in
-    let reached = is.reached in (
+    let reached = is.1 in (
       did.0,
-      did.2,
+      (did.2, reached_on w did.0 (events.provide id None) reached did.1),
       record {
         known = (moves_follow reached.frames reached.slots reached.tax reached.events w reached.happen settings m places did.0 only
-            (whole_of h h2 w did.0 is did.2 (whole_moves h.space h2.space whole none none2))).1 known;
+            (whole_of h h2 w did.0 is.0 did.2 (whole_moves h.space h2.space whole none none2))).1 known;
         others = λ j other. moves_leave w did.0 only j;
       },
     )
@@ -189,7 +196,7 @@ is_served_at settings m places w id known at not t there =
 pub ran_out : (h h2 : HostState) (id : InstId) → BringsFurther id.number h h2 → Tells h2 false (λ w. IsGoing w id) → RunsOut id.number id.place h h2
 ran_out h h2 id goes tells settings m places w is known at =
     let did = goes settings m places w is known in
-    (did.0, did.1, did.2, is_served_at settings m places did.0 id did.2.known at (tells did.0 did.1))
+    (did.0, did.1, did.2, is_served_at settings m places did.0 id did.2.known at (tells did.0 did.1.0))
 
 -- ---- all instances, by their numbers
 
@@ -203,8 +210,8 @@ places_of e = map (λ (x : Guest). x.id.place) e.guests.items
 
 abbrev pub RunsFirst : (e : Engine) (count : ℕ) → HostState → HostState → Type 0
 RunsFirst e count h h2 =
-    (settings : Settings) (m : Made) (w : World) → AreGuests 0 e.guests.items m.guests → IsHost h w → RunsKnown settings w m (places_of e)
-    → (w2 : World) × IsHost h2 w2 × RanSo settings m (places_of e) count w2
+    (settings : Settings) (m : Made) (w : World) → AreGuests 0 e.guests.items m.guests → IsLed h w → RunsKnown settings w m (places_of e)
+    → (w2 : World) × IsLed h2 w2 × RanSo settings m (places_of e) count w2
 
 pub runs_none : (e : Engine) (h : HostState) → RunsFirst e 0 h h
 runs_none e h settings m w are is known = (w, is, record { known = known; served = λ j below. absurd (omega arith) })
@@ -278,7 +285,7 @@ ran_each e h2 count first all_of settings m s =
     let w = s.world in
     let did = first settings m w s.guests s.is (drains_begin settings w m (places_of e) s.knows) in
     let w2 = did.0 in
-    let reached = did.1.reached in
+    let reached = did.1.1 in
     let all : AllServed w2 = λ i t there.
     did.2.served i (let n = within_zip (follow.IsFollowed follow.ComeFurther w2) m.guests w2.tenants i t did.2.known.guests there in
     let k = as_many_guests 0 e.guests.items m.guests s.guests in omega arith) t there in
@@ -303,14 +310,14 @@ pub stays_so : (e : Engine) (h2 : HostState) → ((w : World) → IsHost e.host 
     → KeepsBacking e.host.space h2.space → StaysSo e (on_host e h2)
 stays_so e h2 moves keeps settings m s =
     let w = s.world in
-    let did = moves w s.is in
-    let reached = s.is.reached in
+    let did = moves w s.is.0 in
+    let reached = s.is.1 in
     record {
       world = did.0;
-      is = did.2;
+      is = (did.2, reached_on w did.0 events.epoch reached did.1);
       modules = s.modules;
       knows = (moves_follow reached.frames reached.slots reached.tax reached.events w reached.happen settings m (places_of e) did.0 did.1
-          (whole_of e.host h2 w did.0 s.is did.2 (keeps_whole e.host.space h2.space keeps))).0 s.knows;
+          (whole_of e.host h2 w did.0 s.is.0 did.2 (keeps_whole e.host.space h2.space keeps))).0 s.knows;
       module_names = s.module_names;
       guest_names = s.guest_names;
       guests = s.guests;

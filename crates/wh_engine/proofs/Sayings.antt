@@ -230,7 +230,7 @@ pub shows : (settings : Settings) (e : Engine) (m : Made) (i : ℕ) (x : Guest) 
 shows settings e m i x g s at placed number released = record {
   released = released;
   world = s.world;
-  is = s.is;
+  is = s.is.0;
   live = λ alive.
       let d = followed_same s.world m.guests s.world.tenants i g s.knows.guests at alive in
       (d.0, (ap (λ n. tenant s.world n) number ∙ d.1, placed_there (places_of e) s.world.tenants i x.id.place d.0 s.knows.placed placed d.1), d.2, d.3);

@@ -5,7 +5,7 @@ use Rattle.wh_host_model.specs.Host.Worlds.{World}
 use Rattle.wh_host_model.specs.Lines.Settings.{Settings}
 use Rattle.wh_host_model.specs.Lines.Made as made
 use Rattle.wh_host_model.specs.Lines.Made.{turned_down, taken_on, Made}
-use Rattle.wh_host.specs.Hosting.{IsHost}
+use Rattle.wh_host.specs.Hosting.{HostState, IsHost, IsReached}
 use Rattle.wh_replies.specs.View.{status_of}
 use Rattle.wh_script_model.specs.Following.{Knows}
 use Rattle.wh_engine.specs.Names.{AreNames, number_of}
@@ -37,11 +37,15 @@ pub record IsInvokedAs (x : Invoked) (v : made.Invoked) : Type 0 where
   pub came : reception_of x.came ≡ v.came
   pub said : option_map status_of x.said ≡ v.said
 
+-- the host stands for this one, and events alone lead to it: no swap device gave other bytes than were written to it
+abbrev pub IsLed : HostState → World → Type 0
+IsLed h w = IsHost h w × IsReached w
+
 -- The engine stands for what the script has made: the host on which it runs knows it, each name has its number, and
 -- what is kept of instances and of calls is so.
 pub record StandsForScript (settings : Settings) (e : Engine) (m : Made) : Type 0 where
   pub world : World
-  pub is : IsHost e.host world
+  pub is : IsLed e.host world
   pub modules : e.modules ≡ length m.modules
   pub knows : Knows settings world m (map (λ (x : Guest). x.id.place) e.guests.items)
   pub module_names : AreNames (number_of e.module_names) (map (λ (n : made.NamedModule). n.name) m.modules)

@@ -1,8 +1,9 @@
 // Calls that run until none can go on.
 
-ghost use Rattle.std.specs.Prelude.{◌≡◌, OnOk};
+ghost use Rattle.std.specs.Prelude.{OnOk};
 ghost use Rattle.wh_host.specs.Backing.{KeepsBacking};
-ghost use Rattle.wh_engine.specs.Draining.{HasAdded, IsBacked, RunsEach, RunsOut, StaysSo};
+ghost use Rattle.wh_reclaim.specs.Together.{AreTogether};
+ghost use Rattle.wh_engine.specs.Draining.{HasAdded, HasServed, RunsEach, RunsOut, StaysSo, StaysTrue};
 
 use crate::engine::Engine;
 use thiserror::Error;
@@ -24,13 +25,13 @@ fn run_out<D: SwapDev>(
     id: InstId,
     quantum: u64,
 ) -> Result<(), TooManyTurns>
-    requires { IsBacked host.old.space (D.held device.old) (D.keeps device.old)
-        (D.honest device.old) }
-    ensures backed { IsBacked host.new.space (D.held device.new) (D.keeps device.new)
-        (D.honest device.new) }
+    requires { AreTogether host.old.space (D.held device.old) }
+    ensures together { AreTogether host.new.space (D.held device.new) }
+    ensures device { StaysTrue (D.keeps device.old) (D.honest device.old)
+        (D.keeps device.new) (D.honest device.new) }
     ensures faults { HasAdded (D.faults device.old) (D.faults device.new) }
-    ensures runs { OnOk result (D.faults device.new ≡ D.faults device.old
-        → RunsOut id.number id.place host.old host.new) }
+    ensures runs { OnOk result (HasServed (D.honest device.new) (D.faults device.old)
+        (D.faults device.new) → RunsOut id.number id.place host.old host.new) }
 {
     for _ in 0..u64::MAX {
         if !host.can_go_on(id) {
@@ -75,13 +76,13 @@ impl Engine {
         buf: &mut Buf,
         quantum: u64,
     ) -> Result<(), TooManyTurns>
-        requires { IsBacked self.old.host.space (D.held device.old) (D.keeps device.old)
-            (D.honest device.old) }
-        ensures backed { IsBacked self.new.host.space (D.held device.new) (D.keeps device.new)
-            (D.honest device.new) }
+        requires { AreTogether self.old.host.space (D.held device.old) }
+        ensures together { AreTogether self.new.host.space (D.held device.new) }
+        ensures device { StaysTrue (D.keeps device.old) (D.honest device.old)
+            (D.keeps device.new) (D.honest device.new) }
         ensures faults { HasAdded (D.faults device.old) (D.faults device.new) }
-        ensures runs { OnOk result (D.faults device.new ≡ D.faults device.old
-            → RunsEach self.old self.new) }
+        ensures runs { OnOk result (HasServed (D.honest device.new) (D.faults device.old)
+            (D.faults device.new) → RunsEach self.old self.new) }
     {
         for at in 0..self.guests.len() {
             let id = self.guests[at].id;

@@ -24,7 +24,9 @@ use Rattle.wh_host.specs.declared.parts.Resident.{Resident}
 use Rattle.wh_host.specs.Carried.{EndsEvict, IsOut, IsPresentCall, KeepsFault, OnlyReleasedGo}
 use Rattle.wh_host.specs.Hosting.{HostState, IsHost, resident_at}
 use Rattle.wh_host.proofs.Hosts.{of_who_is_there, one_value}
-use Rattle.wh_host.proofs.Paged.{alone_in, alone_on, fault_here, moved_as, only_moved, same_tenant, sound_in}
+use Rattle.wh_host_model.specs.Host.Misreading.{IsMisread}
+use Rattle.wh_host_model.proofs.Host.AsMany.{fetches_see_as_many}
+use Rattle.wh_host.proofs.Paged.{all_stay, alone_in, alone_on, as_many_in, fault_here, misread_host, moved_as, only_moved, same_tenant, sound_in}
 use Rattle.wh_host.proofs.Requests.{get_mapped, lives_there}
 
 -- ---- tickets that are out
@@ -116,7 +118,7 @@ faulted_here h w id call (Some fault) e s2 rs2 st same (inr (kept, none)) happen
 
 pub released_go : (h : HostState) (w : World) (rs2 : List (Option Resident)) → IsHost h w → OnlyReleasedGo h.residents rs2 → IsHost (record h { residents = rs2 }) w
 released_go h w rs2 st go = record {
-  reached = st.reached;
+  comes = st.comes;
   modules = st.modules;
   space = st.space;
   live = st.live;
@@ -174,3 +176,16 @@ pub fetch_ended : (h : HostState) (w : World) (id : InstId) (call k : ℕ) (devi
     → CommitsFetch h.space k (is_ok device) bytes end s2 → KeepsFault h.residents id call fault rs1 → OnlyReleasedGo rs1 rs2 → (w2 : World) × MovesPages w id (AwaitsFrameFor call) fault w2 × IsHost (record h { residents = rs2; space = s2 }) w2
 fetch_ended h w id call k device bytes end fault s2 rs1 rs2 st read ends kept go =
     settled_here h w id call fault (fetch_commit id call fault) s2 rs1 rs2 st (fetches_end h.space s2 k (is_ok device) bytes end (sound_in h w st) (held_read device (get_or h.space.slots.held k [] ≡ bytes) read) ends) kept go (λ w2 moves. moves)
+
+-- ---- whatever bytes the device gives
+
+pub fetch_ended_anyhow : (h : HostState) (w : World) (id : InstId) (call k : ℕ) (device : Result Unit SwapError) (bytes : List ℕ) (end : FetchEnd) (fault : Option SwapError) (s2 : Space) (rs1 rs2 : List (Option Resident)) → (st : IsHost h w)
+    → CommitsFetch h.space k (is_ok device) bytes end s2 → KeepsFault h.residents id call fault rs1 → OnlyReleasedGo rs1 rs2
+    → (mid w2 : World) × IsMisread w mid × MovesPages mid id (AwaitsFrameFor call) fault w2 × IsHost (record h { residents = rs2; space = s2 }) w2
+fetch_ended_anyhow h w id call k device bytes end fault s2 rs1 rs2 st ends kept go =
+    let same = as_many_in h w s2 st (fetches_see_as_many h.space s2 k (is_ok device) bytes end (sound_in h w st) ends) in
+    let mid : World = record w { space = s2 } in
+    let h2 : HostState = record h { space = s2 } in
+    let there = misread_host h w s2 st same in
+    let made = settled_here h2 mid id call fault (fetch_commit id call fault) s2 rs1 rs2 there (all_stay s2 same.1) kept go (λ w2 moves. moves) in
+    (mid, made.0, (s2, same, refl), made.1, made.2)

@@ -15,8 +15,7 @@ use Rattle.wh_host_model.specs.Host.Admission.{AdmitFault, no_module, shares, mi
 use Rattle.wh_host_model.specs.Host.Events.{admit}
 use Rattle.wh_host_model.specs.Host.Happens.{admit_ok, admit_refused, IsAdmit, is_admitted, isnt_admitted, no_memory_to_admit}
 use Rattle.wh_host_model.proofs.Host.Bridges.{entrants_arrive}
-use Rattle.wh_host_model.proofs.Host.Running.{good_run}
-use Rattle.wh_host_model.proofs.Host.Empty.{good_empty}
+use Rattle.wh_host_model.proofs.Host.Lasting.{modules_stay_accepted}
 use Rattle.wh_syntax.specs.View.{view_data}
 use Rattle.wh_load.specs.Refusing.{view_linked}
 use Rattle.wh_initial.specs.Begins.{first_store}
@@ -32,7 +31,7 @@ use Rattle.wh_host.specs.declared.parts.LoadedModule.{LoadedModule}
 use Rattle.wh_host.specs.declared.parts.Resident.{Resident}
 use Rattle.wh_host.specs.Admitting.{BeginsResident, EntersNext, fault_answer}
 use Rattle.wh_host.specs.Hosting.{AreGivenAs, HostState, IsHost, IsResident, loaded_as, resident_at}
-use Rattle.wh_host.proofs.Hosts.{moved_on, one_more, one_value, reached_on, same_or_not}
+use Rattle.wh_host.proofs.Hosts.{moved_on, one_more, one_value, comes_on, same_or_not}
 use Rattle.wh_host.proofs.Requests.{as_many_modules, module_there, sound_here}
 
 -- ---- before it
@@ -84,9 +83,7 @@ length_mapped f (x ∷ xs) = ap suc (length_mapped f xs)
 
 pub module_is_small : (h : HostState) (w : World) (k : ℕ) (m : LoadedModule) → IsHost h w → slice_get h.modules k ≡ Some m → length m.linked.valid.decoded.segments.items ≤ most_segments
 module_is_small h w k m st is =
-    let r = st.reached in
-    let good = good_run r.events (empty_world r.frames r.slots r.tax) w (good_empty r.frames r.slots r.tax) r.happen in
-    let accepted = good.modules k (loaded_as m) (module_there h w k m st is) in
+    let accepted = modules_stay_accepted w st.comes k (loaded_as m) (module_there h w k m st is) in
     let few = few_segments (loaded_as m).bytes (view_linked m.linked) accepted.is_module.small in
     let same : length (map view_data m.linked.valid.decoded.segments.items) ≡ length m.linked.valid.decoded.segments.items = length_mapped view_data m.linked.valid.decoded.segments.items in
     omega (arith, few, same)
@@ -215,7 +212,7 @@ admitted_here h w k p m a x place rs rs1 rs2 s2 st is none b begins are enters u
       w2,
       happens,
       record {
-        reached = reached_on w w2 (admit k p) st.reached (admit_ok id, happens);
+        comes = comes_on w w2 (admit k p) st.comes (admit_ok id, happens);
         modules = st.modules;
         space = refl;
         live = let e = st.live in let more = one_more w.tenants t in omega (arith, e, more);

@@ -3,7 +3,7 @@ use Rattle.std.proofs.Common.{◌≡◌, ℕ, zero, suc, ◌+◌, ◌++◌, Bool
 use Rattle.std.proofs.lemmas.List.{append-nil, append_assoc, length-append, map-append}
 use Rattle.wh_host_model.specs.Space.Errands.{tickets}
 use Rattle.wh_host_model.specs.Host.Worlds.{Entry, Loaded, Params, Suspension, Tenant, World, journal, tenant}
-use Rattle.wh_host_model.proofs.Host.Holding.{instances_replay}
+use Rattle.wh_host_model.proofs.Host.Lasting.{inputs_stay}
 use Rattle.wh_journal.specs.Calls.{JournalCallState}
 use Rattle.wh_instance.specs.Tenancy.{RepresentsEach, suspension_of}
 use Rattle.wh_host.specs.declared.parts.LoadedModule.{LoadedModule}
@@ -32,9 +32,7 @@ as_long (c ∷ cs) (e ∷ es) h = ap suc (as_long cs es h.1)
 
 same_listed : (h : HostState) (w : World) (i : ℕ) (t : Tenant) (x : Resident) → IsHost h w → tenant w i ≡ Some t → IsResident h.modules x w.space i t → listed_by (record { number = i; place = t.place }) x ≡ listed_as i t
 same_listed h w i t x st live is =
-    let run = st.reached in
-    let r = instances_replay run.frames run.slots run.tax run.events w run.happen i t live in
-    let params = params_by x.given x.tenant.store.inputs.items t.params is.given (inputs_are is.loaded.linked x.page_limit x.tenant w t is.is r) in
+    let params = params_by x.given x.tenant.store.inputs.items t.params is.given (inputs_are is.loaded.linked x.page_limit x.tenant w t is.is (inputs_stay w st.comes i t live)) in
     let over = is.is in
     let ended = as_long x.tenant.journal.ended t.ended over.ended in
     let opens = as_long x.tenant.journal.open_calls t.open_calls over.open_calls in

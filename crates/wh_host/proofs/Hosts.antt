@@ -14,7 +14,8 @@ use Rattle.wh_host_model.specs.Host.Laws.{PlacesAreTenants}
 use Rattle.wh_host_model.specs.Host.Calls.{Refuels, has_more, Retries, may_try}
 use Rattle.wh_host_model.specs.Host.Events.{Event, turn, epoch}
 use Rattle.wh_host_model.specs.Host.Happens.{AllHappen, Happens, IsLive, IsTurn, NoInstance, of_none, of_one}
-use Rattle.wh_host_model.proofs.Host.Holding.{places_are_right}
+use Rattle.wh_host_model.specs.Host.Misreading.{AllBefall, AllSeeAsMany, Befalls, ComesAbout, IsMisread, Step, by_event, by_misreading}
+use Rattle.wh_host_model.proofs.Host.Lasting.{places_stay_right}
 use Rattle.wh_host_model.proofs.Host.Opening.{apart_none, apart_steps, apart_then, proceeds_apart}
 use Rattle.wh_instance.specs.Asked.{OfAnyTenant}
 use Rattle.wh_instance.specs.Tenancy.{IsTenant, TenantState}
@@ -97,8 +98,27 @@ reached_on w w2 e r h = record {
   happen = more (empty_world r.frames r.slots r.tax) w w2 r.events e r.happen h;
 }
 
-pub places : (w : World) → IsReached w → PlacesAreTenants w
-places w r = places_are_right r.frames r.slots r.tax r.events w r.happen
+befall_more : (w w2 w3 : World) (xs : List Step) (x : Step) → AllBefall w xs w2 → Befalls w2 x w3 → AllBefall w (xs ++ x ∷ []) w3
+befall_more w w2 w3 [] x r h = (w3, subst (λ z. Befalls z x w3) r h, refl)
+befall_more w w2 w3 (y ∷ ys) x r h = (r.0, r.1, befall_more r.0 w2 w3 ys x r.2 h)
+
+befalls_on : (w w2 : World) (x : Step) → ComesAbout w → Befalls w x w2 → ComesAbout w2
+befalls_on w w2 x c h = record {
+  frames = c.frames;
+  slots = c.slots;
+  tax = c.tax;
+  steps = c.steps ++ x ∷ [];
+  befall = befall_more (empty_world c.frames c.slots c.tax) w w2 c.steps x c.befall h;
+}
+
+pub comes_on : (w w2 : World) (e : Event) → ComesAbout w → Happens w e w2 → ComesAbout w2
+comes_on w w2 e c h = befalls_on w w2 (by_event e) c h
+
+pub misread_on : (w w2 : World) → ComesAbout w → IsMisread w w2 → ComesAbout w2
+misread_on w w2 c h = befalls_on w w2 by_misreading c h
+
+pub places : (w : World) → ComesAbout w → PlacesAreTenants w
+places w c = places_stay_right w c
 
 -- ---- who is there
 
@@ -136,7 +156,7 @@ one_there h w place i x st at number =
 -- and lies there
 pub lies_there : (h : HostState) (w : World) (place i : ℕ) (x : Resident) → IsHost h w → (f : Found h w place i x) → LiesAt f.is.loaded.linked x.page_limit x.tenant w.space place f.t
 lies_there h w place i x st f =
-    let claims = (places w st.reached).claimed i f.t f.live in
+    let claims = (places w st.comes).claimed i f.t f.live in
     let here : claim w.space place ≡ Some (promised i f.t.params) = ap (claim w.space) (sym f.at) ∙ claims in
     record {
       place_is = f.at;
@@ -173,12 +193,12 @@ same_owner modules x s s2 i t t2 z r of params is = record {
 -- ---- one instance changes
 
 pub changed : (h : HostState) (w : World) (place i : ℕ) (x y : Resident) (t2 : Tenant) (s2 : Space) → (st : IsHost h w) → resident_at h.residents place ≡ Some x → x.number ≡ Some i → t2.place ≡ place → IsResident h.modules y s2 i t2
-    → ((j : ℕ) → j ≢ place → view s2 j ≡ view w.space j) → IsReached (with_tenant w i (Some t2) s2) → IsHost (record h { residents = slice_set h.residents place (Some y); space = s2 }) (with_tenant w i (Some t2) s2)
-changed h w place i x y t2 s2 st at_slot number lies represents sees reached =
+    → ((j : ℕ) → j ≢ place → view s2 j ≡ view w.space j) → ComesAbout (with_tenant w i (Some t2) s2) → IsHost (record h { residents = slice_set h.residents place (Some y); space = s2 }) (with_tenant w i (Some t2) s2)
+changed h w place i x y t2 s2 st at_slot number lies represents sees comes =
     let mine = found h w place i x st at_slot number in
     let seats = seat_set h.residents place x (Some y) at_slot in
     record {
-      reached = reached;
+      comes = comes;
       modules = st.modules;
       space = refl;
       live = st.live ∙ sym (as_many w.tenants i mine.t t2 mine.live);
@@ -254,7 +274,7 @@ turned_host h w id q x z answer s2 st at number f to =
     let over : IsTenant f.is.loaded.linked x.page_limit z (view s2 t2.place) t2 = subst (λ i. IsTenant f.is.loaded.linked x.page_limit z (view s2 i) t2) (sym to.2.place_is) to.2.is in
     let represents = same_owner h.modules x w.space s2 id.number f.t t2 z f.is stays.of stays.params over in
     let sees : (j : ℕ) → j ≢ id.place → view s2 j ≡ view w.space j = λ j other. (stays.others j (λ e. other (e ∙ f.at))).view in
-    (w2, happens, changed h w id.place id.number x (record x { tenant = z }) t2 s2 st at number to.2.place_is represents sees (reached_on w w2 (turn id q) st.reached (answer, happens)))
+    (w2, happens, changed h w id.place id.number x (record x { tenant = z }) t2 s2 st at number to.2.place_is represents sees (comes_on w w2 (turn id q) st.comes (answer, happens)))
 
 -- the module of who is there
 pub module_is : (h : HostState) (w : World) (place i : ℕ) (x : Resident) (m : LoadedModule) → (f : Found h w place i x) → slice_get h.modules x.of ≡ Some m → f.is.loaded ≡ m
@@ -310,7 +330,7 @@ asked_found h w id x z R st at number stays f made e happens =
     let over : IsTenant f.is.loaded.linked x.page_limit z (view w.space t2.place) t2 = subst (λ i. IsTenant f.is.loaded.linked x.page_limit z (view w.space i) t2) (sym alike.place) made.2 in
     let represents = same_owner h.modules x w.space w.space id.number f.t t2 z f.is alike.of alike.params over in
     let w2 = with_tenant w id.number (Some t2) w.space in
-    let then = changed h w id.place id.number x y t2 w.space st at number (alike.place ∙ f.at) represents (λ j other. refl) (reached_on w w2 e st.reached (happens f.t t2 live made.1)) in
+    let then = changed h w id.place id.number x y t2 w.space st at number (alike.place ∙ f.at) represents (λ j other. refl) (comes_on w w2 e st.comes (happens f.t t2 live made.1)) in
     let rs = slice_set h.residents id.place (Some y) in
     (f.t, t2, live, made.1, subst (λ s. IsHost (record h { residents = rs; space = s }) w2) (sym st.space) then)
 
@@ -334,8 +354,9 @@ pub new_host : (h : HostState) (frames slots : ℕ) (tax : Tax) → h.modules �
 new_host h frames slots tax modules residents live next sound is =
     let w : World = record { modules = []; tenants = []; space = h.space } in
     let same : (j : ℕ) → LeftAlone j (empty_space frames slots tax) h.space = λ j. rw is.is (record { view = refl; wants = refl; claim = refl }) in
+    let reached : IsReached w = record { frames = frames; slots = slots; tax = tax; events = epoch ∷ []; happen = (w, (h.space, (same, sound), refl), refl) } in
     let st : IsHost h w = record {
-      reached = record { frames = frames; slots = slots; tax = tax; events = epoch ∷ []; happen = (w, (h.space, (same, sound), refl), refl) };
+      comes = record { frames = frames; slots = slots; tax = tax; steps = by_event epoch ∷ []; befall = (w, (h.space, (same, sound), refl), refl) };
       modules = rw modules refl;
       space = refl;
       live = live;
@@ -343,4 +364,4 @@ new_host h frames slots tax modules residents live next sound is =
       there = λ i t e. absurd (let bad : None ≡ Some t = e in cc bad);
       all = λ place i x e n. absurd (let bad : None ≡ Some x = sym (ap (λ (xs : List (Option Resident)). resident_at xs place) residents) ∙ e in cc bad);
     } in
-    (w, st, refl, refl, is)
+    (w, st, reached, refl, refl, is)

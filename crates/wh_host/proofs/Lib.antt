@@ -2,13 +2,12 @@ mod Backed
 mod Lending
 mod Viewing
 mod Turns
-mod Hosts
+pub mod Hosts
 mod Requests
 mod Comers
 mod Paged
 mod Carrying
 mod Offering
-mod Inputs
 mod Showings
 mod Tellings
 mod Ordering

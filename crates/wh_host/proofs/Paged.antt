@@ -7,7 +7,7 @@ use Rattle.wh_host_model.specs.declared.plain.InstId.{InstId}
 use Rattle.wh_host_model.specs.declared.plain.SwapError.{SwapError}
 use Rattle.wh_host_model.specs.Space.Errands.{tickets}
 use Rattle.wh_host_model.specs.Space.Parts.{Occupant, Space, need_of, view, wants}
-use Rattle.wh_host_model.specs.Space.Provide.{FailsTruly, ProvidesTruly}
+use Rattle.wh_host_model.specs.Space.Provide.{FailsToProvide, FailsTruly, Provides, ProvidesTruly}
 use Rattle.wh_host_model.specs.Space.Sound.{IsSound}
 use Rattle.wh_host_model.specs.Space.Tickets.{StandsForFrame}
 use Rattle.wh_host_model.specs.Host.Events.{Event, provide}
@@ -16,14 +16,19 @@ use Rattle.wh_host_model.specs.Host.Spaces.{AllLeftAlone}
 use Rattle.wh_host_model.specs.Host.Standing.{FirstStandsDuly, StandsDuly}
 use Rattle.wh_host_model.specs.Host.Worlds.{Doing, Entry, Suspension, Tenant, World, for_device, for_frame, store_in, with_tenant}
 use Rattle.wh_host_model.proofs.Host.Bridges.{failures_leave_all, provisions_leave_all}
-use Rattle.wh_host_model.proofs.Host.Holding.{suspensions_are_right}
+use Rattle.wh_host_model.proofs.Host.Lasting.{frames_are_awaited}
+use Rattle.wh_host_model.specs.Host.Misreading.{AllSeeAsMany, IsMisread, SeesAsMany}
+use Rattle.wh_host_model.proofs.Host.AsMany.{failures_see_as_many, provisions_see_as_many}
+use Rattle.wh_machine.specs.Runs.{linked_parts}
 use Rattle.wh_instance.specs.Asked.{AwaitsNoFrame, FailsTenant, OfAnyTenant}
 use Rattle.wh_instance.specs.Tenancy.{IsTenant, TenantState}
+use Rattle.wh_host.specs.declared.parts.LoadedModule.{LoadedModule}
 use Rattle.wh_host.specs.declared.parts.Resident.{Resident}
-use Rattle.wh_host.specs.Hosting.{HostState, IsHost, resident_at}
+use Rattle.wh_host.specs.Hosting.{HostState, IsHost, IsResident, resident_at}
 use Rattle.wh_host.specs.Paging.{WaitsFor}
-use Rattle.wh_host.proofs.Hosts.{changed, found, nobody, of_who_is_there, one_value, reached_on, same_owner, somebody_else}
+use Rattle.wh_host.proofs.Hosts.{changed, found, nobody, of_who_is_there, one_value, comes_on, misread_on, same_owner, somebody_else}
 use Rattle.wh_host.proofs.Requests.{moved_host, sound_here}
+use Rattle.wh_host.proofs.Viewing.{represents_on}
 
 -- ---- who waits
 
@@ -39,16 +44,10 @@ stands_there s i need e = rows s.occupants i e where
   rows (Some t ∷ xs) zero e = let h = live t t.live refl e in (t, refl, h.0, h.1)
   rows (x ∷ xs) (suc i) e = rows xs i e
 
-wanted_by : (inst : Instance) (s : Store) (d : Doing) (es : List Entry) (wanted : Option Need) (o : Option Suspension) → FirstStandsDuly inst s d es wanted o → o ≡ Some for_frame → (need : Need) × (wanted ≡ Some need)
-wanted_by inst s d [] wanted o duly e = absurd (let bad : None ≡ Some for_frame = sym duly.1 ∙ e in cc bad)
-wanted_by inst s d (x ∷ es) wanted o duly e = let at : StandsDuly inst s d x.call wanted (Some for_frame) = subst (StandsDuly inst s d x.call wanted) e duly in (at.0, at.1)
-
 -- whoever stands for a frame wants bytes
 pub awaited : (h : HostState) (w : World) (id : InstId) (t : Tenant) → IsHost h w → IsLive w id t → AwaitsFrame t → (need : Need) × (wants w.space id.place ≡ Some need)
 awaited h w id t st live waits =
-    let r = st.reached in
-    let right = suspensions_are_right r.frames r.slots r.tax r.events w r.happen id.number t live.0 in
-    let some = wanted_by t.inst (store_in w.space t) t.doing t.open_calls (wants w.space t.place) t.stands_for right waits in
+    let some = frames_are_awaited w st.comes id.number t live.0 waits in
     (some.0, subst (λ i. wants w.space i ≡ Some some.0) live.1 some.1)
 
 pub waits_there : (h : HostState) (w : World) (id : InstId) (x : Resident) → IsHost h w → resident_at h.residents id.place ≡ Some x → x.number ≡ Some id.number → OfAnyTenant x.tenant (λ l limit bytes t. AwaitsFrame t) → (need : Need) × WaitsFor h id need
@@ -96,7 +95,7 @@ pub moved_as : (h : HostState) (w : World) (id : InstId) (awaits : Tenant → Ty
 moved_as h w id awaits fault e s2 st same none happens =
     let w2 : World = record w { space = s2 } in
     let moves : MovesPages w id awaits fault w2 = moved same none in
-    (w2, moves, moved_host h w s2 st same (reached_on w w2 e st.reached (happens w2 moves)))
+    (w2, moves, moved_host h w s2 st same (comes_on w w2 e st.comes (happens w2 moves)))
 
 -- a fault is kept
 abbrev pub KeepsFaultAt : TenantState → (Tenant → Type 0) → SwapError → TenantState → Type 0
@@ -115,12 +114,39 @@ fault_here h w id x z awaits fault e s2 st at number same keeps happens =
     let represents = same_owner h.modules x w.space s2 id.number f.t t2 z f.is refl refl over in
     let w2 = with_tenant w id.number (Some t2) s2 in
     let moves : MovesPages w id awaits (Some fault) w2 = has_failed same refl (f.live, f.at) made.0 in
-    (w2, moves, changed h w id.place id.number x y t2 s2 st at number f.at represents (λ j other. (same.0 j).view) (reached_on w w2 e st.reached (happens w2 moves)))
+    (w2, moves, changed h w id.place id.number x y t2 s2 st at number f.at represents (λ j other. (same.0 j).view) (comes_on w w2 e st.comes (happens w2 moves)))
 
 -- that of the present call, where it stands for a frame
 pub keeps_fault : (x z : TenantState) (fault : SwapError) (told : Bool) → (told ≡ true → FailsTenant x fault z) → (told ≡ false → AwaitsNoFrame x × (z ≡ x)) → OfAnyTenant x (λ l limit bytes t. AwaitsFrame t) → KeepsFaultAt x AwaitsFrame fault z
 keeps_fault x z fault true some none waits l limit bytes t is = some refl l limit bytes t is
 keeps_fault x z fault false some none waits l limit bytes t is = absurd ((none refl).0 l limit bytes t is (waits l limit bytes t is))
+
+-- ---- other bytes come
+
+resident_on : (modules : List LoadedModule) (x : Resident) (s s2 : Space) (i : ℕ) (t : Tenant) → SeesAsMany t.place s s2 → IsResident modules x s i t → IsResident modules x s2 i t
+resident_on modules x s s2 i t alike r = record {
+  number = r.number;
+  of = r.of;
+  loaded = r.loaded;
+  is_loaded = r.is_loaded;
+  given = r.given;
+  limit = r.limit;
+  is = represents_on (linked_parts r.loaded.linked) x.page_limit (view s t.place) (view s2 t.place) alike.many x.tenant t r.is;
+}
+
+pub misread_host : (h : HostState) (w : World) (s2 : Space) → IsHost h w → AllSeeAsMany w.space s2 → IsHost (record h { space = s2 }) (record w { space = s2 })
+misread_host h w s2 st same = record {
+  comes = misread_on w (record w { space = s2 }) st.comes (s2, same, refl);
+  modules = st.modules;
+  space = refl;
+  live = st.live;
+  next = st.next;
+  there = λ i t e. let f = st.there i t e in (f.0, f.1, resident_on h.modules f.0 w.space s2 i t (same.0 t.place) f.2);
+  all = st.all;
+}
+
+pub all_stay : (s : Space) → IsSound s → AllLeftAlone s s
+all_stay s sound = (λ j. record { view = refl; wants = refl; claim = refl }, sound)
 
 -- ---- a provision
 
@@ -147,6 +173,38 @@ failed_here h w id x z fault s2 st at number waits none made keeps =
     let same = alone_in h w s2 st (failures_leave_all h.space id.place need.0 s2 (sound_in h w st) none stands (made need.0 stands)) in
     fault_here h w id x z AwaitsFrame fault (provide id (Some fault)) s2 st at number same keeps (λ w2 moves. moves)
 
+-- ---- whatever bytes the device gives
+
+pub as_many_in : (h : HostState) (w : World) (s2 : Space) → IsHost h w → AllSeeAsMany h.space s2 → AllSeeAsMany w.space s2
+as_many_in h w s2 st same = subst (λ s. AllSeeAsMany s s2) st.space same
+
+pub nothing_anyhow : (h : HostState) (w : World) (id : InstId) (awaits : Tenant → Type 0) → (st : IsHost h w) → (mid w2 : World) × IsMisread w mid × MovesPages mid id awaits None w2 × IsHost h w2
+nothing_anyhow h w id awaits st =
+    let sound = sound_here h w st in
+    (w, w, (w.space, (λ j. record { many = refl; wants = refl; claim = refl }, sound), refl), moved (all_stay w.space sound) (inl refl), st)
+
+pub provided_anyhow : (h : HostState) (w : World) (id : InstId) (x : Resident) (left : ℕ) (s2 : Space) → (st : IsHost h w) → resident_at h.residents id.place ≡ Some x → x.number ≡ Some id.number → OfAnyTenant x.tenant (λ l limit bytes t. AwaitsFrame t) → tickets h.space ≡ 0
+    → ((need : Need) → StandsForFrame h.space id.place need → Provides h.space id.place need left s2) → (mid w2 : World) × IsMisread w mid × MovesPages mid id AwaitsFrame None w2 × IsHost (record h { space = s2 }) w2
+provided_anyhow h w id x left s2 st at number waits none made =
+    let need = waits_there h w id x st at number waits in
+    let stands = waits_stands h id need.0 need.1 in
+    let same = as_many_in h w s2 st (provisions_see_as_many h.space id.place need.0 left s2 (sound_in h w st) none stands (made need.0 stands)) in
+    let mid : World = record w { space = s2 } in
+    (mid, mid, (s2, same, refl), moved (all_stay s2 same.1) (inl refl), misread_host h w s2 st same)
+
+pub failed_anyhow : (h : HostState) (w : World) (id : InstId) (x : Resident) (z : TenantState) (fault : SwapError) (s2 : Space) → (st : IsHost h w) → resident_at h.residents id.place ≡ Some x → x.number ≡ Some id.number → OfAnyTenant x.tenant (λ l limit bytes t. AwaitsFrame t) → tickets h.space ≡ 0
+    → ((need : Need) → StandsForFrame h.space id.place need → FailsToProvide h.space id.place need s2) → KeepsFaultAt x.tenant AwaitsFrame fault z
+    → (mid w2 : World) × IsMisread w mid × MovesPages mid id AwaitsFrame (Some fault) w2 × IsHost (record h { residents = slice_set h.residents id.place (Some (record x { tenant = z })); space = s2 }) w2
+failed_anyhow h w id x z fault s2 st at number waits none made keeps =
+    let need = waits_there h w id x st at number waits in
+    let stands = waits_stands h id need.0 need.1 in
+    let same = as_many_in h w s2 st (failures_see_as_many h.space id.place need.0 s2 (sound_in h w st) none stands (made need.0 stands)) in
+    let mid : World = record w { space = s2 } in
+    let h2 : HostState = record h { space = s2 } in
+    let there = misread_host h w s2 st same in
+    let kept = fault_here h2 mid id x z AwaitsFrame fault (provide id (Some fault)) s2 there at number (all_stay s2 same.1) keeps (λ w2 moves. moves) in
+    (mid, kept.0, (s2, same, refl), kept.1, kept.2)
+
 -- nothing is done
 pub nothing_moves : (h : HostState) (w : World) (id : InstId) (awaits : Tenant → Type 0) → (st : IsHost h w) → (w2 : World) × MovesPages w id awaits None w2 × IsHost h w2
 nothing_moves h w id awaits st = (w, moved (λ j. record { view = refl; wants = refl; claim = refl }, sound_here h w st) (inl refl), st)
@@ -155,7 +213,7 @@ pub only_moved : (h : HostState) (w : World) (e : Event) (s2 : Space) → (st : 
 only_moved h w e s2 st same happens =
     let w2 : World = record w { space = s2 } in
     let moves : OnlyMoves w w2 = (s2, same, refl) in
-    (w2, moves, moved_host h w s2 st same (reached_on w w2 e st.reached (happens w2 moves)))
+    (w2, moves, moved_host h w s2 st same (comes_on w w2 e st.comes (happens w2 moves)))
 
 pub only_nothing : (h : HostState) (w : World) → (st : IsHost h w) → (w2 : World) × OnlyMoves w w2 × IsHost h w2
 only_nothing h w st = (w, (w.space, (λ j. record { view = refl; wants = refl; claim = refl }, sound_here h w st), refl), st)

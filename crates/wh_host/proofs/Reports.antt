@@ -13,7 +13,8 @@ use Rattle.wh_host_model.proofs.Space.Putting.{there_of}
 use Rattle.wh_host_model.proofs.Tally.{length-le_from_once}
 use Rattle.wh_host.specs.declared.parts.Resident.{Resident}
 use Rattle.wh_host.specs.declared.parts.Seat.{Seat}
-use Rattle.wh_host.specs.Hosting.{AreGivenAs, HostState, IsHost, IsReached, resident_at}
+use Rattle.wh_host_model.specs.Host.Misreading.{ComesAbout}
+use Rattle.wh_host.specs.Hosting.{AreGivenAs, HostState, IsHost, resident_at}
 use Rattle.wh_host.specs.Reporting.{ReportsHost, all_sharers, head_text, row_in, rows_text, shared_frames}
 use Rattle.wh_host.specs.Seating.{AreInOrder, AreSeats, CanBeShown, line_row, line_text, lines_text, number_at, seated_number, seats_by}
 use Rattle.wh_host.proofs.Hosts.{one_value, places}
@@ -74,9 +75,9 @@ shares_of t c live is =
     ap (λ (k : Claimed). k.shares) (one_value c mine (sym is ∙ z))
 
 -- a live instance has at most so many
-shares_few : (w : World) (i : ℕ) (t : Tenant) → IsReached w → IsSound w.space → tenant w i ≡ Some t → t.params.shares ≤ 1000000
-shares_few w i t reached sound live =
-    let claims = (places w reached).claimed i t live in
+shares_few : (w : World) (i : ℕ) (t : Tenant) → ComesAbout w → IsSound w.space → tenant w i ≡ Some t → t.params.shares ≤ 1000000
+shares_few w i t comes sound live =
+    let claims = (places w comes).claimed i t live in
     let o = claimed_there w.space t.place (promised i t.params) claims in
     let mine : claim_of (Some o.0) ≡ Some (promised i t.params) = ap claim_of (sym (get_at w.space.occupants t.place (Some o.0) o.1)) ∙ claims in
     let same = shares_of o.0 (promised i t.params) o.2 mine in
@@ -90,7 +91,7 @@ seat_shown h w st seat of x at =
     let same : f.0 ≡ x = one_value f.0 x (sym f.1 ∙ ap (resident_at h.residents) of.2 ∙ at) in
     let given = ap (λ (z : Resident). z.given.shares) same in
     let as_given = f.2.given.shares in
-    let few = shares_few w seat.number of.0 st.reached (sound_here h w st) of.1 in
+    let few = shares_few w seat.number of.0 st.comes (sound_here h w st) of.1 in
     omega (arith, given, as_given, few)
 
 pub all_shown : (h : HostState) (w : World) (seats : List Seat) → IsHost h w → AreSeats h seats → All (CanBeShown h.residents) seats

@@ -29,7 +29,8 @@ use Rattle.wh_host_model.specs.Host.Admission.{LoadsModule, LetsGo, broken, inva
 use Rattle.wh_host_model.specs.Host.Events.{epoch, invoke, cancel, load, release}
 use Rattle.wh_host_model.specs.Host.Happens.{IsLive, OnlyMoves, IsCancel, is_cancelled, IsInvoke, is_invoked, isnt_invoked, no_memory_to_invoke, invoke_ok, call_ok, LoadAnswer, load_refused, load_wants_memory, IsLoad, is_loaded, isnt_loaded, no_memory_to_load, load_ok, IsRelease, is_released}
 use Rattle.wh_host_model.proofs.Host.Bridges.{ends_well, epochs_leave_all, exits_depart}
-use Rattle.wh_host_model.proofs.Host.Holding.{memory_is_sound}
+use Rattle.wh_host_model.specs.Host.Misreading.{ComesAbout}
+use Rattle.wh_host_model.proofs.Host.Lasting.{memory_stays_sound}
 use Rattle.wh_imports.specs.Joined.{LinkedState}
 use Rattle.wh_load.specs.Refusing.{view_linked}
 use Rattle.wh_instance.specs.declared.error.InvokeError.{InvokeError}
@@ -41,20 +42,20 @@ use Rattle.wh_host.specs.declared.parts.LoadedModule.{LoadedModule}
 use Rattle.wh_host.specs.declared.parts.Resident.{Resident}
 use Rattle.wh_host.specs.Asking.{refusal_answer}
 use Rattle.wh_host.specs.Seats.{PlaceIsLeft}
-use Rattle.wh_host.specs.Hosting.{HostState, IsHost, IsReached, loaded_as, resident_at}
+use Rattle.wh_host.specs.Hosting.{HostState, IsHost, loaded_as, resident_at}
 use Rattle.wh_host.proofs.Turns.{claimed_there}
-use Rattle.wh_host.proofs.Hosts.{SameTenant, asked_found, at_place, changed, closed_stays, found, length_set, module_is, moved_on, one_fewer, one_value, places, reached_on, same_or_not, same_owner, seat_set}
+use Rattle.wh_host.proofs.Hosts.{SameTenant, asked_found, at_place, changed, closed_stays, found, length_set, module_is, moved_on, one_fewer, one_value, places, comes_on, same_or_not, same_owner, seat_set}
 
 -- ---- what is known of a host
 
 pub sound_here : (h : HostState) (w : World) → IsHost h w → IsSound w.space
-sound_here h w st = let r = st.reached in memory_is_sound r.frames r.slots r.tax r.events w r.happen
+sound_here h w st = memory_stays_sound w st.comes
 
 -- who is there has its place in memory
 pub lives_there : (h : HostState) (w : World) (place i : ℕ) (x : Resident) → IsHost h w → resident_at h.residents place ≡ Some x → x.number ≡ Some i → (o : Occupant) × occupant_at h.space place o × (o.live ≡ true)
 lives_there h w place i x st at number =
     let f = found h w place i x st at number in
-    let claims = (places w st.reached).claimed i f.t f.live in
+    let claims = (places w st.comes).claimed i f.t f.live in
     subst (λ s. (o : Occupant) × occupant_at s place o × (o.live ≡ true)) (sym st.space) (claimed_there w.space place (promised i f.t.params) (ap (claim w.space) (sym f.at) ∙ claims))
 
 pub get_mapped : {A B : Type 0} (f : A → B) (xs : List A) (i : ℕ) (x : A) → slice_get xs i ≡ Some x → slice_get (map f xs) i ≡ Some (f x)
@@ -85,7 +86,7 @@ cancelled_here h w id x z st at number asked =
     let happens : IsCancel w id call_ok w2 = is_cancelled (f.live, f.at) cancels in
     let over : IsTenant f.is.loaded.linked x.page_limit z (view s2 t2.place) t2 = subst (λ b. IsTenant f.is.loaded.linked x.page_limit z b t2) (sym there ∙ ap (view s2) (sym stays.place)) made.5 in
     let represents = same_owner h.modules x w.space s2 id.number f.t t2 z f.is stays.of stays.params over in
-    let then = changed h w id.place id.number x (record x { tenant = z }) t2 s2 st at number (stays.place ∙ f.at) represents (λ j other. (others j other).view) (reached_on w w2 (cancel id) st.reached (call_ok, happens)) in
+    let then = changed h w id.place id.number x (record x { tenant = z }) t2 s2 st at number (stays.place ∙ f.at) represents (λ j other. (others j other).view) (comes_on w w2 (cancel id) st.comes (call_ok, happens)) in
     let rs = slice_set h.residents id.place (Some (record x { tenant = z })) in
     (w2, happens, subst (λ s. IsHost (record h { residents = rs; space = ended s id.place }) w2) (sym st.space) then)
 
@@ -127,9 +128,9 @@ refused_here h w id name given fuel x m e st there number is asked =
 
 -- ---- pages move
 
-pub moved_host : (h : HostState) (w : World) (s2 : Space) → IsHost h w → AllLeftAlone w.space s2 → IsReached (record w { space = s2 }) → IsHost (record h { space = s2 }) (record w { space = s2 })
-moved_host h w s2 st same reached = record {
-  reached = reached;
+pub moved_host : (h : HostState) (w : World) (s2 : Space) → IsHost h w → AllLeftAlone w.space s2 → ComesAbout (record w { space = s2 }) → IsHost (record h { space = s2 }) (record w { space = s2 })
+moved_host h w s2 st same comes = record {
+  comes = comes;
   modules = st.modules;
   space = refl;
   live = st.live;
@@ -143,7 +144,7 @@ epoch_here h w s2 st epochs =
     let same = epochs_leave_all w.space s2 (sound_here h w st) (subst (λ s. Epochs s s2) st.space epochs) in
     let w2 : World = record w { space = s2 } in
     let only : OnlyMoves w w2 = (s2, same, refl) in
-    (w2, only, moved_host h w s2 st same (reached_on w w2 epoch st.reached only))
+    (w2, only, moved_host h w s2 st same (comes_on w w2 epoch st.comes only))
 
 -- ---- an instance goes
 
@@ -163,7 +164,7 @@ gone_here h w id x z output rs2 s2 live2 st at number put exits left lives =
       w2,
       happens,
       record {
-        reached = reached_on w w2 (release id) st.reached (Some output, happens);
+        comes = comes_on w w2 (release id) st.comes (Some output, happens);
         modules = st.modules;
         space = refl;
         live = let e = st.live in omega (arith, e, counts, lives);
@@ -219,7 +220,7 @@ loaded_here h w bytes m number st same accepted next few =
       w2,
       happens,
       record {
-        reached = reached_on w w2 (load bytes) st.reached (load_ok number, happens);
+        comes = comes_on w w2 (load bytes) st.comes (load_ok number, happens);
         modules = map_behind loaded_as h.modules m ∙ ap (λ (ls : List Loaded). ls ++ loaded_as m ∷ []) st.modules ∙ ap (λ (b : List ℕ). w.modules ++ record { bytes = b; m = view_linked m.linked } ∷ []) same;
         space = st.space;
         live = st.live;

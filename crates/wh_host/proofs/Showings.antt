@@ -8,6 +8,7 @@ use Rattle.wh_host_model.specs.Host.Worlds.{Loaded, Params, Tenant, World, given
 use Rattle.wh_host_model.specs.Host.Journals.{InOrder}
 use Rattle.wh_host_model.specs.Host.Laws.{IsReplayed}
 use Rattle.wh_host_model.specs.Host.Standing.{FirstStandsDuly}
+use Rattle.wh_host_model.proofs.Host.Lasting.{inputs_stay}
 use Rattle.wh_host_model.proofs.Host.Holding.{instances_replay, journals_are_in_order, suspensions_are_right}
 use Rattle.wh_imports.specs.Joined.{LinkedState}
 use Rattle.wh_load.specs.Refusing.{view_linked}
@@ -17,10 +18,9 @@ use Rattle.wh_transcript.specs.Transcripts.{IsReplayable}
 use Rattle.wh_host.specs.declared.parts.Given.{Given}
 use Rattle.wh_host.specs.declared.parts.LoadedModule.{LoadedModule}
 use Rattle.wh_host.specs.declared.parts.Resident.{Resident}
-use Rattle.wh_host.specs.Hosting.{AreGivenAs, HostState, IsHost, loaded_as, resident_at}
+use Rattle.wh_host.specs.Hosting.{AreGivenAs, HostState, IsHost, IsReached, loaded_as, resident_at}
 use Rattle.wh_host.specs.Showing.{Shows, given_with, shown_of}
-use Rattle.wh_host.proofs.Hosts.{found, one_value}
-use Rattle.wh_host.proofs.Inputs.{replay_inputs, standing_inputs}
+use Rattle.wh_host.proofs.Hosts.{found, module_is, one_value}
 use Rattle.wh_host.proofs.Requests.{module_there}
 
 -- what it was given, by its parts
@@ -28,10 +28,8 @@ pub params_by : (g : Given) (inputs : List ℕ) (p : Params) → AreGivenAs g p 
 params_by g inputs p is same = rw is.shares (rw is.min (rw is.max (rw is.fuel (rw is.base (rw is.salt (rw same refl))))))
 
 -- the words that the code has are those that were given
-pub inputs_are : (l : LinkedState) (limit : ℕ) (x : TenantState) (w : World) (t : Tenant) → IsTenant l limit x (view w.space t.place) t → IsReplayed w t → x.store.inputs.items ≡ t.params.inputs
-inputs_are l limit x w t is r =
-    let has = is.store in
-    sym has.1.store.inputs ∙ sym (standing_inputs (view w.space t.place) t.rest t.doing) ∙ replay_inputs r.loaded.m (given_of t.params) (journal_calls (journal t)) (standing_in w.space t) r.replay
+pub inputs_are : (l : LinkedState) (limit : ℕ) (x : TenantState) (w : World) (t : Tenant) → IsTenant l limit x (view w.space t.place) t → t.rest.inputs ≡ t.params.inputs → x.store.inputs.items ≡ t.params.inputs
+inputs_are l limit x w t is same = let has = is.store in sym has.1.store.inputs ∙ same
 
 -- who is there is shown so, by what the code has of it
 pub record ShownThere (w : World) (place i : ℕ) (m : LoadedModule) (x : Resident) : Type 0 where
@@ -39,49 +37,59 @@ pub record ShownThere (w : World) (place i : ℕ) (m : LoadedModule) (x : Reside
   pub live : tenant w i ≡ Some t
   pub at : t.place ≡ place
   pub of : slice_get w.modules t.of ≡ Some (loaded_as m)
+  pub over : IsTenant m.linked x.page_limit x.tenant (view w.space t.place) t
+  pub given : given_with x.given x.tenant.store.inputs.items ≡ t.params
   pub shows : Shows (shown_of x m.bytes.value.items) m.bytes.value.items t
-  pub replays : IsReplayable (shown_of x m.bytes.value.items)
 
 pub shown_there : (h : HostState) (w : World) (place i : ℕ) (x : Resident) (m : LoadedModule) → IsHost h w → resident_at h.residents place ≡ Some x → x.number ≡ Some i → slice_get h.modules x.of ≡ Some m → ShownThere w place i m x
 shown_there h w place i x m st at number is =
     let f = found h w place i x st at number in
-    let run = st.reached in
-    let r = instances_replay run.frames run.slots run.tax run.events w run.happen i f.t f.live in
-    let o = journals_are_in_order run.frames run.slots run.tax run.events w run.happen i f.t f.live in
-    let u = suspensions_are_right run.frames run.slots run.tax run.events w run.happen i f.t f.live in
     let known : slice_get w.modules f.t.of ≡ Some (loaded_as m) = ap (slice_get w.modules) (sym f.is.of) ∙ module_there h w x.of m st is in
-    let mine : r.loaded ≡ loaded_as m = one_value r.loaded (loaded_as m) (sym r.is_loaded ∙ known) in
-    let theirs : o.loaded ≡ loaded_as m = one_value o.loaded (loaded_as m) (sym o.is_loaded ∙ known) in
-    let given = params_by x.given x.tenant.store.inputs.items f.t.params f.is.given (inputs_are f.is.loaded.linked x.page_limit x.tenant w f.t f.is.is r) in
-    let over = f.is.is in
+    let given = params_by x.given x.tenant.store.inputs.items f.t.params f.is.given (inputs_are f.is.loaded.linked x.page_limit x.tenant w f.t f.is.is (inputs_stay w st.comes i f.t f.live)) in
+    let over = subst (λ (z : LoadedModule). IsTenant z.linked x.page_limit x.tenant (view w.space f.t.place) f.t) (module_is h w place i x m f is) f.is.is in
     let calls = join_each x.tenant.journal.ended x.tenant.journal.open_calls f.t.ended f.t.open_calls over.ended over.open_calls in
-    let first = r.first in
-    let pieces = r.pieces in
-    let initial = subst (λ (l : Loaded). IsInitial l.m (given_of f.t.params) (begins f.t.inst first pieces)) mine r.initial in
-    let replay = subst (λ (l : Loaded). Replay l.m (given_of f.t.params) (journal_calls (journal f.t)) (standing_in w.space f.t)) mine r.replay in
     record {
       t = f.t;
       live = f.live;
       at = f.at;
       of = known;
+      over = over;
+      given = given;
       shows = record { bytes_are = refl; params = given; calls = calls; stands_for = over.stands_for };
-      replays = record {
-        m = view_linked m.linked;
-        accepted = subst (λ (l : Loaded). IsAccepted l.bytes l.m) mine r.accepted;
-        inst = f.t.inst;
-        first = first;
-        pieces = pieces;
-        initial = subst (λ p. IsInitial (view_linked m.linked) (given_of p) (begins f.t.inst first pieces)) (sym given) initial;
-        ended = f.t.ended;
-        open_calls = f.t.open_calls;
-        dead = f.t.dead;
-        in_order = subst (λ (l : Loaded). InOrder l.m f.t.inst f.t.dead f.t.ended f.t.open_calls) theirs o.calls;
-        represents = calls;
-        seen = view w.space f.t.place;
-        rest = f.t.rest;
-        doing = f.t.doing;
-        replay = subst (λ p. Replay (view_linked m.linked) (given_of p) (journal_calls (journal f.t)) (standing_in w.space f.t)) (sym given) replay;
-        wanted = wants w.space f.t.place;
-        stands = subst (λ o. FirstStandsDuly f.t.inst (store_in w.space f.t) f.t.doing f.t.open_calls (wants w.space f.t.place) o) over.stands_for u;
-      };
+    }
+
+-- and where events alone have led there, it is what its journal comes to
+pub replays_there : (w : World) (place i : ℕ) (x : Resident) (m : LoadedModule) → IsReached w → ShownThere w place i m x → IsReplayable (shown_of x m.bytes.value.items)
+replays_there w place i x m run f =
+    let r = instances_replay run.frames run.slots run.tax run.events w run.happen i f.t f.live in
+    let o = journals_are_in_order run.frames run.slots run.tax run.events w run.happen i f.t f.live in
+    let u = suspensions_are_right run.frames run.slots run.tax run.events w run.happen i f.t f.live in
+    let known = f.of in
+    let given = f.given in
+    let over = f.over in
+    let shows = f.shows in
+    let mine : r.loaded ≡ loaded_as m = one_value r.loaded (loaded_as m) (sym r.is_loaded ∙ known) in
+    let theirs : o.loaded ≡ loaded_as m = one_value o.loaded (loaded_as m) (sym o.is_loaded ∙ known) in
+    let first = r.first in
+    let pieces = r.pieces in
+    let initial = subst (λ (l : Loaded). IsInitial l.m (given_of f.t.params) (begins f.t.inst first pieces)) mine r.initial in
+    let replay = subst (λ (l : Loaded). Replay l.m (given_of f.t.params) (journal_calls (journal f.t)) (standing_in w.space f.t)) mine r.replay in
+    record {
+      m = view_linked m.linked;
+      accepted = subst (λ (l : Loaded). IsAccepted l.bytes l.m) mine r.accepted;
+      inst = f.t.inst;
+      first = first;
+      pieces = pieces;
+      initial = subst (λ p. IsInitial (view_linked m.linked) (given_of p) (begins f.t.inst first pieces)) (sym given) initial;
+      ended = f.t.ended;
+      open_calls = f.t.open_calls;
+      dead = f.t.dead;
+      in_order = subst (λ (l : Loaded). InOrder l.m f.t.inst f.t.dead f.t.ended f.t.open_calls) theirs o.calls;
+      represents = shows.calls;
+      seen = view w.space f.t.place;
+      rest = f.t.rest;
+      doing = f.t.doing;
+      replay = subst (λ p. Replay (view_linked m.linked) (given_of p) (journal_calls (journal f.t)) (standing_in w.space f.t)) (sym given) replay;
+      wanted = wants w.space f.t.place;
+      stands = subst (λ o. FirstStandsDuly f.t.inst (store_in w.space f.t) f.t.doing f.t.open_calls (wants w.space f.t.place) o) over.stands_for u;
     }

@@ -3,7 +3,7 @@ use Rattle.std.proofs.Common.{◌≡◌, ℕ, Option, Some, None, slice_get, ap,
 use Rattle.wh_host_model.specs.declared.plain.InstId.{InstId}
 use Rattle.wh_host_model.specs.Host.Happens.{IsLive, NoInstance}
 use Rattle.wh_host_model.specs.Host.Worlds.{Tenant, World, journal}
-use Rattle.wh_host_model.proofs.Host.Holding.{journals_are_in_order}
+use Rattle.wh_host_model.proofs.Host.Lasting.{journals_stay_in_order}
 use Rattle.wh_host_model.specs.Space.Parts.{view}
 use Rattle.wh_instance.specs.declared.stages.CallStatus.{CallStatus}
 use Rattle.wh_instance.specs.Tenancy.{IsTenant}
@@ -25,7 +25,6 @@ of_tenant w id at t (Some status) live is = (t, is.0, live, is.1, is.2)
 pub told_here : (h : HostState) (w : World) (id : InstId) (at : ℕ) (x : Resident) (m : LoadedModule) (told : Option CallStatus) → IsHost h w → resident_at h.residents id.place ≡ Some x → x.number ≡ Some id.number → slice_get h.modules x.of ≡ Some m → TellsCall m.linked x.tenant at told → IsTold w id at told
 told_here h w id at x m told st there number is tells =
     let f = found h w id.place id.number x st there number in
-    let run = st.reached in
-    let o = journals_are_in_order run.frames run.slots run.tax run.events w run.happen id.number f.t f.live in
+    let o = journals_stay_in_order w st.comes id.number f.t f.live in
     let over = subst (λ (z : LoadedModule). IsTenant z.linked x.page_limit x.tenant (view w.space f.t.place) f.t) (module_is h w id.place id.number x m f is) f.is.is in
     of_tenant w id at f.t told (f.live, f.at) (tells x.page_limit (view w.space f.t.place) o.loaded.m f.t over o.calls)

@@ -6,6 +6,7 @@ use Rattle.wh_host_model.specs.Host.Worlds.{Params, Tenant, Loaded, World, tenan
 use Rattle.wh_host_model.specs.Host.Admission.{live_count}
 use Rattle.wh_host_model.specs.Host.Events.{Event}
 use Rattle.wh_host_model.specs.Host.Happens.{AllHappen}
+use Rattle.wh_host_model.specs.Host.Misreading.{ComesAbout}
 use Rattle.wh_load.specs.Refusing.{view_linked}
 use Rattle.wh_instance.specs.Tenancy.{IsTenant}
 use Rattle.wh_space.specs.Arrivals.{IsNew}
@@ -22,7 +23,7 @@ pub record HostState : Type 0 where
   pub space : Space
   pub next : ℕ
 
--- events lead from an empty host to this one
+-- events alone lead from an empty host to this one: no swap device gave other bytes than were written to it
 pub record IsReached (w : World) : Type 0 where
   pub frames : ℕ
   pub slots : ℕ
@@ -58,10 +59,11 @@ pub record IsResident (modules : List LoadedModule) (x : Resident) (s : Space) (
   pub limit : x.page_limit ≤ t.params.max / 16
   pub is : IsTenant loaded.linked x.page_limit x.tenant (view s t.place) t
 
--- The host stands for this one, to which events lead: it has its modules and its memory, each of its instances lies in
--- its place, and whoever else has one was released.
+-- The host stands for this one, to which events lead, and reads of a swap device that gave other bytes, if there were
+-- any: it has its modules and its memory, each of its instances lies in its place, and whoever else has one was
+-- released.
 pub record IsHost (h : HostState) (w : World) : Type 0 where
-  pub reached : IsReached w
+  pub comes : ComesAbout w
   pub modules : map loaded_as h.modules ≡ w.modules
   pub space : h.space ≡ w.space
   pub live : h.live ≡ live_count w.tenants
@@ -74,4 +76,4 @@ pub record IsHost (h : HostState) (w : World) : Type 0 where
 -- nothing was loaded or admitted yet
 abbrev pub IsNewHost : HostState → ℕ → ℕ → Tax → Type 0
 IsNewHost h frames slots tax =
-    (w : World) × IsHost h w × (w.modules ≡ []) × (w.tenants ≡ []) × IsNew w.space frames slots tax
+    (w : World) × IsHost h w × IsReached w × (w.modules ≡ []) × (w.tenants ≡ []) × IsNew w.space frames slots tax

@@ -7,6 +7,7 @@ use Rattle.wh_host_model.specs.declared.plain.SwapError.{SwapError}
 use Rattle.wh_host_model.specs.Space.Parts.{wants}
 use Rattle.wh_host_model.specs.Host.Worlds.{Tenant, World}
 use Rattle.wh_host_model.specs.Host.Happens.{AwaitsFrame, IsLive, MovesPages, OnlyMoves}
+use Rattle.wh_host_model.specs.Host.Misreading.{IsMisread}
 use Rattle.wh_host_model.specs.Host.Standing.{CanGoOn}
 use Rattle.wh_host.specs.Hosting.{HostState, IsHost}
 
@@ -31,6 +32,13 @@ WaitsFor h id need = (w : World) × IsHost h w × IsAwaiting w id × (wants w.sp
 abbrev pub MovesWith : HostState → InstId → (Tenant → Type 0) → Option SwapError → HostState → Type 0
 MovesWith h id awaits fault h2 =
     (w : World) → IsHost h w → (w2 : World) × MovesPages w id awaits fault w2 × IsHost h2 w2
+
+-- The same whatever bytes the device gave: some instances may see other bytes, as many as before, and so pages have
+-- moved.
+abbrev pub MovesAnyhow : HostState → InstId → (Tenant → Type 0) → Option SwapError → HostState → Type 0
+MovesAnyhow h id awaits fault h2 =
+    (w : World) → IsHost h w
+    → (mid w2 : World) × IsMisread w mid × MovesPages mid id awaits fault w2 × IsHost h2 w2
 
 -- or nothing but pages has moved
 abbrev pub MovesOnly : HostState → HostState → Type 0

@@ -10,7 +10,8 @@ use Rattle.wh_host.specs.declared.parts.LoadedModule.{LoadedModule}
 use Rattle.wh_host.specs.declared.parts.Resident.{Resident}
 use Rattle.wh_host.specs.declared.parts.Seat.{Seat}
 use Rattle.wh_host.specs.declared.rolling.Enrolled.{Enrolled}
-use Rattle.wh_host.specs.Hosting.{HostState, IsHost, IsReached, resident_at}
+use Rattle.wh_host_model.specs.Host.Misreading.{ComesAbout}
+use Rattle.wh_host.specs.Hosting.{HostState, IsHost, resident_at}
 use Rattle.wh_host.specs.Showing.{given_with}
 
 -- An instance as the roll has it: its number, its place, of which module it is, what it was given, how many calls there
@@ -61,9 +62,9 @@ roll_of w = record {
   instances = all_listed 0 w.tenants;
 }
 
--- events lead from an empty host to one that has this roll
+-- events, and reads of a swap device that gave other bytes, lead from an empty host to one that has this roll
 abbrev pub IsRollOfSome : RollState → Type 0
-IsRollOfSome roll = (w : World) × IsReached w × (roll ≡ roll_of w)
+IsRollOfSome roll = (w : World) × ComesAbout w × (roll ≡ roll_of w)
 
 -- for whatever host it stands, this is its roll
 abbrev pub IsRollOf : HostState → RollState → Type 0

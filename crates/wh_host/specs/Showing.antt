@@ -9,7 +9,7 @@ use Rattle.wh_host.specs.declared.parts.Given.{Given}
 use Rattle.wh_host.specs.declared.parts.Resident.{Resident}
 use Rattle.wh_host.specs.declared.error.HostError.{HostError}
 use Rattle.wh_host.specs.declared.error.HostError.TheVariants.{NoInstance, Invoke, NoCall, Memory}
-use Rattle.wh_host.specs.Hosting.{HostState, IsHost}
+use Rattle.wh_host.specs.Hosting.{HostState, IsHost, IsReached}
 
 -- what the owner of an instance gave it, with the words of its input
 abbrev pub given_with : Given → List ℕ → Params
@@ -49,6 +49,10 @@ IsTranscript w id (Err NoInstance) = NobodyThere w id
 IsTranscript w id (Err Memory) = Unit {0}
 IsTranscript w id (Err (Invoke e)) = ⊥
 IsTranscript w id (Err NoCall) = ⊥
+
+-- events alone lead to a host for which it stands
+abbrev pub StandsByEvents : HostState → Type 0
+StandsByEvents h = (w : World) × IsHost h w × IsReached w
 
 -- for whatever host it stands
 abbrev pub ShowsInstance : HostState → InstId → Result TranscriptState HostError → Type 0

@@ -102,12 +102,8 @@ fn provided<D: SwapDev>(
     id: InstId,
     buf: &mut Buf,
 ) -> Result<u64, SwapError>
-    requires together { AreTogether host.old.space (D.held device.old) }
-    requires keeps { D.keeps device.old }
-    requires honest { D.honest device.old }
-    ensures together { AreTogether host.new.space (D.held device.new) }
-    ensures keeps { D.keeps device.new }
-    ensures honest { D.honest device.new }
+    requires { AreTogether host.old.space (D.held device.old) }
+    ensures { AreTogether host.new.space (D.held device.new) }
 {
     host.provide(device, id, buf)
 }

@@ -7,7 +7,7 @@ ghost use Rattle.wh_host_model.specs.Space.Laws.{IsProvided};
 ghost use Rattle.wh_host_model.specs.Space.Provide.{FailsTruly, OthersKeepMinimum, ProvidesTruly};
 ghost use Rattle.wh_model.specs.declared.memory.Need.{Need};
 ghost use Rattle.wh_reclaim.specs.Whole.{IsAsWhole};
-ghost use Rattle.wh_host.specs.Paging.{IsAwaiting, IsGoing, MovesWith, Tells, WaitsFor, provide_fault};
+ghost use Rattle.wh_host.specs.Paging.{IsAwaiting, IsGoing, MovesAnyhow, MovesWith, Tells, WaitsFor, provide_fault};
 
 use crate::host::Host;
 use wh_host_model::{InstId, SwapError};
@@ -47,7 +47,8 @@ impl Host {
     /// so too where the call stands for a device fault, and waits for `retry`. It takes no memory: the buffer is of use
     /// while the call lasts.
     ///
-    /// The device holds what the slots hold, keeps what is written to it, and has read right so far; no ticket is out.
+    /// The device holds what the slots hold; no ticket is out. Where it has read right, no byte of any page changes. Where it
+    /// gave other bytes as Ok, those are what the pages that came have, and nothing else differs.
     ///
     /// # Errors
     /// That of the device's call that failed. It is kept with the present call. The moves so far stay, and nothing is pinned
@@ -60,21 +61,22 @@ impl Host {
     ) -> Result<u64, SwapError>
         requires none_out { tickets self.old.space ≡ 0 }
         requires agrees { self.old.space.slots.held ≡ D.held device.old }
-        requires keeps { D.keeps device.old }
-        requires honest { D.honest device.old }
         ensures none_out { tickets self.new.space ≡ 0 }
         ensures agrees { self.new.space.slots.held ≡ D.held device.new }
-        ensures keeps { D.keeps device.new }
-        ensures honest { D.honest device.new }
-        ensures moves { MovesWith self.old id AwaitsFrame (provide_fault result) self.new }
+        ensures honest { D.honest device.new → D.honest device.old }
+        ensures keeps { D.keeps device.old → D.keeps device.new }
+        ensures kept { D.keeps device.old → D.honest device.old → D.honest device.new }
+        ensures moves { D.honest device.new
+            → MovesWith self.old id AwaitsFrame (provide_fault result) self.new }
+        ensures anyhow { MovesAnyhow self.old id AwaitsFrame (provide_fault result) self.new }
         ensures idle { ((need : Need) → ¬ WaitsFor self.old id need)
             → (self.new ≡ self.old) × (device.new ≡ device.old) × (result ≡ Ok 0) }
-        ensures provides { (need : Need) → WaitsFor self.old id need → IfOk result (λ left.
-            ProvidesTruly self.old.space id.place need left self.new.space) }
+        ensures provides { (need : Need) → WaitsFor self.old id need → D.honest device.new
+            → IfOk result (λ left. ProvidesTruly self.old.space id.place need left self.new.space) }
         ensures right { (need : Need) → WaitsFor self.old id need → IfOk result (λ left.
             IsProvided self.old.space id.place need left self.new.space) }
-        ensures fails { (need : Need) → WaitsFor self.old id need → OnErr result
-            (FailsTruly self.old.space id.place need self.new.space) }
+        ensures fails { (need : Need) → WaitsFor self.old id need → D.honest device.new
+            → OnErr result (FailsTruly self.old.space id.place need self.new.space) }
         ensures others { OthersKeepMinimum self.old.space id.place self.new.space }
         ensures whole { IsAsWhole self.old.space self.new.space }
         ensures writes { IfOk result (λ left. D.writes device.new ≡ D.writes device.old + left) }

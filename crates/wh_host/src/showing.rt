@@ -2,7 +2,7 @@
 
 ghost use Rattle.std.specs.Prelude.{◌≡◌, IfOk};
 ghost use Rattle.wh_admit.specs.Views.{view_params};
-ghost use Rattle.wh_host.specs.Showing.{ShowsInstance, given_with, shown_of};
+ghost use Rattle.wh_host.specs.Showing.{StandsByEvents, ShowsInstance, given_with, shown_of};
 ghost use Rattle.wh_transcript.specs.Transcripts.{IsReplayable};
 
 use crate::error::HostError;
@@ -49,11 +49,12 @@ fn transcript_of(
 
 impl Host {
     /// The transcript of an instance: the bytes of its module, what its owner gave it, its calls, and for what the first
-    /// open one stands.
+    /// open one stands. Events alone have led to this host: no swap device gave other bytes than were written to it.
     ///
     /// # Errors
     /// `NoInstance`; `Memory` where room is refused.
     pub fn transcript(&self, alloc: Global, id: InstId) -> Result<Transcript, HostError>
+        requires { StandsByEvents self.now }
         ensures { ShowsInstance self.now id result }
     {
         let Some(resident) = self.residents.get(id.place) else {

@@ -9,7 +9,7 @@ ghost use Rattle.wh_model.specs.declared.memory.Need.{Need};
 ghost use Rattle.wh_space.specs.Errands.{ticket_place};
 ghost use Rattle.wh_host.specs.Carried.{EndsEvict, IsOut, IsPresentCall, KeepsFault, OnlyReleasedGo, bytes_to_write, evict_fault, fetch_fault, slot_to_read, slot_to_write};
 ghost use Rattle.wh_host.specs.Hosting.{resident_at};
-ghost use Rattle.wh_host.specs.Paging.{MovesOnly, MovesWith, WaitsFor};
+ghost use Rattle.wh_host.specs.Paging.{MovesAnyhow, MovesOnly, MovesWith, WaitsFor};
 ghost use Rattle.wh_host.specs.declared.parts.Resident.{Resident as OneResident};
 
 use crate::host::Host;
@@ -220,16 +220,17 @@ impl Host {
         (end, buf)
     }
 
-    /// A page that was coming: its ticket comes back with what the device answered to its read, and the buffer with it, which
-    /// holds what the slot holds where that was Ok. The answer is `Void` where its instance was released, `Fetched`, and the
+    /// A page that was coming: its ticket comes back with what the device answered to its read, and the buffer with it. Where
+    /// that holds what the slot holds no byte of any page changes. The answer is `Void` where its instance was released, `Fetched`, and the
     /// page has these bytes, where the device answered Ok, and `Failed` else, and it lies in its slot as before. At `Failed`
     /// the fault is kept with the call for which it was begun, while that is there and stands for a frame. The place of an
     /// instance that was released is given up with its last ticket.
     pub fn fetch_commit(&mut self, fetched: Fetch, device: Result<(), SwapError>) -> (FetchEnd, Buf)
         requires out { IsOut self.old.space fetched.ticket.slot to_read }
-        requires read { OnOk device (get_or self.old.space.slots.held fetched.ticket.slot []
-            ≡ fetched.ticket.bytes) }
-        ensures moves { MovesWith self.old fetched.id (AwaitsFrameFor fetched.call)
+        ensures moves { OnOk device (get_or self.old.space.slots.held fetched.ticket.slot []
+            ≡ fetched.ticket.bytes) → MovesWith self.old fetched.id
+            (AwaitsFrameFor fetched.call) (fetch_fault result.0 device) self.new }
+        ensures anyhow { MovesAnyhow self.old fetched.id (AwaitsFrameFor fetched.call)
             (fetch_fault result.0 device) self.new }
         ensures ends { CommitsFetch self.old.space fetched.ticket.slot (is_ok device)
             fetched.ticket.bytes result.0 self.new.space }

@@ -10,6 +10,8 @@ pub mod Happens
 pub mod Journals
 pub mod Standing
 pub mod Laws
+pub mod Taking
+pub mod Misreading
 pub mod Stuck
 pub mod Bridges
 pub mod Apart

@@ -16,7 +16,7 @@ pub use answers::answers_hold;
 pub use laws::space_holds;
 pub use moves::moves_hold;
 pub use plain::{InstId, SwapError, TurnEnd};
-pub use runs::every_run;
+pub use runs::{every_misread_run, every_run};
 pub use states::{EvictEnd, FetchEnd, Mark, Offer, Page, Slot};
 
 /// The tax on idle memory: the fraction `num / den` of a page that isn't touched is taken from its owner, so that

@@ -1,6 +1,6 @@
 //! The laws of what the memory's own moves are to a host.
 
-ghost use Rattle.wh_host_model.specs.Host.Bridges.{LoadsStep, StoresStep, GrowthSteps, StandsWell, EndsWell, EpochsLeaveAll, OffersLeaveAll, EvictionsBegin, WritesLeaveAll, EvictionsEnd, FetchesBegin, FetchesEnd, ProvisionsLeaveAll, FailuresLeaveAll, EntrantsArrive, ExitsDepart};
+ghost use Rattle.wh_host_model.specs.Host.Bridges.{LoadsStep, StoresStep, GrowthSteps, StandsWell, EndsWell, EpochsLeaveAll, OffersLeaveAll, EvictionsBegin, WritesLeaveAll, EvictionsEnd, FetchesBegin, FetchesEnd, ProvisionsLeaveAll, FailuresLeaveAll, FetchesSeeAsMany, ProvisionsSeeAsMany, FailuresSeeAsMany, EntrantsArrive, ExitsDepart};
 
 /// What the moves of the memory on which all instances lie leave, in the words in which a host's events ask for it. The
 /// function does nothing; what it ensures are the laws.
@@ -19,6 +19,9 @@ pub fn moves_hold()
     ensures fetches_end { FetchesEnd }
     ensures provisions_leave_all { ProvisionsLeaveAll }
     ensures failures_leave_all { FailuresLeaveAll }
+    ensures fetches_see_as_many { FetchesSeeAsMany }
+    ensures provisions_see_as_many { ProvisionsSeeAsMany }
+    ensures failures_see_as_many { FailuresSeeAsMany }
     ensures entrants_arrive { EntrantsArrive }
     ensures exits_depart { ExitsDepart }
 {}

@@ -2,8 +2,10 @@
 
 ghost use Rattle.wh_host_model.specs.Host.Laws.{MemoryIsSound, PlacesAreRight, InstancesReplay, ChargesAreWithin, JournalsAreInOrder, SuspensionsAreRight, FrameIsLacking, AgainIsReady, OneTurn};
 ghost use Rattle.wh_host_model.specs.Host.Stuck.{NoCallIsStuck};
+ghost use Rattle.wh_host_model.specs.Host.Taking.{ReadyStepsAreTaken};
 ghost use Rattle.wh_host_model.specs.Host.Apart.{NoBytesReachAnother};
 ghost use Rattle.wh_host_model.specs.Host.Progress.{EventsHappen, LoadsAreTaken, CallsAreTaken, IdleTurnsHappen, FuelTurnsHappen};
+ghost use Rattle.wh_host_model.specs.Host.Misreading.{MemoryStaysSound, PlacesStayRight, ModulesStayAccepted, JournalsStayInOrder, InputsStay, FramesAreAwaited};
 
 /// What holds of a host after every list of events from an empty one, and of what a turn answers. The function does
 /// nothing; what it ensures are the laws.
@@ -18,10 +20,22 @@ pub fn every_run()
     ensures frame_is_lacking { FrameIsLacking }
     ensures again_is_ready { AgainIsReady }
     ensures one_turn { OneTurn }
+    ensures ready_steps_are_taken { ReadyStepsAreTaken }
     ensures no_bytes_reach_another { NoBytesReachAnother }
     ensures events_happen { EventsHappen }
     ensures loads_are_taken { LoadsAreTaken }
     ensures calls_are_taken { CallsAreTaken }
     ensures idle_turns_happen { IdleTurnsHappen }
     ensures fuel_turns_happen { FuelTurnsHappen }
+{}
+
+/// What holds of a host whatever bytes its swap device gives: after every list of events and of reads that gave other bytes
+/// than were written. The function does nothing; what it ensures are the laws.
+pub fn every_misread_run()
+    ensures memory_stays_sound { MemoryStaysSound }
+    ensures places_stay_right { PlacesStayRight }
+    ensures modules_stay_accepted { ModulesStayAccepted }
+    ensures journals_stay_in_order { JournalsStayInOrder }
+    ensures inputs_stay { InputsStay }
+    ensures frames_are_awaited { FramesAreAwaited }
 {}

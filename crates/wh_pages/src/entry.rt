@@ -1,8 +1,9 @@
 // An entry of the table: a page with its mark, in 8 bytes.
 
-ghost use Rattle.std.specs.Prelude.{◌≡◌, false, IfSome};
+ghost use Rattle.std.specs.Prelude.{◌≡◌, ◌≤◌, false, cond, IfSome};
 ghost use Rattle.wh_host_model.specs.declared.states.Page.TheVariants.{Private, Untouched as UntouchedPage};
 ghost use Rattle.wh_host_model.specs.Space.Moves.{frame_of};
+ghost use Rattle.wh_host_model.specs.Space.States.{resident};
 ghost use Rattle.wh_pages.specs.Parts.{page_of};
 
 use wh_host_model::Page;
@@ -61,6 +62,27 @@ impl Entry {
             kind,
             touched,
         }
+    }
+
+    // 1 where the page stands on a frame, else 0.
+    #[inline(always)]
+    pub fn residents(self) -> u32
+        ensures is { result ≡ resident (page_of self) }
+        ensures one { result ≤ 1 }
+    {
+        match self.kind {
+            Kind::Private | Kind::Shared | Kind::Leaving | Kind::LeavingShared => 1,
+            Kind::Untouched | Kind::Coming | Kind::Swapped => 0,
+        }
+    }
+
+    // 1 where the page stands on a frame and was touched in this epoch, else 0.
+    #[inline(always)]
+    pub fn actives(self) -> u32
+        ensures is { result ≡ cond self.touched (resident (page_of self)) 0 }
+        ensures one { result ≤ 1 }
+    {
+        if self.touched { self.residents() } else { 0 }
     }
 
     // The frame on which the page stands, if it stands on one.

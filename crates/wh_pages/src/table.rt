@@ -1,7 +1,11 @@
 // The table as its caller sees it.
 
 ghost use Rattle.std.specs.Prelude.{◌≡◌, ◌↔◌, ◌+◌, ◌<◌, ◌≤◌, ◌++◌, [], ◌∷◌, true, false, IsTrue, IsFalse, Some, IfOk, IfSome, length, replicate, slice_get, slice_set};
+ghost use Rattle.wh_host_model.specs.Frames.{tally};
+ghost use Rattle.wh_host_model.specs.Space.Claims.{active};
 ghost use Rattle.wh_host_model.specs.Space.Moves.{frame_of};
+ghost use Rattle.wh_host_model.specs.Space.States.{resident};
+ghost use Rattle.wh_pages.specs.Parts.{page_of};
 ghost use Rattle.wh_host_model.specs.declared.states.Page.TheVariants.{Private, Untouched};
 ghost use Rattle.wh_pages.specs.Table.{touched_if};
 
@@ -21,6 +25,9 @@ pub struct PageTable {
     rows: Rows,
     len: u32,
     max: u32,
+    // How many pages stand on frames, and how many of these were touched in this epoch.
+    residents: u32,
+    actives: u32,
 }
 
 impl Model for PageTable {
@@ -45,7 +52,13 @@ impl PageTable {
         ensures { IfOk result (λ table. table ≡ record { pages = []; touched = []; max = max }) }
     {
         let rows = Rows::new(alloc, max.div_ceil(LEAF))?;
-        Ok(PageTable { rows, len: 0, max })
+        Ok(PageTable {
+            rows,
+            len: 0,
+            max,
+            residents: 0,
+            actives: 0,
+        })
     }
 
     /// How many pages there are.
@@ -64,6 +77,22 @@ impl PageTable {
         ensures most { result ≤ 65536 }
     {
         self.max
+    }
+
+    /// How many pages stand on frames. The number is kept.
+    pub fn residents(&self) -> u32
+        ensures pages { result ≡ tally resident self.now.pages }
+        ensures most { result ≤ length self.now.pages }
+    {
+        self.residents
+    }
+
+    /// How many pages stand on frames and were touched in this epoch. The number is kept.
+    pub fn actives(&self) -> u32
+        ensures pages { result ≡ active self.now.pages self.now.touched }
+        ensures within { result ≤ tally resident self.now.pages }
+    {
+        self.actives
     }
 
     /// The page at this place, which is below `len`.
@@ -89,8 +118,8 @@ impl PageTable {
         requires { at < length self.old.pages }
         ensures { self.new ≡ record self.old { pages = slice_set self.old.pages at page } }
     {
-        let touched = self.rows.get(at).touched;
-        self.rows.set(at, Entry::new(page, touched));
+        let old = self.rows.get(at);
+        self.put(at, old, Entry::new(page, old.touched));
     }
 
     /// Marks the page at this place, which is below `len`, as touched.
@@ -111,8 +140,11 @@ impl PageTable {
         ensures touched { self.new
             ≡ record self.old { touched = touched_if result self.old.touched at } }
     {
-        let frame = self.rows.get(at).frame()?;
-        self.mark(at, true);
+        let entry = self.rows.get(at);
+        let frame = entry.frame()?;
+        if !entry.touched {
+            self.mark(at, true);
+        }
         Some(frame)
     }
 
@@ -125,8 +157,11 @@ impl PageTable {
         ensures touched { self.new
             ≡ record self.old { touched = touched_if result self.old.touched at } }
     {
-        let frame = self.rows.get(at).own_frame()?;
-        self.mark(at, true);
+        let entry = self.rows.get(at);
+        let frame = entry.own_frame()?;
+        if !entry.touched {
+            self.mark(at, true);
+        }
         Some(frame)
     }
 
@@ -171,16 +206,32 @@ impl PageTable {
         ensures { self.new ≡ record self.old { pages = []; touched = [] } }
     {
         self.len = 0;
+        self.residents = 0;
+        self.actives = 0;
     }
 
     // Gives the page at this place this mark.
-    #[inline(always)]
     fn mark(&mut self, at: u32, touched: bool)
         requires { at < length self.old.pages }
         ensures { self.new ≡ record self.old { touched = slice_set self.old.touched at touched } }
     {
-        let entry = self.rows.get(at);
-        self.rows.set(at, Entry { touched, ..entry });
+        let old = self.rows.get(at);
+        self.put(at, old, Entry { touched, ..old });
+    }
+
+    // Puts an entry in place of the old one, and counts again.
+    fn put(&mut self, at: u32, old: Entry, entry: Entry)
+        requires there { at < length self.old.pages }
+        requires page { slice_get self.old.pages at ≡ Some (page_of old) }
+        requires mark { slice_get self.old.touched at ≡ Some old.touched }
+        ensures { self.new ≡ record self.old {
+          pages = slice_set self.old.pages at (page_of entry);
+          touched = slice_set self.old.touched at entry.touched;
+        } }
+    {
+        self.residents = self.residents - old.residents() + entry.residents();
+        self.actives = self.actives - old.actives() + entry.actives();
+        self.rows.set(at, entry);
     }
 
     // Adds an untouched page without a mark.

@@ -33,4 +33,4 @@ report_speaks w = speaks_on [] [] (head_text w.space) (rows_text w.space 0 w.ten
 pub adds_report : (settings : Settings) (e : Engine) (m : Made) (report text text2 : List ℕ) → StandsForScript settings e m → ReportsHost e.host report
     → text2 ≡ text ++ report → AddsSpeech [] text text2
 adds_report settings e m report text text2 s reports is =
-    (report, subst (λ xs. Speaks [] xs) (sym (reports s.world s.is)) (report_speaks s.world), is)
+    (report, subst (λ xs. Speaks [] xs) (sym (reports s.world s.is.0)) (report_speaks s.world), is)

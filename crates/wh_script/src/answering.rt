@@ -4,7 +4,8 @@ ghost use Rattle.std.specs.Prelude.{◌≡◌, ℕ, List, [], OnOk, IfErr, strin
 ghost use Rattle.wh_host_model.specs.Lines.Answers.{Files};
 ghost use Rattle.wh_host_model.specs.Lines.Commands as asked_of;
 ghost use Rattle.wh_commands.specs.Found.{Says};
-ghost use Rattle.wh_engine.specs.Draining.{HasAdded, IsBacked};
+ghost use Rattle.wh_reclaim.specs.Together.{AreTogether};
+ghost use Rattle.wh_engine.specs.Draining.{HasAdded, HasServed, StaysTrue};
 ghost use Rattle.wh_script.specs.Answering.{Answers, AnswersCommand};
 ghost use Rattle.wh_script.specs.Coming.{IsKind};
 
@@ -28,13 +29,13 @@ impl Session {
         held: &[u8],
         number: u64,
     ) -> Result<(), ScriptFault>
-        requires { IsBacked self.old.engine.host.space (D.held device.old) (D.keeps device.old)
-            (D.honest device.old) }
-        ensures backed { IsBacked self.new.engine.host.space (D.held device.new)
+        requires { AreTogether self.old.engine.host.space (D.held device.old) }
+        ensures together { AreTogether self.new.engine.host.space (D.held device.new) }
+        ensures device { StaysTrue (D.keeps device.old) (D.honest device.old)
             (D.keeps device.new) (D.honest device.new) }
         ensures faults { HasAdded (D.faults device.old) (D.faults device.new) }
-        ensures answers { OnOk result (D.faults device.new ≡ D.faults device.old
-            → (line : List ℕ) → IsKind kind held.now line
+        ensures answers { OnOk result (HasServed (D.honest device.new) (D.faults device.old)
+            (D.faults device.new) → (line : List ℕ) → IsKind kind held.now line
             → Answers (S.files source.now) number line self.old.engine [] self.new.engine
             (string_bytes self.new.text)) }
         ensures err { IfErr result (λ e. e ≡ ScriptFault.Memory) }
@@ -61,13 +62,13 @@ impl Session {
         command: Command<'_>,
         number: u64,
     ) -> Result<(), ScriptFault>
-        requires { IsBacked self.old.engine.host.space (D.held device.old) (D.keeps device.old)
-            (D.honest device.old) }
-        ensures backed { IsBacked self.new.engine.host.space (D.held device.new)
+        requires { AreTogether self.old.engine.host.space (D.held device.old) }
+        ensures together { AreTogether self.new.engine.host.space (D.held device.new) }
+        ensures device { StaysTrue (D.keeps device.old) (D.honest device.old)
             (D.keeps device.new) (D.honest device.new) }
         ensures faults { HasAdded (D.faults device.old) (D.faults device.new) }
-        ensures answers { OnOk result (D.faults device.new ≡ D.faults device.old
-            → (asked : asked_of.Command) → Says command.entry asked
+        ensures answers { OnOk result (HasServed (D.honest device.new) (D.faults device.old)
+            (D.faults device.new) → (asked : asked_of.Command) → Says command.entry asked
             → AnswersCommand (S.files source.now) number asked self.old.engine
             (string_bytes self.old.text) self.new.engine (string_bytes self.new.text)) }
         ensures err { IfErr result (λ e. e ≡ ScriptFault.Memory) }
@@ -99,13 +100,13 @@ impl Session {
         args: &[i128],
         number: u64,
     ) -> Result<(), ScriptFault>
-        requires { IsBacked self.old.engine.host.space (D.held device.old) (D.keeps device.old)
-            (D.honest device.old) }
-        ensures backed { IsBacked self.new.engine.host.space (D.held device.new)
+        requires { AreTogether self.old.engine.host.space (D.held device.old) }
+        ensures together { AreTogether self.new.engine.host.space (D.held device.new) }
+        ensures device { StaysTrue (D.keeps device.old) (D.honest device.old)
             (D.keeps device.new) (D.honest device.new) }
         ensures faults { HasAdded (D.faults device.old) (D.faults device.new) }
-        ensures answers { OnOk result (D.faults device.new ≡ D.faults device.old
-            → (files : Files)
+        ensures answers { OnOk result (HasServed (D.honest device.new) (D.faults device.old)
+            (D.faults device.new) → (files : Files)
             → AnswersCommand files number (asked_of.invoke inst.now export.now fuel args.now)
             self.old.engine (string_bytes self.old.text) self.new.engine
             (string_bytes self.new.text)) }

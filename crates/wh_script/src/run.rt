@@ -1,8 +1,8 @@
 //! A script from its first line to its last.
 
-ghost use Rattle.std.specs.Prelude.{◌≡◌, replicate, [], IfErr};
+ghost use Rattle.std.specs.Prelude.{IfErr};
 ghost use Rattle.wh_settings.specs.View.{settings_of};
-ghost use Rattle.wh_engine.specs.Draining.{HasAdded, IsBacked};
+ghost use Rattle.wh_engine.specs.Draining.{HasAdded, HasServed, StaysTrue};
 ghost use Rattle.wh_script.specs.Runs.{Runs};
 ghost use Rattle.wh_script.specs.Starting.{IsEmptyDevice};
 
@@ -31,14 +31,15 @@ pub fn run_script<R: Read, W: Write, S: Source, D: SwapDev>(
     reader: &mut R,
     writer: &mut W,
 ) -> Result<(), ScriptFault>
-    requires device { IsEmptyDevice settings.now.slots (D.held device.old) (D.keeps device.old)
-        (D.honest device.old) }
-    // Where no call of the device failed: what answers the script was written, and lines that begin with `#`, and nothing
-    // else; where it stopped, what answers lines before.
-    ensures runs { D.faults device.new ≡ D.faults device.old
+    requires { IsEmptyDevice settings.now.slots (D.held device.old) }
+    // Where the device has read right and no call of it failed: what answers the script was written, and lines that begin
+    // with `#`, and nothing else; where it stopped, what answers lines before.
+    ensures runs { HasServed (D.honest device.new) (D.faults device.old) (D.faults device.new)
         → Runs (settings_of settings.now) (S.files source.now) (R.remaining reader.old)
         (R.remaining reader.new) (W.contents writer.old) (W.contents writer.new) result }
     ensures faults { HasAdded (D.faults device.old) (D.faults device.new) }
+    ensures device { StaysTrue (D.keeps device.old) (D.honest device.old)
+        (D.keeps device.new) (D.honest device.new) }
 {
     let mut session = Session::new(alloc, settings)?;
     let mut lines = Lines::new(alloc)?;

@@ -7,7 +7,8 @@ ghost use Rattle.wh_host_model.specs.Lines.Settings as lines;
 ghost use Rattle.wh_host_model.specs.Lines.Texts.{error, reply_text};
 ghost use Rattle.wh_replies.specs.View.{reply_of};
 ghost use Rattle.wh_settings.specs.View.{settings_of};
-ghost use Rattle.wh_engine.specs.Draining.{HasAdded, IsBacked};
+ghost use Rattle.wh_reclaim.specs.Together.{AreTogether};
+ghost use Rattle.wh_engine.specs.Draining.{HasAdded, HasServed, StaysTrue};
 ghost use Rattle.wh_engine.specs.Names.{number_of};
 ghost use Rattle.wh_engine.specs.Obeying.{IsModuleNamed, IsNamed};
 ghost use Rattle.wh_engine.specs.Standing.{StandsForScript};
@@ -132,13 +133,13 @@ impl Session {
     /// # Errors
     /// `Memory` where room for the lines is refused, or where turns can't be counted.
     pub fn drain<D: SwapDev>(&mut self, device: &mut D) -> Result<(), ScriptFault>
-        requires { IsBacked self.old.engine.host.space (D.held device.old) (D.keeps device.old)
-            (D.honest device.old) }
-        ensures backed { IsBacked self.new.engine.host.space (D.held device.new)
+        requires { AreTogether self.old.engine.host.space (D.held device.old) }
+        ensures together { AreTogether self.new.engine.host.space (D.held device.new) }
+        ensures device { StaysTrue (D.keeps device.old) (D.honest device.old)
             (D.keeps device.new) (D.honest device.new) }
         ensures faults { HasAdded (D.faults device.old) (D.faults device.new) }
-        ensures drains { OnOk result (D.faults device.new ≡ D.faults device.old
-            → HasDrained self.old.engine (string_bytes self.old.text) self.new.engine
+        ensures drains { OnOk result (HasServed (D.honest device.new) (D.faults device.old)
+            (D.faults device.new) → HasDrained self.old.engine (string_bytes self.old.text) self.new.engine
             (string_bytes self.new.text)) }
         ensures err { IfErr result (λ e. e ≡ ScriptFault.Memory) }
     {
@@ -164,13 +165,13 @@ impl Session {
         cause: LineError,
         number: u64,
     ) -> Result<(), ScriptFault>
-        requires { IsBacked self.old.engine.host.space (D.held device.old) (D.keeps device.old)
-            (D.honest device.old) }
-        ensures backed { IsBacked self.new.engine.host.space (D.held device.new)
+        requires { AreTogether self.old.engine.host.space (D.held device.old) }
+        ensures together { AreTogether self.new.engine.host.space (D.held device.new) }
+        ensures device { StaysTrue (D.keeps device.old) (D.honest device.old)
             (D.keeps device.new) (D.honest device.new) }
         ensures faults { HasAdded (D.faults device.old) (D.faults device.new) }
-        ensures complains { OnOk result (D.faults device.new ≡ D.faults device.old
-            → Complains (error (cause_number cause) number) self.old.engine
+        ensures complains { OnOk result (HasServed (D.honest device.new) (D.faults device.old)
+            (D.faults device.new) → Complains (error (cause_number cause) number) self.old.engine
             (string_bytes self.old.text) self.new.engine (string_bytes self.new.text)) }
         ensures err { IfErr result (λ e. e ≡ ScriptFault.Memory) }
     {

@@ -20,17 +20,6 @@ use Rattle.wh_space.proofs.Tables.{column_at}
 some_is : {X : Type 0} {x y : X} → Some x ≡ Some y → x ≡ y
 some_is e = cc
 
--- one more page with its mark
-pub active_next : (pages : List Page) (marks : List Bool) (i : ℕ) (x : Page) (m : Bool) → slice_get pages i ≡ Some x → slice_get marks i ≡ Some m
-    → active (take (i + 1) pages) (take (i + 1) marks) ≡ active (take i pages) (take i marks) + cond m (resident x) 0
-active_next pages marks i x m is mark = let e : i + 1 ≡ suc i = omega arith in rw e (next pages marks i is mark) where
-  next : (pages : List Page) (marks : List Bool) (i : ℕ) → slice_get pages i ≡ Some x → slice_get marks i ≡ Some m
-      → active (take (suc i) pages) (take (suc i) marks) ≡ active (take i pages) (take i marks) + cond m (resident x) 0
-  next [] marks i is mark = absurd (cc is)
-  next (y ∷ pages) [] i is mark = absurd (cc mark)
-  next (y ∷ pages) (n ∷ marks) zero is mark = let e : y ≡ x = some_is is in let f : n ≡ m = some_is mark in rw (e, f) (omega arith)
-  next (y ∷ pages) (n ∷ marks) (suc i) is mark = let e = next pages marks i is mark in omega arith
-
 -- ---- who is there
 
 pub occupant_there : (xs : List (Option Guest)) (j : ℕ) (x : Option Guest) → j < length xs → x ≡ get_or xs j x → slice_get (map occupant_of xs) j ≡ Some (occupant_of x)
@@ -73,13 +62,13 @@ gives_first s i n (Some p) most first touched =
     (first.0.0, inr (λ q can. (touched q (within q can) can, first.1 q (within q can) can)))
 
 -- the claim says whether there is one
-pub some_leaves : (s : Space) (i : ℕ) (given : Option ℕ) (some : Bool) → some ≡ is_some given → MatchOption given (GivesNone s i) (λ p. IsGiven s i p) → IsTrue some → (p : ℕ) × CanLeave s i p
-some_leaves s i None some e none so = absurd (cc (e, so))
-some_leaves s i (Some p) some e given so = (p, given.0)
+pub some_to_leave : (s : Space) (i : ℕ) (told some : Bool) → some ≡ told → MatchBool told ((p : ℕ) × CanLeave s i p) (GivesNone s i) → IsTrue some → (p : ℕ) × CanLeave s i p
+some_to_leave s i true some e given so = given
+some_to_leave s i false some e none so = absurd (cc (e, so))
 
-pub each_leaves : (s : Space) (i : ℕ) (given : Option ℕ) (some : Bool) → some ≡ is_some given → MatchOption given (GivesNone s i) (λ p. IsGiven s i p) → ((p : ℕ) × CanLeave s i p) → IsTrue some
-each_leaves s i None some e none (p, can) = absurd (none p can)
-each_leaves s i (Some p) some e given can = cc
+pub each_to_leave : (s : Space) (i : ℕ) (told some : Bool) → some ≡ told → MatchBool told ((p : ℕ) × CanLeave s i p) (GivesNone s i) → ((p : ℕ) × CanLeave s i p) → IsTrue some
+each_to_leave s i true some e given can = cc
+each_to_leave s i false some e none (p, can) = absurd (none p can)
 
 -- ---- a claim
 

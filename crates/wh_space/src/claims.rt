@@ -1,36 +1,19 @@
 // What each instance brings to the choice of the page that leaves.
 
-ghost use Rattle.std.specs.Prelude.{◌≡◌, ◌<◌, ◌≤◌, [], Some, cond, MatchBool, MatchOption, IfSome, IfNone, length, get_or};
+ghost use Rattle.std.specs.Prelude.{◌≡◌, ◌<◌, ◌≤◌, ℕ, [], None, Some, MatchBool, MatchOption, IfSome, IfNone, length, get_or};
 ghost use Rattle.wh_host_model.specs.Frames.{tally};
-ghost use Rattle.wh_host_model.specs.Space.Claims.{CanLeave, IsGiven, IsTouched, active, active_of, stays};
+ghost use Rattle.wh_host_model.specs.Space.Claims.{CanLeave, IsGiven, active, stays};
 ghost use Rattle.wh_host_model.specs.Space.Parts.{Occupant, occupant_at, pages_of};
 ghost use Rattle.wh_host_model.specs.Space.States.{page_at, resident};
 ghost use Rattle.wh_space.specs.Claiming.{GivesNone, IsClaimOf};
 ghost use Rattle.wh_space.specs.Pages.{marks_in, pages_in};
 
-use crate::frames::frame_under;
 use crate::guest::Guest;
 use crate::memory::Memory;
 use crate::pages::{len_at, page_of};
 use crate::pins::has_page_pinned;
 use wh_host_model::{Claim, Page, Tax};
 use wh_pages::PageTable;
-
-// 1 where the page stands on a frame.
-fn one_if_resident(page: Page) -> u32
-    ensures is { result ≡ resident page }
-    ensures one { result ≤ 1 }
-{
-    if frame_under(page).is_some() { 1 } else { 0 }
-}
-
-// This number where the page was touched, and 0 where it wasn't.
-fn one_if_touched(one: u32, touched: bool) -> u32
-    ensures is { result ≡ cond touched one 0 }
-    ensures most { result ≤ one }
-{
-    if touched { one } else { 0 }
-}
 
 // How many pages of a table stand on frames, and how many of these were touched in this epoch.
 fn resident_in(table: &PageTable) -> (u32, u32)
@@ -39,14 +22,7 @@ fn resident_in(table: &PageTable) -> (u32, u32)
     ensures within { result.1 ≤ result.0 }
     ensures most { result.0 ≤ length table.now.pages }
 {
-    let mut pages: u32 = 0;
-    let mut touched: u32 = 0;
-    for at in 0..table.len() {
-        let one = one_if_resident(table.page(at));
-        pages += one;
-        touched += one_if_touched(one, table.is_touched(at));
-    }
-    (pages, touched)
+    (table.residents(), table.actives())
 }
 
 // The same of the instance at a place; none where nobody is there.
@@ -158,8 +134,21 @@ impl Memory {
         first
     }
 
-    /// How many instances came before the one at this place, and what it claims; none where nobody is there. It looks at its
-    /// pages.
+    // Whether some page of the instance at this place can leave. It looks at its pages up to the first one.
+    fn has_page_to_give(&self, place: usize) -> bool
+        ensures { MatchBool result ((page : ℕ) × CanLeave self.now place page)
+            (GivesNone self.now place) }
+    {
+        for number in 0..len_at(&self.tables, place) {
+            if self.can_leave(place, number) {
+                return true;
+            }
+        }
+        false
+    }
+
+    /// How many instances came before the one at this place, and what it claims; none where nobody is there. Of its pages it
+    /// looks at those up to the first that can leave.
     pub fn claim_at(&self, place: usize) -> Option<(u64, Claim)>
         ensures some { IfSome result (λ it. (t : Occupant) × occupant_at self.now place t
             × (it.0 ≡ t.number) × IsClaimOf self.now place t it.1) }
@@ -172,7 +161,7 @@ impl Memory {
             return None;
         };
         let (pages, active) = resident_in(&self.tables[place]);
-        let can_leave = self.given_page(place).is_some();
+        let can_leave = self.has_page_to_give(place);
         Some((guest.number, claim_by(guest, pages, active, can_leave)))
     }
 }

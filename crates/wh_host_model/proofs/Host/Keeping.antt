@@ -175,10 +175,10 @@ Makes bytes inst s1 ps1 e k n m2 r2 d2 out_of_fuel = Stands inst s1 ps1 (gone_fu
 Makes bytes inst s1 ps1 e k n m2 r2 d2 (to_wait need) = Stands inst s1 ps1 (gone_further e k n).call (standing_with (bytes m2) r2 d2) × NextAsks inst (store_with (bytes m2) r2) (gone_further e k n).call d2 need
 Makes bytes inst s1 ps1 e k n m2 r2 d2 to_go_on = Stands inst s1 ps1 (gone_further e k n).call (standing_with (bytes m2) r2 d2)
 
-types_alike : {inst : Instance} {call : Call} {vs : List Value} (call2 : Call) → call2.func ≡ call.func → HaveTypes inst call vs → HaveTypes inst call2 vs
+pub types_alike : {inst : Instance} {call : Call} {vs : List Value} (call2 : Call) → call2.func ≡ call.func → HaveTypes inst call vs → HaveTypes inst call2 vs
 types_alike call2 f h = record { index = h.index; type = h.type; body = h.body; calls = let g = h.calls in cc (f, g); is_own = h.is_own; types = h.types; fit = h.fit }
 
-some_func : {inst : Instance} {call : Call} {vs : List Value} → HaveTypes inst call vs → call.func ≡ None → vs ≡ []
+pub some_func : {inst : Instance} {call : Call} {vs : List Value} → HaveTypes inst call vs → call.func ≡ None → vs ≡ []
 some_func h none = let g = h.calls in absurd (cc (g, none))
 
 makes : {M : Type 0} {bytes : M → List ℕ} {ready : M → Need → Type 0} {keeps : M → M → Type 0} {inst : Instance} {s1 : Store} {ps1 : List Piece} (e : Entry) {q k n : ℕ} {m m2 : M} {r r2 : Rest} {d d2 : Doing} {to : Upshot}

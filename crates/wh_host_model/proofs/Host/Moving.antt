@@ -46,7 +46,7 @@ pub record Claims (xs ys : List (Option Occupant)) : Type 0 where
 claims_then : {xs ys zs : List (Option Occupant)} → Claims xs ys → Claims ys zs → Claims xs zs
 claims_then f g = record { each = λ m. (let x = f.each m in let y = g.each m in (x.0 ∙ y.0, x.1 ∙ y.1)) }
 
-claims_of : {xs ys : List (Option Occupant)} → xs ≡ ys → Claims xs ys
+pub claims_of : {xs ys : List (Option Occupant)} → xs ≡ ys → Claims xs ys
 claims_of e = record { each = λ m. (ap (λ (zs : List (Option Occupant)). need_of (get_or zs m None)) e, ap (λ (zs : List (Option Occupant)). claim_of (get_or zs m None)) e) }
 
 pub alone_claims : (s s2 : Space) → all_bytes s2 ≡ all_bytes s → Claims s2.occupants s.occupants → IsSound s2 → AllLeftAlone s s2
@@ -100,13 +100,13 @@ begins_fetch_alone s s2 i k sound e = alone_claims s s2 (begin_fetch_bytes s s2 
   go (need, stands, s1, prepares, p, f, first, there, others, list, moves) =
       claims_then (claims_of (ap (λ (a : Space). a.occupants) moves)) (claims_of (reserves_there s i need s1 prepares))
 
+pub fetch_claims : (s s2 : Space) (k : ℕ) (read : Bool) (bytes : List ℕ) (end : FetchEnd) → CommitsFetch s k read bytes end s2 → Claims s2.occupants s.occupants
+fetch_claims s s2 k read bytes end (inl (i, f, was, ends, moves)) = claims_then (claims_of (ap (λ (a : Space). a.occupants) moves)) (settled_claims s.occupants i (tally (ticket_of i) (slice_set s.slots.uses k Vacant)))
+fetch_claims s s2 k read bytes end (inr (i, p, f, was, inl (ok, long, ends, moves))) = claims_of (ap (λ (a : Space). a.occupants) moves)
+fetch_claims s s2 k read bytes end (inr (i, p, f, was, inr (failed, ends, moves))) = claims_of (ap (λ (a : Space). a.occupants) moves)
+
 pub commits_fetch_alone : (s s2 : Space) (k : ℕ) (read : Bool) (bytes : List ℕ) (end : FetchEnd) → IsSound s → (read ≡ true → get_or s.slots.held k [] ≡ bytes) → CommitsFetch s k read bytes end s2 → AllLeftAlone s s2
-commits_fetch_alone s s2 k read bytes end sound device e =
-    alone_claims s s2 (commit_fetch_bytes s s2 k read bytes end sound device e) (go e) (commits_fetch_soundly s k read bytes end s2 sound e) where
-      go : CommitsFetch s k read bytes end s2 → Claims s2.occupants s.occupants
-      go (inl (i, f, was, ends, moves)) = claims_then (claims_of (ap (λ (a : Space). a.occupants) moves)) (settled_claims s.occupants i (tally (ticket_of i) (slice_set s.slots.uses k Vacant)))
-      go (inr (i, p, f, was, inl (ok, long, ends, moves))) = claims_of (ap (λ (a : Space). a.occupants) moves)
-      go (inr (i, p, f, was, inr (failed, ends, moves))) = claims_of (ap (λ (a : Space). a.occupants) moves)
+commits_fetch_alone s s2 k read bytes end sound device e = alone_claims s s2 (commit_fetch_bytes s s2 k read bytes end sound device e) (fetch_claims s s2 k read bytes end e) (commits_fetch_soundly s k read bytes end s2 sound e)
 
 pub commits_evict_alone : (s s2 : Space) (k : ℕ) (wrote : Bool) (bytes : List ℕ) (end : EvictEnd) → IsSound s → (wrote ≡ true → get_or s.slots.held k [] ≡ bytes) → CommitsEvict s k wrote bytes end s2 → AllLeftAlone s s2
 commits_evict_alone s s2 k wrote bytes end sound device e =

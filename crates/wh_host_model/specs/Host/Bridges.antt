@@ -14,7 +14,8 @@ use Rattle.wh_host_model.specs.Space.Stores.{Epochs, Grew, Overwrites, Touches, 
 use Rattle.wh_host_model.specs.Space.Offers.{Offers}
 use Rattle.wh_host_model.specs.Space.Places.{Enters, Exits}
 use Rattle.wh_host_model.specs.Space.Tickets.{BeginsEvict, BeginsFetch, CommitsEvict, CommitsFetch, IsWritten, StandsForFrame}
-use Rattle.wh_host_model.specs.Space.Provide.{FailsTruly, ProvidesTruly}
+use Rattle.wh_host_model.specs.Space.Provide.{FailsToProvide, FailsTruly, Provides, ProvidesTruly}
+use Rattle.wh_host_model.specs.Host.Misreading.{AllSeeAsMany}
 use Rattle.wh_host_model.specs.Host.Spaces.{AllLeftAlone, Arrives, Departs, StandsAlone, StepsAlone}
 
 -- ---- steps of one instance, and what it sees after them
@@ -97,6 +98,23 @@ abbrev pub FailuresLeaveAll : Type 0
 FailuresLeaveAll =
     (s : Space) (i : ℕ) (need : Need) (s2 : Space) → IsSound s → tickets s ≡ 0 → StandsForFrame s i need
     → FailsTruly s i need s2 → AllLeftAlone s s2
+
+-- ---- the same moves whatever bytes the device gives
+
+abbrev pub FetchesSeeAsMany : Type 0
+FetchesSeeAsMany =
+    (s s2 : Space) (k : ℕ) (read : Bool) (bytes : List ℕ) (end : FetchEnd) → IsSound s
+    → CommitsFetch s k read bytes end s2 → AllSeeAsMany s s2
+
+abbrev pub ProvisionsSeeAsMany : Type 0
+ProvisionsSeeAsMany =
+    (s : Space) (i : ℕ) (need : Need) (n : ℕ) (s2 : Space) → IsSound s → tickets s ≡ 0 → StandsForFrame s i need
+    → Provides s i need n s2 → AllSeeAsMany s s2
+
+abbrev pub FailuresSeeAsMany : Type 0
+FailuresSeeAsMany =
+    (s : Space) (i : ℕ) (need : Need) (s2 : Space) → IsSound s → tickets s ≡ 0 → StandsForFrame s i need
+    → FailsToProvide s i need s2 → AllSeeAsMany s s2
 
 -- ---- coming and going
 

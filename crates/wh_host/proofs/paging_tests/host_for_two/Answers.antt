@@ -7,7 +7,7 @@ pub returns : goal.returns
 returns c =
     let new = c.in_ok-host.ensures.ok in
     let held : List (List ℕ) = replicate 64 [] in
-    let first = subst (λ s. AreTogether s held) (sym new.1.space) (new_together new.0.space c.args.frames 64 _ new.4) in
+    let first = subst (λ s. AreTogether s held) (sym new.1.space) (new_together new.0.space c.args.frames 64 _ new.5) in
     let s1 = c.load.new.self.space in
     let s2 = c.admit.new.self.space in
     same_pass s2 c.admit-2.new.self.space held c.admit-2.ensures.backing.pass

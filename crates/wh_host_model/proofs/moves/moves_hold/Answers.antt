@@ -1,3 +1,4 @@
+use Rattle.wh_host_model.proofs.Host.AsMany.{fetches_see_as_many, provisions_see_as_many, failures_see_as_many}
 use Rattle.wh_host_model.proofs.Host.Bridges.{loads_step, stores_step, growth_steps, stands_well, ends_well, epochs_leave_all, offers_leave_all, evictions_begin, writes_leave_all, evictions_end, fetches_begin, fetches_end, provisions_leave_all, failures_leave_all, entrants_arrive, exits_depart}
 use Rattle.wh_host_model.proofs.moves.moves_hold.Goals as goal
 
@@ -48,3 +49,12 @@ returns-clause-entrants_arrive c = entrants_arrive
 
 pub returns-clause-exits_depart : goal.returns-clause-exits_depart
 returns-clause-exits_depart c = exits_depart
+
+pub returns-clause-fetches_see_as_many : goal.returns-clause-fetches_see_as_many
+returns-clause-fetches_see_as_many c = fetches_see_as_many
+
+pub returns-clause-provisions_see_as_many : goal.returns-clause-provisions_see_as_many
+returns-clause-provisions_see_as_many c = provisions_see_as_many
+
+pub returns-clause-failures_see_as_many : goal.returns-clause-failures_see_as_many
+returns-clause-failures_see_as_many c = failures_see_as_many

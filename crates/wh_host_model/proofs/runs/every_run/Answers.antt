@@ -3,6 +3,7 @@ use Rattle.wh_host_model.proofs.Host.Holding.{memory_is_sound, places_are_right,
 use Rattle.wh_host_model.proofs.Host.Agreeing.{one_turn}
 use Rattle.wh_host_model.proofs.Host.Apart.{no_bytes_reach_another}
 use Rattle.wh_host_model.proofs.Host.Progress.{events_happen, loads_are_taken, calls_are_taken, idle_turns_happen, fuel_turns_happen}
+use Rattle.wh_host_model.proofs.Host.Taken.{ready_steps_are_taken}
 use Rattle.wh_host_model.proofs.runs.every_run.Goals as goal
 
 pub returns-clause-memory_is_sound : goal.returns-clause-memory_is_sound
@@ -52,3 +53,6 @@ returns-clause-idle_turns_happen c = idle_turns_happen
 
 pub returns-clause-fuel_turns_happen : goal.returns-clause-fuel_turns_happen
 returns-clause-fuel_turns_happen c = fuel_turns_happen
+
+pub returns-clause-ready_steps_are_taken : goal.returns-clause-ready_steps_are_taken
+returns-clause-ready_steps_are_taken c = ready_steps_are_taken

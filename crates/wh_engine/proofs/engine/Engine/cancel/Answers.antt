@@ -1,4 +1,5 @@
 use Rattle.std.proofs.Common.{Ok, Err, refl, sym}
+use Rattle.wh_host_model.specs.Host.Events as events
 use Rattle.wh_host_model.specs.Host.Happens.{IsCancel}
 use Rattle.wh_host_model.specs.Lines.Commands.{cancel}
 use Rattle.wh_host_model.specs.Lines.Texts.{cancel_refused}
@@ -13,13 +14,13 @@ pub returns-in-Ok-clause-obeys : goal.returns-in-Ok-clause-obeys
 returns-in-Ok-clause-obeys c settings files line m s named =
     answered_ok (cancel c.args.name.now) (cancel_reply c.args.name.now) settings files line m c.args.self.now c.cancel.new.self
     (asked (λ w id answer w2. IsCancel w id answer w2) (cancel c.args.name.now) (cancel_reply c.args.name.now) c.args.name.now (cancels_follow c.args.name.now)
-    (λ settings files m m2 line replies o. cancel_touches o) settings files line m c.args.self.now c.cancel.new.self c.index.result.now c.args.number (Ok tt)
+    (λ settings files m m2 line replies o. cancel_touches o) (λ id. events.cancel id) (λ w w2 id answer h. (answer, h)) settings files line m c.args.self.now c.cancel.new.self c.index.result.now c.args.number (Ok tt)
     s named (guest_there c.args.self.now.guests.items c.args.number c.index.result.now c.requires.there c.index.ensures) c.in-Ok.ensures.asks (keeps_whole c.args.self.now.host.space c.cancel.new.self.space c.in-Ok.ensures.backing))
 
 pub returns-in-Err-clause-obeys : goal.returns-in-Err-clause-obeys
 returns-in-Err-clause-obeys c settings files line m s named =
     let did = asked (λ w id answer w2. IsCancel w id answer w2) (cancel c.args.name.now) (cancel_reply c.args.name.now) c.args.name.now (cancels_follow c.args.name.now)
-    (λ settings files m m2 line replies o. cancel_touches o) settings files line m c.args.self.now c.cancel.new.self c.index.result.now c.args.number (Err c.in-Err.error)
+    (λ settings files m m2 line replies o. cancel_touches o) (λ id. events.cancel id) (λ w w2 id answer h. (answer, h)) settings files line m c.args.self.now c.cancel.new.self c.index.result.now c.args.number (Err c.in-Err.error)
     s named (guest_there c.args.self.now.guests.items c.args.number c.index.result.now c.requires.there c.index.ensures) c.in-Err.ensures.asks (keeps_whole c.args.self.now.host.space c.cancel.new.self.space c.in-Err.ensures.backing) in
     let got = answered_err (cancel c.args.name.now) (cancel_reply c.args.name.now) (λ fault. cancel_refused c.args.name.now fault) settings files line m c.args.self.now c.cancel.new.self c.in-Err.error refl refl did in
     rw (sym c.number.ensures) at got

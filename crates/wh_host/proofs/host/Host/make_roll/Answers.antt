@@ -16,7 +16,7 @@ invariant_of-result c =
     let instances = map view_listed c.in_ok-instances.instances.items in
     let bytes : modules ≡ map spelled_by h.modules = c.in_ok-modules.ensures ∙ ap (map spelled_by) c.deref.ensures.value in
     let listed : instances ≡ listed_seats h.residents seats = c.in_ok-instances.ensures ∙ ap (listed_seats h.residents) c.deref-2.ensures.value in
-    (inv.0, inv.1.reached, roll_is h seats modules i.next c.tickets.result instances are bytes refl c.tickets.ensures listed inv.0 inv.1)
+    (inv.0, inv.1.comes, roll_is h seats modules i.next c.tickets.result instances are bytes refl c.tickets.ensures listed inv.0 inv.1)
 
 pub returns : goal.returns
 returns c w st =

@@ -7,18 +7,18 @@ use Rattle.wh_reclaim.specs.Whole.{IsAsWhole}
 use Rattle.wh_host.specs.Hosting.{HostState, IsHost, resident_at}
 use Rattle.wh_host.specs.Paging.{WaitsFor}
 use Rattle.wh_host.proofs.Hosts.{put_back}
-use Rattle.wh_host.proofs.Paged.{another_waits, failed_here, keeps_fault, no_one_waits, nothing_moves, nothing_waits, provided_here, waits_stands, waits_there}
+use Rattle.wh_host.proofs.Paged.{another_waits, failed_anyhow, failed_here, keeps_fault, no_one_waits, nothing_anyhow, nothing_moves, nothing_waits, provided_anyhow, provided_here, waits_stands, waits_there}
 use Rattle.wh_host.proofs.host.Host.provide.Goals as goal
 
 pub returns-in_default-clause-moves : goal.returns-in_default-clause-moves
-returns-in_default-clause-moves g c w st =
+returns-in_default-clause-moves g c honest w st =
     let i = c.self.inside in
     let h : HostState = record { modules = i.modules.items; residents = i.residents.slots; live = i.live; space = i.memory; next = i.next } in
     let here = subst (λ z. IsHost z w) (sym c.self.view_is) st in
     nothing_moves h w c.args.id AwaitsFrame here
 
 pub returns-in_default-clause-provides : goal.returns-in_default-clause-provides
-returns-in_default-clause-provides g c need waits =
+returns-in_default-clause-provides g c need waits honest =
     let i = c.self.inside in
     let h : HostState = record { modules = i.modules.items; residents = i.residents.slots; live = i.live; space = i.memory; next = i.next } in
     let mine = subst (λ z. WaitsFor z c.args.id need) (sym c.self.view_is) waits in
@@ -32,7 +32,7 @@ returns-in_default-clause-right g c need waits =
     absurd (no_one_waits h c.args.id need (sym c.in_default.ensures.value) mine)
 
 pub returns-then-not-has_number-clause-provides : goal.returns-then-not-has_number-clause-provides
-returns-then-not-has_number-clause-provides g c need waits =
+returns-then-not-has_number-clause-provides g c need waits honest =
     let i = c.self.inside in
     let h : HostState = record { modules = i.modules.items; residents = i.residents.slots; live = i.live; space = i.memory; next = i.next } in
     let mine = subst (λ z. WaitsFor z c.args.id need) (sym c.self.view_is) waits in
@@ -46,7 +46,7 @@ returns-then-not-has_number-clause-right g c need waits =
     absurd (another_waits h c.args.id need c.in-Some.resident.now (sym c.in-Some.ensures.value) c.if-not-has_number.ensures mine)
 
 pub returns-then-not-awaits_frame-clause-provides : goal.returns-then-not-awaits_frame-clause-provides
-returns-then-not-awaits_frame-clause-provides g c need waits =
+returns-then-not-awaits_frame-clause-provides g c need waits honest =
     let i = c.self.inside in
     let h : HostState = record { modules = i.modules.items; residents = i.residents.slots; live = i.live; space = i.memory; next = i.next } in
     let mine = subst (λ z. WaitsFor z c.args.id need) (sym c.self.view_is) waits in
@@ -69,7 +69,7 @@ invariant_of-self-then-not-has_number g c =
     (inv.0, subst (λ z. IsHost z inv.0) (sym (put_back h c.args.id.place x at)) inv.1)
 
 pub returns-then-not-has_number-clause-moves : goal.returns-then-not-has_number-clause-moves
-returns-then-not-has_number-clause-moves g c w st =
+returns-then-not-has_number-clause-moves g c honest w st =
     let i = c.self.inside in
     let h : HostState = record { modules = i.modules.items; residents = i.residents.slots; live = i.live; space = i.memory; next = i.next } in
     let here = subst (λ z. IsHost z w) (sym c.self.view_is) st in
@@ -95,7 +95,7 @@ invariant_of-self-then-not-awaits_frame g c =
     (inv.0, subst (λ z. IsHost z inv.0) (sym (put_back h c.args.id.place x at)) inv.1)
 
 pub returns-then-not-awaits_frame-clause-moves : goal.returns-then-not-awaits_frame-clause-moves
-returns-then-not-awaits_frame-clause-moves g c w st =
+returns-then-not-awaits_frame-clause-moves g c honest w st =
     let i = c.self.inside in
     let h : HostState = record { modules = i.modules.items; residents = i.residents.slots; live = i.live; space = i.memory; next = i.next } in
     let here = subst (λ z. IsHost z w) (sym c.self.view_is) st in
@@ -119,21 +119,19 @@ invariant_of-self-in-Ok g c =
     let at : resident_at h.residents c.args.id.place ≡ Some x = sym c.in-Some.ensures.value in
     let inv = c.self.invariant in
     let none : tickets h.space ≡ 0 = ap (λ (z : HostState). tickets z.space) c.self.view_is ∙ c.requires.none_out in
-    let honest = c.provide.ensures.kept c.requires.keeps c.requires.honest in
     let waits = c.if-not-awaits_frame.ensures in
     let kept = put_back h c.args.id.place x at in
-    let made = provided_here h inv.0 c.args.id x c.in-Ok.left c.provide.new.memory inv.1 at c.if-not-has_number.ensures waits none (λ need stands. c.in-Ok.ensures.truly need stands honest) in
-    (made.0, subst (λ z. IsHost (record z { space = c.provide.new.memory }) made.0) (sym kept) made.2)
+    let made = provided_anyhow h inv.0 c.args.id x c.in-Ok.left c.provide.new.memory inv.1 at c.if-not-has_number.ensures waits none (λ need stands. c.in-Ok.ensures.provides need stands) in
+    (made.1, subst (λ z. IsHost (record z { space = c.provide.new.memory }) made.1) (sym kept) made.4)
 
 pub returns-in-Ok-clause-moves : goal.returns-in-Ok-clause-moves
-returns-in-Ok-clause-moves g c w st =
+returns-in-Ok-clause-moves g c honest w st =
     let i = c.self.inside in
     let h : HostState = record { modules = i.modules.items; residents = i.residents.slots; live = i.live; space = i.memory; next = i.next } in
     let here = subst (λ z. IsHost z w) (sym c.self.view_is) st in
     let x = c.in-Some.resident.now in
     let at : resident_at h.residents c.args.id.place ≡ Some x = sym c.in-Some.ensures.value in
     let none : tickets h.space ≡ 0 = ap (λ (z : HostState). tickets z.space) c.self.view_is ∙ c.requires.none_out in
-    let honest = c.provide.ensures.kept c.requires.keeps c.requires.honest in
     let waits = c.if-not-awaits_frame.ensures in
     let kept = put_back h c.args.id.place x at in
     let made = provided_here h w c.args.id x c.in-Ok.left c.provide.new.memory here at c.if-not-has_number.ensures waits none (λ need stands. c.in-Ok.ensures.truly need stands honest) in
@@ -162,12 +160,11 @@ returns-clause-idle g c none =
     absurd (none some.0 (subst (λ z. WaitsFor z c.args.id some.0) c.self.view_is some.1))
 
 pub returns-in-Ok-clause-provides : goal.returns-in-Ok-clause-provides
-returns-in-Ok-clause-provides g c need waits =
+returns-in-Ok-clause-provides g c need waits honest =
     let i = c.self.inside in
     let h : HostState = record { modules = i.modules.items; residents = i.residents.slots; live = i.live; space = i.memory; next = i.next } in
     let space : h.space ≡ c.args.self.now.space = ap (λ (z : HostState). z.space) c.self.view_is in
     let mine = subst (λ z. WaitsFor z c.args.id need) (sym c.self.view_is) waits in
-    let honest = c.provide.ensures.kept c.requires.keeps c.requires.honest in
     subst (λ s. ProvidesTruly s c.args.id.place need c.in-Ok.left c.provide.new.memory) space (c.in-Ok.ensures.truly need (waits_stands h c.args.id need mine) honest)
 
 pub returns-in-Ok-clause-right : goal.returns-in-Ok-clause-right
@@ -179,12 +176,11 @@ returns-in-Ok-clause-right g c need waits =
     subst (λ s. IsProvided s c.args.id.place need c.in-Ok.left c.provide.new.memory) space (c.in-Ok.ensures.right need (waits_stands h c.args.id need mine))
 
 pub returns-clause-fails : goal.returns-clause-fails
-returns-clause-fails g c need waits =
+returns-clause-fails g c need waits honest =
     let i = c.self.inside in
     let h : HostState = record { modules = i.modules.items; residents = i.residents.slots; live = i.live; space = i.memory; next = i.next } in
     let space : h.space ≡ c.args.self.now.space = ap (λ (z : HostState). z.space) c.self.view_is in
     let mine = subst (λ z. WaitsFor z c.args.id need) (sym c.self.view_is) waits in
-    let honest = c.provide.ensures.kept c.requires.keeps c.requires.honest in
     subst (λ s. FailsTruly s c.args.id.place need c.provide.new.memory) space (c.in-Err.ensures.fails_truly need (waits_stands h c.args.id need mine) honest)
 
 pub invariant_of-self-2 : goal.invariant_of-self-2
@@ -195,21 +191,19 @@ invariant_of-self-2 g c =
     let at : resident_at h.residents c.args.id.place ≡ Some x = sym c.in-Some.ensures.value in
     let inv = c.self.invariant in
     let none : tickets h.space ≡ 0 = ap (λ (z : HostState). tickets z.space) c.self.view_is ∙ c.requires.none_out in
-    let honest = c.provide.ensures.kept c.requires.keeps c.requires.honest in
     let waits = c.if-not-awaits_frame.ensures in
     let keeps = keeps_fault x.tenant c.fail.new.self c.in-Err.fault c.fail.result c.fail.ensures.some c.fail.ensures.none waits in
-    let made = failed_here h inv.0 c.args.id x c.fail.new.self c.in-Err.fault c.provide.new.memory inv.1 at c.if-not-has_number.ensures waits none (λ need stands. c.in-Err.ensures.fails_truly need stands honest) keeps in
-    (made.0, made.2)
+    let made = failed_anyhow h inv.0 c.args.id x c.fail.new.self c.in-Err.fault c.provide.new.memory inv.1 at c.if-not-has_number.ensures waits none (λ need stands. c.in-Err.ensures.fails need stands) keeps in
+    (made.1, made.4)
 
 pub returns-clause-moves : goal.returns-clause-moves
-returns-clause-moves g c w st =
+returns-clause-moves g c honest w st =
     let i = c.self.inside in
     let h : HostState = record { modules = i.modules.items; residents = i.residents.slots; live = i.live; space = i.memory; next = i.next } in
     let here = subst (λ z. IsHost z w) (sym c.self.view_is) st in
     let x = c.in-Some.resident.now in
     let at : resident_at h.residents c.args.id.place ≡ Some x = sym c.in-Some.ensures.value in
     let none : tickets h.space ≡ 0 = ap (λ (z : HostState). tickets z.space) c.self.view_is ∙ c.requires.none_out in
-    let honest = c.provide.ensures.kept c.requires.keeps c.requires.honest in
     let waits = c.if-not-awaits_frame.ensures in
     let keeps = keeps_fault x.tenant c.fail.new.self c.in-Err.fault c.fail.result c.fail.ensures.some c.fail.ensures.none waits in
     failed_here h w c.args.id x c.fail.new.self c.in-Err.fault c.provide.new.memory here at c.if-not-has_number.ensures waits none (λ need stands. c.in-Err.ensures.fails_truly need stands honest) keeps
@@ -223,3 +217,52 @@ pub returns-clause-whole : goal.returns-clause-whole
 returns-clause-whole g c =
     let space = ap (λ (z : HostState). z.space) c.self.view_is in
     subst (λ s. IsAsWhole s c.provide.new.memory) space c.provide.ensures.whole
+
+pub returns-in_default-clause-anyhow : goal.returns-in_default-clause-anyhow
+returns-in_default-clause-anyhow g c w st =
+    let i = c.self.inside in
+    let h : HostState = record { modules = i.modules.items; residents = i.residents.slots; live = i.live; space = i.memory; next = i.next } in
+    let here = subst (λ z. IsHost z w) (sym c.self.view_is) st in
+    nothing_anyhow h w c.args.id AwaitsFrame here
+
+pub returns-then-not-has_number-clause-anyhow : goal.returns-then-not-has_number-clause-anyhow
+returns-then-not-has_number-clause-anyhow g c w st =
+    let i = c.self.inside in
+    let h : HostState = record { modules = i.modules.items; residents = i.residents.slots; live = i.live; space = i.memory; next = i.next } in
+    let here = subst (λ z. IsHost z w) (sym c.self.view_is) st in
+    let x = c.in-Some.resident.now in
+    let at : resident_at h.residents c.args.id.place ≡ Some x = sym c.in-Some.ensures.value in
+    nothing_anyhow (record h { residents = _ }) w c.args.id AwaitsFrame (subst (λ z. IsHost z w) (sym (put_back h c.args.id.place x at)) here)
+
+pub returns-then-not-awaits_frame-clause-anyhow : goal.returns-then-not-awaits_frame-clause-anyhow
+returns-then-not-awaits_frame-clause-anyhow g c w st =
+    let i = c.self.inside in
+    let h : HostState = record { modules = i.modules.items; residents = i.residents.slots; live = i.live; space = i.memory; next = i.next } in
+    let here = subst (λ z. IsHost z w) (sym c.self.view_is) st in
+    let x = c.in-Some.resident.now in
+    let at : resident_at h.residents c.args.id.place ≡ Some x = sym c.in-Some.ensures.value in
+    nothing_anyhow (record h { residents = _ }) w c.args.id AwaitsFrame (subst (λ z. IsHost z w) (sym (put_back h c.args.id.place x at)) here)
+
+pub returns-in-Ok-clause-anyhow : goal.returns-in-Ok-clause-anyhow
+returns-in-Ok-clause-anyhow g c w st =
+    let i = c.self.inside in
+    let h : HostState = record { modules = i.modules.items; residents = i.residents.slots; live = i.live; space = i.memory; next = i.next } in
+    let here = subst (λ z. IsHost z w) (sym c.self.view_is) st in
+    let x = c.in-Some.resident.now in
+    let at : resident_at h.residents c.args.id.place ≡ Some x = sym c.in-Some.ensures.value in
+    let none : tickets h.space ≡ 0 = ap (λ (z : HostState). tickets z.space) c.self.view_is ∙ c.requires.none_out in
+    let kept = put_back h c.args.id.place x at in
+    let made = provided_anyhow h w c.args.id x c.in-Ok.left c.provide.new.memory here at c.if-not-has_number.ensures c.if-not-awaits_frame.ensures none (λ need stands. c.in-Ok.ensures.provides need stands) in
+    (made.0, made.1, made.2, made.3, subst (λ z. IsHost (record z { space = c.provide.new.memory }) made.1) (sym kept) made.4)
+
+pub returns-clause-anyhow : goal.returns-clause-anyhow
+returns-clause-anyhow g c w st =
+    let i = c.self.inside in
+    let h : HostState = record { modules = i.modules.items; residents = i.residents.slots; live = i.live; space = i.memory; next = i.next } in
+    let here = subst (λ z. IsHost z w) (sym c.self.view_is) st in
+    let x = c.in-Some.resident.now in
+    let at : resident_at h.residents c.args.id.place ≡ Some x = sym c.in-Some.ensures.value in
+    let none : tickets h.space ≡ 0 = ap (λ (z : HostState). tickets z.space) c.self.view_is ∙ c.requires.none_out in
+    let waits = c.if-not-awaits_frame.ensures in
+    let keeps = keeps_fault x.tenant c.fail.new.self c.in-Err.fault c.fail.result c.fail.ensures.some c.fail.ensures.none waits in
+    failed_anyhow h w c.args.id x c.fail.new.self c.in-Err.fault c.provide.new.memory here at c.if-not-has_number.ensures waits none (λ need stands. c.in-Err.ensures.fails need stands) keeps

@@ -1,12 +1,18 @@
-use Rattle.std.proofs.Common.{arith}
+use Rattle.std.proofs.Common.{◌≡◌, ◌<◌, length, slice_set, ap, ◌∙◌, sym, arith}
 use Rattle.wh_pages.specs.Parts.{page_of}
-use Rattle.wh_pages.proofs.Columns.{length-column, column-same, column-set, same_table}
+use Rattle.wh_pages.specs.Table.{PageTableState}
+use Rattle.wh_pages.proofs.Columns.{length-column, same_table}
+use Rattle.wh_pages.proofs.Counts.{column_get, put_again, slice_there}
 use Rattle.wh_pages.proofs.table.PageTable.set.Goals as goal
 
 pub returns : goal.returns
 returns c =
     let a = c.self.inside in
-    let within = rw (← c.self.view_is) at c.requires in
-    rw (← c.self.view_is) (same_table _ _ _ _ a.max
-    (column-set page_of a.rows c.set.new.self a.len c.args.at c.new.result c.args.page (omega (arith, length-column page_of a.rows a.len (omega arith))) c.set.ensures c.new.ensures.page)
-    (column-same (λ entry. entry.touched) a.rows c.set.new.self a.len c.args.at c.get-touched.result c.new.result c.get-touched.ensures c.set.ensures c.new.ensures.touched))
+    let i = c.self.invariant in
+    let there = ap (λ (t : PageTableState). length t.pages) c.self.view_is in
+    let long = length-column page_of a.rows a.len (let w = i.within in let r = i.room in omega (arith, w, r)) in
+    let below : c.args.at < a.len = (let h = c.requires in omega (arith, h, there, long)) in
+    let mark = slice_there c.args.at c.get-old.result.touched (ap (λ (t : PageTableState). t.touched) c.self.view_is) (column_get (λ entry. entry.touched) a.rows a.len c.args.at c.get-old.result below c.get-old.ensures) in
+    c.put.ensures
+    ∙ same_table _ _ _ _ c.args.self.now.max (ap (slice_set c.args.self.now.pages c.args.at) c.new.ensures.page)
+    (ap (slice_set c.args.self.now.touched c.args.at) c.new.ensures.touched ∙ put_again c.args.self.now.touched c.args.at c.get-old.result.touched mark)

@@ -1,14 +1,14 @@
 use Rattle.std.proofs.Common.{string_bytes}
 use Rattle.wh_engine.proofs.Sayings.{on_ok_then}
-use Rattle.wh_engine.proofs.Runs.{backed_keeps}
+use Rattle.wh_reclaim.proofs.Together.{same_pass}
 use Rattle.wh_script.proofs.Asked.{no_invoke, isnt_invoke}
 use Rattle.wh_script.proofs.Answered.{drained_obeyed}
 use Rattle.wh_script.proofs.session.Session.command.Goals as goal
 
 pub returns-in_ok-drain-in_default : goal.returns-in_ok-drain-in_default
 returns-in_ok-drain-in_default g c = record {
-  backed = backed_keeps c.drain.new.self.engine.host.space c.obey.new.self.engine.host.space (g.D.SwapDev.held c.drain.new.device) (g.D.SwapDev.keeps c.drain.new.device) (g.D.SwapDev.honest c.drain.new.device)
-      c.obey.ensures.backing c.drain.ensures.backed;
+  together = same_pass c.drain.new.self.engine.host.space c.obey.new.self.engine.host.space (g.D.SwapDev.held c.drain.new.device) c.obey.ensures.backing.pass c.drain.ensures.together;
+  device = c.drain.ensures.device;
   faults = c.drain.ensures.faults;
   answers =
       on_ok_then c.obey.result c.obey.ensures.obeys (λ obeys same asked says.

@@ -1,7 +1,8 @@
 use Rattle.std.proofs.Common.{◌≡◌, subst, sym, string_bytes, ap}
-use Rattle.wh_engine.specs.Draining.{IsBacked, StaysSo}
+use Rattle.wh_engine.specs.Draining.{StaysSo}
 use Rattle.wh_engine.specs.Saying.{SaysAll}
-use Rattle.wh_engine.proofs.Runs.{backed_keeps}
+use Rattle.wh_reclaim.specs.Together.{AreTogether}
+use Rattle.wh_reclaim.proofs.Together.{same_pass}
 use Rattle.wh_script.specs.declared.session.Session.{Session}
 use Rattle.wh_script.proofs.Drained.{stays_so, has_drained}
 use Rattle.wh_script.proofs.session.Session.drain.Goals.{then-can_go_on, else-can_go_on}
@@ -10,13 +11,11 @@ use Rattle.wh_script.proofs.session.Session.drain.Goals as goal
 pub run-requires : goal.run-requires
 run-requires g c =
     let held = g.D.SwapDev.held c.args.device.now in
-    let keeps = g.D.SwapDev.keeps c.args.device.now in
-    let honest = g.D.SwapDev.honest c.args.device.now in
     elim c.if-can_go_on.branch [
       | then-can_go_on w ↦
-          subst (λ (x : Session). IsBacked x.engine.host.space held keeps honest) (sym w.self-is)
-          (backed_keeps c.args.self.now.engine.host.space w.epoch.new.self.host.space held keeps honest w.epoch.ensures.backing c.requires)
-      | else-can_go_on w ↦ subst (λ (x : Session). IsBacked x.engine.host.space held keeps honest) (sym w.self-is) c.requires
+          subst (λ (x : Session). AreTogether x.engine.host.space held) (sym w.self-is)
+          (same_pass c.args.self.now.engine.host.space w.epoch.new.self.host.space held w.epoch.ensures.backing.pass c.requires)
+      | else-can_go_on w ↦ subst (λ (x : Session). AreTogether x.engine.host.space held) (sym w.self-is) c.requires
     ]
 
 pub returns-clause-drains : goal.returns-clause-drains

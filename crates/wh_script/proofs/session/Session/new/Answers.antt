@@ -14,6 +14,6 @@ returns-clause-fresh c =
     let stands = c.new-3.ensures.stands (settings_of c.args.settings.now) _ new in
     let host = ap (λ (h : HostState). h.space) c.new-3.ensures.host in
     record {
-      none_out = ap (λ (s : Space). tickets s) stands.is.space ∙ stands.knows.none_out;
-      empty = ap (λ (s : Space). s.slots.held) (host ∙ (new.1.space ∙ new.4.is));
+      none_out = ap (λ (s : Space). tickets s) stands.is.0.space ∙ stands.knows.none_out;
+      empty = ap (λ (s : Space). s.slots.held) (host ∙ (new.1.space ∙ new.5.is));
     }

@@ -46,7 +46,7 @@ reduces_inputs (leave_frame count) = refl
 reduces_inputs (branch b j z) = refl
 reduces_inputs (returns b z) = refl
 
-leads_inputs : {inst : Instance} {n : ℕ} {a b : Config} → Leads inst a n b → (store_of b).inputs ≡ (store_of a).inputs
+pub leads_inputs : {inst : Instance} {n : ℕ} {a b : Config} → Leads inst a n b → (store_of b).inputs ≡ (store_of a).inputs
 leads_inputs stays = refl
 leads_inputs (goes_on k n x r) = leads_inputs r ∙ reduces_inputs x
 
@@ -74,7 +74,7 @@ replays_inputs at_rest = refl
 replays_inputs (ended e r) = replays_inputs r ∙ ends_inputs e
 replays_inputs (at_work is_open stood wait) = stands_inputs stood
 
-initial_inputs : {m : Module} {p : Parameters} {inst : Instance} {s : Store} {ps : List Piece} → IsInitial m p (begins inst s ps) → s.inputs ≡ p.inputs
+pub initial_inputs : {m : Module} {p : Parameters} {inst : Instance} {s : Store} {ps : List Piece} → IsInitial m p (begins inst s ps) → s.inputs ≡ p.inputs
 initial_inputs (in_bounds fits prepares elements segments) = refl
 
 pub replay_inputs : (m : Module) (p : Parameters) (calls : List Call) (z : Standing) → Replay m p calls z → (store_at z).inputs ≡ p.inputs
