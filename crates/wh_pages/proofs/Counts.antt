@@ -30,7 +30,7 @@ put_again (y ∷ xs) (suc i) x e = ap (λ zs. y ∷ zs) (put_again xs i x e)
 
 -- ---- the counts
 
-resident_one : (page : Page) → resident page ≤ 1
+pub resident_one : (page : Page) → resident page ≤ 1
 resident_one Untouched = omega arith
 resident_one (Private f) = omega arith
 resident_one (Shared f) = omega arith

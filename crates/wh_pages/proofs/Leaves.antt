@@ -1,9 +1,10 @@
 -- The entry at i of the joined_leaves leaves stands in leaf i / 256, at i % 256.
-use Rattle.std.proofs.Common.{◌≡◌, ℕ, ◌+◌, ◌-◌, ◌*◌, ◌<◌, ◌++◌, List, [], ◌∷◌, length, get_or, slice_get, slice_set, Some, sym, ◌/◌, ◌%◌, zero, suc, refl, ◌∙◌, ap, arith, length-append}
+use Rattle.std.proofs.Common.{◌≡◌, ℕ, ◌+◌, ◌-◌, ◌*◌, ◌<◌, ◌≤◌, ◌++◌, List, [], ◌∷◌, length, get_or, slice_get, slice_set, Some, sym, ◌/◌, ◌%◌, zero, suc, refl, ◌∙◌, ap, subst, arith, length-append}
 use Rattle.std.specs.Global.{Vec}
+use Rattle.std.specs.List.{All}
 use Rattle.std.specs.Vec.{with_item}
 use Rattle.std.proofs.lemmas.List.{set-append_left, set-append_right}
-use Rattle.std.proofs.lemmas.Option.{slice_get-get_or}
+use Rattle.std.proofs.lemmas.Option.{get_or_from_slice_get}
 use Rattle.wh_pages.specs.Leaves.{joined_leaves, HasWholeLeaves}
 
 -- an element of the first list, and one behind it
@@ -51,18 +52,28 @@ set-joined_leaves {X = X} (first ∷ leaves) (suc k) j i d leaf x whole there be
 pub leaf_there : {X : Type 0} (leaves : List (Vec X)) (i : ℕ) → HasWholeLeaves leaves → i < length (joined_leaves leaves) → i / 256 < length leaves
 leaf_there leaves i whole there = omega (arith, length-joined_leaves leaves whole)
 
-pub leaf_whole : {X : Type 0} (leaves : List (Vec X)) (i : ℕ) (leaf : Vec X) → HasWholeLeaves leaves → i < length (joined_leaves leaves) → leaf ≡ get_or leaves (i / 256) leaf → length leaf.items ≡ 256
-leaf_whole {X = X} leaves i leaf whole there found =
-    ap (λ (v : Vec X). length v.items) found ∙ whole (i / 256) leaf (leaf_there leaves i whole there)
-
 -- it is read and written there
-pub entry_read : {X : Type 0} (leaves : List (Vec X)) (i : ℕ) (leaf : Vec X) (x : X) → HasWholeLeaves leaves → i < length (joined_leaves leaves) → leaf ≡ get_or leaves (i / 256) leaf → x ≡ get_or leaf.items (i % 256) x → slice_get (joined_leaves leaves) i ≡ Some x
+pub entry_read : {X : Type 0} (leaves : List (Vec X)) (i : ℕ) (leaf : Vec X) (x : X) → HasWholeLeaves leaves → i < length (joined_leaves leaves) → leaf ≡ get_or leaves (i / 256) leaf → slice_get leaf.items (i % 256) ≡ Some x → slice_get (joined_leaves leaves) i ≡ Some x
 entry_read {X = X} leaves i leaf x whole there found is =
     slice_get-joined_leaves leaves (i / 256) (i % 256) i leaf whole (leaf_there leaves i whole there) (omega arith) (omega arith)
     ∙ ap (λ (v : Vec X). slice_get v.items (i % 256)) (sym found)
-    ∙ slice_get-get_or leaf.items (i % 256) x (omega (arith, leaf_whole leaves i leaf whole there found))
-    ∙ ap Some (sym is)
+    ∙ is
 
 pub entry_written : {X : Type 0} (leaves : List (Vec X)) (i : ℕ) (leaf : Vec X) (x : X) → HasWholeLeaves leaves → i < length (joined_leaves leaves) → leaf ≡ get_or leaves (i / 256) leaf → joined_leaves (slice_set leaves (i / 256) (with_item leaf (i % 256) x)) ≡ slice_set (joined_leaves leaves) i x
 entry_written leaves i leaf x whole there found =
     sym (set-joined_leaves leaves (i / 256) (i % 256) i leaf leaf x whole (leaf_there leaves i whole there) (omega arith) (omega arith) found)
+
+-- ---- all entries of a leaf
+
+pub leaf_at : {X : Type 0} (leaves : List (Vec X)) (k : ℕ) → HasWholeLeaves leaves → 256 * k < length (joined_leaves leaves) → k < length leaves
+leaf_at leaves k whole there = omega (arith, length-joined_leaves leaves whole)
+
+pub seen_in_leaf : {X : Type 0} (P : X → Type 0) (leaves : List (Vec X)) (k q : ℕ) (leaf : Vec X) (x : X) → HasWholeLeaves leaves → 256 * k < length (joined_leaves leaves) → 256 * k ≤ q → q < 256 * k + 256
+    → leaf ≡ get_or leaves k leaf → slice_get (joined_leaves leaves) q ≡ Some x → All P leaf.items → P x
+seen_in_leaf {X = X} P leaves k q leaf x whole there from below found is all =
+    let within = leaf_at leaves k whole there in
+    let j : ℕ = q - 256 * k in
+    let at : slice_get leaf.items j ≡ Some x =
+    ap (λ (v : Vec X). slice_get v.items j) found ∙ sym (slice_get-joined_leaves leaves k j q leaf whole within (omega (arith, from, below)) (omega (arith, from))) ∙ is in
+    let long : length leaf.items ≡ 256 = ap (λ (v : Vec X). length v.items) found ∙ whole k leaf within in
+    subst P (get_or_from_slice_get leaf.items j x x at) (all j x (omega (arith, long, from, below)))

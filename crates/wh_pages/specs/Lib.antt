@@ -1,3 +1,4 @@
 pub mod Leaves
 pub mod Parts
 pub mod Table
+pub mod Seeking

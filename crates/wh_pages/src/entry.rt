@@ -1,9 +1,11 @@
 // An entry of the table: a page with its mark, in 8 bytes.
 
+ghost use Rattle.std.specs.Bool.{MatchBool};
 ghost use Rattle.std.specs.Prelude.{◌≡◌, ◌≤◌, false, cond, IfSome};
 ghost use Rattle.wh_host_model.specs.declared.states.Page.TheVariants.{Private, Untouched as UntouchedPage};
 ghost use Rattle.wh_host_model.specs.Space.Moves.{frame_of};
 ghost use Rattle.wh_host_model.specs.Space.States.{resident};
+ghost use Rattle.wh_pages.specs.Leaves.{IsSoughtEntry};
 ghost use Rattle.wh_pages.specs.Parts.{page_of};
 
 use wh_host_model::Page;
@@ -83,6 +85,14 @@ impl Entry {
         ensures one { result ≤ 1 }
     {
         if self.touched { self.residents() } else { 0 }
+    }
+
+    // Whether the page is looked for: it stands on a frame, and with `idle` wasn't touched in this epoch.
+    #[inline(always)]
+    pub fn is_sought(self, idle: bool) -> bool
+        ensures { MatchBool result (IsSoughtEntry idle self) (¬ IsSoughtEntry idle self) }
+    {
+        self.residents() == 1 && !(idle && self.touched)
     }
 
     // The frame on which the page stands, if it stands on one.

@@ -2,6 +2,7 @@
 #![tactic(auto)]
 
 mod entry;
+mod leaf;
 mod rows;
 mod table;
 

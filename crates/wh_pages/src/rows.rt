@@ -1,18 +1,18 @@
 // The entries in a directory of two levels: leaves of 256 entries.
 
-ghost use Rattle.std.specs.Prelude.{◌≡◌, ◌<◌, ◌*◌, Some, IfOk, length, slice_get, slice_set};
+ghost use Rattle.std.specs.Prelude.{◌≡◌, ℕ, ◌<◌, ◌≤◌, ◌+◌, ◌*◌, IsFalse, Some, IfOk, length, slice_get, slice_set};
+ghost use Rattle.wh_pages.specs.declared.entry.Entry.{Entry};
+ghost use Rattle.wh_pages.specs.Leaves.{IsSoughtEntry};
 
 use crate::entry::Entry;
+use crate::leaf::{LEAF, Leaf};
 use std::alloc::{AllocError, Global};
 use std::marker::Model;
-
-// How many entries a leaf has.
-pub const LEAF: u32 = 256;
 
 // Entries, whose number stays.
 #[derive(Drop)]
 pub struct Rows {
-    leaves: Vec<Vec<Entry>>,
+    leaves: Vec<Leaf>,
 }
 
 impl Model for Rows {
@@ -35,7 +35,7 @@ impl Rows {
     {
         let mut directory = Vec::with_capacity(alloc, leaves as usize)?;
         for _ in 0..leaves {
-            directory.push(vec![in alloc; Entry::blank(); LEAF as usize]?)?;
+            directory.push(Leaf::new(alloc)?)?;
         }
         Ok(Rows { leaves: directory })
     }
@@ -46,7 +46,16 @@ impl Rows {
         requires { at < length self.now }
         ensures { slice_get self.now at ≡ Some result }
     {
-        self.leaves[(at / LEAF) as usize][(at % LEAF) as usize]
+        self.leaves[(at / LEAF) as usize].get(at % LEAF)
+    }
+
+    // Whether some page of a leaf is looked for.
+    pub fn has_sought(&self, leaf: u32, idle: bool) -> bool
+        requires { 256 * leaf < length self.now }
+        ensures { IsFalse result → (q : ℕ) (entry : Entry) → 256 * leaf ≤ q → q < 256 * leaf + 256
+            → slice_get self.now q ≡ Some entry → ¬ IsSoughtEntry idle entry }
+    {
+        self.leaves[leaf as usize].has_sought(idle)
     }
 
     // Puts an entry at this place.
@@ -55,6 +64,6 @@ impl Rows {
         requires { at < length self.old }
         ensures { self.new ≡ slice_set self.old at entry }
     {
-        self.leaves[(at / LEAF) as usize][(at % LEAF) as usize] = entry;
+        self.leaves[(at / LEAF) as usize].set(at % LEAF, entry);
     }
 }

@@ -1,16 +1,18 @@
 // The table as its caller sees it.
 
-ghost use Rattle.std.specs.Prelude.{◌≡◌, ◌↔◌, ◌+◌, ◌<◌, ◌≤◌, ◌++◌, [], ◌∷◌, true, false, IsTrue, IsFalse, Some, IfOk, IfSome, length, replicate, slice_get, slice_set};
+ghost use Rattle.std.specs.Prelude.{◌≡◌, ℕ, ◌*◌, ◌↔◌, ◌+◌, ◌<◌, ◌≤◌, ◌++◌, [], ◌∷◌, true, false, IsTrue, IsFalse, Some, IfOk, IfSome, IfNone, length, replicate, slice_get, slice_set};
 ghost use Rattle.wh_host_model.specs.Frames.{tally};
 ghost use Rattle.wh_host_model.specs.Space.Claims.{active};
 ghost use Rattle.wh_host_model.specs.Space.Moves.{frame_of};
 ghost use Rattle.wh_host_model.specs.Space.States.{resident};
 ghost use Rattle.wh_pages.specs.Parts.{page_of};
 ghost use Rattle.wh_host_model.specs.declared.states.Page.TheVariants.{Private, Untouched};
+ghost use Rattle.wh_pages.specs.Seeking.{IsFirstFrom, IsSought};
 ghost use Rattle.wh_pages.specs.Table.{touched_if};
 
 use crate::entry::Entry;
-use crate::rows::{LEAF, Rows};
+use crate::leaf::LEAF;
+use crate::rows::Rows;
 use std::alloc::{AllocError, Global};
 use std::marker::Model;
 use wh_host_model::Page;
@@ -111,6 +113,46 @@ impl PageTable {
         ensures { slice_get self.now.touched at ≡ Some result }
     {
         self.rows.get(at).touched
+    }
+
+    /// The first page from this place on that stands on a frame; with `idle`, of those alone that weren't touched in this epoch.
+    /// It passes over leaves that have none.
+    pub fn next_resident(&self, from: u32, idle: bool) -> Option<u32>
+        ensures { IsFirstFrom (IsSought self.now idle) from result }
+    {
+        if from >= self.len {
+            return None;
+        }
+        for leaf in from / LEAF..self.len.div_ceil(LEAF) {
+            if self.rows.has_sought(leaf, idle) {
+                let found = self.sought_in(leaf, from, idle);
+                if found.is_some() {
+                    return found;
+                }
+            }
+        }
+        None
+    }
+
+    // The same among the pages of a leaf.
+    fn sought_in(&self, leaf: u32, from: u32, idle: bool) -> Option<u32>
+        requires { leaf < 256 }
+        ensures some { IfSome result (λ p. (IsSought self.now idle p × (from ≤ p))
+            × ((q : ℕ) → from ≤ q → 256 * leaf ≤ q → q < p → ¬ IsSought self.now idle q)) }
+        ensures none { IfNone result ((q : ℕ) → from ≤ q → 256 * leaf ≤ q → q < 256 * leaf + 256
+            → ¬ IsSought self.now idle q) }
+    {
+        let first = from.max(LEAF * leaf);
+        let end = self.len.min(LEAF * leaf + LEAF);
+        if first >= end {
+            return None;
+        }
+        for at in first..end {
+            if self.rows.get(at).is_sought(idle) {
+                return Some(at);
+            }
+        }
+        None
     }
 
     /// Puts a page at this place, which is below `len`. The mark there stays.

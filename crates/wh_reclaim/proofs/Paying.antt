@@ -1,9 +1,11 @@
 -- How the choice of the one that pays goes on by one place.
-use Rattle.std.proofs.Common.{◌≡◌, ◌≢◌, ◌∙◌, ◌⊎◌, inl, inr, ℕ, ◌+◌, ◌*◌, ◌<◌, ◌≤◌, Option, Some, None, length, refl, sym, subst, arith}
+use Rattle.std.proofs.Common.{◌≡◌, ◌≢◌, ◌∙◌, ◌⊎◌, inl, inr, ℕ, ◌+◌, ◌*◌, ◌<◌, ◌≤◌, Bool, true, false, Option, Some, None, length, refl, sym, subst, arith}
+use Rattle.std.specs.Prelude.{MatchBool}
 use Rattle.wh_host_model.specs.declared.Claim.{Claim}
-use Rattle.wh_host_model.specs.Space.Claims.{HasLess, IsEarlier, IsPayer, MayPay, NobodyPays, active_of, weight_of}
+use Rattle.wh_host_model.specs.declared.Tax.{Tax}
+use Rattle.wh_host_model.specs.Space.Claims.{CanLeave, HasLess, IsEarlier, IsPayer, MayPay, NobodyPays, active_of, weight_of}
 use Rattle.wh_host_model.specs.Space.Parts.{Occupant, Space, occupant_at, pages_of}
-use Rattle.wh_host_model.specs.Tax.{CanPay, weight}
+use Rattle.wh_host_model.specs.Tax.{weight}
 use Rattle.wh_host_model.proofs.Space.Putting.{there_of}
 use Rattle.wh_reclaim.specs.Choosing.{IsAtPlace, IsPayerBelow, PaysBefore, PaysBelow}
 use Rattle.wh_reclaim.specs.declared.choice.Payer.{Payer}
@@ -38,14 +40,17 @@ weighs s i may =
     let over = may.0.2 in
     some_price (active_of s i) (pages_of s i) _ s.tax.den (omega arith) (omega (arith, s.tax.below_one)) (omega (arith, s.tax.below_one))
 
-pub may_pay : (s : Space) (i : ℕ) (t : Occupant) (claim : Claim) → occupant_at s i t → IsClaimOf s i t claim → CanPay claim → MayPay s i
-may_pay s i t claim there c can = ((t, there, rw (← c.min, ← c.pages) can.0), c.some can.1)
+pub may_pay : (s : Space) (i : ℕ) (t : Occupant) (claim : Claim) → occupant_at s i t → IsClaimOf s i t claim → claim.min < claim.pages → (p : ℕ) × CanLeave s i p → MayPay s i
+may_pay s i t claim there c over some = ((t, there, rw (← c.min, ← c.pages) over), some)
 
-pub may_not_pay : (s : Space) (i : ℕ) (t : Occupant) (claim : Claim) → occupant_at s i t → IsClaimOf s i t claim → ¬ CanPay claim → ¬ MayPay s i
-may_not_pay s i t claim there c unable = λ may.
+pub not_above : (s : Space) (i : ℕ) (t : Occupant) (claim : Claim) → occupant_at s i t → IsClaimOf s i t claim → ¬ (claim.min < claim.pages) → ¬ MayPay s i
+not_above s i t claim there c unable = λ may.
     (let same : may.0.0 ≡ t = same_occupant s i t may.0.0 there may.0.1 in
     let over : t.min < pages_of s i = rw (← same) may.0.2 in
-    unable (rw (c.min, c.pages) over, c.each may.1))
+    unable (rw (c.min, c.pages) over))
+
+pub gives_none : (s : Space) (i : ℕ) → GivesNone s i → ¬ MayPay s i
+gives_none s i none = λ may. none may.1.0 may.1.1
 
 pub nobody_there : (s : Space) (i : ℕ) → ((t : Occupant) → ¬ occupant_at s i t) → ¬ MayPay s i
 nobody_there s i none = λ may. none may.0.0 may.0.1
@@ -172,6 +177,23 @@ stays s n next best at a pays behind_it =
             subst (HasLess s best.place) (at ∙ sym same) (has_less s best.place next.place b.occupant a.occupant b.there a.there (omega (arith, more, apart)))))
       ];
     }
+
+-- ---- beside the one so far, if there is one
+
+pub still_pays : (s : Space) (n : ℕ) (next : Payer) (payer : Option Payer) → next.place ≡ n → IsAtPlace s next → IsPayerBelow s n payer → (best : Payer) × (payer ≡ Some best) × ¬ PaysBefore s.tax next best → IsPayerBelow s (n + 1) payer
+still_pays s n next None at a pays (best, is, behind_it) = absurd (let bad : None ≡ Some best = is in cc bad)
+still_pays s n next (Some payer) at a pays (best, is, behind_it) =
+    let same : best ≡ payer = (let e : Some payer ≡ Some best = is in cc e) in
+    stays s n next payer at a pays (subst (λ b. ¬ PaysBefore s.tax next b) same behind_it)
+
+pub pays_now : (s : Space) (n : ℕ) (next : Payer) (payer : Option Payer) → next.place ≡ n → IsAtPlace s next → MayPay s n → IsPayerBelow s n payer → ((best : Payer) → payer ≡ Some best → PaysBefore s.tax next best) → PaysBelow s (n + 1) next
+pays_now s n next None at a may none before = begins s n next at a may none
+pays_now s n next (Some best) at a may pays before = takes s n next best at a may pays (before best refl)
+
+pub before_this : (tax : Tax) (first : Payer) (payer : Option Payer) (best : Payer) (told : Bool) → payer ≡ Some best → MatchBool told (PaysBefore tax first best) (¬ PaysBefore tax first best)
+    → MatchBool told ((other : Payer) → payer ≡ Some other → PaysBefore tax first other) ((other : Payer) × (payer ≡ Some other) × ¬ PaysBefore tax first other)
+before_this tax first payer best true is before = λ other e. (let same : best ≡ other = (let f : Some best ≡ Some other = sym is ∙ e in cc f) in subst (PaysBefore tax first) same before)
+before_this tax first payer best false is behind_it = (best, is, behind_it)
 
 -- ---- all places
 

@@ -1,8 +1,7 @@
 // Which page leaves.
 
-ghost use Rattle.std.specs.Prelude.{◌≡◌, ◌+◌, ◌<◌, None, MatchBool, MatchOption, length};
+ghost use Rattle.std.specs.Prelude.{◌≡◌, ◌+◌, ◌<◌, None, Some, MatchBool, MatchOption, length};
 ghost use Rattle.wh_host_model.specs.Space.Claims.{MustLeave, NoneMustLeave};
-ghost use Rattle.wh_host_model.specs.Tax.{CanPay};
 ghost use Rattle.wh_reclaim.specs.Choosing.{IsPayerBelow, PaysBefore};
 
 use std::cmp::Ordering;
@@ -29,11 +28,12 @@ pub struct Payer {
     pub claim: Claim,
 }
 
-// Whether the instance may have to pay: it is above its minimum, and has a page that can leave.
-fn can_pay(claim: &Claim) -> bool
-    ensures { MatchBool result (CanPay claim.now) (¬ CanPay claim.now) }
+// Whether the instance may have to pay if a page of it can leave: it is above its minimum.
+fn is_above(claim: &Claim) -> bool
+    ensures { MatchBool result (claim.now.min < claim.now.pages)
+        (¬ (claim.now.min < claim.now.pages)) }
 {
-    claim.can_leave && claim.min < claim.pages
+    claim.min < claim.pages
 }
 
 // Whether the first of two pays before the second: it has less to claim, or as little and the lower number.
@@ -47,7 +47,20 @@ fn pays_before(tax: Tax, first: Payer, second: Payer) -> bool
     }
 }
 
-// The one that pays, of those at the places below and the one at this place.
+// Whether the first pays before this one, if there is one.
+fn pays_before_any(tax: Tax, first: Payer, payer: Option<Payer>) -> bool
+    ensures { MatchBool result
+        ((best : Payer) → payer ≡ Some best → PaysBefore tax first best)
+        ((best : Payer) × (payer ≡ Some best) × ¬ PaysBefore tax first best) }
+{
+    match payer {
+        Some(best) => pays_before(tax, first, best),
+        None => true,
+    }
+}
+
+// The one that pays, of those at the places below and the one at this place. At the pages of that one it looks where it pays
+// before the others.
 fn next_payer(memory: &Memory, place: usize, payer: Option<Payer>) -> Option<Payer>
     requires { IsPayerBelow memory.now place payer }
     ensures { IsPayerBelow memory.now (place + 1) result }
@@ -55,7 +68,7 @@ fn next_payer(memory: &Memory, place: usize, payer: Option<Payer>) -> Option<Pay
     let Some((number, claim)) = memory.claim_at(place) else {
         return payer;
     };
-    if !can_pay(&claim) {
+    if !is_above(&claim) {
         return payer;
     }
     let next = Payer {
@@ -63,13 +76,13 @@ fn next_payer(memory: &Memory, place: usize, payer: Option<Payer>) -> Option<Pay
         number,
         claim,
     };
-    let Some(best) = payer else {
-        return Some(next);
-    };
-    if pays_before(memory.tax(), next, best) {
-        return Some(next);
+    if !pays_before_any(memory.tax(), next, payer) {
+        return payer;
     }
-    Some(best)
+    if !memory.has_page_to_give(place) {
+        return payer;
+    }
+    Some(next)
 }
 
 // The one that pays, or none where nobody has to. It looks at each instance, once.

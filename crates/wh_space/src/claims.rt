@@ -1,11 +1,12 @@
 // What each instance brings to the choice of the page that leaves.
 
-ghost use Rattle.std.specs.Prelude.{◌≡◌, ◌<◌, ◌≤◌, ℕ, [], None, Some, MatchBool, MatchOption, IfSome, IfNone, length, get_or};
+ghost use Rattle.std.specs.Prelude.{◌≡◌, ◌<◌, ◌≤◌, ℕ, [], None, true, MatchBool, MatchOption, IfSome, IfNone, length, get_or};
 ghost use Rattle.wh_host_model.specs.Frames.{tally};
 ghost use Rattle.wh_host_model.specs.Space.Claims.{CanLeave, IsGiven, active, stays};
 ghost use Rattle.wh_host_model.specs.Space.Parts.{Occupant, occupant_at, pages_of};
-ghost use Rattle.wh_host_model.specs.Space.States.{page_at, resident};
-ghost use Rattle.wh_space.specs.Claiming.{GivesNone, IsClaimOf};
+ghost use Rattle.wh_host_model.specs.Space.States.{resident};
+ghost use Rattle.wh_pages.specs.Seeking.{IsFirstFrom};
+ghost use Rattle.wh_space.specs.Claiming.{GivesNone, IsClaimOf, IsSoughtAt, MightLeave};
 ghost use Rattle.wh_space.specs.Pages.{marks_in, pages_in};
 
 use crate::guest::Guest;
@@ -38,6 +39,18 @@ pub fn resident_of(tables: &Vec<PageTable>, place: usize) -> (u32, u32)
     resident_in(&tables[place])
 }
 
+// The first page of the instance at a place, from this one on, that stands on a frame; with `idle`, of those alone that weren't
+// touched in this epoch.
+fn next_resident(tables: &Vec<PageTable>, place: usize, from: u32, idle: bool) -> Option<u32>
+    ensures { IsFirstFrom (IsSoughtAt (pages_in tables.now.items) (marks_in tables.now.items) place idle)
+        from result }
+{
+    if place >= tables.len() {
+        return None;
+    }
+    tables[place].next_resident(from, idle)
+}
+
 // Whether a page stands on a frame and isn't leaving.
 fn is_staying(page: Page) -> bool
     ensures { MatchBool result (stays page ≡ 1) (stays page ≡ 0) }
@@ -45,16 +58,8 @@ fn is_staying(page: Page) -> bool
     matches!(page, Page::Private(_) | Page::Shared(_))
 }
 
-// Whether a page of the instance at a place was touched in this epoch.
-fn is_touched_at(tables: &Vec<PageTable>, place: usize, number: u32) -> bool
-    requires { number < length (get_or (pages_in tables.now.items) place []) }
-    ensures { page_at (marks_in tables.now.items) place number ≡ Some result }
-{
-    tables[place].is_touched(number)
-}
-
-// What an instance claims that has so many pages on frames, of which so many were touched.
-fn claim_by(guest: Guest, pages: u32, active: u32, can_leave: bool) -> Claim
+// What an instance claims that has so many pages on frames, of which so many were touched, if one can leave.
+fn claim_by(guest: Guest, pages: u32, active: u32) -> Claim
     requires shares { (1 ≤ guest.shares) × (guest.shares ≤ 1000000) }
     requires pages { pages ≤ 65536 }
     requires active { active ≤ pages }
@@ -62,14 +67,14 @@ fn claim_by(guest: Guest, pages: u32, active: u32, can_leave: bool) -> Claim
     ensures min { result.min ≡ guest.min }
     ensures pages { result.pages ≡ pages }
     ensures active { result.active ≡ active }
-    ensures leaves { result.can_leave ≡ can_leave }
+    ensures leaves { result.can_leave ≡ true }
 {
     Claim {
         shares: guest.shares,
         min: guest.min,
         pages,
         active,
-        can_leave,
+        can_leave: true,
     }
 }
 
@@ -114,41 +119,46 @@ impl Memory {
             && self.has_no_leaver(place)
     }
 
+    // The first page of the instance at this place that can leave; with `idle`, of those alone that weren't touched in this
+    // epoch. It passes over leaves of its page table that have none.
+    fn first_to_leave(&self, place: usize, idle: bool) -> Option<u32>
+        ensures { IsFirstFrom (MightLeave self.now place idle) 0 result }
+    {
+        let mut from = 0;
+        for _ in 0..len_at(&self.tables, place) {
+            let Some(page) = next_resident(&self.tables, place, from, idle) else {
+                return None;
+            };
+            if self.can_leave(place, page) {
+                return Some(page);
+            }
+            from = page + 1;
+        }
+        None
+    }
+
     /// The page that the instance at this place gives where it has to: of those that can leave the first that wasn't touched
-    /// in this epoch, or else the first. It looks at its pages, once.
+    /// in this epoch, or else the first.
     pub fn given_page(&self, place: usize) -> Option<u32>
         ensures { MatchOption result (GivesNone self.now place)
             (λ page. IsGiven self.now place page) }
     {
-        let mut first = None;
-        for number in 0..len_at(&self.tables, place) {
-            if self.can_leave(place, number) {
-                if !is_touched_at(&self.tables, place, number) {
-                    return Some(number);
-                }
-                if first.is_none() {
-                    first = Some(number);
-                }
-            }
+        match self.first_to_leave(place, true) {
+            Some(page) => Some(page),
+            None => self.first_to_leave(place, false),
         }
-        first
     }
 
-    // Whether some page of the instance at this place can leave. It looks at its pages up to the first one.
-    fn has_page_to_give(&self, place: usize) -> bool
+    /// Whether some page of the instance at this place can leave.
+    pub fn has_page_to_give(&self, place: usize) -> bool
         ensures { MatchBool result ((page : ℕ) × CanLeave self.now place page)
             (GivesNone self.now place) }
     {
-        for number in 0..len_at(&self.tables, place) {
-            if self.can_leave(place, number) {
-                return true;
-            }
-        }
-        false
+        self.first_to_leave(place, false).is_some()
     }
 
-    /// How many instances came before the one at this place, and what it claims; none where nobody is there. Of its pages it
-    /// looks at those up to the first that can leave.
+    /// How many instances came before the one at this place, and what it claims if a page of it can leave, which
+    /// `has_page_to_give` tells; none where nobody is there. It looks at none of its pages.
     pub fn claim_at(&self, place: usize) -> Option<(u64, Claim)>
         ensures some { IfSome result (λ it. (t : Occupant) × occupant_at self.now place t
             × (it.0 ≡ t.number) × IsClaimOf self.now place t it.1) }
@@ -161,7 +171,6 @@ impl Memory {
             return None;
         };
         let (pages, active) = resident_in(&self.tables[place]);
-        let can_leave = self.has_page_to_give(place);
-        Some((guest.number, claim_by(guest, pages, active, can_leave)))
+        Some((guest.number, claim_by(guest, pages, active)))
     }
 }

@@ -4,7 +4,7 @@ use Rattle.wh_host_model.specs.declared.states.Page.{Page}
 use Rattle.wh_host_model.specs.Space.Claims.{active}
 use Rattle.wh_host_model.specs.Space.Parts.{Space}
 use Rattle.wh_host_model.specs.Space.States.{resident}
-use Rattle.wh_space.proofs.Choosing.{each_to_leave, has_claim, occupant_by, some_to_leave}
+use Rattle.wh_space.proofs.Choosing.{has_claim, occupant_by}
 use Rattle.wh_space.proofs.memory.Memory.claim_at.Goals as goal
 
 pub claim_by-requires-clause-shares : goal.claim_by-requires-clause-shares
@@ -36,7 +36,6 @@ returns-clause-some c =
         min = e.min;
         pages = pages;
         active = touched;
-        some = some_to_leave c.args.self.now i c.has_page_to_give-can_leave.result c.claim_by.result.can_leave e.leaves c.has_page_to_give-can_leave.ensures;
-        each = each_to_leave c.args.self.now i c.has_page_to_give-can_leave.result c.claim_by.result.can_leave e.leaves c.has_page_to_give-can_leave.ensures;
+        leaves = e.leaves;
       },
     )

@@ -1,0 +1,57 @@
+// Where the swap device of the tests keeps its pages.
+
+ghost use Rattle.std.specs.Prelude.{⊤, [], get_or};
+
+use std::cell::Cell;
+use std::io;
+use std::rc::Rc;
+use wh_swap::Pages;
+
+/// Pages in memory. One of the coming calls fails, if that was asked for: the one of this number, from 1 on.
+#[derive(Drop)]
+pub struct Store {
+    pages: Vec<[u8; 4096]>,
+    failing: Rc<Cell<u32>>,
+}
+
+impl Store {
+    /// These pages, of which that cell says which call fails.
+    pub fn new(pages: Vec<[u8; 4096]>, failing: Rc<Cell<u32>>) -> Store {
+        Store { pages, failing }
+    }
+
+    // Whether the present call fails.
+    fn fails(&self) -> bool {
+        let left = self.failing.get();
+        self.failing.set(left.saturating_sub(1));
+        left == 1
+    }
+}
+
+impl Pages for Store {
+    ghost tells = { λ _. ⊤ };
+
+    ghost page = { λ store k. get_or store.pages.items k [] };
+
+    fn get(&mut self, at: u32, into: &mut [u8; 4096]) -> io::Result<()> {
+        if self.fails() {
+            return Err(io::ErrorKind::InvalidInput.into());
+        }
+        let Some(bytes) = self.pages.get(at as usize) else {
+            return Err(io::ErrorKind::InvalidInput.into());
+        };
+        *into = *bytes;
+        Ok(())
+    }
+
+    fn put(&mut self, at: u32, from: &[u8; 4096]) -> io::Result<()> {
+        if self.fails() {
+            return Err(io::ErrorKind::InvalidInput.into());
+        }
+        if at as usize >= self.pages.len() {
+            return Err(io::ErrorKind::InvalidInput.into());
+        }
+        self.pages[at as usize] = *from;
+        Ok(())
+    }
+}
