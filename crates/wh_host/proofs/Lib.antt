@@ -14,3 +14,4 @@ mod Ordering
 mod Sharings
 mod Reports
 mod Enrolling
+mod Charges

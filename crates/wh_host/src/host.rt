@@ -85,6 +85,15 @@ impl Host {
         })
     }
 
+    /// What always holds of a host: it stands for one to which events lead, and reads of a swap device that gave other bytes,
+    /// if there were any.
+    #[inline(always)]
+    pub fn known(&self)
+        ensures { (w : World) × IsHost self.now w }
+    {
+        let _ = &self.live;
+    }
+
     /// Gives an instance a turn of q charges.
     pub fn turn(&mut self, id: InstId, q: u64) -> TurnEnd
         ensures turns { (w : World) → IsHost self.old w

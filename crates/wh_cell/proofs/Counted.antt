@@ -1,0 +1,202 @@
+-- What each event makes of the charges of a host, and of the book that fits them.
+use Rattle.std.proofs.Common.{◌≡◌, ℕ, zero, suc, ◌+◌, ◌<◌, ◌≤◌, List, [], ◌∷◌, ◌++◌, length, map, get_or, slice_get, slice_set, Option, Some, None, refl, sym, ap, subst, ◌∙◌, arith, append_assoc, length-append}
+use Rattle.std.specs.List.{sum_by}
+use Rattle.std.proofs.lemmas.List.Sums.{sum_by-cons, sum_by-append}
+use Rattle.wh_model.specs.declared.memory.Need.{Need}
+use Rattle.wh_model.specs.Execution.Store.{Instance}
+use Rattle.wh_model.specs.Execution.Replay.{Call, Outcome, dead}
+use Rattle.wh_host_model.specs.declared.plain.InstId.{InstId}
+use Rattle.wh_host_model.specs.declared.plain.SwapError.{SwapError}
+use Rattle.wh_host_model.specs.declared.plain.TurnEnd.{TurnEnd}
+use Rattle.wh_host_model.specs.Space.Parts.{Space, view}
+use Rattle.wh_host_model.specs.Host.Worlds.{Entry, Rest, Doing, Tenant, World, journal, tenant, with_tenant}
+use Rattle.wh_host_model.specs.Host.Turns.{Upshot, Computes, Proceeds, returns, traps, writes_all, uses_fuel, waits, waits_to_write, has_had_its_turn}
+use Rattle.wh_host_model.specs.Host.Answers.{gone_further, ended_by, Closes, faces_next, is_dead, Turn, is_idle, has_ended, has_no_fuel, has_no_frame, can_go_on, keeps_its_fault}
+use Rattle.wh_host_model.specs.Host.Admission.{live_count}
+use Rattle.wh_cell.specs.Charging.{charges_in, charges_by, charged, FitsBook, HasTaken}
+
+abbrev pub charges_at : Entry → ℕ
+charges_at e = e.call.charges
+
+-- ---- journals
+
+dead_charges : (es : List Entry) → charges_in (map (λ (w : Entry). ended_by w dead) es) ≡ charges_in es
+dead_charges [] = refl
+dead_charges (e ∷ es) =
+    omega (arith, dead_charges es, sum_by-cons charges_at (ended_by e dead) (map (λ (w : Entry). ended_by w dead) es), sum_by-cons charges_at e es)
+
+-- a call in the middle of a journal
+pub middle : (xs ys : List Entry) (e : Entry) → charges_in (xs ++ e ∷ ys) ≡ charges_in xs + e.call.charges + charges_in ys
+middle xs ys e = omega (arith, sum_by-append charges_at xs (e ∷ ys), sum_by-cons charges_at e ys)
+
+pub at_seam : (xs ys : List Entry) (e : Entry) → slice_get (xs ++ e ∷ ys) (length xs) ≡ Some e
+at_seam [] ys e = refl
+at_seam (x ∷ xs) ys e = at_seam xs ys e
+
+-- ---- a turn
+
+-- in a turn of q charges the present call has taken so many more, and no other one any
+pub record Spends (q : ℕ) (t t2 : Tenant) : Type 0 where
+  pub taken : ℕ
+  pub few : taken ≤ q
+  pub all : charges_in (journal t2) ≡ charges_in (journal t) + taken
+  pub idle : t.open_calls ≡ [] → taken ≡ 0
+  pub present : (e : Entry) (es : List Entry) → t.open_calls ≡ e ∷ es
+      → (e2 : Entry) × (slice_get (journal t2) (length t.ended) ≡ Some e2) × (e2.call.charges ≡ e.call.charges + taken)
+
+within_turn : {M : Type 0} {bytes : M → List ℕ} {ready : M → Need → Type 0} {keeps : M → M → Type 0} {inst : Instance} {q k n : ℕ} {call : Call} {m m2 : M} {r r2 : Rest} {d d2 : Doing} {to : Upshot}
+    → Proceeds bytes ready keeps inst q call m r d to k n m2 r2 d2 → n ≤ q
+within_turn (returns x y) = x.in_turn
+within_turn (traps x) = x.in_turn
+within_turn (writes_all d f w) = omega arith
+within_turn (uses_fuel x n u) = x.in_turn
+within_turn (waits x n u a v) = x.in_turn
+within_turn (waits_to_write d w v) = omega arith
+within_turn (has_had_its_turn x n u v y) = x.in_turn
+
+head_there : (e f : Entry) (es fs : List Entry) → e ∷ es ≡ f ∷ fs → e ≡ f
+head_there e f es fs h = cc h
+
+none_open : (xs es : List Entry) (e : Entry) → xs ≡ [] → xs ≡ e ∷ es → ⊥
+none_open xs es e a b = let no : [] ≡ e ∷ es = sym a ∙ b in cc no
+
+-- the present call goes further, and may end
+goes_further : (q : ℕ) (t t2 : Tenant) (e f : Entry) (es fs : List Entry) (n : ℕ) → n ≤ q → t.open_calls ≡ e ∷ es
+    → f.call.charges ≡ e.call.charges + n → charges_in fs ≡ charges_in es → journal t2 ≡ t.ended ++ f ∷ fs → Spends q t t2
+goes_further q t t2 e f es fs n few there more rest now = record {
+  taken = n;
+  few = few;
+  all =
+      let was : charges_in (journal t) ≡ charges_in (t.ended ++ e ∷ es) = ap (λ (xs : List Entry). charges_in (t.ended ++ xs)) there in
+      let is : charges_in (journal t2) ≡ charges_in (t.ended ++ f ∷ fs) = ap charges_in now in
+      omega (arith, was, is, more, rest, middle t.ended es e, middle t.ended fs f);
+  idle = λ none. absurd (none_open t.open_calls es e none there);
+  present = λ g gs here.
+      let same : e ≡ g = head_there e g es gs (sym there ∙ here) in
+      (f, ap (λ (xs : List Entry). slice_get xs (length t.ended)) now ∙ at_seam t.ended fs f, more ∙ ap (λ (x : Entry). x.call.charges + n) same);
+}
+
+pub closed_journal : {s : Space} {t t2 : Tenant} {e : Entry} {es : List Entry} {r : Rest} → Closes s t e es r t2
+    → (fs : List Entry) × (charges_in fs ≡ charges_in es) × (journal t2 ≡ t.ended ++ e ∷ fs)
+closed_journal {t = t} {e = e} {es = es} (faces_next alive f) = (es, refl, append_assoc t.ended (e ∷ []) es)
+closed_journal {t = t} {e = e} {es = es} (is_dead died) =
+    let fs = map (λ (w : Entry). ended_by w dead) es in
+    (fs ++ [], omega (arith, sum_by-append charges_at fs [], dead_charges es), append_assoc t.ended (e ∷ fs) [])
+
+stays : (q : ℕ) (t : Tenant) → Spends q t t
+stays q t = record {
+  taken = 0;
+  few = omega arith;
+  all = omega arith;
+  idle = λ none. refl;
+  present = λ e es there. (e, ap (λ (xs : List Entry). slice_get (t.ended ++ xs) (length t.ended)) there ∙ at_seam t.ended es e, omega arith);
+}
+
+pub turn_spends : (q : ℕ) (s s2 : Space) (t t2 : Tenant) (answer : TurnEnd) → Turn q s t answer s2 t2 → Spends q t t2
+turn_spends q s s2 t t2 answer (is_idle none) = stays q t
+turn_spends q s s2 t t2 answer (has_ended {e = e} {es = es} {o = o} {k = k} {n = n} there g leaves pins c) =
+    let j = closed_journal c in
+    goes_further q t t2 e (ended_by (gone_further e k n) o) es j.0 n (within_turn g) there refl j.1 j.2
+turn_spends q s s2 t t2 answer (has_no_fuel {e = e} {es = es} {k = k} {n = n} there g leaves pins) =
+    goes_further q t t2 e (gone_further e k n) es es n (within_turn g) there refl refl refl
+turn_spends q s s2 t t2 answer (has_no_frame {e = e} {es = es} {k = k} {n = n} there g leaves pins) =
+    goes_further q t t2 e (gone_further e k n) es es n (within_turn g) there refl refl refl
+turn_spends q s s2 t t2 answer (can_go_on {e = e} {es = es} {k = k} {n = n} there g leaves pins fault) =
+    goes_further q t t2 e (gone_further e k n) es es n (within_turn g) there refl refl refl
+turn_spends q s s2 t t2 answer (keeps_its_fault there stands doing none next fuel ready) = stays q t
+
+-- ---- the instances of a host
+
+-- one of them changes, or goes
+set_charges : (ts : List (Option Tenant)) (i : ℕ) (t : Tenant) (o : Option Tenant) → get_or ts i None ≡ Some t
+    → sum_by charges_by (slice_set ts i o) + charges_by (Some t) ≡ sum_by charges_by ts + charges_by o
+set_charges [] i t o there = absurd (cc there)
+set_charges (x ∷ ts) zero t o there =
+    let same : charges_by x ≡ charges_by (Some t) = ap charges_by there in
+    omega (arith, same, sum_by-cons charges_by x ts, sum_by-cons charges_by o ts)
+set_charges (x ∷ ts) (suc i) t o there =
+    omega (arith, set_charges ts i t o there, sum_by-cons charges_by x ts, sum_by-cons charges_by x (slice_set ts i o))
+
+set_length : (ts : List (Option Tenant)) (i : ℕ) (o : Option Tenant) → length (slice_set ts i o) ≡ length ts
+set_length [] i o = refl
+set_length (x ∷ ts) zero o = refl
+set_length (x ∷ ts) (suc i) o = ap suc (set_length ts i o)
+
+set_live : (ts : List (Option Tenant)) (i : ℕ) (t t2 : Tenant) → get_or ts i None ≡ Some t → live_count (slice_set ts i (Some t2)) ≡ live_count ts
+set_live [] i t t2 there = absurd (cc there)
+set_live (None ∷ ts) zero t t2 there = absurd (cc there)
+set_live (Some u ∷ ts) zero t t2 there = refl
+set_live (None ∷ ts) (suc i) t t2 there = set_live ts i t t2 there
+set_live (Some u ∷ ts) (suc i) t t2 there = ap (λ n. 1 + n) (set_live ts i t t2 there)
+
+gone_live : (ts : List (Option Tenant)) (i : ℕ) (t : Tenant) → get_or ts i None ≡ Some t → live_count ts ≡ 1 + live_count (slice_set ts i None)
+gone_live [] i t there = absurd (cc there)
+gone_live (None ∷ ts) zero t there = absurd (cc there)
+gone_live (Some u ∷ ts) zero t there = refl
+gone_live (None ∷ ts) (suc i) t there = gone_live ts i t there
+gone_live (Some u ∷ ts) (suc i) t there = ap (λ n. 1 + n) (gone_live ts i t there)
+
+new_live : (ts : List (Option Tenant)) (t : Tenant) → live_count (ts ++ Some t ∷ []) ≡ 1 + live_count ts
+new_live [] t = refl
+new_live (None ∷ ts) t = new_live ts t
+new_live (Some u ∷ ts) t = ap (λ n. 1 + n) (new_live ts t)
+
+-- no more are live than were admitted
+pub live_most : (ts : List (Option Tenant)) → live_count ts ≤ length ts
+live_most [] = omega arith
+live_most (None ∷ ts) = let few = live_most ts in omega (arith, few)
+live_most (Some t ∷ ts) = let few = live_most ts in omega (arith, few)
+
+-- ---- hosts
+
+pub taken_none : (w : World) → HasTaken w 0 w
+taken_none w = record { charges = omega arith; live = refl; admitted = refl }
+
+-- pages alone move
+pub taken_moved : (w : World) (s : Space) → HasTaken w 0 (record w { space = s })
+taken_moved w s = record { charges = omega arith; live = refl; admitted = refl }
+
+-- one instance has taken so many more
+pub taken_by_one : (w : World) (i n : ℕ) (t t2 : Tenant) (s : Space) → tenant w i ≡ Some t → charges_in (journal t2) ≡ charges_in (journal t) + n
+    → HasTaken w n (with_tenant w i (Some t2) s)
+taken_by_one w i n t t2 s there more = record {
+  charges = omega (arith, set_charges w.tenants i t (Some t2) there, more);
+  live = set_live w.tenants i t t2 there;
+  admitted = set_length w.tenants i (Some t2);
+}
+
+pub fits_taken : (w w2 : World) (n total : ℕ) → HasTaken w n w2 → FitsBook w total → FitsBook w2 (total + n)
+fits_taken w w2 n total h f = record {
+  least = omega (arith, h.charges, f.least);
+  whole = λ all.
+      let was = f.whole (sym h.live ∙ all ∙ h.admitted) in
+      omega (arith, was, h.charges);
+}
+
+-- an instance comes that has taken none
+pub fits_new : (w : World) (t : Tenant) (s : Space) (total : ℕ) → charges_in (journal t) ≡ 0 → FitsBook w total
+    → FitsBook (record w { tenants = w.tenants ++ Some t ∷ []; space = s }) total
+fits_new w t s total none f =
+    let sums = sum_by-append charges_by w.tenants (Some t ∷ []) in
+    let one = sum_by-cons charges_by (Some t) [] in
+    record {
+      least = omega (arith, sums, one, none, f.least);
+      whole = λ all.
+          let live = new_live w.tenants t in
+          let admitted = length-append w.tenants (Some t ∷ []) in
+          let was = f.whole (omega (arith, all, live, admitted)) in
+          omega (arith, was, sums, one, none);
+    }
+
+-- one goes
+pub fits_gone : (w : World) (i total : ℕ) (t : Tenant) (s : Space) → tenant w i ≡ Some t → FitsBook w total → FitsBook (with_tenant w i None s) total
+fits_gone w i total t s there f =
+    let sums = set_charges w.tenants i t None there in
+    record {
+      least = omega (arith, sums, f.least);
+      whole = λ all.
+          let live = gone_live w.tenants i t there in
+          let admitted = set_length w.tenants i None in
+          let most = live_most w.tenants in
+          absurd (omega (arith, all, live, admitted, most));
+    }

@@ -1,0 +1,11 @@
+pub mod Alike
+pub mod Asked
+pub mod Begun
+pub mod Counted
+pub mod Followed
+pub mod Going
+pub mod Requested
+pub mod Rosters
+pub mod Shown
+pub mod Steps
+pub mod Turned

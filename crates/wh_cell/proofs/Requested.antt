@@ -1,0 +1,107 @@
+-- What requests, and pages that move, make of the book that fits the charges of a host.
+use Rattle.std.proofs.Common.{◌≡◌, ℕ, ◌+◌, ◌⊎◌, List, [], ◌∷◌, ◌++◌, Option, Some, None, refl, sym, ap, subst, ◌∙◌, arith, append-nil, ℤ}
+use Rattle.std.specs.List.{sum_by}
+use Rattle.std.proofs.lemmas.List.Sums.{sum_by-cons, sum_by-append}
+use Rattle.wh_model.specs.Format.Syntax.{Module}
+use Rattle.wh_model.specs.Execution.Store.{Instance, Store}
+use Rattle.wh_model.specs.Execution.Instance.{Piece}
+use Rattle.wh_model.specs.Execution.Replay.{cancelled}
+use Rattle.wh_host_model.specs.declared.plain.InstId.{InstId}
+use Rattle.wh_host_model.specs.declared.plain.SwapError.{SwapError}
+use Rattle.wh_host_model.specs.declared.plain.TurnEnd.{TurnEnd}
+use Rattle.wh_host_model.specs.Space.Parts.{Space}
+use Rattle.wh_host_model.specs.Host.Worlds.{Params, Entry, Doing, Tenant, World, journal, for_device}
+use Rattle.wh_host_model.specs.Host.Calls.{TakesCall, new_entry, more_fuel, Refuels, has_more, Cancels, Retries, may_try}
+use Rattle.wh_host_model.specs.Host.Calls as calls
+use Rattle.wh_host_model.specs.Host.Admission.{StartsAs, writes, runs, ends}
+use Rattle.wh_host_model.specs.Host.Happens.{IsLoad, is_loaded, isnt_loaded, no_memory_to_load, LoadAnswer, IsAdmit, is_admitted, isnt_admitted, no_memory_to_admit, AdmitAnswer, IsInvoke, is_invoked, has_no_instance, isnt_invoked, no_memory_to_invoke, InvokeAnswer, CallAnswer, IsRefuel, is_refueled, no_one_to_refuel, no_call_to_refuel, IsCancel, is_cancelled, no_one_to_cancel, no_call_to_cancel, IsRetry, is_retried, no_one_to_retry, no_fault_to_retry, IsRelease, is_released, no_one_to_release, IsTurn, of_none, of_one, IsLive, MovesPages, moved, has_failed, OnlyMoves}
+use Rattle.wh_host_model.specs.Host.Misreading.{IsMisread}
+use Rattle.wh_cell.specs.Charging.{charges_in, charged, FitsBook, HasTaken}
+use Rattle.wh_cell.proofs.Counted.{charges_at, middle, closed_journal, taken_none, taken_moved, taken_by_one, fits_taken, fits_new, fits_gone, turn_spends}
+
+-- nothing was taken
+pub fits_still : (w w2 : World) (total : ℕ) → HasTaken w 0 w2 → FitsBook w total → FitsBook w2 total
+fits_still w w2 total h f = subst (FitsBook w2) (omega arith) (fits_taken w w2 0 total h f)
+
+pub load_fits : (w w2 : World) (bytes : List ℕ) (answer : LoadAnswer) (total : ℕ) → IsLoad w bytes answer w2 → FitsBook w total → FitsBook w2 total
+load_fits w w2 bytes answer total (is_loaded l) f = subst (λ z. FitsBook z total) (sym l.after) (record { least = f.least; whole = f.whole })
+load_fits w w2 bytes answer total (isnt_loaded r) f = f
+load_fits w w2 bytes answer total (no_memory_to_load m) f = f
+
+-- the start of an instance has taken none
+starts_none : {inst : Instance} {s : Store} {ps : List Piece} {start : Option ℕ} {fuel : ℕ} {d : Doing} {ended open_calls : List Entry}
+    → StartsAs inst s ps start fuel d ended open_calls → charges_in (ended ++ open_calls) ≡ 0
+starts_none (writes some) = refl
+starts_none (runs none is faces) = refl
+starts_none (ends none is) = refl
+
+pub admit_fits : (w w2 : World) (k : ℕ) (p : Params) (answer : AdmitAnswer) (total : ℕ) → IsAdmit w k p answer w2 → FitsBook w total → FitsBook w2 total
+admit_fits w w2 k p answer total (is_admitted l) f = subst (λ z. FitsBook z total) (sym l.after) (fits_new w _ l.space total (starts_none l.starts) f)
+admit_fits w w2 k p answer total (isnt_admitted r) f = f
+admit_fits w w2 k p answer total (no_memory_to_admit n) f = f
+
+-- a new call has taken none
+asked_none : (t : Tenant) (e : Entry) → e.call.charges ≡ 0 → charges_in (t.ended ++ (t.open_calls ++ e ∷ [])) ≡ charges_in (journal t) + 0
+asked_none t e none =
+    omega (arith, none, sum_by-append charges_at t.ended (t.open_calls ++ e ∷ []), sum_by-append charges_at t.open_calls (e ∷ []), sum_by-append charges_at t.ended t.open_calls, sum_by-cons charges_at e [])
+
+takes_none : {m : Module} {s : Space} {t t2 : Tenant} {name : List ℕ} {given : List ℤ} {fuel at : ℕ} → TakesCall m s t name given fuel at t2 → charges_in (journal t2) ≡ charges_in (journal t) + 0
+takes_none {t = t} {given = given} {fuel = fuel} k = ap (λ (z : Tenant). charges_in (journal z)) k.after ∙ asked_none t (new_entry k.func k.vs given fuel) refl
+
+pub invoke_fits : (w w2 : World) (id : InstId) (name : List ℕ) (given : List ℤ) (fuel : ℕ) (answer : InvokeAnswer) (total : ℕ) → IsInvoke w id name given fuel answer w2 → FitsBook w total → FitsBook w2 total
+invoke_fits w w2 id name given fuel answer total (is_invoked {t = t} {t2 = t2} live is takes) f = fits_still w w2 total (taken_by_one w id.number 0 t t2 w.space live.0 (takes_none takes)) f
+invoke_fits w w2 id name given fuel answer total (has_no_instance none) f = f
+invoke_fits w w2 id name given fuel answer total (isnt_invoked live is first) f = f
+invoke_fits w w2 id name given fuel answer total (no_memory_to_invoke live is none) f = f
+
+-- the present call is another one that has taken as many
+like_first : (t t2 : Tenant) (e f : Entry) (es : List Entry) → t.open_calls ≡ e ∷ es → f.call.charges ≡ e.call.charges → journal t2 ≡ t.ended ++ f ∷ es → charges_in (journal t2) ≡ charges_in (journal t) + 0
+like_first t t2 e f es there same now =
+    let was : charges_in (journal t) ≡ charges_in (t.ended ++ e ∷ es) = ap (λ (xs : List Entry). charges_in (t.ended ++ xs)) there in
+    let is : charges_in (journal t2) ≡ charges_in (t.ended ++ f ∷ es) = ap charges_in now in
+    omega (arith, was, is, same, middle t.ended es e, middle t.ended es f)
+
+refuels_none : {t : Tenant} {n : ℕ} {t2 : Tenant} → Refuels t n t2 → charges_in (journal t2) ≡ charges_in (journal t) + 0
+refuels_none {t = t} {n = n} {t2 = t2} (has_more {e = e} {es = es} there stands) = like_first t t2 e (more_fuel e n) es there refl refl
+
+pub refuel_fits : (w w2 : World) (id : InstId) (n : ℕ) (answer : CallAnswer) (total : ℕ) → IsRefuel w id n answer w2 → FitsBook w total → FitsBook w2 total
+refuel_fits w w2 id n answer total (is_refueled {t = t} {t2 = t2} live has) f = fits_still w w2 total (taken_by_one w id.number 0 t t2 w.space live.0 (refuels_none has)) f
+refuel_fits w w2 id n answer total (no_one_to_refuel none) f = f
+refuel_fits w w2 id n answer total (no_call_to_refuel live none) f = f
+
+cancels_none : {s s2 : Space} {t t2 : Tenant} → Cancels s t s2 t2 → charges_in (journal t2) ≡ charges_in (journal t) + 0
+cancels_none {t = t} {t2 = t2} (calls.ends {e = e} {es = es} there stands pins closes) =
+    let j = closed_journal closes in
+    let was : charges_in (journal t) ≡ charges_in (t.ended ++ e ∷ es) = ap (λ (xs : List Entry). charges_in (t.ended ++ xs)) there in
+    let is = ap charges_in j.2 in
+    omega (arith, was, is, j.1, middle t.ended es e, middle t.ended j.0 (record e { call = record e.call { outcome = cancelled } }))
+
+pub cancel_fits : (w w2 : World) (id : InstId) (answer : CallAnswer) (total : ℕ) → IsCancel w id answer w2 → FitsBook w total → FitsBook w2 total
+cancel_fits w w2 id answer total (is_cancelled {t = t} {t2 = t2} {s2 = s2} live has) f = fits_still w w2 total (taken_by_one w id.number 0 t t2 s2 live.0 (cancels_none has)) f
+cancel_fits w w2 id answer total (no_one_to_cancel none) f = f
+cancel_fits w w2 id answer total (no_call_to_cancel live none) f = f
+
+retries_none : {t t2 : Tenant} → Retries t t2 → charges_in (journal t2) ≡ charges_in (journal t) + 0
+retries_none (may_try there stands) = omega arith
+
+pub retry_fits : (w w2 : World) (id : InstId) (answer : CallAnswer) (total : ℕ) → IsRetry w id answer w2 → FitsBook w total → FitsBook w2 total
+retry_fits w w2 id answer total (is_retried {t = t} {t2 = t2} live has) f = fits_still w w2 total (taken_by_one w id.number 0 t t2 w.space live.0 (retries_none has)) f
+retry_fits w w2 id answer total (no_one_to_retry none) f = f
+retry_fits w w2 id answer total (no_fault_to_retry live none) f = f
+
+pub release_fits : (w w2 : World) (id : InstId) (answer : Option (List ℕ)) (total : ℕ) → IsRelease w id answer w2 → FitsBook w total → FitsBook w2 total
+release_fits w w2 id answer total (is_released {t = t} live l) f = subst (λ z. FitsBook z total) (sym l.after) (fits_gone w id.number total t l.space live.0 f)
+release_fits w w2 id answer total (no_one_to_release none) f = f
+
+-- ---- pages
+
+pub moves_fit : (w w2 : World) (total : ℕ) → OnlyMoves w w2 → FitsBook w total → FitsBook w2 total
+moves_fit w w2 total m f = subst (λ z. FitsBook z total) (sym m.2) (record { least = f.least; whole = f.whole })
+
+pub misread_fits : (w w2 : World) (total : ℕ) → IsMisread w w2 → FitsBook w total → FitsBook w2 total
+misread_fits w w2 total m f = subst (λ z. FitsBook z total) (sym m.2) (record { least = f.least; whole = f.whole })
+
+pub pages_fit : (w w2 : World) (id : InstId) (awaits : Tenant → Type 0) (fault : Option SwapError) (total : ℕ) → MovesPages w id awaits fault w2 → FitsBook w total → FitsBook w2 total
+pages_fit w w2 id awaits fault total (moved alone none) f = record { least = f.least; whole = f.whole }
+pages_fit w w2 id awaits fault total (has_failed {t = t} {e = e} {s2 = s2} alone is live waits) f =
+    fits_still w w2 total (taken_by_one w id.number 0 t (record t { stands_for = Some (for_device e) }) s2 live.0 (omega arith)) f

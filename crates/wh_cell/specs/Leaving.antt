@@ -1,0 +1,59 @@
+-- A host as its owner left it, and what has become of it since.
+use Rattle.std.specs.Prelude.{◌≡◌, ◌++◌, ℕ, List, [], refl}
+use native.Mathlib.Nat.{le_refl}
+use Rattle.std.proofs.lemmas.Bool.{leb-true}
+use Rattle.wh_host_model.specs.declared.plain.SwapError.{SwapError}
+use Rattle.wh_host_model.specs.Space.Parts.{empty_space}
+use Rattle.wh_host_model.specs.Host.Worlds.{World}
+use Rattle.wh_host.specs.Hosting.{HostState, IsHost}
+use Rattle.wh_cell.specs.Charging.{charged, FitsBook, HasTaken}
+use Rattle.wh_cell.specs.Going.{WorksTo, WorksAnyhowTo}
+
+-- ---- the book
+
+-- for whatever host it stands, so many charges in the book fit
+abbrev pub FitsHost : HostState → ℕ → Type 0
+FitsHost h total = (w : World) → IsHost h w → FitsBook w total
+
+-- no call of it took a charge yet
+abbrev pub HasNoCharge : HostState → Type 0
+HasNoCharge h = (w : World) × IsHost h w × (charged w ≡ 0)
+
+-- between whatever hosts for which they stand, so many charges were taken
+abbrev pub HasTakenOn : HostState → ℕ → HostState → Type 0
+HasTakenOn h taken h2 = (w w2 : World) → IsHost h w → IsHost h2 w2 → HasTaken w taken w2
+
+-- ---- the owner
+
+-- for whatever host the one stands, work leads to one for which the other does
+abbrev pub WorksOn : HostState → List SwapError → HostState → Type 0
+WorksOn h faults h2 = (w : World) → IsHost h w → (w2 : World) × WorksTo w faults w2 × IsHost h2 w2
+
+abbrev pub WorksAnyhowOn : HostState → HostState → Type 0
+WorksAnyhowOn h h2 = (w : World) → IsHost h w → (w2 : World) × WorksAnyhowTo w w2 × IsHost h2 w2
+
+-- how an owner left a host, and the faults of its device until then
+pub record LeftState : Type 0 where
+  pub host : HostState
+  pub faults : List SwapError
+
+-- The host came from the one that its owner left, by work alone. Where the device has read right, that was events,
+-- in which its calls failed as it says.
+pub record ComesFrom (left : LeftState) (honest : Type 0) (faults : List SwapError) (h : HostState) : Type 0 where
+  pub anyhow : WorksAnyhowOn left.host h
+  pub more : List SwapError
+  pub added : faults ≡ more ++ left.faults
+  pub right : honest → WorksOn left.host more h
+
+-- a host that nobody left
+abbrev pub no_host : LeftState
+no_host = record {
+  host = record {
+    modules = [];
+    residents = [];
+    live = 0;
+    space = empty_space 0 0 (record { num = 0; den = 1; below_one = le_refl 1; den_within = leb-true 1 1000 refl });
+    next = 0;
+  };
+  faults = [];
+}

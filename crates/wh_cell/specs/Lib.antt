@@ -1,0 +1,7 @@
+pub mod Charging
+pub mod Counted
+pub mod Going
+pub mod Leaving
+pub mod Locking
+pub mod Rostered
+pub mod Stored

@@ -1,0 +1,143 @@
+//! The cell: a host under a lock that threads share.
+
+ghost use Rattle.std.specs.Prelude.{◌≡◌, ◌<◌, IfOk};
+ghost use Rattle.std.specs.Sync.Mutex.{mutex_guard_value};
+ghost use Rattle.wh_host_model.specs.Host.Worlds.{World};
+ghost use Rattle.wh_reclaim.specs.Together.{AreTogether};
+ghost use Rattle.wh_host.specs.Hosting.{HostState, IsHost};
+ghost use Rattle.wh_host.specs.Rolls.{IsRollOf};
+ghost use Rattle.wh_workers.specs.Counting.{IsZero};
+ghost use Rattle.wh_cell.specs.Leaving.{HasNoCharge};
+ghost use Rattle.wh_cell.specs.Locking.{IsInStep};
+
+use crate::locked::Locked;
+use crate::owner::{HostMatter, LeavesAs, Owner};
+use std::alloc::{AllocError, Global};
+use std::snapshot::Snapshot;
+use std::sync::ledger::{Blank, Ledger};
+use std::sync::{Arc, Mutex, MutexGuard, Wait};
+use wh_host::{Host, HostError, Roll};
+use wh_reclaim::Buf;
+use wh_swap::SwapDev;
+use wh_workers::{BlankPact, Bond, Books, Shares};
+
+/// A host under a lock, with its swap device and the books of what threads count. Each thread has a handle of its own.
+#[derive(Drop)]
+pub struct HostCell<D: SwapDev, T: Ledger, C: Ledger, O: Ledger, E: Ledger, B: Bond> {
+    locked: Arc<Mutex<Locked<D, T, C, O, E, B>>, Global>,
+}
+
+/// What a host needs beside itself to lie under a lock: its device, a buffer for pages that come, and what is to name its
+/// ledgers and its pact.
+#[derive(Drop)]
+pub struct Fittings<D> {
+    /// The swap device.
+    pub device: D,
+    /// A buffer for a page.
+    pub buf: Buf,
+    /// The pact between the lock and the host's owner.
+    pub pact: BlankPact<HostMatter>,
+    /// The ledger of turns.
+    pub turns: Blank,
+    /// The ledger of charges.
+    pub charges: Blank,
+    /// The ledger of offers.
+    pub offers: Blank,
+    /// The ledger of evictions.
+    pub evictions: Blank,
+}
+
+impl<D: SwapDev + Drop, T: Ledger, C: Ledger, O: Ledger, E: Ledger, B: Bond> HostCell<
+    D,
+    T,
+    C,
+    O,
+    E,
+    B,
+> {
+    /// Puts a host under a lock, none of whose calls took a charge yet: the cell, its owner's right, and shares that are all
+    /// zero. All memory for the cell is taken here.
+    ///
+    /// # Errors
+    /// Where room was refused.
+    pub fn new(
+        alloc: Global,
+        host: Host,
+        fittings: Fittings<D>,
+    ) -> Result<(HostCell<D, T, C, O, E, B>, Owner<B>, Shares<T, C, O, E>), AllocError>
+        requires uncharged { HasNoCharge host }
+        requires together { AreTogether host.space (D.held fittings.device) }
+        requires pact { fittings.pact ≡ B.table }
+        requires turns { (fittings.turns.name ≡ T.name) × (fittings.turns.parts ≡ T.parts)
+            × (64 < T.parts) }
+        requires charges { (fittings.charges.name ≡ C.name) × (fittings.charges.parts ≡ C.parts)
+            × (64 < C.parts) }
+        requires offers { (fittings.offers.name ≡ O.name) × (fittings.offers.parts ≡ O.parts)
+            × (1 < O.parts) }
+        requires evictions { (fittings.evictions.name ≡ E.name)
+            × (fittings.evictions.parts ≡ E.parts) × (1 < E.parts) }
+        ensures owner { IfOk result (λ r. r.1
+            ≡ record { host = host; faults = D.faults fittings.device }) }
+        ensures shares { IfOk result (λ r. IsZero r.2) }
+    {
+        let Fittings {
+            device,
+            buf,
+            pact,
+            turns,
+            charges,
+            offers,
+            evictions,
+        } = fittings;
+        let (books, shares) = Books::open(alloc, turns, charges, offers, evictions)?;
+        let by = LeavesAs {
+            host: Snapshot::of(&host),
+            device: Snapshot::of(&device),
+        };
+        let (pact, mine, left) = pact.open::<B, LeavesAs<D>>(&by);
+        let locked = Locked {
+            host,
+            device,
+            buf,
+            books,
+            left,
+        };
+        let Ok(locked) = Arc::new(alloc, Mutex::new(locked)) else {
+            return Err(AllocError);
+        };
+        Ok((HostCell { locked }, Owner::with(pact, mine), shares))
+    }
+}
+
+impl<D: SwapDev, T: Ledger, C: Ledger, O: Ledger, E: Ledger, B: Bond> HostCell<D, T, C, O, E, B> {
+    /// A further handle of the same cell, for another thread.
+    ///
+    /// # Errors
+    /// Where there are as many handles as can be counted.
+    pub fn share(&self) -> Result<HostCell<D, T, C, O, E, B>, AllocError> {
+        let locked = Arc::try_clone(&self.locked)?;
+        Ok(HostCell { locked })
+    }
+
+    /// Waits for the lock. Whoever gets it finds a host to which events lead, and reads of a swap device that gave other bytes,
+    /// if there were any; books whose charges fit its journals; a device that agrees with its slots; and that it came by
+    /// work from the one that its owner left.
+    pub fn lock<R: Wait>(&self, rt: &R) -> MutexGuard<'_, Locked<D, T, C, O, E, B>>
+        ensures { IsInStep D.held D.honest D.faults (mutex_guard_value result) }
+    {
+        let guard = self.locked.lock(rt);
+        guard.known();
+        guard
+    }
+
+    /// The roll of the host: what is there at one moment.
+    ///
+    /// # Errors
+    /// Where memory was refused.
+    pub fn roll<R: Wait>(&self, rt: &R, alloc: Global) -> Result<Roll, HostError>
+        ensures { IfOk result (λ roll. (h : HostState) × ((w : World) × IsHost h w) × IsRollOf h roll) }
+    {
+        let guard = self.locked.lock(rt);
+        guard.roll(alloc)
+    }
+}

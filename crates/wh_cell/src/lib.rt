@@ -1,0 +1,21 @@
+//! A host under a lock that threads share: what they count beside it, and what its owner knows of it.
+#![tactic(auto)]
+
+mod cell;
+mod jobs;
+mod locked;
+mod owner;
+mod requests;
+mod roster;
+mod serving;
+mod showing;
+mod taken;
+#[cfg(test)]
+mod tests;
+
+pub use cell::{Fittings, HostCell};
+pub use jobs::{ReclaimJob, ScanJob, TurnJob, TurnSupply};
+pub use locked::Locked;
+pub use owner::{HostMatter, Owner};
+pub use roster::{Choice, Roster, Seat};
+pub use serving::{Manner, run_calls};

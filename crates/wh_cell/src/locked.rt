@@ -1,0 +1,267 @@
+//! What the lock lends.
+
+ghost use Rattle.std.specs.Prelude.{◌≡◌, ◌+◌, ◌-◌, ◌∷◌, ◌^◌, ◌<◌, ℕ, min, Ok, IfOk, IfErr, IfSome, IfNone, OnOk, OnErr};
+ghost use Rattle.wh_model.specs.declared.memory.Need.{Need};
+ghost use Rattle.wh_host_model.specs.Host.Happens.{AwaitsFrame, IsTurn};
+ghost use Rattle.wh_host_model.specs.Host.Worlds.{World};
+ghost use Rattle.wh_host_model.specs.Space.Laws.{IsProvided};
+ghost use Rattle.wh_host_model.specs.Space.Offers.{OffersOf};
+ghost use Rattle.wh_host_model.specs.Space.Provide.{FailsTruly, OthersKeepMinimum, ProvidesTruly};
+ghost use Rattle.wh_host_model.specs.Space.Stores.{Epochs};
+ghost use Rattle.wh_host.specs.Backing.{KeepsBacking};
+ghost use Rattle.wh_host.specs.Hosting.{IsHost};
+ghost use Rattle.wh_host.specs.Paging.{MovesAnyhow, MovesOnly, MovesWith, WaitsFor, provide_fault};
+ghost use Rattle.wh_host.specs.Sharing.{CanOffer};
+ghost use Rattle.wh_host.specs.Showing.{StandsByEvents};
+ghost use Rattle.wh_workers.specs.Counting.{RanTurn, turns_of, charges_of};
+ghost use Rattle.wh_cell.specs.Counted.{CountsEvictions, evictions_of};
+ghost use Rattle.wh_cell.specs.Leaving.{ComesFrom, HasTakenOn};
+ghost use Rattle.wh_cell.specs.Locking.{IsInStep};
+
+use crate::owner::{HostMatter, Owner};
+use crate::taken::counted_turn;
+use std::marker::Model;
+use std::sync::ledger::Ledger;
+use wh_host::Host;
+use wh_host_model::{InstId, Offer, SwapError, TurnEnd};
+use wh_kernels::PageHash;
+use wh_reclaim::Buf;
+use wh_swap::SwapDev;
+use wh_workers::{Bond, Books, Half, Helper, Shares, Worker};
+
+// So many pages left, by what a provision has answered.
+fn count_evictions<T: Ledger, C: Ledger, O: Ledger, E: Ledger>(
+    books: &mut Books<T, C, O, E>,
+    reclaimer: &mut Helper<E>,
+    provided: Result<u64, SwapError>,
+)
+    ensures counted { CountsEvictions (evictions_of provided) reclaimer.old books.old.evictions
+        reclaimer.new books.new.evictions }
+    ensures books { books.new ≡ record books.old { evictions = books.new.evictions } }
+{
+    let Ok(gone) = provided else {
+        return;
+    };
+    let room = u64::MAX - reclaimer.count();
+    books.evict(reclaimer, gone.min(room));
+}
+
+/// What the lock lends: a host and its swap device, the books of what threads count, and how the host's owner left it.
+///
+/// Its type keeps that events lead to the host; that the charges in the books fit the journals; that device and slots agree,
+/// and no ticket is out; and that the host came by work alone from the one that its owner left: turns, offers, provisions.
+#[derive(Drop)]
+pub struct Locked<D: SwapDev, T: Ledger, C: Ledger, O: Ledger, E: Ledger, B: Bond> {
+    pub(crate) host: Host,
+    pub(crate) device: D,
+    pub(crate) buf: Buf,
+    pub(crate) books: Books<T, C, O, E>,
+    pub(crate) left: Half<B, HostMatter>,
+}
+
+impl<D: SwapDev, T: Ledger, C: Ledger, O: Ledger, E: Ledger, B: Bond> Model
+    for Locked<D, T, C, O, E, B> {
+    ghost use Rattle.wh_cell.specs.Locking.{IsInStep, LockedState};
+
+    ghost Value = { LockedState D };
+
+    ghost use Rattle.wh_cell.specs.Stored.{stored_locked};
+
+    ghost coded = { stored_locked D.code };
+
+    ghost view = { λ l. record {
+      host = l.host;
+      device = l.device;
+      books = record {
+        turns = l.books.turns;
+        charges = l.books.charges;
+        offers = l.books.offers;
+        evictions = l.books.evictions;
+      };
+      left = l.left;
+    } };
+
+    ghost invariant = { λ l. IsInStep D.held D.honest D.faults (record {
+      host = l.host;
+      device = l.device;
+      books = record {
+        turns = l.books.turns;
+        charges = l.books.charges;
+        offers = l.books.offers;
+        evictions = l.books.evictions;
+      };
+      left = l.left;
+    }) };
+}
+
+impl<D: SwapDev, T: Ledger, C: Ledger, O: Ledger, E: Ledger, B: Bond> Locked<D, T, C, O, E, B> {
+    /// What always holds of what the lock lends.
+    #[inline(always)]
+    pub fn known(&self)
+        ensures { IsInStep D.held D.honest D.faults self.now }
+    {
+        let _ = &self.buf;
+    }
+
+    /// The host, to look at.
+    pub fn host(&self) -> &Host
+        ensures { result.now ≡ self.now.host }
+    {
+        &self.host
+    }
+
+    /// The books, to look at.
+    pub fn books(&self) -> &Books<T, C, O, E>
+        ensures turns { result.now.turns ≡ self.now.books.turns }
+        ensures charges { result.now.charges ≡ self.now.books.charges }
+        ensures offers { result.now.offers ≡ self.now.books.offers }
+        ensures evictions { result.now.evictions ≡ self.now.books.evictions }
+    {
+        &self.books
+    }
+
+    /// Gives an instance a turn of so many charges. The worker counts it, and so do the books: one turn, and the charges by
+    /// which the journal grew.
+    pub fn turn(&mut self, id: InstId, quantum: u32, worker: &mut Worker<T, C>) -> TurnEnd
+        requires room { worker.old.tally.turns < 2 ^ 64 - 1 }
+        ensures turns { (w : World) → IsHost self.old.host w
+            → (w2 : World) × IsTurn w id quantum result w2 × IsHost self.new.host w2 }
+        ensures counted { (taken : ℕ) × HasTakenOn self.old.host taken self.new.host
+            × RanTurn worker.old taken worker.new
+            × (self.new.books ≡ record self.old.books {
+              turns = self.old.books.turns + 1;
+              charges = self.old.books.charges + taken;
+            }) }
+        ensures backing { KeepsBacking self.old.host.space self.new.host.space }
+        ensures device { self.new.device ≡ self.old.device }
+        ensures left { self.new.left ≡ self.old.left }
+    {
+        let (end, taken) = counted_turn(&mut self.host, id, quantum);
+        self.books.turn(worker, taken);
+        end
+    }
+
+    /// Offers a page of an instance for sharing, under any hash at all, and says what came of it. The scanner counts it, and so
+    /// do the books. No byte of any page changes.
+    ///
+    /// `None`, and nothing is done and nothing counted, where frames and slots are 2^32 together or more, or the place isn't
+    /// below 2^32.
+    pub fn offer<H: PageHash>(
+        &mut self,
+        hasher: &H,
+        id: InstId,
+        page: u32,
+        hash: u64,
+        scanner: &mut Helper<O>,
+    ) -> Option<Offer>
+        requires room { scanner.old.count < 2 ^ 64 - 1 }
+        ensures moves { MovesOnly self.old.host self.new.host }
+        ensures some { IfSome result (λ answer. OffersOf (H.hashes hasher.now) self.old.host.space
+            id.place id.number page hash answer self.new.host.space) }
+        ensures counted { IfSome result (λ _.
+            (self.new.books ≡ record self.old.books { offers = self.old.books.offers + 1 })
+            × (scanner.new ≡ record scanner.old { count = scanner.old.count + 1 })) }
+        ensures none { IfNone result ((¬ CanOffer self.old.host.space id.place)
+            × (self.new.host ≡ self.old.host) × (self.new.books ≡ self.old.books)
+            × (scanner.new ≡ scanner.old)) }
+        ensures backing { KeepsBacking self.old.host.space self.new.host.space }
+        ensures device { self.new.device ≡ self.old.device }
+        ensures left { self.new.left ≡ self.old.left }
+    {
+        let offered = self.host.offer(hasher, id, page, hash);
+        if offered.is_some() {
+            self.books.offer(scanner);
+        }
+        offered
+    }
+
+    /// Begins a new epoch: no page is marked as touched. It goes over all pages.
+    pub fn epoch(&mut self)
+        ensures moves { MovesOnly self.old.host self.new.host }
+        ensures clears { Epochs self.old.host.space self.new.host.space }
+        ensures backing { KeepsBacking self.old.host.space self.new.host.space }
+        ensures books { self.new.books ≡ self.old.books }
+        ensures device { self.new.device ≡ self.old.device }
+        ensures left { self.new.left ≡ self.old.left }
+    {
+        self.host.epoch();
+    }
+
+    /// Makes the next step of an instance ready where its present call stands for a frame, with calls of the swap device: how
+    /// many pages left for it. The reclaimer counts these, and so do the books, as far as they can be counted in 64 bits.
+    ///
+    /// # Errors
+    /// That of the device's call that failed, which is kept with the present call. Nothing is counted then.
+    pub fn provide(&mut self, id: InstId, reclaimer: &mut Helper<E>) -> Result<u64, SwapError>
+        ensures honest { D.honest self.new.device → D.honest self.old.device }
+        ensures keeps { D.keeps self.old.device → D.keeps self.new.device }
+        ensures kept { D.keeps self.old.device → D.honest self.old.device
+            → D.honest self.new.device }
+        ensures moves { D.honest self.new.device
+            → MovesWith self.old.host id AwaitsFrame (provide_fault result) self.new.host }
+        ensures anyhow { MovesAnyhow self.old.host id AwaitsFrame (provide_fault result)
+            self.new.host }
+        ensures idle { ((need : Need) → ¬ WaitsFor self.old.host id need)
+            → (self.new.host ≡ self.old.host) × (self.new.device ≡ self.old.device)
+            × (result ≡ Ok 0) }
+        ensures provides { (need : Need) → WaitsFor self.old.host id need
+            → D.honest self.new.device → IfOk result (λ gone.
+            ProvidesTruly self.old.host.space id.place need gone self.new.host.space) }
+        ensures right { (need : Need) → WaitsFor self.old.host id need → IfOk result (λ gone.
+            IsProvided self.old.host.space id.place need gone self.new.host.space) }
+        ensures fails { (need : Need) → WaitsFor self.old.host id need
+            → D.honest self.new.device → OnErr result
+            (FailsTruly self.old.host.space id.place need self.new.host.space) }
+        ensures others { OthersKeepMinimum self.old.host.space id.place self.new.host.space }
+        ensures writes { IfOk result (λ gone.
+            D.writes self.new.device ≡ D.writes self.old.device + gone) }
+        ensures ok { OnOk result (D.faults self.new.device ≡ D.faults self.old.device) }
+        ensures err { IfErr result (λ fault.
+            D.faults self.new.device ≡ fault ∷ D.faults self.old.device) }
+        ensures counted { CountsEvictions (evictions_of result) reclaimer.old self.old.books.evictions
+            reclaimer.new self.new.books.evictions }
+        ensures books { self.new.books
+            ≡ record self.old.books { evictions = self.new.books.evictions } }
+        ensures left { self.new.left ≡ self.old.left }
+    {
+        let Locked {
+            host,
+            device,
+            buf,
+            books,
+            ..
+        } = self;
+        let provided = host.provide(device, id, buf);
+        count_evictions(books, reclaimer, provided);
+        provided
+    }
+
+    /// Whoever has the shares learns that the books are the sums of their counts, by kind. It changes nothing.
+    pub fn agree(&mut self, shares: &mut Shares<T, C, O, E>)
+        ensures turns { self.old.books.turns ≡ turns_of shares.old.tallies }
+        ensures charges { self.old.books.charges ≡ charges_of shares.old.tallies }
+        ensures offers { self.old.books.offers ≡ shares.old.offers }
+        ensures evictions { self.old.books.evictions ≡ shares.old.evictions }
+        ensures same { (self.new.host ≡ self.old.host) × (self.new.device ≡ self.old.device)
+            × (self.new.books ≡ self.old.books) × (self.new.left ≡ self.old.left)
+            × (shares.new ≡ shares.old) }
+    {
+        self.books.agree(shares);
+    }
+
+    /// The owner learns that the host came from the one that it left, and then knows it as it is. Where events alone led to the
+    /// one, and the device has read right, they lead to the other.
+    pub fn meet(&mut self, owner: &mut Owner<B>)
+        ensures came { ComesFrom owner.old (D.honest self.old.device) (D.faults self.old.device)
+            self.old.host }
+        ensures knows { owner.new
+            ≡ record { host = self.new.host; faults = D.faults self.new.device } }
+        ensures led { StandsByEvents owner.old.host → D.honest self.old.device
+            → StandsByEvents self.new.host }
+        ensures host { self.new.host ≡ self.old.host }
+        ensures device { self.new.device ≡ self.old.device }
+        ensures books { self.new.books ≡ self.old.books }
+    {
+        owner.leave(&mut self.left, &self.host, &self.device);
+    }
+}

@@ -1,0 +1,191 @@
+//! What the owner asks of a host that lies under a lock. Whoever asks has the owner's right, and learns by it that the host
+//! came from the one that it left.
+
+ghost use Rattle.std.specs.Prelude.{◌≡◌, OnErr};
+ghost use Rattle.wh_admit.specs.Views.{view_params};
+ghost use Rattle.wh_host_model.specs.Host.Happens.{IsCancel, IsRefuel, IsRetry};
+ghost use Rattle.wh_host.specs.Admitting.{AnswersAdmit};
+ghost use Rattle.wh_host.specs.Asking.{AnswersCall, AnswersInvoke};
+ghost use Rattle.wh_host.specs.Backing.{KeepsBacking};
+ghost use Rattle.wh_host.specs.Loading.{AnswersLoad};
+ghost use Rattle.wh_host.specs.Releasing.{AnswersRelease};
+ghost use Rattle.wh_cell.specs.Leaving.{ComesFrom};
+
+use crate::locked::Locked;
+use crate::owner::Owner;
+use std::alloc::Global;
+use std::sync::ledger::Ledger;
+use wh_host::{AdmitError, HostError, ModuleError, ModuleId, Params};
+use wh_host_model::InstId;
+use wh_swap::SwapDev;
+use wh_workers::Bond;
+
+impl<D: SwapDev, T: Ledger, C: Ledger, O: Ledger, E: Ledger, B: Bond> Locked<D, T, C, O, E, B> {
+    /// Keeps the module that these bytes spell, and the bytes: its number, counted from 0.
+    ///
+    /// # Errors
+    /// That of `Host::load`. The host is as it was then.
+    pub fn load(
+        &mut self,
+        owner: &mut Owner<B>,
+        alloc: Global,
+        bytes: &[u8],
+    ) -> Result<ModuleId, ModuleError>
+        ensures came { ComesFrom owner.old (D.honest self.old.device) (D.faults self.old.device)
+            self.old.host }
+        ensures loads { AnswersLoad self.old.host bytes.now result self.new.host }
+        ensures err { OnErr result (self.new.host ≡ self.old.host) }
+        ensures knows { owner.new
+            ≡ record { host = self.new.host; faults = D.faults self.new.device } }
+        ensures backing { KeepsBacking self.old.host.space self.new.host.space }
+        ensures books { self.new.books ≡ self.old.books }
+        ensures device { self.new.device ≡ self.old.device }
+    {
+        let answer = self.host.load(alloc, bytes);
+        owner.leave(&mut self.left, &self.host, &self.device);
+        answer
+    }
+
+    /// Admits an instance of a module, with what its owner gives it. All that it will ever need is reserved now.
+    ///
+    /// # Errors
+    /// That of `Host::admit`. The host is as it was then.
+    pub fn admit(
+        &mut self,
+        owner: &mut Owner<B>,
+        alloc: Global,
+        of: ModuleId,
+        params: Params,
+    ) -> Result<InstId, AdmitError>
+        ensures came { ComesFrom owner.old (D.honest self.old.device) (D.faults self.old.device)
+            self.old.host }
+        ensures admits { AnswersAdmit self.old.host of.number (view_params params) result self.new.host }
+        ensures err { OnErr result (self.new.host ≡ self.old.host) }
+        ensures knows { owner.new
+            ≡ record { host = self.new.host; faults = D.faults self.new.device } }
+        ensures backing { KeepsBacking self.old.host.space self.new.host.space }
+        ensures books { self.new.books ≡ self.old.books }
+        ensures device { self.new.device ≡ self.old.device }
+    {
+        let answer = self.host.admit(alloc, of, params);
+        owner.leave(&mut self.left, &self.host, &self.device);
+        answer
+    }
+
+    /// Takes a call of the function that an instance's module exports by this name, with these arguments and so much fuel: its
+    /// place in the journal of the instance, where the start is 0. It is run by turns, behind the calls that are open.
+    ///
+    /// # Errors
+    /// That of `Host::invoke`. The host is as it was then.
+    pub fn invoke(
+        &mut self,
+        owner: &mut Owner<B>,
+        alloc: Global,
+        id: InstId,
+        name: &str,
+        given: &[i128],
+        fuel: u64,
+    ) -> Result<u32, HostError>
+        ensures came { ComesFrom owner.old (D.honest self.old.device) (D.faults self.old.device)
+            self.old.host }
+        ensures asks { AnswersInvoke self.old.host id name.now given.now fuel result self.new.host }
+        ensures err { OnErr result (self.new.host ≡ self.old.host) }
+        ensures knows { owner.new
+            ≡ record { host = self.new.host; faults = D.faults self.new.device } }
+        ensures backing { KeepsBacking self.old.host.space self.new.host.space }
+        ensures books { self.new.books ≡ self.old.books }
+        ensures device { self.new.device ≡ self.old.device }
+    {
+        let answer = self.host.invoke(alloc, id, name, given, fuel);
+        owner.leave(&mut self.left, &self.host, &self.device);
+        answer
+    }
+
+    /// Gives the present call of an instance so much more fuel; what passes 2^64 - 1 is lost.
+    ///
+    /// # Errors
+    /// `NoInstance`; `NoCall` where no call is open. Nothing is done then.
+    pub fn refuel(&mut self, owner: &mut Owner<B>, id: InstId, fuel: u64) -> Result<(), HostError>
+        ensures came { ComesFrom owner.old (D.honest self.old.device) (D.faults self.old.device)
+            self.old.host }
+        ensures asks { AnswersCall self.old.host (λ w answer w2. IsRefuel w id fuel answer w2) result
+            self.new.host }
+        ensures err { OnErr result (self.new.host ≡ self.old.host) }
+        ensures knows { owner.new
+            ≡ record { host = self.new.host; faults = D.faults self.new.device } }
+        ensures backing { KeepsBacking self.old.host.space self.new.host.space }
+        ensures books { self.new.books ≡ self.old.books }
+        ensures device { self.new.device ≡ self.old.device }
+    {
+        let answer = self.host.refuel(id, fuel);
+        owner.leave(&mut self.left, &self.host, &self.device);
+        answer
+    }
+
+    /// Ends the present call of an instance where it is; what it has written stays.
+    ///
+    /// # Errors
+    /// `NoInstance`; `NoCall` where no call is open. Nothing is done then.
+    pub fn cancel(&mut self, owner: &mut Owner<B>, id: InstId) -> Result<(), HostError>
+        ensures came { ComesFrom owner.old (D.honest self.old.device) (D.faults self.old.device)
+            self.old.host }
+        ensures asks { AnswersCall self.old.host (λ w answer w2. IsCancel w id answer w2) result
+            self.new.host }
+        ensures err { OnErr result (self.new.host ≡ self.old.host) }
+        ensures knows { owner.new
+            ≡ record { host = self.new.host; faults = D.faults self.new.device } }
+        ensures backing { KeepsBacking self.old.host.space self.new.host.space }
+        ensures books { self.new.books ≡ self.old.books }
+        ensures device { self.new.device ≡ self.old.device }
+    {
+        let answer = self.host.cancel(id);
+        owner.leave(&mut self.left, &self.host, &self.device);
+        answer
+    }
+
+    /// Lets the present call of an instance be tried again, if it stands for a device fault: it stands for a frame then.
+    ///
+    /// # Errors
+    /// `NoInstance`; `NoCall` where it doesn't stand for one. Nothing is done then.
+    pub fn retry(&mut self, owner: &mut Owner<B>, id: InstId) -> Result<(), HostError>
+        ensures came { ComesFrom owner.old (D.honest self.old.device) (D.faults self.old.device)
+            self.old.host }
+        ensures asks { AnswersCall self.old.host (λ w answer w2. IsRetry w id answer w2) result
+            self.new.host }
+        ensures err { OnErr result (self.new.host ≡ self.old.host) }
+        ensures knows { owner.new
+            ≡ record { host = self.new.host; faults = D.faults self.new.device } }
+        ensures backing { KeepsBacking self.old.host.space self.new.host.space }
+        ensures books { self.new.books ≡ self.old.books }
+        ensures device { self.new.device ≡ self.old.device }
+    {
+        let answer = self.host.retry(id);
+        owner.leave(&mut self.left, &self.host, &self.device);
+        answer
+    }
+
+    /// Lets an instance go, whatever its calls are: its output.
+    ///
+    /// # Errors
+    /// `NoInstance`. Nothing is done then.
+    pub fn release(
+        &mut self,
+        owner: &mut Owner<B>,
+        alloc: Global,
+        id: InstId,
+    ) -> Result<Vec<u8>, HostError>
+        ensures came { ComesFrom owner.old (D.honest self.old.device) (D.faults self.old.device)
+            self.old.host }
+        ensures goes { AnswersRelease self.old.host id result self.new.host }
+        ensures err { OnErr result (self.new.host ≡ self.old.host) }
+        ensures knows { owner.new
+            ≡ record { host = self.new.host; faults = D.faults self.new.device } }
+        ensures backing { KeepsBacking self.old.host.space self.new.host.space }
+        ensures books { self.new.books ≡ self.old.books }
+        ensures device { self.new.device ≡ self.old.device }
+    {
+        let answer = self.host.release(alloc, id);
+        owner.leave(&mut self.left, &self.host, &self.device);
+        answer
+    }
+}

@@ -1,0 +1,132 @@
+//! A call of `run_calls`: workers that run turns on a cell, a scanner and a reclaimer.
+
+ghost use Rattle.std.specs.Prelude.{◌≡◌, ◌+◌, ◌/◌, ◌≤◌, IfOk};
+ghost use Rattle.crossbeam_channel.specs.Claims.{view};
+ghost use Rattle.wh_workers.specs.Counting.{turns_of};
+ghost use Rattle.wh_workers.specs.Handover.{AreNumbered, SameMessages, turns_in};
+
+use crate::cell::HostCell;
+use crate::jobs::{ReclaimJob, ScanJob, TurnJob, TurnSupply};
+use crate::roster::Roster;
+use std::alloc::{AllocError, Global};
+use std::sync::ledger::Ledger;
+use std::sync::{Arc, Mutex, Wait};
+use std::thread::Threads;
+use wh_host_model::InstId;
+use wh_kernels::PageHash;
+use wh_swap::SwapDev;
+use wh_workers::{Bond, Jobs, ServeError, Served, Shares, serve};
+
+/// How calls are run.
+#[derive(Clone, Copy, Debug)]
+pub struct Manner<H> {
+    /// How pages are hashed.
+    pub hasher: H,
+    /// How many charges a turn has.
+    pub quantum: u32,
+    /// How many workers there are, 64 at most.
+    pub workers: usize,
+}
+
+// What the threads of a run do, and who hands the turns out.
+struct Crew<D: SwapDev, T: Ledger, C: Ledger, O: Ledger, E: Ledger, B: Bond, H> {
+    jobs: Jobs<
+        TurnJob<D, T, C, O, E, B>,
+        ScanJob<D, T, C, O, E, B, H>,
+        ReclaimJob<D, T, C, O, E, B>,
+    >,
+    supply: TurnSupply<D, T, C, O, E, B>,
+}
+
+// All memory for what the threads share.
+fn crew_of<
+    D: SwapDev + Drop,
+    T: Ledger,
+    C: Ledger,
+    O: Ledger,
+    E: Ledger,
+    B: Bond,
+    H: PageHash + Copy,
+>(
+    alloc: Global,
+    cell: &HostCell<D, T, C, O, E, B>,
+    ids: &[InstId],
+    manner: Manner<H>,
+) -> Result<Crew<D, T, C, O, E, B, H>, AllocError> {
+    let roster = Roster::new(alloc, ids)?;
+    let Ok(roster) = Arc::new(alloc, Mutex::new(roster)) else {
+        return Err(AllocError);
+    };
+    let copies = Vec::from_slice(alloc, ids)?;
+    let Ok(all) = Arc::new(alloc, copies) else {
+        return Err(AllocError);
+    };
+    let turns = TurnJob {
+        cell: cell.share()?,
+        roster: Arc::try_clone(&roster)?,
+        quantum: manner.quantum,
+    };
+    let scans = ScanJob {
+        cell: cell.share()?,
+        ids: all,
+        hasher: manner.hasher,
+    };
+    let reclaims = ReclaimJob {
+        cell: cell.share()?,
+        roster: Arc::try_clone(&roster)?,
+    };
+    let supply = TurnSupply {
+        cell: cell.share()?,
+        roster,
+    };
+    let jobs = Jobs {
+        turns,
+        scans,
+        reclaims,
+    };
+    Ok(Crew { jobs, supply })
+}
+
+/// Runs the calls of these instances until none can go on: turns by so many workers, each in a thread of its own; beside them
+/// a scanner offers pages, and a reclaimer makes steps ready that wait for frames. The calling thread hands the turns out.
+///
+/// With Ok each turn that was handed out was received once, the workers' counts have grown by so many, and for each 64 turns a
+/// page was offered. No count gets smaller, whatever it answers.
+///
+/// # Errors
+/// `Memory` where room was refused, and `NoThread` where a thread couldn't be started, or pages couldn't be offered that are
+/// owed.
+pub fn run_calls<
+    D: SwapDev + Drop + Send + 'static,
+    T: Ledger + Send + 'static,
+    C: Ledger + Send + 'static,
+    O: Ledger + Send + 'static,
+    E: Ledger + Send + 'static,
+    B: Bond + Send + 'static,
+    H: PageHash + Copy + Send + 'static,
+    R: Threads + Wait + Copy + Send + 'static,
+>(
+    rt: R,
+    alloc: Global,
+    cell: &HostCell<D, T, C, O, E, B>,
+    shares: &mut Shares<T, C, O, E>,
+    ids: &[InstId],
+    manner: Manner<H>,
+) -> Result<Served, ServeError>
+    requires { manner.workers ≤ 64 }
+    ensures numbered { IfOk result (λ s. AreNumbered (view s.slip).sent) }
+    ensures once { IfOk result (λ s. SameMessages (view s.slip).sent (view s.slip).received) }
+    ensures turns { IfOk result (λ s. turns_in (view s.slip).received ≡ s.turns) }
+    ensures grown { IfOk result (λ s. turns_of shares.new.tallies
+        ≡ turns_of shares.old.tallies + s.turns) }
+    ensures owed { IfOk result (λ s. shares.old.offers + s.turns / 64 ≤ shares.new.offers) }
+    ensures kept { turns_of shares.old.tallies ≤ turns_of shares.new.tallies }
+    ensures offers { shares.old.offers ≤ shares.new.offers }
+    ensures evictions { shares.old.evictions ≤ shares.new.evictions }
+{
+    let Ok(crew) = crew_of(alloc, cell, ids, manner) else {
+        return Err(ServeError::Memory);
+    };
+    let Crew { jobs, mut supply } = crew;
+    serve(rt, alloc, jobs, &mut supply, shares, manner.workers)
+}

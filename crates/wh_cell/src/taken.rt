@@ -1,0 +1,44 @@
+//! How many charges a turn took.
+
+ghost use Rattle.std.specs.Prelude.{◌≡◌, ◌<◌, ◌^◌};
+ghost use Rattle.wh_host_model.specs.Host.Happens.{IsTurn};
+ghost use Rattle.wh_host_model.specs.Host.Worlds.{World};
+ghost use Rattle.wh_cell.specs.Counted.{charges_between};
+ghost use Rattle.wh_cell.specs.Leaving.{HasTakenOn};
+ghost use Rattle.wh_host.specs.Backing.{KeepsBacking};
+ghost use Rattle.wh_host.specs.Hosting.{IsHost};
+
+use wh_host::Host;
+use wh_host_model::{InstId, TurnEnd};
+
+// By the charges of its call before and after.
+fn charges_of_turn(before: Option<u64>, after: Option<u64>) -> u32
+    ensures { result ≡ charges_between before after }
+{
+    let Some(before) = before else {
+        return 0;
+    };
+    let Some(after) = after else {
+        return 0;
+    };
+    let taken = after.saturating_sub(before);
+    if taken > u64::from(u32::MAX) {
+        return u32::MAX;
+    }
+    taken as u32
+}
+
+/// Gives an instance a turn of so many charges: how it ended, and how many it took.
+pub fn counted_turn(host: &mut Host, id: InstId, quantum: u32) -> (TurnEnd, u32)
+    ensures turns { (w : World) → IsHost host.old w
+        → (w2 : World) × IsTurn w id quantum result.0 w2 × IsHost host.new w2 }
+    ensures taken { HasTakenOn host.old result.1 host.new }
+    ensures backing { KeepsBacking host.old.space host.new.space }
+{
+    host.known();
+    let call = host.present_call(id);
+    let before = host.charges(id, call);
+    let end = host.turn(id, u64::from(quantum));
+    let after = host.charges(id, call);
+    (end, charges_of_turn(before, after))
+}

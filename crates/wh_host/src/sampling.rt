@@ -1,0 +1,41 @@
+//! Pages of an instance as they are looked at, to be hashed while the host goes on.
+
+ghost use Rattle.std.specs.Prelude.{◌≡◌, ◌*◌, ◌<◌, ◌^◌, ℕ, true, [], IfNone, IfSome, None, Some, get_or, length};
+ghost use Rattle.wh_host_model.specs.Space.Parts.{frame_bytes, has_number};
+ghost use Rattle.wh_host_model.specs.Space.States.{page_at};
+ghost use Rattle.wh_host_model.specs.declared.states.Page.TheVariants.{Private};
+ghost use Rattle.wh_space.specs.Merges.{IsNotPrivate};
+
+use crate::host::Host;
+use wh_host_model::InstId;
+use wh_scan::{Sample, take};
+
+impl Host {
+    /// How many pages of 65536 bytes are at this place, 0 where nobody is. An instance alone is at its place.
+    pub fn size_at(&self, place: usize) -> u32
+        ensures { length (get_or self.now.space.tables place []) ≡ 16 * result }
+    {
+        self.memory.size(place)
+    }
+
+    /// The bytes of a page of an instance, where it is alone on a frame; none too where no such instance is there, or its place
+    /// isn't below 2^32.
+    pub fn sample(&self, id: InstId, page: u32) -> Option<Sample>
+        ensures some { IfSome result (λ sample. (frame : ℕ)
+            × (page_at self.now.space.tables id.place page ≡ Some (Private frame))
+            × (sample.bytes ≡ frame_bytes self.now.space frame)) }
+        ensures none { IfNone result (id.place < 2 ^ 32
+            → has_number (get_or self.now.space.occupants id.place None) id.number ≡ true
+            → IsNotPrivate self.now.space id.place page) }
+    {
+        let place = id.place;
+        if place > u32::MAX as usize {
+            return None;
+        }
+        let place = place as u32;
+        if !self.memory.is_at(place, id.number) {
+            return None;
+        }
+        take(&self.memory, place, page)
+    }
+}

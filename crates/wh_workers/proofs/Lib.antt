@@ -1,0 +1,7 @@
+mod Agreeing
+mod Grown
+mod Handing
+mod Places
+mod Runs
+mod Tallies
+mod Views

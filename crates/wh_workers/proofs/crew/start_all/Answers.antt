@@ -1,0 +1,30 @@
+use Rattle.std.proofs.Common.{arith, ap, sym, ◌∙◌, ◌≡◌, length, slice_get, Some}
+use Rattle.crossbeam_channel.specs.Claims.{view}
+use Rattle.wh_workers.proofs.Grown.{one_more_out}
+use Rattle.wh_workers.proofs.Places.{Each-new}
+use Rattle.wh_workers.proofs.Runs.{one_part_less}
+use Rattle.wh_workers.proofs.crew.start_all.Goals as goal
+
+pub loop-seat-preserved : goal.loop-seat-preserved
+loop-seat-preserved g c =
+    let was = c.loop-seat.invariant in
+    let started = c.in-Ok-start_worker.ensures.ok in
+    let lent = c.lend_worker.ensures in
+    let pushed = c.push_reserved.ensures in
+    let slip = one_part_less (view c.loop-seat.slip) (view c.start_worker.new.slip) c.loop-seat.seat
+    ((λ i. view (started.2 i)) ∙ c.pass_for.ensures.left) was.1 was.2 was.3
+    (omega (arith, c.loop-seat-test.true, c.requires.few)) in
+    let seat : length c.loop-seat.running.items ≡ c.loop-seat.seat = sym c.loop-seat.running.ok.0 ∙ was.4 in (
+      c.start_worker.ensures.slip,
+      slip.0,
+      slip.1,
+      slip.2,
+      omega (arith, pushed.len, was.4),
+      rw pushed.capacity was.5,
+      Each-new c.loop-seat.running.items _ c.in-Ok-start_worker.handle _ pushed.items
+          (λ i h at. ((λ j. slice_get (lent.out j).tallies i) ∙ (was.6 i h at).0, (was.6 i h at).1)) (
+            (λ j. slice_get (lent.out j).tallies (seat j)) ∙ lent.from ∙ ap (λ t. Some t) (sym started.0),
+            started.1 ∙ c.in-Ok.ensures,
+          ),
+      one_more_out c.args.lender.now c.loop-seat.lender c.lend_worker.new.self c.loop-seat.seat was.7 lent.out,
+    )

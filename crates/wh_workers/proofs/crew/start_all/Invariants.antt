@@ -1,0 +1,18 @@
+use Rattle.std.proofs.Common.{◌≡◌, ◌+◌, ◌≤◌, [], Some, slice_get, vec_len, vec_capacity}
+use Rattle.crossbeam_channel.specs.Claims.{view, IsSeatAt}
+use Rattle.crossbeam_channel.specs.Ends.{sends_on, receives_on}
+use Rattle.wh_workers.specs.EachAt.{EachAt}
+use Rattle.wh_workers.proofs.crew.start_all.Given as goal
+
+abbrev pub invariant-loop-seat : goal.invariant-loop-seat
+invariant-loop-seat g l =
+    IsSeatAt (sends_on l.team.outlet) l.slip
+    × ((view l.slip).sent ≡ [])
+    × ((view l.slip).received ≡ [])
+    × ((view l.slip).parts + l.seat ≡ 128)
+    × (vec_len l.running ≡ l.seat)
+    × (l.workers ≤ vec_capacity l.running)
+    × EachAt l.running.items (λ i h.
+    (slice_get l.lender.tallies i ≡ Some h.promise.from)
+    × (receives_on h.promise.inlet.value ≡ sends_on l.team.outlet))
+    × (l.lender ≡ record l.fn.lender { workers_out = l.seat })

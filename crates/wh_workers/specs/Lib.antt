@@ -1,0 +1,7 @@
+pub mod Agreement
+pub mod Counting
+pub mod EachAt
+pub mod Errands
+pub mod Handover
+pub mod Lending
+pub mod Working

@@ -1,0 +1,96 @@
+// The thread of a scanner or of a reclaimer.
+
+ghost use Rattle.std.specs.Prelude.{◌≡◌, ◌-◌, ◌^◌, ◌<◌, ◌≤◌, IfOk, IfErr};
+
+use crate::helper::Helper;
+use std::alloc::{AllocError, Global};
+use std::sync::atomic::{AtomicU64, Ordering};
+use std::sync::ledger::Ledger;
+use std::sync::{Arc, Wait};
+use std::thread;
+use std::thread::{Promise, PromisedHandle, Threads};
+
+/// What a scanner or a reclaimer does, again and again.
+pub trait Help<K: Ledger> {
+    /// Does it once, and counts what it did. False where it has come to its end.
+    fn help<R: Wait>(&self, rt: &R, helper: &mut Helper<K>) -> bool
+        requires room { helper.old.count < 2 ^ 64 - 1 }
+        ensures from { helper.new.from ≡ helper.old.from };
+
+    /// The same for another thread.
+    ///
+    /// # Errors
+    /// Where memory was refused.
+    fn share(&self) -> Result<Self, AllocError>;
+}
+
+/// What the thread of a scanner or of a reclaimer promises: it went on from this count.
+#[derive(Clone, Copy)]
+pub struct Helps {
+    pub from: u64,
+}
+
+impl<K: Ledger> Promise<Helper<K>> for Helps {
+    ghost use Rattle.std.specs.Prelude.{◌≡◌};
+
+    ghost kept_by = { λ p r. r.from ≡ p.from };
+}
+
+// Helps until it is told to stop, its count is as great as is wanted, or it has come to its end.
+fn help_until_told<K: Ledger, H: Help<K> + Drop, R: Wait + Drop>(
+    rt: R,
+    job: H,
+    stop: Arc<AtomicU64, Global>,
+    wanted: u64,
+    helper: Helper<K>,
+) -> Helper<K>
+    ensures { result.from ≡ helper.from }
+{
+    let mut helper = helper;
+    for _ in rt.forever() {
+        if helper.count() >= wanted || stop.load(Ordering::SeqCst) != 0 {
+            break;
+        }
+        if !job.help(&rt, &mut helper) {
+            break;
+        }
+        thread::yield_now();
+    }
+    helper
+}
+
+/// Starts the thread of a scanner or of a reclaimer. It helps until `stop` isn't 0, its
+/// count is at least `wanted`, or it has come to its end.
+///
+/// # Errors
+/// Where no thread could be made: the helper comes back. It was told to stop before it began, by `flag`, which is to be
+/// the same as `stop`.
+pub fn start_helper<
+    K: Ledger + Send + 'static,
+    H: Help<K> + Drop + Send + 'static,
+    R: Threads + Wait + Copy + Send + 'static,
+>(
+    rt: R,
+    job: H,
+    stop: Arc<AtomicU64, Global>,
+    flag: &AtomicU64,
+    wanted: u64,
+    helper: Helper<K>,
+) -> Result<PromisedHandle<Helper<K>, Helps>, Helper<K>>
+    ensures ok { IfOk result (λ handle. handle.promise.from ≡ helper.from) }
+    ensures err { IfErr result (λ h. h.from ≡ helper.from) }
+{
+    let promise = Helps {
+        from: helper.from(),
+    };
+    let run = move || -> Helper<K>
+        ensures { result.from ≡ helper.from }
+    { help_until_told(rt, job, stop, wanted, helper) };
+    match thread::spawn_with(&rt, promise, run) {
+        Ok(handle) => Ok(handle),
+        Err(refused) => {
+            flag.store(1, Ordering::SeqCst);
+            Err((refused.value)())
+        }
+    }
+}
