@@ -1,0 +1,147 @@
+//! What a turn costs, by how many instances there are.
+
+use anyhow::{Context, Result, ensure};
+use std::alloc::Global;
+use std::time::{CpuClock, Duration};
+use wh_host::{Host, ModuleId, Params};
+use wh_host_model::{InstId, Tax, TurnEnd};
+
+// How many instances with a call are many. One more has none: then there are as many as a host takes.
+const MANY: usize = 4095;
+
+// How many turns are timed at once.
+const TURNS: u32 = 204750;
+
+const ROUNDS: u32 = 5;
+
+// `f` goes round for ever, a charge each time; there is a memory of one page.
+const ENDLESS: [u8; 41] = [
+    0x00, 0x61, 0x73, 0x6d, 0x01, 0x00, 0x00, 0x00, 0x01, 0x04, 0x01, 0x60, 0x00, 0x00, 0x03, 0x02,
+    0x01, 0x00, 0x05, 0x03, 0x01, 0x00, 0x01, 0x07, 0x05, 0x01, 0x01, 0x66, 0x00, 0x00, 0x0a, 0x09,
+    0x01, 0x07, 0x00, 0x03, 0x40, 0x0c, 0x00, 0x0b, 0x0b,
+];
+
+// A host, and its instances by their numbers, each with a call that never ends but the last, which has none.
+#[derive(Drop)]
+struct Crowd {
+    host: Host,
+    ids: Vec<InstId>,
+}
+
+fn admit(alloc: Global, host: &mut Host, module: ModuleId) -> Result<InstId> {
+    let params = Params {
+        shares: 100,
+        min: 2,
+        max: 16,
+        fuel: 0,
+        base: 0,
+        salt: 0,
+        inputs: Vec::new(alloc),
+    };
+    Ok(host.admit(alloc, module, params)?)
+}
+
+fn crowd_of(alloc: Global, count: usize) -> Result<Crowd> {
+    let mut host = Host::new(alloc, 65536, 65536, Tax { num: 3, den: 4 })?;
+    let module = host.load(alloc, &ENDLESS)?;
+    let mut ids = Vec::new(alloc);
+    for _ in 0..count {
+        let id = admit(alloc, &mut host, module)?;
+        host.invoke(alloc, id, "f", &[], u64::MAX)?;
+        ids.push(id)?;
+    }
+    let idle = admit(alloc, &mut host, module)?;
+    ids.push(idle)?;
+    Ok(Crowd { host, ids })
+}
+
+// The instance of this number.
+fn nth(ids: &[InstId], number: usize) -> Result<InstId> {
+    ids.get(number).copied().context("nobody has the number")
+}
+
+// The processor time since then.
+fn since(rt: &impl CpuClock, before: Duration) -> Result<Duration> {
+    rt.thread_cpu_time()?
+        .checked_sub(before)
+        .context("the clock went back")
+}
+
+// Turns of so many charges, to the first so many instances one after another. The time a turn, in picoseconds.
+fn round(rt: &impl CpuClock, crowd: &mut Crowd, among: usize, quantum: u64) -> Result<u128> {
+    let Crowd { host, ids } = crowd;
+    ensure!(among > 0, "nobody gets turns");
+    let before = rt.thread_cpu_time()?;
+    let mut at = 0;
+    for _ in 0..TURNS {
+        let end = host.turn(nth(ids, at)?, quantum);
+        ensure!(end == TurnEnd::Again, "a turn came to {end:?}");
+        at = if at < among - 1 { at + 1 } else { 0 };
+    }
+    Ok(1000 * since(rt, before)?.as_nanos() / u128::from(TURNS))
+}
+
+// Turns to an instance that has no call.
+fn empty_round(rt: &impl CpuClock, crowd: &mut Crowd) -> Result<u128> {
+    let Crowd { host, ids } = crowd;
+    let idle = ids.last().copied().context("nobody is idle")?;
+    let before = rt.thread_cpu_time()?;
+    for _ in 0..TURNS {
+        let end = host.turn(idle, 100);
+        ensure!(end == TurnEnd::Idle, "an empty turn came to {end:?}");
+    }
+    Ok(1000 * since(rt, before)?.as_nanos() / u128::from(TURNS))
+}
+
+// The least of several rounds with one host and with another, made in turn, so that other work meets both.
+fn compare(
+    rt: &(impl Print + CpuClock),
+    what: &str,
+    few: &mut Crowd,
+    many: &mut Crowd,
+    among: usize,
+    quantum: u64,
+) -> Result<()> {
+    let (mut least, mut other) = (u128::MAX, u128::MAX);
+    for _ in 0..ROUNDS {
+        least = least.min(round(rt, few, 1, quantum)?);
+        other = other.min(round(rt, many, among, quantum)?);
+    }
+    println!(rt; "{what}: {least} ps alone, {other} ps among {MANY}")?;
+    Ok(())
+}
+
+fn compare_empty(rt: &(impl Print + CpuClock), few: &mut Crowd, many: &mut Crowd) -> Result<()> {
+    let (mut least, mut other) = (u128::MAX, u128::MAX);
+    for _ in 0..ROUNDS {
+        least = least.min(empty_round(rt, few)?);
+        other = other.min(empty_round(rt, many)?);
+    }
+    println!(rt; "an empty turn: {least} ps alone, {other} ps among {MANY}")?;
+    Ok(())
+}
+
+/// Times turns.
+pub fn run(rt: &(impl Print + CpuClock + AllocGlobal)) -> Result<()> {
+    let mut few = crowd_of(rt.alloc(), 1)?;
+    let mut many = crowd_of(rt.alloc(), MANY)?;
+    compare(rt, "a turn of 1 charge", &mut few, &mut many, 1, 1)?;
+    compare(rt, "a turn of 100 charges", &mut few, &mut many, 1, 100)?;
+    compare(
+        rt,
+        "a turn of 1 charge, to each",
+        &mut few,
+        &mut many,
+        MANY,
+        1,
+    )?;
+    compare(
+        rt,
+        "a turn of 100 charges, to each",
+        &mut few,
+        &mut many,
+        MANY,
+        100,
+    )?;
+    compare_empty(rt, &mut few, &mut many)
+}
