@@ -1,5 +1,7 @@
 //! Scripts whose pages are swapped to a device that goes wrong.
 
+ghost use Rattle.std.specs.Prelude.{[]};
+
 use crate::fakes::Shelf;
 use std::io;
 use std::test::Fail;
