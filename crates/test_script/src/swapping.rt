@@ -76,11 +76,11 @@ fn answered(
 ) -> Result<Vec<u8>, Fail> {
     let settings = read_settings(rt.alloc(), b"frames = 2\nslots = 15\n")?;
     let worn = Worn {
-        pages: vec![in rt.alloc(); [0; 4096]; 15]?,
+        pages: vec![in rt.alloc(); [0; 4096]; settings.slots as usize]?,
         reads,
         writes,
     };
-    let mut device = PageSwap::over(rt.alloc(), worn, 15)?;
+    let mut device = PageSwap::over(rt.alloc(), worn, settings.slots)?;
     let mut reader = script.as_bytes();
     let mut written = Vec::new(rt.alloc());
     run_script(
@@ -150,7 +150,7 @@ fn each_call_of_a_device_may_fail(rt: HostRuntime) -> Result<(), Fail> {
         "{STORES}retry a\ninvoke a get8 9 0\ninvoke a get8 9 4096\ninvoke a get8 9 8192\nretry a\n"
     )?;
     const FATES: [Fate; 6] = [Fine, Fine, Fine, Fine, Fine, Fails];
-    let mut failures = 0;
+    let mut failures: u32 = 0;
     for first in 0..6 {
         for (reads, writes) in [
             (&FATES[first..], &FATES[6..]),
@@ -162,7 +162,7 @@ fn each_call_of_a_device_may_fail(rt: HostRuntime) -> Result<(), Fail> {
                 assert!(rt; text.contains(line), "{line}");
             }
             if text.contains("retry a ok") {
-                failures += 1;
+                failures = failures.saturating_add(1);
             }
         }
     }
