@@ -24,5 +24,3 @@ mod sharing;
 mod speaking;
 #[cfg(test)]
 mod starts;
-#[cfg(test)]
-mod swapping;
