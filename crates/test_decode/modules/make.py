@@ -4,9 +4,12 @@ wasm-objdump says of each. README.md says how."""
 import glob, os, re, subprocess, tempfile
 
 HD = "0061736d01000000"
-LEAST = ["--disable-sign-extension", "--disable-reference-types", "--disable-bulk-memory"]
+LEAST = ["--disable-reference-types", "--disable-bulk-memory"]
 KINDS = {"func": "Func", "table": "Table", "memory": "Memory", "global": "Global"}
-UNARY = {"clz": "Clz", "ctz": "Ctz", "popcnt": "Popcnt"}
+UNARY = {
+    "clz": "Clz", "ctz": "Ctz", "popcnt": "Popcnt",
+    "extend8_s": "Extend8S", "extend16_s": "Extend16S", "extend32_s": "Extend32S",
+}
 BINARY = {
     "add": "Add", "sub": "Sub", "mul": "Mul", "div_s": "DivS", "div_u": "DivU", "rem_s": "RemS", "rem_u": "RemU",
     "and": "And", "or": "Or", "xor": "Xor", "shl": "Shl", "shr_s": "ShrS", "shr_u": "ShrU", "rotl": "Rotl", "rotr": "Rotr",
@@ -212,7 +215,7 @@ def by_tools():
             base = f"{room}/{text[:-4]}"
             run("wat2wasm", *LEAST, text, "-o", f"{base}.wasm")
             run("wat2wasm", *LEAST, "--no-canonicalize-leb128s", "--debug-names", text, "-o", f"{base}_long.wasm")
-            run("wasm-opt", "--mvp-features", "--enable-mutable-globals", "-g", f"{base}.wasm", "-o", f"{base}_other.wasm")
+            run("wasm-opt", "--mvp-features", "--enable-mutable-globals", "--enable-sign-ext", "-g", f"{base}.wasm", "-o", f"{base}_other.wasm")
             for path in (f"{base}.wasm", f"{base}_long.wasm", f"{base}_other.wasm"):
                 run("wasm-validate", path)
                 name = os.path.basename(path)[:-5]

@@ -9,8 +9,8 @@
     local.get 1 i64.rem_s local.get 1 i64.rem_u local.get 1 i64.and local.get 1 i64.or local.get 1 i64.xor
     local.get 1 i64.shl local.get 1 i64.shr_s local.get 1 i64.shr_u local.get 1 i64.rotl local.get 1 i64.rotr)
   (func (export "unary") (param i32 i64) (result i64)
-    local.get 0 i32.clz i32.ctz i32.popcnt i32.eqz drop
-    local.get 1 i64.clz i64.ctz i64.popcnt i64.eqz i64.extend_i32_u
+    local.get 0 i32.clz i32.ctz i32.popcnt i32.extend8_s i32.extend16_s i32.eqz drop
+    local.get 1 i64.clz i64.ctz i64.popcnt i64.extend8_s i64.extend16_s i64.extend32_s i64.eqz i64.extend_i32_u
     i32.wrap_i64 i64.extend_i32_s)
   (func (export "i32_compare") (param i32 i32) (result i32)
     local.get 0 local.get 1 i32.eq local.get 1 i32.ne local.get 1 i32.lt_s local.get 1 i32.lt_u local.get 1 i32.gt_s

@@ -20,7 +20,10 @@ MESSAGES = {
 }
 BINARY = "add sub mul div_s div_u rem_s rem_u and or xor shl shr_s shr_u rotl rotr".split()
 COMPARE = "eq ne lt_s lt_u gt_s gt_u le_s le_u ge_s ge_u".split()
-UNARY = "clz ctz popcnt".split()
+UNARY = {
+    "i32": "clz ctz popcnt extend8_s extend16_s".split(),
+    "i64": "clz ctz popcnt extend8_s extend16_s extend32_s".split(),
+}
 LOADS = {
     "i32": {"load": 4, "load8_s": 1, "load8_u": 1, "load16_s": 2, "load16_u": 2},
     "i64": {"load": 8, "load8_s": 1, "load8_u": 1, "load16_s": 2, "load16_u": 2, "load32_s": 4, "load32_u": 4},
@@ -115,7 +118,7 @@ class Function:
         return f"{self.values([kind, kind], deep)} {odd}{kind}.{name}"
 
     def unary(self, kind, deep):
-        return f"{self.value(kind, deep)} {kind}.{self.chance.choice(UNARY)}"
+        return f"{self.value(kind, deep)} {kind}.{self.chance.choice(UNARY[kind])}"
 
     def tested(self, kind, deep):
         of = self.chance.choice(KINDS)

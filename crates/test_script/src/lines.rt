@@ -9,7 +9,7 @@ const LONGEST_LINE: usize = 2200000;
 
 /// Scripts, each with the replies that it has to get. The module of 34 bytes gives 7 by its function `f`; that of 90 bytes
 /// imports all that the host offers.
-const SCRIPTS: [(&[u8], &str); 41] = [
+const SCRIPTS: [(&[u8], &str); 44] = [
     (b"", ""),
     (b"\n\n", ""),
     (b"# comments", ""),
@@ -28,6 +28,18 @@ const SCRIPTS: [(&[u8], &str); 41] = [
     (
         b"module m 0061736d010000000105016000017f03020100070501016600000a0a01080041ffffffff0f0b\n",
         "module m refused D6 at 36\n",
+    ),
+    (
+        b"module m 0061736d010000000105016000017f03020100070501016600000a08010600418001c50b\n",
+        "module m refused D8 at 34\n",
+    ),
+    (
+        b"module m 0061736d010000000105016000017f03020100070501016600000a08010600418001c00b\nadmit a m 100 2 16 0 0 0\ninvoke a f 1\n",
+        "module m ok\nadmit a ok 0\ncall 1 done -128 charges 1\n",
+    ),
+    (
+        b"module m 0061736d010000000105016000017e03020100070501016600000a0b010900428080808008c40b\nadmit a m 100 2 16 0 0 0\ninvoke a f 1\n",
+        "module m ok\nadmit a ok 0\ncall 1 done -2147483648 charges 1\n",
     ),
     (
         b"module m 0061736d010000000105016000017f030201000a0c010a00027f41010c006a0b0b\n",

@@ -2,7 +2,7 @@
 import os, random, re, subprocess
 
 HERE = os.path.dirname(os.path.abspath(__file__))
-LEAST = ["--disable-multi-value", "--disable-reference-types", "--disable-bulk-memory", "--disable-sign-extension", "--disable-saturating-float-to-int", "--disable-simd"]
+LEAST = ["--disable-multi-value", "--disable-reference-types", "--disable-bulk-memory", "--disable-saturating-float-to-int", "--disable-simd"]
 SAME = "add sub mul div_s div_u rem_s rem_u and or xor shl shr_s shr_u rotl rotr eq ne lt_s lt_u gt_s gt_u le_s le_u ge_s ge_u eqz clz ctz popcnt const load store".split()
 
 

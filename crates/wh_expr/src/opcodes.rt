@@ -47,6 +47,10 @@ const COMPARISONS: [CompareOp; 10] = [
 
 const UNARY_OPERATORS: [UnaryOp; 3] = [UnaryOp::Clz, UnaryOp::Ctz, UnaryOp::Popcnt];
 
+const EXTENSIONS_I32: [UnaryOp; 2] = [UnaryOp::Extend8S, UnaryOp::Extend16S];
+
+const EXTENSIONS_I64: [UnaryOp; 3] = [UnaryOp::Extend8S, UnaryOp::Extend16S, UnaryOp::Extend32S];
+
 const BINARY_OPERATORS: [BinaryOp; 15] = [
     BinaryOp::Add,
     BinaryOp::Sub,
@@ -166,6 +170,12 @@ fn numeric(byte: u8) -> Option<Opcode>
     }
     if let Some(op) = operator_from(0x7c, &BINARY_OPERATORS, byte) {
         return Some(Opcode::Binary(ValType::I64, op));
+    }
+    if let Some(op) = operator_from(0xc0, &EXTENSIONS_I32, byte) {
+        return Some(Opcode::Unary(ValType::I32, op));
+    }
+    if let Some(op) = operator_from(0xc2, &EXTENSIONS_I64, byte) {
+        return Some(Opcode::Unary(ValType::I64, op));
     }
     None
 }

@@ -1,13 +1,17 @@
 -- What the machine's instructions on words of 64 and 32 bits give, in the terms of the definitions: signs, sums, differences and products, and the bounds of every result.
-use Rattle.std.proofs.Common.{◌≡◌, ℕ, suc, ◌+◌, ◌-◌, ◌*◌, ◌%◌, ◌^◌, ◌<◌, ltb, ℤ, pos, negsuc, w32, w64, to_z, of_z, SFits, refl, sym, arith, ⊎_elim, le-ltb, lt-ltb, lt_of_le_of_lt, neg_ℤ, ◌≤ℤ◌, ◌<ℤ◌}
+use Rattle.std.proofs.Common.{◌≡◌, ◌∙◌, ap, ℕ, suc, ◌+◌, ◌-◌, ◌*◌, ◌%◌, ◌^◌, ◌<◌, ltb, ℤ, pos, negsuc, w8, w16, w32, w64, to_z, of_z, SFits, refl, sym, arith, ⊎_elim, le-ltb, lt-ltb, lt_of_le_of_lt, neg_ℤ, ◌≤ℤ◌, ◌<ℤ◌}
 use Rattle.std.proofs.lemmas.Bool.{cases_lt}
 use Rattle.std.proofs.lemmas.Int.{ints}
 use Rattle.std.proofs.lemmas.Nat.{and_le_l, or_lt, xor_lt}
 use Rattle.std.specs.Prelude.{bit_and, bit_or, bit_xor}
-use Rattle.wh_model.proofs.Numbers.{signed-low, signed-high, signed-bounds, bits-pos, iadd-lt, isub-lt, imul-lt, idiv_u-lt, idiv_s-lt, irem_u-lt, irem_s-lt, ishl-lt, ishr_u-lt, ishr_s-lt, irotl-lt, irotr-lt, iclz-lt, ictz-lt, ipopcnt-lt}
-use Rattle.wh_model.specs.Execution.Numbers.{bits, signed, unsigned, iadd, isub, imul, ishr_s, irotl, irotr}
+use Rattle.wh_model.proofs.Numbers.{signed-low, signed-high, signed-bounds, bits-pos, iadd-lt, isub-lt, imul-lt, idiv_u-lt, idiv_s-lt, irem_u-lt, irem_s-lt, ishl-lt, ishr_u-lt, ishr_s-lt, irotl-lt, irotr-lt, iclz-lt, ictz-lt, ipopcnt-lt, iextend_s-lt}
+use Rattle.wh_model.specs.Execution.Numbers.{bits, signed, unsigned, iadd, isub, imul, ishr_s, irotl, irotr, wrap, extend_s, iextend_s, unary}
 use Rattle.wh_model.specs.declared.ValType.{ValType}
 use Rattle.wh_model.specs.declared.ValType.TheVariants.{I32, I64}
+use Rattle.wh_model.specs.declared.UnaryOp.{UnaryOp}
+use Rattle.wh_model.specs.declared.UnaryOp.TheVariants.{Extend8S, Extend16S, Extend32S}
+use Rattle.std.specs.Int.Signed.{mag}
+use Rattle.std.proofs.lemmas.Int.{to_z-of_z}
 use Rattle.wh_intops.proofs.Counts.{counts}
 use mir.Val.{sel}
 
@@ -36,6 +40,41 @@ unsigned-of_z I32 (negsuc n) fits = omega arith
 unsigned-of_z I64 (negsuc n) fits = omega arith
 
 pub ruleset signs = (ints, to_z-I32, to_z-I64, unsigned-of_z)
+
+-- a machine word of 8 or 16 bits, read as signed
+pub to_z-8 : (i : ℕ) → to_z w8 (i % 2 ^ 8) ≡ signed 8 (i % 2 ^ 8)
+to_z-8 i = read-signed 8 (i % 2 ^ 8) (omega arith)
+
+pub to_z-16 : (i : ℕ) → to_z w16 (i % 2 ^ 16) ≡ signed 16 (i % 2 ^ 16)
+to_z-16 i = read-signed 16 (i % 2 ^ 16) (omega arith)
+
+pub ruleset narrow_signs = (ints, to_z-8, to_z-16)
+
+-- the low K bits x as a signed number, and the word that the code makes of it
+extended : (K : ℕ) (t : ValType) (i : ℕ) (x : ℤ) (word : ℕ) → mag x < 2 ^ 63 → x ≡ signed K (i % 2 ^ K)
+    → word ≡ unsigned (bits t) (to_z w64 (of_z w64 x)) → word ≡ iextend_s K (bits t) i
+unfolding iextend_s extend_s wrap
+extended K t i x word fits low result = result ∙ ap (unsigned (bits t)) (to_z-of_z w64 x (record { sfits = fits })) ∙ ap (unsigned (bits t)) low
+
+-- the same for each operator that extends
+pub extends : (op : UnaryOp) (K : ℕ) → ((t : ValType) (i : ℕ) → iextend_s K (bits t) i ≡ unary t op i) → (t : ValType) (i : ℕ) (x : ℤ) (word : ℕ) (it : UnaryOp)
+    → it ≡ op → mag x < 2 ^ 63 → x ≡ signed K (i % 2 ^ K) → word ≡ unsigned (bits t) (to_z w64 (of_z w64 x))
+    → (word ≡ unary t it i) × (word < 2 ^ bits t)
+extends op K means t i x word it is fits low result =
+    let e : word ≡ iextend_s K (bits t) i = extended K t i x word fits low result in
+    (e ∙ means t i ∙ ap (λ o. unary t o i) (sym is), rw e (iextend_s-lt K t i))
+
+pub means_8 : (t : ValType) (i : ℕ) → iextend_s 8 (bits t) i ≡ unary t Extend8S i
+unfolding unary
+means_8 t i = refl
+
+pub means_16 : (t : ValType) (i : ℕ) → iextend_s 16 (bits t) i ≡ unary t Extend16S i
+unfolding unary
+means_16 t i = refl
+
+pub means_32 : (t : ValType) (i : ℕ) → iextend_s 32 (bits t) i ≡ unary t Extend32S i
+unfolding unary
+means_32 t i = refl
 
 -- a signed number of either type is one of 64 bits
 pub within-word : (t : ValType) (z : ℤ) → neg_ℤ (pos (2 ^ (bits t - 1))) ≤ℤ z → z <ℤ pos (2 ^ (bits t - 1)) → SFits w64 z
@@ -91,4 +130,4 @@ shr_s-lt t a b fits = ishr_s-lt (bits t) a b (bits-pos t) fits
 
 pub ruleset results = (iadd-lt, isub-lt, imul-lt, idiv_u-lt, idiv_s-lt, irem_u-lt, irem_s-lt, ishl-lt, ishr_u-lt, shr_s-lt, rotl-lt, rotr-lt, and-lt, or-lt, xor-lt)
 
-pub ruleset count_results = (counts, iclz-lt, ictz-lt, ipopcnt-lt)
+pub ruleset unary_results = (counts, iclz-lt, ictz-lt, ipopcnt-lt)

@@ -15,11 +15,12 @@ ghost use Rattle.wh_model.specs.Execution.Numbers.{iadd, isub, imul, idiv_s, idi
 
 use wh_model::{BinaryOp, CompareOp, ConvertOp, TestOp, Trap, UnaryOp, ValType};
 
-/// A count of an operand's bits (`iclz`, `ictz` and `ipopcnt` of the standard, 4.3.2), from 0 to N.
+/// A count of an operand's bits (`iclz`, `ictz` and `ipopcnt` of the standard, 4.3.2), from 0 to N, or its low bits as
+/// a signed number (`iextend8_s` and so on of version 2.0, 4.3.2).
 ///
-/// The operand is below 2^N at the type's N.
+/// The operand is below 2^N at the type's N, and so is the result.
 #[inline(always)]
-#[tactic(auto, using(crate::proofs::Words::count_results), unfolding(wh_model::specs::Execution::Numbers::unary))]
+#[tactic(auto, using(crate::proofs::Words::unary_results), unfolding(wh_model::specs::Execution::Numbers::unary))]
 pub fn unop(width: ValType, op: UnaryOp, operand: u64) -> u64
     requires { operand < 2 ^ bits width }
     ensures value { result ≡ unary width op operand }
@@ -29,6 +30,9 @@ pub fn unop(width: ValType, op: UnaryOp, operand: u64) -> u64
         UnaryOp::Clz => clz(width, operand),
         UnaryOp::Ctz => ctz(width, operand),
         UnaryOp::Popcnt => u64::from(operand.count_ones()),
+        UnaryOp::Extend8S => from_signed(width, low_8(operand)),
+        UnaryOp::Extend16S => from_signed(width, low_16(operand)),
+        UnaryOp::Extend32S => from_signed(width, to_signed(ValType::I32, operand % 0x1_0000_0000)),
     }
 }
 
@@ -298,6 +302,24 @@ fn to_signed(width: ValType, word: u64) -> i64
         ValType::I32 => i64::from((word as u32).cast_signed()),
         ValType::I64 => word.cast_signed(),
     }
+}
+
+/// The signed number that a word's low 8 bits stand for.
+#[inline(always)]
+#[tactic(auto, using(crate::proofs::Words::narrow_signs))]
+fn low_8(word: u64) -> i64
+    ensures { result ≡ signed 8 (word % 2 ^ 8) }
+{
+    i64::from(((word % 0x100) as u8).cast_signed())
+}
+
+/// The signed number that a word's low 16 bits stand for.
+#[inline(always)]
+#[tactic(auto, using(crate::proofs::Words::narrow_signs))]
+fn low_16(word: u64) -> i64
+    ensures { result ≡ signed 16 (word % 2 ^ 16) }
+{
+    i64::from(((word % 0x1_0000) as u16).cast_signed())
 }
 
 /// The word that stands for a signed number.

@@ -7,10 +7,18 @@ const WORDS_32: [u32; 7] = [
     0, 1, 0xFFFFFFFF, 0x80000000, 0x7FFFFFFF, 0x89ABCDE6, 0x89ABCDE,
 ];
 
-const UNARY_32: [(UnaryOp, [u64; 7]); 3] = [
+const UNARY_32: [(UnaryOp, [u64; 7]); 5] = [
     (UnaryOp::Clz, [32, 31, 0, 0, 1, 0, 4]),
     (UnaryOp::Ctz, [32, 0, 0, 31, 0, 1, 1]),
     (UnaryOp::Popcnt, [0, 1, 32, 1, 31, 18, 16]),
+    (
+        UnaryOp::Extend8S,
+        [0, 1, 0xFFFFFFFF, 0, 0xFFFFFFFF, 0xFFFFFFE6, 0xFFFFFFDE],
+    ),
+    (
+        UnaryOp::Extend16S,
+        [0, 1, 0xFFFFFFFF, 0, 0xFFFFFFFF, 0xFFFFCDE6, 0xFFFFBCDE],
+    ),
 ];
 
 const EQZ_32: [u64; 7] = [1, 0, 0, 0, 0, 0, 0];
@@ -181,10 +189,46 @@ const WORDS_64: [u64; 7] = [
     0x89A_BCDE_F012_3456,
 ];
 
-const UNARY_64: [(UnaryOp, [u64; 7]); 3] = [
+const UNARY_64: [(UnaryOp, [u64; 7]); 6] = [
     (UnaryOp::Clz, [64, 63, 0, 0, 1, 0, 4]),
     (UnaryOp::Ctz, [64, 0, 0, 63, 0, 5, 1]),
     (UnaryOp::Popcnt, [0, 1, 64, 1, 63, 29, 29]),
+    (
+        UnaryOp::Extend8S,
+        [
+            0,
+            1,
+            0xFFFF_FFFF_FFFF_FFFF,
+            0,
+            0xFFFF_FFFF_FFFF_FFFF,
+            96,
+            86,
+        ],
+    ),
+    (
+        UnaryOp::Extend16S,
+        [
+            0,
+            1,
+            0xFFFF_FFFF_FFFF_FFFF,
+            0,
+            0xFFFF_FFFF_FFFF_FFFF,
+            0x4560,
+            0x3456,
+        ],
+    ),
+    (
+        UnaryOp::Extend32S,
+        [
+            0,
+            1,
+            0xFFFF_FFFF_FFFF_FFFF,
+            0,
+            0xFFFF_FFFF_FFFF_FFFF,
+            0x1234560,
+            0xFFFF_FFFF_F012_3456,
+        ],
+    ),
 ];
 
 const EQZ_64: [u64; 7] = [1, 0, 0, 0, 0, 0, 0];

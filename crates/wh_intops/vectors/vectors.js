@@ -24,14 +24,15 @@ function outcome(f, words) {
   }
 }
 
-const unary = ["Clz", "Ctz", "Popcnt"];
+const counts = ["Clz", "Ctz", "Popcnt"], extensions = ["Extend8S", "Extend16S", "Extend32S"];
 const compare = ["Eq", "Ne", "LtS", "LtU", "GtS", "GtU", "LeS", "LeU", "GeS", "GeU"];
 const binary = ["Add", "Sub", "Mul", "DivS", "DivU", "RemS", "RemU", "And", "Or", "Xor", "Shl", "ShrS", "ShrU", "Rotl", "Rotr"];
 
-for (const [name, type, bits, word, eqz, eq, clz, add] of [
-  ["32", I32, 32n, 0x89abcde6n, 0x45, 0x46, 0x67, 0x6a],
-  ["64", I64, 64n, 0x89abcdef01234560n, 0x50, 0x51, 0x79, 0x7c],
+for (const [name, type, bits, word, eqz, eq, clz, add, extend] of [
+  ["32", I32, 32n, 0x89abcde6n, 0x45, 0x46, 0x67, 0x6a, 0xc0],
+  ["64", I64, 64n, 0x89abcdef01234560n, 0x50, 0x51, 0x79, 0x7c, 0xc2],
 ]) {
+  const unary = [...counts.map((op, i) => [op, clz + i]), ...extensions.slice(0, type === I32 ? 2 : 3).map((op, i) => [op, extend + i])];
   const modulus = 1n << bits, minus = (n) => modulus - n;
   const least = 1n << (bits - 1n), greatest = least - 1n;
   const words = [0n, 1n, minus(1n), least, greatest, word, word >> 4n];
@@ -41,7 +42,7 @@ for (const [name, type, bits, word, eqz, eq, clz, add] of [
 
   console.log(`\nconst WORDS_${name}: [u${name}; ${words.length}] = ${row(words)};`);
   console.log(`const UNARY_${name}: [(UnaryOp, [u64; ${words.length}]); ${unary.length}] = [`);
-  unary.forEach((op, i) => console.log(`(UnaryOp::${op}, ${row(words.map((w) => operator(clz + i, [type], type)(w)))}),`));
+  unary.forEach(([op, opcode]) => console.log(`(UnaryOp::${op}, ${row(words.map((w) => operator(opcode, [type], type)(w)))}),`));
   console.log(`];\nconst EQZ_${name}: [u64; ${words.length}] = ${row(words.map((w) => operator(eqz, [type], I32)(w)))};`);
   console.log(`const PAIRS_${name}: [(u${name}, u${name}); ${pairs.length}] = [${pairs.map(([a, b]) => `(${hex(a)}, ${hex(b)})`).join(", ")}];`);
   console.log(`const COMPARE_${name}: [(CompareOp, [u64; ${pairs.length}]); ${compare.length}] = [`);

@@ -6,13 +6,13 @@ use Rattle.std.proofs.lemmas.Nat.{shr_below, mul-add-lt, mod_low, shr_high, div-
 use Rattle.std.proofs.lemmas.Bool.{cases_lt}
 use Rattle.std.proofs.lemmas.Bool.Decides.{nat_tests}
 use Rattle.std.proofs.lemmas.Int.{ints}
-use Rattle.wh_model.specs.Execution.Numbers.{bits, signed, unsigned, iadd, isub, imul, idiv_u, quotient, idiv_s, irem_u, irem_s, ishl, ishr_u, ishr_s, irotl, irotr, count_below, iclz, ictz, ipopcnt, wrap, extend_u, extend_s, truth, unary, binary, test, holds, compare, operand_type, result_type, convert}
+use Rattle.wh_model.specs.Execution.Numbers.{bits, signed, unsigned, iadd, isub, imul, idiv_u, quotient, idiv_s, irem_u, irem_s, ishl, ishr_u, ishr_s, irotl, irotr, count_below, iclz, ictz, ipopcnt, wrap, extend_u, extend_s, iextend_s, truth, unary, binary, test, holds, compare, operand_type, result_type, convert}
 use Rattle.wh_model.specs.declared.Trap.{Trap}
 use Rattle.wh_model.specs.declared.Trap.TheVariants.{DivideByZero, Overflow}
 use Rattle.wh_model.specs.declared.ValType.{ValType}
 use Rattle.wh_model.specs.declared.ValType.TheVariants.{I32, I64}
 use Rattle.wh_model.specs.declared.UnaryOp.{UnaryOp}
-use Rattle.wh_model.specs.declared.UnaryOp.TheVariants.{Clz, Ctz, Popcnt}
+use Rattle.wh_model.specs.declared.UnaryOp.TheVariants.{Clz, Ctz, Popcnt, Extend8S, Extend16S, Extend32S}
 use Rattle.wh_model.specs.declared.BinaryOp.{BinaryOp}
 use Rattle.wh_model.specs.declared.BinaryOp.TheVariants.{Add, Sub, Mul, DivS, DivU, RemS, RemU, And, Or, Xor, Shl, ShrS, ShrU, Rotl, Rotr}
 use Rattle.wh_model.specs.declared.TestOp.{TestOp}
@@ -255,11 +255,22 @@ pub ipopcnt-lt : (t : ValType) (i : ℕ) → ipopcnt (bits t) i < 2 ^ bits t
 unfolding ipopcnt
 ipopcnt-lt t i = lt_of_le_of_lt (count_below-le (bits t) (λ k. i / 2 ^ k % 2 == 1)) (bits-lt t)
 
+pub extend_s-lt : (K N i : ℕ) → extend_s K N i < 2 ^ N
+unfolding extend_s
+extend_s-lt K N i = unsigned-lt N (signed K i)
+
+pub iextend_s-lt : (K : ℕ) (t : ValType) (i : ℕ) → iextend_s K (bits t) i < 2 ^ bits t
+unfolding iextend_s
+iextend_s-lt K t i = extend_s-lt K (bits t) (wrap K i)
+
 pub unary-lt : (t : ValType) (op : UnaryOp) (i : ℕ) → unary t op i < 2 ^ bits t
 unfolding unary
 unary-lt t Clz i = iclz-lt t i
 unary-lt t Ctz i = ictz-lt t i
 unary-lt t Popcnt i = ipopcnt-lt t i
+unary-lt t Extend8S i = iextend_s-lt 8 t i
+unary-lt t Extend16S i = iextend_s-lt 16 t i
+unary-lt t Extend32S i = iextend_s-lt 32 t i
 
 truth-lt : (b : Bool) → truth b < 2 ^ bits I32
 unfolding truth
@@ -277,10 +288,6 @@ compare-lt t op a b = truth-lt (holds t op a b)
 pub wrap-lt : (N i : ℕ) → wrap N i < 2 ^ N
 unfolding wrap
 wrap-lt N i = mod-lt i (pow_pos N)
-
-pub extend_s-lt : (K N i : ℕ) → extend_s K N i < 2 ^ N
-unfolding extend_s
-extend_s-lt K N i = unsigned-lt N (signed K i)
 
 pub convert-lt : (op : ConvertOp) (a : ℕ) → a < 2 ^ bits (operand_type op) → convert op a < 2 ^ bits (result_type op)
 unfolding convert extend_u

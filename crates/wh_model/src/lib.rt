@@ -106,6 +106,12 @@ pub enum UnaryOp {
     Ctz,
     /// The number of bits that are 1.
     Popcnt,
+    /// The low 8 bits as a signed number (of version 2.0, `extend8_s`).
+    Extend8S,
+    /// The low 16 bits as a signed number (of version 2.0, `extend16_s`).
+    Extend16S,
+    /// The low 32 bits as a signed number (of version 2.0, `extend32_s`, for i64 alone).
+    Extend32S,
 }
 
 /// An operator on two integers, with a result of their type (2.4.1, `ibinop`).

@@ -10,7 +10,7 @@ use Rattle.wh_model.specs.declared.Trap.TheVariants.{DivideByZero, Overflow}
 use Rattle.wh_model.specs.declared.ValType.{ValType}
 use Rattle.wh_model.specs.declared.ValType.TheVariants.{I32, I64}
 use Rattle.wh_model.specs.declared.UnaryOp.{UnaryOp}
-use Rattle.wh_model.specs.declared.UnaryOp.TheVariants.{Clz, Ctz, Popcnt}
+use Rattle.wh_model.specs.declared.UnaryOp.TheVariants.{Clz, Ctz, Popcnt, Extend8S, Extend16S, Extend32S}
 use Rattle.wh_model.specs.declared.BinaryOp.{BinaryOp}
 use Rattle.wh_model.specs.declared.BinaryOp.TheVariants.{Add, Sub, Mul, DivS, DivU, RemS, RemU, And, Or, Xor, Shl, ShrS, ShrU, Rotl, Rotr}
 use Rattle.wh_model.specs.declared.TestOp.{TestOp}
@@ -115,8 +115,6 @@ ipopcnt N i = count_below N (λ k. i / 2 ^ k % 2 == 1)
 
 -- ---- conversions
 
--- The sign extensions of later standards, as extend8_s, would be `extend_s` of `wrap`, and unary operators.
-
 -- modulo 2 ^ N
 unfoldable pub wrap : ℕ → ℕ → ℕ
 wrap N i = i % 2 ^ N
@@ -129,6 +127,10 @@ extend_u i = i
 unfoldable pub extend_s : ℕ → ℕ → ℕ → ℕ
 extend_s K N i = unsigned N (signed K i)
 
+-- the low K bits, as the same signed number of N bits (version 2.0, iextendK_s)
+unfoldable pub iextend_s : ℕ → ℕ → ℕ → ℕ
+iextend_s K N i = extend_s K N (wrap K i)
+
 -- ---- the instructions' operators, by type
 
 -- 1 for true, and 0 for false
@@ -140,6 +142,9 @@ unfoldable pub unary : ValType → UnaryOp → ℕ → ℕ
 unary t Clz i = iclz (bits t) i
 unary t Ctz i = ictz (bits t) i
 unary t Popcnt i = ipopcnt (bits t) i
+unary t Extend8S i = iextend_s 8 (bits t) i
+unary t Extend16S i = iextend_s 16 (bits t) i
+unary t Extend32S i = iextend_s 32 (bits t) i
 
 -- an operator on two integers, where `bit_and`, `bit_or` and `bit_xor` go bit by bit
 unfoldable pub binary : ValType → BinaryOp → ℕ → ℕ → Result ℕ Trap

@@ -10,7 +10,7 @@ use Rattle.wh_model.specs.declared.Mutability.TheVariants.{Const, Var}
 use Rattle.wh_model.specs.declared.ExternKind.{ExternKind}
 use Rattle.wh_model.specs.declared.ExternKind.TheVariants.{Func, Table, Memory, Global}
 use Rattle.wh_model.specs.declared.UnaryOp.{UnaryOp}
-use Rattle.wh_model.specs.declared.UnaryOp.TheVariants.{Clz, Ctz, Popcnt}
+use Rattle.wh_model.specs.declared.UnaryOp.TheVariants.{Clz, Ctz, Popcnt, Extend8S, Extend16S, Extend32S}
 use Rattle.wh_model.specs.declared.BinaryOp.{BinaryOp}
 use Rattle.wh_model.specs.declared.BinaryOp.TheVariants.{Add, Sub, Mul, DivS, DivU, RemS, RemU, And, Or, Xor, Shl, ShrS, ShrU, Rotl, Rotr}
 use Rattle.wh_model.specs.declared.TestOp.TheVariants.{Eqz}
@@ -114,6 +114,13 @@ comparisons = Eq ∷ Ne ∷ LtS ∷ LtU ∷ GtS ∷ GtU ∷ LeS ∷ LeU ∷ GeS 
 abbrev pub unary_operators : List UnaryOp
 unary_operators = Clz ∷ Ctz ∷ Popcnt ∷ []
 
+-- sign extensions, from version 2.0; the last one is of i64 alone
+abbrev pub extensions_i32 : List UnaryOp
+extensions_i32 = Extend8S ∷ Extend16S ∷ []
+
+abbrev pub extensions_i64 : List UnaryOp
+extensions_i64 = Extend8S ∷ Extend16S ∷ Extend32S ∷ []
+
 abbrev pub binary_operators : List BinaryOp
 binary_operators = Add ∷ Sub ∷ Mul ∷ DivS ∷ DivU ∷ RemS ∷ RemU ∷ And ∷ Or ∷ Xor ∷ Shl ∷ ShrS ∷ ShrU ∷ Rotl ∷ Rotr ∷ []
 
@@ -144,7 +151,9 @@ numeric_opcode n = class_or (operator_from 0x46 comparisons n) (Compare I32)
     (class_or (operator_from 0x67 unary_operators n) (Unary I32)
     (class_or (operator_from 0x6a binary_operators n) (Binary I32)
     (class_or (operator_from 0x79 unary_operators n) (Unary I64)
-    (class_or (operator_from 0x7c binary_operators n) (Binary I64) None)))))
+    (class_or (operator_from 0x7c binary_operators n) (Binary I64)
+    (class_or (operator_from 0xc0 extensions_i32 n) (Unary I32)
+    (class_or (operator_from 0xc2 extensions_i64 n) (Unary I64) None)))))))
 
 -- the opcodes of floating-point instructions
 abbrev pub between : ℕ → ℕ → ℕ → Bool
