@@ -42,7 +42,7 @@ fn a_failed_write_ends_a_script(rt: HostRuntime) -> Result<(), Fail> {
             flushes: 0,
         };
         let mut reader = script;
-        let result = run(&rt, &settings, &mut reader, &mut writer)?;
+        let result = run(&rt, &settings, 4, &mut reader, &mut writer)?;
         assert_eq!(rt; result, Err(ScriptFault::Output), "after {writes}");
         assert_eq!(rt; writer.written.len(), kept, "after {writes}");
         assert_eq!(rt; writer.flushes, writes, "once for each reply");
@@ -61,7 +61,7 @@ fn each_reply_is_one_write(rt: HostRuntime) -> Result<(), Fail> {
             flushes: 0,
         };
         let mut reader = script;
-        assert_eq!(rt; run(&rt, &settings, &mut reader, &mut writer)?, Ok(()));
+        assert_eq!(rt; run(&rt, &settings, 4, &mut reader, &mut writer)?, Ok(()));
         assert!(rt; writer.written.as_slice() == replies);
         assert_eq!(rt; writer.flushes, writes, "once for each reply");
     }
@@ -94,7 +94,7 @@ fn a_failed_read_ends_a_script(rt: HostRuntime) -> Result<(), Fail> {
             bytes: script,
             fails_after,
         };
-        let (result, written) = outcome(&rt, &settings, reader)?;
+        let (result, written) = outcome(&rt, &settings, 4, reader)?;
         assert_eq!(rt; result, Err(ScriptFault::Script), "after {fails_after}");
         assert_eq!(rt; written.len(), kept, "after {fails_after}");
         assert!(rt; replies.starts_with(written.as_slice()));
@@ -113,7 +113,7 @@ fn an_interrupted_read_is_made_again(rt: HostRuntime) -> Result<(), Fail> {
                     undisturbed,
                     interruptions,
                 };
-                let (result, written) = outcome(&rt, &settings, reader)?;
+                let (result, written) = outcome(&rt, &settings, 4, reader)?;
                 assert_eq!(rt; result, Ok(()), "after {undisturbed}");
                 assert!(rt; written.as_slice() == replies, "after {undisturbed}");
             }
@@ -134,7 +134,7 @@ fn an_interrupted_write_is_made_again(rt: HostRuntime) -> Result<(), Fail> {
                 is_over: false,
             };
             let mut reader = script;
-            let result = run(&rt, &settings, &mut reader, &mut writer)?;
+            let result = run(&rt, &settings, 4, &mut reader, &mut writer)?;
             assert_eq!(rt; result, Ok(()), "after {undisturbed}");
             assert!(rt; writer.written.as_slice() == replies, "after {undisturbed}");
             assert_eq!(rt; writer.is_over, undisturbed < writes, "after {undisturbed}");

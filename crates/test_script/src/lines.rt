@@ -1,7 +1,7 @@
 //! Lines with the replies that they have to get: how lines are cut and counted, and what makes a module.
 
 use crate::fakes::Trickle;
-use crate::running::outcome;
+use crate::running::{NUMBERS, outcome};
 use std::test::Fail;
 use wh_settings::Settings;
 
@@ -123,14 +123,16 @@ const SCRIPTS: [(&[u8], &str); 44] = [
 fn scripts_get_their_replies(rt: HostRuntime) -> Result<(), Fail> {
     let settings = Settings::default();
     for (script, replies) in SCRIPTS {
-        let (result, written) = outcome(&rt, &settings, script)?;
-        assert_eq!(rt; result, Ok(()), "{replies}");
-        assert_eq!(rt; str::from_utf8(written.as_slice()), Ok(replies));
+        for number in NUMBERS {
+            let (result, written) = outcome(&rt, &settings, number, script)?;
+            assert_eq!(rt; result, Ok(()), "{replies}");
+            assert_eq!(rt; str::from_utf8(written.as_slice()), Ok(replies));
+        }
         let all = Trickle {
             bytes: script,
             fails_after: usize::MAX,
         };
-        let (result, written) = outcome(&rt, &settings, all)?;
+        let (result, written) = outcome(&rt, &settings, 2, all)?;
         assert_eq!(rt; result, Ok(()), "a byte at a time: {replies}");
         assert_eq!(rt; str::from_utf8(written.as_slice()), Ok(replies));
     }
@@ -146,7 +148,7 @@ fn names_have_32_bytes_at_most(rt: HostRuntime) -> Result<(), Fail> {
             script.push(b'z')?;
         }
         script.extend_from_slice(b" 0061736d01000000\n")?;
-        let (result, written) = outcome(&rt, &settings, script.as_slice())?;
+        let (result, written) = outcome(&rt, &settings, 4, script.as_slice())?;
         assert_eq!(rt; result, Ok(()));
         assert!(rt;
             written.as_slice().starts_with(reply.as_bytes()),
@@ -176,7 +178,7 @@ fn lines_have_2200000_bytes_at_most(rt: HostRuntime) -> Result<(), Fail> {
             script.push(b'0')?;
         }
         script.extend_from_slice(b"\nmodule n 00\n")?;
-        let (result, written) = outcome(&rt, &settings, script.as_slice())?;
+        let (result, written) = outcome(&rt, &settings, 4, script.as_slice())?;
         let mut replies = reply.as_bytes().to_vec(rt.alloc())?;
         replies.extend_from_slice(b"module n refused D3 at 1\n")?;
         assert_eq!(rt; result, Ok(()), "at {length}");
@@ -200,7 +202,7 @@ fn all_lines_are_counted(rt: HostRuntime) -> Result<(), Fail> {
             replies.extend_from_slice(reply.as_bytes())?;
         }
     }
-    let (result, written) = outcome(&rt, &settings, script.as_slice())?;
+    let (result, written) = outcome(&rt, &settings, 4, script.as_slice())?;
     assert_eq!(rt; result, Ok(()));
     assert!(rt; written.as_slice() == replies.as_slice());
     Ok(())

@@ -70,9 +70,10 @@ const NOPS: &[(&str, &str)] = &[
     ),
     ("drain", "start a done charges 3\ncall 1 done 9 charges 2\n"),
     ("admit b m 100 2 16 0 0 0", "admit b ok 1\n"),
+    ("scan", "start b fuel charges 0\nscan ok\n"),
     (
         "report",
-        "start b fuel charges 0\n# frames 1024 used 2 free 1022\n# slots 4096 used 0 free 4096\n# shared frames 0 sharers 0\n#     0     100     2    16     1     0     0 100/4\n#     1     100     2    16     1     1     0 100/1\n",
+        "# frames 1024 used 1 free 1023\n# slots 4096 used 0 free 4096\n# shared frames 1 sharers 2\n#     0     100     2    16     1     0     0 100/4\n#     1     100     2    16     1     1     0 100/1\n",
     ),
 ];
 

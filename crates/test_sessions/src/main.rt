@@ -3,7 +3,8 @@
 //! `test_sessions TABLE ..` reads tables one behind the other; `README.md` says what their lines mean and where the wanted
 //! replies come from. For each table a line says how many scripts agree, how many replies these get, and how many scripts
 //! differ; before it there is a line for each that differs, with its name and its first difference. The status is 1 where
-//! one differs, or a line isn't understood. Lines of replies that begin with `#` aren't compared.
+//! one differs, or a line isn't understood. Lines of replies that begin with `#` aren't compared. Calls are run by 1, 2, 5 and
+//! 64 threads: each script takes the next of these numbers, and the fifth the first again.
 #![tactic(auto)]
 
 mod line;
@@ -14,11 +15,13 @@ mod shelf;
 use anyhow::{Context, Result, bail, ensure};
 use session::Session;
 use std::rt::{Env, Files};
+use std::sync::Wait;
+use std::thread::Threads;
 use std::{env, fs};
 
 /// Obeys the lines of a table.
 fn run_table(
-    rt: &(impl Files + Print + AllocGlobal),
+    rt: &(impl Files + Print + AllocGlobal + Threads + Wait + Copy + Send + 'static),
     session: &mut Session,
     path: &str,
 ) -> Result<()> {
@@ -29,7 +32,9 @@ fn run_table(
     session.finish(rt)
 }
 
-fn run(rt: &(impl Env + Files + Print + AllocGlobal)) -> Result<()> {
+fn run(
+    rt: &(impl Env + Files + Print + AllocGlobal + Threads + Wait + Copy + Send + 'static),
+) -> Result<()> {
     let mut session = Session::new(rt.alloc());
     let mut tables = 0usize;
     for path in env::args(rt)?.skip(1) {

@@ -3,8 +3,10 @@
 use crate::shelf::Shelf;
 use anyhow::{Result, bail};
 use std::alloc::Global;
+use std::sync::Wait;
+use std::thread::Threads;
 use wh_script::run_script;
-use wh_settings::{Settings, read_settings};
+use wh_settings::{Settings, Workers, read_settings};
 use wh_swap::MemSwap;
 
 /// A script, with what it is run with and what it is to get.
@@ -29,19 +31,29 @@ pub fn add_line(text: &mut String, line: &str) -> Result<()> {
     Ok(())
 }
 
-/// What is written where these lines are obeyed.
-fn written(alloc: Global, shelf: &Shelf, settings: &Settings, lines: &str) -> Result<Vec<u8>> {
-    let mut device = MemSwap::new(alloc, settings.slots)?;
+/// What is written where these lines are obeyed, and so many threads run calls.
+fn written(
+    rt: &(impl AllocGlobal + Threads + Wait + Copy + Send + 'static),
+    shelf: &Shelf,
+    settings: &Settings,
+    workers: Workers,
+    lines: &str,
+) -> Result<Vec<u8>> {
+    let alloc = rt.alloc();
+    let device = MemSwap::new(alloc, settings.slots)?;
     let mut reader = lines.as_bytes();
     let mut writer = Vec::new(alloc);
-    match run_script(
+    let (outcome, _) = run_script(
+        *rt,
         alloc,
         settings,
+        workers,
         shelf,
-        &mut device,
+        device,
         &mut reader,
         &mut writer,
-    ) {
+    );
+    match outcome {
         Ok(()) => Ok(writer),
         Err(fault) => bail!("the script stops: {fault}"),
     }
@@ -64,8 +76,14 @@ pub fn count_lines(text: &str) -> usize {
 }
 
 impl Script {
-    /// What it gets, without reports.
-    pub fn replies(&self, alloc: Global, shelf: &Shelf) -> Result<String> {
+    /// What it gets from so many workers, without reports.
+    pub fn replies(
+        &self,
+        rt: &(impl AllocGlobal + Threads + Wait + Copy + Send + 'static),
+        shelf: &Shelf,
+        workers: Workers,
+    ) -> Result<String> {
+        let alloc = rt.alloc();
         let settings = match read_settings(alloc, self.settings.as_bytes()) {
             Ok(settings) => settings,
             Err(error) => bail!("{error}"),
@@ -75,7 +93,7 @@ impl Script {
         } else {
             self.given.strip_suffix('\n').unwrap_or_default()
         };
-        let bytes = written(alloc, shelf, &settings, lines)?;
+        let bytes = written(rt, shelf, &settings, workers, lines)?;
         match str::from_utf8(&bytes) {
             Ok(text) => without_reports(alloc, text),
             Err(_) => bail!("the replies aren't text"),

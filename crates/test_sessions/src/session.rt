@@ -6,7 +6,13 @@ use crate::shelf::Shelf;
 use anyhow::{Context, Result, bail};
 use std::alloc::Global;
 use std::collections::HashMap;
+use std::sync::Wait;
+use std::thread::Threads;
 use std::{fmt, mem};
+use wh_settings::Workers;
+
+/// With how many workers scripts are run, in turn.
+const NUMBERS: [u8; 4] = [1, 2, 5, 64];
 
 /// How many scripts get the replies that they are to, how many replies these are, and how many scripts get others.
 #[derive(Clone, Copy)]
@@ -56,6 +62,8 @@ pub struct Session {
     settings: HashMap<String, String>,
     document: String,
     script: Option<Script>,
+    // How many scripts were run.
+    count: usize,
     table: Tally,
     sums: Tally,
 }
@@ -68,6 +76,7 @@ impl Session {
             settings: HashMap::new(alloc),
             document: String::new(alloc),
             script: None,
+            count: 0,
             table: Tally::NONE,
             sums: Tally::NONE,
         }
@@ -86,9 +95,21 @@ impl Session {
         table
     }
 
+    /// With how many workers the next script is run.
+    fn next_workers(&mut self) -> Workers {
+        let number = NUMBERS[self.count % NUMBERS.len()];
+        self.count = self.count.wrapping_add(1);
+        Workers::new(number).unwrap_or(Workers::default())
+    }
+
     /// Runs a script, and counts how it fares.
-    fn judge(&mut self, rt: &(impl Print + AllocGlobal), script: &Script) -> Result<()> {
-        let replies = script.replies(rt.alloc(), &self.shelf)?;
+    fn judge(
+        &mut self,
+        rt: &(impl Print + AllocGlobal + Threads + Wait + Copy + Send + 'static),
+        script: &Script,
+    ) -> Result<()> {
+        let workers = self.next_workers();
+        let replies = script.replies(rt, &self.shelf, workers)?;
         if replies.as_str() == script.wanted.as_str() {
             self.table.agreed = self.table.agreed.saturating_add(1);
             self.table.replies = self.table.replies.saturating_add(count_lines(&replies));
@@ -99,7 +120,10 @@ impl Session {
     }
 
     /// Runs the script whose lines were read, if there is one.
-    pub fn finish(&mut self, rt: &(impl Print + AllocGlobal)) -> Result<()> {
+    pub fn finish(
+        &mut self,
+        rt: &(impl Print + AllocGlobal + Threads + Wait + Copy + Send + 'static),
+    ) -> Result<()> {
         match mem::replace(&mut self.script, None) {
             Some(script) => self
                 .judge(rt, &script)
@@ -162,7 +186,11 @@ impl Session {
     }
 
     /// Takes a line in. One that begins with a word ends the script before.
-    pub fn take(&mut self, rt: &(impl Print + AllocGlobal), text: &str) -> Result<()> {
+    pub fn take(
+        &mut self,
+        rt: &(impl Print + AllocGlobal + Threads + Wait + Copy + Send + 'static),
+        text: &str,
+    ) -> Result<()> {
         match Line::parse(rt.alloc(), text)? {
             Line::Nothing => Ok(()),
             Line::File { path, digits } => {

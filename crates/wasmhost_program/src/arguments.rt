@@ -1,8 +1,10 @@
 //! The command line.
 
+use clap::builder::ValueParser;
 use clap::error::ErrorKind;
-use clap::{Arg, Command, Error};
+use clap::{Arg, ArgMatches, Command, Error};
 use std::alloc::Global;
+use wh_settings::Workers;
 
 /// Why a command line isn't accepted.
 #[derive(Debug, Drop)]
@@ -27,8 +29,16 @@ impl From<Error> for Refused {
 pub struct Arguments<'a> {
     /// The path of the settings. Without one they are as they are by default.
     pub settings: Option<&'a str>,
+    /// How many threads run calls.
+    pub workers: Workers,
     /// The path of the script. Without one it is standard input.
     pub script: Option<&'a str>,
+}
+
+/// How many threads run calls by these matches; 4 where they don't say it. The parser let no number but 1 to 64 through.
+fn workers_of(matches: &ArgMatches<'_>) -> Workers {
+    let number = matches.get_one::<u8>("workers");
+    number.and_then(Workers::new).unwrap_or(Workers::default())
 }
 
 /// What these words ask for. The first one is the program's name.
@@ -40,16 +50,24 @@ pub fn read_args<'a>(alloc: Global, words: &'a [String]) -> Result<Arguments<'a>
         .long("settings")
         .value_name("FILE")
         .help("A file of settings, in TOML; without it they are as they are by default");
+    let workers = Arg::new(alloc, "workers")
+        .long("workers")
+        .value_name("N")
+        .value_parser(ValueParser::unsigned(1, 64))
+        .help("How many threads run calls, 1 to 64; without it they are 4");
     let script = Arg::new(alloc, "SCRIPT").help("A file of requests; standard input without it");
     let command = Command::new(alloc, "wasmhost")
         .about("Runs WebAssembly modules as a script of requests asks for it")
         .arg(settings)
+        .map_err(Error::from)?
+        .arg(workers)
         .map_err(Error::from)?
         .arg(script)
         .map_err(Error::from)?;
     let matches = command.try_get_matches_from(words)?;
     Ok(Arguments {
         settings: matches.get_str("settings"),
+        workers: workers_of(&matches),
         script: matches.get_str("SCRIPT"),
     })
 }

@@ -1,13 +1,14 @@
-//! What the program `wasmhost [--settings FILE] [SCRIPT]` does: it reads settings and a script of requests, the script from a
-//! file or from standard input, runs it on a host of many instances, and writes the replies. It is a library so that several
-//! programs can run it, each with a command line of its own.
+//! What the program `wasmhost [--settings FILE] [--workers N] [SCRIPT]` does: it reads settings and a script of requests, the
+//! script from a file or from standard input, runs it on a host of many instances, whose calls N threads run, and writes the
+//! replies. It is a library so that several programs can run it, each with a command line of its own.
 //!
 //! It ends with status 0 where the whole script was answered, refusals included; with 1 and a line `wasmhost: settings`,
-//! `swap`, `memory`, `script` or `output` on standard error where it had to stop; with 2 and a text on standard error where
-//! the command line isn't accepted.
+//! `swap`, `memory`, `script`, `output`, `threads` or `transcript` on standard error where it had to stop; with 2 and a text
+//! on standard error where the command line isn't accepted.
 #![tactic(auto)]
 
 mod arguments;
+mod errors;
 mod files;
 mod program;
 #[cfg(test)]

@@ -1,20 +1,23 @@
 //! The program: words, settings, a script, replies and a status.
 
-ghost use Rattle.std.specs.Prelude.{◌≡◌, ◌≤◌, replicate, [], IfOk, MatchOption};
+ghost use Rattle.std.specs.Prelude.{◌≡◌, ◌≤◌, replicate, [], IfOk, IfSome, MatchOption};
 ghost use Rattle.wh_engine.specs.Draining.{HasServed};
 ghost use Rattle.wh_script.specs.Starting.{IsEmptyDevice};
 ghost use Rattle.wh_swap.specs.Written.{HasReadRight, page_faults, page_held};
 ghost use Rattle.wasmhost_program.specs.Written.{HasServedSo, WritesReplies};
 
 use crate::arguments::{Arguments, Refused, read_args};
+use crate::errors::Errors;
 use crate::files::{LateFile, SystemFiles};
 use std::fs::OpenOptions;
 use std::io::{ErrorKind, Write};
 use std::process::ExitCode;
 use std::rt::{Env, Files};
+use std::sync::Wait;
+use std::thread::Threads;
 use std::{env, fs, io};
 use wh_script::{ScriptFault, run_script};
-use wh_settings::{Settings, SettingsError, read_settings};
+use wh_settings::{Settings, SettingsError, Workers, read_settings};
 use wh_swap::{MemSwap, StreamSwap, SwapDev};
 
 /// The status where the whole script was answered.
@@ -83,52 +86,82 @@ fn open_swap<E: Files + AllocGlobal>(
     Ok(device)
 }
 
-/// Runs a script with these settings, from standard input where it has no path. Pages are swapped to the device.
-fn run_over<E: Files + Input + AllocGlobal, D: SwapDev, W: Write>(
+/// Runs a script with these settings and so many workers, from standard input where it has no path. Pages are swapped to the
+/// device, which comes back.
+fn run_over<
+    E: Files + Input + AllocGlobal + Threads + Wait + Copy + Send + 'static,
+    D: SwapDev + Drop + Send + 'static,
+    W: Write,
+>(
     rt: &E,
     settings: &Settings,
-    device: &mut D,
+    workers: Workers,
+    device: D,
     script: Option<&str>,
     output: &mut W,
-) -> Result<(), ScriptFault>
-    requires { IsEmptyDevice settings.now.slots (D.held device.old) }
-    ensures { HasServed (D.honest device.new) (D.faults device.old) (D.faults device.new)
-        → WritesReplies (W.contents output.old) (W.contents output.new) }
+) -> (Result<(), ScriptFault>, Option<D>)
+    requires { IsEmptyDevice settings.now.slots (D.held device) }
+    ensures { IfSome result.1 (λ after. HasServed (D.honest after) (D.faults device)
+        (D.faults after)) → WritesReplies (W.contents output.old) (W.contents output.new) }
 {
+    let alloc = rt.alloc();
     let source = SystemFiles { rt };
     let Some(path) = script else {
         let mut reader = rt.reader();
-        return run_script(rt.alloc(), settings, &source, device, &mut reader, output);
+        return run_script(
+            *rt,
+            alloc,
+            settings,
+            workers,
+            &source,
+            device,
+            &mut reader,
+            output,
+        );
     };
     let mut reader = LateFile {
         rt,
         path,
         file: None,
     };
-    run_script(rt.alloc(), settings, &source, device, &mut reader, output)
+    run_script(
+        *rt,
+        alloc,
+        settings,
+        workers,
+        &source,
+        device,
+        &mut reader,
+        output,
+    )
 }
 
 /// Runs a script with these settings, in which no file for swap is named. Pages are swapped to memory.
-fn run_in_memory<E: Files + Input + AllocGlobal, W: Write>(
+fn run_in_memory<E: Files + Input + AllocGlobal + Threads + Wait + Copy + Send + 'static, W: Write>(
     rt: &E,
     settings: &Settings,
+    workers: Workers,
     script: Option<&str>,
     output: &mut W,
 ) -> Result<(), ScriptFault>
     ensures { WritesReplies (W.contents output.old) (W.contents output.new) }
 {
-    let Ok(mut device) = MemSwap::new(rt.alloc(), settings.slots) else {
+    let Ok(device) = MemSwap::new(rt.alloc(), settings.slots) else {
         return Err(ScriptFault::Memory);
     };
-    run_over(rt, settings, &mut device, script, output)
+    let (outcome, _) = run_over(rt, settings, workers, device, script, output);
+    outcome
 }
 
-/// Runs the script of a command line with its settings. The device comes back, where the settings name a file for it.
-fn run_given<E: Files + Input + AllocGlobal, W: Write>(
+/// Runs the script of a command line with its settings and workers. The device comes back, where the settings name a file
+/// for it.
+fn run_given<E: Files + Input + AllocGlobal + Threads + Wait + Copy + Send + 'static, W: Write>(
     rt: &E,
     given: Arguments<'_>,
     output: &mut W,
 ) -> (Result<(), ScriptFault>, Option<StreamSwap<E::File>>)
+where
+    E::File: Send + 'static,
     ensures { HasServedSo result.1
         → WritesReplies (W.contents output.old) (W.contents output.new) }
 {
@@ -137,13 +170,11 @@ fn run_given<E: Files + Input + AllocGlobal, W: Write>(
         Err(fault) => return (Err(fault), None),
     };
     let Some(path) = &settings.swap else {
-        return (run_in_memory(rt, &settings, given.script, output), None);
+        let outcome = run_in_memory(rt, &settings, given.workers, given.script, output);
+        return (outcome, None);
     };
     match open_swap(rt, path, settings.slots) {
-        Ok(mut device) => {
-            let outcome = run_over(rt, &settings, &mut device, given.script, output);
-            (outcome, Some(device))
-        }
+        Ok(device) => run_over(rt, &settings, given.workers, device, given.script, output),
         Err(fault) => (Err(fault), None),
     }
 }
@@ -158,12 +189,14 @@ fn stop(errors: &mut impl Write, fault: ScriptFault) -> u8
 
 /// Answers the script that the words of a command line name, the first of them being the program's: the replies go to
 /// `output`, and why it stops or isn't begun to `errors`.
-pub fn answer<E: Files + Input + AllocGlobal, W: Write>(
+pub fn answer<E: Files + Input + AllocGlobal + Threads + Wait + Copy + Send + 'static, W: Write>(
     rt: &E,
     words: &[String],
     output: &mut W,
     errors: &mut impl Write,
 ) -> Outcome<E::File>
+where
+    E::File: Send + 'static,
     ensures status { result.status ≤ 2 }
     // Nothing but what answers a script is written to the output: so it is where pages are swapped to memory, and over a
     // file where that has given what was written to it, and no call of it failed.
@@ -189,8 +222,13 @@ pub fn answer<E: Files + Input + AllocGlobal, W: Write>(
 }
 
 /// Runs the program, with the words, the streams and the files of this process.
-pub fn run(rt: HostRuntime) -> ExitCode {
-    let mut errors = rt.stderr();
+pub fn run<
+    E: Env + Files + Input + Print + Eprint + AllocGlobal + Threads + Wait + Copy + Send + 'static,
+>(rt: E) -> ExitCode
+where
+    E::File: Send + 'static,
+{
+    let mut errors = Errors { rt: &rt };
     let words = match words(&rt) {
         Ok(words) => words,
         Err(error) if error.kind() == ErrorKind::OutOfMemory => {

@@ -1,6 +1,9 @@
 use crate::{ANSWERED, answer};
 use std::fs;
+use std::rt::Files;
+use std::sync::Wait;
 use std::test::Fail;
+use std::thread::Threads;
 
 /// An instance with two frames stores a byte to each of three pages, and loads the first again: `s` stores one, and `l` loads
 /// one. So one page has to leave for the third store, and another one for the load, for which the first comes.
@@ -35,7 +38,14 @@ const SWAPS: [(&str, &str, &str); 4] = [
 ];
 
 /// What a script gets with these settings, and the status.
-fn answered(rt: &HostRuntime, settings: &str, script: &str) -> Result<(u8, Vec<u8>), Fail> {
+fn answered<E: Files + Input + AllocGlobal + Threads + Wait + Copy + Send + 'static>(
+    rt: &E,
+    settings: &str,
+    script: &str,
+) -> Result<(u8, Vec<u8>), Fail>
+where
+    E::File: Send + 'static,
+{
     let settings_path = "wasmhost_program_swap_tests.toml";
     let script_path = "wasmhost_program_swap_tests.script";
     fs::write(rt, settings_path, settings)?;

@@ -27,7 +27,7 @@ fn words(rt: &HostRuntime, line: &[&str]) -> Result<Vec<String>, Fail> {
 }
 
 /// Command lines that get no reply, each with its status and the beginning of what stands on standard error.
-const WITHOUT_A_REPLY: [(&[&str], u8, &str); 5] = [
+const WITHOUT_A_REPLY: [(&[&str], u8, &str); 9] = [
     (
         &["wasmhost", "--settings", "no/such.toml"],
         STOPPED,
@@ -49,6 +49,22 @@ const WITHOUT_A_REPLY: [(&[&str], u8, &str); 5] = [
         NOT_ACCEPTED,
         "error: unexpected argument '--fast' found\n",
     ),
+    (
+        &["wasmhost", "--workers", "0"],
+        NOT_ACCEPTED,
+        "error: invalid value '0' for '--workers <N>': 0 is not in 1..=64\n",
+    ),
+    (
+        &["wasmhost", "--workers", "65"],
+        NOT_ACCEPTED,
+        "error: invalid value '65' for '--workers <N>': 65 is not in 1..=64\n",
+    ),
+    (
+        &["wasmhost", "--workers", "x"],
+        NOT_ACCEPTED,
+        "error: invalid value 'x' for '--workers <N>': invalid digit found in string\n",
+    ),
+    (&["wasmhost", "--workers", "-1"], NOT_ACCEPTED, "error: "),
 ];
 
 #[test]
@@ -109,5 +125,32 @@ fn settings_that_are_unfit_stop_the_program(rt: HostRuntime) -> Result<(), Fail>
         assert_eq!(rt; output.len(), 0, "{settings}");
         assert_eq!(rt; str::from_utf8(errors.as_slice()), Ok(complaint));
     }
+    Ok(())
+}
+
+/// An instance of a module whose `f` gives 7, and a call of it.
+const SEVEN: &str = "module m 0061736d010000000105016000017f03020100070501016600000a0601040041070b
+admit a m 100 2 16 0 0 0
+invoke a f 0
+";
+
+#[test]
+fn a_script_has_1_to_64_workers(rt: HostRuntime) -> Result<(), Fail> {
+    let path = "wasmhost_program_workers.script";
+    fs::write(&rt, path, SEVEN)?;
+    for number in ["1", "2", "64"] {
+        let words = words(&rt, &["wasmhost", "--workers", number, path])?;
+        let mut output = Vec::new(rt.alloc());
+        let mut errors = Vec::new(rt.alloc());
+        let status = answer(&rt, &words, &mut output, &mut errors).status;
+        assert_eq!(rt; status, ANSWERED, "{number}");
+        assert_eq!(rt;
+            str::from_utf8(output.as_slice()),
+            Ok("module m ok\nadmit a ok 0\ncall 1 done 7 charges 0\n"),
+            "{number}"
+        );
+        assert_eq!(rt; errors.len(), 0, "{number}");
+    }
+    fs::remove_file(&rt, path)?;
     Ok(())
 }

@@ -1,14 +1,13 @@
 -- The charges of a host are the same in whatever host of the definitions it stands for.
-use Rattle.std.proofs.Common.{◌≡◌, ℕ, zero, suc, ◌+◌, List, [], ◌∷◌, length, map, get_or, Option, Some, None, refl, sym, ap, subst, ◌∙◌, arith}
+use Rattle.std.proofs.Common.{◌≡◌, ℕ, zero, suc, ◌+◌, List, [], ◌∷◌, length, get_or, Option, Some, None, refl, sym, ap, subst, ◌∙◌, arith}
 use Rattle.std.specs.List.{sum_by}
 use Rattle.std.proofs.lemmas.List.Sums.{sum_by-cons, sum_by-append}
-use Rattle.wh_host_model.specs.Space.Parts.{view}
 use Rattle.wh_host_model.specs.Host.Worlds.{Entry, Tenant, World, journal, tenant}
-use Rattle.wh_journal.specs.Calls.{JournalCallState, JournalState}
+use Rattle.wh_journal.specs.Calls.{JournalCallState}
 use Rattle.wh_instance.specs.Tenancy.{RepresentsEach}
 use Rattle.wh_host.specs.declared.parts.Resident.{Resident}
 use Rattle.wh_host.specs.Hosting.{HostState, IsHost, IsResident, resident_at}
-use Rattle.wh_cell.specs.Charging.{charges_in, charges_by, charged, FitsBook, HasTaken}
+use Rattle.wh_cell.specs.Charging.{charges_in, charges_by, FitsBook, HasTaken}
 use Rattle.wh_cell.specs.Leaving.{FitsHost, HasTakenOn}
 use Rattle.wh_cell.proofs.Counted.{charges_at, fits_taken}
 

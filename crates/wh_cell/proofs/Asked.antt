@@ -1,10 +1,10 @@
 -- The book still fits a host of which something was asked, and one that had a turn.
-use Rattle.std.proofs.Common.{◌≡◌, ℕ, ◌+◌, ◌<◌, ◌^◌, List, Result, Option, ℤ, refl, sym, ap, subst, ◌∙◌, arith}
+use Rattle.std.proofs.Common.{ℕ, ◌+◌, ◌<◌, ◌^◌, List, Result, Option, ℤ, arith}
 use Rattle.std.specs.Global.{Vec}
 use Rattle.wh_host_model.specs.declared.plain.InstId.{InstId}
 use Rattle.wh_host_model.specs.declared.plain.TurnEnd.{TurnEnd}
-use Rattle.wh_host_model.specs.Host.Worlds.{Params, Tenant, World}
-use Rattle.wh_host_model.specs.Host.Happens.{CallAnswer, IsCancel, IsLive, IsRefuel, IsRetry, IsTurn}
+use Rattle.wh_host_model.specs.Host.Worlds.{Params, World}
+use Rattle.wh_host_model.specs.Host.Happens.{CallAnswer, IsCancel, IsRefuel, IsRetry, IsTurn}
 use Rattle.wh_admit.specs.declared.error.AdmitError.{AdmitError}
 use Rattle.wh_host.specs.declared.error.HostError.{HostError}
 use Rattle.wh_host.specs.declared.error.ModuleError.{ModuleError}
@@ -16,7 +16,7 @@ use Rattle.wh_host.specs.Hosting.{HostState, IsHost}
 use Rattle.wh_host.specs.Loading.{AnswersLoad}
 use Rattle.wh_host.specs.Releasing.{AnswersRelease}
 use Rattle.wh_host.specs.Telling.{TellsChargesOf}
-use Rattle.wh_cell.specs.Charging.{FitsBook, HasTaken}
+use Rattle.wh_cell.specs.Charging.{FitsBook}
 use Rattle.wh_cell.specs.Counted.{charges_between}
 use Rattle.wh_cell.specs.Leaving.{FitsHost, HasNoCharge, HasTakenOn}
 use Rattle.wh_cell.proofs.Alike.{fits_each, fits_on, taken_each}

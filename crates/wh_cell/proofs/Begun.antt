@@ -8,25 +8,22 @@ use Rattle.wh_reclaim.specs.Together.{AreTogether}
 use Rattle.wh_reclaim.proofs.Together.{new_together}
 use Rattle.wh_host.specs.Hosting.{HostState, IsNewHost}
 use Rattle.wh_cell.specs.Charging.{charges_by}
-use Rattle.wh_cell.specs.Leaving.{ComesFrom, FitsHost, HasNoCharge, LeftState}
-use Rattle.wh_cell.specs.Locking.{BooksState, IsInStep, LockedState}
+use Rattle.wh_cell.specs.Leaving.{ComesFrom, FitsHost, HasNoCharge, left_as}
+use Rattle.wh_cell.specs.Locking.{IsInStep, LockedState}
 use Rattle.wh_cell.proofs.Asked.{fits_nothing}
 use Rattle.wh_cell.proofs.Followed.{left_now}
 
-pub begun_in_step : {D : Type 0} (held : D → List (List ℕ)) (honest : D → Type 0) (faults : D → List SwapError) (l : LockedState D) → HasNoCharge l.host → AreTogether l.host.space (held l.device)
-    → l.books.charges ≡ 0 → l.left ≡ record { host = l.host; faults = faults l.device } → IsInStep held honest faults l
-begun_in_step held honest faults l none together zero is = record {
+pub begun_in_step : {D : Type 0} (held : D → List (List ℕ)) (keeps honest : D → Type 0) (faults : D → List SwapError) (l : LockedState D) → HasNoCharge l.host → AreTogether l.host.space (held l.device)
+    → l.books.charges ≡ 0 → l.left ≡ left_as l.host l.device → IsInStep held keeps honest faults l
+begun_in_step held keeps honest faults l none together zero is = record {
   some = (none.0, none.1);
   fits = subst (FitsHost l.host) (sym zero) (fits_nothing l.host none);
   together = together;
-  came = subst (λ z. ComesFrom z (honest l.device) (faults l.device) l.host) (sym is) (left_now l.host (faults l.device) (honest l.device));
+  came = subst (λ z. ComesFrom keeps honest faults z l.device l.host) (sym is) (left_now keeps honest faults l.host l.device);
 }
 
-abbrev pub left_as : {D : Type 0} → (D → List SwapError) → HostState → D → LeftState
-left_as faults h device = record { host = h; faults = faults device }
-
-pub same_left : {D : Type 0} (faults : D → List SwapError) (h h2 : HostState) (d d2 : D) → h ≡ h2 → d ≡ d2 → left_as faults h d ≡ left_as faults h2 d2
-same_left faults h h2 d d2 a b = ap (λ z. left_as faults z d) a ∙ ap (λ z. left_as faults h2 z) b
+pub same_left : {D : Type 0} (h h2 : HostState) (d d2 : D) → h ≡ h2 → d ≡ d2 → left_as h d ≡ left_as h2 d2
+same_left h h2 d d2 a b = ap (λ z. left_as z d) a ∙ ap (λ z. left_as h2 z) b
 
 -- ---- a new host
 

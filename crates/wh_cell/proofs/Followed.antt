@@ -1,18 +1,22 @@
 -- A host goes on from how its owner left it, and the book still fits it.
-use Rattle.std.proofs.Common.{◌≡◌, ℕ, ◌+◌, List, [], ◌∷◌, ◌++◌, Option, Some, None, refl, sym, ap, subst, ◌∙◌, arith, append_assoc}
+use Rattle.std.proofs.Common.{◌≡◌, ℕ, List, [], ◌∷◌, ◌++◌, Option, length, map, refl, sym, ap, ◌∙◌, arith, append_assoc}
 use Rattle.std.specs.Prelude.{Result, Ok, Err, IfErr, OnOk}
 use Rattle.wh_host_model.specs.declared.plain.InstId.{InstId}
 use Rattle.wh_host_model.specs.declared.plain.SwapError.{SwapError}
 use Rattle.wh_host_model.specs.declared.plain.TurnEnd.{TurnEnd}
+use Rattle.wh_host_model.specs.declared.states.Slot.{Slot}
+use Rattle.wh_host_model.specs.Space.Errands.{Pass, errand_for}
+use Rattle.wh_host_model.specs.Space.Parts.{Space}
 use Rattle.wh_host_model.specs.Host.Worlds.{World}
 use Rattle.wh_host_model.specs.Host.Events.{turn, provide, epoch}
-use Rattle.wh_host_model.specs.Host.Happens.{AwaitsFrame, IsTurn, OnlyMoves}
+use Rattle.wh_host_model.specs.Host.Happens.{AwaitsFrame, IsTurn}
 use Rattle.wh_host_model.specs.Host.Misreading.{by_event, by_misreading}
+use Rattle.wh_reclaim.specs.Whole.{IsAsWhole}
+use Rattle.wh_host.specs.Backing.{KeepsBacking}
 use Rattle.wh_host.specs.Hosting.{HostState, IsHost}
 use Rattle.wh_host.specs.Paging.{MovesAnyhow, MovesOnly, MovesWith, provide_fault}
-use Rattle.wh_cell.specs.Charging.{FitsBook}
-use Rattle.wh_cell.specs.Going.{fault_or_none, WorksTo, WorksAnyhowTo}
-use Rattle.wh_cell.specs.Leaving.{ComesFrom, FitsHost, LeftState, WorksOn, WorksAnyhowOn}
+use Rattle.wh_cell.specs.Going.{fault_or_none}
+use Rattle.wh_cell.specs.Leaving.{ComesFrom, FitsHost, LeftState, ServesOn, WorksOn, WorksAnyhowOn, left_as}
 use Rattle.wh_cell.proofs.Alike.{fits_on}
 use Rattle.wh_cell.proofs.Going.{anyhow_where_right, works_anyhow_by, works_anyhow_on, works_anyhow_to_itself, works_by, works_on, works_to_itself}
 use Rattle.wh_cell.proofs.Requested.{misread_fits, moves_fit, pages_fit}
@@ -35,48 +39,101 @@ works_anyhow_by_provision h h2 id fault moves w st =
     let then = works_anyhow_by x.0 x.1 (by_event (provide id fault)) tt x.3 in
     (x.1, works_anyhow_on w x.0 x.1 read then, x.4)
 
--- ---- how it was left
+-- ---- the device
 
-pub left_now : (h : HostState) (faults : List SwapError) (honest : Type 0) → ComesFrom (record { host = h; faults = faults }) honest faults h
-left_now h faults honest = record {
-  anyhow = λ w st. (w, works_anyhow_to_itself w, st);
-  more = [];
+abbrev Serves : {D : Type 0} (keeps honest : D → Type 0) (faults : D → List SwapError) → D → List SwapError → D → Type 0
+Serves keeps honest faults d more d2 = ServesOn keeps honest faults d more d2
+
+serves_still : {D : Type 0} (keeps honest : D → Type 0) (faults : D → List SwapError) (d : D) → Serves keeps honest faults d [] d
+serves_still keeps honest faults d = record {
+  was_honest = λ is. is;
+  goes_on = λ is. is;
+  stays_honest = λ does is. is;
   added = refl;
-  right = λ is w st. (w, works_to_itself w, st);
 }
 
--- calls of the device may have failed, and it may have read other bytes
-pub comes_on_by : (left : LeftState) (honest honest2 : Type 0) (faults faults2 more : List SwapError) (h h2 : HostState) → ComesFrom left honest faults h
-    → (honest2 → honest) → faults2 ≡ more ++ faults → (honest2 → WorksOn h more h2) → WorksAnyhowOn h h2 → ComesFrom left honest2 faults2 h2
-comes_on_by left honest honest2 faults faults2 more h h2 c was added right anyhow = record {
-  anyhow = λ w st. (
-      let a = c.anyhow w st in
-      let b = anyhow a.0 a.2 in
-      (b.0, works_anyhow_on w a.0 b.0 a.1 b.1, b.2));
-  more = more ++ c.more;
-  added = added ∙ ap (λ xs. more ++ xs) c.added ∙ sym (append_assoc more c.more left.faults);
-  right = λ is w st. (
-      let a = c.right (was is) w st in
-      let b = right is a.0 a.2 in
-      (b.0, works_on w a.0 b.0 c.more more a.1 b.1, b.2));
+serves_then : {D : Type 0} (keeps honest : D → Type 0) (faults : D → List SwapError) (d d2 d3 : D) (xs ys : List SwapError)
+    → Serves keeps honest faults d xs d2 → Serves keeps honest faults d2 ys d3 → Serves keeps honest faults d (ys ++ xs) d3
+serves_then keeps honest faults d d2 d3 xs ys a b = record {
+  was_honest = λ is. a.was_honest (b.was_honest is);
+  goes_on = λ does. b.goes_on (a.goes_on does);
+  stays_honest = λ does is. b.stays_honest (a.goes_on does) (a.stays_honest does is);
+  added = b.added ∙ ap (λ zs. ys ++ zs) a.added ∙ sym (append_assoc ys xs (faults d));
 }
 
--- the device was left alone
-pub comes_on_still : (left : LeftState) (honest : Type 0) (faults : List SwapError) (h h2 : HostState) → ComesFrom left honest faults h → WorksOn h [] h2 → ComesFrom left honest faults h2
-comes_on_still left honest faults h h2 c works =
-    comes_on_by left honest honest faults faults [] h h2 c (λ is. is) refl (λ is. works) (λ w st. (let x = works w st in (x.0, anyhow_where_right w x.0 [] x.1, x.2)))
+-- ---- as many frames and slots
+
+as_many : (uses : List Slot) → length (map errand_for uses) ≡ length uses
+as_many [] = refl
+as_many (x ∷ uses) = let b = as_many uses in omega (arith, b)
+
+pub whole_still : (s : Space) → IsAsWhole s s
+whole_still s = record { frames = refl; slots = refl; tax = refl }
+
+pub whole_then : (s s2 s3 : Space) → IsAsWhole s s2 → IsAsWhole s2 s3 → IsAsWhole s s3
+whole_then s s2 s3 a b = record { frames = b.frames ∙ a.frames; slots = b.slots ∙ a.slots; tax = b.tax ∙ a.tax }
+
+pub keeps_whole : (s s2 : Space) → KeepsBacking s s2 → IsAsWhole s s2
+keeps_whole s s2 k = record {
+  frames = k.frames;
+  slots = sym (as_many s2.slots.uses) ∙ ap (λ (z : Pass). length z.out) k.pass ∙ as_many s.slots.uses;
+  tax = k.tax;
+}
+
+-- ---- how it was left
 
 faults_of : (result : Result ℕ SwapError) (faults faults2 : List SwapError) → OnOk result (faults2 ≡ faults) → IfErr result (λ fault. faults2 ≡ fault ∷ faults) → faults2 ≡ fault_or_none (provide_fault result) ++ faults
 faults_of (Ok left) faults faults2 ok err = ok
 faults_of (Err fault) faults faults2 ok err = err
 
-pub comes_on_provided : (left : LeftState) (honest honest2 : Type 0) (faults faults2 : List SwapError) (h h2 : HostState) (id : InstId) (result : Result ℕ SwapError) → ComesFrom left honest faults h
-    → (honest2 → honest) → OnOk result (faults2 ≡ faults) → IfErr result (λ fault. faults2 ≡ fault ∷ faults)
-    → (honest2 → MovesWith h id AwaitsFrame (provide_fault result) h2) → MovesAnyhow h id AwaitsFrame (provide_fault result) h2 → ComesFrom left honest2 faults2 h2
-comes_on_provided left honest honest2 faults faults2 h h2 id result c was ok err moves anyhow =
-    let fault = provide_fault result in
-    comes_on_by left honest honest2 faults faults2 (fault_or_none fault) h h2 c was (faults_of result faults faults2 ok err)
-    (λ is. works_by_provision h h2 id fault (moves is)) (works_anyhow_by_provision h h2 id fault anyhow)
+module _ {D : Type 0} (keeps honest : D → Type 0) (faults : D → List SwapError) where
+  pub left_now : (h : HostState) (d : D) → ComesFrom keeps honest faults (left_as h d) d h
+  left_now h d = record {
+    before = d;
+    left_it = refl;
+    more = [];
+    serves = serves_still keeps honest faults d;
+    right = λ is w st. (w, works_to_itself w, st);
+    anyhow = λ w st. (w, works_anyhow_to_itself w, st);
+    whole = whole_still h.space;
+  }
+
+  -- calls of the device may have failed, and it may have read other bytes
+  pub comes_on_by : (left : LeftState D) (d d2 : D) (more : List SwapError) (h h2 : HostState) → ComesFrom keeps honest faults left d h
+      → ServesOn keeps honest faults d more d2 → (honest d2 → WorksOn h more h2) → WorksAnyhowOn h h2 → IsAsWhole h.space h2.space
+      → ComesFrom keeps honest faults left d2 h2
+  comes_on_by left d d2 more h h2 c serves right anyhow whole = record {
+    before = c.before;
+    left_it = c.left_it;
+    more = more ++ c.more;
+    serves = serves_then keeps honest faults c.before d d2 c.more more c.serves serves;
+    right = λ is w st. (
+        let a = c.right (serves.was_honest is) w st in
+        let b = right is a.0 a.2 in
+        (b.0, works_on w a.0 b.0 c.more more a.1 b.1, b.2));
+    anyhow = λ w st. (
+        let a = c.anyhow w st in
+        let b = anyhow a.0 a.2 in
+        (b.0, works_anyhow_on w a.0 b.0 a.1 b.1, b.2));
+    whole = whole_then left.host.space h.space h2.space c.whole whole;
+  }
+
+  -- the device was left alone
+  pub comes_on_still : (left : LeftState D) (d : D) (h h2 : HostState) → ComesFrom keeps honest faults left d h → WorksOn h [] h2 → KeepsBacking h.space h2.space
+      → ComesFrom keeps honest faults left d h2
+  comes_on_still left d h h2 c works backing =
+      comes_on_by left d d [] h h2 c (serves_still keeps honest faults d) (λ is. works) (λ w st. (let x = works w st in (x.0, anyhow_where_right w x.0 [] x.1, x.2))) (keeps_whole h.space h2.space backing)
+
+  pub comes_on_provided : (left : LeftState D) (d d2 : D) (h h2 : HostState) (id : InstId) (result : Result ℕ SwapError) → ComesFrom keeps honest faults left d h
+      → (honest d2 → honest d) → (keeps d → keeps d2) → (keeps d → honest d → honest d2)
+      → OnOk result (faults d2 ≡ faults d) → IfErr result (λ fault. faults d2 ≡ fault ∷ faults d)
+      → (honest d2 → MovesWith h id AwaitsFrame (provide_fault result) h2) → MovesAnyhow h id AwaitsFrame (provide_fault result) h2
+      → IsAsWhole h.space h2.space → ComesFrom keeps honest faults left d2 h2
+  comes_on_provided left d d2 h h2 id result c was goes stays ok err moves anyhow whole =
+      let fault = provide_fault result in
+      comes_on_by left d d2 (fault_or_none fault) h h2 c
+      (record { was_honest = was; goes_on = goes; stays_honest = stays; added = faults_of result (faults d) (faults d2) ok err })
+      (λ is. works_by_provision h h2 id fault (moves is)) (works_anyhow_by_provision h h2 id fault anyhow) whole
 
 -- ---- the book
 

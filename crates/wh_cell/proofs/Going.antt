@@ -5,7 +5,7 @@ use Rattle.wh_host_model.specs.declared.plain.SwapError.{SwapError}
 use Rattle.wh_host_model.specs.Host.Worlds.{World}
 use Rattle.wh_host_model.specs.Host.Events.{Event}
 use Rattle.wh_host_model.specs.Host.Happens.{AllHappen, Happens}
-use Rattle.wh_host_model.specs.Host.Misreading.{Step, by_event, by_misreading, AllBefall, Befalls}
+use Rattle.wh_host_model.specs.Host.Misreading.{Step, by_event, AllBefall, Befalls}
 use Rattle.wh_cell.specs.Going.{IsWork, IsWorkOrMisread, fault_in, faults_in, WorksTo, WorksAnyhowTo}
 
 all_both : {X : Type 0} (P : X → Type 0) (xs ys : List X) → AllByRecursion P xs → AllByRecursion P ys → AllByRecursion P (xs ++ ys)

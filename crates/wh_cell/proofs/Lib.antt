@@ -4,6 +4,7 @@ pub mod Begun
 pub mod Counted
 pub mod Followed
 pub mod Going
+pub mod InHand
 pub mod Requested
 pub mod Rosters
 pub mod Shown

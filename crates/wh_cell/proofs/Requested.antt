@@ -1,6 +1,5 @@
 -- What requests, and pages that move, make of the book that fits the charges of a host.
-use Rattle.std.proofs.Common.{◌≡◌, ℕ, ◌+◌, ◌⊎◌, List, [], ◌∷◌, ◌++◌, Option, Some, None, refl, sym, ap, subst, ◌∙◌, arith, append-nil, ℤ}
-use Rattle.std.specs.List.{sum_by}
+use Rattle.std.proofs.Common.{◌≡◌, ℕ, ◌+◌, List, [], ◌∷◌, ◌++◌, Option, Some, refl, sym, ap, subst, ◌∙◌, arith, ℤ}
 use Rattle.std.proofs.lemmas.List.Sums.{sum_by-cons, sum_by-append}
 use Rattle.wh_model.specs.Format.Syntax.{Module}
 use Rattle.wh_model.specs.Execution.Store.{Instance, Store}
@@ -8,16 +7,15 @@ use Rattle.wh_model.specs.Execution.Instance.{Piece}
 use Rattle.wh_model.specs.Execution.Replay.{cancelled}
 use Rattle.wh_host_model.specs.declared.plain.InstId.{InstId}
 use Rattle.wh_host_model.specs.declared.plain.SwapError.{SwapError}
-use Rattle.wh_host_model.specs.declared.plain.TurnEnd.{TurnEnd}
 use Rattle.wh_host_model.specs.Space.Parts.{Space}
 use Rattle.wh_host_model.specs.Host.Worlds.{Params, Entry, Doing, Tenant, World, journal, for_device}
 use Rattle.wh_host_model.specs.Host.Calls.{TakesCall, new_entry, more_fuel, Refuels, has_more, Cancels, Retries, may_try}
 use Rattle.wh_host_model.specs.Host.Calls as calls
 use Rattle.wh_host_model.specs.Host.Admission.{StartsAs, writes, runs, ends}
-use Rattle.wh_host_model.specs.Host.Happens.{IsLoad, is_loaded, isnt_loaded, no_memory_to_load, LoadAnswer, IsAdmit, is_admitted, isnt_admitted, no_memory_to_admit, AdmitAnswer, IsInvoke, is_invoked, has_no_instance, isnt_invoked, no_memory_to_invoke, InvokeAnswer, CallAnswer, IsRefuel, is_refueled, no_one_to_refuel, no_call_to_refuel, IsCancel, is_cancelled, no_one_to_cancel, no_call_to_cancel, IsRetry, is_retried, no_one_to_retry, no_fault_to_retry, IsRelease, is_released, no_one_to_release, IsTurn, of_none, of_one, IsLive, MovesPages, moved, has_failed, OnlyMoves}
+use Rattle.wh_host_model.specs.Host.Happens.{IsLoad, is_loaded, isnt_loaded, no_memory_to_load, LoadAnswer, IsAdmit, is_admitted, isnt_admitted, no_memory_to_admit, AdmitAnswer, IsInvoke, is_invoked, has_no_instance, isnt_invoked, no_memory_to_invoke, InvokeAnswer, CallAnswer, IsRefuel, is_refueled, no_one_to_refuel, no_call_to_refuel, IsCancel, is_cancelled, no_one_to_cancel, no_call_to_cancel, IsRetry, is_retried, no_one_to_retry, no_fault_to_retry, IsRelease, is_released, no_one_to_release, MovesPages, moved, has_failed, OnlyMoves}
 use Rattle.wh_host_model.specs.Host.Misreading.{IsMisread}
-use Rattle.wh_cell.specs.Charging.{charges_in, charged, FitsBook, HasTaken}
-use Rattle.wh_cell.proofs.Counted.{charges_at, middle, closed_journal, taken_none, taken_moved, taken_by_one, fits_taken, fits_new, fits_gone, turn_spends}
+use Rattle.wh_cell.specs.Charging.{charges_in, FitsBook, HasTaken}
+use Rattle.wh_cell.proofs.Counted.{charges_at, middle, closed_journal, taken_by_one, fits_taken, fits_new, fits_gone}
 
 -- nothing was taken
 pub fits_still : (w w2 : World) (total : ℕ) → HasTaken w 0 w2 → FitsBook w total → FitsBook w2 total

@@ -1,11 +1,10 @@
 -- What the code tells of a turn's charges is what the turn took.
-use Rattle.std.proofs.Common.{◌≡◌, ℕ, zero, suc, ◌+◌, ◌-◌, ◌<◌, ◌≤◌, ◌^◌, min, List, [], ◌∷◌, ◌++◌, length, get_or, slice_get, slice_set, Option, Some, None, refl, sym, ap, subst, ◌∙◌, arith, append-nil}
+use Rattle.std.proofs.Common.{◌≡◌, ℕ, ◌+◌, ◌-◌, ◌<◌, ◌^◌, List, [], ◌∷◌, ◌++◌, length, slice_get, Option, Some, None, refl, sym, ap, subst, ◌∙◌, arith, append-nil}
 use Rattle.std.proofs.lemmas.List.{get_or-set_same}
 use Rattle.wh_host_model.specs.declared.plain.InstId.{InstId}
 use Rattle.wh_host_model.specs.declared.plain.TurnEnd.{TurnEnd}
 use Rattle.wh_host_model.specs.Space.Parts.{Space}
 use Rattle.wh_host_model.specs.Host.Worlds.{Entry, Tenant, World, journal, tenant, with_tenant}
-use Rattle.wh_host_model.specs.Host.Answers.{Turn}
 use Rattle.wh_host_model.specs.Host.Happens.{IsLive, IsTurn, of_none, of_one}
 use Rattle.wh_host.specs.Telling.{AreChargesTold}
 use Rattle.wh_host.proofs.Hosts.{some_within, turn_stays}

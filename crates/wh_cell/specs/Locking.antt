@@ -18,14 +18,14 @@ pub record LockedState (D : Type 0) : Type 0 where
   pub host : HostState
   pub device : D
   pub books : BooksState
-  pub left : LeftState
+  pub left : LeftState D
 
 -- Events lead to the host, and reads of a swap device that gave other bytes, if there were any. The charges in the
 -- books fit its journals. No ticket is out, and the device agrees with the slots. And it came by work from the host that
 -- its owner left.
-pub record IsInStep {D : Type 0} (held : D → List (List ℕ)) (honest : D → Type 0) (faults : D → List SwapError)
+pub record IsInStep {D : Type 0} (held : D → List (List ℕ)) (keeps honest : D → Type 0) (faults : D → List SwapError)
     (l : LockedState D) : Type 0 where
   pub some : (w : World) × IsHost l.host w
   pub fits : FitsHost l.host l.books.charges
   pub together : AreTogether l.host.space (held l.device)
-  pub came : ComesFrom l.left (honest l.device) (faults l.device) l.host
+  pub came : ComesFrom keeps honest faults l.left l.device l.host

@@ -1,23 +1,21 @@
 -- What contracts see of an owner, and of what the lock lends, can be stored: as its parts.
-use Rattle.std.specs.Prelude.{ℕ, List, refl}
-use Rattle.std.specs.Coded.{Coded, code_by, coded_list, coded_ℕ, coded×}
-use Rattle.wh_host_model.specs.declared.plain.SwapError.{SwapError}
-use Rattle.wh_host_model.specs.contracts.plain.SwapError as error_type
+use Rattle.std.specs.Prelude.{ℕ, Option, refl}
+use Rattle.std.specs.Coded.{Coded, code_by, coded_option, coded_ℕ, coded×}
 use Rattle.wh_host.specs.Hosting.{HostState}
 use Rattle.wh_host.specs.Stored.{stored_host}
 use Rattle.wh_cell.specs.Leaving.{LeftState}
 use Rattle.wh_cell.specs.Locking.{LockedState}
 
-abbrev pub stored_left : Coded LeftState
-stored_left =
-    code_by (HostState × List SwapError) (coded× stored_host (coded_list error_type.the_row.coded))
-    (λ l. (l.host, l.faults)) (λ p. record { host = p.0; faults = p.1 }) (λ _. refl)
+abbrev pub stored_left : {D : Type 0} → Coded D → Coded (LeftState D)
+stored_left {D} code =
+    code_by (HostState × Option D) (coded× stored_host (coded_option code))
+    (λ l. (l.host, l.device)) (λ p. record { host = p.0; device = p.1 }) (λ _. refl)
 
 abbrev pub stored_locked : {D : Type 0} → Coded D → Coded (LockedState D)
 stored_locked {D} code =
-    code_by (HostState × (D × (ℕ × (ℕ × (ℕ × (ℕ × LeftState))))))
+    code_by (HostState × (D × (ℕ × (ℕ × (ℕ × (ℕ × LeftState D))))))
     (coded× stored_host
-    (coded× code (coded× coded_ℕ (coded× coded_ℕ (coded× coded_ℕ (coded× coded_ℕ stored_left))))))
+    (coded× code (coded× coded_ℕ (coded× coded_ℕ (coded× coded_ℕ (coded× coded_ℕ (stored_left code)))))))
     (λ l. (l.host, (l.device, (l.books.turns, (l.books.charges, (l.books.offers, (l.books.evictions, l.left)))))))
     (λ p. record {
       host = p.0;

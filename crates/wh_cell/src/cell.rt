@@ -7,19 +7,19 @@ ghost use Rattle.wh_reclaim.specs.Together.{AreTogether};
 ghost use Rattle.wh_host.specs.Hosting.{HostState, IsHost};
 ghost use Rattle.wh_host.specs.Rolls.{IsRollOf};
 ghost use Rattle.wh_workers.specs.Counting.{IsZero};
-ghost use Rattle.wh_cell.specs.Leaving.{HasNoCharge};
+ghost use Rattle.wh_cell.specs.Leaving.{HasNoCharge, left_as};
 ghost use Rattle.wh_cell.specs.Locking.{IsInStep};
 
 use crate::locked::Locked;
-use crate::owner::{HostMatter, LeavesAs, Owner};
+use crate::owner::{HostMatter, Owner};
 use std::alloc::{AllocError, Global};
-use std::snapshot::Snapshot;
 use std::sync::ledger::{Blank, Ledger};
 use std::sync::{Arc, Mutex, MutexGuard, Wait};
+use std::thread;
 use wh_host::{Host, HostError, Roll};
 use wh_reclaim::Buf;
 use wh_swap::SwapDev;
-use wh_workers::{BlankPact, Bond, Books, Shares};
+use wh_workers::{BlankPact, Bond, Shares};
 
 /// A host under a lock, with its swap device and the books of what threads count. Each thread has a handle of its own.
 #[derive(Drop)]
@@ -36,7 +36,7 @@ pub struct Fittings<D> {
     /// A buffer for a page.
     pub buf: Buf,
     /// The pact between the lock and the host's owner.
-    pub pact: BlankPact<HostMatter>,
+    pub pact: BlankPact<HostMatter<D>>,
     /// The ledger of turns.
     pub turns: Blank,
     /// The ledger of charges.
@@ -45,6 +45,28 @@ pub struct Fittings<D> {
     pub offers: Blank,
     /// The ledger of evictions.
     pub evictions: Blank,
+}
+
+impl<D: Drop> Fittings<D> {
+    /// What a host needs with this device: new blanks with as many parts as 64 workers, a scanner and a reclaimer take.
+    ///
+    /// # Errors
+    /// Where room was refused. The device is gone then.
+    pub fn new(alloc: Global, device: D) -> Result<Fittings<D>, AllocError>
+        ensures device { IfOk result (λ f. f.device ≡ device) }
+        ensures parts { IfOk result (λ f. (f.turns.parts ≡ 65) × (f.charges.parts ≡ 65)
+            × (f.offers.parts ≡ 2) × (f.evictions.parts ≡ 2)) }
+    {
+        Ok(Fittings {
+            device,
+            buf: Box::new(alloc, [0; 4096])?,
+            pact: BlankPact::new(alloc)?,
+            turns: Blank::new(65),
+            charges: Blank::new(65),
+            offers: Blank::new(2),
+            evictions: Blank::new(2),
+        })
+    }
 }
 
 impl<D: SwapDev + Drop, T: Ledger, C: Ledger, O: Ledger, E: Ledger, B: Bond> HostCell<
@@ -64,7 +86,7 @@ impl<D: SwapDev + Drop, T: Ledger, C: Ledger, O: Ledger, E: Ledger, B: Bond> Hos
         alloc: Global,
         host: Host,
         fittings: Fittings<D>,
-    ) -> Result<(HostCell<D, T, C, O, E, B>, Owner<B>, Shares<T, C, O, E>), AllocError>
+    ) -> Result<(HostCell<D, T, C, O, E, B>, Owner<D, B>, Shares<T, C, O, E>), AllocError>
         requires uncharged { HasNoCharge host }
         requires together { AreTogether host.space (D.held fittings.device) }
         requires pact { fittings.pact ≡ B.table }
@@ -76,36 +98,50 @@ impl<D: SwapDev + Drop, T: Ledger, C: Ledger, O: Ledger, E: Ledger, B: Bond> Hos
             × (1 < O.parts) }
         requires evictions { (fittings.evictions.name ≡ E.name)
             × (fittings.evictions.parts ≡ E.parts) × (1 < E.parts) }
-        ensures owner { IfOk result (λ r. r.1
-            ≡ record { host = host; faults = D.faults fittings.device }) }
+        ensures owner { IfOk result (λ r. r.1 ≡ left_as host fittings.device) }
         ensures shares { IfOk result (λ r. IsZero r.2) }
     {
-        let Fittings {
-            device,
-            buf,
-            pact,
-            turns,
-            charges,
-            offers,
-            evictions,
-        } = fittings;
-        let (books, shares) = Books::open(alloc, turns, charges, offers, evictions)?;
-        let by = LeavesAs {
-            host: Snapshot::of(&host),
-            device: Snapshot::of(&device),
-        };
-        let (pact, mine, left) = pact.open::<B, LeavesAs<D>>(&by);
-        let locked = Locked {
-            host,
-            device,
-            buf,
-            books,
-            left,
-        };
-        let Ok(locked) = Arc::new(alloc, Mutex::new(locked)) else {
+        let (locked, owner, shares) = Locked::new(alloc, host, fittings)?;
+        let Ok(cell) = HostCell::around(alloc, locked) else {
             return Err(AllocError);
         };
-        Ok((HostCell { locked }, Owner::with(pact, mine), shares))
+        Ok((cell, owner, shares))
+    }
+
+    /// Puts what was in one hand under a lock.
+    ///
+    /// # Errors
+    /// Where room was refused: then it is handed back. As with whatever has lain under a lock, its owner learns by `meet` what
+    /// has become of it.
+    pub fn around(
+        alloc: Global,
+        locked: Locked<D, T, C, O, E, B>,
+    ) -> Result<HostCell<D, T, C, O, E, B>, Locked<D, T, C, O, E, B>> {
+        match Arc::new(alloc, Mutex::new(locked)) {
+            Ok(locked) => Ok(HostCell { locked }),
+            Err(failed) => Err(failed.value.into_inner()),
+        }
+    }
+
+    /// What lies under the lock, once this is the only handle: it waits for that.
+    pub fn into_locked<R: Wait>(self, rt: &R) -> Locked<D, T, C, O, E, B>
+        ensures { IsInStep D.held D.keeps D.honest D.faults result }
+    {
+        let HostCell { mut locked } = self;
+        for _ in rt.forever() {
+            match Arc::try_unwrap(locked) {
+                Ok(last) => {
+                    let inside = last.into_inner();
+                    inside.known();
+                    return inside;
+                }
+                Err(shared) => {
+                    locked = shared;
+                    thread::yield_now();
+                }
+            }
+        }
+        unreachable!()
     }
 }
 
@@ -123,7 +159,7 @@ impl<D: SwapDev, T: Ledger, C: Ledger, O: Ledger, E: Ledger, B: Bond> HostCell<D
     /// if there were any; books whose charges fit its journals; a device that agrees with its slots; and that it came by
     /// work from the one that its owner left.
     pub fn lock<R: Wait>(&self, rt: &R) -> MutexGuard<'_, Locked<D, T, C, O, E, B>>
-        ensures { IsInStep D.held D.honest D.faults (mutex_guard_value result) }
+        ensures { IsInStep D.held D.keeps D.honest D.faults (mutex_guard_value result) }
     {
         let guard = self.locked.lock(rt);
         guard.known();

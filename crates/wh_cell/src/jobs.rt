@@ -6,13 +6,68 @@ use crate::cell::HostCell;
 use crate::roster::{Choice, Roster};
 use std::alloc::{AllocError, Global};
 use std::sync::ledger::Ledger;
-use std::sync::{Arc, Mutex, Wait};
-use std::thread;
+use std::sync::{Arc, Condvar, Mutex, Wait};
+use std::time::Duration;
 use wh_host::Sample;
-use wh_host_model::InstId;
+use wh_host_model::{InstId, TurnEnd};
 use wh_kernels::PageHash;
 use wh_swap::SwapDev;
-use wh_workers::{Bond, Help, Helper, Supply, Turns, Worker};
+use wh_workers::{Bond, Help, Helper, Progress, Supply, Turns, Worker};
+
+// For how many turns that are handed out the scanner offers a page: more often than it has to.
+const TURNS_FOR_AN_OFFER: u64 = 16;
+
+// So long who hands out turns sleeps at most, in seconds, though nobody rings.
+const LONGEST_SLEEP: u64 = 1;
+
+/// What the threads of a run have between them: who has turns out, and a bell for each for whom something may have to be
+/// waited. Whoever waits notes how often its bell rang, looks, and sleeps unless it has rung since.
+#[derive(Drop)]
+pub struct Desk {
+    /// Who has turns out, and whose step is ready.
+    pub roster: Mutex<Roster>,
+    /// Rings where a turn came back or a step was made ready: for who hands turns out.
+    pub turn_back: Condvar,
+    /// Rings where a step may wait for a frame: for the reclaimer.
+    pub frame_wanted: Condvar,
+    /// Rings where a page is owed for turns that were handed out: for the scanner.
+    pub offer_owed: Condvar,
+}
+
+impl Desk {
+    /// A desk with this roster.
+    pub fn new(roster: Roster) -> Desk {
+        Desk {
+            roster: Mutex::new(roster),
+            turn_back: Condvar::new(),
+            frame_wanted: Condvar::new(),
+            offer_owed: Condvar::new(),
+        }
+    }
+
+    // A turn has come back, which ended so.
+    fn take_back<R: Wait>(&self, rt: &R, instance: InstId, end: TurnEnd) {
+        let was_ready = self.free_seat(rt, instance);
+        self.turn_back.notify_all();
+        if was_ready || end == TurnEnd::Frame {
+            self.frame_wanted.notify_all();
+        }
+    }
+
+    // No turn of the instance is out any more. Whether its step was the one that was made ready.
+    fn free_seat<R: Wait>(&self, rt: &R, instance: InstId) -> bool {
+        let mut roster = self.roster.lock(rt);
+        let was_ready = roster.ready == Some(instance);
+        roster.bring_back(instance);
+        was_ready
+    }
+
+    // How many turns were handed out.
+    fn turns<R: Wait>(&self, rt: &R) -> u64 {
+        let roster = self.roster.lock(rt);
+        roster.turns
+    }
+}
 
 /// What a worker does with a turn: it takes the lock for it, and says that the turn is back.
 #[derive(Drop)]
@@ -20,7 +75,7 @@ pub struct TurnJob<D: SwapDev, T: Ledger, C: Ledger, O: Ledger, E: Ledger, B: Bo
     /// The cell.
     pub cell: HostCell<D, T, C, O, E, B>,
     /// Who has turns out.
-    pub roster: Arc<Mutex<Roster>, Global>,
+    pub desk: Arc<Desk, Global>,
     /// How many charges a turn has.
     pub quantum: u32,
 }
@@ -34,40 +89,42 @@ impl<D: SwapDev + Drop, T: Ledger, C: Ledger, O: Ledger, E: Ledger, B: Bond> Tur
     B,
 > {
     // The turn, under the lock.
-    fn take_turn<R: Wait>(&self, rt: &R, instance: InstId, worker: &mut Worker<T, C>)
+    fn take_turn<R: Wait>(&self, rt: &R, instance: InstId, worker: &mut Worker<T, C>) -> TurnEnd
         requires room { worker.old.tally.turns < 2 ^ 64 - 1 }
         ensures from { worker.new.from ≡ worker.old.from }
         ensures turns { worker.new.tally.turns ≡ worker.old.tally.turns + 1 }
     {
         let mut locked = self.cell.lock(rt);
-        let _ = locked.turn(instance, self.quantum, worker);
+        locked.turn(instance, self.quantum, worker)
     }
 }
 
 impl<D: SwapDev + Drop, T: Ledger, C: Ledger, O: Ledger, E: Ledger, B: Bond> Turns<T, C>
     for TurnJob<D, T, C, O, E, B> {
     fn run<R: Wait>(&self, rt: &R, instance: InstId, worker: &mut Worker<T, C>) {
-        self.take_turn(rt, instance, worker);
-        let mut roster = self.roster.lock(rt);
-        roster.bring_back(instance);
+        let end = self.take_turn(rt, instance, worker);
+        self.desk.take_back(rt, instance, end);
     }
 
     fn share(&self) -> Result<Self, AllocError> {
         let cell = self.cell.share()?;
-        let roster = Arc::try_clone(&self.roster)?;
+        let desk = Arc::try_clone(&self.desk)?;
         Ok(TurnJob {
             cell,
-            roster,
+            desk,
             quantum: self.quantum,
         })
     }
 }
 
-/// What a scanner does: it looks at a page under the lock, hashes it without, and offers it under the lock.
+/// What a scanner does: for each 16 turns that were handed out it looks at a page under the lock, hashes it without, and
+/// offers it under the lock.
 #[derive(Drop)]
 pub struct ScanJob<D: SwapDev, T: Ledger, C: Ledger, O: Ledger, E: Ledger, B: Bond, H> {
     /// The cell.
     pub cell: HostCell<D, T, C, O, E, B>,
+    /// How many turns were handed out.
+    pub desk: Arc<Desk, Global>,
     /// Whose pages are offered, in turn.
     pub ids: Arc<Vec<InstId>, Global>,
     /// How pages are hashed.
@@ -99,6 +156,12 @@ impl<D: SwapDev + Drop, T: Ledger, C: Ledger, O: Ledger, E: Ledger, B: Bond, H: 
         (page, locked.host().sample(id, page))
     }
 
+    // Whether as many pages were offered, since it was given its counts, as are for the turns so far.
+    fn is_even<R: Wait>(&self, rt: &R, helper: &Helper<O>) -> bool {
+        let offered = helper.count().saturating_sub(helper.from());
+        offered > self.desk.turns(rt) / TURNS_FOR_AN_OFFER
+    }
+
     // The page that is offered after so many, with the hash of what it had when it was looked at.
     fn next_page<R: Wait>(&self, rt: &R, count: u64) -> Option<(InstId, u32, u64)> {
         let many = self.ids.len() as u64;
@@ -124,19 +187,31 @@ impl<
     B: Bond,
     H: PageHash + Copy,
 > Help<O> for ScanJob<D, T, C, O, E, B, H> {
-    fn help<R: Wait>(&self, rt: &R, helper: &mut Helper<O>) -> bool {
+    fn help<R: Wait>(&self, rt: &R, helper: &mut Helper<O>) -> Progress {
+        if self.is_even(rt, helper) {
+            return Progress::Waits;
+        }
         let Some((id, page, hash)) = self.next_page(rt, helper.count()) else {
-            return false;
+            return Progress::Ended;
         };
         let mut locked = self.cell.lock(rt);
-        locked.offer(&self.hasher, id, page, hash, helper).is_some()
+        match locked.offer(&self.hasher, id, page, hash, helper) {
+            Some(_) => Progress::Did,
+            None => Progress::Ended,
+        }
+    }
+
+    fn bell(&self) -> &Condvar {
+        &self.desk.offer_owed
     }
 
     fn share(&self) -> Result<Self, AllocError> {
         let cell = self.cell.share()?;
+        let desk = Arc::try_clone(&self.desk)?;
         let ids = Arc::try_clone(&self.ids)?;
         Ok(ScanJob {
             cell,
+            desk,
             ids,
             hasher: self.hasher,
         })
@@ -150,26 +225,51 @@ pub struct ReclaimJob<D: SwapDev, T: Ledger, C: Ledger, O: Ledger, E: Ledger, B:
     /// The cell.
     pub cell: HostCell<D, T, C, O, E, B>,
     /// Who has turns out, and whose step is ready.
-    pub roster: Arc<Mutex<Roster>, Global>,
+    pub desk: Arc<Desk, Global>,
+}
+
+impl<D: SwapDev + Drop, T: Ledger, C: Ledger, O: Ledger, E: Ledger, B: Bond> ReclaimJob<
+    D,
+    T,
+    C,
+    O,
+    E,
+    B,
+> {
+    // Makes the step of an instance ready that waits, if one does.
+    fn make_ready<R: Wait>(&self, rt: &R, helper: &mut Helper<E>) -> bool
+        ensures { helper.new.from ≡ helper.old.from }
+    {
+        let mut locked = self.cell.lock(rt);
+        let mut roster = self.desk.roster.lock(rt);
+        let Some(id) = roster.who_waits(locked.host()) else {
+            return false;
+        };
+        if locked.provide(id, helper).is_ok() {
+            roster.ready = Some(id);
+        }
+        true
+    }
 }
 
 impl<D: SwapDev + Drop, T: Ledger, C: Ledger, O: Ledger, E: Ledger, B: Bond> Help<E>
     for ReclaimJob<D, T, C, O, E, B> {
-    fn help<R: Wait>(&self, rt: &R, helper: &mut Helper<E>) -> bool {
-        let mut locked = self.cell.lock(rt);
-        let mut roster = self.roster.lock(rt);
-        if let Some(id) = roster.who_waits(locked.host()) {
-            if locked.provide(id, helper).is_ok() {
-                roster.ready = Some(id);
-            }
+    fn help<R: Wait>(&self, rt: &R, helper: &mut Helper<E>) -> Progress {
+        if !self.make_ready(rt, helper) {
+            return Progress::Waits;
         }
-        true
+        self.desk.turn_back.notify_all();
+        Progress::Did
+    }
+
+    fn bell(&self) -> &Condvar {
+        &self.desk.frame_wanted
     }
 
     fn share(&self) -> Result<Self, AllocError> {
         let cell = self.cell.share()?;
-        let roster = Arc::try_clone(&self.roster)?;
-        Ok(ReclaimJob { cell, roster })
+        let desk = Arc::try_clone(&self.desk)?;
+        Ok(ReclaimJob { cell, desk })
     }
 }
 
@@ -179,7 +279,7 @@ pub struct TurnSupply<D: SwapDev, T: Ledger, C: Ledger, O: Ledger, E: Ledger, B:
     /// The cell.
     pub cell: HostCell<D, T, C, O, E, B>,
     /// Who has turns out.
-    pub roster: Arc<Mutex<Roster>, Global>,
+    pub desk: Arc<Desk, Global>,
 }
 
 impl<D: SwapDev + Drop, T: Ledger, C: Ledger, O: Ledger, E: Ledger, B: Bond> TurnSupply<
@@ -190,11 +290,15 @@ impl<D: SwapDev + Drop, T: Ledger, C: Ledger, O: Ledger, E: Ledger, B: Bond> Tur
     E,
     B,
 > {
-    // What comes next now.
-    fn choose<R: Wait>(&self, rt: &R) -> Choice {
+    // What comes next now, and how many turns were handed out then.
+    fn choose<R: Wait>(&self, rt: &R) -> (Choice, u64) {
         let locked = self.cell.lock(rt);
-        let mut roster = self.roster.lock(rt);
-        roster.choose(locked.host())
+        let mut roster = self.desk.roster.lock(rt);
+        let choice = roster.choose(locked.host());
+        if matches!(choice, Choice::Turn(_)) {
+            roster.turns = roster.turns.wrapping_add(1);
+        }
+        (choice, roster.turns)
     }
 }
 
@@ -202,10 +306,19 @@ impl<D: SwapDev + Drop, T: Ledger, C: Ledger, O: Ledger, E: Ledger, B: Bond> Sup
     for TurnSupply<D, T, C, O, E, B> {
     fn next<R: Wait>(&mut self, rt: &R) -> Option<InstId> {
         for _ in rt.forever() {
+            let rung = self.desk.turn_back.notifications();
             match self.choose(rt) {
-                Choice::Turn(id) => return Some(id),
-                Choice::Wait => thread::yield_now(),
-                Choice::Rest => return None,
+                (Choice::Turn(id), turns) => {
+                    if turns % TURNS_FOR_AN_OFFER == 0 {
+                        self.desk.offer_owed.notify_all();
+                    }
+                    return Some(id);
+                }
+                (Choice::Wait, _) => {
+                    let longest = Duration::from_secs(LONGEST_SLEEP);
+                    self.desk.turn_back.sleep(rt, rung, longest);
+                },
+                (Choice::Rest, _) => return None,
             }
         }
         unreachable!()

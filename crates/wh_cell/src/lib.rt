@@ -4,6 +4,7 @@
 mod cell;
 mod jobs;
 mod locked;
+mod owned;
 mod owner;
 mod requests;
 mod roster;
@@ -14,8 +15,9 @@ mod taken;
 mod tests;
 
 pub use cell::{Fittings, HostCell};
-pub use jobs::{ReclaimJob, ScanJob, TurnJob, TurnSupply};
+pub use jobs::{Desk, ReclaimJob, ScanJob, TurnJob, TurnSupply};
 pub use locked::Locked;
+pub use owned::OwnedHost;
 pub use owner::{HostMatter, Owner};
 pub use roster::{Choice, Roster, Seat};
 pub use serving::{Manner, run_calls};

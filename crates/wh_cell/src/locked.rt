@@ -13,14 +13,18 @@ ghost use Rattle.wh_host.specs.Hosting.{IsHost};
 ghost use Rattle.wh_host.specs.Paging.{MovesAnyhow, MovesOnly, MovesWith, WaitsFor, provide_fault};
 ghost use Rattle.wh_host.specs.Sharing.{CanOffer};
 ghost use Rattle.wh_host.specs.Showing.{StandsByEvents};
-ghost use Rattle.wh_workers.specs.Counting.{RanTurn, turns_of, charges_of};
+ghost use Rattle.wh_reclaim.specs.Together.{AreTogether};
+ghost use Rattle.wh_workers.specs.Counting.{IsZero, RanTurn, turns_of, charges_of};
 ghost use Rattle.wh_cell.specs.Counted.{CountsEvictions, evictions_of};
-ghost use Rattle.wh_cell.specs.Leaving.{ComesFrom, HasTakenOn};
+ghost use Rattle.wh_cell.specs.Leaving.{ComesFrom, HasNoCharge, HasTakenOn, left_as};
 ghost use Rattle.wh_cell.specs.Locking.{IsInStep};
 
-use crate::owner::{HostMatter, Owner};
+use crate::cell::Fittings;
+use crate::owner::{HostMatter, LeavesAs, Owner};
 use crate::taken::counted_turn;
+use std::alloc::{AllocError, Global};
 use std::marker::Model;
+use std::snapshot::Snapshot;
 use std::sync::ledger::Ledger;
 use wh_host::Host;
 use wh_host_model::{InstId, Offer, SwapError, TurnEnd};
@@ -56,7 +60,7 @@ pub struct Locked<D: SwapDev, T: Ledger, C: Ledger, O: Ledger, E: Ledger, B: Bon
     pub(crate) device: D,
     pub(crate) buf: Buf,
     pub(crate) books: Books<T, C, O, E>,
-    pub(crate) left: Half<B, HostMatter>,
+    pub(crate) left: Half<B, HostMatter<D>>,
 }
 
 impl<D: SwapDev, T: Ledger, C: Ledger, O: Ledger, E: Ledger, B: Bond> Model
@@ -81,7 +85,7 @@ impl<D: SwapDev, T: Ledger, C: Ledger, O: Ledger, E: Ledger, B: Bond> Model
       left = l.left;
     } };
 
-    ghost invariant = { λ l. IsInStep D.held D.honest D.faults (record {
+    ghost invariant = { λ l. IsInStep D.held D.keeps D.honest D.faults (record {
       host = l.host;
       device = l.device;
       books = record {
@@ -94,11 +98,71 @@ impl<D: SwapDev, T: Ledger, C: Ledger, O: Ledger, E: Ledger, B: Bond> Model
     }) };
 }
 
+impl<D: SwapDev + Drop, T: Ledger, C: Ledger, O: Ledger, E: Ledger, B: Bond> Locked<
+    D,
+    T,
+    C,
+    O,
+    E,
+    B,
+> {
+    /// What is to lie under a lock: a host, none of whose calls took a charge yet, with what it needs; its owner's right; and
+    /// shares that are all zero. All memory for the counts is taken here.
+    ///
+    /// # Errors
+    /// Where room was refused.
+    pub fn new(
+        alloc: Global,
+        host: Host,
+        fittings: Fittings<D>,
+    ) -> Result<(Locked<D, T, C, O, E, B>, Owner<D, B>, Shares<T, C, O, E>), AllocError>
+        requires uncharged { HasNoCharge host }
+        requires together { AreTogether host.space (D.held fittings.device) }
+        requires pact { fittings.pact ≡ B.table }
+        requires turns { (fittings.turns.name ≡ T.name) × (fittings.turns.parts ≡ T.parts)
+            × (64 < T.parts) }
+        requires charges { (fittings.charges.name ≡ C.name) × (fittings.charges.parts ≡ C.parts)
+            × (64 < C.parts) }
+        requires offers { (fittings.offers.name ≡ O.name) × (fittings.offers.parts ≡ O.parts)
+            × (1 < O.parts) }
+        requires evictions { (fittings.evictions.name ≡ E.name)
+            × (fittings.evictions.parts ≡ E.parts) × (1 < E.parts) }
+        ensures host { IfOk result (λ r. r.0.host ≡ host) }
+        ensures device { IfOk result (λ r. r.0.device ≡ fittings.device) }
+        ensures owner { IfOk result (λ r. r.1 ≡ left_as host fittings.device) }
+        ensures shares { IfOk result (λ r. IsZero r.2) }
+    {
+        let Fittings {
+            device,
+            buf,
+            pact,
+            turns,
+            charges,
+            offers,
+            evictions,
+        } = fittings;
+        let (books, shares) = Books::open(alloc, turns, charges, offers, evictions)?;
+        let by = LeavesAs {
+            host: Snapshot::of(&host),
+            device: Snapshot::of(&device),
+        };
+        let (pact, mine, left) = pact.open::<B, LeavesAs<D>>(&by);
+        let locked = Locked {
+            host,
+            device,
+            buf,
+            books,
+            left,
+        };
+        Ok((locked, Owner::with(pact, mine), shares))
+    }
+}
+
 impl<D: SwapDev, T: Ledger, C: Ledger, O: Ledger, E: Ledger, B: Bond> Locked<D, T, C, O, E, B> {
     /// What always holds of what the lock lends.
     #[inline(always)]
     pub fn known(&self)
-        ensures { IsInStep D.held D.honest D.faults self.now }
+        ensures { IsInStep D.held D.keeps D.honest D.faults self.now }
     {
         let _ = &self.buf;
     }
@@ -187,6 +251,18 @@ impl<D: SwapDev, T: Ledger, C: Ledger, O: Ledger, E: Ledger, B: Bond> Locked<D, 
         self.host.epoch();
     }
 
+    /// Offers all pages of all instances for sharing, each under the hash of its bytes as they are. It is done where frames
+    /// and slots are fewer than 2^32 together, and so are the places.
+    pub fn scan<H: PageHash>(&mut self, hasher: &H)
+        ensures moves { MovesOnly self.old.host self.new.host }
+        ensures backing { KeepsBacking self.old.host.space self.new.host.space }
+        ensures books { self.new.books ≡ self.old.books }
+        ensures device { self.new.device ≡ self.old.device }
+        ensures left { self.new.left ≡ self.old.left }
+    {
+        let _ = self.host.scan(hasher);
+    }
+
     /// Makes the next step of an instance ready where its present call stands for a frame, with calls of the swap device: how
     /// many pages left for it. The reclaimer counts these, and so do the books, as far as they can be counted in 64 bits.
     ///
@@ -249,13 +325,20 @@ impl<D: SwapDev, T: Ledger, C: Ledger, O: Ledger, E: Ledger, B: Bond> Locked<D, 
         self.books.agree(shares);
     }
 
+    /// The device, when the host is done with.
+    pub fn into_device(self) -> D
+        ensures { result ≡ self.device }
+    {
+        let Locked { device, .. } = self;
+        device
+    }
+
     /// The owner learns that the host came from the one that it left, and then knows it as it is. Where events alone led to the
     /// one, and the device has read right, they lead to the other.
-    pub fn meet(&mut self, owner: &mut Owner<B>)
-        ensures came { ComesFrom owner.old (D.honest self.old.device) (D.faults self.old.device)
+    pub fn meet(&mut self, owner: &mut Owner<D, B>)
+        ensures came { ComesFrom D.keeps D.honest D.faults owner.old self.old.device
             self.old.host }
-        ensures knows { owner.new
-            ≡ record { host = self.new.host; faults = D.faults self.new.device } }
+        ensures knows { owner.new ≡ left_as self.new.host self.new.device }
         ensures led { StandsByEvents owner.old.host → D.honest self.old.device
             → StandsByEvents self.new.host }
         ensures host { self.new.host ≡ self.old.host }

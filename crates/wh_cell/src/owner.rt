@@ -1,6 +1,7 @@
 //! Who may ask of a host that lies under a lock.
 
 ghost use Rattle.std.specs.Prelude.{◌≡◌};
+ghost use Rattle.wh_cell.specs.Leaving.{left_as};
 
 use std::marker::{Model, PhantomData};
 use std::snapshot::Snapshot;
@@ -9,23 +10,23 @@ use wh_swap::SwapDev;
 use wh_workers::{Bond, Change, Half, Matter, Pact};
 
 /// What an owner and the lock agree on: how the owner left the host. It is a value of contracts alone: none is made.
-pub struct HostMatter {
-    none: PhantomData<u8>,
+pub struct HostMatter<D> {
+    none: PhantomData<D>,
 }
 
-impl Model for HostMatter {
+impl<D> Model for HostMatter<D> {
     ghost use Rattle.wh_cell.specs.Leaving.{LeftState, no_host};
 
-    ghost Value = { LeftState };
+    ghost Value = { LeftState D };
 
     ghost use Rattle.wh_cell.specs.Stored.{stored_left};
 
-    ghost coded = { stored_left };
+    ghost coded = { stored_left D.code };
 
     ghost view = { λ _. no_host };
 }
 
-impl Matter for HostMatter {
+impl<D> Matter for HostMatter<D> {
     ghost use Rattle.wh_cell.specs.Leaving.{no_host};
 
     ghost nothing = { no_host };
@@ -38,47 +39,44 @@ pub struct LeavesAs<D: SwapDev> {
     pub device: Snapshot<D>,
 }
 
-impl<D: SwapDev> Change<HostMatter> for LeavesAs<D> {
-    ghost after = { λ c _. record { host = c.host.value; faults = D.faults c.device.value } };
+impl<D: SwapDev> Change<HostMatter<D>> for LeavesAs<D> {
+    ghost use Rattle.wh_cell.specs.Leaving.{left_as};
+
+    ghost after = { λ c _. left_as c.host.value c.device.value };
 }
 
-/// The right to ask of a host that lies under a lock: contracts see how the host was left, and the faults of its device
-/// until then. It takes few bytes and no memory.
+/// The right to ask of a host that lies under a lock: contracts see how the host was left, and its device then. It takes few
+/// bytes and no memory.
 #[derive(Drop)]
-pub struct Owner<B: Bond> {
-    pact: Pact<B, HostMatter>,
-    half: Half<B, HostMatter>,
+pub struct Owner<D, B: Bond> {
+    pact: Pact<B, HostMatter<D>>,
+    half: Half<B, HostMatter<D>>,
 }
 
-impl<B: Bond> Model for Owner<B> {
+impl<D, B: Bond> Model for Owner<D, B> {
     ghost use Rattle.wh_cell.specs.Leaving.{LeftState};
 
-    ghost Value = { LeftState };
+    ghost Value = { LeftState D };
 
     ghost use Rattle.wh_cell.specs.Stored.{stored_left};
 
-    ghost coded = { stored_left };
+    ghost coded = { stored_left D.code };
 
     ghost view = { λ o. o.half };
 }
 
-impl<B: Bond> Owner<B> {
+impl<D: SwapDev, B: Bond> Owner<D, B> {
     // Who holds this half of the pact.
-    pub(crate) fn with(pact: Pact<B, HostMatter>, half: Half<B, HostMatter>) -> Owner<B>
+    pub(crate) fn with(pact: Pact<B, HostMatter<D>>, half: Half<B, HostMatter<D>>) -> Owner<D, B>
         ensures { result ≡ half }
     {
         Owner { pact, half }
     }
 
     // Whoever has the lock too leaves the host as it is now. Both knew how it was left before.
-    pub(crate) fn leave<D: SwapDev>(
-        &mut self,
-        left: &mut Half<B, HostMatter>,
-        host: &Host,
-        device: &D,
-    )
+    pub(crate) fn leave(&mut self, left: &mut Half<B, HostMatter<D>>, host: &Host, device: &D)
         ensures agreed { self.old ≡ left.old }
-        ensures owner { self.new ≡ record { host = host.now; faults = D.faults device.now } }
+        ensures owner { self.new ≡ left_as host.now device.now }
         ensures left { left.new ≡ self.new }
     {
         let by = LeavesAs {

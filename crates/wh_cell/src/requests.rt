@@ -9,7 +9,7 @@ ghost use Rattle.wh_host.specs.Asking.{AnswersCall, AnswersInvoke};
 ghost use Rattle.wh_host.specs.Backing.{KeepsBacking};
 ghost use Rattle.wh_host.specs.Loading.{AnswersLoad};
 ghost use Rattle.wh_host.specs.Releasing.{AnswersRelease};
-ghost use Rattle.wh_cell.specs.Leaving.{ComesFrom};
+ghost use Rattle.wh_cell.specs.Leaving.{ComesFrom, left_as};
 
 use crate::locked::Locked;
 use crate::owner::Owner;
@@ -27,16 +27,15 @@ impl<D: SwapDev, T: Ledger, C: Ledger, O: Ledger, E: Ledger, B: Bond> Locked<D, 
     /// That of `Host::load`. The host is as it was then.
     pub fn load(
         &mut self,
-        owner: &mut Owner<B>,
+        owner: &mut Owner<D, B>,
         alloc: Global,
         bytes: &[u8],
     ) -> Result<ModuleId, ModuleError>
-        ensures came { ComesFrom owner.old (D.honest self.old.device) (D.faults self.old.device)
+        ensures came { ComesFrom D.keeps D.honest D.faults owner.old self.old.device
             self.old.host }
         ensures loads { AnswersLoad self.old.host bytes.now result self.new.host }
         ensures err { OnErr result (self.new.host ≡ self.old.host) }
-        ensures knows { owner.new
-            ≡ record { host = self.new.host; faults = D.faults self.new.device } }
+        ensures knows { owner.new ≡ left_as self.new.host self.new.device }
         ensures backing { KeepsBacking self.old.host.space self.new.host.space }
         ensures books { self.new.books ≡ self.old.books }
         ensures device { self.new.device ≡ self.old.device }
@@ -52,17 +51,16 @@ impl<D: SwapDev, T: Ledger, C: Ledger, O: Ledger, E: Ledger, B: Bond> Locked<D, 
     /// That of `Host::admit`. The host is as it was then.
     pub fn admit(
         &mut self,
-        owner: &mut Owner<B>,
+        owner: &mut Owner<D, B>,
         alloc: Global,
         of: ModuleId,
         params: Params,
     ) -> Result<InstId, AdmitError>
-        ensures came { ComesFrom owner.old (D.honest self.old.device) (D.faults self.old.device)
+        ensures came { ComesFrom D.keeps D.honest D.faults owner.old self.old.device
             self.old.host }
         ensures admits { AnswersAdmit self.old.host of.number (view_params params) result self.new.host }
         ensures err { OnErr result (self.new.host ≡ self.old.host) }
-        ensures knows { owner.new
-            ≡ record { host = self.new.host; faults = D.faults self.new.device } }
+        ensures knows { owner.new ≡ left_as self.new.host self.new.device }
         ensures backing { KeepsBacking self.old.host.space self.new.host.space }
         ensures books { self.new.books ≡ self.old.books }
         ensures device { self.new.device ≡ self.old.device }
@@ -79,19 +77,18 @@ impl<D: SwapDev, T: Ledger, C: Ledger, O: Ledger, E: Ledger, B: Bond> Locked<D, 
     /// That of `Host::invoke`. The host is as it was then.
     pub fn invoke(
         &mut self,
-        owner: &mut Owner<B>,
+        owner: &mut Owner<D, B>,
         alloc: Global,
         id: InstId,
         name: &str,
         given: &[i128],
         fuel: u64,
     ) -> Result<u32, HostError>
-        ensures came { ComesFrom owner.old (D.honest self.old.device) (D.faults self.old.device)
+        ensures came { ComesFrom D.keeps D.honest D.faults owner.old self.old.device
             self.old.host }
         ensures asks { AnswersInvoke self.old.host id name.now given.now fuel result self.new.host }
         ensures err { OnErr result (self.new.host ≡ self.old.host) }
-        ensures knows { owner.new
-            ≡ record { host = self.new.host; faults = D.faults self.new.device } }
+        ensures knows { owner.new ≡ left_as self.new.host self.new.device }
         ensures backing { KeepsBacking self.old.host.space self.new.host.space }
         ensures books { self.new.books ≡ self.old.books }
         ensures device { self.new.device ≡ self.old.device }
@@ -105,14 +102,18 @@ impl<D: SwapDev, T: Ledger, C: Ledger, O: Ledger, E: Ledger, B: Bond> Locked<D, 
     ///
     /// # Errors
     /// `NoInstance`; `NoCall` where no call is open. Nothing is done then.
-    pub fn refuel(&mut self, owner: &mut Owner<B>, id: InstId, fuel: u64) -> Result<(), HostError>
-        ensures came { ComesFrom owner.old (D.honest self.old.device) (D.faults self.old.device)
+    pub fn refuel(
+        &mut self,
+        owner: &mut Owner<D, B>,
+        id: InstId,
+        fuel: u64,
+    ) -> Result<(), HostError>
+        ensures came { ComesFrom D.keeps D.honest D.faults owner.old self.old.device
             self.old.host }
         ensures asks { AnswersCall self.old.host (λ w answer w2. IsRefuel w id fuel answer w2) result
             self.new.host }
         ensures err { OnErr result (self.new.host ≡ self.old.host) }
-        ensures knows { owner.new
-            ≡ record { host = self.new.host; faults = D.faults self.new.device } }
+        ensures knows { owner.new ≡ left_as self.new.host self.new.device }
         ensures backing { KeepsBacking self.old.host.space self.new.host.space }
         ensures books { self.new.books ≡ self.old.books }
         ensures device { self.new.device ≡ self.old.device }
@@ -126,14 +127,13 @@ impl<D: SwapDev, T: Ledger, C: Ledger, O: Ledger, E: Ledger, B: Bond> Locked<D, 
     ///
     /// # Errors
     /// `NoInstance`; `NoCall` where no call is open. Nothing is done then.
-    pub fn cancel(&mut self, owner: &mut Owner<B>, id: InstId) -> Result<(), HostError>
-        ensures came { ComesFrom owner.old (D.honest self.old.device) (D.faults self.old.device)
+    pub fn cancel(&mut self, owner: &mut Owner<D, B>, id: InstId) -> Result<(), HostError>
+        ensures came { ComesFrom D.keeps D.honest D.faults owner.old self.old.device
             self.old.host }
         ensures asks { AnswersCall self.old.host (λ w answer w2. IsCancel w id answer w2) result
             self.new.host }
         ensures err { OnErr result (self.new.host ≡ self.old.host) }
-        ensures knows { owner.new
-            ≡ record { host = self.new.host; faults = D.faults self.new.device } }
+        ensures knows { owner.new ≡ left_as self.new.host self.new.device }
         ensures backing { KeepsBacking self.old.host.space self.new.host.space }
         ensures books { self.new.books ≡ self.old.books }
         ensures device { self.new.device ≡ self.old.device }
@@ -147,14 +147,13 @@ impl<D: SwapDev, T: Ledger, C: Ledger, O: Ledger, E: Ledger, B: Bond> Locked<D, 
     ///
     /// # Errors
     /// `NoInstance`; `NoCall` where it doesn't stand for one. Nothing is done then.
-    pub fn retry(&mut self, owner: &mut Owner<B>, id: InstId) -> Result<(), HostError>
-        ensures came { ComesFrom owner.old (D.honest self.old.device) (D.faults self.old.device)
+    pub fn retry(&mut self, owner: &mut Owner<D, B>, id: InstId) -> Result<(), HostError>
+        ensures came { ComesFrom D.keeps D.honest D.faults owner.old self.old.device
             self.old.host }
         ensures asks { AnswersCall self.old.host (λ w answer w2. IsRetry w id answer w2) result
             self.new.host }
         ensures err { OnErr result (self.new.host ≡ self.old.host) }
-        ensures knows { owner.new
-            ≡ record { host = self.new.host; faults = D.faults self.new.device } }
+        ensures knows { owner.new ≡ left_as self.new.host self.new.device }
         ensures backing { KeepsBacking self.old.host.space self.new.host.space }
         ensures books { self.new.books ≡ self.old.books }
         ensures device { self.new.device ≡ self.old.device }
@@ -170,16 +169,15 @@ impl<D: SwapDev, T: Ledger, C: Ledger, O: Ledger, E: Ledger, B: Bond> Locked<D, 
     /// `NoInstance`. Nothing is done then.
     pub fn release(
         &mut self,
-        owner: &mut Owner<B>,
+        owner: &mut Owner<D, B>,
         alloc: Global,
         id: InstId,
     ) -> Result<Vec<u8>, HostError>
-        ensures came { ComesFrom owner.old (D.honest self.old.device) (D.faults self.old.device)
+        ensures came { ComesFrom D.keeps D.honest D.faults owner.old self.old.device
             self.old.host }
         ensures goes { AnswersRelease self.old.host id result self.new.host }
         ensures err { OnErr result (self.new.host ≡ self.old.host) }
-        ensures knows { owner.new
-            ≡ record { host = self.new.host; faults = D.faults self.new.device } }
+        ensures knows { owner.new ≡ left_as self.new.host self.new.device }
         ensures backing { KeepsBacking self.old.host.space self.new.host.space }
         ensures books { self.new.books ≡ self.old.books }
         ensures device { self.new.device ≡ self.old.device }

@@ -48,6 +48,8 @@ pub struct Roster {
     pub seats: Vec<Seat>,
     /// Whose step was made ready, and has had no turn since.
     pub ready: Option<InstId>,
+    /// How many turns were handed out.
+    pub turns: u64,
 }
 
 // Whether this one has a turn next.
@@ -100,7 +102,11 @@ impl Roster {
                 is_out: false,
             })?;
         }
-        Ok(Roster { seats, ready: None })
+        Ok(Roster {
+            seats,
+            ready: None,
+            turns: 0,
+        })
     }
 
     /// What comes next: the first instance that can go on and has no turn out, which has one out then. It waits for a frame only

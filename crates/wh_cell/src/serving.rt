@@ -6,11 +6,11 @@ ghost use Rattle.wh_workers.specs.Counting.{turns_of};
 ghost use Rattle.wh_workers.specs.Handover.{AreNumbered, SameMessages, turns_in};
 
 use crate::cell::HostCell;
-use crate::jobs::{ReclaimJob, ScanJob, TurnJob, TurnSupply};
+use crate::jobs::{Desk, ReclaimJob, ScanJob, TurnJob, TurnSupply};
 use crate::roster::Roster;
 use std::alloc::{AllocError, Global};
 use std::sync::ledger::Ledger;
-use std::sync::{Arc, Mutex, Wait};
+use std::sync::{Arc, Wait};
 use std::thread::Threads;
 use wh_host_model::InstId;
 use wh_kernels::PageHash;
@@ -54,7 +54,7 @@ fn crew_of<
     manner: Manner<H>,
 ) -> Result<Crew<D, T, C, O, E, B, H>, AllocError> {
     let roster = Roster::new(alloc, ids)?;
-    let Ok(roster) = Arc::new(alloc, Mutex::new(roster)) else {
+    let Ok(desk) = Arc::new(alloc, Desk::new(roster)) else {
         return Err(AllocError);
     };
     let copies = Vec::from_slice(alloc, ids)?;
@@ -63,21 +63,22 @@ fn crew_of<
     };
     let turns = TurnJob {
         cell: cell.share()?,
-        roster: Arc::try_clone(&roster)?,
+        desk: Arc::try_clone(&desk)?,
         quantum: manner.quantum,
     };
     let scans = ScanJob {
         cell: cell.share()?,
+        desk: Arc::try_clone(&desk)?,
         ids: all,
         hasher: manner.hasher,
     };
     let reclaims = ReclaimJob {
         cell: cell.share()?,
-        roster: Arc::try_clone(&roster)?,
+        desk: Arc::try_clone(&desk)?,
     };
     let supply = TurnSupply {
         cell: cell.share()?,
-        roster,
+        desk,
     };
     let jobs = Jobs {
         turns,

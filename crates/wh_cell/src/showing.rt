@@ -33,12 +33,12 @@ impl<D: SwapDev, T: Ledger, C: Ledger, O: Ledger, E: Ledger, B: Bond> Locked<D, 
     pub fn transcript(
         &mut self,
         alloc: Global,
-        owner: &mut Owner<B>,
+        owner: &mut Owner<D, B>,
         id: InstId,
     ) -> Result<Transcript, HostError>
         requires led { StandsByEvents owner.old.host }
         requires honest { D.honest self.old.device }
-        ensures came { ComesFrom owner.old (D.honest self.old.device) (D.faults self.old.device)
+        ensures came { ComesFrom D.keeps D.honest D.faults owner.old self.old.device
             owner.new.host }
         ensures led { StandsByEvents owner.new.host }
         ensures shows { ShowsInstance owner.new.host id result }

@@ -2,7 +2,7 @@
 
 ghost use Rattle.std.specs.Prelude.{◌≡◌, ◌<◌, IfOk};
 
-use crate::{Fittings, HostCell, HostMatter, Manner, Owner, run_calls};
+use crate::{Fittings, HostCell, HostMatter, Manner, OwnedHost, Owner, run_calls};
 use std::alloc::{AllocError, Global};
 use std::marker::Brand;
 use std::sync::Wait;
@@ -27,7 +27,7 @@ const BYTES: [u8; 63] = [
 // What names a cell's ledgers and its pact.
 #[derive(Drop)]
 struct Blanks {
-    pact: BlankPact<HostMatter>,
+    pact: BlankPact<HostMatter<MemSwap>>,
     turns: Blank,
     charges: Blank,
     offers: Blank,
@@ -38,7 +38,7 @@ struct Blanks {
 #[derive(Drop)]
 struct Begun<T: Ledger, C: Ledger, O: Ledger, E: Ledger, B: Bond> {
     cell: HostCell<MemSwap, T, C, O, E, B>,
-    owner: Owner<B>,
+    owner: Owner<MemSwap, B>,
     shares: Shares<T, C, O, E>,
 }
 
@@ -264,5 +264,175 @@ fn workers_run_all_calls(rt: HostRuntime) -> Result<(), Fail> {
 
     // Six pages of 7 share a frame where they were offered in time; else they lay on four frames.
     assert!(rt; evictions < 1000);
+    Ok(())
+}
+
+// A new host with 64 frames and 256 slots, in its owner's hand.
+fn begin_owned<T: Ledger, C: Ledger, O: Ledger, E: Ledger, B: Bond>(
+    alloc: Global,
+    blanks: Blanks,
+) -> Result<OwnedHost<MemSwap, T, C, O, E, B>, Fail>
+    requires pact { blanks.pact ≡ B.table }
+    requires turns { (blanks.turns.name ≡ T.name) × (blanks.turns.parts ≡ T.parts)
+        × (64 < T.parts) }
+    requires charges { (blanks.charges.name ≡ C.name) × (blanks.charges.parts ≡ C.parts)
+        × (64 < C.parts) }
+    requires offers { (blanks.offers.name ≡ O.name) × (blanks.offers.parts ≡ O.parts)
+        × (1 < O.parts) }
+    requires evictions { (blanks.evictions.name ≡ E.name) × (blanks.evictions.parts ≡ E.parts)
+        × (1 < E.parts) }
+{
+    let Blanks {
+        pact,
+        turns,
+        charges,
+        offers,
+        evictions,
+    } = blanks;
+    let host = Host::new(alloc, 64, 256, Tax { num: 0, den: 1 })?;
+    let fittings = Fittings {
+        device: MemSwap::new(alloc, 256)?,
+        buf: Box::new(alloc, [0; 4096])?,
+        pact,
+        turns,
+        charges,
+        offers,
+        evictions,
+    };
+    Ok(OwnedHost::new(alloc, host, fittings)?)
+}
+
+// Whether each of so many workers has run a turn.
+fn each_has_worked<T: Ledger, C: Ledger, O: Ledger, E: Ledger>(
+    shares: &Shares<T, C, O, E>,
+    workers: usize,
+) -> bool
+    requires { workers < 65 }
+{
+    for seat in 0..workers {
+        if shares.tally(seat).turns == 0 {
+            return false;
+        }
+    }
+    true
+}
+
+// Each instance is asked for a store and a load of it: the last load.
+fn ask_each<T: Ledger, C: Ledger, O: Ledger, E: Ledger, B: Bond>(
+    alloc: Global,
+    owned: &mut OwnedHost<MemSwap, T, C, O, E, B>,
+    ids: &[InstId],
+) -> Result<Option<(InstId, u32)>, Fail> {
+    let mut last = None;
+    for id in ids {
+        let _ = owned.invoke(alloc, *id, "s", &[4096, 7], 1000)?;
+        let call = owned.invoke(alloc, *id, "l", &[4096], 1000)?;
+        last = Some((*id, call));
+    }
+    Ok(last)
+}
+
+// The instances are asked, and their calls run by turns of one charge, again and again until each of four workers has run a
+// turn. The last load, if each has.
+fn run_rounds<
+    T: Ledger + Send + 'static,
+    C: Ledger + Send + 'static,
+    O: Ledger + Send + 'static,
+    E: Ledger + Send + 'static,
+    B: Bond + Send + 'static,
+    R: Threads + Wait + Copy + Send + 'static,
+>(
+    rt: R,
+    alloc: Global,
+    owned: &mut OwnedHost<MemSwap, T, C, O, E, B>,
+    ids: &[InstId],
+) -> Result<Option<(InstId, u32)>, Fail> {
+    let manner = Manner {
+        hasher: FnvHash,
+        quantum: 1,
+        workers: 4,
+    };
+    for _ in 0..1000 {
+        let last = ask_each(alloc, owned, ids)?;
+        if owned.run(rt, alloc, ids, manner).is_err() {
+            return Ok(None);
+        }
+        if each_has_worked(owned.shares(), 4) {
+            return Ok(last);
+        }
+    }
+    Ok(None)
+}
+
+// Eight instances of one module on a host in its owner's hand.
+fn eight<T: Ledger, C: Ledger, O: Ledger, E: Ledger, B: Bond>(
+    alloc: Global,
+    owned: &mut OwnedHost<MemSwap, T, C, O, E, B>,
+) -> Result<Vec<InstId>, Fail> {
+    let bytes = owned.load(alloc, &BYTES)?;
+    let mut ids = Vec::new(alloc);
+    for _ in 0..8 {
+        ids.push(owned.admit(alloc, bytes, given(alloc))?)?;
+    }
+    Ok(ids)
+}
+
+// How the last load of eight instances is, once each of four workers has run a turn.
+fn work_on<
+    T: Ledger + Send + 'static,
+    C: Ledger + Send + 'static,
+    O: Ledger + Send + 'static,
+    E: Ledger + Send + 'static,
+    B: Bond + Send + 'static,
+    R: Threads + Wait + Copy + Send + 'static,
+>(
+    rt: R,
+    alloc: Global,
+    owned: &mut OwnedHost<MemSwap, T, C, O, E, B>,
+) -> Result<Option<CallStatus>, Fail> {
+    let ids = eight(alloc, owned)?;
+    match run_rounds(rt, alloc, owned, &ids)? {
+        Some((id, call)) => Ok(owned.host().call_status(id, call)),
+        None => Ok(None),
+    }
+}
+
+// The same on a new host.
+fn all_work<
+    T: Ledger + Send + 'static,
+    C: Ledger + Send + 'static,
+    O: Ledger + Send + 'static,
+    E: Ledger + Send + 'static,
+    B: Bond + Send + 'static,
+    R: Threads + Wait + Copy + Send + 'static,
+>(rt: R, alloc: Global, blanks: Blanks) -> Result<Option<CallStatus>, Fail>
+    requires pact { blanks.pact ≡ B.table }
+    requires turns { (blanks.turns.name ≡ T.name) × (blanks.turns.parts ≡ T.parts)
+        × (64 < T.parts) }
+    requires charges { (blanks.charges.name ≡ C.name) × (blanks.charges.parts ≡ C.parts)
+        × (64 < C.parts) }
+    requires offers { (blanks.offers.name ≡ O.name) × (blanks.offers.parts ≡ O.parts)
+        × (1 < O.parts) }
+    requires evictions { (blanks.evictions.name ≡ E.name) × (blanks.evictions.parts ≡ E.parts)
+        × (1 < E.parts) }
+{
+    let mut owned = begin_owned::<T, C, O, E, B>(alloc, blanks)?;
+    work_on(rt, alloc, &mut owned)
+}
+
+#[test]
+fn each_worker_runs_turns(rt: HostRuntime) -> Result<(), Fail> {
+    let alloc = rt.alloc();
+    let blanks = make_blanks(alloc)?;
+    let last = all_work::<Brand, Brand, Brand, Brand, Brand, HostRuntime>(rt, alloc, blanks)?;
+    let Some(CallStatus::Returned { value, .. }) = last else {
+        assert!(rt; false, "each worker runs a turn, and the last load returns");
+        return Ok(());
+    };
+    let seven = CallValue {
+        of: ValType::I32,
+        word: 7,
+    };
+    assert_eq!(rt; value, Some(seven));
     Ok(())
 }

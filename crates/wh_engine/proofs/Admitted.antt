@@ -1,5 +1,5 @@
 -- Instances that a script admits.
-use Rattle.std.proofs.Common.{arith, ◌≡◌, ◌≢◌, ℕ, zero, suc, ◌+◌, ◌<◌, ◌⊎◌, inl, inr, ◌↔◌, true, false, Bool, List, [], ◌∷◌, ◌++◌, map, length, get_or, slice_get, bytes_eq, string_bytes, option_map, Option, Some, None, Result, Ok, Err, refl, ap, sym, subst, ◌∙◌}
+use Rattle.std.proofs.Common.{arith, ◌≡◌, ◌≢◌, ℕ, zero, suc, ◌+◌, ◌<◌, inl, ◌↔◌, true, false, Bool, List, [], ◌∷◌, ◌++◌, map, length, get_or, slice_get, bytes_eq, string_bytes, option_map, Option, Some, None, Ok, Err, refl, ap, sym, subst, ◌∙◌}
 use Rattle.std.specs.Bool.{MatchBool}
 use Rattle.std.specs.Global.{Vec}
 use Rattle.std.specs.List.{AllZip}
@@ -15,8 +15,7 @@ use Rattle.std.proofs.lemmas.Option.{same_Some}
 use Rattle.wh_model.specs.Execution.Store.{Instance, Store}
 use Rattle.wh_host_model.specs.Host.Worlds.{Params, Entry, Doing, Loaded, Tenant, World, tenant, journal, journal_calls}
 use Rattle.wh_host_model.specs.Host.Admission.{start_entry, StartsAs, writes, runs, ends, rest_of, LetsIn}
-use Rattle.wh_host_model.specs.Host.Happens.{AdmitAnswer, admit_ok, IsAdmit, is_admitted, isnt_admitted, no_memory_to_admit, IsLive}
-use Rattle.wh_host_model.specs.Host.Standing.{CanGoOn}
+use Rattle.wh_host_model.specs.Host.Happens.{AdmitAnswer, admit_ok, IsAdmit, is_admitted, isnt_admitted, no_memory_to_admit}
 use Rattle.wh_host_model.specs.Lines.Settings.{Settings}
 use Rattle.wh_host_model.specs.Lines.Texts as texts
 use Rattle.wh_host_model.specs.Lines.Texts.{Reply}
@@ -34,14 +33,12 @@ use Rattle.wh_script_model.specs.Following.{AreSame, IsFollowed, is_there, Knows
 use Rattle.wh_script_model.specs.Replies.{admit_reply}
 use Rattle.wh_script_model.specs.Laws.{places_after}
 use Rattle.wh_script_model.proofs.CommandsGuests.{guests_follow}
-use Rattle.wh_script_model.proofs.CommandsKnown.{zip_last}
 use Rattle.wh_host_model.specs.Host.Admission.{AdmitFault}
 use Rattle.wh_replies.specs.View.{status_of}
 use Rattle.wh_engine.specs.Names.{AreNames, number_of}
-use Rattle.wh_engine.specs.declared.engine.Engine.{Engine}
 use Rattle.wh_engine.specs.declared.names.Names.{Names}
 use Rattle.wh_engine.specs.declared.parts.Guest.{Guest}
-use Rattle.wh_engine.specs.Standing.{IsLed, StandsForScript, AreGuests, IsGuest}
+use Rattle.wh_engine.specs.Standing.{EngineState, IsLed, StandsForScript, AreGuests, IsGuest}
 use Rattle.wh_engine.specs.Obeying.{TakesGuest}
 use Rattle.wh_engine.proofs.Asked.{whole_of}
 use Rattle.wh_engine.proofs.Named.{named_next, unnamed}
@@ -183,7 +180,7 @@ has_start {w = w} {w2 = w2} {k = k} {number = number} {place = place} {p = p} l 
 
 -- ---- the engine
 
-abbrev pub with_guests : Engine → HostState → Names → Vec Guest → Engine
+abbrev pub with_guests : EngineState → HostState → Names → Vec Guest → EngineState
 with_guests e h names xs = record e { host = h; guest_names = names; guests = xs }
 
 -- the new instance as the engine keeps it
@@ -193,7 +190,7 @@ pub record IsNewGuest (x : Guest) (inst : List ℕ) (own : InstId) : Type 0 wher
   pub live : x.is_released ≡ false
   pub unsaid : x.said ≡ None
 
-new_stands : (settings : Settings) (e : Engine) (m : Made) (named : NamedModule) (inst : List ℕ) (k : ℕ) (p : Params) (id : InstId) (h2 : HostState) (names : Names) (x : Guest) (xs : Vec Guest)
+new_stands : (settings : Settings) (e : EngineState) (m : Made) (named : NamedModule) (inst : List ℕ) (k : ℕ) (p : Params) (id : InstId) (h2 : HostState) (names : Names) (x : Guest) (xs : Vec Guest)
     → (s : StandsForScript settings e m) → number_of e.guest_names inst ≡ None → slice_get m.modules k ≡ Some named
     → ((other : List ℕ) → number_of names other ≡ update bytes_eq (number_of e.guest_names) inst (Some (length e.guests.items)) other)
     → Tells h2 x.has_start (λ z. IsGoing z id) → IsNewGuest x inst id → xs.items ≡ e.guests.items ++ x ∷ []
@@ -236,7 +233,7 @@ new_stands settings e m named inst k p id h2 names x xs s free at sets tells is 
     )
 
 -- it is admitted
-pub admitted : (settings : Settings) (e : Engine) (m : Made) (inst : List ℕ) (k : ℕ) (p : Params) (id : InstId) (h2 : HostState) (names : Names) (x : Guest) (xs : Vec Guest)
+pub admitted : (settings : Settings) (e : EngineState) (m : Made) (inst : List ℕ) (k : ℕ) (p : Params) (id : InstId) (h2 : HostState) (names : Names) (x : Guest) (xs : Vec Guest)
     → StandsForScript settings e m → number_of e.guest_names inst ≡ None → k < e.modules → AnswersAdmit e.host k p (Ok id) h2 → StaysWhole e.host.space h2.space
     → ((other : List ℕ) → number_of names other ≡ update bytes_eq (number_of e.guest_names) inst (Some (length e.guests.items)) other)
     → Tells h2 x.has_start (λ z. IsGoing z id) → IsNewGuest x inst id → xs.items ≡ e.guests.items ++ x ∷ []
@@ -265,7 +262,7 @@ refused_as inst MemoryMin = refl
 refused_as inst SegmentBounds = refl
 refused_as inst Memory = refl
 
-refused_engine : (settings : Settings) (e : Engine) (m : Made) (h2 : HostState) (names : Names) (xs : Vec Guest) → StandsForScript settings e m
+refused_engine : (settings : Settings) (e : EngineState) (m : Made) (h2 : HostState) (names : Names) (xs : Vec Guest) → StandsForScript settings e m
     → AreNames (number_of names) (map (λ (y : made.Guest). y.name) m.guests) → xs.items ≡ e.guests.items
     → (w2 : World) → IsLed h2 w2 → Knows settings w2 m (map (λ (y : Guest). y.id.place) e.guests.items) → StandsForScript settings (with_guests e h2 names xs) m
 refused_engine settings e m h2 names xs s are items w2 is2 knows2 = record {
@@ -283,7 +280,7 @@ places_refused : (settings : Settings) (w2 : World) (m2 : Made) (places : List �
 places_refused settings w2 m2 places (Some fault) knows = knows
 places_refused settings w2 m2 places None knows = knows
 
-refused_stands : (settings : Settings) (e : Engine) (m : Made) (named : NamedModule) (inst : List ℕ) (k : ℕ) (p : Params) (fault : ℕ) (h2 : HostState) (names : Names) (xs : Vec Guest)
+refused_stands : (settings : Settings) (e : EngineState) (m : Made) (named : NamedModule) (inst : List ℕ) (k : ℕ) (p : Params) (fault : ℕ) (h2 : HostState) (names : Names) (xs : Vec Guest)
     → StandsForScript settings e m → slice_get m.modules k ≡ Some named → AreNames (number_of names) (map (λ (y : made.Guest). y.name) m.guests) → xs.items ≡ e.guests.items
     → (w2 : World) (m2 : Made) (reply : Reply) → reply ≡ texts.admit_refused inst fault → ReceivesGuest true settings m inst named.m p reply m2 → IsLed h2 w2
     → Knows settings w2 m2 (map (λ (y : Guest). y.id.place) e.guests.items)
@@ -294,7 +291,7 @@ refused_stands settings e m named inst k p fault h2 names xs s at are items w2 _
 refused_stands settings e m named inst k p fault h2 names xs s at are items w2 _ _ eq (receiving.admission_wants scarce none) is2 knows2 =
     (named, at, m, receiving.admission_wants scarce none, refused_engine settings e m h2 names xs s are items w2 is2 knows2)
 
-pub refused : (settings : Settings) (e : Engine) (m : Made) (inst : List ℕ) (k : ℕ) (p : Params) (error : AdmitError) (h2 : HostState) (given names : Names) (xs : Vec Guest)
+pub refused : (settings : Settings) (e : EngineState) (m : Made) (inst : List ℕ) (k : ℕ) (p : Params) (error : AdmitError) (h2 : HostState) (given names : Names) (xs : Vec Guest)
     → StandsForScript settings e m → k < e.modules → number_of e.guest_names inst ≡ None → AnswersAdmit e.host k p (Err error) h2 → StaysWhole e.host.space h2.space
     → ((other : List ℕ) → number_of given other ≡ update bytes_eq (number_of e.guest_names) inst (Some (length e.guests.items)) other)
     → ((other : List ℕ) → number_of names other ≡ update bytes_eq (number_of given) inst None other)

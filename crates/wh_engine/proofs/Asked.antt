@@ -1,5 +1,5 @@
 -- What is asked of the present call of an instance.
-use Rattle.std.proofs.Common.{arith, ◌≡◌, ℕ, ◌+◌, ◌<◌, true, List, [], ◌∷◌, map, length, get_or, slice_get, Option, Some, Result, Ok, Err, refl, ap, sym, subst, ◌∙◌}
+use Rattle.std.proofs.Common.{arith, ◌≡◌, ℕ, ◌<◌, true, List, [], ◌∷◌, map, length, get_or, slice_get, Some, Result, Ok, Err, refl, ap, sym, subst, ◌∙◌}
 use Rattle.std.proofs.lemmas.Option.{slice_get-get_or}
 use Rattle.wh_host.proofs.Hosts.{reached_on}
 use Rattle.wh_host_model.specs.Host.Events.{Event}
@@ -9,7 +9,6 @@ use Rattle.wh_host_model.specs.Host.Happens.{CallAnswer, call_ok, call_no_instan
 use Rattle.wh_host_model.specs.Lines.Settings.{Settings}
 use Rattle.wh_host_model.specs.Lines.Commands.{Command}
 use Rattle.wh_host_model.specs.Lines.Texts.{Reply}
-use Rattle.wh_host_model.specs.Lines.Made as made
 use Rattle.wh_host_model.specs.Lines.Made.{Made}
 use Rattle.wh_host_model.specs.Lines.Answers.{Files, IsObeyed}
 use Rattle.wh_host.specs.Hosting.{HostState, IsHost}
@@ -18,19 +17,18 @@ use Rattle.wh_host.specs.declared.error.HostError.{HostError}
 use Rattle.wh_host.specs.declared.error.HostError.TheVariants.{NoInstance, Invoke, NoCall, Memory}
 use Rattle.wh_script_model.specs.Following.{Knows, StaysWhole}
 use Rattle.wh_script_model.specs.Laws.{FollowsCommand}
-use Rattle.wh_engine.specs.declared.engine.Engine.{Engine}
 use Rattle.wh_engine.specs.declared.parts.Guest.{Guest}
 use Rattle.wh_engine.specs.Names.{AreNames, number_of}
-use Rattle.wh_engine.specs.Standing.{IsLed, StandsForScript}
+use Rattle.wh_engine.specs.Standing.{EngineState, IsLed, StandsForScript}
 use Rattle.wh_engine.specs.Obeying.{IsNamed}
 use Rattle.wh_engine.proofs.Instances.{TouchesCalls, nothing, calls_of, names_stay, guests_stay, guest_at, placed_at}
 
 -- the engine with another host
-abbrev pub on_host : Engine → HostState → Engine
+abbrev pub on_host : EngineState → HostState → EngineState
 on_host e h = record e { host = h }
 
 -- the host has changed under what is known of it, and calls alone
-pub stands_on : (settings : Settings) (e : Engine) (m m2 : Made) (h2 : HostState) (w2 : World) → StandsForScript settings e m → IsLed h2 w2
+pub stands_on : (settings : Settings) (e : EngineState) (m m2 : Made) (h2 : HostState) (w2 : World) → StandsForScript settings e m → IsLed h2 w2
     → Knows settings w2 m2 (map (λ (x : Guest). x.id.place) e.guests.items) → TouchesCalls m m2 → StandsForScript settings (on_host e h2) m2
 stands_on settings e m m2 h2 w2 s is2 knows2 nothing = record {
   world = w2;
@@ -60,13 +58,13 @@ whole_of h h2 w w2 is is2 whole = subst (λ s. StaysWhole w.space s) is2.space (
 pub id_of : (x : Guest) (i : ℕ) → x.id.number ≡ i → x.id ≡ record { place = x.id.place; number = i }
 id_of x i e = ap (λ n. record { place = x.id.place; number = n }) e
 
-pub own_number : (e : Engine) (m : Made) (settings : Settings) (i : ℕ) (x : Guest) → StandsForScript settings e m → slice_get e.guests.items i ≡ Some x → x.id.number ≡ i
+pub own_number : (e : EngineState) (m : Made) (settings : Settings) (i : ℕ) (x : Guest) → StandsForScript settings e m → slice_get e.guests.items i ≡ Some x → x.id.number ≡ i
 own_number e m settings i x s at = let n = guest_at 0 e.guests.items m.guests i x s.guests at in omega (arith, n)
 
 pub asked : (asks : World → InstId → CallAnswer → World → Type 0) (command : Command) (reply : CallAnswer → Reply) (name : List ℕ) → FollowsCommand asks command reply name
     → ((settings : Settings) (files : Files) (m m2 : Made) (line : ℕ) (replies : List Reply) → IsObeyed true settings files m line command replies m2 → TouchesCalls m m2)
     → (event : InstId → Event) → ((w w2 : World) (id : InstId) (answer : CallAnswer) → asks w id answer w2 → Happens w (event id) w2)
-    → (settings : Settings) (files : Files) (line : ℕ) (m : Made) (e : Engine) (h2 : HostState) (x : Guest) (i : ℕ) (r : Result Unit HostError)
+    → (settings : Settings) (files : Files) (line : ℕ) (m : Made) (e : EngineState) (h2 : HostState) (x : Guest) (i : ℕ) (r : Result Unit HostError)
     → StandsForScript settings e m → IsNamed m i name → slice_get e.guests.items i ≡ Some x → AnswersCall e.host (λ w a w2. asks w x.id a w2) r h2
     → StaysWhole e.host.space h2.space
     → (answer : CallAnswer) × IsCallAnswer r answer × (m2 : Made) × IsObeyed true settings files m line command (reply answer ∷ []) m2 × StandsForScript settings (on_host e h2) m2
@@ -88,14 +86,14 @@ asked asks command reply name law touches event happens settings files line m e 
 -- ---- by its result
 
 -- what came of it, where the host has answered Ok, and where not
-pub answered_ok : (command : Command) (reply : CallAnswer → Reply) (settings : Settings) (files : Files) (line : ℕ) (m : Made) (e : Engine) (h2 : HostState)
+pub answered_ok : (command : Command) (reply : CallAnswer → Reply) (settings : Settings) (files : Files) (line : ℕ) (m : Made) (e : EngineState) (h2 : HostState)
     → ((answer : CallAnswer) × IsCallAnswer (Ok tt) answer × (m2 : Made) × IsObeyed true settings files m line command (reply answer ∷ []) m2 × StandsForScript settings (on_host e h2) m2)
     → (m2 : Made) × IsObeyed true settings files m line command (reply call_ok ∷ []) m2 × StandsForScript settings (on_host e h2) m2
 answered_ok command reply settings files line m e h2 did =
     subst (λ (answer : CallAnswer). (m2 : Made) × IsObeyed true settings files m line command (reply answer ∷ []) m2 × StandsForScript settings (on_host e h2) m2) did.1 (did.2, did.3, did.4)
 
 -- the number by which the reply names it, where it hasn't
-pub answered_err : (command : Command) (reply : CallAnswer → Reply) (refused : ℕ → Reply) (settings : Settings) (files : Files) (line : ℕ) (m : Made) (e : Engine) (h2 : HostState)
+pub answered_err : (command : Command) (reply : CallAnswer → Reply) (refused : ℕ → Reply) (settings : Settings) (files : Files) (line : ℕ) (m : Made) (e : EngineState) (h2 : HostState)
     (error : HostError) → reply call_no_instance ≡ refused 1 → reply call_no_call ≡ refused 8
     → ((answer : CallAnswer) × IsCallAnswer (Err error) answer × (m2 : Made) × IsObeyed true settings files m line command (reply answer ∷ []) m2 × StandsForScript settings (on_host e h2) m2)
     → (m2 : Made) × IsObeyed true settings files m line command (refused (host_number error) ∷ []) m2 × StandsForScript settings (on_host e h2) m2

@@ -1,17 +1,16 @@
 -- Calls that a script asks of its instances.
-use Rattle.std.proofs.Common.{arith, ◌≡◌, ℕ, ◌+◌, true, List, [], ◌∷◌, ◌++◌, map, length, slice_get, ℤ, Option, Some, None, Result, Ok, Err, refl, ap, sym, subst, ◌∙◌}
+use Rattle.std.proofs.Common.{◌≡◌, ℕ, true, List, [], ◌∷◌, ◌++◌, map, length, slice_get, ℤ, Some, None, Result, Ok, Err, refl, ap, sym, subst, ◌∙◌}
 use Rattle.std.specs.List.{AllZip}
 use Rattle.std.specs.Global.{Vec}
 use Rattle.wh_host.proofs.Hosts.{reached_on}
 use Rattle.wh_host_model.specs.Host.Events as events
 use Rattle.wh_host_model.specs.Host.Worlds.{World}
-use Rattle.wh_host_model.specs.Host.Calls.{InvokeFault}
 use Rattle.wh_host_model.specs.Host.Happens.{InvokeAnswer, IsInvoke}
 use Rattle.wh_host_model.specs.Lines.Settings.{Settings}
 use Rattle.wh_host_model.specs.Lines.Made as made
 use Rattle.wh_host_model.specs.Lines.Made.{Made, with_guest, with_invoked, turned_down, taken_on}
 use Rattle.wh_host_model.specs.Lines.Receiving.{ReceivesCall, guest_is_gone, isnt_invoked, is_invoked, invoke_wants}
-use Rattle.wh_host.specs.Hosting.{HostState, IsHost}
+use Rattle.wh_host.specs.Hosting.{HostState}
 use Rattle.wh_host.specs.Asking.{AnswersInvoke, IsInvokeAnswer, refusal_answer, host_number}
 use Rattle.wh_host.specs.declared.error.HostError.{HostError}
 use Rattle.wh_host.specs.declared.error.HostError.TheVariants as host
@@ -21,13 +20,12 @@ use Rattle.wh_instance.specs.declared.error.InvokeError.{InvokeError}
 use Rattle.wh_instance.specs.declared.error.InvokeError.TheVariants.{NoExport, Arguments, QueueFull, Dead, JournalFull, Memory}
 use Rattle.wh_script_model.specs.Following.{Knows, StaysWhole}
 use Rattle.wh_script_model.specs.Replies.{reception}
-use Rattle.wh_engine.specs.declared.engine.Engine.{Engine}
 use Rattle.wh_engine.specs.declared.parts.Guest.{Guest}
 use Rattle.wh_engine.specs.declared.parts.Invoked.{Invoked}
 use Rattle.wh_engine.specs.declared.parts.Reception.{Reception}
 use Rattle.wh_engine.specs.declared.parts.Reception.TheVariants.{TurnedDown, TakenOn}
 use Rattle.wh_engine.specs.Names.{AreNames, number_of}
-use Rattle.wh_engine.specs.Standing.{IsLed, StandsForScript, AreGuests, IsInvokedAs, reception_of}
+use Rattle.wh_engine.specs.Standing.{EngineState, IsLed, StandsForScript, AreGuests, IsInvokedAs, reception_of}
 use Rattle.wh_engine.specs.Obeying.{TakesInvoke}
 use Rattle.wh_engine.proofs.Asked.{whole_of, id_of, own_number}
 use Rattle.wh_engine.proofs.Instances.{TouchesCalls, nothing, calls_of, guest_of, placed_at, touched_guests, touched_modules, touched_names}
@@ -77,10 +75,10 @@ one_more (y ∷ xs) [] x v all one = absurd all
 one_more (y ∷ xs) (w ∷ vs) x v all one = (all.0, one_more xs vs x v all.1 one)
 
 -- the engine with another host and other calls
-abbrev pub with_calls : Engine → HostState → Vec Invoked → Engine
+abbrev pub with_calls : EngineState → HostState → Vec Invoked → EngineState
 with_calls e h calls = record e { host = h; invoked = calls }
 
-called_stands : (settings : Settings) (e : Engine) (m m1 m2 : Made) (h2 : HostState) (w2 : World) (calls : Vec Invoked) (x : Invoked) (v : made.Invoked)
+called_stands : (settings : Settings) (e : EngineState) (m m1 m2 : Made) (h2 : HostState) (w2 : World) (calls : Vec Invoked) (x : Invoked) (v : made.Invoked)
     → StandsForScript settings e m → IsBefore m m1 m2 → m2.invoked ≡ m.invoked ++ v ∷ [] → calls.items ≡ e.invoked.items ++ x ∷ [] → IsInvokedAs x v → IsLed h2 w2
     → Knows settings w2 m2 (map (λ (y : Guest). y.id.place) e.guests.items) → StandsForScript settings (with_calls e h2 calls) m2
 called_stands settings e m m1 m2 h2 w2 calls x v s b entry entries is is2 knows2 = record {
@@ -95,7 +93,7 @@ called_stands settings e m m1 m2 h2 w2 calls x v s b entry entries is is2 knows2
   invoked = subst (λ vs. AllZip IsInvokedAs calls.items vs) (sym entry) (subst (λ xs. AllZip IsInvokedAs xs (m.invoked ++ v ∷ [])) (sym entries) (one_more e.invoked.items m.invoked x v s.invoked is));
 }
 
-pub called : (settings : Settings) (e : Engine) (m : Made) (i : ℕ) (x : Guest) (export : List ℕ) (fuel : ℕ) (given : List ℤ) (h2 : HostState) (r : Result ℕ HostError) (came : Reception)
+pub called : (settings : Settings) (e : EngineState) (m : Made) (i : ℕ) (x : Guest) (export : List ℕ) (fuel : ℕ) (given : List ℤ) (h2 : HostState) (r : Result ℕ HostError) (came : Reception)
     (calls : Vec Invoked) → StandsForScript settings e m → slice_get e.guests.items i ≡ Some x → AnswersInvoke e.host x.id export given fuel r h2 → StaysWhole e.host.space h2.space
     → ((answer : InvokeAnswer) → IsInvokeAnswer r answer → reception_of came ≡ reception i answer)
     → calls.items ≡ e.invoked.items ++ record { came = came; said = None } ∷ []

@@ -1,7 +1,6 @@
 -- An engine on a new host.
-use Rattle.std.proofs.Common.{arith, ◌≡◌, ◌∙◌, ℕ, zero, suc, List, [], ◌∷◌, length, replicate, map, slice_get, Option, Some, None, refl, sym, ap, subst}
+use Rattle.std.proofs.Common.{arith, ◌≡◌, ◌∙◌, ℕ, zero, suc, List, [], length, replicate, map, Option, None, refl, sym, ap, subst}
 use Rattle.wh_host_model.specs.declared.Tax.{Tax}
-use Rattle.wh_host_model.specs.declared.states.Slot.{Slot}
 use Rattle.wh_host_model.specs.declared.states.Slot.TheVariants.{Vacant}
 use Rattle.wh_host_model.specs.Frames.{tally}
 use Rattle.wh_host_model.specs.Pages.{zero_page}
@@ -9,15 +8,14 @@ use Rattle.wh_host_model.specs.Space.Errands.{is_ticket, tickets}
 use Rattle.wh_host_model.specs.Space.Parts.{Space, minima, spreads}
 use Rattle.wh_host_model.specs.Lines.Made.{NamedModule, nothing_made}
 use Rattle.wh_host_model.specs.Lines.Settings.{Settings}
-use Rattle.wh_host.specs.Hosting.{HostState, IsNewHost}
+use Rattle.wh_host.specs.Hosting.{IsNewHost}
 use Rattle.wh_space.specs.Arrivals.{IsNew}
 use Rattle.std.specs.List.{AllZip}
 use Rattle.wh_host_model.specs.Host.Worlds.{Loaded, World}
 use Rattle.wh_script_model.specs.Following.{AreSame, IsFollowed, IsPlaced, Knows}
 use Rattle.wh_engine.specs.Names.{AreNames, number_of}
-use Rattle.wh_engine.specs.declared.engine.Engine.{Engine}
 use Rattle.wh_engine.specs.declared.parts.Guest.{Guest}
-use Rattle.wh_engine.specs.Standing.{StandsForScript, AreGuests, IsInvokedAs}
+use Rattle.wh_engine.specs.Standing.{EngineState, StandsForScript, AreGuests, IsInvokedAs}
 
 none_vacant : (n : ℕ) → tally is_ticket (replicate n Vacant) ≡ 0
 none_vacant zero = refl
@@ -45,7 +43,7 @@ knows_none settings w tax modules tenants new = record {
   placed = subst (λ ts. AllZip IsPlaced [] ts) (sym tenants) tt;
 }
 
-pub fresh : (settings : Settings) (tax : Tax) (e : Engine) → IsNewHost e.host settings.frames settings.slots tax → ((name : List ℕ) → number_of e.module_names name ≡ None)
+pub fresh : (settings : Settings) (tax : Tax) (e : EngineState) → IsNewHost e.host settings.frames settings.slots tax → ((name : List ℕ) → number_of e.module_names name ≡ None)
     → ((name : List ℕ) → number_of e.guest_names name ≡ None) → e.guests.items ≡ [] → e.invoked.items ≡ [] → e.modules ≡ 0 → StandsForScript settings e nothing_made
 fresh settings tax e new modules guests none no_call zero_many = record {
   world = new.0;

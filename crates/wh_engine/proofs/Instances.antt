@@ -1,10 +1,10 @@
 -- The instances of a script, one of which has other calls.
-use Rattle.std.proofs.Common.{arith, ◌≡◌, ℕ, ◌+◌, zero, suc, List, [], ◌∷◌, ◌++◌, map, length, slice_get, slice_set, true, Option, Some, None, refl, ap, sym, subst, ◌∙◌}
+use Rattle.std.proofs.Common.{arith, ◌≡◌, ℕ, ◌+◌, zero, suc, List, [], ◌∷◌, map, slice_get, slice_set, true, Some, refl, ap, sym, subst, ◌∙◌}
 use Rattle.wh_model.specs.Execution.Replay.{Call}
 use Rattle.wh_host_model.specs.Lines.Made as made
 use Rattle.wh_host_model.specs.Lines.Made.{Made, HasGuest, with_guest}
 use Rattle.wh_host_model.specs.Lines.Settings.{Settings}
-use Rattle.wh_host_model.specs.Lines.Commands.{refuel, cancel, retry, release}
+use Rattle.wh_host_model.specs.Lines.Commands.{refuel, cancel, retry}
 use Rattle.wh_host_model.specs.Lines.Texts.{Reply}
 use Rattle.wh_host_model.specs.Lines.Answers.{Files, IsObeyed, module_name_is_taken, module_comes, no_such_guest, is_refueled, no_one_to_refuel, no_call_to_refuel, is_cancelled, no_one_to_cancel, no_call_to_cancel, no_one_to_retry, no_fault_to_retry}
 use Rattle.wh_engine.specs.declared.parts.Guest.{Guest}

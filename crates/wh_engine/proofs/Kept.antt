@@ -1,30 +1,28 @@
 -- Modules that a script brings.
-use Rattle.std.proofs.Common.{arith, ◌≡◌, ◌≢◌, ℕ, ◌+◌, ◌<◌, ◌⊎◌, inl, inr, ⊎_elim, min, true, List, [], ◌∷◌, ◌++◌, map, length, slice_get, Bool, bytes_eq, Option, Some, None, Result, Ok, Err, refl, ap, sym, subst, ◌∙◌}
+use Rattle.std.proofs.Common.{arith, ◌≡◌, ℕ, ◌+◌, ◌<◌, true, List, [], ◌∷◌, ◌++◌, map, length, bytes_eq, Some, None, Result, Ok, Err, refl, ap, sym, subst, ◌∙◌}
 use Rattle.std.specs.Map.{update}
-use Rattle.wh_model.specs.Linking.Accepting.{IsAccepted}
 use Rattle.wh_host.proofs.Hosts.{reached_on}
 use Rattle.wh_host_model.specs.Host.Events as events
 use Rattle.wh_host_model.specs.Host.Worlds.{World}
 use Rattle.wh_host_model.specs.Host.Admission.{most_modules}
-use Rattle.wh_host_model.specs.Host.Happens.{LoadAnswer, load_ok, load_refused, load_wants_memory}
+use Rattle.wh_host_model.specs.Host.Happens.{LoadAnswer}
 use Rattle.wh_host_model.specs.Lines.Settings.{Settings}
 use Rattle.wh_host_model.specs.Lines.Texts.{Refusal, Reply, module_ok, module_refused}
 use Rattle.wh_host_model.specs.Lines.Made.{NamedModule, Made}
 use Rattle.wh_host_model.specs.Lines.Receiving.{ReceivesModule, module_is_kept, module_isnt_kept, module_is_wanting}
-use Rattle.wh_host.specs.Hosting.{HostState, IsHost}
+use Rattle.wh_host.specs.Hosting.{HostState}
 use Rattle.wh_host.specs.Loading.{AnswersLoad, IsLoadAnswer}
 use Rattle.wh_host.specs.declared.error.ModuleError.{ModuleError}
 use Rattle.wh_host.specs.declared.parts.ModuleId.{ModuleId}
 use Rattle.wh_script_model.specs.Following.{Knows}
 use Rattle.wh_script_model.specs.Replies.{SaysModule}
 use Rattle.wh_engine.specs.Names.{AreNames, number_of}
-use Rattle.wh_engine.specs.declared.engine.Engine.{Engine}
 use Rattle.wh_engine.specs.declared.names.Names.{Names}
 use Rattle.wh_engine.specs.declared.parts.Guest.{Guest}
-use Rattle.wh_engine.specs.Standing.{IsLed, StandsForScript}
+use Rattle.wh_engine.specs.Standing.{EngineState, IsLed, StandsForScript}
 use Rattle.wh_engine.specs.Obeying.{TakesModule}
 use Rattle.wh_script_model.proofs.Commands.{modules_follow}
-use Rattle.wh_engine.proofs.Named.{named_next, unnamed, same_names}
+use Rattle.wh_engine.proofs.Named.{named_next, unnamed}
 
 abbrev label : NamedModule → List ℕ
 label n = n.name
@@ -38,7 +36,7 @@ one_longer [] n = refl
 one_longer (x ∷ ms) n = let e = one_longer ms n in omega (arith, e)
 
 -- what the law of modules says of an answer of the host
-law_of : (settings : Settings) (e : Engine) (m : Made) (name bytes : List ℕ) (h2 : HostState) (r : Result ModuleId ModuleError) (reply : Reply) (s : StandsForScript settings e m)
+law_of : (settings : Settings) (e : EngineState) (m : Made) (name bytes : List ℕ) (h2 : HostState) (r : Result ModuleId ModuleError) (reply : Reply) (s : StandsForScript settings e m)
     → AnswersLoad e.host bytes r h2 → ((answer : LoadAnswer) → IsLoadAnswer r answer → SaysModule name answer reply)
     → (m2 : Made) × (w2 : World) × ReceivesModule true m name bytes reply m2 × IsLed h2 w2
     × Knows settings w2 m2 (map (λ (x : Guest). x.id.place) e.guests.items)
@@ -54,13 +52,13 @@ labelled [] = refl
 labelled (x ∷ ms) = let e = labelled ms in omega (arith, e)
 
 -- the engine with another host and other names of modules
-abbrev pub with_modules : Engine → HostState → Names → ℕ → Engine
+abbrev pub with_modules : EngineState → HostState → Names → ℕ → EngineState
 with_modules e h names k = record e { host = h; module_names = names; modules = k }
 
 ok_says : (name : List ℕ) (id : ModuleId) (answer : LoadAnswer) → IsLoadAnswer (Ok id) answer → SaysModule name answer (module_ok name)
 ok_says name id answer is = subst (λ a. SaysModule name a (module_ok name)) (sym is) refl
 
-kept_stands : (settings : Settings) (e : Engine) (m : Made) (name bytes : List ℕ) (h2 : HostState) (names : Names) (k : ℕ) → StandsForScript settings e m → number_of e.module_names name ≡ None
+kept_stands : (settings : Settings) (e : EngineState) (m : Made) (name bytes : List ℕ) (h2 : HostState) (names : Names) (k : ℕ) → StandsForScript settings e m → number_of e.module_names name ≡ None
     → ((other : List ℕ) → number_of names other ≡ update bytes_eq (number_of e.module_names) name (Some e.modules) other)
     → (e.modules < most_modules → k ≡ e.modules + 1)
     → (m2 : Made) (w2 : World) (reply : Reply) → reply ≡ module_ok name → ReceivesModule true m name bytes reply m2 → IsLed h2 w2
@@ -88,7 +86,7 @@ kept_stands settings e m name bytes h2 names k s free sets counts _ w2 _ is (mod
     )
 
 -- other names of the same modules
-pub with_names : (settings : Settings) (e : Engine) (m : Made) (h2 : HostState) (names : Names) (w2 : World) → StandsForScript settings e m → AreNames (number_of names) (map label m.modules)
+pub with_names : (settings : Settings) (e : EngineState) (m : Made) (h2 : HostState) (names : Names) (w2 : World) → StandsForScript settings e m → AreNames (number_of names) (map label m.modules)
     → IsLed h2 w2 → Knows settings w2 m (map (λ (x : Guest). x.id.place) e.guests.items) → StandsForScript settings (with_modules e h2 names e.modules) m
 with_names settings e m h2 names w2 s are is2 knows2 = record {
   world = w2;
@@ -101,7 +99,7 @@ with_names settings e m h2 names w2 s are is2 knows2 = record {
   invoked = s.invoked;
 }
 
-none_stands : (settings : Settings) (e : Engine) (m : Made) (name bytes : List ℕ) (h2 : HostState) (names : Names) (why : Refusal) → StandsForScript settings e m
+none_stands : (settings : Settings) (e : EngineState) (m : Made) (name bytes : List ℕ) (h2 : HostState) (names : Names) (why : Refusal) → StandsForScript settings e m
     → AreNames (number_of names) (map label m.modules)
     → (m2 : Made) (w2 : World) (reply : Reply) → reply ≡ module_refused name why → ReceivesModule true m name bytes reply m2 → IsLed h2 w2
     → Knows settings w2 m2 (map (λ (x : Guest). x.id.place) e.guests.items)
@@ -113,7 +111,7 @@ none_stands settings e m name bytes h2 names why s are _ w2 _ is (module_is_want
     (m, module_is_wanting scarce wants, with_names settings e m h2 names w2 s are is2 knows2)
 
 -- it was kept
-pub takes_kept : (settings : Settings) (e : Engine) (m : Made) (name bytes : List ℕ) (h2 : HostState) (names : Names) (k : ℕ) (id : ModuleId) → StandsForScript settings e m → number_of e.module_names name ≡ None
+pub takes_kept : (settings : Settings) (e : EngineState) (m : Made) (name bytes : List ℕ) (h2 : HostState) (names : Names) (k : ℕ) (id : ModuleId) → StandsForScript settings e m → number_of e.module_names name ≡ None
     → AnswersLoad e.host bytes (Ok id) h2
     → ((other : List ℕ) → number_of names other ≡ update bytes_eq (number_of e.module_names) name (Some e.modules) other)
     → (e.modules < most_modules → k ≡ e.modules + 1)
@@ -123,7 +121,7 @@ takes_kept settings e m name bytes h2 names k id s free answers sets counts =
     kept_stands settings e m name bytes h2 names k s free sets counts got.0 got.1 (module_ok name) refl got.2 got.3 got.4
 
 -- it wasn't, and has no name again
-pub takes_none : (settings : Settings) (e : Engine) (m : Made) (name bytes : List ℕ) (h2 : HostState) (given names : Names) (error : ModuleError) (why : Refusal) → StandsForScript settings e m
+pub takes_none : (settings : Settings) (e : EngineState) (m : Made) (name bytes : List ℕ) (h2 : HostState) (given names : Names) (error : ModuleError) (why : Refusal) → StandsForScript settings e m
     → number_of e.module_names name ≡ None
     → AnswersLoad e.host bytes (Err error) h2
     → ((other : List ℕ) → number_of given other ≡ update bytes_eq (number_of e.module_names) name (Some e.modules) other)

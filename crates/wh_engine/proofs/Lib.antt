@@ -8,6 +8,8 @@ pub mod LookedUp
 pub mod Named
 pub mod Refitted
 pub mod Released
+pub mod Resting
 pub mod Runs
 pub mod Sayings
 pub mod Whole
+pub mod Worked

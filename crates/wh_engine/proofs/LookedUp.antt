@@ -1,7 +1,6 @@
 -- What names stand for.
 use Rattle.std.proofs.Common.{◌≡◌, ◌∙◌, ℕ, zero, suc, List, [], ◌∷◌, map, slice_get, Option, Some, None, MatchOption, refl, sym, ap}
 use Rattle.std.proofs.lemmas.Option.{same_Some}
-use Rattle.wh_model.specs.Format.Syntax.{Module}
 use Rattle.wh_host_model.specs.Lines.Made as made
 use Rattle.wh_host_model.specs.Lines.Made.{NamedModule, Made, HasModule, HasGuest, NoGuest, NoModule}
 use Rattle.wh_engine.specs.Names.{AreNames}

@@ -1,5 +1,5 @@
 -- An engine that keeps the same in other rooms.
-use Rattle.std.proofs.Common.{◌≡◌, ℕ, List, map, sym, subst, Result, Ok, Err, OnErr}
+use Rattle.std.proofs.Common.{◌≡◌, map, sym, subst, Result, Ok, Err, OnErr}
 use Rattle.std.specs.Global.{Vec}
 use Rattle.std.specs.List.{AllZip}
 use Rattle.wh_host_model.specs.Lines.Settings.{Settings}
@@ -7,14 +7,13 @@ use Rattle.wh_host_model.specs.Lines.Made as made
 use Rattle.wh_host_model.specs.Lines.Made.{Made}
 use Rattle.wh_script_model.specs.Following.{Knows}
 use Rattle.wh_engine.specs.Names.{AreNames, number_of}
-use Rattle.wh_engine.specs.declared.engine.Engine.{Engine}
 use Rattle.wh_engine.specs.declared.names.Names.{Names}
 use Rattle.wh_engine.specs.declared.parts.Guest.{Guest}
 use Rattle.wh_engine.specs.declared.parts.Invoked.{Invoked}
-use Rattle.wh_engine.specs.Standing.{StandsForScript, AreGuests, IsInvokedAs}
+use Rattle.wh_engine.specs.Standing.{EngineState, StandsForScript, AreGuests, IsInvokedAs}
 
 -- other names with the same numbers, and the same instances and calls in other vectors
-pub refitted : (settings : Settings) (e : Engine) (m : Made) (ms gs : Names) (xs : Vec Guest) (vs : Vec Invoked) → StandsForScript settings e m
+pub refitted : (settings : Settings) (e : EngineState) (m : Made) (ms gs : Names) (xs : Vec Guest) (vs : Vec Invoked) → StandsForScript settings e m
     → AreNames (number_of ms) (map (λ (n : made.NamedModule). n.name) m.modules)
     → AreNames (number_of gs) (map (λ (g : made.Guest). g.name) m.guests)
     → xs.items ≡ e.guests.items → vs.items ≡ e.invoked.items

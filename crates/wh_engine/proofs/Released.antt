@@ -1,5 +1,5 @@
 -- Instances that a script lets go.
-use Rattle.std.proofs.Common.{arith, ◌≡◌, ℕ, zero, suc, ◌+◌, ◌<◌, true, List, [], ◌∷◌, ◌++◌, map, length, slice_get, slice_set, Option, Some, None, Result, Ok, Err, refl, ap, sym, subst, ◌∙◌}
+use Rattle.std.proofs.Common.{◌≡◌, ℕ, zero, suc, ◌+◌, true, List, [], ◌∷◌, map, slice_get, slice_set, Option, Some, Result, Ok, Err, refl, ap, sym, subst, ◌∙◌}
 use Rattle.std.specs.Global.{Vec}
 use Rattle.std.specs.Vec.{with_item}
 use Rattle.std.proofs.lemmas.Option.{same_Some}
@@ -14,7 +14,7 @@ use Rattle.wh_host_model.specs.Lines.Made as made
 use Rattle.wh_host_model.specs.Lines.Made.{Made, HasGuest, with_guest}
 use Rattle.wh_host_model.specs.Lines.Answers as answers
 use Rattle.wh_host_model.specs.Lines.Answers.{Files, IsObeyed}
-use Rattle.wh_host.specs.Hosting.{HostState, IsHost}
+use Rattle.wh_host.specs.Hosting.{HostState}
 use Rattle.wh_host.specs.Releasing.{AnswersRelease, IsOutput}
 use Rattle.wh_host.specs.Asking.{host_number}
 use Rattle.wh_host.specs.declared.error.HostError.{HostError}
@@ -23,15 +23,14 @@ use Rattle.wh_script_model.specs.Following.{Knows, StaysWhole}
 use Rattle.wh_script_model.specs.Replies.{release_reply}
 use Rattle.wh_script_model.proofs.CommandsEnding.{releases_follow}
 use Rattle.wh_engine.specs.Names.{AreNames, number_of}
-use Rattle.wh_engine.specs.declared.engine.Engine.{Engine}
 use Rattle.wh_engine.specs.declared.parts.Guest.{Guest}
-use Rattle.wh_engine.specs.Standing.{IsLed, StandsForScript, AreGuests, IsGuest}
-use Rattle.wh_engine.specs.Obeying.{IsNamed, ObeysCommand, reply_to_release}
+use Rattle.wh_engine.specs.Standing.{EngineState, IsLed, StandsForScript, AreGuests, IsGuest}
+use Rattle.wh_engine.specs.Obeying.{IsNamed, ObeysCommand}
 use Rattle.wh_engine.proofs.Asked.{on_host, stands_on, whole_of, id_of, own_number}
 use Rattle.wh_engine.proofs.Instances.{TouchesCalls, nothing, names_stay, placed_at}
 
 -- what the host has answered, and what the script gets for it
-record DoesRelease (settings : Settings) (files : Files) (line : ℕ) (m : Made) (e : Engine) (name : List ℕ) (h2 : HostState) (r : Result (Vec ℕ) HostError) : Type 0 where
+record DoesRelease (settings : Settings) (files : Files) (line : ℕ) (m : Made) (e : EngineState) (name : List ℕ) (h2 : HostState) (r : Result (Vec ℕ) HostError) : Type 0 where
   answer : Option (List ℕ)
   is : IsOutput r answer
   after : Made
@@ -40,7 +39,7 @@ record DoesRelease (settings : Settings) (files : Files) (line : ℕ) (m : Made)
   is_host : IsLed h2 world
   knows : Knows settings world after (map (λ (y : Guest). y.id.place) e.guests.items)
 
-does : (settings : Settings) (files : Files) (line : ℕ) (m : Made) (e : Engine) (name : List ℕ) (h2 : HostState) (x : Guest) (i : ℕ) (r : Result (Vec ℕ) HostError)
+does : (settings : Settings) (files : Files) (line : ℕ) (m : Made) (e : EngineState) (name : List ℕ) (h2 : HostState) (x : Guest) (i : ℕ) (r : Result (Vec ℕ) HostError)
     → StandsForScript settings e m → IsNamed m i name → slice_get e.guests.items i ≡ Some x → AnswersRelease e.host x.id r h2 → StaysWhole e.host.space h2.space
     → DoesRelease settings files line m e name h2 r
 does settings files line m e name h2 x i r s named at replies whole =
@@ -64,13 +63,13 @@ refused_after e (answers.no_such_guest for none) = refl
 refused_after e (answers.is_released i z has live replay) = absurd (cc e)
 refused_after e (answers.no_one_to_release i has gone) = refl
 
-refused_stands : (settings : Settings) (files : Files) (line : ℕ) (m : Made) (e : Engine) (name : List ℕ) (h2 : HostState) (m2 : Made) (w2 : World) (reply : Reply) → StandsForScript settings e m
+refused_stands : (settings : Settings) (files : Files) (line : ℕ) (m : Made) (e : EngineState) (name : List ℕ) (h2 : HostState) (m2 : Made) (w2 : World) (reply : Reply) → StandsForScript settings e m
     → reply ≡ release_refused name 1 → IsObeyed true settings files m line (release name) (reply ∷ []) m2 → IsLed h2 w2
     → Knows settings w2 m2 (map (λ (y : Guest). y.id.place) e.guests.items) → ObeysCommand settings files m line (release name) reply (on_host e h2)
 refused_stands settings files line m e name h2 m2 w2 reply s is obeyed is2 knows2 =
     (m2, obeyed, stands_on settings e m m2 h2 w2 s is2 knows2 (subst (λ z. TouchesCalls m z) (sym (refused_after is obeyed)) nothing))
 
-pub refuses : (settings : Settings) (files : Files) (line : ℕ) (m : Made) (e : Engine) (name : List ℕ) (h2 : HostState) (x : Guest) (i : ℕ) (error : HostError)
+pub refuses : (settings : Settings) (files : Files) (line : ℕ) (m : Made) (e : EngineState) (name : List ℕ) (h2 : HostState) (x : Guest) (i : ℕ) (error : HostError)
     → StandsForScript settings e m → IsNamed m i name → slice_get e.guests.items i ≡ Some x → AnswersRelease e.host x.id (Err error) h2 → StaysWhole e.host.space h2.space
     → ObeysCommand settings files m line (release name) (release_refused name (host_number error)) (on_host e h2)
 refuses settings files line m e name h2 x i NoInstance s named at replies whole =
@@ -106,16 +105,16 @@ named_at (h ∷ gs) zero g e = ap (λ (z : made.Guest). Some z.name) (same_Some 
 named_at (h ∷ gs) (suc i) g e = named_at gs i g e
 
 -- one name, one number
-one_place : (settings : Settings) (e : Engine) (m : Made) (name : List ℕ) (i j : ℕ) (g h : made.Guest) → StandsForScript settings e m → HasGuest m name i g → HasGuest m name j h → j ≡ i
+one_place : (settings : Settings) (e : EngineState) (m : Made) (name : List ℕ) (i j : ℕ) (g h : made.Guest) → StandsForScript settings e m → HasGuest m name i g → HasGuest m name j h → j ≡ i
 one_place settings e m name i j g h s a b =
     let first = s.guest_names.only name i (named_at m.guests i g a.0 ∙ ap (λ n. Some n) a.1) in
     let second = s.guest_names.only name j (named_at m.guests j h b.0 ∙ ap (λ n. Some n) b.1) in
     same_Some j i (sym second ∙ first)
 
-abbrev pub with_gone : Engine → HostState → ℕ → Guest → Engine
+abbrev pub with_gone : EngineState → HostState → ℕ → Guest → EngineState
 with_gone e h i x = record e { host = h; guests = with_item e.guests i (record x { is_released = true }) }
 
-gone_stands : (settings : Settings) (files : Files) (line : ℕ) (m : Made) (e : Engine) (name output : List ℕ) (h2 : HostState) (x : Guest) (i : ℕ) (g : made.Guest) → StandsForScript settings e m
+gone_stands : (settings : Settings) (files : Files) (line : ℕ) (m : Made) (e : EngineState) (name output : List ℕ) (h2 : HostState) (x : Guest) (i : ℕ) (g : made.Guest) → StandsForScript settings e m
     → HasGuest m name i g → slice_get e.guests.items i ≡ Some x
     → (m2 : Made) (w2 : World) (reply : Reply) → reply ≡ release_ok name output → IsObeyed true settings files m line (release name) (reply ∷ []) m2 → IsLed h2 w2
     → Knows settings w2 m2 (map (λ (y : Guest). y.id.place) e.guests.items) → ObeysCommand settings files m line (release name) reply (with_gone e h2 i x)
@@ -141,7 +140,7 @@ gone_stands settings files line m e name output h2 x i g s has at _ w2 _ eq (ans
       },
     )
 
-pub goes : (settings : Settings) (files : Files) (line : ℕ) (m : Made) (e : Engine) (name : List ℕ) (h2 : HostState) (x : Guest) (i : ℕ) (output : Vec ℕ)
+pub goes : (settings : Settings) (files : Files) (line : ℕ) (m : Made) (e : EngineState) (name : List ℕ) (h2 : HostState) (x : Guest) (i : ℕ) (output : Vec ℕ)
     → StandsForScript settings e m → IsNamed m i name → slice_get e.guests.items i ≡ Some x → AnswersRelease e.host x.id (Ok output) h2 → StaysWhole e.host.space h2.space
     → ObeysCommand settings files m line (release name) (release_ok name output.items) (with_gone e h2 i x)
 goes settings files line m e name h2 x i output s named at replies whole =

@@ -1,35 +1,31 @@
 -- What is said of calls, one after the other.
-use Rattle.std.proofs.Common.{arith, ◌≡◌, ◌≢◌, ℕ, ◌+◌, ◌<◌, zero, suc, Bool, true, false, List, [], ◌∷◌, ◌++◌, map, length, take, Result, Ok, Err, OnOk, get_or, ◌≤◌, slice_get, slice_set, Option, Some, None, option_map, is_some, refl, ap, sym, subst, ◌∙◌, append_assoc, append-nil, length-append}
+use Rattle.std.proofs.Common.{arith, ◌≡◌, ℕ, ◌+◌, ◌<◌, zero, suc, false, List, [], ◌∷◌, ◌++◌, map, length, Result, Ok, Err, OnOk, get_or, ◌≤◌, slice_get, slice_set, Option, Some, None, option_map, refl, ap, sym, subst, ◌∙◌, append_assoc, append-nil, length-append}
 use Rattle.std.proofs.lemmas.Option.{same_Some, none-some}
-use Rattle.std.specs.List.{AllZip, AllByRecursion}
+use Rattle.std.specs.List.{AllZip}
 use Rattle.std.specs.Global.{Vec}
 use Rattle.wh_model.specs.Execution.Instance.{Piece}
-use Rattle.wh_model.specs.Execution.Replay.{Outcome, Call}
-use Rattle.wh_host_model.specs.declared.plain.SwapError.{SwapError}
+use Rattle.wh_model.specs.Execution.Replay.{Call}
 use Rattle.wh_host_model.specs.declared.plain.InstId.{InstId}
-use Rattle.wh_host_model.specs.Host.Worlds.{Suspension, for_device, Entry, Tenant, World, tenant, journal, journal_calls}
-use Rattle.wh_host_model.specs.Host.Happens.{IsLive}
+use Rattle.wh_host_model.specs.Host.Worlds.{Tenant, World, tenant, journal, journal_calls}
 use Rattle.wh_host_model.specs.Lines.Settings.{Settings}
 use Rattle.wh_host_model.specs.Lines.Texts as texts
 use Rattle.wh_host_model.specs.Lines.Texts.{CallStatus, Reply, done, trapped, wants_fuel, wants_frame, queued, cancelled, dead, refused, reply_text}
 use Rattle.wh_host_model.specs.Lines.Made as made
 use Rattle.wh_host_model.specs.Lines.Made.{Made, first_open}
-use Rattle.wh_host_model.specs.Lines.Drains.{call_status, status_by, SaysLine, as_before, anew, SaysStart, has_none, has_one, SayStarts, SaysCall, is_refused, is_taken, SayCalls}
+use Rattle.wh_host_model.specs.Lines.Drains.{call_status, SaysLine, SaysStart, has_none, has_one, SayStarts, SaysCall, is_taken, SayCalls}
 use Rattle.wh_host_model.specs.Lines.Answers.{replies_text}
-use Rattle.wh_host.specs.Hosting.{HostState, IsHost}
 use Rattle.wh_replies.specs.View.{status_of}
 use Rattle.wh_replies.specs.declared.call.Status.{Status}
 use Rattle.wh_replies.specs.declared.call.Status.TheVariants as code
 use Rattle.wh_script_model.specs.Following as follow
 use Rattle.wh_script_model.specs.Following.{Knows, IsPlaced}
-use Rattle.wh_script_model.specs.Said.{HasStart, WasSaid, IsReleased, IsWellMade}
+use Rattle.wh_script_model.specs.Said.{HasStart, IsWellMade}
 use Rattle.wh_script_model.proofs.Drains.{saying_follows}
 use Rattle.wh_script_model.proofs.Said.{starts_well}
-use Rattle.wh_engine.specs.declared.engine.Engine.{Engine}
 use Rattle.wh_engine.specs.declared.parts.Guest.{Guest}
 use Rattle.wh_engine.specs.declared.parts.Invoked.{Invoked}
 use Rattle.wh_engine.specs.Names.{AreNames, number_of}
-use Rattle.wh_engine.specs.Standing.{StandsForScript, IsGuest, AreGuests, IsInvokedAs}
+use Rattle.wh_engine.specs.Standing.{EngineState, StandsForScript, IsGuest, AreGuests, IsInvokedAs}
 use Rattle.wh_engine.specs.Saying.{IsFaultless, ShowsCalls, AddsLines, SaysStartOf, HasItsCall, SaysCallOf, SaysAllStarts, SaysAllCalls, SaysAll}
 use Rattle.wh_engine.proofs.Instances.{placed_at}
 use Rattle.wh_engine.proofs.Runs.{places_of, placed_there}
@@ -225,7 +221,7 @@ zip_said (x ∷ xs) [] rest x2 v v2 all is = (is, all.1)
 zip_said (x ∷ xs) (s ∷ said) rest x2 v v2 all is = (all.0, zip_said xs said rest x2 v v2 all.1 is)
 
 -- an instance as it was, or as it was said since
-pub shows : (settings : Settings) (e : Engine) (m : Made) (i : ℕ) (x : Guest) (g : made.Guest) → StandsForScript settings e m → slice_get m.guests i ≡ Some g
+pub shows : (settings : Settings) (e : EngineState) (m : Made) (i : ℕ) (x : Guest) (g : made.Guest) → StandsForScript settings e m → slice_get m.guests i ≡ Some g
     → slice_get (places_of e) i ≡ Some x.id.place → x.id.number ≡ i → x.is_released ≡ g.is_released → ShowsCalls e.host x g
 shows settings e m i x g s at placed number released = record {
   released = released;
@@ -238,7 +234,7 @@ shows settings e m i x g s at placed number released = record {
 
 -- ---- starts
 
-pub record StartsSoFar (e : Engine) (m : Made) (xs : List Guest) (count : ℕ) (text now : List ℕ) : Type 0 where
+pub record StartsSoFar (e : EngineState) (m : Made) (xs : List Guest) (count : ℕ) (text now : List ℕ) : Type 0 where
   pub taken : List made.Guest
   pub rest : List made.Guest
   pub said : List made.Guest
@@ -250,7 +246,7 @@ pub record StartsSoFar (e : Engine) (m : Made) (xs : List Guest) (count : ℕ) (
   pub adds : AddsLines lines text now
   pub placed : map (λ (x : Guest). x.id.place) xs ≡ places_of e
 
-pub no_start_said : (settings : Settings) (e : Engine) (m : Made) (text : List ℕ) → StandsForScript settings e m → StartsSoFar e m e.guests.items 0 text text
+pub no_start_said : (settings : Settings) (e : EngineState) (m : Made) (text : List ℕ) → StandsForScript settings e m → StartsSoFar e m e.guests.items 0 text text
 no_start_said settings e m text s = record {
   taken = [];
   rest = m.guests;
@@ -264,7 +260,7 @@ no_start_said settings e m text s = record {
   placed = refl;
 }
 
-pub start_said_next : (settings : Settings) (e : Engine) (m : Made) (xs : List Guest) (count : ℕ) (text now now2 : List ℕ) (x x2 : Guest) → StandsForScript settings e m → IsWellMade m
+pub start_said_next : (settings : Settings) (e : EngineState) (m : Made) (xs : List Guest) (count : ℕ) (text now now2 : List ℕ) (x x2 : Guest) → StandsForScript settings e m → IsWellMade m
     → StartsSoFar e m xs count text now → slice_get xs count ≡ Some x → SaysStartOf e.host x x2 now now2
     → StartsSoFar e m (slice_set xs count x2) (count + 1) text now2
 start_said_next settings e m xs count text now now2 x x2 s well so at says =
@@ -307,10 +303,10 @@ names_said (g ∷ gs) said lines (first, rest, k, ks, l, f, z, more) =
     ∙ ap (λ ns. k.name ∷ ns) (names_said gs ks rest more) ∙ ap (λ n. n ∷ map (λ (y : made.Guest). y.name) gs) (one_name g k first z)
 
 -- with instances as they were said
-abbrev pub with_starts : Engine → Vec Guest → Engine
+abbrev pub with_starts : EngineState → Vec Guest → EngineState
 with_starts e xs = record e { guests = xs }
 
-pub starts_are_said : (settings : Settings) (e : Engine) (m : Made) (xs : Vec Guest) (count : ℕ) (text now : List ℕ) → StandsForScript settings e m
+pub starts_are_said : (settings : Settings) (e : EngineState) (m : Made) (xs : Vec Guest) (count : ℕ) (text now : List ℕ) → StandsForScript settings e m
     → StartsSoFar e m xs.items count text now → length xs.items ≤ count
     → (lines : List Reply) × (guests : List made.Guest) × SayStarts m.guests lines guests × AddsLines lines text now × StandsForScript settings (with_starts e xs) (record m { guests = guests })
 starts_are_said settings e m xs count text now s so end =
@@ -350,7 +346,7 @@ pub record CallsSoFar (m : Made) (xs : List Invoked) (count : ℕ) (text now : L
   pub are : AllZip IsInvokedAs xs (said ++ rest)
   pub adds : AddsLines lines text now
 
-pub no_call_said : (settings : Settings) (e : Engine) (m : Made) (text : List ℕ) → StandsForScript settings e m → CallsSoFar m e.invoked.items 0 text text
+pub no_call_said : (settings : Settings) (e : EngineState) (m : Made) (text : List ℕ) → StandsForScript settings e m → CallsSoFar m e.invoked.items 0 text text
 no_call_said settings e m text s = record {
   taken = [];
   rest = m.invoked;
@@ -364,7 +360,7 @@ no_call_said settings e m text s = record {
 }
 
 -- what stands for an `invoke` has its call
-has_its_call : (settings : Settings) (e : Engine) (m : Made) (n : ℕ) (v : made.Invoked) → StandsForScript settings e m → IsWellMade m → slice_get m.invoked n ≡ Some v
+has_its_call : (settings : Settings) (e : EngineState) (m : Made) (n : ℕ) (v : made.Invoked) → StandsForScript settings e m → IsWellMade m → slice_get m.invoked n ≡ Some v
     → HasItsCall e.host e.guests.items m.guests v
 has_its_call settings e m n v s well at i place came =
     let d = well.there.calls n i place v at came in
@@ -380,7 +376,7 @@ has_its_call settings e m n v s well at i place came =
       λ gone. well.gone.calls n i place v d.0 d.1 at came d.2 gone d.3,
     )
 
-pub call_said_next : (settings : Settings) (e : Engine) (m : Made) (xs : List Invoked) (count number : ℕ) (text now now2 : List ℕ) (x x2 : Invoked) → StandsForScript settings e m → IsWellMade m
+pub call_said_next : (settings : Settings) (e : EngineState) (m : Made) (xs : List Invoked) (count number : ℕ) (text now now2 : List ℕ) (x x2 : Invoked) → StandsForScript settings e m → IsWellMade m
     → CallsSoFar m xs count text now → slice_get xs count ≡ Some x → number ≡ count + 1 → SaysCallOf e.host e.guests.items number x x2 now now2
     → CallsSoFar m (slice_set xs count x2) (count + 1) text now2
 call_said_next settings e m xs count number text now now2 x x2 s well so at numbered says =
@@ -412,10 +408,10 @@ call_said_next settings e m xs count number text now now2 x x2 s well so at numb
       adds = adds_more so.lines did.0 text now now2 so.adds did.3;
     }
 
-abbrev pub with_said : Engine → Vec Invoked → Engine
+abbrev pub with_said : EngineState → Vec Invoked → EngineState
 with_said e xs = record e { invoked = xs }
 
-pub calls_are_said : (settings : Settings) (e : Engine) (m : Made) (xs : Vec Invoked) (count : ℕ) (text now : List ℕ) → StandsForScript settings e m
+pub calls_are_said : (settings : Settings) (e : EngineState) (m : Made) (xs : Vec Invoked) (count : ℕ) (text now : List ℕ) → StandsForScript settings e m
     → CallsSoFar m xs.items count text now → length xs.items ≤ count
     → (lines : List Reply) × (invoked : List made.Invoked) × SayCalls m.guests 1 m.invoked lines invoked × AddsLines lines text now × StandsForScript settings (with_said e xs) (record m { invoked = invoked })
 calls_are_said settings e m xs count text now s so end =
@@ -451,7 +447,7 @@ calls_are_said settings e m xs count text now s so end =
 
 -- ---- both
 
-pub both_said : (e mid e2 : Engine) (text between text2 : List ℕ) → SaysAllStarts e text mid between → SaysAllCalls mid between e2 text2 → SaysAll e text e2 text2
+pub both_said : (e mid e2 : EngineState) (text between text2 : List ℕ) → SaysAllStarts e text mid between → SaysAllCalls mid between e2 text2 → SaysAll e text e2 text2
 both_said e mid e2 text between text2 starts calls settings m s well =
     let a = starts settings m s well in
     let b = calls settings (record m { guests = a.1 }) a.4 (starts_well m a.0 a.1 well a.2) in

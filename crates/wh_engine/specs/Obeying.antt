@@ -10,8 +10,7 @@ use Rattle.wh_host_model.specs.Lines.Receiving.{ReceivesModule, ReceivesGuest, R
 use Rattle.wh_host_model.specs.Lines.Answers.{Files, IsObeyed}
 use Rattle.wh_host.specs.Asking.{host_number}
 use Rattle.wh_host.specs.declared.error.HostError.{HostError}
-use Rattle.wh_engine.specs.declared.engine.Engine.{Engine}
-use Rattle.wh_engine.specs.Standing.{StandsForScript}
+use Rattle.wh_engine.specs.Standing.{EngineState, StandsForScript}
 
 -- the instance of this number has the name
 abbrev pub IsNamed : Made → ℕ → List ℕ → Type 0
@@ -22,24 +21,24 @@ abbrev pub IsModuleNamed : Made → ℕ → List ℕ → Type 0
 IsModuleNamed m k name = (named : NamedModule) × (slice_get m.modules k ≡ Some named) × (named.name ≡ name)
 
 -- a module whose name is free got this reply
-abbrev pub TakesModule : Settings → Made → (name bytes : List ℕ) → Reply → Engine → Type 0
+abbrev pub TakesModule : Settings → Made → (name bytes : List ℕ) → Reply → EngineState → Type 0
 TakesModule settings m name bytes reply e2 =
     (m2 : Made) × ReceivesModule true m name bytes reply m2 × StandsForScript settings e2 m2
 
 -- an instance whose name is free, of the module of this number
-abbrev pub TakesGuest : Settings → Made → (name : List ℕ) (k : ℕ) (p : Params) → Reply → Engine → Type 0
+abbrev pub TakesGuest : Settings → Made → (name : List ℕ) (k : ℕ) (p : Params) → Reply → EngineState → Type 0
 TakesGuest settings m name k p reply e2 =
     (named : NamedModule) × (slice_get m.modules k ≡ Some named)
     × (m2 : Made) × ReceivesGuest true settings m name named.m p reply m2 × StandsForScript settings e2 m2
 
 -- a call was asked of the instance of this number
-abbrev pub TakesInvoke : Settings → Made → (i : ℕ) (export : List ℕ) (fuel : ℕ) (given : List ℤ) → Engine → Type 0
+abbrev pub TakesInvoke : Settings → Made → (i : ℕ) (export : List ℕ) (fuel : ℕ) (given : List ℤ) → EngineState → Type 0
 TakesInvoke settings m i export fuel given e2 =
     (g : Guest) × (slice_get m.guests i ≡ Some g)
     × (m2 : Made) × ReceivesCall true m i g export fuel given m2 × StandsForScript settings e2 m2
 
 -- and a command this one
-abbrev pub ObeysCommand : Settings → Files → Made → (line : ℕ) → Command → Reply → Engine → Type 0
+abbrev pub ObeysCommand : Settings → Files → Made → (line : ℕ) → Command → Reply → EngineState → Type 0
 ObeysCommand settings files m line command reply e2 =
     (m2 : Made) × IsObeyed true settings files m line command (reply ∷ []) m2 × StandsForScript settings e2 m2
 

@@ -20,10 +20,9 @@ use Rattle.wh_instance.specs.Told.{IsCallStatus, told_values}
 use Rattle.wh_replies.specs.View.{status_of}
 use Rattle.wh_replies.specs.declared.call.Status.{Status}
 use Rattle.wh_script_model.specs.Said.{HasStart, WasSaid, IsReleased, IsWellMade}
-use Rattle.wh_engine.specs.declared.engine.Engine.{Engine}
 use Rattle.wh_engine.specs.declared.parts.Guest.{Guest}
 use Rattle.wh_engine.specs.declared.parts.Invoked.{Invoked}
-use Rattle.wh_engine.specs.Standing.{StandsForScript, IsGuest, IsInvokedAs}
+use Rattle.wh_engine.specs.Standing.{EngineState, StandsForScript, IsGuest, IsInvokedAs}
 
 -- no device has failed at the call that stands for this
 abbrev pub IsFaultless : Option Suspension → Type 0
@@ -98,21 +97,21 @@ SaysCallOf h xs number x x2 text text2 =
     × IsInvokedAs x2 v2
 
 -- whatever script the engine stands for, these are the lines of all starts
-abbrev pub SaysAllStarts : Engine → List ℕ → Engine → List ℕ → Type 0
+abbrev pub SaysAllStarts : EngineState → List ℕ → EngineState → List ℕ → Type 0
 SaysAllStarts e text e2 text2 =
     (settings : Settings) (m : Made) → StandsForScript settings e m → IsWellMade m
     → (lines : List Reply) × (guests : List made.Guest) × SayStarts m.guests lines guests
     × AddsLines lines text text2 × StandsForScript settings e2 (record m { guests = guests })
 
 -- of all calls
-abbrev pub SaysAllCalls : Engine → List ℕ → Engine → List ℕ → Type 0
+abbrev pub SaysAllCalls : EngineState → List ℕ → EngineState → List ℕ → Type 0
 SaysAllCalls e text e2 text2 =
     (settings : Settings) (m : Made) → StandsForScript settings e m → IsWellMade m
     → (lines : List Reply) × (invoked : List made.Invoked) × SayCalls m.guests 1 m.invoked lines invoked
     × AddsLines lines text text2 × StandsForScript settings e2 (record m { invoked = invoked })
 
 -- and of both, one behind the other
-abbrev pub SaysAll : Engine → List ℕ → Engine → List ℕ → Type 0
+abbrev pub SaysAll : EngineState → List ℕ → EngineState → List ℕ → Type 0
 SaysAll e text e2 text2 =
     (settings : Settings) (m : Made) → StandsForScript settings e m → IsWellMade m
     → (starts calls : List Reply) × (guests : List made.Guest) × (invoked : List made.Invoked)

@@ -1,5 +1,6 @@
 -- What an engine keeps, and for which script it stands.
-use Rattle.std.specs.Prelude.{◌≡◌, ℕ, ◌+◌, ◌↔◌, List, [], ◌∷◌, map, length, Option, None, true, option_map, string_bytes}
+use Rattle.std.specs.Prelude.{◌≡◌, ℕ, ◌+◌, ◌↔◌, List, [], ◌∷◌, map, length, None, true, option_map, string_bytes}
+use Rattle.std.specs.Global.{Vec}
 use Rattle.std.specs.List.{AllZip}
 use Rattle.wh_host_model.specs.Host.Worlds.{World}
 use Rattle.wh_host_model.specs.Lines.Settings.{Settings}
@@ -10,10 +11,36 @@ use Rattle.wh_replies.specs.View.{status_of}
 use Rattle.wh_script_model.specs.Following.{Knows}
 use Rattle.wh_engine.specs.Names.{AreNames, number_of}
 use Rattle.wh_engine.specs.declared.engine.Engine.{Engine}
+use Rattle.wh_engine.specs.declared.names.Names.{Names}
 use Rattle.wh_engine.specs.declared.parts.Guest.{Guest}
 use Rattle.wh_engine.specs.declared.parts.Invoked.{Invoked}
 use Rattle.wh_engine.specs.declared.parts.Reception.{Reception}
 use Rattle.wh_engine.specs.declared.parts.Reception.TheVariants.{TurnedDown, TakenOn}
+
+-- ---- the engine and its host
+
+-- What a script has made, with the host on which it runs: the names of its modules and of its instances, what is kept
+-- of each instance and of each `invoke`, and how many modules there are.
+pub record EngineState : Type 0 where
+  pub host : HostState
+  pub module_names : Names
+  pub guest_names : Names
+  pub guests : Vec Guest
+  pub invoked : Vec Invoked
+  pub modules : ℕ
+
+-- so an engine is on a host
+abbrev pub engine_on : HostState → Engine → EngineState
+engine_on h e = record {
+  host = h;
+  module_names = e.module_names;
+  guest_names = e.guest_names;
+  guests = e.guests;
+  invoked = e.invoked;
+  modules = e.modules;
+}
+
+-- ---- the script
 
 -- the instance is the one of this number
 pub record IsGuest (i : ℕ) (x : Guest) (g : made.Guest) : Type 0 where
@@ -43,7 +70,7 @@ IsLed h w = IsHost h w × IsReached w
 
 -- The engine stands for what the script has made: the host on which it runs knows it, each name has its number, and
 -- what is kept of instances and of calls is so.
-pub record StandsForScript (settings : Settings) (e : Engine) (m : Made) : Type 0 where
+pub record StandsForScript (settings : Settings) (e : EngineState) (m : Made) : Type 0 where
   pub world : World
   pub is : IsLed e.host world
   pub modules : e.modules ≡ length m.modules

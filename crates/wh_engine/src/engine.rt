@@ -1,21 +1,18 @@
-// The engine: a host, and what a script knows of it.
+// The engine: what a script has made on a host.
 
-ghost use Rattle.std.specs.Prelude.{◌≡◌, ℕ};
 ghost use Rattle.wh_host_model.specs.declared.Tax.{Tax};
 ghost use Rattle.wh_host_model.specs.Lines.Made.{nothing_made};
 ghost use Rattle.wh_host_model.specs.Lines.Settings.{Settings};
-ghost use Rattle.wh_host.specs.Hosting.{IsNewHost};
-ghost use Rattle.wh_engine.specs.Standing.{StandsForScript};
+ghost use Rattle.wh_host.specs.Hosting.{HostState, IsNewHost};
+ghost use Rattle.wh_engine.specs.Standing.{StandsForScript, engine_on};
 
 use crate::names::Names;
 use crate::parts::{Guest, Invoked};
 use std::alloc::Global;
-use wh_host::Host;
 
-/// What a script has made, on a host.
+/// What a script has made. The host on which it was made comes with each request.
 #[derive(Drop)]
 pub struct Engine {
-    pub(crate) host: Host,
     pub(crate) module_names: Names,
     pub(crate) guest_names: Names,
     pub(crate) guests: Vec<Guest>,
@@ -25,15 +22,13 @@ pub struct Engine {
 }
 
 impl Engine {
-    /// Nothing was made yet, on a new host.
-    pub fn new(alloc: Global, host: Host) -> Engine
-        ensures stands { (settings : Settings) (tax : Tax)
-            → IsNewHost host settings.frames settings.slots tax
-            → StandsForScript settings result nothing_made }
-        ensures host { result.host ≡ host }
+    /// Nothing was made yet, on any new host.
+    pub fn new(alloc: Global) -> Engine
+        ensures { (settings : Settings) (tax : Tax) (h : HostState)
+            → IsNewHost h settings.frames settings.slots tax
+            → StandsForScript settings (engine_on h result) nothing_made }
     {
         Engine {
-            host,
             module_names: Names::new(alloc),
             guest_names: Names::new(alloc),
             guests: Vec::new(alloc),

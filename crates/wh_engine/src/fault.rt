@@ -17,13 +17,13 @@ pub enum ScriptFault {
     /// The file to which pages are swapped can't be opened.
     #[error("swap")]
     Swap,
-    /// There is no memory for the engine itself; or lines or turns can't be counted, there being 2^64 of them.
+    /// There is no memory for the engine itself; or lines can't be counted, there being 2^64 of them.
     #[error("memory")]
     Memory,
     /// A thread can't be started.
     #[error("threads")]
     Threads,
-    /// What the host shows of an instance isn't what was asked of it.
+    /// What the host shows of an instance isn't what was asked of it; or a call can go on that should have run.
     #[error("transcript")]
     Transcript,
 }

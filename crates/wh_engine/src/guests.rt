@@ -6,24 +6,28 @@ ghost use Rattle.wh_host_model.specs.Lines.Made.{Made};
 ghost use Rattle.wh_host_model.specs.Lines.Settings.{Settings};
 ghost use Rattle.wh_replies.specs.View.{reply_of};
 ghost use Rattle.wh_engine.specs.Names.{number_of};
-ghost use Rattle.wh_engine.specs.Standing.{StandsForScript};
-ghost use Rattle.wh_host.specs.Backing.{KeepsBacking};
+ghost use Rattle.wh_engine.specs.Standing.{StandsForScript, engine_on};
 ghost use Rattle.wh_engine.specs.Obeying.{TakesInvoke, TakesGuest};
 
 use crate::engine::Engine;
 use crate::parts::{Guest, Invoked, Reception};
 use std::alloc::{AllocError, Global};
+use std::sync::ledger::Ledger;
+use wh_cell::OwnedHost;
 use wh_commands::Given;
 use wh_host::{ModuleId, Params};
 use wh_replies::Reply;
+use wh_swap::SwapDev;
+use wh_workers::Bond;
 
 impl Engine {
     /// Admits an instance of the module of a number, under a free name: what is answered.
     ///
     /// # Errors
     /// A growth of memory for what is kept of it was refused. Nothing was done then.
-    pub fn admit<'a>(
+    pub fn admit<'a, D: SwapDev, T: Ledger, C: Ledger, O: Ledger, E: Ledger, B: Bond>(
         &mut self,
+        host: &mut OwnedHost<D, T, C, O, E, B>,
         alloc: Global,
         inst: &'a str,
         of: usize,
@@ -31,11 +35,14 @@ impl Engine {
     ) -> Result<Reply<'a>, AllocError>
         requires free { number_of self.old.guest_names inst.now ≡ None }
         requires there { of < self.old.modules }
-        ensures ok { IfOk result (λ reply. (settings : Settings) (m : Made) → StandsForScript settings self.old m
-            → TakesGuest settings m inst.now of (params_of given) (reply_of reply) self.new) }
-        ensures err { OnErr result ((settings : Settings) (m : Made) → StandsForScript settings self.old m
-            → StandsForScript settings self.new m) }
-        ensures backing { KeepsBacking self.old.host.space self.new.host.space }
+        ensures ok { IfOk result (λ reply. (settings : Settings) (m : Made)
+            → StandsForScript settings (engine_on host.old.host self.old) m
+            → TakesGuest settings m inst.now of (params_of given) (reply_of reply)
+            (engine_on host.new.host self.new)) }
+        ensures err { OnErr result ((settings : Settings) (m : Made)
+            → StandsForScript settings (engine_on host.old.host self.old) m
+            → StandsForScript settings (engine_on host.new.host self.new) m) }
+        ensures device { host.new.device ≡ host.old.device }
     {
         let name = String::from_str(alloc, inst)?;
         self.guests.reserve(1)?;
@@ -49,9 +56,9 @@ impl Engine {
             salt: given.salt,
             inputs: given.inputs,
         };
-        match self.host.admit(alloc, ModuleId { number: of }, params) {
+        match host.admit(alloc, ModuleId { number: of }, params) {
             Ok(id) => {
-                let has_start = self.host.can_go_on(id);
+                let has_start = host.host().can_go_on(id);
                 self.guests.push_reserved(Guest {
                     name,
                     id,
@@ -78,8 +85,9 @@ impl Engine {
     ///
     /// # Errors
     /// A growth of memory for what is kept of it was refused. Nothing was done then.
-    pub fn invoke(
+    pub fn invoke<D: SwapDev, T: Ledger, C: Ledger, O: Ledger, E: Ledger, B: Bond>(
         &mut self,
+        host: &mut OwnedHost<D, T, C, O, E, B>,
         alloc: Global,
         number: usize,
         export: &str,
@@ -87,15 +95,18 @@ impl Engine {
         args: &[i128],
     ) -> Result<(), AllocError>
         requires there { number < length self.old.guests.items }
-        ensures ok { OnOk result ((settings : Settings) (m : Made) → StandsForScript settings self.old m
-            → TakesInvoke settings m number export.now fuel args.now self.new) }
-        ensures err { OnErr result ((settings : Settings) (m : Made) → StandsForScript settings self.old m
-            → StandsForScript settings self.new m) }
-        ensures backing { KeepsBacking self.old.host.space self.new.host.space }
+        ensures ok { OnOk result ((settings : Settings) (m : Made)
+            → StandsForScript settings (engine_on host.old.host self.old) m
+            → TakesInvoke settings m number export.now fuel args.now
+            (engine_on host.new.host self.new)) }
+        ensures err { OnErr result ((settings : Settings) (m : Made)
+            → StandsForScript settings (engine_on host.old.host self.old) m
+            → StandsForScript settings (engine_on host.new.host self.new) m) }
+        ensures device { host.new.device ≡ host.old.device }
     {
         self.invoked.reserve(1)?;
         let id = self.guests[number].id;
-        let came = match self.host.invoke(alloc, id, export, args, fuel) {
+        let came = match host.invoke(alloc, id, export, args, fuel) {
             Ok(place) => Reception::TakenOn {
                 guest: number,
                 place,

@@ -1,4 +1,4 @@
-//! What a script has made, and the host on which its calls run: one command after the other.
+//! What a script has made on a host: one command after the other, and runs of all calls between them.
 #![tactic(auto)]
 
 mod asking;
@@ -16,4 +16,3 @@ mod sharing;
 
 pub use engine::Engine;
 pub use fault::ScriptFault;
-pub use running::TooManyTurns;

@@ -9,16 +9,19 @@ ghost use Rattle.wh_host.specs.Loading.{IsLoadAnswer};
 ghost use Rattle.wh_replies.specs.View.{reply_of, why_of};
 ghost use Rattle.wh_script_model.specs.Replies.{SaysModule};
 ghost use Rattle.wh_engine.specs.Names.{number_of};
-ghost use Rattle.wh_engine.specs.Standing.{StandsForScript};
-ghost use Rattle.wh_host.specs.Backing.{KeepsBacking};
+ghost use Rattle.wh_engine.specs.Standing.{StandsForScript, engine_on};
 ghost use Rattle.wh_engine.specs.Obeying.{TakesModule};
 
 use crate::engine::Engine;
 use std::alloc::{AllocError, Global};
+use std::sync::ledger::Ledger;
+use wh_cell::OwnedHost;
 use wh_host::ModuleError;
 use wh_imports::LinkError;
 use wh_load::LoadError;
 use wh_replies::{Place, Refusal, Reply};
+use wh_swap::SwapDev;
+use wh_workers::Bond;
 
 // Why bytes aren't kept, as replies say it.
 fn refusal_of(error: ModuleError) -> Refusal
@@ -58,21 +61,25 @@ impl Engine {
     ///
     /// # Errors
     /// A growth of memory for the name was refused. Nothing was done then.
-    pub fn keep<'a>(
+    pub fn keep<'a, D: SwapDev, T: Ledger, C: Ledger, O: Ledger, E: Ledger, B: Bond>(
         &mut self,
+        host: &mut OwnedHost<D, T, C, O, E, B>,
         alloc: Global,
         name: &'a str,
         bytes: &[u8],
     ) -> Result<Reply<'a>, AllocError>
         requires free { number_of self.old.module_names name.now ≡ None }
-        ensures ok { IfOk result (λ reply. (settings : Settings) (m : Made) → StandsForScript settings self.old m
-            → TakesModule settings m name.now bytes.now (reply_of reply) self.new) }
-        ensures err { OnErr result ((settings : Settings) (m : Made) → StandsForScript settings self.old m
-            → StandsForScript settings self.new m) }
-        ensures backing { KeepsBacking self.old.host.space self.new.host.space }
+        ensures ok { IfOk result (λ reply. (settings : Settings) (m : Made)
+            → StandsForScript settings (engine_on host.old.host self.old) m
+            → TakesModule settings m name.now bytes.now (reply_of reply)
+            (engine_on host.new.host self.new)) }
+        ensures err { OnErr result ((settings : Settings) (m : Made)
+            → StandsForScript settings (engine_on host.old.host self.old) m
+            → StandsForScript settings (engine_on host.new.host self.new) m) }
+        ensures device { host.new.device ≡ host.old.device }
     {
         self.module_names.add(alloc, name, self.modules)?;
-        match self.host.load(alloc, bytes) {
+        match host.load(alloc, bytes) {
             Ok(_) => {
                 self.modules = self.modules.saturating_add(1);
                 Ok(Reply::ModuleOk { name })

@@ -1,92 +1,114 @@
 // Calls that run until none can go on.
 
-ghost use Rattle.std.specs.Prelude.{OnOk};
-ghost use Rattle.wh_host.specs.Backing.{KeepsBacking};
-ghost use Rattle.wh_reclaim.specs.Together.{AreTogether};
-ghost use Rattle.wh_engine.specs.Draining.{HasAdded, HasServed, RunsEach, RunsOut, StaysSo, StaysTrue};
+ghost use Rattle.std.specs.Prelude.{◌≡◌, ◌≤◌, false, IfErr, OnOk};
+ghost use Rattle.wh_engine.specs.Draining.{AllRest, DeviceMayFail, DeviceServesWell, DeviceStaysTrue, RunsEach, StopsRun};
+ghost use Rattle.wh_engine.specs.Standing.{engine_on};
 
 use crate::engine::Engine;
-use thiserror::Error;
+use crate::fault::ScriptFault;
+use std::alloc::{AllocError, Global};
+use std::sync::Wait;
+use std::sync::ledger::Ledger;
+use std::thread::Threads;
+use wh_cell::{Manner, OwnedHost};
 use wh_host::Host;
 use wh_host_model::InstId;
-use wh_reclaim::Buf;
+use wh_kernels::PageHash;
 use wh_swap::SwapDev;
+use wh_workers::{Bond, ServeError};
 
-/// There were more turns of one instance than can be counted: 2^64 - 1.
-#[derive(Clone, Copy, Debug, PartialEq, Eq, Error)]
-#[error("more turns than can be counted")]
-pub struct TooManyTurns;
-
-// Gives an instance turns, and makes its steps ready, until it can't go on. Where the device fails it can't.
-fn run_out<D: SwapDev>(
-    host: &mut Host,
-    device: &mut D,
-    buf: &mut Buf,
-    id: InstId,
-    quantum: u64,
-) -> Result<(), TooManyTurns>
-    requires { AreTogether host.old.space (D.held device.old) }
-    ensures together { AreTogether host.new.space (D.held device.new) }
-    ensures device { StaysTrue (D.keeps device.old) (D.honest device.old)
-        (D.keeps device.new) (D.honest device.new) }
-    ensures faults { HasAdded (D.faults device.old) (D.faults device.new) }
-    ensures runs { OnOk result (HasServed (D.honest device.new) (D.faults device.old)
-        (D.faults device.new) → RunsOut id.number id.place host.old host.new) }
+// Why calls weren't run, as a script says it.
+fn stops_by(error: ServeError) -> ScriptFault
+    ensures { StopsRun result }
 {
-    for _ in 0..u64::MAX {
-        if !host.can_go_on(id) {
-            return Ok(());
-        }
-        match host.provide(device, id, buf) {
-            Ok(_) => {}
-            Err(_) => return Ok(()),
-        }
-        let _ = host.turn(id, quantum);
+    match error {
+        ServeError::Memory => ScriptFault::Memory,
+        ServeError::NoThread => ScriptFault::Threads,
     }
-    Err(TooManyTurns)
 }
 
 impl Engine {
     /// Whether a call of some instance can go on.
-    pub fn can_go_on(&self) -> bool {
+    pub fn can_go_on(&self, host: &Host) -> bool
+        ensures { result ≡ false → AllRest host.now self.now.guests.items }
+    {
         for guest in &self.guests {
-            if self.host.can_go_on(guest.id) {
+            if host.can_go_on(guest.id) {
                 return true;
             }
         }
         false
     }
 
-    /// Begins a new epoch, in which no page was touched yet.
-    pub fn epoch(&mut self)
-        ensures stands { StaysSo self.old self.new }
-        ensures backing { KeepsBacking self.old.host.space self.new.host.space }
-    {
-        self.host.epoch();
+    // How many instances have a call that can go on.
+    fn count_going(&self, host: &Host) -> usize {
+        let mut count: usize = 0;
+        for guest in &self.guests {
+            if host.can_go_on(guest.id) {
+                count = count.saturating_add(1);
+            }
+        }
+        count
     }
 
-    /// Runs the calls of each instance, one instance after the other by number, in turns of so many charges, until none can
-    /// go on.
+    // Which instances the host knows them as.
+    fn ids(&self, alloc: Global) -> Result<Vec<InstId>, AllocError> {
+        let mut ids = Vec::with_capacity(alloc, self.guests.len())?;
+        for guest in &self.guests {
+            ids.push(guest.id)?;
+        }
+        Ok(ids)
+    }
+
+    /// Runs the calls of all instances, in turns of so many charges by so many workers, until none can go on. Where none can
+    /// from the beginning, no thread is started; and no more workers than instances that can, since each of these has one
+    /// turn out at most.
     ///
     /// # Errors
-    /// Where turns can't be counted any more.
-    pub fn run<D: SwapDev>(
-        &mut self,
-        device: &mut D,
-        buf: &mut Buf,
-        quantum: u64,
-    ) -> Result<(), TooManyTurns>
-        requires { AreTogether self.old.host.space (D.held device.old) }
-        ensures together { AreTogether self.new.host.space (D.held device.new) }
-        ensures device { StaysTrue (D.keeps device.old) (D.honest device.old)
-            (D.keeps device.new) (D.honest device.new) }
-        ensures faults { HasAdded (D.faults device.old) (D.faults device.new) }
-        ensures runs { OnOk result (HasServed (D.honest device.new) (D.faults device.old)
-            (D.faults device.new) → RunsEach self.old self.new) }
+    /// `Memory` where room was refused, and `Threads` where a thread couldn't be started; some calls may have run then.
+    /// `Transcript` where a call can go on that should have run.
+    pub fn run<
+        D: SwapDev + Drop + Send + 'static,
+        T: Ledger + Send + 'static,
+        C: Ledger + Send + 'static,
+        O: Ledger + Send + 'static,
+        E: Ledger + Send + 'static,
+        B: Bond + Send + 'static,
+        H: PageHash + Copy + Send + 'static,
+        R: Threads + Wait + Copy + Send + 'static,
+    >(
+        &self,
+        rt: R,
+        alloc: Global,
+        host: &mut OwnedHost<D, T, C, O, E, B>,
+        manner: Manner<H>,
+    ) -> Result<(), ScriptFault>
+        requires { manner.workers ≤ 64 }
+        ensures device { DeviceStaysTrue D.keeps D.honest host.old.device host.new.device }
+        ensures faults { DeviceMayFail D.faults host.old.device host.new.device }
+        ensures runs { OnOk result
+            (DeviceServesWell D.honest D.faults host.old.device host.new.device
+            → RunsEach (engine_on host.old.host self.now) (engine_on host.new.host self.now)) }
+        ensures err { IfErr result StopsRun }
     {
-        for at in 0..self.guests.len() {
-            let id = self.guests[at].id;
-            run_out(&mut self.host, device, buf, id, quantum)?;
+        if !self.can_go_on(host.host()) {
+            return Ok(());
+        }
+        let Ok(ids) = self.ids(alloc) else {
+            return Err(ScriptFault::Memory);
+        };
+        let manner = Manner {
+            hasher: manner.hasher,
+            quantum: manner.quantum,
+            workers: manner.workers.min(self.count_going(host.host())),
+        };
+        let served = host.run(rt, alloc, &ids, manner);
+        host.known();
+        if let Err(error) = served {
+            return Err(stops_by(error));
+        }
+        if self.can_go_on(host.host()) {
+            return Err(ScriptFault::Transcript);
         }
         Ok(())
     }

@@ -7,6 +7,7 @@ ghost use Rattle.wh_script_model.specs.Said as said_spec;
 ghost use Rattle.wh_host_model.specs.Lines.Texts.{wants_fuel};
 ghost use Rattle.wh_instance.specs.Tenancy.{suspension_of};
 ghost use Rattle.wh_engine.specs.Saying.{IsFaultless, IsInvokedNow, IsReturnedSo, IsSaidAs, IsStatusAt, SaysAll, SaysAllCalls, SaysAllStarts, SaysCallOf, SaysOf, SaysStartOf};
+ghost use Rattle.wh_engine.specs.Standing.{engine_on};
 
 use crate::engine::Engine;
 use crate::parts::{Guest, Invoked, Reception};
@@ -164,35 +165,32 @@ impl Engine {
     ///
     /// # Errors
     /// A growth of memory was refused; a beginning of the lines may stand behind the text.
-    pub fn say(&mut self, text: &mut String) -> Result<(), AllocError>
-        ensures says { OnOk result (SaysAll self.old (string_bytes text.old) self.new
-            (string_bytes text.new)) }
-        ensures host { self.new.host ≡ self.old.host }
+    pub fn say(&mut self, host: &Host, text: &mut String) -> Result<(), AllocError>
+        ensures { OnOk result (SaysAll (engine_on host.now self.old) (string_bytes text.old)
+            (engine_on host.now self.new) (string_bytes text.new)) }
     {
-        self.say_starts(text)?;
-        self.say_calls(text)
+        self.say_starts(host, text)?;
+        self.say_calls(host, text)
     }
 
-    fn say_starts(&mut self, text: &mut String) -> Result<(), AllocError>
-        ensures says { OnOk result (SaysAllStarts self.old (string_bytes text.old) self.new
-            (string_bytes text.new)) }
-        ensures host { self.new.host ≡ self.old.host }
+    fn say_starts(&mut self, host: &Host, text: &mut String) -> Result<(), AllocError>
+        ensures { OnOk result (SaysAllStarts (engine_on host.now self.old) (string_bytes text.old)
+            (engine_on host.now self.new) (string_bytes text.new)) }
     {
         for at in 0..self.guests.len() {
-            say_start(&self.host, &mut self.guests[at], text)?;
+            say_start(host, &mut self.guests[at], text)?;
         }
         Ok(())
     }
 
-    fn say_calls(&mut self, text: &mut String) -> Result<(), AllocError>
-        ensures says { OnOk result (SaysAllCalls self.old (string_bytes text.old) self.new
-            (string_bytes text.new)) }
-        ensures host { self.new.host ≡ self.old.host }
+    fn say_calls(&mut self, host: &Host, text: &mut String) -> Result<(), AllocError>
+        ensures { OnOk result (SaysAllCalls (engine_on host.now self.old) (string_bytes text.old)
+            (engine_on host.now self.new) (string_bytes text.new)) }
     {
         for at in 0..self.invoked.len() {
             let number = at as u64 + 1;
             let invoked = &mut self.invoked[at];
-            say_call(&self.host, &self.guests, number, invoked, text)?;
+            say_call(host, &self.guests, number, invoked, text)?;
         }
         Ok(())
     }

@@ -1,32 +1,40 @@
-// Pages of a script's instances that come to one frame, and how memory and instances are.
+// Pages of a script's instances that come to one frame, and the epochs in which they are touched.
 
-ghost use Rattle.std.specs.Prelude.{IfOk, string_bytes};
-ghost use Rattle.wh_host.specs.Backing.{KeepsBacking};
-ghost use Rattle.wh_host.specs.Reporting.{ReportsHost};
+ghost use Rattle.std.specs.Prelude.{◌≡◌};
 ghost use Rattle.wh_engine.specs.Draining.{StaysSo};
+ghost use Rattle.wh_engine.specs.Standing.{engine_on};
 
 use crate::engine::Engine;
-use std::alloc::Global;
-use wh_host::HostError;
+use std::sync::ledger::Ledger;
+use wh_cell::OwnedHost;
 use wh_kernels::PageHash;
+use wh_swap::SwapDev;
+use wh_workers::Bond;
 
 impl Engine {
-    /// Offers all pages of all instances for sharing, each under its hash. It is done where frames and slots are fewer than
-    /// 2^32 together, as settings have it.
-    pub fn scan<H: PageHash>(&mut self, hasher: &H)
-        ensures stands { StaysSo self.old self.new }
-        ensures backing { KeepsBacking self.old.host.space self.new.host.space }
+    /// Begins a new epoch, in which no page was touched yet.
+    pub fn epoch<D: SwapDev, T: Ledger, C: Ledger, O: Ledger, E: Ledger, B: Bond>(
+        &self,
+        host: &mut OwnedHost<D, T, C, O, E, B>,
+    )
+        ensures stands { StaysSo (engine_on host.old.host self.now)
+            (engine_on host.new.host self.now) }
+        ensures device { host.new.device ≡ host.old.device }
     {
-        let _ = self.host.scan(hasher);
+        host.epoch();
     }
 
-    /// The report of the host: frames, slots, shared frames, and a line for each instance.
-    ///
-    /// # Errors
-    /// `Memory` where room is refused.
-    pub fn report(&self, alloc: Global) -> Result<String, HostError>
-        ensures { IfOk result (λ text. ReportsHost self.now.host (string_bytes text)) }
+    /// Offers all pages of all instances for sharing, each under its hash. It is done where frames and slots are fewer than
+    /// 2^32 together, as settings have it.
+    pub fn scan<H: PageHash, D: SwapDev, T: Ledger, C: Ledger, O: Ledger, E: Ledger, B: Bond>(
+        &self,
+        host: &mut OwnedHost<D, T, C, O, E, B>,
+        hasher: &H,
+    )
+        ensures stands { StaysSo (engine_on host.old.host self.now)
+            (engine_on host.new.host self.now) }
+        ensures device { host.new.device ≡ host.old.device }
     {
-        self.host.report(alloc)
+        host.scan(hasher);
     }
 }

@@ -16,9 +16,8 @@ use Rattle.wh_commands.specs.Causes.{cause_number}
 use Rattle.wh_commands.specs.Found.{FindsAsked}
 use Rattle.wh_script_model.specs.Said.{AllAreSaid, IsWellMade}
 use Rattle.wh_script_model.proofs.SaidObeyed.{call_well, obeys_well}
-use Rattle.wh_engine.specs.declared.engine.Engine.{Engine}
 use Rattle.wh_engine.specs.Obeying.{TakesInvoke, IsNamed}
-use Rattle.wh_engine.specs.Standing.{StandsForScript}
+use Rattle.wh_engine.specs.Standing.{EngineState, StandsForScript}
 use Rattle.wh_script.specs.declared.lines.Line.{Line}
 use Rattle.wh_script.specs.declared.lines.Line.TheVariants.{Kept, TooLong, Skipped, End}
 use Rattle.wh_script.specs.Coming.{IsKind}
@@ -26,29 +25,29 @@ use Rattle.wh_script.specs.Answering.{ServesScript, HasDrained, Complains, GetsR
 use Rattle.wh_script.proofs.Speaking.{adds_none, adds_more}
 use Rattle.wh_script.proofs.Drained.{no_guest_then}
 
-pub is_skipped_line : (files : Files) (number : ℕ) (line : List ℕ) (e : Engine) (text : List ℕ) → is_skipped line ≡ true → Answers files number line e text e text
+pub is_skipped_line : (files : Files) (number : ℕ) (line : List ℕ) (e : EngineState) (text : List ℕ) → is_skipped line ≡ true → Answers files number line e text e text
 is_skipped_line files number line e text is settings m s = ([], m, skipped is, adds_none text, s)
 
-pub is_too_long : (files : Files) (number : ℕ) (line text text2 : List ℕ) (e e2 : Engine) → is_skipped line ≡ false → longest_line < length line
+pub is_too_long : (files : Files) (number : ℕ) (line text text2 : List ℕ) (e e2 : EngineState) → is_skipped line ≡ false → longest_line < length line
     → Complains (error 1 number) e text e2 text2 → Answers files number line e text e2 text2
 is_too_long files number line text text2 e e2 read long complains settings m s =
     let c = complains settings m s in
     (c.0 ++ error 1 number ∷ [], c.1, too_long read long c.2, c.3, c.4)
 
-pub is_no_command : (files : Files) (number : ℕ) (line text text2 : List ℕ) (e e2 : Engine) → IsRead line → ((command : Command) → ¬ (AsksCommand line command))
+pub is_no_command : (files : Files) (number : ℕ) (line text text2 : List ℕ) (e e2 : EngineState) → IsRead line → ((command : Command) → ¬ (AsksCommand line command))
     → Complains (error 1 number) e text e2 text2 → Answers files number line e text e2 text2
 is_no_command files number line text text2 e e2 read none complains settings m s =
     let c = complains settings m s in
     (c.0 ++ error 1 number ∷ [], c.1, no_command read none c.2, c.3, c.4)
 
-pub wants_memory : (files : Files) (number : ℕ) (line text text2 : List ℕ) (e e2 : Engine) → IsRead line
+pub wants_memory : (files : Files) (number : ℕ) (line text text2 : List ℕ) (e e2 : EngineState) → IsRead line
     → Complains (error 5 number) e text e2 text2 → Answers files number line e text e2 text2
 wants_memory files number line text text2 e e2 read complains settings m s =
     let c = complains settings m s in
     (c.0 ++ error 5 number ∷ [], c.1, line_wants refl read c.2, c.3, c.4)
 
 -- a line whose command isn't found
-pub isnt_found : (files : Files) (number : ℕ) (line text text2 : List ℕ) (e e2 : Engine) (r : Result Code LineError) (cause : LineError) → r ≡ Err cause
+pub isnt_found : (files : Files) (number : ℕ) (line text text2 : List ℕ) (e e2 : EngineState) (r : Result Code LineError) (cause : LineError) → r ≡ Err cause
     → ((asked : Command) → AsksCommand line asked → FindsAsked r asked) → (cause ≡ Syntax) ⊎ (cause ≡ Memory) → IsRead line
     → Complains (error (cause_number cause) number) e text e2 text2 → Answers files number line e text e2 text2
 isnt_found files number line text text2 e e2 r Syntax is only which read complains =
@@ -72,7 +71,7 @@ isnt_found files number line text text2 e e2 r Memory is only which read complai
 
 -- ---- commands
 
-pub is_received : (files : Files) (number i : ℕ) (inst export : List ℕ) (fuel : ℕ) (args : List ℤ) (e e2 : Engine) (text : List ℕ)
+pub is_received : (files : Files) (number i : ℕ) (inst export : List ℕ) (fuel : ℕ) (args : List ℤ) (e e2 : EngineState) (text : List ℕ)
     → ((settings : Settings) (m : Made) → StandsForScript settings e m → IsNamed m i inst)
     → ((settings : Settings) (m : Made) → StandsForScript settings e m → TakesInvoke settings m i export fuel args e2)
     → AnswersCommand files number (invoke inst export fuel args) e text e2 text
@@ -83,14 +82,14 @@ is_received files number i inst export fuel args e e2 text named takes line read
     let received : ReceivesCall true m i has.0 export fuel args took.2 = subst (λ g. ReceivesCall true m i g export fuel args took.2) same took.3 in
     ([], took.2, invoked i read asks has.1 received, adds_none text, (took.4, call_well true m took.2 i has.0 export fuel args has.1.0 received s.1))
 
-pub has_no_guest : (files : Files) (number : ℕ) (inst export : List ℕ) (fuel : ℕ) (args : List ℤ) (e e2 : Engine) (text text2 : List ℕ)
+pub has_no_guest : (files : Files) (number : ℕ) (inst export : List ℕ) (fuel : ℕ) (args : List ℤ) (e e2 : EngineState) (text text2 : List ℕ)
     → ((settings : Settings) (m : Made) → StandsForScript settings e m → NoGuest m inst)
     → Complains (error 2 number) e text e2 text2 → AnswersCommand files number (invoke inst export fuel args) e text e2 text2
 has_no_guest files number inst export fuel args e e2 text text2 none complains line read asks settings m s =
     let c = complains settings m s in
     (c.0 ++ error 2 number ∷ [], c.1, obeyed {command = invoke inst export fuel args} read asks c.2 (no_such_guest refl (no_guest_then m c.1 c.0 inst c.2 (none settings m s.0))), c.3, c.4)
 
-pub invoke_wants : (files : Files) (number : ℕ) (command : Command) (e e1 e2 : Engine) (text text2 : List ℕ)
+pub invoke_wants : (files : Files) (number : ℕ) (command : Command) (e e1 e2 : EngineState) (text text2 : List ℕ)
     → ((settings : Settings) (m : Made) → StandsForScript settings e m → StandsForScript settings e1 m)
     → Complains (error 5 number) e1 text e2 text2 → AnswersCommand files number command e text e2 text2
 invoke_wants files number command e e1 e2 text text2 stays complains line read asks settings m s =
@@ -106,7 +105,7 @@ gets_well : (settings : Settings) (files : Files) (m1 m2 : Made) (number : ℕ) 
 gets_well settings files m1 m2 number command replies (is_obeyed o) well all = obeys_well true settings files m1 m2 number command replies o well all
 gets_well settings files m1 _ number command _ is_wanting well all = well
 
-pub drained_obeyed : (files : Files) (number : ℕ) (command : Command) (e e1 e2 : Engine) (text mid text2 : List ℕ) → HasDrained e text e1 mid → Obeys files number command e1 mid e2 text2
+pub drained_obeyed : (files : Files) (number : ℕ) (command : Command) (e e1 e2 : EngineState) (text mid text2 : List ℕ) → HasDrained e text e1 mid → Obeys files number command e1 mid e2 text2
     → AnswersCommand files number command e text e2 text2
 drained_obeyed files number command e e1 e2 text mid text2 drained obeys line read asks settings m s =
     let d = drained settings m s in

@@ -7,18 +7,17 @@ use Rattle.wh_host_model.specs.Lines.Made.{Guest, Made, HasGuest, NoGuest}
 use Rattle.wh_host_model.specs.Lines.Drains.{RunsAlone, Drains}
 use Rattle.wh_script_model.specs.Said.{AllAreSaid, IsWellMade}
 use Rattle.wh_script_model.proofs.Said.{runs_well, says_well, all_said, drained_guest}
-use Rattle.wh_engine.specs.declared.engine.Engine.{Engine}
 use Rattle.wh_engine.specs.Draining.{RunsEach, StaysSo}
 use Rattle.wh_engine.specs.Saying.{SaysAll}
-use Rattle.wh_engine.specs.Standing.{StandsForScript}
+use Rattle.wh_engine.specs.Standing.{EngineState, StandsForScript}
 use Rattle.wh_script.specs.Speaking.{AddsSpeech}
 use Rattle.wh_script.specs.Answering.{ServesScript, HasDrained, Complains}
 use Rattle.wh_script.proofs.Speaking.{adds_lines, adds_one, adds_more}
 
-pub stays_so : (e : Engine) → StaysSo e e
+pub stays_so : (e : EngineState) → StaysSo e e
 stays_so e settings m s = s
 
-pub has_drained : (e e1 e2 e3 : Engine) (text text2 : List ℕ) → StaysSo e e1 → RunsEach e1 e2 → SaysAll e2 text e3 text2 → HasDrained e text e3 text2
+pub has_drained : (e e1 e2 e3 : EngineState) (text text2 : List ℕ) → StaysSo e e1 → RunsEach e1 e2 → SaysAll e2 text e3 text2 → HasDrained e text e3 text2
 has_drained e e1 e2 e3 text text2 stays runs says settings m s =
     let ran = runs settings m (stays settings m s.0) in
     let m1 : Made = record m { guests = ran.0 } in
@@ -46,7 +45,7 @@ has_drained e e1 e2 e3 text text2 stays runs says settings m s =
     let all = all_said m1 starts calls guests invoked said.4 said.5 in
     (starts ++ calls, m2, drains, adds_lines (starts ++ calls) text text2 said.6, (said.7, well2), all)
 
-pub complains : (e e2 : Engine) (text mid text2 : List ℕ) (reply : Reply) → HasDrained e text e2 mid → text2 ≡ mid ++ reply_text reply → Complains reply e text e2 text2
+pub complains : (e e2 : EngineState) (text mid text2 : List ℕ) (reply : Reply) → HasDrained e text e2 mid → text2 ≡ mid ++ reply_text reply → Complains reply e text e2 text2
 complains e e2 text mid text2 reply drained is settings m s =
     let d = drained settings m s in
     (d.0, d.1, d.2, adds_more d.0 (reply ∷ []) text mid text2 d.3 (adds_one reply mid text2 is), d.4)

@@ -1,3 +1,4 @@
+pub mod Devices
 pub mod Coming
 pub mod Hex
 pub mod Written

@@ -6,8 +6,7 @@ use Rattle.wh_host_model.specs.Lines.Texts.{frames_text, slots_text, shared_text
 use Rattle.wh_host_model.specs.Lines.Settings.{Settings}
 use Rattle.wh_host_model.specs.Lines.Made.{Made}
 use Rattle.wh_host.specs.Reporting.{ReportsHost, head_text, rows_text, row_in, report_text, shared_frames, all_sharers}
-use Rattle.wh_engine.specs.declared.engine.Engine.{Engine}
-use Rattle.wh_engine.specs.Standing.{StandsForScript}
+use Rattle.wh_engine.specs.Standing.{EngineState, StandsForScript}
 use Rattle.wh_script.specs.Speaking.{Speaks, says_nothing, remarks, AddsSpeech}
 use Rattle.wh_script.proofs.Speaking.{speaks_on, speaks_remark, frames_remark, slots_remark, shared_remark, row_remark}
 
@@ -30,7 +29,7 @@ head_speaks s =
 report_speaks : (w : World) → Speaks [] (report_text w)
 report_speaks w = speaks_on [] [] (head_text w.space) (rows_text w.space 0 w.tenants) (head_speaks w.space) (rows_speak w.space 0 w.tenants)
 
-pub adds_report : (settings : Settings) (e : Engine) (m : Made) (report text text2 : List ℕ) → StandsForScript settings e m → ReportsHost e.host report
+pub adds_report : (settings : Settings) (e : EngineState) (m : Made) (report text text2 : List ℕ) → StandsForScript settings e m → ReportsHost e.host report
     → text2 ≡ text ++ report → AddsSpeech [] text text2
 adds_report settings e m report text text2 s reports is =
     (report, subst (λ xs. Speaks [] xs) (sym (reports s.world s.is.0)) (report_speaks s.world), is)

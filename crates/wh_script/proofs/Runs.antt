@@ -6,23 +6,23 @@ use Rattle.wh_host_model.specs.Lines.Settings.{Settings}
 use Rattle.wh_host_model.specs.Lines.Texts.{Reply}
 use Rattle.wh_host_model.specs.Lines.Made.{Made, nothing_made}
 use Rattle.wh_host_model.specs.Lines.Answers.{Files, AnswersLine, AnswersLines, AnswersScript}
-use Rattle.wh_engine.specs.declared.engine.Engine.{Engine}
 use Rattle.wh_engine.specs.declared.fault.ScriptFault.{ScriptFault}
 use Rattle.wh_engine.specs.declared.fault.ScriptFault.TheVariants.{Settings as SettingsFault, Script, Output, Swap, Memory, Threads, Transcript}
-use Rattle.wh_engine.specs.Standing.{StandsForScript}
+use Rattle.wh_engine.specs.Draining.{StopsRun}
+use Rattle.wh_engine.specs.Standing.{EngineState, StandsForScript}
 use Rattle.wh_script_model.proofs.SaidObeyed.{nothing_well}
 use Rattle.wh_script.specs.declared.lines.Line.{Line}
 use Rattle.wh_script.specs.declared.lines.Line.TheVariants.{Kept, TooLong, Skipped, End}
 use Rattle.wh_script.specs.Coming.{TakesLines, IsKind, ReadsLine, FailsAt}
 use Rattle.wh_script.specs.Speaking.{Speaks, says_nothing}
 use Rattle.wh_script.specs.Answering.{ServesScript, HasDrained, Answers}
-use Rattle.wh_script.specs.Runs.{AreLines, AreFirstLines, GaveLines, AppendsFront, Sent, Runs}
+use Rattle.wh_script.specs.Runs.{AreLines, AreFirstLines, GaveLines, AppendsFront, Sent, StopsBetween, Runs}
 use Rattle.wh_script.proofs.Coming.{takes_more}
 use Rattle.wh_script.proofs.Speaking.{speaks_on}
 use Rattle.wh_script.proofs.Written.{appends_nothing, appends_more}
 
 -- lines were taken up to this number, and what answers them was written
-abbrev pub SoFar : Settings → Files → Option (List ℕ) → Option (List ℕ) → Option (List ℕ) → Option (List ℕ) → ℕ → Engine → Type 0
+abbrev pub SoFar : Settings → Files → Option (List ℕ) → Option (List ℕ) → Option (List ℕ) → Option (List ℕ) → ℕ → EngineState → Type 0
 SoFar settings files script coming before after number e = (lines : List (List ℕ)) × (replies : List Reply) × (m : Made) × (text : List ℕ)
     × TakesLines script coming lines × (length lines + 1 ≡ number) × AnswersLines true settings files nothing_made 1 lines replies m × Speaks replies text
     × Appends before after text × ServesScript settings e m
@@ -64,7 +64,7 @@ line_of TooLong a b held more reads = reads
 line_of Skipped a b held more reads = reads
 line_of End a b held more reads = absurd (more refl)
 
-pub starts : (settings : Settings) (files : Files) (a w : Option (List ℕ)) (left : List ℕ) (e : Engine) → left ≡ [] → StandsForScript settings e nothing_made
+pub starts : (settings : Settings) (files : Files) (a w : Option (List ℕ)) (left : List ℕ) (e : EngineState) → left ≡ [] → StandsForScript settings e nothing_made
     → SoFar settings files a (prepend_known left a) w w 1 e
 starts settings files None w left e none stands = ([], [], nothing_made, [], tt, refl, (refl, refl), says_nothing, appends_nothing w, (stands, nothing_well))
 starts settings files (Some xs) w left e none stands =
@@ -77,13 +77,22 @@ nothing_first (Some xs) = (lines_of xs, refl)
 pub begins_nothing : (settings : Settings) (files : Files) (a left w : Option (List ℕ)) → Runs settings files a left w w (Err Memory)
 begins_nothing settings files a left w = ([], [], nothing_first a, ([], nothing_made, (refl, refl), says_nothing), appends_nothing w)
 
-module _ (settings : Settings) (files : Files) (a b before mid : Option (List ℕ)) (number : ℕ) (e : Engine) (so_far : SoFar settings files a b before mid number e) where
-  pub stops : (left : Option (List ℕ)) → Runs settings files a left before mid (Err Memory)
-  stops left = (so_far.0, so_far.3, first_lines a b so_far.0 so_far.4, (so_far.1, so_far.2, so_far.6, so_far.7), so_far.8)
+module _ (settings : Settings) (files : Files) (a b before mid : Option (List ℕ)) (number : ℕ) (e : EngineState) (so_far : SoFar settings files a b before mid number e) where
+  stops_here : StopsBetween settings files a before mid
+  stops_here = (so_far.0, so_far.3, first_lines a b so_far.0 so_far.4, (so_far.1, so_far.2, so_far.6, so_far.7), so_far.8)
+
+  pub stops : (left : Option (List ℕ)) (fault : ScriptFault) → StopsRun fault → Runs settings files a left before mid (Err fault)
+  stops left Memory is = stops_here
+  stops left Threads is = stops_here
+  stops left Transcript is = stops_here
+  stops left SettingsFault is = elim is [ ]
+  stops left Script is = elim is [ ]
+  stops left Output is = elim is [ ]
+  stops left Swap is = elim is [ ]
 
   pub read_fails : (left : Option (List ℕ)) (fault : ScriptFault) → (fault ≡ Script) ⊎ (fault ≡ Memory) → FailsAt b left (Err fault) → Runs settings files a left before mid (Err fault)
   read_fails left Script which at = (so_far.0, so_far.3, gave_lines a b left so_far.0 at.0 so_far.4 at.1 at.2, (so_far.1, so_far.2, so_far.6, so_far.7), so_far.8)
-  read_fails left Memory which at = stops left
+  read_fails left Memory which at = stops_here
   read_fails left Output which at = neither which
     where
       neither : (Output ≡ Script) ⊎ (Output ≡ Memory) → Runs settings files a left before mid (Err Output)
@@ -99,18 +108,18 @@ module _ (settings : Settings) (files : Files) (a b before mid : Option (List �
       neither : (Swap ≡ Script) ⊎ (Swap ≡ Memory) → ⊥
       neither (inl h) = absurd (cc h)
       neither (inr h) = absurd (cc h)
-  read_fails left Threads which at = neither which
+  read_fails left Threads which at = absurd (neither which)
     where
       neither : (Threads ≡ Script) ⊎ (Threads ≡ Memory) → ⊥
       neither (inl h) = absurd (cc h)
       neither (inr h) = absurd (cc h)
-  read_fails left Transcript which at = neither which
+  read_fails left Transcript which at = absurd (neither which)
     where
       neither : (Transcript ≡ Script) ⊎ (Transcript ≡ Memory) → ⊥
       neither (inl h) = absurd (cc h)
       neither (inr h) = absurd (cc h)
 
-  module _ (e2 : Engine) (text : List ℕ) (after left : Option (List ℕ)) where
+  module _ (e2 : EngineState) (text : List ℕ) (after left : Option (List ℕ)) where
     -- the drain at the end
     pub ends : HasDrained e [] e2 text → IsAtEnd b → (r : Result Unit ScriptFault) → Sent mid after r text → Runs settings files a left before after r
     ends drained end (Ok x) sent =

@@ -2,9 +2,8 @@
 use Rattle.std.proofs.Common.{arith, ◌≡◌, ◌∙◌, ℕ, zero, suc, ◌<◌, Bool, true, false, List, [], ◌∷◌, length, slice_get, Option, Some, None, is_some, refl, sym, ap}
 use Rattle.wh_host_model.specs.Lines.Settings.{Settings}
 use Rattle.wh_host_model.specs.Lines.Made.{Made}
-use Rattle.wh_engine.specs.declared.engine.Engine.{Engine}
 use Rattle.wh_engine.specs.Obeying.{IsNamed, IsModuleNamed}
-use Rattle.wh_engine.specs.Standing.{StandsForScript}
+use Rattle.wh_engine.specs.Standing.{EngineState, StandsForScript}
 use Rattle.wh_engine.proofs.Sayings.{guests_many}
 
 there_within : {A : Type 0} (xs : List A) (i : ℕ) (x : A) → slice_get xs i ≡ Some x → i < length xs
@@ -12,13 +11,13 @@ there_within [] i x e = absurd (cc e)
 there_within (y ∷ xs) zero x e = omega arith
 there_within (y ∷ xs) (suc i) x e = let h = there_within xs i x e in omega (arith, h)
 
-pub guest_within : (settings : Settings) (e : Engine) (m : Made) (k : ℕ) (name : List ℕ) → StandsForScript settings e m → IsNamed m k name → k < length e.guests.items
+pub guest_within : (settings : Settings) (e : EngineState) (m : Made) (k : ℕ) (name : List ℕ) → StandsForScript settings e m → IsNamed m k name → k < length e.guests.items
 guest_within settings e m k name s is =
     let within = there_within m.guests k is.0 is.1.0 in
     let many = guests_many 0 e.guests.items m.guests s.guests in
     omega (arith, within, many)
 
-pub module_within : (settings : Settings) (e : Engine) (m : Made) (k : ℕ) (name : List ℕ) → StandsForScript settings e m → IsModuleNamed m k name → k < e.modules
+pub module_within : (settings : Settings) (e : EngineState) (m : Made) (k : ℕ) (name : List ℕ) → StandsForScript settings e m → IsModuleNamed m k name → k < e.modules
 module_within settings e m k name s is =
     let within = there_within m.modules k is.0 is.1 in
     let many = s.modules in

@@ -7,25 +7,24 @@ use Rattle.wh_host_model.specs.Lines.Made.{Made}
 use Rattle.wh_host_model.specs.Lines.Drains.{Drains}
 use Rattle.wh_host_model.specs.Lines.Answers.{Files, IsObeyed, IsRead, AnswersLine}
 use Rattle.wh_script_model.specs.Said.{AllAreSaid, IsWellMade}
-use Rattle.wh_engine.specs.declared.engine.Engine.{Engine}
-use Rattle.wh_engine.specs.Standing.{StandsForScript}
+use Rattle.wh_engine.specs.Standing.{EngineState, StandsForScript}
 use Rattle.wh_script.specs.Speaking.{AddsSpeech}
 
 -- the engine stands for what the script has made, and that is well made
-abbrev pub ServesScript : Settings → Engine → Made → Type 0
+abbrev pub ServesScript : Settings → EngineState → Made → Type 0
 ServesScript settings e m = StandsForScript settings e m × IsWellMade m
 
 -- ---- drains
 
 -- whatever script it serves: all calls have run, it was said of all how they are, and their lines stand behind the text
-abbrev pub HasDrained : Engine → List ℕ → Engine → List ℕ → Type 0
+abbrev pub HasDrained : EngineState → List ℕ → EngineState → List ℕ → Type 0
 HasDrained e text e2 text2 =
     (settings : Settings) (m : Made) → ServesScript settings e m
     → (lines : List Reply) × (m2 : Made) × Drains m lines m2 × AddsSpeech lines text text2 × ServesScript settings e2 m2
     × AllAreSaid m2
 
 -- and the reply behind them
-abbrev pub Complains : Reply → Engine → List ℕ → Engine → List ℕ → Type 0
+abbrev pub Complains : Reply → EngineState → List ℕ → EngineState → List ℕ → Type 0
 Complains reply e text e2 text2 =
     (settings : Settings) (m : Made) → ServesScript settings e m
     → (lines : List Reply) × (m2 : Made) × Drains m lines m2 × AddsSpeech (lines ++ reply ∷ []) text text2
@@ -46,7 +45,7 @@ pub data GetsReplies (settings : Settings) (files : Files) (m : Made) (number : 
   is_wanting : GetsReplies settings files m number command (error 5 number ∷ []) m
 
 -- the command of the line of this number, behind a drain
-abbrev pub Obeys : Files → ℕ → Command → Engine → List ℕ → Engine → List ℕ → Type 0
+abbrev pub Obeys : Files → ℕ → Command → EngineState → List ℕ → EngineState → List ℕ → Type 0
 Obeys files number command e text e2 text2 =
     (settings : Settings) (m : Made) → StandsForScript settings e m
     → (replies : List Reply) × (m2 : Made) × GetsReplies settings files m number command replies m2
@@ -55,13 +54,13 @@ Obeys files number command e text e2 text2 =
 -- ---- lines
 
 -- the line of this number
-abbrev pub Answers : Files → ℕ → List ℕ → Engine → List ℕ → Engine → List ℕ → Type 0
+abbrev pub Answers : Files → ℕ → List ℕ → EngineState → List ℕ → EngineState → List ℕ → Type 0
 Answers files number line e text e2 text2 =
     (settings : Settings) (m : Made) → ServesScript settings e m
     → (replies : List Reply) × (m2 : Made) × AnswersLine true settings files m number line replies m2
     × AddsSpeech replies text text2 × ServesScript settings e2 m2
 
 -- a line of this number that asks for the command
-abbrev pub AnswersCommand : Files → ℕ → Command → Engine → List ℕ → Engine → List ℕ → Type 0
+abbrev pub AnswersCommand : Files → ℕ → Command → EngineState → List ℕ → EngineState → List ℕ → Type 0
 AnswersCommand files number command e text e2 text2 =
     (line : List ℕ) → IsRead line → AsksCommand line command → Answers files number line e text e2 text2

@@ -7,7 +7,7 @@ use Rattle.wh_host_model.specs.Lines.Texts.{Reply}
 use Rattle.wh_host_model.specs.Lines.Made.{Made, nothing_made}
 use Rattle.wh_host_model.specs.Lines.Answers.{Files, AnswersLines, AnswersScript}
 use Rattle.wh_engine.specs.declared.fault.ScriptFault.{ScriptFault}
-use Rattle.wh_engine.specs.declared.fault.ScriptFault.TheVariants.{Script, Output, Memory}
+use Rattle.wh_engine.specs.declared.fault.ScriptFault.TheVariants.{Script, Output, Memory, Threads, Transcript}
 use Rattle.wh_script.specs.Speaking.{Speaks}
 
 -- ---- lines
@@ -54,10 +54,16 @@ IsPartial settings files lines text =
 
 -- ---- runs
 
+-- what answers the first lines was written
+abbrev pub StopsBetween : Settings → Files → Option (List ℕ) → Option (List ℕ) → Option (List ℕ) → Type 0
+StopsBetween settings files script before after =
+    (lines : List (List ℕ)) × (text : List ℕ) × AreFirstLines script lines × IsPartial settings files lines text
+    × Appends before after text
+
 -- What a run did, from the script to what the reader has left, and from the writer's bytes before to those after, by
 -- how it ended. To the end: what answers the script was written. Where the writer failed: a beginning of what answers
--- the first lines. Where the reader failed: what answers the lines that it gave. Where memory was wanted: what answers
--- the first lines. It ends in no other way.
+-- the first lines. Where the reader failed: what answers the lines that it gave. Where memory or a thread was wanted, or
+-- calls didn't run to their ends: what answers the first lines. It ends in no other way.
 abbrev pub Runs : Settings → Files → Option (List ℕ) → Option (List ℕ) → Option (List ℕ) → Option (List ℕ)
     → Result Unit ScriptFault → Type 0
 Runs settings files script left before after (Ok _) =
@@ -69,7 +75,7 @@ Runs settings files script left before after (Err Output) =
 Runs settings files script left before after (Err Script) =
     (lines : List (List ℕ)) × (text : List ℕ) × GaveLines script left lines × IsPartial settings files lines text
     × Appends before after text
-Runs settings files script left before after (Err Memory) =
-    (lines : List (List ℕ)) × (text : List ℕ) × AreFirstLines script lines × IsPartial settings files lines text
-    × Appends before after text
+Runs settings files script left before after (Err Memory) = StopsBetween settings files script before after
+Runs settings files script left before after (Err Threads) = StopsBetween settings files script before after
+Runs settings files script left before after (Err Transcript) = StopsBetween settings files script before after
 Runs settings files script left before after (Err fault) = ⊥

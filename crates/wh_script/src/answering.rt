@@ -4,49 +4,58 @@ ghost use Rattle.std.specs.Prelude.{◌≡◌, ℕ, List, [], OnOk, IfErr, strin
 ghost use Rattle.wh_host_model.specs.Lines.Answers.{Files};
 ghost use Rattle.wh_host_model.specs.Lines.Commands as asked_of;
 ghost use Rattle.wh_commands.specs.Found.{Says};
-ghost use Rattle.wh_reclaim.specs.Together.{AreTogether};
-ghost use Rattle.wh_engine.specs.Draining.{HasAdded, HasServed, StaysTrue};
+ghost use Rattle.wh_engine.specs.Draining.{DeviceMayFail, DeviceServesWell, DeviceStaysTrue, StopsRun};
+ghost use Rattle.wh_engine.specs.Standing.{engine_on};
 ghost use Rattle.wh_script.specs.Answering.{Answers, AnswersCommand};
 ghost use Rattle.wh_script.specs.Coming.{IsKind};
 
 use crate::files::Source;
 use crate::lines::Line;
 use crate::session::Session;
+use std::sync::Wait;
+use std::sync::ledger::Ledger;
+use std::thread::Threads;
 use wh_commands::{Command, LineError, parse};
 use wh_engine::ScriptFault;
 use wh_swap::SwapDev;
+use wh_workers::Bond;
 
-impl Session {
+impl<
+    D: SwapDev + Drop + Send + 'static,
+    T: Ledger + Send + 'static,
+    C: Ledger + Send + 'static,
+    O: Ledger + Send + 'static,
+    E: Ledger + Send + 'static,
+    B: Bond + Send + 'static,
+> Session<D, T, C, O, E, B> {
     /// Puts what a line gets into the text, in place of what stood there.
     ///
     /// # Errors
-    /// `Memory` where room for it is refused, or where turns can't be counted.
-    pub fn answer<S: Source, D: SwapDev>(
+    /// `Memory` where room for it is refused; `Threads` and `Transcript` where calls don't run to their ends.
+    pub fn answer<S: Source, X: Threads + Wait + Copy + Send + 'static>(
         &mut self,
+        rt: X,
         source: &S,
-        device: &mut D,
         kind: Line,
         held: &[u8],
         number: u64,
     ) -> Result<(), ScriptFault>
-        requires { AreTogether self.old.engine.host.space (D.held device.old) }
-        ensures together { AreTogether self.new.engine.host.space (D.held device.new) }
-        ensures device { StaysTrue (D.keeps device.old) (D.honest device.old)
-            (D.keeps device.new) (D.honest device.new) }
-        ensures faults { HasAdded (D.faults device.old) (D.faults device.new) }
-        ensures answers { OnOk result (HasServed (D.honest device.new) (D.faults device.old)
-            (D.faults device.new) → (line : List ℕ) → IsKind kind held.now line
-            → Answers (S.files source.now) number line self.old.engine [] self.new.engine
-            (string_bytes self.new.text)) }
-        ensures err { IfErr result (λ e. e ≡ ScriptFault.Memory) }
+        ensures device { DeviceStaysTrue D.keeps D.honest self.old.host.device
+            self.new.host.device }
+        ensures faults { DeviceMayFail D.faults self.old.host.device self.new.host.device }
+        ensures answers { OnOk result (DeviceServesWell D.honest D.faults self.old.host.device
+            self.new.host.device → (line : List ℕ) → IsKind kind held.now line → Answers
+            (S.files source.now) number line (engine_on self.old.host.host self.old.engine) []
+            (engine_on self.new.host.host self.new.engine) (string_bytes self.new.text)) }
+        ensures err { IfErr result StopsRun }
     {
         self.text.clear();
         match kind {
             Line::End | Line::Skipped => Ok(()),
-            Line::TooLong => self.complain_drained(device, LineError::Syntax, number),
+            Line::TooLong => self.complain_drained(rt, LineError::Syntax, number),
             Line::Kept => match parse(self.alloc, held) {
-                Ok(command) => self.command(source, device, command, number),
-                Err(error) => self.complain_drained(device, error, number),
+                Ok(command) => self.command(rt, source, command, number),
+                Err(error) => self.complain_drained(rt, error, number),
             },
         }
     }
@@ -55,23 +64,22 @@ impl Session {
     ///
     /// # Errors
     /// As `answer`.
-    fn command<S: Source, D: SwapDev>(
+    fn command<S: Source, X: Threads + Wait + Copy + Send + 'static>(
         &mut self,
+        rt: X,
         source: &S,
-        device: &mut D,
         command: Command<'_>,
         number: u64,
     ) -> Result<(), ScriptFault>
-        requires { AreTogether self.old.engine.host.space (D.held device.old) }
-        ensures together { AreTogether self.new.engine.host.space (D.held device.new) }
-        ensures device { StaysTrue (D.keeps device.old) (D.honest device.old)
-            (D.keeps device.new) (D.honest device.new) }
-        ensures faults { HasAdded (D.faults device.old) (D.faults device.new) }
-        ensures answers { OnOk result (HasServed (D.honest device.new) (D.faults device.old)
-            (D.faults device.new) → (asked : asked_of.Command) → Says command.entry asked
-            → AnswersCommand (S.files source.now) number asked self.old.engine
-            (string_bytes self.old.text) self.new.engine (string_bytes self.new.text)) }
-        ensures err { IfErr result (λ e. e ≡ ScriptFault.Memory) }
+        ensures device { DeviceStaysTrue D.keeps D.honest self.old.host.device
+            self.new.host.device }
+        ensures faults { DeviceMayFail D.faults self.old.host.device self.new.host.device }
+        ensures answers { OnOk result (DeviceServesWell D.honest D.faults self.old.host.device
+            self.new.host.device → (asked : asked_of.Command) → Says command.entry asked
+            → AnswersCommand (S.files source.now) number asked
+            (engine_on self.old.host.host self.old.engine) (string_bytes self.old.text)
+            (engine_on self.new.host.host self.new.engine) (string_bytes self.new.text)) }
+        ensures err { IfErr result StopsRun }
     {
         match command {
             Command::Invoke {
@@ -79,9 +87,9 @@ impl Session {
                 export,
                 fuel,
                 args,
-            } => self.invoke(device, inst, export, fuel, &args, number),
+            } => self.invoke(rt, inst, export, fuel, &args, number),
             command => {
-                self.drain(device)?;
+                self.drain(rt)?;
                 self.obey(source, command, number)
             }
         }
@@ -91,33 +99,33 @@ impl Session {
     ///
     /// # Errors
     /// As `answer`.
-    fn invoke<D: SwapDev>(
+    fn invoke<X: Threads + Wait + Copy + Send + 'static>(
         &mut self,
-        device: &mut D,
+        rt: X,
         inst: &str,
         export: &str,
         fuel: u64,
         args: &[i128],
         number: u64,
     ) -> Result<(), ScriptFault>
-        requires { AreTogether self.old.engine.host.space (D.held device.old) }
-        ensures together { AreTogether self.new.engine.host.space (D.held device.new) }
-        ensures device { StaysTrue (D.keeps device.old) (D.honest device.old)
-            (D.keeps device.new) (D.honest device.new) }
-        ensures faults { HasAdded (D.faults device.old) (D.faults device.new) }
-        ensures answers { OnOk result (HasServed (D.honest device.new) (D.faults device.old)
-            (D.faults device.new) → (files : Files)
-            → AnswersCommand files number (asked_of.invoke inst.now export.now fuel args.now)
-            self.old.engine (string_bytes self.old.text) self.new.engine
-            (string_bytes self.new.text)) }
-        ensures err { IfErr result (λ e. e ≡ ScriptFault.Memory) }
+        ensures device { DeviceStaysTrue D.keeps D.honest self.old.host.device
+            self.new.host.device }
+        ensures faults { DeviceMayFail D.faults self.old.host.device self.new.host.device }
+        ensures answers { OnOk result (DeviceServesWell D.honest D.faults self.old.host.device
+            self.new.host.device → (files : Files) → AnswersCommand files number
+            (asked_of.invoke inst.now export.now fuel args.now)
+            (engine_on self.old.host.host self.old.engine) (string_bytes self.old.text)
+            (engine_on self.new.host.host self.new.engine) (string_bytes self.new.text)) }
+        ensures err { IfErr result StopsRun }
     {
         let Some(guest) = self.guest_named(inst) else {
-            return self.complain_drained(device, LineError::NoName, number);
+            return self.complain_drained(rt, LineError::NoName, number);
         };
-        let asked = self.engine.invoke(self.alloc, guest, export, fuel, args);
+        let asked = self
+            .engine
+            .invoke(&mut self.host, self.alloc, guest, export, fuel, args);
         if asked.is_err() {
-            return self.complain_drained(device, LineError::Memory, number);
+            return self.complain_drained(rt, LineError::Memory, number);
         }
         Ok(())
     }

@@ -6,19 +6,23 @@ ghost use Rattle.wh_host_model.specs.Lines.Answers.{BringsBytes, Files, NamesMod
 ghost use Rattle.wh_host_model.specs.Lines.Commands as asked_of;
 ghost use Rattle.wh_host_model.specs.Lines.Texts.{release_ok, reply_text};
 ghost use Rattle.wh_commands.specs.Found.{Says, params_of};
+ghost use Rattle.wh_engine.specs.Draining.{StaysSo};
 ghost use Rattle.wh_engine.specs.Names.{number_of};
-ghost use Rattle.wh_host.specs.Backing.{KeepsBacking};
+ghost use Rattle.wh_engine.specs.Standing.{engine_on};
 ghost use Rattle.wh_script.specs.Answering.{IsNoInvoke, Obeys};
 
 use crate::files::{FileError, Source};
 use crate::session::Session;
+use std::sync::ledger::Ledger;
 use wh_commands::{Command, Given, LineError};
 use wh_engine::ScriptFault;
 use wh_kernels::{ConstantHash, FnvHash};
 use wh_replies::{Reply, write_released};
 use wh_settings::HashKind;
+use wh_swap::SwapDev;
+use wh_workers::Bond;
 
-impl Session {
+impl<D: SwapDev, T: Ledger, C: Ledger, O: Ledger, E: Ledger, B: Bond> Session<D, T, C, O, E, B> {
     /// Puts what a command gets behind the text. A call is asked for elsewhere, since it is taken before all calls have run.
     ///
     /// # Errors
@@ -30,9 +34,10 @@ impl Session {
         number: u64,
     ) -> Result<(), ScriptFault>
         ensures obeys { OnOk result ((asked : asked_of.Command) → Says command.entry asked
-            → IsNoInvoke asked → Obeys (S.files source.now) number asked self.old.engine
-            (string_bytes self.old.text) self.new.engine (string_bytes self.new.text)) }
-        ensures backing { KeepsBacking self.old.engine.host.space self.new.engine.host.space }
+            → IsNoInvoke asked → Obeys (S.files source.now) number asked
+            (engine_on self.old.host.host self.old.engine) (string_bytes self.old.text)
+            (engine_on self.new.host.host self.new.engine) (string_bytes self.new.text)) }
+        ensures device { self.new.host.device ≡ self.old.host.device }
         ensures err { IfErr result (λ e. e ≡ ScriptFault.Memory) }
     {
         match command {
@@ -55,10 +60,11 @@ impl Session {
 
     /// `module NAME HEX`.
     fn module(&mut self, name: &str, hex: &str, number: u64) -> Result<(), ScriptFault>
-        ensures obeys { OnOk result ((files : Files) (bytes : List ℕ) → IsHex hex.now bytes
-            → Obeys files number (asked_of.keep name.now bytes) self.old.engine
-            (string_bytes self.old.text) self.new.engine (string_bytes self.new.text)) }
-        ensures backing { KeepsBacking self.old.engine.host.space self.new.engine.host.space }
+        ensures obeys { OnOk result ((files : Files) (bytes : List ℕ) → IsHex hex.now bytes → Obeys
+            files number (asked_of.keep name.now bytes)
+            (engine_on self.old.host.host self.old.engine) (string_bytes self.old.text)
+            (engine_on self.new.host.host self.new.engine) (string_bytes self.new.text)) }
+        ensures device { self.new.host.device ≡ self.old.host.device }
         ensures err { IfErr result (λ e. e ≡ ScriptFault.Memory) }
     {
         if self.engine.module_number(name).is_some() {
@@ -79,9 +85,10 @@ impl Session {
         number: u64,
     ) -> Result<(), ScriptFault>
         ensures obeys { OnOk result (Obeys (S.files source.now) number
-            (asked_of.load name.now path.now) self.old.engine (string_bytes self.old.text)
-            self.new.engine (string_bytes self.new.text)) }
-        ensures backing { KeepsBacking self.old.engine.host.space self.new.engine.host.space }
+            (asked_of.load name.now path.now) (engine_on self.old.host.host self.old.engine)
+            (string_bytes self.old.text) (engine_on self.new.host.host self.new.engine)
+            (string_bytes self.new.text)) }
+        ensures device { self.new.host.device ≡ self.old.host.device }
         ensures err { IfErr result (λ e. e ≡ ScriptFault.Memory) }
     {
         if self.engine.module_number(name).is_some() {
@@ -97,14 +104,14 @@ impl Session {
     /// Keeps the module of these bytes under a free name.
     fn keep(&mut self, name: &str, bytes: &[u8], number: u64) -> Result<(), ScriptFault>
         requires free { number_of self.old.engine.module_names name.now ≡ None }
-        ensures obeys { OnOk result ((files : Files) (asked : asked_of.Command)
-            → NamesModule asked name.now → BringsBytes files asked bytes.now
-            → Obeys files number asked self.old.engine (string_bytes self.old.text)
-            self.new.engine (string_bytes self.new.text)) }
-        ensures backing { KeepsBacking self.old.engine.host.space self.new.engine.host.space }
+        ensures obeys { OnOk result ((files : Files) (asked : asked_of.Command) → NamesModule asked
+            name.now → BringsBytes files asked bytes.now → Obeys files number asked
+            (engine_on self.old.host.host self.old.engine) (string_bytes self.old.text)
+            (engine_on self.new.host.host self.new.engine) (string_bytes self.new.text)) }
+        ensures device { self.new.host.device ≡ self.old.host.device }
         ensures err { IfErr result (λ e. e ≡ ScriptFault.Memory) }
     {
-        match self.engine.keep(self.alloc, name, bytes) {
+        match self.engine.keep(&mut self.host, self.alloc, name, bytes) {
             Ok(reply) => self.reply(reply),
             Err(_) => self.complain(LineError::Memory, number),
         }
@@ -119,9 +126,10 @@ impl Session {
         number: u64,
     ) -> Result<(), ScriptFault>
         ensures obeys { OnOk result ((files : Files) → Obeys files number
-            (asked_of.admit inst.now name.now (params_of given)) self.old.engine
-            (string_bytes self.old.text) self.new.engine (string_bytes self.new.text)) }
-        ensures backing { KeepsBacking self.old.engine.host.space self.new.engine.host.space }
+            (asked_of.admit inst.now name.now (params_of given))
+            (engine_on self.old.host.host self.old.engine) (string_bytes self.old.text)
+            (engine_on self.new.host.host self.new.engine) (string_bytes self.new.text)) }
+        ensures device { self.new.host.device ≡ self.old.host.device }
         ensures err { IfErr result (λ e. e ≡ ScriptFault.Memory) }
     {
         let Some(of) = self.module_named(name) else {
@@ -130,7 +138,10 @@ impl Session {
         if self.engine.guest_number(inst).is_some() {
             return self.complain(LineError::NameTaken, number);
         }
-        match self.engine.admit(self.alloc, inst, of, given) {
+        match self
+            .engine
+            .admit(&mut self.host, self.alloc, inst, of, given)
+        {
             Ok(reply) => self.reply(reply),
             Err(_) => self.complain(LineError::Memory, number),
         }
@@ -139,72 +150,84 @@ impl Session {
     /// `refuel INST N`.
     fn refuel(&mut self, inst: &str, fuel: u64, number: u64) -> Result<(), ScriptFault>
         ensures obeys { OnOk result ((files : Files) → Obeys files number
-            (asked_of.refuel inst.now fuel) self.old.engine (string_bytes self.old.text)
-            self.new.engine (string_bytes self.new.text)) }
-        ensures backing { KeepsBacking self.old.engine.host.space self.new.engine.host.space }
+            (asked_of.refuel inst.now fuel) (engine_on self.old.host.host self.old.engine)
+            (string_bytes self.old.text) (engine_on self.new.host.host self.new.engine)
+            (string_bytes self.new.text)) }
+        ensures device { self.new.host.device ≡ self.old.host.device }
         ensures err { IfErr result (λ e. e ≡ ScriptFault.Memory) }
     {
         let Some(guest) = self.guest_named(inst) else {
             return self.complain(LineError::NoName, number);
         };
-        let reply = self.engine.refuel(guest, inst, fuel);
+        let reply = self.engine.refuel(&mut self.host, guest, inst, fuel);
         self.reply(reply)
     }
 
     /// `cancel INST`.
     fn cancel(&mut self, inst: &str, number: u64) -> Result<(), ScriptFault>
-        ensures obeys { OnOk result ((files : Files) → Obeys files number
-            (asked_of.cancel inst.now) self.old.engine (string_bytes self.old.text)
-            self.new.engine (string_bytes self.new.text)) }
-        ensures backing { KeepsBacking self.old.engine.host.space self.new.engine.host.space }
+        ensures obeys { OnOk result ((files : Files) → Obeys files number (asked_of.cancel inst.now)
+            (engine_on self.old.host.host self.old.engine) (string_bytes self.old.text)
+            (engine_on self.new.host.host self.new.engine) (string_bytes self.new.text)) }
+        ensures device { self.new.host.device ≡ self.old.host.device }
         ensures err { IfErr result (λ e. e ≡ ScriptFault.Memory) }
     {
         let Some(guest) = self.guest_named(inst) else {
             return self.complain(LineError::NoName, number);
         };
-        let reply = self.engine.cancel(guest, inst);
+        let reply = self.engine.cancel(&mut self.host, guest, inst);
         self.reply(reply)
     }
 
     /// `retry INST`.
     fn retry(&mut self, inst: &str, number: u64) -> Result<(), ScriptFault>
-        ensures obeys { OnOk result ((files : Files) → Obeys files number
-            (asked_of.retry inst.now) self.old.engine (string_bytes self.old.text)
-            self.new.engine (string_bytes self.new.text)) }
-        ensures backing { KeepsBacking self.old.engine.host.space self.new.engine.host.space }
+        ensures obeys { OnOk result ((files : Files) → Obeys files number (asked_of.retry inst.now)
+            (engine_on self.old.host.host self.old.engine) (string_bytes self.old.text)
+            (engine_on self.new.host.host self.new.engine) (string_bytes self.new.text)) }
+        ensures device { self.new.host.device ≡ self.old.host.device }
         ensures err { IfErr result (λ e. e ≡ ScriptFault.Memory) }
     {
         let Some(guest) = self.guest_named(inst) else {
             return self.complain(LineError::NoName, number);
         };
-        let reply = self.engine.retry(guest, inst);
+        let reply = self.engine.retry(&mut self.host, guest, inst);
         self.reply(reply)
     }
 
     /// `scan`.
     fn scan(&mut self) -> Result<(), ScriptFault>
         ensures obeys { OnOk result ((files : Files) (number : ℕ) → Obeys files number asked_of.scan
-            self.old.engine (string_bytes self.old.text) self.new.engine
-            (string_bytes self.new.text)) }
-        ensures backing { KeepsBacking self.old.engine.host.space self.new.engine.host.space }
+            (engine_on self.old.host.host self.old.engine) (string_bytes self.old.text)
+            (engine_on self.new.host.host self.new.engine) (string_bytes self.new.text)) }
+        ensures device { self.new.host.device ≡ self.old.host.device }
         ensures err { IfErr result (λ e. e ≡ ScriptFault.Memory) }
     {
-        match self.hash {
-            HashKind::Fnv64 => self.engine.scan(&FnvHash),
-            HashKind::Constant => self.engine.scan(&ConstantHash),
-        }
+        self.offer_pages();
         self.reply(Reply::ScanOk)
+    }
+
+    // Offers all pages for sharing, each under its hash.
+    fn offer_pages(&mut self)
+        ensures stands { StaysSo (engine_on self.old.host.host self.old.engine)
+            (engine_on self.new.host.host self.new.engine) }
+        ensures device { self.new.host.device ≡ self.old.host.device }
+        ensures text { self.new.text ≡ self.old.text }
+    {
+        match self.hash {
+            HashKind::Fnv64 => self.engine.scan(&mut self.host, &FnvHash),
+            HashKind::Constant => self.engine.scan(&mut self.host, &ConstantHash),
+        }
     }
 
     /// `report`.
     fn report(&mut self) -> Result<(), ScriptFault>
-        ensures obeys { OnOk result ((files : Files) (number : ℕ)
-            → Obeys files number asked_of.report self.old.engine (string_bytes self.old.text)
-            self.new.engine (string_bytes self.new.text)) }
-        ensures backing { KeepsBacking self.old.engine.host.space self.new.engine.host.space }
+        ensures obeys { OnOk result ((files : Files) (number : ℕ) → Obeys files number
+            asked_of.report (engine_on self.old.host.host self.old.engine)
+            (string_bytes self.old.text) (engine_on self.new.host.host self.new.engine)
+            (string_bytes self.new.text)) }
+        ensures device { self.new.host.device ≡ self.old.host.device }
         ensures err { IfErr result (λ e. e ≡ ScriptFault.Memory) }
     {
-        let Ok(report) = self.engine.report(self.alloc) else {
+        let Ok(report) = self.host.host().report(self.alloc) else {
             return Err(ScriptFault::Memory);
         };
         let Ok(()) = self.text.push_str(&report) else {
@@ -216,15 +239,16 @@ impl Session {
     /// `release INST`.
     fn release(&mut self, inst: &str, number: u64) -> Result<(), ScriptFault>
         ensures obeys { OnOk result ((files : Files) → Obeys files number
-            (asked_of.release inst.now) self.old.engine (string_bytes self.old.text)
-            self.new.engine (string_bytes self.new.text)) }
-        ensures backing { KeepsBacking self.old.engine.host.space self.new.engine.host.space }
+            (asked_of.release inst.now) (engine_on self.old.host.host self.old.engine)
+            (string_bytes self.old.text) (engine_on self.new.host.host self.new.engine)
+            (string_bytes self.new.text)) }
+        ensures device { self.new.host.device ≡ self.old.host.device }
         ensures err { IfErr result (λ e. e ≡ ScriptFault.Memory) }
     {
         let Some(guest) = self.guest_named(inst) else {
             return self.complain(LineError::NoName, number);
         };
-        match self.engine.release(self.alloc, guest) {
+        match self.engine.release(&mut self.host, self.alloc, guest) {
             Ok(output) => self.say_released(inst, &output),
             Err(error) => self.reply(Reply::ReleaseRefused {
                 inst,
@@ -237,7 +261,9 @@ impl Session {
     fn say_released(&mut self, inst: &str, output: &[u8]) -> Result<(), ScriptFault>
         ensures said { OnOk result (string_bytes self.new.text
             ≡ string_bytes self.old.text ++ reply_text (release_ok inst.now output.now)) }
-        ensures engine { self.new.engine ≡ self.old.engine }
+        ensures engine { engine_on self.new.host.host self.new.engine ≡ engine_on self.old.host.host
+            self.old.engine }
+        ensures device { self.new.host.device ≡ self.old.host.device }
         ensures err { IfErr result (λ e. e ≡ ScriptFault.Memory) }
     {
         write_released(self.alloc, &mut self.text, inst, output).map_err(|_| ScriptFault::Memory)

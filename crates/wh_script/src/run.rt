@@ -1,8 +1,11 @@
 //! A script from its first line to its last.
 
-ghost use Rattle.std.specs.Prelude.{IfErr};
+ghost use Rattle.std.specs.Prelude.{◌≡◌, ◌<◌, IfSome};
 ghost use Rattle.wh_settings.specs.View.{settings_of};
-ghost use Rattle.wh_engine.specs.Draining.{HasAdded, HasServed, StaysTrue};
+ghost use Rattle.wh_engine.specs.Draining.{DeviceMayFail, DeviceServesWell, DeviceStaysTrue, HasAdded, HasServed, StaysTrue};
+ghost use Rattle.wh_engine.specs.Standing.{StandsForScript, engine_on};
+ghost use Rattle.wh_host_model.specs.Lines.Made.{nothing_made};
+ghost use Rattle.wh_host_model.specs.Lines.Settings as lines;
 ghost use Rattle.wh_script.specs.Runs.{Runs};
 ghost use Rattle.wh_script.specs.Starting.{IsEmptyDevice};
 
@@ -12,49 +15,153 @@ use crate::session::Session;
 use crate::writing::send;
 use std::alloc::Global;
 use std::io::{Read, Write};
+use std::marker::Brand;
+use std::sync::Wait;
+use std::sync::ledger::Ledger;
+use std::thread::Threads;
+use wh_cell::Fittings;
 use wh_engine::ScriptFault;
-use wh_settings::Settings;
+use wh_settings::{Settings, Workers};
 use wh_swap::SwapDev;
+use wh_workers::Bond;
 
-/// Reads a script to its end, obeys it on a host of its own, and writes the replies. Pages are swapped to the device, which
-/// has as many slots as the settings say, and nothing in them.
+/// Reads a script to its end, obeys it on a host of its own, whose calls so many threads run, and writes the replies. Pages
+/// are swapped to the device, which has as many slots as the settings say, and nothing in them. The device comes back, but
+/// where room for the host was refused.
 ///
 /// # Errors
 /// `Script` where the reader fails, after the replies to the lines that it gave; `Output` where the writer fails, after a
-/// beginning of the replies; `Memory` where there is none for the host, for a reply or for a report, or where lines or turns
-/// can't be counted, after the replies to the first lines. Want of memory for a command is answered in its reply.
-pub fn run_script<R: Read, W: Write, S: Source, D: SwapDev>(
+/// beginning of the replies; `Memory` where there is none for the host, for threads, for a reply or for a report, or where
+/// lines can't be counted, `Threads` where a thread can't be started, and `Transcript` where calls don't run to their ends,
+/// after the replies to the first lines. Want of memory for a command is answered in its reply.
+pub fn run_script<
+    R: Read,
+    W: Write,
+    S: Source,
+    D: SwapDev + Drop + Send + 'static,
+    X: Threads + Wait + Copy + Send + 'static,
+>(
+    rt: X,
     alloc: Global,
     settings: &Settings,
+    workers: Workers,
     source: &S,
-    device: &mut D,
+    device: D,
     reader: &mut R,
     writer: &mut W,
-) -> Result<(), ScriptFault>
-    requires { IsEmptyDevice settings.now.slots (D.held device.old) }
-    // Where the device has read right and no call of it failed: what answers the script was written, and lines that begin
-    // with `#`, and nothing else; where it stopped, what answers lines before.
-    ensures runs { HasServed (D.honest device.new) (D.faults device.old) (D.faults device.new)
-        → Runs (settings_of settings.now) (S.files source.now) (R.remaining reader.old)
-        (R.remaining reader.new) (W.contents writer.old) (W.contents writer.new) result }
-    ensures faults { HasAdded (D.faults device.old) (D.faults device.new) }
-    ensures device { StaysTrue (D.keeps device.old) (D.honest device.old)
-        (D.keeps device.new) (D.honest device.new) }
+) -> (Result<(), ScriptFault>, Option<D>)
+    requires { IsEmptyDevice settings.now.slots (D.held device) }
+    // Where the device that came back has read right and no call of it failed, or none came back: what answers the script was
+    // written, and lines that begin with `#`, and nothing else; where it stopped, what answers lines before.
+    ensures runs { IfSome result.1 (λ after. HasServed (D.honest after) (D.faults device)
+        (D.faults after)) → Runs (settings_of settings.now) (S.files source.now)
+        (R.remaining reader.old) (R.remaining reader.new) (W.contents writer.old)
+        (W.contents writer.new) result.0 }
+    ensures faults { IfSome result.1 (λ after. HasAdded (D.faults device) (D.faults after)) }
+    ensures device { IfSome result.1 (λ after. StaysTrue (D.keeps device) (D.honest device)
+        (D.keeps after) (D.honest after)) }
 {
-    let mut session = Session::new(alloc, settings)?;
-    let mut lines = Lines::new(alloc)?;
-    for number in 1..u64::MAX {
-        match lines.read(reader)? {
-            Line::End => {
-                session.text.clear();
-                session.drain(device)?;
-                return send(writer, session.text.as_bytes());
-            }
-            kind => {
-                session.answer(source, device, kind, lines.line(), number)?;
-                send(writer, session.text.as_bytes())?;
+    let Ok(fittings) = Fittings::new(alloc, device) else {
+        return (Err(ScriptFault::Memory), None);
+    };
+    run_fitted::<Brand, Brand, Brand, Brand, Brand, R, W, S, D, X>(
+        rt, alloc, settings, workers, source, fittings, reader, writer,
+    )
+}
+
+/// Runs a script on a host with these fittings, whose ledgers and pact its parameters name.
+fn run_fitted<
+    T: Ledger + Send + 'static,
+    C: Ledger + Send + 'static,
+    O: Ledger + Send + 'static,
+    E: Ledger + Send + 'static,
+    B: Bond + Send + 'static,
+    R: Read,
+    W: Write,
+    S: Source,
+    D: SwapDev + Drop + Send + 'static,
+    X: Threads + Wait + Copy + Send + 'static,
+>(
+    rt: X,
+    alloc: Global,
+    settings: &Settings,
+    workers: Workers,
+    source: &S,
+    fittings: Fittings<D>,
+    reader: &mut R,
+    writer: &mut W,
+) -> (Result<(), ScriptFault>, Option<D>)
+    requires empty { IsEmptyDevice settings.now.slots (D.held fittings.device) }
+    requires pact { fittings.pact ≡ B.table }
+    requires turns { (fittings.turns.name ≡ T.name) × (fittings.turns.parts ≡ T.parts)
+        × (64 < T.parts) }
+    requires charges { (fittings.charges.name ≡ C.name) × (fittings.charges.parts ≡ C.parts)
+        × (64 < C.parts) }
+    requires offers { (fittings.offers.name ≡ O.name) × (fittings.offers.parts ≡ O.parts)
+        × (1 < O.parts) }
+    requires evictions { (fittings.evictions.name ≡ E.name)
+        × (fittings.evictions.parts ≡ E.parts) × (1 < E.parts) }
+    ensures runs { let device = fittings.device in IfSome result.1 (λ after. HasServed
+        (D.honest after) (D.faults device) (D.faults after)) → Runs (settings_of settings.now)
+        (S.files source.now) (R.remaining reader.old) (R.remaining reader.new)
+        (W.contents writer.old) (W.contents writer.new) result.0 }
+    ensures faults { let device = fittings.device in
+        IfSome result.1 (λ after. HasAdded (D.faults device) (D.faults after)) }
+    ensures device { let device = fittings.device in
+        IfSome result.1 (λ after. StaysTrue (D.keeps device) (D.honest device)
+        (D.keeps after) (D.honest after)) }
+{
+    match Session::<D, T, C, O, E, B>::new(alloc, settings, workers, fittings) {
+        Ok(mut session) => {
+            let outcome = session.run_lines(rt, source, reader, writer);
+            (outcome, Some(session.into_device()))
+        }
+        Err(fault) => (Err(fault), None),
+    }
+}
+
+impl<
+    D: SwapDev + Drop + Send + 'static,
+    T: Ledger + Send + 'static,
+    C: Ledger + Send + 'static,
+    O: Ledger + Send + 'static,
+    E: Ledger + Send + 'static,
+    B: Bond + Send + 'static,
+> Session<D, T, C, O, E, B> {
+    /// Obeys the lines of a script that has made nothing yet, from the first to the last, and writes the replies.
+    ///
+    /// # Errors
+    /// Those of `run_script`.
+    fn run_lines<R: Read, W: Write, S: Source, X: Threads + Wait + Copy + Send + 'static>(
+        &mut self,
+        rt: X,
+        source: &S,
+        reader: &mut R,
+        writer: &mut W,
+    ) -> Result<(), ScriptFault>
+        ensures runs { (settings : lines.Settings) → StandsForScript settings
+            (engine_on self.old.host.host self.old.engine) nothing_made → DeviceServesWell D.honest
+            D.faults self.old.host.device self.new.host.device → Runs settings (S.files source.now)
+            (R.remaining reader.old) (R.remaining reader.new) (W.contents writer.old)
+            (W.contents writer.new) result }
+        ensures faults { DeviceMayFail D.faults self.old.host.device self.new.host.device }
+        ensures device { DeviceStaysTrue D.keeps D.honest self.old.host.device
+            self.new.host.device }
+    {
+        let mut lines = Lines::new(self.alloc)?;
+        for number in 1..u64::MAX {
+            match lines.read(reader)? {
+                Line::End => {
+                    self.text.clear();
+                    self.drain(rt)?;
+                    return send(writer, self.text.as_bytes());
+                }
+                kind => {
+                    self.answer(rt, source, kind, lines.line(), number)?;
+                    send(writer, self.text.as_bytes())?;
+                }
             }
         }
+        Err(ScriptFault::Memory)
     }
-    Err(ScriptFault::Memory)
 }

@@ -1,60 +1,86 @@
 // What a script runs on, and the text of the replies to one line.
 
-ghost use Rattle.std.specs.Prelude.{◌≡◌, ◌<◌, ◌++◌, ◌∷◌, [], IfOk, IfErr, IfSome, OnOk, MatchOption, length, string_bytes};
+ghost use Rattle.std.specs.Prelude.{◌≡◌, ◌<◌, ◌++◌, ◌∷◌, [], IfOk, IfErr, IfSome, OnOk, MatchOption, Some, length, string_bytes};
 ghost use Rattle.wh_commands.specs.Causes.{cause_number};
 ghost use Rattle.wh_host_model.specs.Lines.Made.{Made, NoGuest, NoModule, nothing_made};
 ghost use Rattle.wh_host_model.specs.Lines.Settings as lines;
 ghost use Rattle.wh_host_model.specs.Lines.Texts.{error, reply_text};
 ghost use Rattle.wh_replies.specs.View.{reply_of};
 ghost use Rattle.wh_settings.specs.View.{settings_of};
-ghost use Rattle.wh_reclaim.specs.Together.{AreTogether};
-ghost use Rattle.wh_engine.specs.Draining.{HasAdded, HasServed, StaysTrue};
-ghost use Rattle.wh_engine.specs.Names.{number_of};
+ghost use Rattle.wh_engine.specs.Draining.{DeviceMayFail, DeviceServesWell, DeviceStaysTrue, RunsEach, StaysSo, StopsRun};
 ghost use Rattle.wh_engine.specs.Obeying.{IsModuleNamed, IsNamed};
-ghost use Rattle.wh_engine.specs.Standing.{StandsForScript};
+ghost use Rattle.wh_engine.specs.Standing.{StandsForScript, engine_on};
 ghost use Rattle.wh_script.specs.Answering.{HasDrained, Complains};
-ghost use Rattle.wh_script.specs.Starting.{HasFreshSlots};
+ghost use Rattle.wh_script.specs.Starting.{IsEmptyDevice};
 
 use std::alloc::Global;
+use std::sync::Wait;
+use std::sync::ledger::Ledger;
+use std::thread::Threads;
+use wh_cell::{Fittings, Manner, OwnedHost};
 use wh_commands::LineError;
 use wh_engine::{Engine, ScriptFault};
 use wh_host::Host;
-use wh_reclaim::Buf;
+use wh_kernels::{ConstantHash, FnvHash};
 use wh_replies::{Reply, write_reply};
-use wh_settings::{HashKind, Settings};
+use wh_settings::{HashKind, Settings, Workers};
 use wh_swap::SwapDev;
+use wh_workers::Bond;
 
 const LONGEST_REPLY: usize = 128;
 
-/// What a script has made so far, room to move a page, and the text of the replies to the present line.
+/// What a script has made so far, the host on which it runs, and the text of the replies to the present line.
 #[derive(Drop)]
-pub struct Session {
+pub struct Session<D: SwapDev, T: Ledger, C: Ledger, O: Ledger, E: Ledger, B: Bond> {
     pub alloc: Global,
     pub engine: Engine,
-    pub buf: Buf,
+    pub host: OwnedHost<D, T, C, O, E, B>,
     pub text: String,
     /// The greatest number of charges of a turn.
-    pub quantum: u64,
+    pub quantum: u32,
     /// By which hash equal pages are looked for.
     pub hash: HashKind,
+    /// How many threads run calls.
+    pub workers: Workers,
 }
 
-impl Session {
+impl<D: SwapDev + Drop, T: Ledger, C: Ledger, O: Ledger, E: Ledger, B: Bond> Session<
+    D,
+    T,
+    C,
+    O,
+    E,
+    B,
+> {
     /// A script that has made nothing, on a new host.
     ///
     /// # Errors
-    /// `Memory` where room is refused.
-    pub fn new(alloc: Global, settings: &Settings) -> Result<Session, ScriptFault>
-        ensures stands { IfOk result (λ session.
-            StandsForScript (settings_of settings.now) session.engine nothing_made) }
-        ensures fresh { IfOk result (λ session.
-            HasFreshSlots session.engine.host.space settings.now.slots) }
+    /// `Memory` where room is refused. The device is gone then.
+    pub fn new(
+        alloc: Global,
+        settings: &Settings,
+        workers: Workers,
+        fittings: Fittings<D>,
+    ) -> Result<Session<D, T, C, O, E, B>, ScriptFault>
+        requires empty { IsEmptyDevice settings.now.slots (D.held fittings.device) }
+        requires pact { fittings.pact ≡ B.table }
+        requires turns { (fittings.turns.name ≡ T.name) × (fittings.turns.parts ≡ T.parts)
+            × (64 < T.parts) }
+        requires charges { (fittings.charges.name ≡ C.name) × (fittings.charges.parts ≡ C.parts)
+            × (64 < C.parts) }
+        requires offers { (fittings.offers.name ≡ O.name) × (fittings.offers.parts ≡ O.parts)
+            × (1 < O.parts) }
+        requires evictions { (fittings.evictions.name ≡ E.name)
+            × (fittings.evictions.parts ≡ E.parts) × (1 < E.parts) }
+        ensures stands { IfOk result (λ session. StandsForScript (settings_of settings.now)
+            (engine_on session.host.host session.engine) nothing_made) }
+        ensures device { IfOk result (λ session. session.host.device ≡ Some fittings.device) }
         ensures err { IfErr result (λ e. e ≡ ScriptFault.Memory) }
     {
         let Ok(host) = Host::new(alloc, settings.frames, settings.slots, settings.tax) else {
             return Err(ScriptFault::Memory);
         };
-        let Ok(buf) = Box::new(alloc, [0; 4096]) else {
+        let Ok(host) = OwnedHost::new(alloc, host, fittings) else {
             return Err(ScriptFault::Memory);
         };
         let Ok(text) = String::with_capacity(alloc, LONGEST_REPLY) else {
@@ -62,20 +88,31 @@ impl Session {
         };
         Ok(Session {
             alloc,
-            engine: Engine::new(alloc, host),
-            buf,
+            engine: Engine::new(alloc),
+            host,
             text,
-            quantum: settings.quantum,
+            quantum: settings.quantum as u32,
             hash: settings.hash,
+            workers,
         })
+    }
+}
+
+impl<D: SwapDev, T: Ledger, C: Ledger, O: Ledger, E: Ledger, B: Bond> Session<D, T, C, O, E, B> {
+    /// The device, when the script is done with.
+    pub fn into_device(self) -> D
+        ensures { self.host.device ≡ Some result }
+    {
+        let Session { host, .. } = self;
+        host.into_device()
     }
 
     /// The number of the module of this name, if there is one.
     pub fn module_named(&self, name: &str) -> Option<usize>
         ensures there { IfSome result (λ k. k < self.now.engine.modules) }
-        ensures named { (settings : lines.Settings) (m : Made)
-            → StandsForScript settings self.now.engine m
-            → MatchOption result (NoModule m name.now) (λ k. IsModuleNamed m k name.now) }
+        ensures named { (settings : lines.Settings) (m : Made) → StandsForScript settings
+            (engine_on self.now.host.host self.now.engine) m → MatchOption result
+            (NoModule m name.now) (λ k. IsModuleNamed m k name.now) }
     {
         let number = self.engine.module_number(name)?;
         if number < self.engine.modules() {
@@ -87,9 +124,9 @@ impl Session {
     /// The number of the instance of this name, if there is one, released or not.
     pub fn guest_named(&self, name: &str) -> Option<usize>
         ensures there { IfSome result (λ k. k < length self.now.engine.guests.items) }
-        ensures named { (settings : lines.Settings) (m : Made)
-            → StandsForScript settings self.now.engine m
-            → MatchOption result (NoGuest m name.now) (λ k. IsNamed m k name.now) }
+        ensures named { (settings : lines.Settings) (m : Made) → StandsForScript settings
+            (engine_on self.now.host.host self.now.engine) m → MatchOption result
+            (NoGuest m name.now) (λ k. IsNamed m k name.now) }
     {
         let number = self.engine.guest_number(name)?;
         if number < self.engine.guests() {
@@ -105,7 +142,9 @@ impl Session {
     pub fn reply(&mut self, reply: Reply<'_>) -> Result<(), ScriptFault>
         ensures said { OnOk result (string_bytes self.new.text
             ≡ string_bytes self.old.text ++ reply_text (reply_of reply.entry)) }
-        ensures engine { self.new.engine ≡ self.old.engine }
+        ensures engine { engine_on self.new.host.host self.new.engine ≡ engine_on self.old.host.host
+            self.old.engine }
+        ensures device { self.new.host.device ≡ self.old.host.device }
         ensures err { IfErr result (λ e. e ≡ ScriptFault.Memory) }
     {
         write_reply(&mut self.text, reply).map_err(|_| ScriptFault::Memory)
@@ -118,7 +157,9 @@ impl Session {
     pub fn complain(&mut self, cause: LineError, number: u64) -> Result<(), ScriptFault>
         ensures said { OnOk result (string_bytes self.new.text
             ≡ string_bytes self.old.text ++ reply_text (error (cause_number cause) number)) }
-        ensures engine { self.new.engine ≡ self.old.engine }
+        ensures engine { engine_on self.new.host.host self.new.engine ≡ engine_on self.old.host.host
+            self.old.engine }
+        ensures device { self.new.host.device ≡ self.old.host.device }
         ensures err { IfErr result (λ e. e ≡ ScriptFault.Memory) }
     {
         self.reply(Reply::Error {
@@ -126,56 +167,108 @@ impl Session {
             line: number,
         })
     }
+}
 
-    /// Runs all calls until none can go on, and puts the lines of that behind the text. An epoch begins where some call can
-    /// go on.
+impl<
+    D: SwapDev + Drop + Send + 'static,
+    T: Ledger + Send + 'static,
+    C: Ledger + Send + 'static,
+    O: Ledger + Send + 'static,
+    E: Ledger + Send + 'static,
+    B: Bond + Send + 'static,
+> Session<D, T, C, O, E, B> {
+    /// Runs all calls by threads until none can go on, and puts the lines of that behind the text. An epoch begins where some
+    /// call can go on.
     ///
     /// # Errors
-    /// `Memory` where room for the lines is refused, or where turns can't be counted.
-    pub fn drain<D: SwapDev>(&mut self, device: &mut D) -> Result<(), ScriptFault>
-        requires { AreTogether self.old.engine.host.space (D.held device.old) }
-        ensures together { AreTogether self.new.engine.host.space (D.held device.new) }
-        ensures device { StaysTrue (D.keeps device.old) (D.honest device.old)
-            (D.keeps device.new) (D.honest device.new) }
-        ensures faults { HasAdded (D.faults device.old) (D.faults device.new) }
-        ensures drains { OnOk result (HasServed (D.honest device.new) (D.faults device.old)
-            (D.faults device.new) → HasDrained self.old.engine (string_bytes self.old.text) self.new.engine
+    /// `Memory` where room is refused, `Threads` where a thread can't be started, and `Transcript` where calls can still go
+    /// on then.
+    pub fn drain<X: Threads + Wait + Copy + Send + 'static>(
+        &mut self,
+        rt: X,
+    ) -> Result<(), ScriptFault>
+        ensures device { DeviceStaysTrue D.keeps D.honest self.old.host.device
+            self.new.host.device }
+        ensures faults { DeviceMayFail D.faults self.old.host.device self.new.host.device }
+        ensures drains { OnOk result (DeviceServesWell D.honest D.faults self.old.host.device
+            self.new.host.device → HasDrained (engine_on self.old.host.host self.old.engine)
+            (string_bytes self.old.text) (engine_on self.new.host.host self.new.engine)
             (string_bytes self.new.text)) }
-        ensures err { IfErr result (λ e. e ≡ ScriptFault.Memory) }
+        ensures err { IfErr result StopsRun }
     {
-        if self.engine.can_go_on() {
-            self.engine.epoch();
-        }
-        let Ok(()) = self.engine.run(device, &mut self.buf, self.quantum) else {
-            return Err(ScriptFault::Memory);
-        };
-        let Ok(()) = self.engine.say(&mut self.text) else {
+        self.begin_epoch();
+        self.run(rt)?;
+        let Ok(()) = self.engine.say(self.host.host(), &mut self.text) else {
             return Err(ScriptFault::Memory);
         };
         Ok(())
     }
 
+    // Begins a new epoch where some call can go on.
+    fn begin_epoch(&mut self)
+        ensures stands { StaysSo (engine_on self.old.host.host self.old.engine)
+            (engine_on self.new.host.host self.new.engine) }
+        ensures device { self.new.host.device ≡ self.old.host.device }
+        ensures text { self.new.text ≡ self.old.text }
+    {
+        if self.engine.can_go_on(self.host.host()) {
+            self.engine.epoch(&mut self.host);
+        }
+    }
+
+    // Runs all calls until none can go on, in the manner of the settings.
+    fn run<X: Threads + Wait + Copy + Send + 'static>(&mut self, rt: X) -> Result<(), ScriptFault>
+        ensures device { DeviceStaysTrue D.keeps D.honest self.old.host.device
+            self.new.host.device }
+        ensures faults { DeviceMayFail D.faults self.old.host.device self.new.host.device }
+        ensures runs { OnOk result (DeviceServesWell D.honest D.faults self.old.host.device
+            self.new.host.device → RunsEach (engine_on self.old.host.host self.old.engine)
+            (engine_on self.new.host.host self.new.engine)) }
+        ensures text { self.new.text ≡ self.old.text }
+        ensures err { IfErr result StopsRun }
+    {
+        let quantum = self.quantum;
+        let workers = self.workers.count();
+        match self.hash {
+            HashKind::Fnv64 => {
+                let manner = Manner {
+                    hasher: FnvHash,
+                    quantum,
+                    workers,
+                };
+                self.engine.run(rt, self.alloc, &mut self.host, manner)
+            }
+            HashKind::Constant => {
+                let manner = Manner {
+                    hasher: ConstantHash,
+                    quantum,
+                    workers,
+                };
+                self.engine.run(rt, self.alloc, &mut self.host, manner)
+            }
+        }
+    }
+
     /// Drains, and then says why the line of this number can't be obeyed.
     ///
     /// # Errors
-    /// `Memory`, as where it drains.
-    pub fn complain_drained<D: SwapDev>(
+    /// Those of `drain`.
+    pub fn complain_drained<X: Threads + Wait + Copy + Send + 'static>(
         &mut self,
-        device: &mut D,
+        rt: X,
         cause: LineError,
         number: u64,
     ) -> Result<(), ScriptFault>
-        requires { AreTogether self.old.engine.host.space (D.held device.old) }
-        ensures together { AreTogether self.new.engine.host.space (D.held device.new) }
-        ensures device { StaysTrue (D.keeps device.old) (D.honest device.old)
-            (D.keeps device.new) (D.honest device.new) }
-        ensures faults { HasAdded (D.faults device.old) (D.faults device.new) }
-        ensures complains { OnOk result (HasServed (D.honest device.new) (D.faults device.old)
-            (D.faults device.new) → Complains (error (cause_number cause) number) self.old.engine
-            (string_bytes self.old.text) self.new.engine (string_bytes self.new.text)) }
-        ensures err { IfErr result (λ e. e ≡ ScriptFault.Memory) }
+        ensures device { DeviceStaysTrue D.keeps D.honest self.old.host.device
+            self.new.host.device }
+        ensures faults { DeviceMayFail D.faults self.old.host.device self.new.host.device }
+        ensures complains { OnOk result (DeviceServesWell D.honest D.faults self.old.host.device
+            self.new.host.device → Complains (error (cause_number cause) number)
+            (engine_on self.old.host.host self.old.engine) (string_bytes self.old.text)
+            (engine_on self.new.host.host self.new.engine) (string_bytes self.new.text)) }
+        ensures err { IfErr result StopsRun }
     {
-        self.drain(device)?;
+        self.drain(rt)?;
         self.complain(cause, number)
     }
 }

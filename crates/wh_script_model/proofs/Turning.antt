@@ -5,16 +5,18 @@ use Rattle.wh_model.specs.declared.memory.Need.{Need}
 use Rattle.wh_model.specs.Format.Syntax.{Module}
 use Rattle.wh_model.specs.Execution.Store.{Instance}
 use Rattle.wh_model.specs.Execution.Replay.{Outcome, cancelled, dead, Call}
+use Rattle.wh_host_model.specs.declared.plain.InstId.{InstId}
 use Rattle.wh_host_model.specs.declared.plain.SwapError.{SwapError}
 use Rattle.wh_host_model.specs.declared.plain.TurnEnd.{TurnEnd}
 use Rattle.wh_host_model.specs.Space.Parts.{Space, claim}
 use Rattle.wh_host_model.specs.Space.Sound.{IsSound}
-use Rattle.wh_host_model.specs.Host.Worlds.{Entry, Rest, Doing, Suspension, for_fuel, for_frame, for_device, Tenant, World, journal, journal_calls, with_tenant}
+use Rattle.wh_host_model.specs.Host.Worlds.{Entry, Rest, Doing, Suspension, for_fuel, for_frame, for_device, Tenant, Loaded, World, journal, journal_calls, with_tenant}
 use Rattle.wh_host_model.specs.Host.Turns.{to_end, Proceeds, returns, traps, writes_all}
 use Rattle.wh_host_model.specs.Host.Answers.{ended_by, gone_further, Closes, faces_next, is_dead, at_frame, Turn, is_idle, has_ended, has_no_fuel, has_no_frame, can_go_on, keeps_its_fault}
 use Rattle.wh_host_model.specs.Host.Journals.{IsOpenCall, InOrder, is_starting, has_started, has_died}
-use Rattle.wh_host_model.specs.Host.Happens.{of_none, of_one}
-use Rattle.wh_host_model.specs.Lines.Made.{Guest, is_open}
+use Rattle.wh_host_model.specs.Host.Happens.{IsTurn, of_none, of_one}
+use Rattle.wh_host_model.specs.Host.Laws.{AfterEvents}
+use Rattle.wh_host_model.specs.Lines.Made.{NamedModule, Guest, Made, is_open}
 use Rattle.wh_host_model.specs.Lines.Drains.{ComesTo, had_ended, goes_on}
 use Rattle.wh_host_model.specs.Lines.Served.{IsTenantOf}
 use Rattle.wh_host_model.proofs.Host.Holding.{memory_is_sound, journals_are_in_order}
@@ -221,27 +223,54 @@ turned_followed w w2 s s2 t t2 g same leaves (is_there same_one further sound) =
     } in
     is_there of_one2 on (leaves.no_fault sound)
 
-pub turns_follow : TurnsFollow
-turns_follow frames slots tax events w happens settings m places id q answer w2 h (of_none none) whole = h
-turns_follow frames slots tax events w happens settings m places id q answer w2 h (of_one {t = t} {t2 = t2} {s2 = s2} there turned) whole =
+-- each instance of a script is that of the host, and lies at its place
+pub record AreFollowed (w : World) (m : Made) (places : List ℕ) : Type 0 where
+  pub modules : AllZip (λ (named : NamedModule) (loaded : Loaded). named.m ≡ loaded.m) m.modules w.modules
+  pub guests : AllZip (IsFollowed ComeFurther w) m.guests w.tenants
+  pub placed : AllZip IsPlaced places w.tenants
+
+-- they are so on another host, on which the same is promised at each place
+pub record AreFollowedOn (w w2 : World) (m : Made) (places : List ℕ) : Type 0 where
+  pub are : AreFollowed w2 m places
+  pub claims : (j : ℕ) → claim w2.space j ≡ claim w.space j
+  pub sound : IsSound w2.space
+
+pub turn_followed : AfterEvents (λ w. (m : Made) (places : List ℕ) (id : InstId) (q : ℕ) (answer : TurnEnd) (w2 : World) → AreFollowed w m places
+    → IsTurn w id q answer w2 → AreFollowedOn w w2 m places)
+turn_followed frames slots tax events w happens m places id q answer w2 h (of_none none) =
+    record { are = h; claims = λ j. refl; sound = memory_is_sound frames slots tax events w happens }
+turn_followed frames slots tax events w happens m places id q answer w2 h (of_one {t = t} {t2 = t2} {s2 = s2} there turned) =
     let order = journals_are_in_order frames slots tax events w happens id.number t there.0 in
     let sound = memory_is_sound frames slots tax events w happens in
     let leaves = turn_leaves q w.space s2 t t2 answer sound (open_ones order.calls) turned in
     let apart = leaves.apart in
-    let claims : (j : ℕ) → claim s2 j ≡ claim w.space j = λ j.
-    ⊎_elim
-    (λ (here : j ≡ t.place). ap (claim s2) here ∙ apart.claim ∙ ap (claim w.space) (sym here))
-    (λ (other : j ≢ t.place). (apart.others j other).claim)
-    (same_or_not j t.place) in
-    let sums = claims_decide w.space s2 sound leaves.sound h.none_out (whole.none_out ∙ h.none_out) claims in
     let after = with_tenant w id.number (Some t2) s2 in
+    record {
+      are = record {
+        modules = h.modules;
+        guests = zip_set (IsFollowed ComeFurther w) (IsFollowed ComeFurther after) t t2 (moved_followed ComeFurther w after refl) (λ g. turned_followed w after w.space s2 t t2 g refl leaves) m.guests w.tenants id.number there.0 h.guests;
+        placed = zip_set IsPlaced IsPlaced t t2 (λ place o at. at) (λ place at. leaves.place ∙ at) places w.tenants id.number there.0 h.placed;
+      };
+      claims = λ j.
+          ⊎_elim
+          (λ (here : j ≡ t.place). ap (claim s2) here ∙ apart.claim ∙ ap (claim w.space) (sym here))
+          (λ (other : j ≢ t.place). (apart.others j other).claim)
+          (same_or_not j t.place);
+      sound = leaves.sound;
+    }
+
+pub turns_follow : TurnsFollow
+turns_follow frames slots tax events w happens settings m places id q answer w2 h turned whole =
+    let sound = memory_is_sound frames slots tax events w happens in
+    let after = turn_followed frames slots tax events w happens m places id q answer w2 (record { modules = h.modules; guests = h.guests; placed = h.placed }) turned in
+    let sums = claims_decide w.space w2.space sound after.sound h.none_out (whole.none_out ∙ h.none_out) after.claims in
     record {
       frames = whole.frames ∙ h.frames;
       slots = whole.slots ∙ h.slots;
       none_out = whole.none_out ∙ h.none_out;
       minima = sums.0 ∙ h.minima;
       spreads = sums.1 ∙ h.spreads;
-      modules = h.modules;
-      guests = zip_set (IsFollowed ComeFurther w) (IsFollowed ComeFurther after) t t2 (moved_followed ComeFurther w after refl) (λ g. turned_followed w after w.space s2 t t2 g refl leaves) m.guests w.tenants id.number there.0 h.guests;
-      placed = zip_set IsPlaced IsPlaced t t2 (λ place o at. at) (λ place at. leaves.place ∙ at) places w.tenants id.number there.0 h.placed;
+      modules = after.are.modules;
+      guests = after.are.guests;
+      placed = after.are.placed;
     }

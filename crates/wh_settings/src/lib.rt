@@ -1,4 +1,4 @@
-//! The settings of a host, as a document in TOML says them.
+//! The settings of a host, as a document in TOML says them, and how many threads run its calls.
 #![tactic(auto)]
 
 mod error;
@@ -9,8 +9,10 @@ mod settings;
 #[cfg(test)]
 mod tests;
 mod words;
+mod workers;
 
 pub use error::SettingsError;
 pub use laws::one_reading;
 pub use reading::read_settings;
 pub use settings::{HashKind, Settings};
+pub use workers::Workers;

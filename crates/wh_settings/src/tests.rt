@@ -1,4 +1,4 @@
-use crate::{HashKind, Settings, SettingsError, read_settings};
+use crate::{HashKind, Settings, SettingsError, Workers, read_settings};
 use std::test::Fail;
 
 #[test]
@@ -62,5 +62,18 @@ fn refuses(rt: HostRuntime) -> Result<(), Fail> {
         let refused = read_settings(rt.alloc(), text.as_bytes());
         assert_eq!(rt; refused.err(), Some(SettingsError::Invalid), "at {text}");
     }
+    Ok(())
+}
+
+#[test]
+fn workers_are_1_to_64(rt: HostRuntime) -> Result<(), Fail> {
+    for number in [1u8, 4, 64] {
+        let workers = Workers::new(number);
+        assert_eq!(rt; workers.map(Workers::count), Some(usize::from(number)));
+    }
+    for number in [0u8, 65, 255] {
+        assert_eq!(rt; Workers::new(number), None);
+    }
+    assert_eq!(rt; Workers::default().count(), 4);
     Ok(())
 }

@@ -6,16 +6,35 @@ use crate::helper::Helper;
 use std::alloc::{AllocError, Global};
 use std::sync::atomic::{AtomicU64, Ordering};
 use std::sync::ledger::Ledger;
-use std::sync::{Arc, Wait};
+use std::sync::{Arc, Condvar, Wait};
 use std::thread;
 use std::thread::{Promise, PromisedHandle, Threads};
+use std::time::Duration;
+
+// So long a helper that waits sleeps at most, in seconds, though nobody rings.
+const LONGEST_SLEEP: u64 = 1;
+
+/// What came of what a scanner or a reclaimer was to do.
+#[derive(Clone, Copy, Debug, PartialEq, Eq)]
+pub enum Progress {
+    /// It was done.
+    Did,
+    /// There is nothing to do now: its bell rings where there may be something.
+    Waits,
+    /// Nothing will be to do any more.
+    Ended,
+}
 
 /// What a scanner or a reclaimer does, again and again.
 pub trait Help<K: Ledger> {
-    /// Does it once, and counts what it did. False where it has come to its end.
-    fn help<R: Wait>(&self, rt: &R, helper: &mut Helper<K>) -> bool
+    /// Does it once, and counts what it did.
+    fn help<R: Wait>(&self, rt: &R, helper: &mut Helper<K>) -> Progress
         requires room { helper.old.count < 2 ^ 64 - 1 }
         ensures from { helper.new.from ≡ helper.old.from };
+
+    /// What rings where there may be something to do again, and where the thread is told to stop. While it waits it takes no
+    /// processor time.
+    fn bell(&self) -> &Condvar;
 
     /// The same for another thread.
     ///
@@ -48,13 +67,18 @@ fn help_until_told<K: Ledger, H: Help<K> + Drop, R: Wait + Drop>(
 {
     let mut helper = helper;
     for _ in rt.forever() {
+        let rung = job.bell().notifications();
         if helper.count() >= wanted || stop.load(Ordering::SeqCst) != 0 {
             break;
         }
-        if !job.help(&rt, &mut helper) {
-            break;
+        match job.help(&rt, &mut helper) {
+            Progress::Did => thread::yield_now(),
+            Progress::Waits => {
+                let longest = Duration::from_secs(LONGEST_SLEEP);
+                job.bell().sleep(&rt, rung, longest);
+            },
+            Progress::Ended => break,
         }
-        thread::yield_now();
     }
     helper
 }

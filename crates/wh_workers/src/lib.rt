@@ -32,7 +32,7 @@ pub use channel::{
 pub use count::Count;
 pub use crew::{ServeError, Served, serve_turns};
 pub use feed::Supply;
-pub use help::{Help, Helps, start_helper};
+pub use help::{Help, Helps, Progress, start_helper};
 pub use helper::Helper;
 pub use known::Matter;
 pub use lender::Lender;

@@ -134,8 +134,9 @@ fn join_scanner<T: Ledger, C: Ledger, O: Ledger, E: Ledger, R: Threads>(
 }
 
 // The reclaimer is told to stop, and gives back its part.
-fn join_reclaimer<T: Ledger, C: Ledger, O: Ledger, E: Ledger, R: Threads>(
+fn join_reclaimer<T: Ledger, C: Ledger, O: Ledger, E: Ledger, P: Help<E>, R: Threads>(
     rt: &R,
+    reclaims: &P,
     lender: &mut Lender<T, C, O, E>,
     started: Started<E>,
 )
@@ -147,6 +148,7 @@ fn join_reclaimer<T: Ledger, C: Ledger, O: Ledger, E: Ledger, R: Threads>(
 {
     let Started { handle, flag } = started;
     flag.store(1, Ordering::SeqCst);
+    reclaims.bell().notify_all();
     lender.join_reclaimer(rt, handle);
 }
 
@@ -197,6 +199,7 @@ fn turns_beside_scanner<
     let started = start_scanner(rt, alloc, scans, lender, u64::MAX)?;
     let served = serve_turns(rt, alloc, job, supply, lender, workers);
     started.flag.store(1, Ordering::SeqCst);
+    scans.bell().notify_all();
     join_scanner(&rt, lender, started);
     served
 }
@@ -320,6 +323,6 @@ pub fn serve<
     let lender = &mut shares.all;
     let started = start_reclaimer(rt, alloc, &reclaims, lender)?;
     let served = turns_and_offers(rt, alloc, turns, supply, &scans, lender, workers);
-    join_reclaimer(&rt, lender, started);
+    join_reclaimer(&rt, &reclaims, lender, started);
     served
 }

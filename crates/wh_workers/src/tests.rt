@@ -3,14 +3,14 @@
 ghost use Rattle.std.specs.Prelude.{◌≡◌, ◌<◌};
 
 use crate::{
-    BlankPact, Bond, Books, Errand, Half, Help, Helper, Jobs, Message, Opened, Shares, SlotMatter,
-    Supply, Tally, Turns, Worker, hand_out, left_over, open_channel, pass_for, put_back, receive,
-    serve,
+    BlankPact, Bond, Books, Errand, Half, Help, Helper, Jobs, Message, Opened, Progress, Shares,
+    SlotMatter, Supply, Tally, Turns, Worker, hand_out, left_over, open_channel, pass_for,
+    put_back, receive, serve,
 };
 use std::alloc::{AllocError, Global};
 use std::marker::Brand;
 use std::sync::ledger::{Blank, Ledger};
-use std::sync::{Arc, Barrier, Mutex, Wait};
+use std::sync::{Arc, Barrier, Condvar, Mutex, Wait};
 use std::test::Fail;
 use std::thread;
 use std::thread::Threads;
@@ -132,11 +132,12 @@ fn two_holders_agree(rt: HostRuntime) -> Result<(), Fail> {
     Ok(())
 }
 
-// Books under a lock, and a place where two workers meet in each turn.
+// Books under a lock, a place where two workers meet in each turn, and a bell for whoever helps.
 #[derive(Drop)]
 struct Desk<T: Ledger, C: Ledger, O: Ledger, E: Ledger> {
     books: Arc<Mutex<Books<T, C, O, E>>, Global>,
     both: Arc<Barrier, Global>,
+    bell: Arc<Condvar, Global>,
 }
 
 impl<T: Ledger, C: Ledger, O: Ledger, E: Ledger> Turns<T, C> for Desk<T, C, O, E> {
@@ -149,15 +150,23 @@ impl<T: Ledger, C: Ledger, O: Ledger, E: Ledger> Turns<T, C> for Desk<T, C, O, E
     fn share(&self) -> Result<Self, AllocError> {
         let books = Arc::try_clone(&self.books)?;
         let both = Arc::try_clone(&self.both)?;
-        Ok(Desk { books, both })
+        let bell = Arc::try_clone(&self.bell)?;
+        Ok(Desk { books, both, bell })
     }
 }
 
 impl<T: Ledger, C: Ledger, O: Ledger, E: Ledger> Help<O> for Desk<T, C, O, E> {
-    fn help<R: Wait>(&self, rt: &R, helper: &mut Helper<O>) -> bool {
+    fn help<R: Wait>(&self, rt: &R, helper: &mut Helper<O>) -> Progress {
         let mut books = self.books.lock(rt);
         books.offer(helper);
-        helper.count() < 3
+        if helper.count() < 3 {
+            return Progress::Did;
+        }
+        Progress::Ended
+    }
+
+    fn bell(&self) -> &Condvar {
+        &self.bell
     }
 
     fn share(&self) -> Result<Self, AllocError> {
@@ -181,22 +190,29 @@ impl Supply for Several {
     }
 }
 
-// A reclaimer that comes to its end at once.
+// A reclaimer that has nothing to do, and waits until it is told to stop.
 #[derive(Drop)]
-struct Once;
+struct Idle {
+    bell: Arc<Condvar, Global>,
+}
 
-impl<E: Ledger> Help<E> for Once {
-    fn help<R: Wait>(&self, _rt: &R, _helper: &mut Helper<E>) -> bool {
-        false
+impl<E: Ledger> Help<E> for Idle {
+    fn help<R: Wait>(&self, _rt: &R, _helper: &mut Helper<E>) -> Progress {
+        Progress::Waits
+    }
+
+    fn bell(&self) -> &Condvar {
+        &self.bell
     }
 
     fn share(&self) -> Result<Self, AllocError> {
-        Ok(Once)
+        let bell = Arc::try_clone(&self.bell)?;
+        Ok(Idle { bell })
     }
 }
 
 // 128 turns by two workers, who meet in each turn; beside them a scanner that offers three pages at most, and a
-// reclaimer.
+// reclaimer that waits.
 fn serve_many<
     T: Ledger + Send + 'static,
     C: Ledger + Send + 'static,
@@ -220,13 +236,16 @@ fn serve_many<
     let desk = Desk {
         books: Arc::new(alloc, Mutex::new(books))?,
         both: Arc::new(alloc, Barrier::new(2))?,
+        bell: Arc::new(alloc, Condvar::new())?,
     };
     let mine: Desk<T, C, O, E> = Turns::<T, C>::share(&desk)?;
     let scans: Desk<T, C, O, E> = Turns::<T, C>::share(&desk)?;
     let jobs = Jobs {
         turns: desk,
         scans,
-        reclaims: Once,
+        reclaims: Idle {
+            bell: Arc::try_clone(&mine.bell)?,
+        },
     };
     let mut supply = Several { left: 128 };
     let served = serve(rt, alloc, jobs, &mut supply, &mut shares, 2);

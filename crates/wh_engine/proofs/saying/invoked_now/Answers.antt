@@ -1,4 +1,4 @@
-use Rattle.std.proofs.Common.{Some, refl, ap, sym, subst, ◌∙◌, option_map}
+use Rattle.std.proofs.Common.{Some, refl, ap, sym, subst, ◌∙◌}
 use Rattle.std.proofs.lemmas.Option.{same_Some, slice_get-get_or}
 use Rattle.wh_host_model.specs.Lines.Drains.{is_refused}
 use Rattle.wh_replies.specs.View.{status_of}

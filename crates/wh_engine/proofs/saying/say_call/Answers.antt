@@ -1,7 +1,6 @@
-use Rattle.std.proofs.Common.{Some, refl, ap, sym, subst, ◌∙◌}
+use Rattle.std.proofs.Common.{Some, refl, sym, subst, ◌∙◌}
 use Rattle.std.proofs.lemmas.Option.{same_Some}
 use Rattle.wh_host_model.specs.Lines.Texts as texts
-use Rattle.wh_host_model.specs.Lines.Made as made
 use Rattle.wh_host_model.specs.Lines.Drains.{SaysLine, SaysCall}
 use Rattle.wh_replies.specs.View.{status_of}
 use Rattle.wh_engine.proofs.saying.say_call.Goals as goal

@@ -12,7 +12,7 @@ use Rattle.wh_cell.proofs.locked.Locked.provide.Goals as goal
 pub invariant_of-self : goal.invariant_of-self
 invariant_of-self g c =
     let p = c.provide-provided in
-    provided_in_step g.D.SwapDev.held g.D.SwapDev.honest g.D.SwapDev.faults _ p.new.self p.new.device _ c.args.id p.result c.self.invariant p.ensures.honest p.ensures.ok p.ensures.err p.ensures.moves p.ensures.anyhow p.ensures.none_out p.ensures.agrees (ap (λ b. b.charges) c.count_evictions.ensures.books)
+    provided_in_step g.D.SwapDev.held g.D.SwapDev.keeps g.D.SwapDev.honest g.D.SwapDev.faults _ p.new.self p.new.device _ c.args.id p.result c.self.invariant p.ensures.honest p.ensures.keeps p.ensures.kept p.ensures.ok p.ensures.err p.ensures.moves p.ensures.anyhow p.ensures.whole p.ensures.none_out p.ensures.agrees (ap (λ b. b.charges) c.count_evictions.ensures.books)
 
 pub returns-clause-moves : goal.returns-clause-moves
 returns-clause-moves g c =

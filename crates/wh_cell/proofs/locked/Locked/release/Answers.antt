@@ -8,5 +8,5 @@ invariant_of-self g c =
     let a = c.release-answer in
     let s = c.self.invariant in
     let x = a.ensures.goes s.some.0 s.some.1 in
-    asked_in_step g.D.SwapDev.held g.D.SwapDev.honest g.D.SwapDev.faults _ a.new.self c.leave.new.left s (x.1, x.4)
+    asked_in_step g.D.SwapDev.held g.D.SwapDev.keeps g.D.SwapDev.honest g.D.SwapDev.faults _ a.new.self c.leave.new.left s (x.1, x.4)
     (fits_released c.self.inside.host a.new.self c.self.inside.books.charges c.args.id a.result s.some s.fits a.ensures.goes) a.ensures.backing (c.leave.ensures.left ∙ c.leave.ensures.owner)

@@ -1,4 +1,4 @@
-use Rattle.std.proofs.Common.{ap, sym, subst}
+use Rattle.std.proofs.Common.{sym, subst}
 use Rattle.wh_host_model.specs.Host.Worlds.{World}
 use Rattle.wh_host.specs.Hosting.{HostState, IsHost}
 use Rattle.wh_cell.proofs.Shown.{some_roll}

@@ -1,4 +1,4 @@
-use Rattle.std.proofs.Common.{ap, sym, subst, ◌∙◌}
+use Rattle.std.proofs.Common.{sym, subst}
 use Rattle.wh_host.specs.Hosting.{HostState}
 use Rattle.wh_host.specs.Showing.{StandsByEvents}
 use Rattle.wh_cell.specs.Leaving.{LeftState}
@@ -9,4 +9,4 @@ transcript-requires g c = subst (λ (h : HostState). StandsByEvents h) (sym c.ho
 
 pub returns-clause-led : goal.returns-clause-led
 returns-clause-led g c =
-    subst (λ (l : LeftState). StandsByEvents l.host) (sym c.meet.ensures.knows) (c.meet.ensures.led c.requires.led c.requires.honest)
+    subst (λ (l : LeftState g.row.D.Denot). StandsByEvents l.host) (sym c.meet.ensures.knows) (c.meet.ensures.led c.requires.led c.requires.honest)

@@ -10,7 +10,7 @@ use Rattle.wh_cell.proofs.locked.Locked.turn.Goals as goal
 pub invariant_of-self : goal.invariant_of-self
 invariant_of-self g c =
     let t = c.counted_turn-end in
-    turned_in_step g.D.SwapDev.held g.D.SwapDev.honest g.D.SwapDev.faults _ t.new.host _ c.args.id c.args.quantum t.result.1 t.result.0 c.self.invariant t.ensures.turns t.ensures.taken t.ensures.backing (ap (λ b. b.charges) c.turn.ensures.books)
+    turned_in_step g.D.SwapDev.held g.D.SwapDev.keeps g.D.SwapDev.honest g.D.SwapDev.faults _ t.new.host _ c.args.id c.args.quantum t.result.1 t.result.0 c.self.invariant t.ensures.turns t.ensures.taken t.ensures.backing (ap (λ b. b.charges) c.turn.ensures.books)
 
 pub returns-clause-turns : goal.returns-clause-turns
 returns-clause-turns g c =

@@ -1,6 +1,7 @@
 use Rattle.std.proofs.Common.{refl}
+use Rattle.wh_engine.specs.Standing.{engine_on}
 use Rattle.wh_engine.proofs.Fresh.{fresh}
 use Rattle.wh_engine.proofs.engine.Engine.new.Goals as goal
 
-pub returns-clause-stands : goal.returns-clause-stands
-returns-clause-stands c settings tax new = fresh settings tax _ new c.new.ensures c.new-2.ensures c.new-3.ensures.items c.new-4.ensures.items refl
+pub returns : goal.returns
+returns c settings tax h new = fresh settings tax (engine_on h _) new c.new.ensures c.new-2.ensures c.new-3.ensures.items c.new-4.ensures.items refl

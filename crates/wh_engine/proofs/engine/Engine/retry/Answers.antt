@@ -8,19 +8,20 @@ use Rattle.wh_engine.proofs.Asked.{asked, answered_ok, answered_err, guest_there
 use Rattle.wh_engine.proofs.Instances.{retry_touches}
 use Rattle.wh_script_model.proofs.CommandsAsked.{retries_follow}
 use Rattle.wh_engine.proofs.Whole.{keeps_whole}
+use Rattle.wh_engine.specs.Standing.{engine_on}
 use Rattle.wh_engine.proofs.engine.Engine.retry.Goals as goal
 
 pub returns-in-Ok-clause-obeys : goal.returns-in-Ok-clause-obeys
-returns-in-Ok-clause-obeys c settings files line m s named =
-    answered_ok (retry c.args.name.now) (retry_reply c.args.name.now) settings files line m c.args.self.now c.retry.new.self
+returns-in-Ok-clause-obeys g c settings files line m s named =
+    answered_ok (retry c.args.name.now) (retry_reply c.args.name.now) settings files line m (engine_on c.args.host.now.host c.args.self.now) c.retry.new.self.host
     (asked (λ w id answer w2. IsRetry w id answer w2) (retry c.args.name.now) (retry_reply c.args.name.now) c.args.name.now (retries_follow c.args.name.now)
-    (λ settings files m m2 line replies o. retry_touches o) (λ id. events.retry id) (λ w w2 id answer h. (answer, h)) settings files line m c.args.self.now c.retry.new.self c.index.result.now c.args.number (Ok tt)
-    s named (guest_there c.args.self.now.guests.items c.args.number c.index.result.now c.requires.there c.index.ensures) c.in-Ok.ensures.asks (keeps_whole c.args.self.now.host.space c.retry.new.self.space c.in-Ok.ensures.backing))
+    (λ settings files m m2 line replies o. retry_touches o) (λ id. events.retry id) (λ w w2 id answer h. (answer, h)) settings files line m (engine_on c.args.host.now.host c.args.self.now) c.retry.new.self.host c.index.result.now c.args.number (Ok tt)
+    s named (guest_there c.args.self.now.guests.items c.args.number c.index.result.now c.requires.there c.index.ensures) c.in-Ok.ensures.asks (keeps_whole c.args.host.now.host.space c.retry.new.self.host.space c.in-Ok.ensures.backing))
 
 pub returns-in-Err-clause-obeys : goal.returns-in-Err-clause-obeys
-returns-in-Err-clause-obeys c settings files line m s named =
+returns-in-Err-clause-obeys g c settings files line m s named =
     let did = asked (λ w id answer w2. IsRetry w id answer w2) (retry c.args.name.now) (retry_reply c.args.name.now) c.args.name.now (retries_follow c.args.name.now)
-    (λ settings files m m2 line replies o. retry_touches o) (λ id. events.retry id) (λ w w2 id answer h. (answer, h)) settings files line m c.args.self.now c.retry.new.self c.index.result.now c.args.number (Err c.in-Err.error)
-    s named (guest_there c.args.self.now.guests.items c.args.number c.index.result.now c.requires.there c.index.ensures) c.in-Err.ensures.asks (keeps_whole c.args.self.now.host.space c.retry.new.self.space c.in-Err.ensures.backing) in
-    let got = answered_err (retry c.args.name.now) (retry_reply c.args.name.now) (λ fault. retry_refused c.args.name.now fault) settings files line m c.args.self.now c.retry.new.self c.in-Err.error refl refl did in
+    (λ settings files m m2 line replies o. retry_touches o) (λ id. events.retry id) (λ w w2 id answer h. (answer, h)) settings files line m (engine_on c.args.host.now.host c.args.self.now) c.retry.new.self.host c.index.result.now c.args.number (Err c.in-Err.error)
+    s named (guest_there c.args.self.now.guests.items c.args.number c.index.result.now c.requires.there c.index.ensures) c.in-Err.ensures.asks (keeps_whole c.args.host.now.host.space c.retry.new.self.host.space c.in-Err.ensures.backing) in
+    let got = answered_err (retry c.args.name.now) (retry_reply c.args.name.now) (λ fault. retry_refused c.args.name.now fault) settings files line m (engine_on c.args.host.now.host c.args.self.now) c.retry.new.self.host c.in-Err.error refl refl did in
     rw (sym c.number.ensures) at got

@@ -1,11 +1,9 @@
-use Rattle.std.proofs.Common.{arith, ◌≡◌, length, ◌+◌, slice_get, get_or, Some, refl, ap, sym, subst, ◌∙◌, string_bytes}
+use Rattle.std.proofs.Common.{arith, ◌≡◌, ◌+◌, slice_get, Some, refl, ap, sym, subst, ◌∙◌, string_bytes}
 use Rattle.std.proofs.lemmas.List.{length-set}
 use Rattle.std.proofs.lemmas.Option.{slice_get-get_or}
 use Rattle.std.specs.Vec.{with_item}
-use Rattle.wh_engine.specs.declared.engine.Engine as code
-use Rattle.wh_engine.specs.declared.parts.Invoked.{Invoked}
 use Rattle.wh_engine.specs.Saying.{SaysCallOf}
-use Rattle.wh_engine.specs.Standing.{StandsForScript}
+use Rattle.wh_engine.specs.Standing.{EngineState, StandsForScript, engine_on}
 use Rattle.wh_engine.proofs.Sayings.{with_said, no_call_said, call_said_next, calls_are_said}
 use Rattle.wh_engine.proofs.engine.Engine.say_calls.Goals as goal
 
@@ -13,7 +11,7 @@ pub loop-at-init : goal.loop-at-init
 loop-at-init c = record {
   same = refl;
   many = refl;
-  so_far = λ settings m s well. no_call_said settings c.args.self.now m (string_bytes c.args.text.now) s;
+  so_far = λ settings m s well. no_call_said settings (engine_on c.args.host.now c.args.self.now) m (string_bytes c.args.text.now) s;
 }
 
 pub index_mut-invoked-requires : goal.index_mut-invoked-requires
@@ -24,26 +22,19 @@ loop-at-preserved c =
     let l = c.loop-at in
     let x = c.index_mut-invoked.result.now in
     let read : slice_get l.self.invoked.items l.at ≡ Some x = slice_get-get_or l.self.invoked.items l.at x (omega (arith, l.invariant.many)) ∙ ap Some (sym c.index_mut-invoked.ensures.value) in
-    let host = ap (λ (e : code.Engine). e.host) l.invariant.same in
-    let guests = c.deref.ensures.value ∙ ap (λ (e : code.Engine). e.guests.items) l.invariant.same in
-    let says = subst (λ xs. SaysCallOf l.self.host xs (l.at + 1) x c.say_call.new.invoked (string_bytes l.text) (string_bytes c.say_call.new.text)) guests c.in_ok-say_call.ensures in
+    let guests = c.deref.ensures.value ∙ ap (λ (e : EngineState). e.guests.items) l.invariant.same in
+    let says = subst (λ xs. SaysCallOf c.args.host.now xs (l.at + 1) x c.say_call.new.invoked (string_bytes l.text) (string_bytes c.say_call.new.text)) guests c.in_ok-say_call.ensures in
     record {
       same = ap (λ e. with_said e (with_item l.self.invoked l.at c.say_call.new.invoked)) l.invariant.same;
       many = length-set l.self.invoked.items l.at c.say_call.new.invoked ∙ l.invariant.many;
       so_far = λ settings m s well.
-          call_said_next settings c.args.self.now m l.self.invoked.items l.at (l.at + 1) (string_bytes c.args.text.now) (string_bytes l.text) (string_bytes c.say_call.new.text) x c.say_call.new.invoked
+          call_said_next settings (engine_on c.args.host.now c.args.self.now) m l.self.invoked.items l.at (l.at + 1) (string_bytes c.args.text.now) (string_bytes l.text) (string_bytes c.say_call.new.text) x c.say_call.new.invoked
           s well (l.invariant.so_far settings m s well) read refl
-          (subst (λ h. SaysCallOf h c.args.self.now.guests.items (l.at + 1) x c.say_call.new.invoked (string_bytes l.text) (string_bytes c.say_call.new.text)) host says);
+          says;
     }
 
-pub returns-clause-says : goal.returns-clause-says
-returns-clause-says c settings m s well =
+pub returns : goal.returns
+returns c settings m s well =
     let l = c.loop-at in
-    let d = calls_are_said settings c.args.self.now m l.self.invoked l.at (string_bytes c.args.text.now) (string_bytes l.text) s (l.invariant.so_far settings m s well) (omega (arith, l.invariant.many)) in
+    let d = calls_are_said settings (engine_on c.args.host.now c.args.self.now) m l.self.invoked l.at (string_bytes c.args.text.now) (string_bytes l.text) s (l.invariant.so_far settings m s well) (omega (arith, l.invariant.many)) in
     (d.0, d.1, d.2, d.3, subst (λ e. StandsForScript settings e (record m { invoked = d.1 })) (sym l.invariant.same) d.4)
-
-pub returns-clause-host : goal.returns-clause-host
-returns-clause-host c = ap (λ (e : code.Engine). e.host) c.loop-at.invariant.same
-
-pub returns-in_err-say_call-clause-host : goal.returns-in_err-say_call-clause-host
-returns-in_err-say_call-clause-host c = ap (λ (e : code.Engine). e.host) c.loop-at.invariant.same

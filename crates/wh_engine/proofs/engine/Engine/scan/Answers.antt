@@ -1,5 +1,6 @@
+use Rattle.wh_engine.specs.Standing.{engine_on}
 use Rattle.wh_engine.proofs.Runs.{stays_so}
 use Rattle.wh_engine.proofs.engine.Engine.scan.Goals as goal
 
 pub returns-clause-stands : goal.returns-clause-stands
-returns-clause-stands g c = stays_so c.args.self.now c.scan.new.self c.scan.ensures.moves c.scan.ensures.backing
+returns-clause-stands g c = stays_so (engine_on c.args.host.now.host c.args.self.now) c.scan.new.self.host c.scan.ensures.moves c.scan.ensures.backing

@@ -7,20 +7,21 @@ use Rattle.wh_engine.proofs.Sayings.{on_ok_then}
 use Rattle.wh_script.specs.Coming.{IsKind}
 use Rattle.wh_script.specs.Answering.{Answers, Complains}
 use Rattle.wh_script.proofs.Answered.{is_skipped_line, is_too_long, isnt_found, skips}
+use Rattle.wh_engine.specs.Standing.{engine_on}
 use Rattle.wh_script.proofs.session.Session.answer.Goals as goal
 
 pub returns-in-End-clause-answers : goal.returns-in-End-clause-answers
 returns-in-End-clause-answers g c same line is =
     let files = g.S.Source.files c.args.source.now in
-    let e = c.args.self.now.engine in
+    let e = engine_on c.args.self.now.host.host c.args.self.now.engine in
     subst (λ t. Answers files c.args.number line e [] e t) (sym c.clear.ensures.bytes)
     (is_skipped_line files c.args.number line e [] (skips c.args.kind c.args.held.now line c.in-End.is is))
 
 pub returns-in-TooLong-clause-answers : goal.returns-in-TooLong-clause-answers
 returns-in-TooLong-clause-answers g c =
     let files = g.S.Source.files c.args.source.now in
-    let e = c.args.self.now.engine in
-    let e2 = c.complain_drained.new.self.engine in
+    let e = engine_on c.args.self.now.host.host c.args.self.now.engine in
+    let e2 = engine_on c.complain_drained.new.self.host.host c.complain_drained.new.self.engine in
     let text2 = string_bytes c.complain_drained.new.self.text in
     on_ok_then c.complain_drained.result c.complain_drained.ensures.complains (λ complains same line is.
     let k = subst (λ k. IsKind k c.args.held.now line) c.in-TooLong.is is in
@@ -30,8 +31,8 @@ returns-in-TooLong-clause-answers g c =
 pub returns-in-Ok-clause-answers : goal.returns-in-Ok-clause-answers
 returns-in-Ok-clause-answers g c =
     let files = g.S.Source.files c.args.source.now in
-    let e = c.args.self.now.engine in
-    let e2 = c.command.new.self.engine in
+    let e = engine_on c.args.self.now.host.host c.args.self.now.engine in
+    let e2 = engine_on c.command.new.self.host.host c.command.new.self.engine in
     let text2 = string_bytes c.command.new.self.text in
     let found = c.in-Ok.ensures.found in
     on_ok_then c.command.result c.command.ensures.answers (λ answers same line is.
@@ -42,8 +43,8 @@ returns-in-Ok-clause-answers g c =
 pub returns-in-Err-clause-answers : goal.returns-in-Err-clause-answers
 returns-in-Err-clause-answers g c =
     let files = g.S.Source.files c.args.source.now in
-    let e = c.args.self.now.engine in
-    let e2 = c.complain_drained-in-Err.new.self.engine in
+    let e = engine_on c.args.self.now.host.host c.args.self.now.engine in
+    let e2 = engine_on c.complain_drained-in-Err.new.self.host.host c.complain_drained-in-Err.new.self.engine in
     let text2 = string_bytes c.complain_drained-in-Err.new.self.text in
     on_ok_then c.complain_drained-in-Err.result c.complain_drained-in-Err.ensures.complains (λ complains same line is.
     let k = subst (λ k. IsKind k c.args.held.now line) c.in-Kept.is is in

@@ -1,20 +1,36 @@
-use Rattle.std.proofs.Common.{string_bytes}
+use Rattle.std.proofs.Common.{subst, sym, string_bytes}
+use Rattle.wh_commands.specs.declared.command.Command.TheVariants.{Invoke}
+use Rattle.wh_commands.specs.Found.{Says}
+use Rattle.wh_host_model.specs.Lines.Commands as asked_of
 use Rattle.wh_engine.proofs.Sayings.{on_ok_then}
-use Rattle.wh_reclaim.proofs.Together.{same_pass}
-use Rattle.wh_script.proofs.Asked.{no_invoke, isnt_invoke}
+use Rattle.wh_engine.specs.Draining.{DeviceServesWell}
+use Rattle.wh_engine.specs.Standing.{engine_on}
+use Rattle.wh_script.specs.Answering.{AnswersCommand}
+use Rattle.wh_script.proofs.Asked.{asked_as, no_invoke, isnt_invoke}
 use Rattle.wh_script.proofs.Answered.{drained_obeyed}
 use Rattle.wh_script.proofs.session.Session.command.Goals as goal
 
-pub returns-in_ok-drain-in_default : goal.returns-in_ok-drain-in_default
-returns-in_ok-drain-in_default g c = record {
-  together = same_pass c.drain.new.self.engine.host.space c.obey.new.self.engine.host.space (g.D.SwapDev.held c.drain.new.device) c.obey.ensures.backing.pass c.drain.ensures.together;
-  device = c.drain.ensures.device;
-  faults = c.drain.ensures.faults;
-  answers =
-      on_ok_then c.obey.result c.obey.ensures.obeys (λ obeys same asked says.
-      drained_obeyed (g.S.Source.files c.args.source.now) c.args.number asked c.args.self.now.engine c.drain.new.self.engine c.obey.new.self.engine
-      (string_bytes c.args.self.now.text) (string_bytes c.drain.new.self.text) (string_bytes c.obey.new.self.text)
-      (c.in_ok-drain-in_default.ensures.drains same)
-      (obeys asked says (no_invoke c.args.command asked (isnt_invoke c.args.command c.in_default.not-Invoke) says)));
-  err = c.obey.ensures.err;
-}
+pub returns-in_ok-drain-in_default-clause-answers : goal.returns-in_ok-drain-in_default-clause-answers
+returns-in_ok-drain-in_default-clause-answers g c =
+    let drained = c.drain.new.self in
+    let obeyed = c.obey.new.self in
+    let before = c.args.self.now.host.device in
+    on_ok_then c.obey.result c.obey.ensures.obeys (λ obeys same asked says.
+    drained_obeyed (g.S.Source.files c.args.source.now) c.args.number asked (engine_on c.args.self.now.host.host c.args.self.now.engine) (engine_on drained.host.host drained.engine)
+    (engine_on obeyed.host.host obeyed.engine) (string_bytes c.args.self.now.text) (string_bytes drained.text) (string_bytes obeyed.text)
+    (c.in_ok-drain-in_default.ensures.drains (subst (λ o. DeviceServesWell g.D.SwapDev.honest g.D.SwapDev.faults before o) c.obey.ensures.device same))
+    (obeys asked says (no_invoke c.args.command asked (isnt_invoke c.args.command c.in_default.not-Invoke) says)))
+
+pub returns-in-Invoke-clause-answers : goal.returns-in-Invoke-clause-answers
+returns-in-Invoke-clause-answers g c =
+    let files = g.S.Source.files c.args.source.now in
+    let before = c.args.self.now in
+    let after = c.invoke.new.self in
+    let e = engine_on before.host.host before.engine in
+    let e2 = engine_on after.host.host after.engine in
+    let found = c.in-Invoke in
+    on_ok_then c.invoke.result c.invoke.ensures.answers (λ answers same asked says.
+    let is = asked_as (Invoke found.inst found.export found.fuel found.args) asked (subst (λ k. Says k asked) found.is says) in
+    let given = subst (λ args. AnswersCommand files c.args.number (asked_of.invoke found.inst.now found.export.now found.fuel args) e (string_bytes before.text) e2 (string_bytes after.text))
+    c.deref.ensures.value (answers same files) in
+    subst (λ a. AnswersCommand files c.args.number a e (string_bytes before.text) e2 (string_bytes after.text)) (sym is) given)

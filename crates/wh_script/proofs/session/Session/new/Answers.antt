@@ -1,19 +1,21 @@
-use Rattle.std.proofs.Common.{◌≡◌, ◌∙◌, ap, sym}
-use Rattle.wh_host_model.specs.Space.Errands.{tickets}
-use Rattle.wh_host_model.specs.Space.Parts.{Space}
+use Rattle.std.proofs.Common.{[], replicate, ap, subst, sym}
+use Rattle.wh_reclaim.specs.Together.{AreTogether}
+use Rattle.wh_cell.specs.Leaving.{LeftState}
+use Rattle.wh_cell.proofs.Begun.{new_uncharged, new_agrees}
+use Rattle.wh_host_model.specs.Lines.Made.{nothing_made}
 use Rattle.wh_settings.specs.View.{settings_of}
-use Rattle.wh_host.specs.Hosting.{HostState}
+use Rattle.wh_engine.specs.Standing.{StandsForScript, engine_on}
 use Rattle.wh_script.proofs.session.Session.new.Goals as goal
 
-pub returns-clause-stands : goal.returns-clause-stands
-returns-clause-stands c = c.new-3.ensures.stands (settings_of c.args.settings.now) _ c.in-Ok.ensures.ok
+pub new-requires-2-clause-uncharged : goal.new-requires-2-clause-uncharged
+new-requires-2-clause-uncharged g c = new_uncharged c.in-Ok.host c.args.settings.now.frames c.args.settings.now.slots _ c.in-Ok.ensures.ok
 
-pub returns-clause-fresh : goal.returns-clause-fresh
-returns-clause-fresh c =
-    let new = c.in-Ok.ensures.ok in
-    let stands = c.new-3.ensures.stands (settings_of c.args.settings.now) _ new in
-    let host = ap (λ (h : HostState). h.space) c.new-3.ensures.host in
-    record {
-      none_out = ap (λ (s : Space). tickets s) stands.is.0.space ∙ stands.knows.none_out;
-      empty = ap (λ (s : Space). s.slots.held) (host ∙ (new.1.space ∙ new.5.is));
-    }
+pub new-requires-2-clause-together : goal.new-requires-2-clause-together
+new-requires-2-clause-together g c =
+    subst (λ held. AreTogether c.in-Ok.host.space held) (sym c.requires.empty) (new_agrees c.in-Ok.host c.args.settings.now.frames c.args.settings.now.slots _ c.in-Ok.ensures.ok)
+
+pub returns-clause-stands : goal.returns-clause-stands
+returns-clause-stands g c =
+    let settings = settings_of c.args.settings.now in
+    let same = ap (λ (o : LeftState g.row.D.Denot). o.host) c.in-Ok-new.ensures in
+    subst (λ h. StandsForScript settings (engine_on h c.new-3.result) nothing_made) (sym same) (c.new-3.ensures settings _ c.in-Ok.host c.in-Ok.ensures.ok)

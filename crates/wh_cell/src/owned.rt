@@ -1,0 +1,341 @@
+//! A host in the hand of its owner: what is asked of it between two runs of its calls, and the runs.
+
+ghost use Rattle.std.specs.Prelude.{◌≡◌, ◌≤◌, ◌<◌, Some, IfOk, OnErr};
+ghost use Rattle.wh_admit.specs.Views.{view_params};
+ghost use Rattle.wh_host_model.specs.Host.Happens.{IsCancel, IsRefuel, IsRetry};
+ghost use Rattle.wh_host_model.specs.Space.Stores.{Epochs};
+ghost use Rattle.wh_reclaim.specs.Together.{AreTogether};
+ghost use Rattle.wh_host.specs.Admitting.{AnswersAdmit};
+ghost use Rattle.wh_host.specs.Asking.{AnswersCall, AnswersInvoke};
+ghost use Rattle.wh_host.specs.Backing.{KeepsBacking};
+ghost use Rattle.wh_host.specs.Loading.{AnswersLoad};
+ghost use Rattle.wh_host.specs.Paging.{MovesOnly};
+ghost use Rattle.wh_host.specs.Releasing.{AnswersRelease};
+ghost use Rattle.wh_cell.specs.Leaving.{HasNoCharge, left_as};
+ghost use Rattle.wh_cell.specs.Owning.{ComesOn, IsSoundInHand};
+
+use crate::cell::{Fittings, HostCell};
+use crate::locked::Locked;
+use crate::owner::Owner;
+use crate::serving::{Manner, run_calls};
+use std::alloc::{AllocError, Global};
+use std::marker::Model;
+use std::sync::Wait;
+use std::sync::ledger::Ledger;
+use std::thread::Threads;
+use wh_host::{AdmitError, Host, HostError, ModuleError, ModuleId, Params};
+use wh_host_model::InstId;
+use wh_kernels::PageHash;
+use wh_swap::SwapDev;
+use wh_workers::{Bond, ServeError, Served, Shares};
+
+/// A host with its device, its books and all shares of them, in the hand of its owner. Contracts see the host and the device.
+///
+/// It lies under no lock, so that requests wait for nobody. While calls run it lies under one, and threads share it; then the
+/// owner has it again, and knows by its right that nothing but work has befallen it.
+#[derive(Drop)]
+pub struct OwnedHost<D: SwapDev, T: Ledger, C: Ledger, O: Ledger, E: Ledger, B: Bond> {
+    // There is always one, but while calls run.
+    locked: Option<Locked<D, T, C, O, E, B>>,
+    owner: Owner<D, B>,
+    shares: Shares<T, C, O, E>,
+}
+
+impl<D: SwapDev, T: Ledger, C: Ledger, O: Ledger, E: Ledger, B: Bond> Model
+    for OwnedHost<D, T, C, O, E, B> {
+    ghost use Rattle.wh_cell.specs.Leaving.{LeftState};
+    ghost use Rattle.wh_cell.specs.Owning.{IsInHand};
+
+    ghost Value = { LeftState D };
+
+    ghost use Rattle.wh_cell.specs.Stored.{stored_left};
+
+    ghost coded = { stored_left D.code };
+
+    ghost view = { λ o. o.owner };
+
+    ghost invariant = { λ o. IsInHand o.locked o.owner };
+}
+
+impl<D: SwapDev + Drop, T: Ledger, C: Ledger, O: Ledger, E: Ledger, B: Bond> OwnedHost<
+    D,
+    T,
+    C,
+    O,
+    E,
+    B,
+> {
+    /// A host with what it needs, none of whose calls took a charge yet. All memory for the counts is taken here.
+    ///
+    /// # Errors
+    /// Where room was refused.
+    pub fn new(
+        alloc: Global,
+        host: Host,
+        fittings: Fittings<D>,
+    ) -> Result<OwnedHost<D, T, C, O, E, B>, AllocError>
+        requires uncharged { HasNoCharge host }
+        requires together { AreTogether host.space (D.held fittings.device) }
+        requires pact { fittings.pact ≡ B.table }
+        requires turns { (fittings.turns.name ≡ T.name) × (fittings.turns.parts ≡ T.parts)
+            × (64 < T.parts) }
+        requires charges { (fittings.charges.name ≡ C.name) × (fittings.charges.parts ≡ C.parts)
+            × (64 < C.parts) }
+        requires offers { (fittings.offers.name ≡ O.name) × (fittings.offers.parts ≡ O.parts)
+            × (1 < O.parts) }
+        requires evictions { (fittings.evictions.name ≡ E.name)
+            × (fittings.evictions.parts ≡ E.parts) × (1 < E.parts) }
+        ensures { IfOk result (λ owned. owned ≡ left_as host fittings.device) }
+    {
+        let (locked, owner, shares) = Locked::new(alloc, host, fittings)?;
+        Ok(OwnedHost {
+            locked: Some(locked),
+            owner,
+            shares,
+        })
+    }
+}
+
+impl<D: SwapDev, T: Ledger, C: Ledger, O: Ledger, E: Ledger, B: Bond> OwnedHost<D, T, C, O, E, B> {
+    /// What always holds: events lead to the host, and reads of a swap device that gave other bytes, if there were any; no
+    /// ticket is out, and device and slots agree.
+    #[inline(always)]
+    pub fn known(&self)
+        ensures { IsSoundInHand D.held self.now }
+    {
+        self.locked().known();
+    }
+
+    // What lies in the owner's hand.
+    #[inline(always)]
+    fn locked(&self) -> &Locked<D, T, C, O, E, B>
+        ensures { self.now ≡ left_as result.now.host result.now.device }
+    {
+        let Some(locked) = &self.locked else {
+            unreachable!();
+        };
+        locked
+    }
+
+    /// The host, to look at.
+    #[inline(always)]
+    pub fn host(&self) -> &Host
+        ensures { result.now ≡ self.now.host }
+    {
+        self.locked().host()
+    }
+
+    /// What the threads have counted so far.
+    pub fn shares(&self) -> &Shares<T, C, O, E> {
+        &self.shares
+    }
+
+    /// The device, when the host is done with.
+    pub fn into_device(self) -> D
+        ensures { self.device ≡ Some result }
+    {
+        let OwnedHost { locked, .. } = self;
+        let Some(locked) = locked else {
+            unreachable!();
+        };
+        locked.into_device()
+    }
+
+    /// Keeps the module that these bytes spell, and the bytes: its number, counted from 0.
+    ///
+    /// # Errors
+    /// That of `Host::load`. The host is as it was then.
+    pub fn load(&mut self, alloc: Global, bytes: &[u8]) -> Result<ModuleId, ModuleError>
+        ensures loads { AnswersLoad self.old.host bytes.now result self.new.host }
+        ensures err { OnErr result (self.new.host ≡ self.old.host) }
+        ensures backing { KeepsBacking self.old.host.space self.new.host.space }
+        ensures device { self.new.device ≡ self.old.device }
+    {
+        let Some(locked) = &mut self.locked else {
+            unreachable!();
+        };
+        locked.load(&mut self.owner, alloc, bytes)
+    }
+
+    /// Admits an instance of a module, with what its owner gives it. All that it will ever need is reserved now.
+    ///
+    /// # Errors
+    /// That of `Host::admit`. The host is as it was then.
+    pub fn admit(
+        &mut self,
+        alloc: Global,
+        of: ModuleId,
+        params: Params,
+    ) -> Result<InstId, AdmitError>
+        ensures admits { AnswersAdmit self.old.host of.number (view_params params) result
+            self.new.host }
+        ensures err { OnErr result (self.new.host ≡ self.old.host) }
+        ensures backing { KeepsBacking self.old.host.space self.new.host.space }
+        ensures device { self.new.device ≡ self.old.device }
+    {
+        let Some(locked) = &mut self.locked else {
+            unreachable!();
+        };
+        locked.admit(&mut self.owner, alloc, of, params)
+    }
+
+    /// Takes a call of the function that an instance's module exports by this name, with these arguments and so much fuel: its
+    /// place in the journal of the instance, where the start is 0. It is run by turns, behind the calls that are open.
+    ///
+    /// # Errors
+    /// That of `Host::invoke`. The host is as it was then.
+    pub fn invoke(
+        &mut self,
+        alloc: Global,
+        id: InstId,
+        name: &str,
+        given: &[i128],
+        fuel: u64,
+    ) -> Result<u32, HostError>
+        ensures asks { AnswersInvoke self.old.host id name.now given.now fuel result
+            self.new.host }
+        ensures err { OnErr result (self.new.host ≡ self.old.host) }
+        ensures backing { KeepsBacking self.old.host.space self.new.host.space }
+        ensures device { self.new.device ≡ self.old.device }
+    {
+        let Some(locked) = &mut self.locked else {
+            unreachable!();
+        };
+        locked.invoke(&mut self.owner, alloc, id, name, given, fuel)
+    }
+
+    /// Gives the present call of an instance so much more fuel; what passes 2^64 - 1 is lost.
+    ///
+    /// # Errors
+    /// `NoInstance`; `NoCall` where no call is open. Nothing is done then.
+    pub fn refuel(&mut self, id: InstId, fuel: u64) -> Result<(), HostError>
+        ensures asks { AnswersCall self.old.host (λ w answer w2. IsRefuel w id fuel answer w2) result
+            self.new.host }
+        ensures err { OnErr result (self.new.host ≡ self.old.host) }
+        ensures backing { KeepsBacking self.old.host.space self.new.host.space }
+        ensures device { self.new.device ≡ self.old.device }
+    {
+        let Some(locked) = &mut self.locked else {
+            unreachable!();
+        };
+        locked.refuel(&mut self.owner, id, fuel)
+    }
+
+    /// Ends the present call of an instance where it is; what it has written stays.
+    ///
+    /// # Errors
+    /// `NoInstance`; `NoCall` where no call is open. Nothing is done then.
+    pub fn cancel(&mut self, id: InstId) -> Result<(), HostError>
+        ensures asks { AnswersCall self.old.host (λ w answer w2. IsCancel w id answer w2) result
+            self.new.host }
+        ensures err { OnErr result (self.new.host ≡ self.old.host) }
+        ensures backing { KeepsBacking self.old.host.space self.new.host.space }
+        ensures device { self.new.device ≡ self.old.device }
+    {
+        let Some(locked) = &mut self.locked else {
+            unreachable!();
+        };
+        locked.cancel(&mut self.owner, id)
+    }
+
+    /// Lets the present call of an instance be tried again, if it stands for a device fault: it stands for a frame then.
+    ///
+    /// # Errors
+    /// `NoInstance`; `NoCall` where it doesn't stand for one. Nothing is done then.
+    pub fn retry(&mut self, id: InstId) -> Result<(), HostError>
+        ensures asks { AnswersCall self.old.host (λ w answer w2. IsRetry w id answer w2) result
+            self.new.host }
+        ensures err { OnErr result (self.new.host ≡ self.old.host) }
+        ensures backing { KeepsBacking self.old.host.space self.new.host.space }
+        ensures device { self.new.device ≡ self.old.device }
+    {
+        let Some(locked) = &mut self.locked else {
+            unreachable!();
+        };
+        locked.retry(&mut self.owner, id)
+    }
+
+    /// Lets an instance go, whatever its calls are: its output.
+    ///
+    /// # Errors
+    /// `NoInstance`. Nothing is done then.
+    pub fn release(&mut self, alloc: Global, id: InstId) -> Result<Vec<u8>, HostError>
+        ensures goes { AnswersRelease self.old.host id result self.new.host }
+        ensures err { OnErr result (self.new.host ≡ self.old.host) }
+        ensures backing { KeepsBacking self.old.host.space self.new.host.space }
+        ensures device { self.new.device ≡ self.old.device }
+    {
+        let Some(locked) = &mut self.locked else {
+            unreachable!();
+        };
+        locked.release(&mut self.owner, alloc, id)
+    }
+
+    /// Begins a new epoch: no page is marked as touched. It goes over all pages.
+    pub fn epoch(&mut self)
+        ensures moves { MovesOnly self.old.host self.new.host }
+        ensures clears { Epochs self.old.host.space self.new.host.space }
+        ensures backing { KeepsBacking self.old.host.space self.new.host.space }
+        ensures device { self.new.device ≡ self.old.device }
+    {
+        let Some(locked) = &mut self.locked else {
+            unreachable!();
+        };
+        locked.epoch();
+        locked.meet(&mut self.owner);
+    }
+
+    /// Offers all pages of all instances for sharing, each under the hash of its bytes as they are. It is done where frames
+    /// and slots are fewer than 2^32 together, and so are the places.
+    pub fn scan<H: PageHash>(&mut self, hasher: &H)
+        ensures moves { MovesOnly self.old.host self.new.host }
+        ensures backing { KeepsBacking self.old.host.space self.new.host.space }
+        ensures device { self.new.device ≡ self.old.device }
+    {
+        let Some(locked) = &mut self.locked else {
+            unreachable!();
+        };
+        locked.scan(hasher);
+        locked.meet(&mut self.owner);
+    }
+}
+
+impl<
+    D: SwapDev + Drop + Send + 'static,
+    T: Ledger + Send + 'static,
+    C: Ledger + Send + 'static,
+    O: Ledger + Send + 'static,
+    E: Ledger + Send + 'static,
+    B: Bond + Send + 'static,
+> OwnedHost<D, T, C, O, E, B> {
+    /// Runs the calls of these instances until none can go on, as `run_calls` does, on a cell that the host lies in meanwhile.
+    /// Whatever it answers, the host came by work from the one before.
+    ///
+    /// # Errors
+    /// `Memory` where room was refused, and `NoThread` where a thread couldn't be started, or pages couldn't be offered that
+    /// are owed.
+    pub fn run<H: PageHash + Copy + Send + 'static, R: Threads + Wait + Copy + Send + 'static>(
+        &mut self,
+        rt: R,
+        alloc: Global,
+        ids: &[InstId],
+        manner: Manner<H>,
+    ) -> Result<Served, ServeError>
+        requires { manner.workers ≤ 64 }
+        ensures came { ComesOn D.keeps D.honest D.faults self.old self.new }
+    {
+        let Some(locked) = self.locked.take() else {
+            unreachable!();
+        };
+        let (served, mut locked) = match HostCell::around(alloc, locked) {
+            Ok(cell) => {
+                let served = run_calls(rt, alloc, &cell, &mut self.shares, ids, manner);
+                (served, cell.into_locked(&rt))
+            }
+            Err(locked) => (Err(ServeError::Memory), locked),
+        };
+        locked.meet(&mut self.owner);
+        self.locked = Some(locked);
+        served
+    }
+}

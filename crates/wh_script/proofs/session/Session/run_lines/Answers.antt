@@ -1,0 +1,212 @@
+use Rattle.std.proofs.Common.{rules, Err, [], sym, ap, subst, ◌∙◌, string_bytes}
+use Rattle.std.proofs.lemmas.Result.{err_from_is_err_and}
+use Rattle.std.specs.Io.KnownBytes.{Appends}
+use Rattle.wh_engine.specs.declared.fault.ScriptFault.TheVariants.{Memory}
+use Rattle.wh_engine.specs.Standing.{engine_on}
+use Rattle.wh_script.specs.Coming.{unread, coming, ReadsLine}
+use Rattle.wh_script.specs.Answering.{HasDrained}
+use Rattle.wh_script.specs.Runs.{Sent, Runs}
+use Rattle.wh_script.proofs.Devices.{true_same, true_then, fails_same, fails_then, served_first, served_rest}
+use Rattle.wh_script.proofs.Runs.{begins_nothing, starts, stops, read_fails, ends, goes_on, write_fails}
+use Rattle.wh_script.proofs.session.Session.run_lines.Goals as goal
+
+pub returns-in_err-lines-clause-runs : goal.returns-in_err-lines-clause-runs
+returns-in_err-lines-clause-runs g c settings stands served =
+    let left = g.R.Read.remaining in
+    let contents = g.W.Write.contents in
+    let files = g.S.Source.files c.args.source.now in
+    let p = err_from_is_err_and c.from_residual.result c.from_residual.ensures.1 in
+    subst (Runs settings files (left c.args.reader.now) (left c.args.reader.now) (contents c.args.writer.now) (contents c.args.writer.now)) (sym (p.1 ∙ ap Err (p.2 ∙ c.in_err-lines.ensures.err)))
+    (begins_nothing settings files (left c.args.reader.now) (left c.args.reader.now) (contents c.args.writer.now))
+
+pub returns-in_err-lines-clause-faults : goal.returns-in_err-lines-clause-faults
+returns-in_err-lines-clause-faults g c = fails_same g.D.SwapDev.keeps g.D.SwapDev.honest g.D.SwapDev.faults c.args.self.now.host.device
+
+pub returns-in_err-lines-clause-device : goal.returns-in_err-lines-clause-device
+returns-in_err-lines-clause-device g c = true_same g.D.SwapDev.keeps g.D.SwapDev.honest g.D.SwapDev.faults c.args.self.now.host.device
+
+pub loop-number-init : goal.loop-number-init
+loop-number-init g c =
+    let keeps = g.D.SwapDev.keeps in
+    let honest = g.D.SwapDev.honest in
+    let faults = g.D.SwapDev.faults in
+    let self = c.args.self.now in
+    record {
+      within = search rules;
+      device = true_same keeps honest faults self.host.device;
+      faults = fails_same keeps honest faults self.host.device;
+      so_far = λ settings stands served.
+          starts settings (g.S.Source.files c.args.source.now) (g.R.Read.remaining c.args.reader.now) (g.W.Write.contents c.args.writer.now) (unread c.in_ok-lines.lines)
+          (engine_on self.host.host self.engine) c.in_ok-lines.ensures.empty stands;
+    }
+
+pub returns-in_err-kind-clause-runs : goal.returns-in_err-kind-clause-runs
+returns-in_err-kind-clause-runs g c settings stands served =
+    let left = g.R.Read.remaining in
+    let contents = g.W.Write.contents in
+    let files = g.S.Source.files c.args.source.now in
+    let l = c.loop-number in
+    let script = left c.args.reader.now in
+    let old = coming l.lines (left l.reader) in
+    let e = c.in_err-kind.field-0.0 in
+    let p = err_from_is_err_and c.from_residual-in_err-kind.result c.from_residual-in_err-kind.ensures.1 in
+    subst (Runs settings files script (left c.read.new.reader) (contents c.args.writer.now) (contents l.writer)) (sym (p.1 ∙ ap Err p.2))
+    (read_fails settings files script old (contents c.args.writer.now) (contents l.writer) l.number (engine_on l.self.host.host l.self.engine) (l.invariant.so_far settings stands served) (left c.read.new.reader) e c.in_err-kind.ensures.err c.in_err-kind.ensures.failed)
+
+pub returns-in_err-drain-in-End : goal.returns-in_err-drain-in-End
+returns-in_err-drain-in-End g c =
+    let left = g.R.Read.remaining in
+    let contents = g.W.Write.contents in
+    let faults = g.D.SwapDev.faults in
+    let keeps = g.D.SwapDev.keeps in
+    let honest = g.D.SwapDev.honest in
+    let files = g.S.Source.files c.args.source.now in
+    let l = c.loop-number in
+    let first = c.args.self.now.host.device in
+    let before = l.self.host.device in
+    let after = c.drain.new.self.host.device in
+    let script = left c.args.reader.now in
+    let old = coming l.lines (left l.reader) in
+    let p = err_from_is_err_and c.from_residual-in_err-drain-in-End.result c.from_residual-in_err-drain-in-End.ensures.1 in
+    let fault = c.in_err-drain-in-End.field-0.0 in
+    record {
+      runs = λ settings stands served.
+          let well = served_first keeps honest faults first before after c.drain.ensures.device l.invariant.faults c.drain.ensures.faults served in
+          subst (Runs settings files script (left c.read.new.reader) (contents c.args.writer.now) (contents l.writer)) (sym (p.1 ∙ ap Err p.2))
+          (stops settings files script old (contents c.args.writer.now) (contents l.writer) l.number (engine_on l.self.host.host l.self.engine) (l.invariant.so_far settings stands well) (left c.read.new.reader) fault c.in_err-drain-in-End.ensures.err);
+      faults = fails_then keeps honest faults first before after l.invariant.faults c.drain.ensures.faults;
+      device = true_then keeps honest faults first before after l.invariant.device c.drain.ensures.device;
+    }
+
+pub returns-in-End : goal.returns-in-End
+returns-in-End g c =
+    let left = g.R.Read.remaining in
+    let contents = g.W.Write.contents in
+    let faults = g.D.SwapDev.faults in
+    let keeps = g.D.SwapDev.keeps in
+    let honest = g.D.SwapDev.honest in
+    let files = g.S.Source.files c.args.source.now in
+    let l = c.loop-number in
+    let first = c.args.self.now.host.device in
+    let before = l.self.host.device in
+    let drained = c.drain.new.self in
+    let after = drained.host.device in
+    let script = left c.args.reader.now in
+    let old = coming l.lines (left l.reader) in
+    let new = coming c.read.new.self (left c.read.new.reader) in
+    let e = engine_on l.self.host.host l.self.engine in
+    let e2 = engine_on drained.host.host drained.engine in
+    let text = string_bytes drained.text in
+    record {
+      runs = λ settings stands served.
+          let well = served_first keeps honest faults first before after c.drain.ensures.device l.invariant.faults c.drain.ensures.faults served in
+          let here = served_rest keeps honest faults first before after l.invariant.faults c.drain.ensures.faults served in
+          let drains = subst (λ t. HasDrained e t e2 text) c.clear.ensures.bytes (c.in_ok-drain-in-End.ensures.drains here) in
+          let end = subst (λ k. ReadsLine old new k c.read.new.self.line.items) c.in-End.is c.in_ok-kind.ensures.line in
+          let sent = subst (Sent (contents l.writer) (contents c.send.new.writer) c.send.result) c.as_bytes.ensures.value c.send.ensures.sent in
+          ends settings files script old (contents c.args.writer.now) (contents l.writer) l.number e (l.invariant.so_far settings stands well) e2 text (contents c.send.new.writer) (left c.read.new.reader)
+          drains end c.send.result sent;
+      faults = fails_then keeps honest faults first before after l.invariant.faults c.drain.ensures.faults;
+      device = true_then keeps honest faults first before after l.invariant.device c.drain.ensures.device;
+    }
+
+pub returns-in_err-answer-in_default : goal.returns-in_err-answer-in_default
+returns-in_err-answer-in_default g c =
+    let left = g.R.Read.remaining in
+    let contents = g.W.Write.contents in
+    let faults = g.D.SwapDev.faults in
+    let keeps = g.D.SwapDev.keeps in
+    let honest = g.D.SwapDev.honest in
+    let files = g.S.Source.files c.args.source.now in
+    let l = c.loop-number in
+    let first = c.args.self.now.host.device in
+    let before = l.self.host.device in
+    let after = c.answer.new.self.host.device in
+    let script = left c.args.reader.now in
+    let old = coming l.lines (left l.reader) in
+    let p = err_from_is_err_and c.from_residual-in_err-answer-in_default.result c.from_residual-in_err-answer-in_default.ensures.1 in
+    let fault = c.in_err-answer-in_default.field-0.0 in
+    record {
+      runs = λ settings stands served.
+          let well = served_first keeps honest faults first before after c.answer.ensures.device l.invariant.faults c.answer.ensures.faults served in
+          subst (Runs settings files script (left c.read.new.reader) (contents c.args.writer.now) (contents l.writer)) (sym (p.1 ∙ ap Err p.2))
+          (stops settings files script old (contents c.args.writer.now) (contents l.writer) l.number (engine_on l.self.host.host l.self.engine) (l.invariant.so_far settings stands well) (left c.read.new.reader) fault c.in_err-answer-in_default.ensures.err);
+      faults = fails_then keeps honest faults first before after l.invariant.faults c.answer.ensures.faults;
+      device = true_then keeps honest faults first before after l.invariant.device c.answer.ensures.device;
+    }
+
+pub returns-in_err-send-in_default : goal.returns-in_err-send-in_default
+returns-in_err-send-in_default g c =
+    let left = g.R.Read.remaining in
+    let contents = g.W.Write.contents in
+    let faults = g.D.SwapDev.faults in
+    let keeps = g.D.SwapDev.keeps in
+    let honest = g.D.SwapDev.honest in
+    let files = g.S.Source.files c.args.source.now in
+    let l = c.loop-number in
+    let first = c.args.self.now.host.device in
+    let before = l.self.host.device in
+    let answered = c.answer.new.self in
+    let after = answered.host.device in
+    let script = left c.args.reader.now in
+    let old = coming l.lines (left l.reader) in
+    let new = coming c.read.new.self (left c.read.new.reader) in
+    let e = engine_on l.self.host.host l.self.engine in
+    let e2 = engine_on answered.host.host answered.engine in
+    let text = string_bytes answered.text in
+    let reads = subst (λ held. ReadsLine old new c.in_ok-kind.kind held) (sym c.line.ensures) c.in_ok-kind.ensures.line in
+    let fault = c.in_err-send-in_default.field-0.0 in
+    let p = err_from_is_err_and c.from_residual-in_err-send-in_default.result c.from_residual-in_err-send-in_default.ensures.1 in
+    record {
+      runs = λ settings stands served.
+          let well = served_first keeps honest faults first before after c.answer.ensures.device l.invariant.faults c.answer.ensures.faults served in
+          let here = served_rest keeps honest faults first before after l.invariant.faults c.answer.ensures.faults served in
+          let sent = subst (Sent (contents l.writer) (contents c.send-in_default.new.writer) (Err fault)) c.as_bytes-in_default.ensures.value c.in_err-send-in_default.ensures.sent in
+          subst (Runs settings files script (left c.read.new.reader) (contents c.args.writer.now) (contents c.send-in_default.new.writer)) (sym (p.1 ∙ ap Err p.2))
+          (write_fails settings files script old (contents c.args.writer.now) (contents l.writer) l.number e (l.invariant.so_far settings stands well) e2 text (contents c.send-in_default.new.writer) (left c.read.new.reader)
+          new c.in_ok-kind.kind c.line.result.now c.in_default.not-End reads (c.in_ok-answer-in_default.ensures.answers here) fault sent);
+      faults = fails_then keeps honest faults first before after l.invariant.faults c.answer.ensures.faults;
+      device = true_then keeps honest faults first before after l.invariant.device c.answer.ensures.device;
+    }
+
+pub loop-number-preserved : goal.loop-number-preserved
+loop-number-preserved g c =
+    let left = g.R.Read.remaining in
+    let contents = g.W.Write.contents in
+    let faults = g.D.SwapDev.faults in
+    let keeps = g.D.SwapDev.keeps in
+    let honest = g.D.SwapDev.honest in
+    let files = g.S.Source.files c.args.source.now in
+    let l = c.loop-number in
+    let first = c.args.self.now.host.device in
+    let before = l.self.host.device in
+    let answered = c.answer.new.self in
+    let after = answered.host.device in
+    let script = left c.args.reader.now in
+    let old = coming l.lines (left l.reader) in
+    let new = coming c.read.new.self (left c.read.new.reader) in
+    let e = engine_on l.self.host.host l.self.engine in
+    let e2 = engine_on answered.host.host answered.engine in
+    let text = string_bytes answered.text in
+    let reads = subst (λ held. ReadsLine old new c.in_ok-kind.kind held) (sym c.line.ensures) c.in_ok-kind.ensures.line in
+    record {
+      within = search rules;
+      device = true_then keeps honest faults first before after l.invariant.device c.answer.ensures.device;
+      faults = fails_then keeps honest faults first before after l.invariant.faults c.answer.ensures.faults;
+      so_far = λ settings stands served.
+          let well = served_first keeps honest faults first before after c.answer.ensures.device l.invariant.faults c.answer.ensures.faults served in
+          let here = served_rest keeps honest faults first before after l.invariant.faults c.answer.ensures.faults served in
+          let sent = subst (λ t. Appends (contents l.writer) (contents c.send-in_default.new.writer) t) c.as_bytes-in_default.ensures.value c.in_ok-send-in_default.ensures.sent in
+          goes_on settings files script old (contents c.args.writer.now) (contents l.writer) l.number e (l.invariant.so_far settings stands well) e2 text (contents c.send-in_default.new.writer) (left c.read.new.reader)
+          new c.in_ok-kind.kind c.line.result.now c.in_default.not-End reads (c.in_ok-answer-in_default.ensures.answers here) sent;
+    }
+
+pub returns-clause-runs : goal.returns-clause-runs
+returns-clause-runs g c settings stands served =
+    let left = g.R.Read.remaining in
+    let contents = g.W.Write.contents in
+    let files = g.S.Source.files c.args.source.now in
+    let l = c.loop-number in
+    let script = left c.args.reader.now in
+    let old = coming l.lines (left l.reader) in
+    stops settings files script old (contents c.args.writer.now) (contents l.writer) l.number (engine_on l.self.host.host l.self.engine) (l.invariant.so_far settings stands served) (left l.reader) Memory tt
