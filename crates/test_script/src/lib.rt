@@ -24,3 +24,5 @@ mod sharing;
 mod speaking;
 #[cfg(test)]
 mod starts;
+#[cfg(test)]
+mod swapping;
