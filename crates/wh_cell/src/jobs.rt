@@ -21,7 +21,7 @@ const TURNS_FOR_AN_OFFER: u64 = 16;
 const LONGEST_SLEEP: u64 = 1;
 
 /// What the threads of a run have between them: who has turns out, and a bell for each for whom something may have to be
-/// waited. Whoever waits notes how often its bell rang, looks, and sleeps unless it has rung since.
+/// waited. Whoever waits counts how often its bell rang, looks, and sleeps unless it rang again meanwhile.
 #[derive(Drop)]
 pub struct Desk {
     /// Who has turns out, and whose step is ready.
@@ -306,7 +306,7 @@ impl<D: SwapDev + Drop, T: Ledger, C: Ledger, O: Ledger, E: Ledger, B: Bond> Sup
     for TurnSupply<D, T, C, O, E, B> {
     fn next<R: Wait>(&mut self, rt: &R) -> Option<InstId> {
         for _ in rt.forever() {
-            let rung = self.desk.turn_back.notifications();
+            let rings = self.desk.turn_back.notifications();
             match self.choose(rt) {
                 (Choice::Turn(id), turns) => {
                     if turns % TURNS_FOR_AN_OFFER == 0 {
@@ -316,7 +316,7 @@ impl<D: SwapDev + Drop, T: Ledger, C: Ledger, O: Ledger, E: Ledger, B: Bond> Sup
                 }
                 (Choice::Wait, _) => {
                     let longest = Duration::from_secs(LONGEST_SLEEP);
-                    self.desk.turn_back.sleep(rt, rung, longest);
+                    self.desk.turn_back.sleep(rt, rings, longest);
                 },
                 (Choice::Rest, _) => return None,
             }

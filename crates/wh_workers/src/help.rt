@@ -67,7 +67,7 @@ fn help_until_told<K: Ledger, H: Help<K> + Drop, R: Wait + Drop>(
 {
     let mut helper = helper;
     for _ in rt.forever() {
-        let rung = job.bell().notifications();
+        let rings = job.bell().notifications();
         if helper.count() >= wanted || stop.load(Ordering::SeqCst) != 0 {
             break;
         }
@@ -75,7 +75,7 @@ fn help_until_told<K: Ledger, H: Help<K> + Drop, R: Wait + Drop>(
             Progress::Did => thread::yield_now(),
             Progress::Waits => {
                 let longest = Duration::from_secs(LONGEST_SLEEP);
-                job.bell().sleep(&rt, rung, longest);
+                job.bell().sleep(&rt, rings, longest);
             },
             Progress::Ended => break,
         }
