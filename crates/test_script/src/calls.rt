@@ -130,6 +130,8 @@ fn calls_come_to_their_ends(rt: HostRuntime) -> Result<(), Fail> {
             ("", BRANCH),
             ("", DEEP),
             ("", INDIRECT),
+            // A hash by which all pages are equal changes no line.
+            ("hash = \"constant\"\n", SEVEN),
         ],
     )
 }

@@ -12,7 +12,7 @@ use wh_settings::{Settings, Workers, read_settings};
 use wh_swap::MemSwap;
 
 /// With how many workers each script is run: one at a time, and several side by side.
-pub const NUMBERS: [u8; 2] = [1, 4];
+pub const NUMBERS: [u8; 3] = [1, 2, 8];
 
 /// Runs a script with these settings and so many workers, on a device of its own and with the modules to load.
 pub fn run<R: Read, W: Write>(

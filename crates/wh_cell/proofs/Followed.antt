@@ -4,21 +4,21 @@ use Rattle.std.specs.Prelude.{Result, Ok, Err, IfErr, OnOk}
 use Rattle.wh_host_model.specs.declared.plain.InstId.{InstId}
 use Rattle.wh_host_model.specs.declared.plain.SwapError.{SwapError}
 use Rattle.wh_host_model.specs.declared.plain.TurnEnd.{TurnEnd}
-use Rattle.wh_host_model.specs.declared.states.Slot.{Slot}
-use Rattle.wh_host_model.specs.Space.Errands.{Pass, errand_for}
+use Rattle.wh_host_model.specs.Space.Errands.{Pass}
 use Rattle.wh_host_model.specs.Space.Parts.{Space}
-use Rattle.wh_host_model.specs.Host.Worlds.{World}
-use Rattle.wh_host_model.specs.Host.Events.{turn, provide, epoch}
-use Rattle.wh_host_model.specs.Host.Happens.{AwaitsFrame, IsTurn}
+use Rattle.wh_host_model.specs.Host.Worlds.{Tenant, World}
+use Rattle.wh_host_model.specs.Host.Events.{epoch, evict_commit, fetch_commit, provide, turn}
+use Rattle.wh_host_model.specs.Host.Happens.{AwaitsFrame, AwaitsFrameFor, IsTurn}
 use Rattle.wh_host_model.specs.Host.Misreading.{by_event, by_misreading}
 use Rattle.wh_reclaim.specs.Whole.{IsAsWhole}
 use Rattle.wh_host.specs.Backing.{KeepsBacking}
 use Rattle.wh_host.specs.Hosting.{HostState, IsHost}
 use Rattle.wh_host.specs.Paging.{MovesAnyhow, MovesOnly, MovesWith, provide_fault}
-use Rattle.wh_cell.specs.Going.{fault_or_none}
+use Rattle.wh_cell.specs.Going.{IsPartOf, fault_or_none}
 use Rattle.wh_cell.specs.Leaving.{ComesFrom, FitsHost, LeftState, ServesOn, WorksOn, WorksAnyhowOn, left_as}
 use Rattle.wh_cell.proofs.Alike.{fits_on}
-use Rattle.wh_cell.proofs.Going.{anyhow_where_right, works_anyhow_by, works_anyhow_on, works_anyhow_to_itself, works_by, works_on, works_to_itself}
+use Rattle.wh_cell.proofs.Going.{anyhow_where_right, works_anyhow_by, works_anyhow_on, works_anyhow_to_itself, works_by, works_on, works_to_itself, works_within}
+use Rattle.wh_cell.proofs.Passing.{as_many}
 use Rattle.wh_cell.proofs.Requested.{misread_fits, moves_fit, pages_fit}
 
 -- ---- work
@@ -37,6 +37,25 @@ works_anyhow_by_provision h h2 id fault moves w st =
     let x = moves w st in
     let read = works_anyhow_by w x.0 by_misreading tt x.2 in
     let then = works_anyhow_by x.0 x.1 (by_event (provide id fault)) tt x.3 in
+    (x.1, works_anyhow_on w x.0 x.1 read then, x.4)
+
+-- a page that was to leave, or to come, has its ticket back
+pub works_by_eviction : (h h2 : HostState) (id : InstId) (call : ℕ) (fault : Option SwapError) (faults : List SwapError) → IsPartOf (fault_or_none fault) faults
+    → MovesWith h id (AwaitsFrameFor call) fault h2 → WorksOn h faults h2
+works_by_eviction h h2 id call fault faults part moves w st = let x = moves w st in (x.0, works_within w x.0 (evict_commit id call fault) faults tt part x.1, x.2)
+
+pub works_anyhow_by_eviction : (h h2 : HostState) (id : InstId) (call : ℕ) (fault : Option SwapError) → MovesWith h id (AwaitsFrameFor call) fault h2 → WorksAnyhowOn h h2
+works_anyhow_by_eviction h h2 id call fault moves w st = let x = moves w st in (x.0, works_anyhow_by w x.0 (by_event (evict_commit id call fault)) tt x.1, x.2)
+
+pub works_by_fetch : (h h2 : HostState) (id : InstId) (call : ℕ) (fault : Option SwapError) (faults : List SwapError) → IsPartOf (fault_or_none fault) faults
+    → MovesWith h id (AwaitsFrameFor call) fault h2 → WorksOn h faults h2
+works_by_fetch h h2 id call fault faults part moves w st = let x = moves w st in (x.0, works_within w x.0 (fetch_commit id call fault) faults tt part x.1, x.2)
+
+pub works_anyhow_by_fetch : (h h2 : HostState) (id : InstId) (call : ℕ) (fault : Option SwapError) → MovesAnyhow h id (AwaitsFrameFor call) fault h2 → WorksAnyhowOn h h2
+works_anyhow_by_fetch h h2 id call fault moves w st =
+    let x = moves w st in
+    let read = works_anyhow_by w x.0 by_misreading tt x.2 in
+    let then = works_anyhow_by x.0 x.1 (by_event (fetch_commit id call fault)) tt x.3 in
     (x.1, works_anyhow_on w x.0 x.1 read then, x.4)
 
 -- ---- the device
@@ -62,10 +81,6 @@ serves_then keeps honest faults d d2 d3 xs ys a b = record {
 }
 
 -- ---- as many frames and slots
-
-as_many : (uses : List Slot) → length (map errand_for uses) ≡ length uses
-as_many [] = refl
-as_many (x ∷ uses) = let b = as_many uses in omega (arith, b)
 
 pub whole_still : (s : Space) → IsAsWhole s s
 whole_still s = record { frames = refl; slots = refl; tax = refl }
@@ -119,10 +134,14 @@ module _ {D : Type 0} (keeps honest : D → Type 0) (faults : D → List SwapErr
   }
 
   -- the device was left alone
+  pub comes_on_alone : (left : LeftState D) (d : D) (h h2 : HostState) → ComesFrom keeps honest faults left d h → WorksOn h [] h2 → IsAsWhole h.space h2.space
+      → ComesFrom keeps honest faults left d h2
+  comes_on_alone left d h h2 c works whole =
+      comes_on_by left d d [] h h2 c (serves_still keeps honest faults d) (λ is. works) (λ w st. (let x = works w st in (x.0, anyhow_where_right w x.0 [] x.1, x.2))) whole
+
   pub comes_on_still : (left : LeftState D) (d : D) (h h2 : HostState) → ComesFrom keeps honest faults left d h → WorksOn h [] h2 → KeepsBacking h.space h2.space
       → ComesFrom keeps honest faults left d h2
-  comes_on_still left d h h2 c works backing =
-      comes_on_by left d d [] h h2 c (serves_still keeps honest faults d) (λ is. works) (λ w st. (let x = works w st in (x.0, anyhow_where_right w x.0 [] x.1, x.2))) (keeps_whole h.space h2.space backing)
+  comes_on_still left d h h2 c works backing = comes_on_alone left d h h2 c works (keeps_whole h.space h2.space backing)
 
   pub comes_on_provided : (left : LeftState D) (d d2 : D) (h h2 : HostState) (id : InstId) (result : Result ℕ SwapError) → ComesFrom keeps honest faults left d h
       → (honest d2 → honest d) → (keeps d → keeps d2) → (keeps d → honest d → honest d2)
@@ -142,7 +161,12 @@ fits_moved h h2 total some f moves =
     let x = moves some.0 some.1 in
     fits_on h h2 some.0 total total some.1 f (x.0, x.2, moves_fit some.0 x.0 total x.1)
 
-pub fits_provided : (h h2 : HostState) (total : ℕ) (id : InstId) (fault : Option SwapError) → (w : World) × IsHost h w → FitsHost h total → MovesAnyhow h id AwaitsFrame fault h2 → FitsHost h2 total
-fits_provided h h2 total id fault some f moves =
+pub fits_carried : (h h2 : HostState) (total : ℕ) (id : InstId) (awaits : Tenant → Type 0) (fault : Option SwapError) → (w : World) × IsHost h w → FitsHost h total → MovesWith h id awaits fault h2 → FitsHost h2 total
+fits_carried h h2 total id awaits fault some f moves =
     let x = moves some.0 some.1 in
-    fits_on h h2 some.0 total total some.1 f (x.1, x.4, λ b. pages_fit x.0 x.1 id AwaitsFrame fault total x.3 (misread_fits some.0 x.0 total x.2 b))
+    fits_on h h2 some.0 total total some.1 f (x.0, x.2, λ b. pages_fit some.0 x.0 id awaits fault total x.1 b)
+
+pub fits_anyhow : (h h2 : HostState) (total : ℕ) (id : InstId) (awaits : Tenant → Type 0) (fault : Option SwapError) → (w : World) × IsHost h w → FitsHost h total → MovesAnyhow h id awaits fault h2 → FitsHost h2 total
+fits_anyhow h h2 total id awaits fault some f moves =
+    let x = moves some.0 some.1 in
+    fits_on h h2 some.0 total total some.1 f (x.1, x.4, λ b. pages_fit x.0 x.1 id awaits fault total x.3 (misread_fits some.0 x.0 total x.2 b))

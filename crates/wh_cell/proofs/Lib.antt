@@ -1,10 +1,12 @@
 pub mod Alike
 pub mod Asked
+pub mod Beginning
 pub mod Begun
 pub mod Counted
 pub mod Followed
 pub mod Going
 pub mod InHand
+pub mod Passing
 pub mod Requested
 pub mod Rosters
 pub mod Shown

@@ -1,6 +1,8 @@
 -- What the code counts of a turn and of a provision.
 use Rattle.std.specs.Prelude.{◌≡◌, ℕ, ◌+◌, ◌-◌, ◌^◌, min, Option, Some, Result, Ok, Err}
 use Rattle.wh_host_model.specs.declared.plain.SwapError.{SwapError}
+use Rattle.wh_host_model.specs.declared.states.EvictEnd.{EvictEnd}
+use Rattle.wh_host_model.specs.declared.states.EvictEnd.TheVariants.{Evicted}
 use Rattle.wh_workers.specs.Counting.{HelperState}
 
 -- the charges of a turn by those of its call before and after, if it has one: fewer than 2^32
@@ -12,6 +14,11 @@ charges_between before after = 0
 abbrev pub evictions_of : Result ℕ SwapError → ℕ
 evictions_of (Ok gone) = gone
 evictions_of (Err fault) = 0
+
+-- by what an eviction came to
+abbrev pub evictions_at : EvictEnd → ℕ
+evictions_at Evicted = 1
+evictions_at other = 0
 
 -- so many are counted by a reclaimer and in the book, as far as the reclaimer can count them in 64 bits
 pub record CountsEvictions (gone : ℕ) (reclaimer : HelperState) (book : ℕ) (reclaimer2 : HelperState) (book2 : ℕ)

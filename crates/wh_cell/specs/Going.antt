@@ -1,5 +1,5 @@
 -- What befalls a host between two requests of its owner.
-use Rattle.std.specs.Prelude.{◌≡◌, List, [], ◌∷◌, ◌++◌, Option, Some, None}
+use Rattle.std.specs.Prelude.{◌≡◌, ◌⊎◌, List, [], ◌∷◌, ◌++◌, Option, Some, None, Result, Ok, Err}
 use Rattle.std.specs.List.{AllByRecursion}
 use Rattle.wh_host_model.specs.declared.plain.SwapError.{SwapError}
 use Rattle.wh_host_model.specs.Host.Worlds.{World}
@@ -38,11 +38,23 @@ abbrev pub faults_in : List Event → List SwapError
 faults_in [] = []
 faults_in (e ∷ es) = faults_in es ++ fault_in e
 
--- events lead from one host to the other that are no requests, and the device's calls failed so
+-- of one call of the device
+abbrev pub call_faults : Result Unit SwapError → List SwapError
+call_faults (Ok done) = []
+call_faults (Err fault) = fault ∷ []
+
+-- the one list is the other, but that elements may be left out
+abbrev pub IsPartOf : {X : Type 0} → List X → List X → Type 0
+IsPartOf [] ys = Unit {0}
+IsPartOf (x ∷ xs) [] = ⊥
+IsPartOf (x ∷ xs) (y ∷ ys) = ((x ≡ y) × IsPartOf xs ys) ⊎ IsPartOf (x ∷ xs) ys
+
+-- Events lead from one host to the other that are no requests, while the device's calls failed so. Each fault that is kept
+-- with a call is one of these; one of a call for which nobody waits any more is kept by none.
 pub record WorksTo (w : World) (faults : List SwapError) (w2 : World) : Type 0 where
   pub events : List Event
   pub work : AllByRecursion IsWork events
-  pub faults_are : faults_in events ≡ faults
+  pub faults_are : IsPartOf (faults_in events) faults
   pub happen : AllHappen w events w2
 
 -- such events do, and reads of the device that gave other bytes, if there were any

@@ -1,6 +1,8 @@
+pub mod Calling
 pub mod Charging
 pub mod Counted
 pub mod Going
+pub mod Knowing
 pub mod Leaving
 pub mod Locking
 pub mod Owning

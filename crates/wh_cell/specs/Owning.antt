@@ -4,14 +4,19 @@ use Rattle.wh_host_model.specs.declared.plain.SwapError.{SwapError}
 use Rattle.wh_host_model.specs.Host.Worlds.{World}
 use Rattle.wh_reclaim.specs.Together.{AreTogether}
 use Rattle.wh_host.specs.Hosting.{IsHost}
+use Rattle.wh_cell.specs.Knowing.{BackingState, known_of}
 use Rattle.wh_cell.specs.Leaving.{ComesFrom, LeftState, left_as}
 use Rattle.wh_cell.specs.Locking.{LockedState}
 
--- its owner has it in hand, and knows it as it is
-pub record IsInHand {D : Type 0} (locked : Option (LockedState D)) (owner : LeftState D) : Type 0 where
+-- its owner has both in hand, and knows them as they are; they agree with each other
+pub record IsInHand {D : Type 0} (locked : Option (LockedState D)) (backing : Option (BackingState D))
+    (owner : LeftState D) : Type 0 where
   pub inside : LockedState D
   pub has : locked ≡ Some inside
-  pub knows : owner ≡ left_as inside.host inside.device
+  pub behind : BackingState D
+  pub has_behind : backing ≡ Some behind
+  pub agree : inside.known ≡ known_of behind
+  pub knows : owner ≡ left_as inside.host behind.device
 
 -- the host and the device came by work from those before
 pub record ComesOn {D : Type 0} (keeps honest : D → Type 0) (faults : D → List SwapError) (left now : LeftState D)

@@ -1,6 +1,6 @@
 //! The cell: a host under a lock that threads share.
 
-ghost use Rattle.std.specs.Prelude.{◌≡◌, ◌<◌, IfOk};
+ghost use Rattle.std.specs.Prelude.{◌≡◌, ◌<◌, ◌≤◌, IfOk};
 ghost use Rattle.std.specs.Sync.Mutex.{mutex_guard_value};
 ghost use Rattle.wh_host_model.specs.Host.Worlds.{World};
 ghost use Rattle.wh_reclaim.specs.Together.{AreTogether};
@@ -10,21 +10,34 @@ ghost use Rattle.wh_workers.specs.Counting.{IsZero};
 ghost use Rattle.wh_cell.specs.Leaving.{HasNoCharge, left_as};
 ghost use Rattle.wh_cell.specs.Locking.{IsInStep};
 
-use crate::locked::Locked;
+use crate::backing::Backing;
+use crate::keeper::DeviceMatter;
+use crate::locked::{Locked, Parts};
+use crate::moving::Moved;
 use crate::owner::{HostMatter, Owner};
+use crate::ties::Ties;
 use std::alloc::{AllocError, Global};
 use std::sync::ledger::{Blank, Ledger};
 use std::sync::{Arc, Mutex, MutexGuard, Wait};
 use std::thread;
 use wh_host::{Host, HostError, Roll};
+use wh_host_model::InstId;
 use wh_reclaim::Buf;
 use wh_swap::SwapDev;
-use wh_workers::{BlankPact, Bond, Shares};
+use wh_workers::{BlankPact, Helper, Shares};
 
-/// A host under a lock, with its swap device and the books of what threads count. Each thread has a handle of its own.
+// What the handles of a cell share. Whoever takes both locks takes the device's first.
 #[derive(Drop)]
-pub struct HostCell<D: SwapDev, T: Ledger, C: Ledger, O: Ledger, E: Ledger, B: Bond> {
-    locked: Arc<Mutex<Locked<D, T, C, O, E, B>>, Global>,
+struct Both<D: SwapDev, T: Ledger, C: Ledger, O: Ledger, E: Ledger, B: Ties> {
+    locked: Mutex<Locked<D, T, C, O, E, B>>,
+    backing: Mutex<Backing<D, B>>,
+}
+
+/// A host under a lock, with the books of what threads count, and its swap device under another. Each thread has a handle of
+/// its own.
+#[derive(Drop)]
+pub struct HostCell<D: SwapDev, T: Ledger, C: Ledger, O: Ledger, E: Ledger, B: Ties> {
+    both: Arc<Both<D, T, C, O, E, B>, Global>,
 }
 
 /// What a host needs beside itself to lie under a lock: its device, a buffer for pages that come, and what is to name its
@@ -36,7 +49,9 @@ pub struct Fittings<D> {
     /// A buffer for a page.
     pub buf: Buf,
     /// The pact between the lock and the host's owner.
-    pub pact: BlankPact<HostMatter<D>>,
+    pub to_owner: BlankPact<HostMatter<D>>,
+    /// The pact between the locks of the host and of its device.
+    pub to_device: BlankPact<DeviceMatter<D>>,
     /// The ledger of turns.
     pub turns: Blank,
     /// The ledger of charges.
@@ -60,7 +75,8 @@ impl<D: Drop> Fittings<D> {
         Ok(Fittings {
             device,
             buf: Box::new(alloc, [0; 4096])?,
-            pact: BlankPact::new(alloc)?,
+            to_owner: BlankPact::new(alloc)?,
+            to_device: BlankPact::new(alloc)?,
             turns: Blank::new(65),
             charges: Blank::new(65),
             offers: Blank::new(2),
@@ -69,7 +85,7 @@ impl<D: Drop> Fittings<D> {
     }
 }
 
-impl<D: SwapDev + Drop, T: Ledger, C: Ledger, O: Ledger, E: Ledger, B: Bond> HostCell<
+impl<D: SwapDev + Drop, T: Ledger, C: Ledger, O: Ledger, E: Ledger, B: Ties> HostCell<
     D,
     T,
     C,
@@ -89,7 +105,8 @@ impl<D: SwapDev + Drop, T: Ledger, C: Ledger, O: Ledger, E: Ledger, B: Bond> Hos
     ) -> Result<(HostCell<D, T, C, O, E, B>, Owner<D, B>, Shares<T, C, O, E>), AllocError>
         requires uncharged { HasNoCharge host }
         requires together { AreTogether host.space (D.held fittings.device) }
-        requires pact { fittings.pact ≡ B.table }
+        requires owned { fittings.to_owner ≡ B.to_owner }
+        requires backed { fittings.to_device ≡ B.to_device }
         requires turns { (fittings.turns.name ≡ T.name) × (fittings.turns.parts ≡ T.parts)
             × (64 < T.parts) }
         requires charges { (fittings.charges.name ≡ C.name) × (fittings.charges.parts ≡ C.parts)
@@ -101,42 +118,52 @@ impl<D: SwapDev + Drop, T: Ledger, C: Ledger, O: Ledger, E: Ledger, B: Bond> Hos
         ensures owner { IfOk result (λ r. r.1 ≡ left_as host fittings.device) }
         ensures shares { IfOk result (λ r. IsZero r.2) }
     {
-        let (locked, owner, shares) = Locked::new(alloc, host, fittings)?;
-        let Ok(cell) = HostCell::around(alloc, locked) else {
+        let Parts {
+            locked,
+            backing,
+            owner,
+            shares,
+        } = Locked::new(alloc, host, fittings)?;
+        let Ok(cell) = HostCell::around(alloc, locked, backing) else {
             return Err(AllocError);
         };
         Ok((cell, owner, shares))
     }
 
-    /// Puts what was in one hand under a lock.
+    /// Puts what was in one hand under the locks of a cell.
     ///
     /// # Errors
-    /// Where room was refused: then it is handed back. As with whatever has lain under a lock, its owner learns by `meet` what
-    /// has become of it.
+    /// Where room was refused: then it is handed back. As with whatever has lain under a lock, whoever has both learns by `face`
+    /// that they agree, and its owner learns by `meet` what has become of it.
     pub fn around(
         alloc: Global,
         locked: Locked<D, T, C, O, E, B>,
-    ) -> Result<HostCell<D, T, C, O, E, B>, Locked<D, T, C, O, E, B>> {
-        match Arc::new(alloc, Mutex::new(locked)) {
-            Ok(locked) => Ok(HostCell { locked }),
-            Err(failed) => Err(failed.value.into_inner()),
+        backing: Backing<D, B>,
+    ) -> Result<HostCell<D, T, C, O, E, B>, (Locked<D, T, C, O, E, B>, Backing<D, B>)> {
+        let both = Both {
+            locked: Mutex::new(locked),
+            backing: Mutex::new(backing),
+        };
+        match Arc::new(alloc, both) {
+            Ok(both) => Ok(HostCell { both }),
+            Err(failed) => {
+                let Both { locked, backing } = failed.value;
+                Err((locked.into_inner(), backing.into_inner()))
+            }
         }
     }
 
-    /// What lies under the lock, once this is the only handle: it waits for that.
-    pub fn into_locked<R: Wait>(self, rt: &R) -> Locked<D, T, C, O, E, B>
-        ensures { IsInStep D.held D.keeps D.honest D.faults result }
-    {
-        let HostCell { mut locked } = self;
+    /// What lies under the locks, once this is the only handle: it waits for that.
+    pub fn into_parts<R: Wait>(self, rt: &R) -> (Locked<D, T, C, O, E, B>, Backing<D, B>) {
+        let HostCell { mut both } = self;
         for _ in rt.forever() {
-            match Arc::try_unwrap(locked) {
+            match Arc::try_unwrap(both) {
                 Ok(last) => {
-                    let inside = last.into_inner();
-                    inside.known();
-                    return inside;
+                    let Both { locked, backing } = last;
+                    return (locked.into_inner(), backing.into_inner());
                 }
                 Err(shared) => {
-                    locked = shared;
+                    both = shared;
                     thread::yield_now();
                 }
             }
@@ -145,25 +172,51 @@ impl<D: SwapDev + Drop, T: Ledger, C: Ledger, O: Ledger, E: Ledger, B: Bond> Hos
     }
 }
 
-impl<D: SwapDev, T: Ledger, C: Ledger, O: Ledger, E: Ledger, B: Bond> HostCell<D, T, C, O, E, B> {
+impl<D: SwapDev, T: Ledger, C: Ledger, O: Ledger, E: Ledger, B: Ties> HostCell<D, T, C, O, E, B> {
     /// A further handle of the same cell, for another thread.
     ///
     /// # Errors
     /// Where there are as many handles as can be counted.
     pub fn share(&self) -> Result<HostCell<D, T, C, O, E, B>, AllocError> {
-        let locked = Arc::try_clone(&self.locked)?;
-        Ok(HostCell { locked })
+        let both = Arc::try_clone(&self.both)?;
+        Ok(HostCell { both })
     }
 
     /// Waits for the lock. Whoever gets it finds a host to which events lead, and reads of a swap device that gave other bytes,
-    /// if there were any; books whose charges fit its journals; a device that agrees with its slots; and that it came by
-    /// work from the one that its owner left.
+    /// if there were any; books whose charges fit its journals; that it agrees with its device as that was when its last call
+    /// was settled; and that it came by work from the one that its owner left.
     pub fn lock<R: Wait>(&self, rt: &R) -> MutexGuard<'_, Locked<D, T, C, O, E, B>>
         ensures { IsInStep D.held D.keeps D.honest D.faults (mutex_guard_value result) }
     {
-        let guard = self.locked.lock(rt);
+        let guard = self.both.locked.lock(rt);
         guard.known();
         guard
+    }
+
+    /// Brings the next step of an instance nearer that waits for a frame: a page comes from the device or leaves for it, and
+    /// while the device is called for that the host's lock is free. Where none has to, or where it is to be done at once, the step
+    /// is made ready under both locks. The reclaimer counts the pages that left.
+    pub fn bring_nearer<R: Wait>(
+        &self,
+        rt: &R,
+        id: InstId,
+        at_once: bool,
+        reclaimer: &mut Helper<E>,
+    ) -> Moved
+        ensures from { reclaimer.new.from ≡ reclaimer.old.from }
+        ensures grown { reclaimer.old.count ≤ reclaimer.new.count }
+    {
+        let mut backing = self.both.backing.lock(rt);
+        if !at_once {
+            if let Some(moved) = backing.move_for(rt, &self.both.locked, id, reclaimer) {
+                return moved;
+            }
+        }
+        let mut locked = self.both.locked.lock(rt);
+        match locked.provide(&mut backing, id, reclaimer) {
+            Ok(_) => Moved::Ready,
+            Err(_) => Moved::Failed,
+        }
     }
 
     /// The roll of the host: what is there at one moment.
@@ -173,7 +226,7 @@ impl<D: SwapDev, T: Ledger, C: Ledger, O: Ledger, E: Ledger, B: Bond> HostCell<D
     pub fn roll<R: Wait>(&self, rt: &R, alloc: Global) -> Result<Roll, HostError>
         ensures { IfOk result (λ roll. (h : HostState) × ((w : World) × IsHost h w) × IsRollOf h roll) }
     {
-        let guard = self.locked.lock(rt);
+        let guard = self.both.locked.lock(rt);
         guard.roll(alloc)
     }
 }

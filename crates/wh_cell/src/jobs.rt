@@ -3,7 +3,9 @@
 ghost use Rattle.std.specs.Prelude.{◌≡◌, ◌+◌, ◌-◌, ◌^◌, ◌<◌};
 
 use crate::cell::HostCell;
-use crate::roster::{Choice, Roster};
+use crate::moving::Moved;
+use crate::roster::{Choice, Roster, Waiter};
+use crate::ties::Ties;
 use std::alloc::{AllocError, Global};
 use std::sync::ledger::Ledger;
 use std::sync::{Arc, Condvar, Mutex, Wait};
@@ -12,7 +14,7 @@ use wh_host::Sample;
 use wh_host_model::{InstId, TurnEnd};
 use wh_kernels::PageHash;
 use wh_swap::SwapDev;
-use wh_workers::{Bond, Help, Helper, Progress, Supply, Turns, Worker};
+use wh_workers::{Help, Helper, Progress, Supply, Turns, Worker};
 
 // For how many turns that are handed out the scanner offers a page: more often than it has to.
 const TURNS_FOR_AN_OFFER: u64 = 16;
@@ -71,7 +73,7 @@ impl Desk {
 
 /// What a worker does with a turn: it takes the lock for it, and says that the turn is back.
 #[derive(Drop)]
-pub struct TurnJob<D: SwapDev, T: Ledger, C: Ledger, O: Ledger, E: Ledger, B: Bond> {
+pub struct TurnJob<D: SwapDev, T: Ledger, C: Ledger, O: Ledger, E: Ledger, B: Ties> {
     /// The cell.
     pub cell: HostCell<D, T, C, O, E, B>,
     /// Who has turns out.
@@ -80,7 +82,7 @@ pub struct TurnJob<D: SwapDev, T: Ledger, C: Ledger, O: Ledger, E: Ledger, B: Bo
     pub quantum: u32,
 }
 
-impl<D: SwapDev + Drop, T: Ledger, C: Ledger, O: Ledger, E: Ledger, B: Bond> TurnJob<
+impl<D: SwapDev + Drop, T: Ledger, C: Ledger, O: Ledger, E: Ledger, B: Ties> TurnJob<
     D,
     T,
     C,
@@ -99,7 +101,7 @@ impl<D: SwapDev + Drop, T: Ledger, C: Ledger, O: Ledger, E: Ledger, B: Bond> Tur
     }
 }
 
-impl<D: SwapDev + Drop, T: Ledger, C: Ledger, O: Ledger, E: Ledger, B: Bond> Turns<T, C>
+impl<D: SwapDev + Drop, T: Ledger, C: Ledger, O: Ledger, E: Ledger, B: Ties> Turns<T, C>
     for TurnJob<D, T, C, O, E, B> {
     fn run<R: Wait>(&self, rt: &R, instance: InstId, worker: &mut Worker<T, C>) {
         let end = self.take_turn(rt, instance, worker);
@@ -120,7 +122,7 @@ impl<D: SwapDev + Drop, T: Ledger, C: Ledger, O: Ledger, E: Ledger, B: Bond> Tur
 /// What a scanner does: for each 16 turns that were handed out it looks at a page under the lock, hashes it without, and
 /// offers it under the lock.
 #[derive(Drop)]
-pub struct ScanJob<D: SwapDev, T: Ledger, C: Ledger, O: Ledger, E: Ledger, B: Bond, H> {
+pub struct ScanJob<D: SwapDev, T: Ledger, C: Ledger, O: Ledger, E: Ledger, B: Ties, H> {
     /// The cell.
     pub cell: HostCell<D, T, C, O, E, B>,
     /// How many turns were handed out.
@@ -140,7 +142,7 @@ fn page_in_round(round: u64, size: u32) -> u32 {
     (round % pages) as u32
 }
 
-impl<D: SwapDev + Drop, T: Ledger, C: Ledger, O: Ledger, E: Ledger, B: Bond, H: PageHash> ScanJob<
+impl<D: SwapDev + Drop, T: Ledger, C: Ledger, O: Ledger, E: Ledger, B: Ties, H: PageHash> ScanJob<
     D,
     T,
     C,
@@ -184,7 +186,7 @@ impl<
     C: Ledger,
     O: Ledger,
     E: Ledger,
-    B: Bond,
+    B: Ties,
     H: PageHash + Copy,
 > Help<O> for ScanJob<D, T, C, O, E, B, H> {
     fn help<R: Wait>(&self, rt: &R, helper: &mut Helper<O>) -> Progress {
@@ -218,17 +220,17 @@ impl<
     }
 }
 
-/// What a reclaimer does: it makes the step of an instance ready that waits for a frame, and then waits until that has had
-/// its turn.
+/// What a reclaimer does: page by page it makes the step of an instance ready that waits for a frame, and then waits until
+/// that has had its turn. While the device is called turns go on.
 #[derive(Drop)]
-pub struct ReclaimJob<D: SwapDev, T: Ledger, C: Ledger, O: Ledger, E: Ledger, B: Bond> {
+pub struct ReclaimJob<D: SwapDev, T: Ledger, C: Ledger, O: Ledger, E: Ledger, B: Ties> {
     /// The cell.
     pub cell: HostCell<D, T, C, O, E, B>,
     /// Who has turns out, and whose step is ready.
     pub desk: Arc<Desk, Global>,
 }
 
-impl<D: SwapDev + Drop, T: Ledger, C: Ledger, O: Ledger, E: Ledger, B: Bond> ReclaimJob<
+impl<D: SwapDev + Drop, T: Ledger, C: Ledger, O: Ledger, E: Ledger, B: Ties> ReclaimJob<
     D,
     T,
     C,
@@ -236,29 +238,32 @@ impl<D: SwapDev + Drop, T: Ledger, C: Ledger, O: Ledger, E: Ledger, B: Bond> Rec
     E,
     B,
 > {
-    // Makes the step of an instance ready that waits, if one does.
-    fn make_ready<R: Wait>(&self, rt: &R, helper: &mut Helper<E>) -> bool
-        ensures { helper.new.from ≡ helper.old.from }
-    {
-        let mut locked = self.cell.lock(rt);
+    // Whose step is made ready now, if one waits.
+    fn next_waiter<R: Wait>(&self, rt: &R) -> Option<Waiter> {
+        let locked = self.cell.lock(rt);
         let mut roster = self.desk.roster.lock(rt);
-        let Some(id) = roster.who_waits(locked.host()) else {
-            return false;
-        };
-        if locked.provide(id, helper).is_ok() {
-            roster.ready = Some(id);
-        }
-        true
+        roster.next_waiter(locked.host())
+    }
+
+    // Notes what came of a move. Whether the instance that waited may go on now, or not at all.
+    fn note<R: Wait>(&self, rt: &R, id: InstId, moved: Moved) -> bool {
+        let mut roster = self.desk.roster.lock(rt);
+        roster.note(id, moved)
     }
 }
 
-impl<D: SwapDev + Drop, T: Ledger, C: Ledger, O: Ledger, E: Ledger, B: Bond> Help<E>
+impl<D: SwapDev + Drop, T: Ledger, C: Ledger, O: Ledger, E: Ledger, B: Ties> Help<E>
     for ReclaimJob<D, T, C, O, E, B> {
     fn help<R: Wait>(&self, rt: &R, helper: &mut Helper<E>) -> Progress {
-        if !self.make_ready(rt, helper) {
+        let Some(waiter) = self.next_waiter(rt) else {
             return Progress::Waits;
+        };
+        let moved = self
+            .cell
+            .bring_nearer(rt, waiter.id, waiter.at_once, helper);
+        if self.note(rt, waiter.id, moved) {
+            self.desk.turn_back.notify_all();
         }
-        self.desk.turn_back.notify_all();
         Progress::Did
     }
 
@@ -275,14 +280,14 @@ impl<D: SwapDev + Drop, T: Ledger, C: Ledger, O: Ledger, E: Ledger, B: Bond> Hel
 
 /// Who hands out turns: of whoever can go on and has none out, until none can.
 #[derive(Drop)]
-pub struct TurnSupply<D: SwapDev, T: Ledger, C: Ledger, O: Ledger, E: Ledger, B: Bond> {
+pub struct TurnSupply<D: SwapDev, T: Ledger, C: Ledger, O: Ledger, E: Ledger, B: Ties> {
     /// The cell.
     pub cell: HostCell<D, T, C, O, E, B>,
     /// Who has turns out.
     pub desk: Arc<Desk, Global>,
 }
 
-impl<D: SwapDev + Drop, T: Ledger, C: Ledger, O: Ledger, E: Ledger, B: Bond> TurnSupply<
+impl<D: SwapDev + Drop, T: Ledger, C: Ledger, O: Ledger, E: Ledger, B: Ties> TurnSupply<
     D,
     T,
     C,
@@ -302,7 +307,7 @@ impl<D: SwapDev + Drop, T: Ledger, C: Ledger, O: Ledger, E: Ledger, B: Bond> Tur
     }
 }
 
-impl<D: SwapDev + Drop, T: Ledger, C: Ledger, O: Ledger, E: Ledger, B: Bond> Supply
+impl<D: SwapDev + Drop, T: Ledger, C: Ledger, O: Ledger, E: Ledger, B: Ties> Supply
     for TurnSupply<D, T, C, O, E, B> {
     fn next<R: Wait>(&mut self, rt: &R) -> Option<InstId> {
         for _ in rt.forever() {

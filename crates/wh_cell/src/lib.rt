@@ -1,9 +1,14 @@
 //! A host under a lock that threads share: what they count beside it, and what its owner knows of it.
 #![tactic(auto)]
 
+mod backing;
 mod cell;
 mod jobs;
+mod keeper;
 mod locked;
+mod moving;
+#[cfg(test)]
+mod overlap_tests;
 mod owned;
 mod owner;
 mod requests;
@@ -13,11 +18,16 @@ mod showing;
 mod taken;
 #[cfg(test)]
 mod tests;
+mod ties;
 
+pub use backing::Backing;
 pub use cell::{Fittings, HostCell};
 pub use jobs::{Desk, ReclaimJob, ScanJob, TurnJob, TurnSupply};
-pub use locked::Locked;
+pub use keeper::{DeviceMatter, Keeper};
+pub use locked::{Locked, Parts};
+pub use moving::Moved;
 pub use owned::OwnedHost;
 pub use owner::{HostMatter, Owner};
 pub use roster::{Choice, Roster, Seat};
 pub use serving::{Manner, run_calls};
+pub use ties::{Ties, ToDevice, ToOwner};

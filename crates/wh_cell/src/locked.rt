@@ -16,12 +16,17 @@ ghost use Rattle.wh_host.specs.Showing.{StandsByEvents};
 ghost use Rattle.wh_reclaim.specs.Together.{AreTogether};
 ghost use Rattle.wh_workers.specs.Counting.{IsZero, RanTurn, turns_of, charges_of};
 ghost use Rattle.wh_cell.specs.Counted.{CountsEvictions, evictions_of};
-ghost use Rattle.wh_cell.specs.Leaving.{ComesFrom, HasNoCharge, HasTakenOn, left_as};
-ghost use Rattle.wh_cell.specs.Locking.{IsInStep};
+ghost use Rattle.wh_cell.specs.Knowing.{known_of};
+ghost use Rattle.wh_cell.specs.Leaving.{HasNoCharge, HasTakenOn, left_as};
+ghost use Rattle.wh_cell.specs.Locking.{IsInStep, now_of};
+ghost use Rattle.wh_cell.specs.Owning.{ComesOn};
 
+use crate::backing::Backing;
 use crate::cell::Fittings;
+use crate::keeper::{Begins, Keeper, Known};
 use crate::owner::{HostMatter, LeavesAs, Owner};
 use crate::taken::counted_turn;
+use crate::ties::{Ties, ToDevice, ToOwner};
 use std::alloc::{AllocError, Global};
 use std::marker::Model;
 use std::snapshot::Snapshot;
@@ -29,12 +34,11 @@ use std::sync::ledger::Ledger;
 use wh_host::Host;
 use wh_host_model::{InstId, Offer, SwapError, TurnEnd};
 use wh_kernels::PageHash;
-use wh_reclaim::Buf;
 use wh_swap::SwapDev;
-use wh_workers::{Bond, Books, Half, Helper, Shares, Worker};
+use wh_workers::{Books, Half, Helper, Shares, Worker};
 
 // So many pages left, by what a provision has answered.
-fn count_evictions<T: Ledger, C: Ledger, O: Ledger, E: Ledger>(
+pub fn count_evictions<T: Ledger, C: Ledger, O: Ledger, E: Ledger>(
     books: &mut Books<T, C, O, E>,
     reclaimer: &mut Helper<E>,
     provided: Result<u64, SwapError>,
@@ -50,20 +54,34 @@ fn count_evictions<T: Ledger, C: Ledger, O: Ledger, E: Ledger>(
     books.evict(reclaimer, gone.min(room));
 }
 
-/// What the lock lends: a host and its swap device, the books of what threads count, and how the host's owner left it.
-///
-/// Its type keeps that events lead to the host; that the charges in the books fit the journals; that device and slots agree,
-/// and no ticket is out; and that the host came by work alone from the one that its owner left: turns, offers, provisions.
+/// What a cell is put together from.
 #[derive(Drop)]
-pub struct Locked<D: SwapDev, T: Ledger, C: Ledger, O: Ledger, E: Ledger, B: Bond> {
-    pub(crate) host: Host,
-    pub(crate) device: D,
-    pub(crate) buf: Buf,
-    pub(crate) books: Books<T, C, O, E>,
-    pub(crate) left: Half<B, HostMatter<D>>,
+pub struct Parts<D: SwapDev, T: Ledger, C: Ledger, O: Ledger, E: Ledger, B: Ties> {
+    /// What is to lie under the host's lock.
+    pub locked: Locked<D, T, C, O, E, B>,
+    /// What is to lie under the device's.
+    pub backing: Backing<D, B>,
+    /// The right to ask.
+    pub owner: Owner<D, B>,
+    /// The counts of all threads.
+    pub shares: Shares<T, C, O, E>,
 }
 
-impl<D: SwapDev, T: Ledger, C: Ledger, O: Ledger, E: Ledger, B: Bond> Model
+/// What the lock lends: a host, what it knows of its swap device, the books of what threads count, and how the host's owner
+/// left it.
+///
+/// Its type keeps that events lead to the host; that the charges in the books fit the journals; that it agrees with its device
+/// on what each slot holds and which tickets are out, as that was when its last call was settled; and that the host came by
+/// work alone from the one that its owner left: turns, offers, pages that move.
+#[derive(Drop)]
+pub struct Locked<D: SwapDev, T: Ledger, C: Ledger, O: Ledger, E: Ledger, B: Ties> {
+    pub(crate) host: Host,
+    pub(crate) books: Books<T, C, O, E>,
+    pub(crate) known: Known<D, B>,
+    pub(crate) left: Half<ToOwner<B>, HostMatter<D>>,
+}
+
+impl<D: SwapDev, T: Ledger, C: Ledger, O: Ledger, E: Ledger, B: Ties> Model
     for Locked<D, T, C, O, E, B> {
     ghost use Rattle.wh_cell.specs.Locking.{IsInStep, LockedState};
 
@@ -75,7 +93,7 @@ impl<D: SwapDev, T: Ledger, C: Ledger, O: Ledger, E: Ledger, B: Bond> Model
 
     ghost view = { λ l. record {
       host = l.host;
-      device = l.device;
+      known = l.known;
       books = record {
         turns = l.books.turns;
         charges = l.books.charges;
@@ -87,7 +105,7 @@ impl<D: SwapDev, T: Ledger, C: Ledger, O: Ledger, E: Ledger, B: Bond> Model
 
     ghost invariant = { λ l. IsInStep D.held D.keeps D.honest D.faults (record {
       host = l.host;
-      device = l.device;
+      known = l.known;
       books = record {
         turns = l.books.turns;
         charges = l.books.charges;
@@ -98,7 +116,7 @@ impl<D: SwapDev, T: Ledger, C: Ledger, O: Ledger, E: Ledger, B: Bond> Model
     }) };
 }
 
-impl<D: SwapDev + Drop, T: Ledger, C: Ledger, O: Ledger, E: Ledger, B: Bond> Locked<
+impl<D: SwapDev + Drop, T: Ledger, C: Ledger, O: Ledger, E: Ledger, B: Ties> Locked<
     D,
     T,
     C,
@@ -106,8 +124,8 @@ impl<D: SwapDev + Drop, T: Ledger, C: Ledger, O: Ledger, E: Ledger, B: Bond> Loc
     E,
     B,
 > {
-    /// What is to lie under a lock: a host, none of whose calls took a charge yet, with what it needs; its owner's right; and
-    /// shares that are all zero. All memory for the counts is taken here.
+    /// What is to lie under the locks of a cell: a host, none of whose calls took a charge yet, and its device; its owner's
+    /// right; and shares that are all zero. All memory for the counts is taken here.
     ///
     /// # Errors
     /// Where room was refused.
@@ -115,10 +133,11 @@ impl<D: SwapDev + Drop, T: Ledger, C: Ledger, O: Ledger, E: Ledger, B: Bond> Loc
         alloc: Global,
         host: Host,
         fittings: Fittings<D>,
-    ) -> Result<(Locked<D, T, C, O, E, B>, Owner<D, B>, Shares<T, C, O, E>), AllocError>
+    ) -> Result<Parts<D, T, C, O, E, B>, AllocError>
         requires uncharged { HasNoCharge host }
         requires together { AreTogether host.space (D.held fittings.device) }
-        requires pact { fittings.pact ≡ B.table }
+        requires owned { fittings.to_owner ≡ B.to_owner }
+        requires backed { fittings.to_device ≡ B.to_device }
         requires turns { (fittings.turns.name ≡ T.name) × (fittings.turns.parts ≡ T.parts)
             × (64 < T.parts) }
         requires charges { (fittings.charges.name ≡ C.name) × (fittings.charges.parts ≡ C.parts)
@@ -127,44 +146,61 @@ impl<D: SwapDev + Drop, T: Ledger, C: Ledger, O: Ledger, E: Ledger, B: Bond> Loc
             × (1 < O.parts) }
         requires evictions { (fittings.evictions.name ≡ E.name)
             × (fittings.evictions.parts ≡ E.parts) × (1 < E.parts) }
-        ensures host { IfOk result (λ r. r.0.host ≡ host) }
-        ensures device { IfOk result (λ r. r.0.device ≡ fittings.device) }
-        ensures owner { IfOk result (λ r. r.1 ≡ left_as host fittings.device) }
-        ensures shares { IfOk result (λ r. IsZero r.2) }
+        ensures host { IfOk result (λ parts. parts.locked.host ≡ host) }
+        ensures device { IfOk result (λ parts. parts.backing.device ≡ fittings.device) }
+        ensures agree { IfOk result (λ parts. parts.locked.known ≡ known_of parts.backing) }
+        ensures owner { IfOk result (λ parts. parts.owner ≡ left_as host fittings.device) }
+        ensures shares { IfOk result (λ parts. IsZero parts.shares) }
     {
         let Fittings {
             device,
             buf,
-            pact,
+            to_owner,
+            to_device,
             turns,
             charges,
             offers,
             evictions,
         } = fittings;
         let (books, shares) = Books::open(alloc, turns, charges, offers, evictions)?;
-        let by = LeavesAs {
+        let begins = Begins {
             host: Snapshot::of(&host),
             device: Snapshot::of(&device),
         };
-        let (pact, mine, left) = pact.open::<B, LeavesAs<D>>(&by);
+        let (pact, keeps, known) = to_device.open::<ToDevice<B>, Begins<D>>(&begins);
+        let keeper = Keeper::with(pact, keeps);
+        let leaves = LeavesAs {
+            host: Snapshot::of(&host),
+            known: Snapshot::of(&known),
+        };
+        let (pact, mine, left) = to_owner.open::<ToOwner<B>, LeavesAs<D, B>>(&leaves);
         let locked = Locked {
             host,
-            device,
-            buf,
             books,
+            known,
             left,
         };
-        Ok((locked, Owner::with(pact, mine), shares))
+        let backing = Backing {
+            device,
+            buf: Some(buf),
+            keeper,
+        };
+        Ok(Parts {
+            locked,
+            backing,
+            owner: Owner::with(pact, mine),
+            shares,
+        })
     }
 }
 
-impl<D: SwapDev, T: Ledger, C: Ledger, O: Ledger, E: Ledger, B: Bond> Locked<D, T, C, O, E, B> {
+impl<D: SwapDev, T: Ledger, C: Ledger, O: Ledger, E: Ledger, B: Ties> Locked<D, T, C, O, E, B> {
     /// What always holds of what the lock lends.
     #[inline(always)]
     pub fn known(&self)
         ensures { IsInStep D.held D.keeps D.honest D.faults self.now }
     {
-        let _ = &self.buf;
+        let _ = &self.host;
     }
 
     /// The host, to look at.
@@ -197,7 +233,7 @@ impl<D: SwapDev, T: Ledger, C: Ledger, O: Ledger, E: Ledger, B: Bond> Locked<D, 
               charges = self.old.books.charges + taken;
             }) }
         ensures backing { KeepsBacking self.old.host.space self.new.host.space }
-        ensures device { self.new.device ≡ self.old.device }
+        ensures known { self.new.known ≡ self.old.known }
         ensures left { self.new.left ≡ self.old.left }
     {
         let (end, taken) = counted_turn(&mut self.host, id, quantum);
@@ -229,7 +265,7 @@ impl<D: SwapDev, T: Ledger, C: Ledger, O: Ledger, E: Ledger, B: Bond> Locked<D, 
             × (self.new.host ≡ self.old.host) × (self.new.books ≡ self.old.books)
             × (scanner.new ≡ scanner.old)) }
         ensures backing { KeepsBacking self.old.host.space self.new.host.space }
-        ensures device { self.new.device ≡ self.old.device }
+        ensures known { self.new.known ≡ self.old.known }
         ensures left { self.new.left ≡ self.old.left }
     {
         let offered = self.host.offer(hasher, id, page, hash);
@@ -245,7 +281,7 @@ impl<D: SwapDev, T: Ledger, C: Ledger, O: Ledger, E: Ledger, B: Bond> Locked<D, 
         ensures clears { Epochs self.old.host.space self.new.host.space }
         ensures backing { KeepsBacking self.old.host.space self.new.host.space }
         ensures books { self.new.books ≡ self.old.books }
-        ensures device { self.new.device ≡ self.old.device }
+        ensures known { self.new.known ≡ self.old.known }
         ensures left { self.new.left ≡ self.old.left }
     {
         self.host.epoch();
@@ -257,94 +293,100 @@ impl<D: SwapDev, T: Ledger, C: Ledger, O: Ledger, E: Ledger, B: Bond> Locked<D, 
         ensures moves { MovesOnly self.old.host self.new.host }
         ensures backing { KeepsBacking self.old.host.space self.new.host.space }
         ensures books { self.new.books ≡ self.old.books }
-        ensures device { self.new.device ≡ self.old.device }
+        ensures known { self.new.known ≡ self.old.known }
         ensures left { self.new.left ≡ self.old.left }
     {
         let _ = self.host.scan(hasher);
     }
 
     /// Makes the next step of an instance ready where its present call stands for a frame, with calls of the swap device: how
-    /// many pages left for it. The reclaimer counts these, and so do the books, as far as they can be counted in 64 bits.
+    /// many pages left for it. Whoever calls it has both locks. The reclaimer counts these pages, and so do the books, as far
+    /// as they can be counted in 64 bits.
     ///
     /// # Errors
     /// That of the device's call that failed, which is kept with the present call. Nothing is counted then.
-    pub fn provide(&mut self, id: InstId, reclaimer: &mut Helper<E>) -> Result<u64, SwapError>
-        ensures honest { D.honest self.new.device → D.honest self.old.device }
-        ensures keeps { D.keeps self.old.device → D.keeps self.new.device }
-        ensures kept { D.keeps self.old.device → D.honest self.old.device
-            → D.honest self.new.device }
-        ensures moves { D.honest self.new.device
+    pub fn provide(
+        &mut self,
+        backing: &mut Backing<D, B>,
+        id: InstId,
+        reclaimer: &mut Helper<E>,
+    ) -> Result<u64, SwapError>
+        ensures agreed { self.old.known ≡ known_of backing.old }
+        ensures honest { D.honest backing.new.device → D.honest backing.old.device }
+        ensures keeps { D.keeps backing.old.device → D.keeps backing.new.device }
+        ensures kept { D.keeps backing.old.device → D.honest backing.old.device
+            → D.honest backing.new.device }
+        ensures moves { D.honest backing.new.device
             → MovesWith self.old.host id AwaitsFrame (provide_fault result) self.new.host }
         ensures anyhow { MovesAnyhow self.old.host id AwaitsFrame (provide_fault result)
             self.new.host }
         ensures idle { ((need : Need) → ¬ WaitsFor self.old.host id need)
-            → (self.new.host ≡ self.old.host) × (self.new.device ≡ self.old.device)
+            → (self.new.host ≡ self.old.host) × (backing.new.device ≡ backing.old.device)
             × (result ≡ Ok 0) }
         ensures provides { (need : Need) → WaitsFor self.old.host id need
-            → D.honest self.new.device → IfOk result (λ gone.
+            → D.honest backing.new.device → IfOk result (λ gone.
             ProvidesTruly self.old.host.space id.place need gone self.new.host.space) }
         ensures right { (need : Need) → WaitsFor self.old.host id need → IfOk result (λ gone.
             IsProvided self.old.host.space id.place need gone self.new.host.space) }
         ensures fails { (need : Need) → WaitsFor self.old.host id need
-            → D.honest self.new.device → OnErr result
+            → D.honest backing.new.device → OnErr result
             (FailsTruly self.old.host.space id.place need self.new.host.space) }
         ensures others { OthersKeepMinimum self.old.host.space id.place self.new.host.space }
         ensures writes { IfOk result (λ gone.
-            D.writes self.new.device ≡ D.writes self.old.device + gone) }
-        ensures ok { OnOk result (D.faults self.new.device ≡ D.faults self.old.device) }
+            D.writes backing.new.device ≡ D.writes backing.old.device + gone) }
+        ensures ok { OnOk result (D.faults backing.new.device ≡ D.faults backing.old.device) }
         ensures err { IfErr result (λ fault.
-            D.faults self.new.device ≡ fault ∷ D.faults self.old.device) }
-        ensures counted { CountsEvictions (evictions_of result) reclaimer.old self.old.books.evictions
-            reclaimer.new self.new.books.evictions }
+            D.faults backing.new.device ≡ fault ∷ D.faults backing.old.device) }
+        ensures counted { CountsEvictions (evictions_of result) reclaimer.old
+            self.old.books.evictions reclaimer.new self.new.books.evictions }
         ensures books { self.new.books
             ≡ record self.old.books { evictions = self.new.books.evictions } }
+        ensures knows { self.new.known ≡ known_of backing.new }
         ensures left { self.new.left ≡ self.old.left }
     {
-        let Locked {
-            host,
-            device,
-            buf,
-            books,
-            ..
-        } = self;
-        let provided = host.provide(device, id, buf);
-        count_evictions(books, reclaimer, provided);
+        backing.keeper.agree(&mut self.known);
+        let Some(buf) = &mut backing.buf else {
+            unreachable!();
+        };
+        let provided = self.host.provide(&mut backing.device, id, buf);
+        count_evictions(&mut self.books, reclaimer, provided);
+        backing.keeper.settle(&mut self.known, &backing.device);
         provided
     }
 
-    /// Whoever has the shares learns that the books are the sums of their counts, by kind. It changes nothing.
+    /// Whoever has both locks finds that the host knows the device as it is, and that no ticket is out. It changes nothing.
+    pub fn face(&mut self, backing: &mut Backing<D, B>)
+        ensures agreed { self.old.known ≡ known_of backing.old }
+        ensures same { (self.new ≡ self.old) × (backing.new ≡ backing.old) }
+    {
+        backing.keeper.agree(&mut self.known);
+    }
+
+    /// Whoever has the shares of all threads finds that the books are the sums of their counts, by kind. It changes nothing.
     pub fn agree(&mut self, shares: &mut Shares<T, C, O, E>)
         ensures turns { self.old.books.turns ≡ turns_of shares.old.tallies }
         ensures charges { self.old.books.charges ≡ charges_of shares.old.tallies }
         ensures offers { self.old.books.offers ≡ shares.old.offers }
         ensures evictions { self.old.books.evictions ≡ shares.old.evictions }
-        ensures same { (self.new.host ≡ self.old.host) × (self.new.device ≡ self.old.device)
+        ensures same { (self.new.host ≡ self.old.host) × (self.new.known ≡ self.old.known)
             × (self.new.books ≡ self.old.books) × (self.new.left ≡ self.old.left)
             × (shares.new ≡ shares.old) }
     {
         self.books.agree(shares);
     }
 
-    /// The device, when the host is done with.
-    pub fn into_device(self) -> D
-        ensures { result ≡ self.device }
-    {
-        let Locked { device, .. } = self;
-        device
-    }
-
     /// The owner learns that the host came from the one that it left, and then knows it as it is. Where events alone led to the
     /// one, and the device has read right, they lead to the other.
     pub fn meet(&mut self, owner: &mut Owner<D, B>)
-        ensures came { ComesFrom D.keeps D.honest D.faults owner.old self.old.device
-            self.old.host }
-        ensures knows { owner.new ≡ left_as self.new.host self.new.device }
-        ensures led { StandsByEvents owner.old.host → D.honest self.old.device
+        ensures came { ComesOn D.keeps D.honest D.faults owner.old (now_of self.old) }
+        ensures knows { owner.new ≡ now_of self.new }
+        ensures led { StandsByEvents owner.old.host
+            → IfSome self.old.known.device (λ device. D.honest device)
             → StandsByEvents self.new.host }
         ensures host { self.new.host ≡ self.old.host }
-        ensures device { self.new.device ≡ self.old.device }
+        ensures known { self.new.known ≡ self.old.known }
         ensures books { self.new.books ≡ self.old.books }
     {
-        owner.leave(&mut self.left, &self.host, &self.device);
+        owner.leave(&mut self.left, &self.host, &self.known);
     }
 }

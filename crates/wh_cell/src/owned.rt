@@ -11,13 +11,17 @@ ghost use Rattle.wh_host.specs.Backing.{KeepsBacking};
 ghost use Rattle.wh_host.specs.Loading.{AnswersLoad};
 ghost use Rattle.wh_host.specs.Paging.{MovesOnly};
 ghost use Rattle.wh_host.specs.Releasing.{AnswersRelease};
+ghost use Rattle.wh_cell.specs.Knowing.{known_of};
 ghost use Rattle.wh_cell.specs.Leaving.{HasNoCharge, left_as};
+ghost use Rattle.wh_cell.specs.Locking.{now_of};
 ghost use Rattle.wh_cell.specs.Owning.{ComesOn, IsSoundInHand};
 
+use crate::backing::Backing;
 use crate::cell::{Fittings, HostCell};
-use crate::locked::Locked;
+use crate::locked::{Locked, Parts};
 use crate::owner::Owner;
 use crate::serving::{Manner, run_calls};
+use crate::ties::Ties;
 use std::alloc::{AllocError, Global};
 use std::marker::Model;
 use std::sync::Wait;
@@ -27,21 +31,22 @@ use wh_host::{AdmitError, Host, HostError, ModuleError, ModuleId, Params};
 use wh_host_model::InstId;
 use wh_kernels::PageHash;
 use wh_swap::SwapDev;
-use wh_workers::{Bond, ServeError, Served, Shares};
+use wh_workers::{ServeError, Served, Shares};
 
 /// A host with its device, its books and all shares of them, in the hand of its owner. Contracts see the host and the device.
 ///
 /// It lies under no lock, so that requests wait for nobody. While calls run it lies under one, and threads share it; then the
 /// owner has it again, and knows by its right that nothing but work has befallen it.
 #[derive(Drop)]
-pub struct OwnedHost<D: SwapDev, T: Ledger, C: Ledger, O: Ledger, E: Ledger, B: Bond> {
-    // There is always one, but while calls run.
+pub struct OwnedHost<D: SwapDev, T: Ledger, C: Ledger, O: Ledger, E: Ledger, B: Ties> {
+    // There is always one of each, but while calls run.
     locked: Option<Locked<D, T, C, O, E, B>>,
+    backing: Option<Backing<D, B>>,
     owner: Owner<D, B>,
     shares: Shares<T, C, O, E>,
 }
 
-impl<D: SwapDev, T: Ledger, C: Ledger, O: Ledger, E: Ledger, B: Bond> Model
+impl<D: SwapDev, T: Ledger, C: Ledger, O: Ledger, E: Ledger, B: Ties> Model
     for OwnedHost<D, T, C, O, E, B> {
     ghost use Rattle.wh_cell.specs.Leaving.{LeftState};
     ghost use Rattle.wh_cell.specs.Owning.{IsInHand};
@@ -54,10 +59,10 @@ impl<D: SwapDev, T: Ledger, C: Ledger, O: Ledger, E: Ledger, B: Bond> Model
 
     ghost view = { λ o. o.owner };
 
-    ghost invariant = { λ o. IsInHand o.locked o.owner };
+    ghost invariant = { λ o. IsInHand o.locked o.backing o.owner };
 }
 
-impl<D: SwapDev + Drop, T: Ledger, C: Ledger, O: Ledger, E: Ledger, B: Bond> OwnedHost<
+impl<D: SwapDev + Drop, T: Ledger, C: Ledger, O: Ledger, E: Ledger, B: Ties> OwnedHost<
     D,
     T,
     C,
@@ -76,7 +81,8 @@ impl<D: SwapDev + Drop, T: Ledger, C: Ledger, O: Ledger, E: Ledger, B: Bond> Own
     ) -> Result<OwnedHost<D, T, C, O, E, B>, AllocError>
         requires uncharged { HasNoCharge host }
         requires together { AreTogether host.space (D.held fittings.device) }
-        requires pact { fittings.pact ≡ B.table }
+        requires owned { fittings.to_owner ≡ B.to_owner }
+        requires backed { fittings.to_device ≡ B.to_device }
         requires turns { (fittings.turns.name ≡ T.name) × (fittings.turns.parts ≡ T.parts)
             × (64 < T.parts) }
         requires charges { (fittings.charges.name ≡ C.name) × (fittings.charges.parts ≡ C.parts)
@@ -87,34 +93,57 @@ impl<D: SwapDev + Drop, T: Ledger, C: Ledger, O: Ledger, E: Ledger, B: Bond> Own
             × (fittings.evictions.parts ≡ E.parts) × (1 < E.parts) }
         ensures { IfOk result (λ owned. owned ≡ left_as host fittings.device) }
     {
-        let (locked, owner, shares) = Locked::new(alloc, host, fittings)?;
+        let Parts {
+            locked,
+            backing,
+            owner,
+            shares,
+        } = Locked::new(alloc, host, fittings)?;
         Ok(OwnedHost {
             locked: Some(locked),
+            backing: Some(backing),
             owner,
             shares,
         })
     }
+
+    /// The device, when the host is done with.
+    pub fn into_device(self) -> D
+        ensures { self.device ≡ Some result }
+    {
+        let OwnedHost { backing, .. } = self;
+        let Some(backing) = backing else {
+            unreachable!();
+        };
+        backing.into_device()
+    }
 }
 
-impl<D: SwapDev, T: Ledger, C: Ledger, O: Ledger, E: Ledger, B: Bond> OwnedHost<D, T, C, O, E, B> {
+impl<D: SwapDev, T: Ledger, C: Ledger, O: Ledger, E: Ledger, B: Ties> OwnedHost<D, T, C, O, E, B> {
     /// What always holds: events lead to the host, and reads of a swap device that gave other bytes, if there were any; no
     /// ticket is out, and device and slots agree.
     #[inline(always)]
     pub fn known(&self)
         ensures { IsSoundInHand D.held self.now }
     {
-        self.locked().known();
+        let (locked, backing) = self.both();
+        locked.known();
+        backing.known();
     }
 
     // What lies in the owner's hand.
     #[inline(always)]
-    fn locked(&self) -> &Locked<D, T, C, O, E, B>
-        ensures { self.now ≡ left_as result.now.host result.now.device }
+    fn both(&self) -> (&Locked<D, T, C, O, E, B>, &Backing<D, B>)
+        ensures now { self.now ≡ now_of result.0.now }
+        ensures agree { result.0.now.known ≡ known_of result.1.now }
     {
         let Some(locked) = &self.locked else {
             unreachable!();
         };
-        locked
+        let Some(backing) = &self.backing else {
+            unreachable!();
+        };
+        (locked, backing)
     }
 
     /// The host, to look at.
@@ -122,23 +151,13 @@ impl<D: SwapDev, T: Ledger, C: Ledger, O: Ledger, E: Ledger, B: Bond> OwnedHost<
     pub fn host(&self) -> &Host
         ensures { result.now ≡ self.now.host }
     {
-        self.locked().host()
+        let (locked, _) = self.both();
+        locked.host()
     }
 
     /// What the threads have counted so far.
     pub fn shares(&self) -> &Shares<T, C, O, E> {
         &self.shares
-    }
-
-    /// The device, when the host is done with.
-    pub fn into_device(self) -> D
-        ensures { self.device ≡ Some result }
-    {
-        let OwnedHost { locked, .. } = self;
-        let Some(locked) = locked else {
-            unreachable!();
-        };
-        locked.into_device()
     }
 
     /// Keeps the module that these bytes spell, and the bytes: its number, counted from 0.
@@ -306,7 +325,7 @@ impl<
     C: Ledger + Send + 'static,
     O: Ledger + Send + 'static,
     E: Ledger + Send + 'static,
-    B: Bond + Send + 'static,
+    B: Ties + Send + 'static,
 > OwnedHost<D, T, C, O, E, B> {
     /// Runs the calls of these instances until none can go on, as `run_calls` does, on a cell that the host lies in meanwhile.
     /// Whatever it answers, the host came by work from the one before.
@@ -327,15 +346,21 @@ impl<
         let Some(locked) = self.locked.take() else {
             unreachable!();
         };
-        let (served, mut locked) = match HostCell::around(alloc, locked) {
+        let Some(backing) = self.backing.take() else {
+            unreachable!();
+        };
+        let (served, parts) = match HostCell::around(alloc, locked, backing) {
             Ok(cell) => {
                 let served = run_calls(rt, alloc, &cell, &mut self.shares, ids, manner);
-                (served, cell.into_locked(&rt))
+                (served, cell.into_parts(&rt))
             }
-            Err(locked) => (Err(ServeError::Memory), locked),
+            Err(parts) => (Err(ServeError::Memory), parts),
         };
+        let (mut locked, mut backing) = parts;
+        locked.face(&mut backing);
         locked.meet(&mut self.owner);
         self.locked = Some(locked);
+        self.backing = Some(backing);
         served
     }
 }

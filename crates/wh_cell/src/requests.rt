@@ -9,18 +9,19 @@ ghost use Rattle.wh_host.specs.Asking.{AnswersCall, AnswersInvoke};
 ghost use Rattle.wh_host.specs.Backing.{KeepsBacking};
 ghost use Rattle.wh_host.specs.Loading.{AnswersLoad};
 ghost use Rattle.wh_host.specs.Releasing.{AnswersRelease};
-ghost use Rattle.wh_cell.specs.Leaving.{ComesFrom, left_as};
+ghost use Rattle.wh_cell.specs.Locking.{now_of};
+ghost use Rattle.wh_cell.specs.Owning.{ComesOn};
 
 use crate::locked::Locked;
 use crate::owner::Owner;
+use crate::ties::Ties;
 use std::alloc::Global;
 use std::sync::ledger::Ledger;
 use wh_host::{AdmitError, HostError, ModuleError, ModuleId, Params};
 use wh_host_model::InstId;
 use wh_swap::SwapDev;
-use wh_workers::Bond;
 
-impl<D: SwapDev, T: Ledger, C: Ledger, O: Ledger, E: Ledger, B: Bond> Locked<D, T, C, O, E, B> {
+impl<D: SwapDev, T: Ledger, C: Ledger, O: Ledger, E: Ledger, B: Ties> Locked<D, T, C, O, E, B> {
     /// Keeps the module that these bytes spell, and the bytes: its number, counted from 0.
     ///
     /// # Errors
@@ -31,17 +32,16 @@ impl<D: SwapDev, T: Ledger, C: Ledger, O: Ledger, E: Ledger, B: Bond> Locked<D, 
         alloc: Global,
         bytes: &[u8],
     ) -> Result<ModuleId, ModuleError>
-        ensures came { ComesFrom D.keeps D.honest D.faults owner.old self.old.device
-            self.old.host }
+        ensures came { ComesOn D.keeps D.honest D.faults owner.old (now_of self.old) }
         ensures loads { AnswersLoad self.old.host bytes.now result self.new.host }
         ensures err { OnErr result (self.new.host ≡ self.old.host) }
-        ensures knows { owner.new ≡ left_as self.new.host self.new.device }
+        ensures knows { owner.new ≡ now_of self.new }
         ensures backing { KeepsBacking self.old.host.space self.new.host.space }
         ensures books { self.new.books ≡ self.old.books }
-        ensures device { self.new.device ≡ self.old.device }
+        ensures known { self.new.known ≡ self.old.known }
     {
         let answer = self.host.load(alloc, bytes);
-        owner.leave(&mut self.left, &self.host, &self.device);
+        owner.leave(&mut self.left, &self.host, &self.known);
         answer
     }
 
@@ -56,17 +56,16 @@ impl<D: SwapDev, T: Ledger, C: Ledger, O: Ledger, E: Ledger, B: Bond> Locked<D, 
         of: ModuleId,
         params: Params,
     ) -> Result<InstId, AdmitError>
-        ensures came { ComesFrom D.keeps D.honest D.faults owner.old self.old.device
-            self.old.host }
+        ensures came { ComesOn D.keeps D.honest D.faults owner.old (now_of self.old) }
         ensures admits { AnswersAdmit self.old.host of.number (view_params params) result self.new.host }
         ensures err { OnErr result (self.new.host ≡ self.old.host) }
-        ensures knows { owner.new ≡ left_as self.new.host self.new.device }
+        ensures knows { owner.new ≡ now_of self.new }
         ensures backing { KeepsBacking self.old.host.space self.new.host.space }
         ensures books { self.new.books ≡ self.old.books }
-        ensures device { self.new.device ≡ self.old.device }
+        ensures known { self.new.known ≡ self.old.known }
     {
         let answer = self.host.admit(alloc, of, params);
-        owner.leave(&mut self.left, &self.host, &self.device);
+        owner.leave(&mut self.left, &self.host, &self.known);
         answer
     }
 
@@ -84,17 +83,16 @@ impl<D: SwapDev, T: Ledger, C: Ledger, O: Ledger, E: Ledger, B: Bond> Locked<D, 
         given: &[i128],
         fuel: u64,
     ) -> Result<u32, HostError>
-        ensures came { ComesFrom D.keeps D.honest D.faults owner.old self.old.device
-            self.old.host }
+        ensures came { ComesOn D.keeps D.honest D.faults owner.old (now_of self.old) }
         ensures asks { AnswersInvoke self.old.host id name.now given.now fuel result self.new.host }
         ensures err { OnErr result (self.new.host ≡ self.old.host) }
-        ensures knows { owner.new ≡ left_as self.new.host self.new.device }
+        ensures knows { owner.new ≡ now_of self.new }
         ensures backing { KeepsBacking self.old.host.space self.new.host.space }
         ensures books { self.new.books ≡ self.old.books }
-        ensures device { self.new.device ≡ self.old.device }
+        ensures known { self.new.known ≡ self.old.known }
     {
         let answer = self.host.invoke(alloc, id, name, given, fuel);
-        owner.leave(&mut self.left, &self.host, &self.device);
+        owner.leave(&mut self.left, &self.host, &self.known);
         answer
     }
 
@@ -108,18 +106,17 @@ impl<D: SwapDev, T: Ledger, C: Ledger, O: Ledger, E: Ledger, B: Bond> Locked<D, 
         id: InstId,
         fuel: u64,
     ) -> Result<(), HostError>
-        ensures came { ComesFrom D.keeps D.honest D.faults owner.old self.old.device
-            self.old.host }
+        ensures came { ComesOn D.keeps D.honest D.faults owner.old (now_of self.old) }
         ensures asks { AnswersCall self.old.host (λ w answer w2. IsRefuel w id fuel answer w2) result
             self.new.host }
         ensures err { OnErr result (self.new.host ≡ self.old.host) }
-        ensures knows { owner.new ≡ left_as self.new.host self.new.device }
+        ensures knows { owner.new ≡ now_of self.new }
         ensures backing { KeepsBacking self.old.host.space self.new.host.space }
         ensures books { self.new.books ≡ self.old.books }
-        ensures device { self.new.device ≡ self.old.device }
+        ensures known { self.new.known ≡ self.old.known }
     {
         let answer = self.host.refuel(id, fuel);
-        owner.leave(&mut self.left, &self.host, &self.device);
+        owner.leave(&mut self.left, &self.host, &self.known);
         answer
     }
 
@@ -128,18 +125,17 @@ impl<D: SwapDev, T: Ledger, C: Ledger, O: Ledger, E: Ledger, B: Bond> Locked<D, 
     /// # Errors
     /// `NoInstance`; `NoCall` where no call is open. Nothing is done then.
     pub fn cancel(&mut self, owner: &mut Owner<D, B>, id: InstId) -> Result<(), HostError>
-        ensures came { ComesFrom D.keeps D.honest D.faults owner.old self.old.device
-            self.old.host }
+        ensures came { ComesOn D.keeps D.honest D.faults owner.old (now_of self.old) }
         ensures asks { AnswersCall self.old.host (λ w answer w2. IsCancel w id answer w2) result
             self.new.host }
         ensures err { OnErr result (self.new.host ≡ self.old.host) }
-        ensures knows { owner.new ≡ left_as self.new.host self.new.device }
+        ensures knows { owner.new ≡ now_of self.new }
         ensures backing { KeepsBacking self.old.host.space self.new.host.space }
         ensures books { self.new.books ≡ self.old.books }
-        ensures device { self.new.device ≡ self.old.device }
+        ensures known { self.new.known ≡ self.old.known }
     {
         let answer = self.host.cancel(id);
-        owner.leave(&mut self.left, &self.host, &self.device);
+        owner.leave(&mut self.left, &self.host, &self.known);
         answer
     }
 
@@ -148,18 +144,17 @@ impl<D: SwapDev, T: Ledger, C: Ledger, O: Ledger, E: Ledger, B: Bond> Locked<D, 
     /// # Errors
     /// `NoInstance`; `NoCall` where it doesn't stand for one. Nothing is done then.
     pub fn retry(&mut self, owner: &mut Owner<D, B>, id: InstId) -> Result<(), HostError>
-        ensures came { ComesFrom D.keeps D.honest D.faults owner.old self.old.device
-            self.old.host }
+        ensures came { ComesOn D.keeps D.honest D.faults owner.old (now_of self.old) }
         ensures asks { AnswersCall self.old.host (λ w answer w2. IsRetry w id answer w2) result
             self.new.host }
         ensures err { OnErr result (self.new.host ≡ self.old.host) }
-        ensures knows { owner.new ≡ left_as self.new.host self.new.device }
+        ensures knows { owner.new ≡ now_of self.new }
         ensures backing { KeepsBacking self.old.host.space self.new.host.space }
         ensures books { self.new.books ≡ self.old.books }
-        ensures device { self.new.device ≡ self.old.device }
+        ensures known { self.new.known ≡ self.old.known }
     {
         let answer = self.host.retry(id);
-        owner.leave(&mut self.left, &self.host, &self.device);
+        owner.leave(&mut self.left, &self.host, &self.known);
         answer
     }
 
@@ -173,17 +168,16 @@ impl<D: SwapDev, T: Ledger, C: Ledger, O: Ledger, E: Ledger, B: Bond> Locked<D, 
         alloc: Global,
         id: InstId,
     ) -> Result<Vec<u8>, HostError>
-        ensures came { ComesFrom D.keeps D.honest D.faults owner.old self.old.device
-            self.old.host }
+        ensures came { ComesOn D.keeps D.honest D.faults owner.old (now_of self.old) }
         ensures goes { AnswersRelease self.old.host id result self.new.host }
         ensures err { OnErr result (self.new.host ≡ self.old.host) }
-        ensures knows { owner.new ≡ left_as self.new.host self.new.device }
+        ensures knows { owner.new ≡ now_of self.new }
         ensures backing { KeepsBacking self.old.host.space self.new.host.space }
         ensures books { self.new.books ≡ self.old.books }
-        ensures device { self.new.device ≡ self.old.device }
+        ensures known { self.new.known ≡ self.old.known }
     {
         let answer = self.host.release(alloc, id);
-        owner.leave(&mut self.left, &self.host, &self.device);
+        owner.leave(&mut self.left, &self.host, &self.known);
         answer
     }
 }

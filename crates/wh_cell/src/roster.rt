@@ -6,6 +6,7 @@ ghost use Rattle.wh_cell.specs.Rostered.{ChoosesTurn, RestsAll, at_home, ids_of}
 ghost use Rattle.wh_cell.specs.declared.roster.Prospect.TheVariants.{Now, Never};
 ghost use Rattle.wh_cell.specs.declared.roster.Choice.TheVariants.{Turn, Rest};
 
+use crate::moving::Moved;
 use std::alloc::{AllocError, Global};
 use wh_host::Host;
 use wh_host_model::InstId;
@@ -41,6 +42,18 @@ pub enum Prospect {
     Never,
 }
 
+// So often the page that is to leave may be written meanwhile before a step is made ready at once, under both locks.
+const MOST_VOIDS: u32 = 8;
+
+/// An instance whose step is made ready.
+#[derive(Clone, Copy, Debug, PartialEq, Eq)]
+pub struct Waiter {
+    /// Which it is.
+    pub id: InstId,
+    /// Whether that is done at once, under both locks: pages that were to leave were written meanwhile too often.
+    pub at_once: bool,
+}
+
 /// The instances whose calls are run: which of them have a turn out, and whose step was made ready and waits for its turn.
 #[derive(Drop)]
 pub struct Roster {
@@ -50,6 +63,12 @@ pub struct Roster {
     pub ready: Option<InstId>,
     /// How many turns were handed out.
     pub turns: u64,
+    // Whose step is made ready, page by page.
+    served: Option<InstId>,
+    // How often in a row a page that was to leave for it was written meanwhile.
+    voids: u32,
+    // Behind which seat the next one is looked for.
+    from: usize,
 }
 
 // Whether this one has a turn next.
@@ -106,6 +125,9 @@ impl Roster {
             seats,
             ready: None,
             turns: 0,
+            served: None,
+            voids: 0,
+            from: 0,
         })
     }
 
@@ -145,16 +167,61 @@ impl Roster {
         }
     }
 
-    /// The first instance that waits for a frame and has no turn out, where no step is ready that waits for its turn.
-    pub fn who_waits(&self, host: &Host) -> Option<InstId> {
+    /// Whose step is made ready: the one for which a page was moved last, while it still waits for a frame; else the next one
+    /// behind it that waits and has no turn out. Nobody's, while a step is ready that waits for its turn.
+    pub fn next_waiter(&mut self, host: &Host) -> Option<Waiter> {
         if self.ready.is_some() {
             return None;
         }
-        for seat in &self.seats {
+        if !self.still_waits(host) {
+            self.begin_with_next(host);
+        }
+        let id = self.served?;
+        Some(Waiter {
+            id,
+            at_once: self.voids >= MOST_VOIDS,
+        })
+    }
+
+    // Whether the one that is served still waits for a frame.
+    fn still_waits(&self, host: &Host) -> bool {
+        match self.served {
+            Some(id) => host.awaits_frame(id),
+            None => false,
+        }
+    }
+
+    // The next seat is served whose instance waits, or none.
+    fn begin_with_next(&mut self, host: &Host) {
+        self.served = None;
+        self.voids = 0;
+        let many = self.seats.len();
+        for step in 0..many {
+            let at = (self.from % many + step) % many;
+            let seat = self.seats[at];
             if !seat.is_out && host.awaits_frame(seat.id) {
-                return Some(seat.id);
+                self.served = Some(seat.id);
+                self.from = at + 1;
+                return;
             }
         }
-        None
+    }
+
+    /// Notes what came of a move for the instance that is served. Whether it may go on now, or not at all.
+    pub fn note(&mut self, id: InstId, moved: Moved) -> bool {
+        match moved {
+            Moved::Made => {
+                self.voids = 0;
+                return false;
+            }
+            Moved::Void => {
+                self.voids = self.voids.saturating_add(1);
+                return false;
+            }
+            Moved::Ready => self.ready = Some(id),
+            Moved::Failed => {}
+        }
+        self.served = None;
+        true
     }
 }

@@ -8,6 +8,7 @@ ghost use Rattle.wh_workers.specs.Handover.{AreNumbered, SameMessages, turns_in}
 use crate::cell::HostCell;
 use crate::jobs::{Desk, ReclaimJob, ScanJob, TurnJob, TurnSupply};
 use crate::roster::Roster;
+use crate::ties::Ties;
 use std::alloc::{AllocError, Global};
 use std::sync::ledger::Ledger;
 use std::sync::{Arc, Wait};
@@ -15,7 +16,7 @@ use std::thread::Threads;
 use wh_host_model::InstId;
 use wh_kernels::PageHash;
 use wh_swap::SwapDev;
-use wh_workers::{Bond, Jobs, ServeError, Served, Shares, serve};
+use wh_workers::{Jobs, ServeError, Served, Shares, serve};
 
 /// How calls are run.
 #[derive(Clone, Copy, Debug)]
@@ -29,7 +30,7 @@ pub struct Manner<H> {
 }
 
 // What the threads of a run do, and who hands the turns out.
-struct Crew<D: SwapDev, T: Ledger, C: Ledger, O: Ledger, E: Ledger, B: Bond, H> {
+struct Crew<D: SwapDev, T: Ledger, C: Ledger, O: Ledger, E: Ledger, B: Ties, H> {
     jobs: Jobs<
         TurnJob<D, T, C, O, E, B>,
         ScanJob<D, T, C, O, E, B, H>,
@@ -45,7 +46,7 @@ fn crew_of<
     C: Ledger,
     O: Ledger,
     E: Ledger,
-    B: Bond,
+    B: Ties,
     H: PageHash + Copy,
 >(
     alloc: Global,
@@ -103,7 +104,7 @@ pub fn run_calls<
     C: Ledger + Send + 'static,
     O: Ledger + Send + 'static,
     E: Ledger + Send + 'static,
-    B: Bond + Send + 'static,
+    B: Ties + Send + 'static,
     H: PageHash + Copy + Send + 'static,
     R: Threads + Wait + Copy + Send + 'static,
 >(

@@ -1,22 +1,23 @@
 //! What is shown of a host that lies under a lock.
 
-ghost use Rattle.std.specs.Prelude.{◌≡◌, IfOk};
+ghost use Rattle.std.specs.Prelude.{◌≡◌, IfOk, IfSome};
 ghost use Rattle.wh_host_model.specs.Host.Worlds.{World};
 ghost use Rattle.wh_host.specs.Hosting.{HostState, IsHost};
 ghost use Rattle.wh_host.specs.Rolls.{IsRollOf};
 ghost use Rattle.wh_host.specs.Showing.{StandsByEvents, ShowsInstance};
-ghost use Rattle.wh_cell.specs.Leaving.{ComesFrom};
+ghost use Rattle.wh_cell.specs.Locking.{now_of};
+ghost use Rattle.wh_cell.specs.Owning.{ComesOn};
 
 use crate::locked::Locked;
 use crate::owner::Owner;
+use crate::ties::Ties;
 use std::alloc::Global;
 use std::sync::ledger::Ledger;
 use wh_host::{HostError, Roll, Transcript};
 use wh_host_model::InstId;
 use wh_swap::SwapDev;
-use wh_workers::Bond;
 
-impl<D: SwapDev, T: Ledger, C: Ledger, O: Ledger, E: Ledger, B: Bond> Locked<D, T, C, O, E, B> {
+impl<D: SwapDev, T: Ledger, C: Ledger, O: Ledger, E: Ledger, B: Ties> Locked<D, T, C, O, E, B> {
     // The roll of a host to which events lead.
     pub(crate) fn roll(&self, alloc: Global) -> Result<Roll, HostError>
         ensures { IfOk result (λ roll. (h : HostState) × ((w : World) × IsHost h w) × IsRollOf h roll) }
@@ -37,13 +38,13 @@ impl<D: SwapDev, T: Ledger, C: Ledger, O: Ledger, E: Ledger, B: Bond> Locked<D, 
         id: InstId,
     ) -> Result<Transcript, HostError>
         requires led { StandsByEvents owner.old.host }
-        requires honest { D.honest self.old.device }
-        ensures came { ComesFrom D.keeps D.honest D.faults owner.old self.old.device
-            owner.new.host }
+        requires honest { IfSome self.old.known.device (λ device. D.honest device) }
+        ensures came { ComesOn D.keeps D.honest D.faults owner.old (now_of self.old) }
+        ensures knows { owner.new ≡ now_of self.new }
         ensures led { StandsByEvents owner.new.host }
         ensures shows { ShowsInstance owner.new.host id result }
         ensures host { self.new.host ≡ self.old.host }
-        ensures device { self.new.device ≡ self.old.device }
+        ensures known { self.new.known ≡ self.old.known }
         ensures books { self.new.books ≡ self.old.books }
     {
         self.meet(owner);

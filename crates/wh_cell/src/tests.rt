@@ -2,7 +2,9 @@
 
 ghost use Rattle.std.specs.Prelude.{◌≡◌, ◌<◌, IfOk};
 
-use crate::{Fittings, HostCell, HostMatter, Manner, OwnedHost, Owner, run_calls};
+use crate::{
+    DeviceMatter, Fittings, HostCell, HostMatter, Manner, OwnedHost, Owner, Ties, run_calls,
+};
 use std::alloc::{AllocError, Global};
 use std::marker::Brand;
 use std::sync::Wait;
@@ -14,7 +16,7 @@ use wh_host_model::{InstId, Tax, TurnEnd};
 use wh_kernels::FnvHash;
 use wh_model::ValType;
 use wh_swap::MemSwap;
-use wh_workers::{BlankPact, Bond, Shares};
+use wh_workers::{BlankPact, Shares};
 
 /// `s` stores a byte, and `l` loads one.
 const BYTES: [u8; 63] = [
@@ -27,7 +29,8 @@ const BYTES: [u8; 63] = [
 // What names a cell's ledgers and its pact.
 #[derive(Drop)]
 struct Blanks {
-    pact: BlankPact<HostMatter<MemSwap>>,
+    to_owner: BlankPact<HostMatter<MemSwap>>,
+    to_device: BlankPact<DeviceMatter<MemSwap>>,
     turns: Blank,
     charges: Blank,
     offers: Blank,
@@ -36,7 +39,7 @@ struct Blanks {
 
 // A cell, its owner's right and its shares.
 #[derive(Drop)]
-struct Begun<T: Ledger, C: Ledger, O: Ledger, E: Ledger, B: Bond> {
+struct Begun<T: Ledger, C: Ledger, O: Ledger, E: Ledger, B: Ties> {
     cell: HostCell<MemSwap, T, C, O, E, B>,
     owner: Owner<MemSwap, B>,
     shares: Shares<T, C, O, E>,
@@ -56,11 +59,12 @@ fn given(alloc: Global) -> Params {
 }
 
 // A cell of a new host with four frames and 64 slots.
-fn begin_cell<T: Ledger, C: Ledger, O: Ledger, E: Ledger, B: Bond>(
+fn begin_cell<T: Ledger, C: Ledger, O: Ledger, E: Ledger, B: Ties>(
     alloc: Global,
     blanks: Blanks,
 ) -> Result<Begun<T, C, O, E, B>, Fail>
-    requires pact { blanks.pact ≡ B.table }
+    requires owned { blanks.to_owner ≡ B.to_owner }
+    requires backed { blanks.to_device ≡ B.to_device }
     requires turns { (blanks.turns.name ≡ T.name) × (blanks.turns.parts ≡ T.parts)
         × (64 < T.parts) }
     requires charges { (blanks.charges.name ≡ C.name) × (blanks.charges.parts ≡ C.parts)
@@ -71,7 +75,8 @@ fn begin_cell<T: Ledger, C: Ledger, O: Ledger, E: Ledger, B: Bond>(
         × (1 < E.parts) }
 {
     let Blanks {
-        pact,
+        to_owner,
+        to_device,
         turns,
         charges,
         offers,
@@ -81,7 +86,8 @@ fn begin_cell<T: Ledger, C: Ledger, O: Ledger, E: Ledger, B: Bond>(
     let fittings = Fittings {
         device: MemSwap::new(alloc, 64)?,
         buf: Box::new(alloc, [0; 4096])?,
-        pact,
+        to_owner,
+        to_device,
         turns,
         charges,
         offers,
@@ -96,7 +102,7 @@ fn begin_cell<T: Ledger, C: Ledger, O: Ledger, E: Ledger, B: Bond>(
 }
 
 // Two instances, with these calls of each: stores of 7 to three pages, and loads of them.
-fn asked<T: Ledger, C: Ledger, O: Ledger, E: Ledger, B: Bond, R: Wait>(
+fn asked<T: Ledger, C: Ledger, O: Ledger, E: Ledger, B: Ties, R: Wait>(
     rt: &R,
     alloc: Global,
     begun: &mut Begun<T, C, O, E, B>,
@@ -118,7 +124,7 @@ fn asked<T: Ledger, C: Ledger, O: Ledger, E: Ledger, B: Bond, R: Wait>(
 }
 
 // How far a call is.
-fn status<T: Ledger, C: Ledger, O: Ledger, E: Ledger, B: Bond, R: Wait>(
+fn status<T: Ledger, C: Ledger, O: Ledger, E: Ledger, B: Ties, R: Wait>(
     rt: &R,
     begun: &Begun<T, C, O, E, B>,
     id: InstId,
@@ -129,12 +135,13 @@ fn status<T: Ledger, C: Ledger, O: Ledger, E: Ledger, B: Bond, R: Wait>(
 }
 
 // One turn of one worker: how it ended, what the worker and the books have.
-fn one_turn<T: Ledger, C: Ledger, O: Ledger, E: Ledger, B: Bond, R: Wait>(
+fn one_turn<T: Ledger, C: Ledger, O: Ledger, E: Ledger, B: Ties, R: Wait>(
     rt: &R,
     alloc: Global,
     blanks: Blanks,
 ) -> Result<(TurnEnd, u128, u64, Option<CallStatus>), Fail>
-    requires pact { blanks.pact ≡ B.table }
+    requires owned { blanks.to_owner ≡ B.to_owner }
+    requires backed { blanks.to_device ≡ B.to_device }
     requires turns { (blanks.turns.name ≡ T.name) × (blanks.turns.parts ≡ T.parts)
         × (64 < T.parts) }
     requires charges { (blanks.charges.name ≡ C.name) × (blanks.charges.parts ≡ C.parts)
@@ -171,7 +178,8 @@ fn make_blanks(alloc: Global) -> Result<Blanks, AllocError>
         × (b.offers.parts ≡ 2) × (b.evictions.parts ≡ 2)) }
 {
     Ok(Blanks {
-        pact: BlankPact::new(alloc)?,
+        to_owner: BlankPact::new(alloc)?,
+        to_device: BlankPact::new(alloc)?,
         turns: Blank::new(65),
         charges: Blank::new(65),
         offers: Blank::new(2),
@@ -203,10 +211,11 @@ fn all_run<
     C: Ledger + Send + 'static,
     O: Ledger + Send + 'static,
     E: Ledger + Send + 'static,
-    B: Bond + Send + 'static,
+    B: Ties + Send + 'static,
     R: Threads + Wait + Copy + Send + 'static,
 >(rt: R, alloc: Global, blanks: Blanks) -> Result<(Vec<Option<CallStatus>>, bool, u64), Fail>
-    requires pact { blanks.pact ≡ B.table }
+    requires owned { blanks.to_owner ≡ B.to_owner }
+    requires backed { blanks.to_device ≡ B.to_device }
     requires turns { (blanks.turns.name ≡ T.name) × (blanks.turns.parts ≡ T.parts)
         × (64 < T.parts) }
     requires charges { (blanks.charges.name ≡ C.name) × (blanks.charges.parts ≡ C.parts)
@@ -268,11 +277,12 @@ fn workers_run_all_calls(rt: HostRuntime) -> Result<(), Fail> {
 }
 
 // A new host with 64 frames and 256 slots, in its owner's hand.
-fn begin_owned<T: Ledger, C: Ledger, O: Ledger, E: Ledger, B: Bond>(
+fn begin_owned<T: Ledger, C: Ledger, O: Ledger, E: Ledger, B: Ties>(
     alloc: Global,
     blanks: Blanks,
 ) -> Result<OwnedHost<MemSwap, T, C, O, E, B>, Fail>
-    requires pact { blanks.pact ≡ B.table }
+    requires owned { blanks.to_owner ≡ B.to_owner }
+    requires backed { blanks.to_device ≡ B.to_device }
     requires turns { (blanks.turns.name ≡ T.name) × (blanks.turns.parts ≡ T.parts)
         × (64 < T.parts) }
     requires charges { (blanks.charges.name ≡ C.name) × (blanks.charges.parts ≡ C.parts)
@@ -283,7 +293,8 @@ fn begin_owned<T: Ledger, C: Ledger, O: Ledger, E: Ledger, B: Bond>(
         × (1 < E.parts) }
 {
     let Blanks {
-        pact,
+        to_owner,
+        to_device,
         turns,
         charges,
         offers,
@@ -293,7 +304,8 @@ fn begin_owned<T: Ledger, C: Ledger, O: Ledger, E: Ledger, B: Bond>(
     let fittings = Fittings {
         device: MemSwap::new(alloc, 256)?,
         buf: Box::new(alloc, [0; 4096])?,
-        pact,
+        to_owner,
+        to_device,
         turns,
         charges,
         offers,
@@ -318,7 +330,7 @@ fn each_has_worked<T: Ledger, C: Ledger, O: Ledger, E: Ledger>(
 }
 
 // Each instance is asked for a store and a load of it: the last load.
-fn ask_each<T: Ledger, C: Ledger, O: Ledger, E: Ledger, B: Bond>(
+fn ask_each<T: Ledger, C: Ledger, O: Ledger, E: Ledger, B: Ties>(
     alloc: Global,
     owned: &mut OwnedHost<MemSwap, T, C, O, E, B>,
     ids: &[InstId],
@@ -339,7 +351,7 @@ fn run_rounds<
     C: Ledger + Send + 'static,
     O: Ledger + Send + 'static,
     E: Ledger + Send + 'static,
-    B: Bond + Send + 'static,
+    B: Ties + Send + 'static,
     R: Threads + Wait + Copy + Send + 'static,
 >(
     rt: R,
@@ -365,7 +377,7 @@ fn run_rounds<
 }
 
 // Eight instances of one module on a host in its owner's hand.
-fn eight<T: Ledger, C: Ledger, O: Ledger, E: Ledger, B: Bond>(
+fn eight<T: Ledger, C: Ledger, O: Ledger, E: Ledger, B: Ties>(
     alloc: Global,
     owned: &mut OwnedHost<MemSwap, T, C, O, E, B>,
 ) -> Result<Vec<InstId>, Fail> {
@@ -383,7 +395,7 @@ fn work_on<
     C: Ledger + Send + 'static,
     O: Ledger + Send + 'static,
     E: Ledger + Send + 'static,
-    B: Bond + Send + 'static,
+    B: Ties + Send + 'static,
     R: Threads + Wait + Copy + Send + 'static,
 >(
     rt: R,
@@ -403,10 +415,11 @@ fn all_work<
     C: Ledger + Send + 'static,
     O: Ledger + Send + 'static,
     E: Ledger + Send + 'static,
-    B: Bond + Send + 'static,
+    B: Ties + Send + 'static,
     R: Threads + Wait + Copy + Send + 'static,
 >(rt: R, alloc: Global, blanks: Blanks) -> Result<Option<CallStatus>, Fail>
-    requires pact { blanks.pact ≡ B.table }
+    requires owned { blanks.to_owner ≡ B.to_owner }
+    requires backed { blanks.to_device ≡ B.to_device }
     requires turns { (blanks.turns.name ≡ T.name) × (blanks.turns.parts ≡ T.parts)
         × (64 < T.parts) }
     requires charges { (blanks.charges.name ≡ C.name) × (blanks.charges.parts ≡ C.parts)

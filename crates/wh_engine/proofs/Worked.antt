@@ -13,6 +13,7 @@ use Rattle.wh_host_model.proofs.Host.Holding.{memory_is_sound}
 use Rattle.wh_host.specs.Hosting.{IsReached}
 use Rattle.wh_host.proofs.Hosts.{reached_on}
 use Rattle.wh_cell.specs.Going.{IsWork, WorksTo, fault_in, fault_or_none, faults_in}
+use Rattle.wh_cell.proofs.Going.{part_nothing}
 use Rattle.wh_script_model.specs.Following.{ComeFurther, IsFollowed, RunsKnown, StaysWhole}
 use Rattle.wh_script_model.proofs.Drains.{moved_followed, zip_so}
 use Rattle.wh_script_model.proofs.Sums.{claims_decide}
@@ -92,7 +93,7 @@ works_followed w w2 m places (e ∷ es) r work none happen h =
 pub works_known : (settings : Settings) (w w2 : World) (m : Made) (places : List ℕ) → IsReached w → WorksTo w [] w2 → StaysWhole w.space w2.space
     → RunsKnown settings w m places → IsReached w2 × RunsKnown settings w2 m places
 works_known settings w w2 m places r works whole h =
-    let did = works_followed w w2 m places works.events r works.work works.faults_are works.happen (record { modules = h.modules; guests = h.guests; placed = h.placed }) in
+    let did = works_followed w w2 m places works.events r works.work (part_nothing (faults_in works.events) works.faults_are) works.happen (record { modules = h.modules; guests = h.guests; placed = h.placed }) in
     let r2 = did.reached in
     let sound = memory_is_sound r.frames r.slots r.tax r.events w r.happen in
     let sound2 = memory_is_sound r2.frames r2.slots r2.tax r2.events w2 r2.happen in

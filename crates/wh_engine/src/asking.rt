@@ -11,14 +11,13 @@ ghost use Rattle.wh_engine.specs.Obeying.{IsNamed, ObeysCommand};
 
 use crate::engine::Engine;
 use std::sync::ledger::Ledger;
-use wh_cell::OwnedHost;
+use wh_cell::{OwnedHost, Ties};
 use wh_replies::Reply;
 use wh_swap::SwapDev;
-use wh_workers::Bond;
 
 impl Engine {
     /// Gives the present call of an instance more fuel.
-    pub fn refuel<'a, D: SwapDev, T: Ledger, C: Ledger, O: Ledger, E: Ledger, B: Bond>(
+    pub fn refuel<'a, D: SwapDev, T: Ledger, C: Ledger, O: Ledger, E: Ledger, B: Ties>(
         &self,
         host: &mut OwnedHost<D, T, C, O, E, B>,
         number: usize,
@@ -43,7 +42,7 @@ impl Engine {
     }
 
     /// Ends the present call of an instance.
-    pub fn cancel<'a, D: SwapDev, T: Ledger, C: Ledger, O: Ledger, E: Ledger, B: Bond>(
+    pub fn cancel<'a, D: SwapDev, T: Ledger, C: Ledger, O: Ledger, E: Ledger, B: Ties>(
         &self,
         host: &mut OwnedHost<D, T, C, O, E, B>,
         number: usize,
@@ -67,7 +66,7 @@ impl Engine {
     }
 
     /// Lets the present call of an instance, which stands for a device fault, be tried again.
-    pub fn retry<'a, D: SwapDev, T: Ledger, C: Ledger, O: Ledger, E: Ledger, B: Bond>(
+    pub fn retry<'a, D: SwapDev, T: Ledger, C: Ledger, O: Ledger, E: Ledger, B: Ties>(
         &self,
         host: &mut OwnedHost<D, T, C, O, E, B>,
         number: usize,

@@ -13,19 +13,18 @@ use crate::engine::Engine;
 use crate::parts::{Guest, Invoked, Reception};
 use std::alloc::{AllocError, Global};
 use std::sync::ledger::Ledger;
-use wh_cell::OwnedHost;
+use wh_cell::{OwnedHost, Ties};
 use wh_commands::Given;
 use wh_host::{ModuleId, Params};
 use wh_replies::Reply;
 use wh_swap::SwapDev;
-use wh_workers::Bond;
 
 impl Engine {
     /// Admits an instance of the module of a number, under a free name: what is answered.
     ///
     /// # Errors
     /// A growth of memory for what is kept of it was refused. Nothing was done then.
-    pub fn admit<'a, D: SwapDev, T: Ledger, C: Ledger, O: Ledger, E: Ledger, B: Bond>(
+    pub fn admit<'a, D: SwapDev, T: Ledger, C: Ledger, O: Ledger, E: Ledger, B: Ties>(
         &mut self,
         host: &mut OwnedHost<D, T, C, O, E, B>,
         alloc: Global,
@@ -85,7 +84,7 @@ impl Engine {
     ///
     /// # Errors
     /// A growth of memory for what is kept of it was refused. Nothing was done then.
-    pub fn invoke<D: SwapDev, T: Ledger, C: Ledger, O: Ledger, E: Ledger, B: Bond>(
+    pub fn invoke<D: SwapDev, T: Ledger, C: Ledger, O: Ledger, E: Ledger, B: Ties>(
         &mut self,
         host: &mut OwnedHost<D, T, C, O, E, B>,
         alloc: Global,

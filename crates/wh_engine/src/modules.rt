@@ -15,13 +15,12 @@ ghost use Rattle.wh_engine.specs.Obeying.{TakesModule};
 use crate::engine::Engine;
 use std::alloc::{AllocError, Global};
 use std::sync::ledger::Ledger;
-use wh_cell::OwnedHost;
+use wh_cell::{OwnedHost, Ties};
 use wh_host::ModuleError;
 use wh_imports::LinkError;
 use wh_load::LoadError;
 use wh_replies::{Place, Refusal, Reply};
 use wh_swap::SwapDev;
-use wh_workers::Bond;
 
 // Why bytes aren't kept, as replies say it.
 fn refusal_of(error: ModuleError) -> Refusal
@@ -61,7 +60,7 @@ impl Engine {
     ///
     /// # Errors
     /// A growth of memory for the name was refused. Nothing was done then.
-    pub fn keep<'a, D: SwapDev, T: Ledger, C: Ledger, O: Ledger, E: Ledger, B: Bond>(
+    pub fn keep<'a, D: SwapDev, T: Ledger, C: Ledger, O: Ledger, E: Ledger, B: Ties>(
         &mut self,
         host: &mut OwnedHost<D, T, C, O, E, B>,
         alloc: Global,

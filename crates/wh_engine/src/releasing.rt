@@ -11,17 +11,16 @@ ghost use Rattle.wh_engine.specs.Obeying.{IsNamed, ObeysCommand, reply_to_releas
 use crate::engine::Engine;
 use std::alloc::Global;
 use std::sync::ledger::Ledger;
-use wh_cell::OwnedHost;
+use wh_cell::{OwnedHost, Ties};
 use wh_host::HostError;
 use wh_swap::SwapDev;
-use wh_workers::Bond;
 
 impl Engine {
     /// Lets the instance of a number go: its output.
     ///
     /// # Errors
     /// `NoInstance` where it was released before. Nothing is done then.
-    pub fn release<D: SwapDev, T: Ledger, C: Ledger, O: Ledger, E: Ledger, B: Bond>(
+    pub fn release<D: SwapDev, T: Ledger, C: Ledger, O: Ledger, E: Ledger, B: Ties>(
         &mut self,
         host: &mut OwnedHost<D, T, C, O, E, B>,
         alloc: Global,

@@ -10,12 +10,12 @@ use std::alloc::{AllocError, Global};
 use std::sync::Wait;
 use std::sync::ledger::Ledger;
 use std::thread::Threads;
-use wh_cell::{Manner, OwnedHost};
+use wh_cell::{Manner, OwnedHost, Ties};
 use wh_host::Host;
 use wh_host_model::InstId;
 use wh_kernels::PageHash;
 use wh_swap::SwapDev;
-use wh_workers::{Bond, ServeError};
+use wh_workers::ServeError;
 
 // Why calls weren't run, as a script says it.
 fn stops_by(error: ServeError) -> ScriptFault
@@ -73,7 +73,7 @@ impl Engine {
         C: Ledger + Send + 'static,
         O: Ledger + Send + 'static,
         E: Ledger + Send + 'static,
-        B: Bond + Send + 'static,
+        B: Ties + Send + 'static,
         H: PageHash + Copy + Send + 'static,
         R: Threads + Wait + Copy + Send + 'static,
     >(

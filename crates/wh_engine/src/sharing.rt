@@ -6,14 +6,13 @@ ghost use Rattle.wh_engine.specs.Standing.{engine_on};
 
 use crate::engine::Engine;
 use std::sync::ledger::Ledger;
-use wh_cell::OwnedHost;
+use wh_cell::{OwnedHost, Ties};
 use wh_kernels::PageHash;
 use wh_swap::SwapDev;
-use wh_workers::Bond;
 
 impl Engine {
     /// Begins a new epoch, in which no page was touched yet.
-    pub fn epoch<D: SwapDev, T: Ledger, C: Ledger, O: Ledger, E: Ledger, B: Bond>(
+    pub fn epoch<D: SwapDev, T: Ledger, C: Ledger, O: Ledger, E: Ledger, B: Ties>(
         &self,
         host: &mut OwnedHost<D, T, C, O, E, B>,
     )
@@ -26,7 +25,7 @@ impl Engine {
 
     /// Offers all pages of all instances for sharing, each under its hash. It is done where frames and slots are fewer than
     /// 2^32 together, as settings have it.
-    pub fn scan<H: PageHash, D: SwapDev, T: Ledger, C: Ledger, O: Ledger, E: Ledger, B: Bond>(
+    pub fn scan<H: PageHash, D: SwapDev, T: Ledger, C: Ledger, O: Ledger, E: Ledger, B: Ties>(
         &self,
         host: &mut OwnedHost<D, T, C, O, E, B>,
         hasher: &H,

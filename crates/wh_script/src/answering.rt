@@ -15,10 +15,10 @@ use crate::session::Session;
 use std::sync::Wait;
 use std::sync::ledger::Ledger;
 use std::thread::Threads;
+use wh_cell::Ties;
 use wh_commands::{Command, LineError, parse};
 use wh_engine::ScriptFault;
 use wh_swap::SwapDev;
-use wh_workers::Bond;
 
 impl<
     D: SwapDev + Drop + Send + 'static,
@@ -26,7 +26,7 @@ impl<
     C: Ledger + Send + 'static,
     O: Ledger + Send + 'static,
     E: Ledger + Send + 'static,
-    B: Bond + Send + 'static,
+    B: Ties + Send + 'static,
 > Session<D, T, C, O, E, B> {
     /// Puts what a line gets into the text, in place of what stood there.
     ///

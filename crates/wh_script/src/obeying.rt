@@ -14,15 +14,15 @@ ghost use Rattle.wh_script.specs.Answering.{IsNoInvoke, Obeys};
 use crate::files::{FileError, Source};
 use crate::session::Session;
 use std::sync::ledger::Ledger;
+use wh_cell::Ties;
 use wh_commands::{Command, Given, LineError};
 use wh_engine::ScriptFault;
 use wh_kernels::{ConstantHash, FnvHash};
 use wh_replies::{Reply, write_released};
 use wh_settings::HashKind;
 use wh_swap::SwapDev;
-use wh_workers::Bond;
 
-impl<D: SwapDev, T: Ledger, C: Ledger, O: Ledger, E: Ledger, B: Bond> Session<D, T, C, O, E, B> {
+impl<D: SwapDev, T: Ledger, C: Ledger, O: Ledger, E: Ledger, B: Ties> Session<D, T, C, O, E, B> {
     /// Puts what a command gets behind the text. A call is asked for elsewhere, since it is taken before all calls have run.
     ///
     /// # Errors

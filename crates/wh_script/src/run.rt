@@ -19,11 +19,10 @@ use std::marker::Brand;
 use std::sync::Wait;
 use std::sync::ledger::Ledger;
 use std::thread::Threads;
-use wh_cell::Fittings;
+use wh_cell::{Fittings, Ties};
 use wh_engine::ScriptFault;
 use wh_settings::{Settings, Workers};
 use wh_swap::SwapDev;
-use wh_workers::Bond;
 
 /// Reads a script to its end, obeys it on a host of its own, whose calls so many threads run, and writes the replies. Pages
 /// are swapped to the device, which has as many slots as the settings say, and nothing in them. The device comes back, but
@@ -69,13 +68,13 @@ pub fn run_script<
     )
 }
 
-/// Runs a script on a host with these fittings, whose ledgers and pact its parameters name.
+/// Runs a script on a host with these fittings, whose ledgers and pacts its parameters name.
 fn run_fitted<
     T: Ledger + Send + 'static,
     C: Ledger + Send + 'static,
     O: Ledger + Send + 'static,
     E: Ledger + Send + 'static,
-    B: Bond + Send + 'static,
+    B: Ties + Send + 'static,
     R: Read,
     W: Write,
     S: Source,
@@ -92,7 +91,8 @@ fn run_fitted<
     writer: &mut W,
 ) -> (Result<(), ScriptFault>, Option<D>)
     requires empty { IsEmptyDevice settings.now.slots (D.held fittings.device) }
-    requires pact { fittings.pact ≡ B.table }
+    requires owned { fittings.to_owner ≡ B.to_owner }
+    requires backed { fittings.to_device ≡ B.to_device }
     requires turns { (fittings.turns.name ≡ T.name) × (fittings.turns.parts ≡ T.parts)
         × (64 < T.parts) }
     requires charges { (fittings.charges.name ≡ C.name) × (fittings.charges.parts ≡ C.parts)
@@ -126,7 +126,7 @@ impl<
     C: Ledger + Send + 'static,
     O: Ledger + Send + 'static,
     E: Ledger + Send + 'static,
-    B: Bond + Send + 'static,
+    B: Ties + Send + 'static,
 > Session<D, T, C, O, E, B> {
     /// Obeys the lines of a script that has made nothing yet, from the first to the last, and writes the replies.
     ///

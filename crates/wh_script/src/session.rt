@@ -17,7 +17,7 @@ use std::alloc::Global;
 use std::sync::Wait;
 use std::sync::ledger::Ledger;
 use std::thread::Threads;
-use wh_cell::{Fittings, Manner, OwnedHost};
+use wh_cell::{Fittings, Manner, OwnedHost, Ties};
 use wh_commands::LineError;
 use wh_engine::{Engine, ScriptFault};
 use wh_host::Host;
@@ -25,13 +25,12 @@ use wh_kernels::{ConstantHash, FnvHash};
 use wh_replies::{Reply, write_reply};
 use wh_settings::{HashKind, Settings, Workers};
 use wh_swap::SwapDev;
-use wh_workers::Bond;
 
 const LONGEST_REPLY: usize = 128;
 
 /// What a script has made so far, the host on which it runs, and the text of the replies to the present line.
 #[derive(Drop)]
-pub struct Session<D: SwapDev, T: Ledger, C: Ledger, O: Ledger, E: Ledger, B: Bond> {
+pub struct Session<D: SwapDev, T: Ledger, C: Ledger, O: Ledger, E: Ledger, B: Ties> {
     pub alloc: Global,
     pub engine: Engine,
     pub host: OwnedHost<D, T, C, O, E, B>,
@@ -44,7 +43,7 @@ pub struct Session<D: SwapDev, T: Ledger, C: Ledger, O: Ledger, E: Ledger, B: Bo
     pub workers: Workers,
 }
 
-impl<D: SwapDev + Drop, T: Ledger, C: Ledger, O: Ledger, E: Ledger, B: Bond> Session<
+impl<D: SwapDev + Drop, T: Ledger, C: Ledger, O: Ledger, E: Ledger, B: Ties> Session<
     D,
     T,
     C,
@@ -63,7 +62,8 @@ impl<D: SwapDev + Drop, T: Ledger, C: Ledger, O: Ledger, E: Ledger, B: Bond> Ses
         fittings: Fittings<D>,
     ) -> Result<Session<D, T, C, O, E, B>, ScriptFault>
         requires empty { IsEmptyDevice settings.now.slots (D.held fittings.device) }
-        requires pact { fittings.pact ≡ B.table }
+        requires owned { fittings.to_owner ≡ B.to_owner }
+        requires backed { fittings.to_device ≡ B.to_device }
         requires turns { (fittings.turns.name ≡ T.name) × (fittings.turns.parts ≡ T.parts)
             × (64 < T.parts) }
         requires charges { (fittings.charges.name ≡ C.name) × (fittings.charges.parts ≡ C.parts)
@@ -96,9 +96,7 @@ impl<D: SwapDev + Drop, T: Ledger, C: Ledger, O: Ledger, E: Ledger, B: Bond> Ses
             workers,
         })
     }
-}
 
-impl<D: SwapDev, T: Ledger, C: Ledger, O: Ledger, E: Ledger, B: Bond> Session<D, T, C, O, E, B> {
     /// The device, when the script is done with.
     pub fn into_device(self) -> D
         ensures { self.host.device ≡ Some result }
@@ -106,7 +104,9 @@ impl<D: SwapDev, T: Ledger, C: Ledger, O: Ledger, E: Ledger, B: Bond> Session<D,
         let Session { host, .. } = self;
         host.into_device()
     }
+}
 
+impl<D: SwapDev, T: Ledger, C: Ledger, O: Ledger, E: Ledger, B: Ties> Session<D, T, C, O, E, B> {
     /// The number of the module of this name, if there is one.
     pub fn module_named(&self, name: &str) -> Option<usize>
         ensures there { IfSome result (λ k. k < self.now.engine.modules) }
@@ -175,7 +175,7 @@ impl<
     C: Ledger + Send + 'static,
     O: Ledger + Send + 'static,
     E: Ledger + Send + 'static,
-    B: Bond + Send + 'static,
+    B: Ties + Send + 'static,
 > Session<D, T, C, O, E, B> {
     /// Runs all calls by threads until none can go on, and puts the lines of that behind the text. An epoch begins where some
     /// call can go on.

@@ -1,7 +1,6 @@
 pub mod Agreement
 pub mod Counting
 pub mod EachAt
-pub mod Errands
 pub mod Handover
 pub mod Lending
 pub mod Working

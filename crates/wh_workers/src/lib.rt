@@ -24,7 +24,7 @@ mod work;
 mod worker;
 
 pub use books::Books;
-pub use changes::{Change, Errand, Opened, SlotMatter};
+pub use changes::Change;
 pub use channel::{
     Balance, Inlet, Message, Outlet, Slip, Traffic, hand_out, left_over, open_channel, pass_for,
     put_back, receive,

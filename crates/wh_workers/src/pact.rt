@@ -1,18 +1,15 @@
 // The value on which the holders of two locks agree.
 
-ghost use Rattle.std.specs.Prelude.{◌≡◌, [], Some, None, slice_get};
+ghost use Rattle.std.specs.Prelude.{◌≡◌, Some};
 ghost use Rattle.crossbeam_queue.specs.Passes.{view, IsPassOf};
-ghost use Rattle.wh_workers.specs.Agreement.{knowing, with_content, with_ticket};
-ghost use Rattle.wh_workers.specs.Errands.{errand_of};
-ghost use Rattle.wh_host_model.specs.Space.Errands.{to_write};
+ghost use Rattle.wh_workers.specs.Agreement.{knowing};
 
-use crate::changes::{Change, Errand, SlotMatter, Ticket, Unwritten, Written};
+use crate::changes::Change;
 use crate::known::{Agree, Apart, Idle, Known, Matter, Picks, Same, Together};
 use crossbeam_queue::{Pass, RuledArrayQueue};
 use std::alloc::{AllocError, Global};
 use std::marker::{Brand, Model, PhantomData};
 use std::mem;
-use std::snapshot::Snapshot;
 
 /// Names one pact. A proof picks which at a call, as that of a ledger.
 pub trait Bond {
@@ -184,79 +181,5 @@ impl<B: Bond, V: Matter> Pact<B, V> {
         ensures second { second.new ≡ first.new }
     {
         self.change::<Brand, C>(first, second, by);
-    }
-}
-
-impl<B: Bond> Pact<B, SlotMatter> {
-    /// A ticket goes out for a slot for which none is out.
-    pub fn begin(
-        &self,
-        memory: &mut Half<B, SlotMatter>,
-        device: &mut Half<B, SlotMatter>,
-        slot: u32,
-        errand: Errand,
-    )
-        requires { slice_get memory.old.out slot ≡ Some None }
-        ensures agreed { memory.old ≡ device.old }
-        ensures memory { memory.new ≡ with_ticket memory.old slot (Some (errand_of errand)) }
-        ensures device { device.new ≡ memory.new }
-    {
-        let by = Ticket {
-            slot,
-            errand: Some(errand),
-        };
-        self.settle(memory, device, &by);
-    }
-
-    /// After a device call that wrote these bytes to a slot, for which a ticket is out.
-    pub fn written(
-        &self,
-        memory: &mut Half<B, SlotMatter>,
-        device: &mut Half<B, SlotMatter>,
-        slot: u32,
-        bytes: &[u8; 4096],
-    )
-        requires { slice_get device.old.out slot ≡ Some (Some to_write) }
-        ensures agreed { memory.old ≡ device.old }
-        ensures memory { memory.new ≡ with_content memory.old slot bytes.now }
-        ensures device { device.new ≡ memory.new }
-    {
-        let by = Written {
-            slot,
-            bytes: Snapshot::of(bytes),
-        };
-        self.settle(memory, device, &by);
-    }
-
-    /// After a device call that should have written a slot, for which a ticket is out, and failed.
-    pub fn unwritten(
-        &self,
-        memory: &mut Half<B, SlotMatter>,
-        device: &mut Half<B, SlotMatter>,
-        slot: u32,
-    )
-        requires { slice_get device.old.out slot ≡ Some (Some to_write) }
-        ensures agreed { memory.old ≡ device.old }
-        ensures memory { memory.new ≡ with_content memory.old slot [] }
-        ensures device { device.new ≡ memory.new }
-    {
-        self.settle(memory, device, &Unwritten { slot });
-    }
-
-    /// A ticket that is out comes back.
-    pub fn commit(
-        &self,
-        memory: &mut Half<B, SlotMatter>,
-        device: &mut Half<B, SlotMatter>,
-        slot: u32,
-        errand: Errand,
-    )
-        requires { slice_get device.old.out slot ≡ Some (Some (errand_of errand)) }
-        ensures agreed { memory.old ≡ device.old }
-        ensures memory { memory.new ≡ with_ticket memory.old slot None }
-        ensures device { device.new ≡ memory.new }
-    {
-        let _ = errand;
-        self.settle(memory, device, &Ticket { slot, errand: None });
     }
 }

@@ -1,14 +1,14 @@
 // Each part once, at concrete types; and threads that run to their end.
 
-ghost use Rattle.std.specs.Prelude.{◌≡◌, ◌<◌};
+ghost use Rattle.std.specs.Prelude.{◌≡◌, ◌<◌, IfOk};
 
 use crate::{
-    BlankPact, Bond, Books, Errand, Half, Help, Helper, Jobs, Message, Opened, Progress, Shares,
-    SlotMatter, Supply, Tally, Turns, Worker, hand_out, left_over, open_channel, pass_for,
-    put_back, receive, serve,
+    BlankPact, Bond, Books, Change, Half, Help, Helper, Jobs, Matter, Message, Progress, Shares,
+    Supply, Tally, Turns, Worker, hand_out, left_over, open_channel, pass_for, put_back, receive,
+    serve,
 };
 use std::alloc::{AllocError, Global};
-use std::marker::Brand;
+use std::marker::{Brand, Model, PhantomData};
 use std::sync::ledger::{Blank, Ledger};
 use std::sync::{Arc, Barrier, Condvar, Mutex, Wait};
 use std::test::Fail;
@@ -103,32 +103,55 @@ fn messages_are_handed_over(rt: HostRuntime) -> Result<(), Fail> {
     Ok(())
 }
 
-// A page is written to slot 1, and read; then the device's half goes through another thread.
-fn write_and_read<B: Bond + Send + 'static, R: Threads>(
+// A pact about a number of contracts.
+struct NumberMatter {
+    none: PhantomData<u8>,
+}
+
+impl Model for NumberMatter {
+    ghost use Rattle.std.specs.Prelude.{ℕ};
+
+    ghost Value = { ℕ };
+
+    ghost view = { λ _. 0 };
+}
+
+impl Matter for NumberMatter {
+    ghost nothing = { 0 };
+}
+
+// So much is added.
+#[derive(Clone, Copy)]
+struct Added {
+    amount: u32,
+}
+
+impl Change<NumberMatter> for Added {
+    ghost use Rattle.std.specs.Prelude.{◌+◌};
+
+    ghost after = { λ c n. n + c.amount };
+}
+
+// Both know 3, and then 5; one half goes through another thread, and both know 12.
+fn agree_on<B: Bond + Send + 'static, R: Threads>(
     rt: &R,
-    blank: BlankPact<SlotMatter>,
-) -> Result<bool, AllocError>
+    blank: BlankPact<NumberMatter>,
+) -> Result<(Half<B, NumberMatter>, Half<B, NumberMatter>), AllocError>
     requires { blank ≡ B.table }
+    ensures { IfOk result (λ r. r.0 ≡ r.1) }
 {
-    let (pact, mut memory, mut device) = blank.open::<B, Opened>(&Opened { slots: 3 });
-    pact.begin(&mut memory, &mut device, 1, Errand::Write);
-    pact.written(&mut memory, &mut device, 1, &[7; 4096]);
-    pact.commit(&mut memory, &mut device, 1, Errand::Write);
-    pact.begin(&mut memory, &mut device, 1, Errand::Read);
-    pact.commit(&mut memory, &mut device, 1, Errand::Read);
-    pact.begin(&mut memory, &mut device, 2, Errand::Write);
-    pact.unwritten(&mut memory, &mut device, 2);
-    pact.commit(&mut memory, &mut device, 2, Errand::Write);
-    let child = thread::spawn(rt, move || -> Half<B, SlotMatter> { device })?;
+    let (pact, mut first, mut second) = blank.open::<B, Added>(&Added { amount: 3 });
+    pact.settle(&mut first, &mut second, &Added { amount: 2 });
+    let child = thread::spawn(rt, move || -> Half<B, NumberMatter> { second })?;
     let mut back = child.join(rt);
-    pact.settle(&mut memory, &mut back, &Opened { slots: 2 });
-    Ok(true)
+    pact.settle(&mut first, &mut back, &Added { amount: 7 });
+    Ok((first, back))
 }
 
 #[test]
 fn two_holders_agree(rt: HostRuntime) -> Result<(), Fail> {
     let blank = BlankPact::new(rt.alloc())?;
-    assert!(rt; write_and_read::<Brand, HostRuntime>(&rt, blank)?);
+    assert!(rt; agree_on::<Brand, HostRuntime>(&rt, blank).is_ok());
     Ok(())
 }
 

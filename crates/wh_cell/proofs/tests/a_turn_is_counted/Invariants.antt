@@ -12,5 +12,5 @@ ghosts-one_turn-O-Ledger g a = record { name = a.blanks.offers.name; parts = a.b
 abbrev pub ghosts-one_turn-E-Ledger : goal.ghosts-one_turn-E-Ledger
 ghosts-one_turn-E-Ledger g a = record { name = a.blanks.evictions.name; parts = a.blanks.evictions.parts }
 
-abbrev pub ghosts-one_turn-B-Bond : goal.ghosts-one_turn-B-Bond
-ghosts-one_turn-B-Bond g a = record { table = a.blanks.pact }
+abbrev pub ghosts-one_turn-B-Ties : goal.ghosts-one_turn-B-Ties
+ghosts-one_turn-B-Ties g a = record { to_owner = a.blanks.to_owner; to_device = a.blanks.to_device }

@@ -12,5 +12,5 @@ ghosts-all_work-O-Ledger g a = record { name = a.blanks.offers.name; parts = a.b
 abbrev pub ghosts-all_work-E-Ledger : goal.ghosts-all_work-E-Ledger
 ghosts-all_work-E-Ledger g a = record { name = a.blanks.evictions.name; parts = a.blanks.evictions.parts }
 
-abbrev pub ghosts-all_work-B-Bond : goal.ghosts-all_work-B-Bond
-ghosts-all_work-B-Bond g a = record { table = a.blanks.pact }
+abbrev pub ghosts-all_work-B-Ties : goal.ghosts-all_work-B-Ties
+ghosts-all_work-B-Ties g a = record { to_owner = a.blanks.to_owner; to_device = a.blanks.to_device }

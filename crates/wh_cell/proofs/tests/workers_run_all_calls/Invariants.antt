@@ -12,5 +12,5 @@ ghosts-all_run-O-Ledger g a = record { name = a.blanks.offers.name; parts = a.bl
 abbrev pub ghosts-all_run-E-Ledger : goal.ghosts-all_run-E-Ledger
 ghosts-all_run-E-Ledger g a = record { name = a.blanks.evictions.name; parts = a.blanks.evictions.parts }
 
-abbrev pub ghosts-all_run-B-Bond : goal.ghosts-all_run-B-Bond
-ghosts-all_run-B-Bond g a = record { table = a.blanks.pact }
+abbrev pub ghosts-all_run-B-Ties : goal.ghosts-all_run-B-Ties
+ghosts-all_run-B-Ties g a = record { to_owner = a.blanks.to_owner; to_device = a.blanks.to_device }

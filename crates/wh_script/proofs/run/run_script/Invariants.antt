@@ -12,5 +12,5 @@ ghosts-run_fitted-O-Ledger g a = record { name = a.fittings.offers.name; parts =
 abbrev pub ghosts-run_fitted-E-Ledger : goal.ghosts-run_fitted-E-Ledger
 ghosts-run_fitted-E-Ledger g a = record { name = a.fittings.evictions.name; parts = a.fittings.evictions.parts }
 
-abbrev pub ghosts-run_fitted-B-Bond : goal.ghosts-run_fitted-B-Bond
-ghosts-run_fitted-B-Bond g a = record { table = a.fittings.pact }
+abbrev pub ghosts-run_fitted-B-Ties : goal.ghosts-run_fitted-B-Ties
+ghosts-run_fitted-B-Ties g a = record { to_owner = a.fittings.to_owner; to_device = a.fittings.to_device }

@@ -1,4 +1,4 @@
 use Rattle.wh_workers.proofs.tests.two_holders_agree.Given as goal
 
-abbrev pub ghosts-write_and_read : goal.ghosts-write_and_read
-ghosts-write_and_read g a = record { table = a.blank }
+abbrev pub ghosts-agree_on : goal.ghosts-agree_on
+ghosts-agree_on g a = record { table = a.blank }

@@ -1,4 +1,5 @@
-use Rattle.std.proofs.Common.{refl, sym, subst, ◌∙◌}
+use Rattle.std.proofs.Common.{◌∙◌, ap, refl, subst, sym}
+use Rattle.std.specs.Prelude.{IfSome}
 use Rattle.wh_host.specs.Showing.{StandsByEvents}
 use Rattle.wh_cell.specs.Leaving.{LeftState}
 use Rattle.wh_cell.specs.Locking.{LockedState}
@@ -12,6 +13,7 @@ invariant_of-self g c =
 
 pub returns-clause-led : goal.returns-clause-led
 returns-clause-led g c led is =
-    led_on g.D.SwapDev.keeps g.D.SwapDev.honest g.D.SwapDev.faults c.self.inside.left c.self.inside.device c.self.inside.host c.self.invariant.came
-    (subst (λ (z : LeftState g.row.D.Denot). StandsByEvents z.host) c.leave.ensures.agreed led)
-    (subst (λ (l : LockedState g.row.D.Denot). g.D.SwapDev.honest l.device) (sym c.self.view_is) is)
+    let s = c.self.invariant in
+    let honest = subst (λ x. IfSome x (λ device. g.D.SwapDev.honest device)) (sym (ap (λ (l : LockedState g.row.D.Denot). l.known.device) c.self.view_is) ∙ s.agrees.has) is in
+    led_on g.D.SwapDev.keeps g.D.SwapDev.honest g.D.SwapDev.faults c.self.inside.left s.device c.self.inside.host s.came
+    (subst (λ (z : LeftState g.row.D.Denot). StandsByEvents z.host) c.leave.ensures.agreed led) honest

@@ -1,4 +1,4 @@
-use Rattle.std.proofs.Common.{ap, subst}
+use Rattle.std.proofs.Common.{ap, refl, subst}
 use Rattle.wh_host.specs.Paging.{MovesOnly}
 use Rattle.wh_cell.specs.Locking.{LockedState}
 use Rattle.wh_cell.proofs.Steps.{moved_in_step}
@@ -6,6 +6,9 @@ use Rattle.wh_cell.proofs.locked.Locked.offer.Goals as goal
 
 pub invariant_of-self : goal.invariant_of-self
 invariant_of-self g c = moved_in_step g.D.SwapDev.held g.D.SwapDev.keeps g.D.SwapDev.honest g.D.SwapDev.faults _ c.offer-offered.new.self _ c.self.invariant c.offer-offered.ensures.moves c.offer-offered.ensures.backing (ap (λ b. b.charges) c.offer.ensures.books)
+
+pub invariant_of-self-else-is_some : goal.invariant_of-self-else-is_some
+invariant_of-self-else-is_some g c = moved_in_step g.D.SwapDev.held g.D.SwapDev.keeps g.D.SwapDev.honest g.D.SwapDev.faults _ c.offer-offered.new.self _ c.self.invariant c.offer-offered.ensures.moves c.offer-offered.ensures.backing refl
 
 pub returns-then-is_some-clause-moves : goal.returns-then-is_some-clause-moves
 returns-then-is_some-clause-moves g c = subst (λ (l : LockedState g.row.D.Denot). MovesOnly l.host c.offer-offered.new.self) c.self.view_is c.offer-offered.ensures.moves

@@ -2,10 +2,14 @@ use Rattle.std.proofs.Common.{ap, sym}
 use Rattle.wh_host_model.specs.Host.Happens.{IsRefuel}
 use Rattle.wh_host.specs.Asking.{AnswersCall}
 use Rattle.wh_cell.specs.Leaving.{LeftState}
-use Rattle.wh_cell.proofs.InHand.{on_owned}
+use Rattle.wh_cell.proofs.InHand.{in_hand_on, on_owned}
 use Rattle.wh_cell.proofs.owned.OwnedHost.refuel.Goals as goal
+
+pub invariant_of-self : goal.invariant_of-self
+invariant_of-self g c =
+    in_hand_on c.self.inside.locked c.self.inside.backing c.self.inside.owner c.refuel.new.owner c.in-Some.locked c.refuel.new.self c.self.invariant c.in-Some.is c.refuel.ensures.known c.refuel.ensures.knows
 
 pub returns-clause-asks : goal.returns-clause-asks
 returns-clause-asks g c =
-    on_owned (λ h h2. AnswersCall h (λ w answer w2. IsRefuel w c.args.id c.args.fuel answer w2) c.refuel.result h2) c.self.inside.locked c.self.inside.owner c.args.self.now c.in-Some.locked c.refuel.new.self.host c.refuel.new.owner.host
+    on_owned (λ h h2. AnswersCall h (λ w answer w2. IsRefuel w c.args.id c.args.fuel answer w2) c.refuel.result h2) c.self.inside.locked c.self.inside.backing c.self.inside.owner c.args.self.now c.in-Some.locked c.refuel.new.self.host c.refuel.new.owner.host
     c.self.invariant c.self.view_is c.in-Some.is (sym (ap (λ (z : LeftState g.row.D.Denot). z.host) c.refuel.ensures.knows)) c.refuel.ensures.asks

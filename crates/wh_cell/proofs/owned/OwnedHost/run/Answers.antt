@@ -1,7 +1,15 @@
-use Rattle.std.proofs.Common.{◌≡◌, ◌∙◌, ap}
-use Rattle.wh_cell.proofs.InHand.{comes_on}
+use Rattle.std.proofs.Common.{◌≡◌, ◌∙◌, ap, sym}
+use Rattle.wh_cell.specs.Knowing.{BackingState, known_of}
+use Rattle.wh_cell.specs.Locking.{LockedState}
+use Rattle.wh_cell.proofs.InHand.{comes_on, in_hand_still, now_same}
 use Rattle.wh_cell.proofs.owned.OwnedHost.run.Goals.{in-Ok, in-Err}
 use Rattle.wh_cell.proofs.owned.OwnedHost.run.Goals as goal
+
+pub invariant_of-self : goal.invariant_of-self
+invariant_of-self g c =
+    let agree = c.meet.ensures.known ∙ ap (λ (l : LockedState g.row.D.Denot). l.known) c.face.ensures.same.0 ∙ c.face.ensures.agreed
+    ∙ ap (λ (b : BackingState g.row.D.Denot). known_of b) (sym c.face.ensures.same.1) in
+    in_hand_still c.meet.new.owner c.meet.new.self c.face.new.backing agree c.meet.ensures.knows
 
 pub returns : goal.returns
 returns g c =
@@ -11,6 +19,6 @@ returns g c =
       | in-Err w ↦ ap (λ s. s.owner) w.self-inside-is
     ] in
     record {
-      came = comes_on g.D.SwapDev.keeps g.D.SwapDev.honest g.D.SwapDev.faults _ c.args.self.now c.meet.new.owner _ _ c.meet.new.self
-          (same ∙ c.self.view_is) c.meet.ensures.came c.meet.ensures.host c.meet.ensures.device c.meet.ensures.knows;
+      came = comes_on g.D.SwapDev.keeps g.D.SwapDev.honest g.D.SwapDev.faults m.self-inside.owner c.args.self.now c.meet.new.owner c.face.new.self
+          (same ∙ c.self.view_is) c.meet.ensures.came (c.meet.ensures.knows ∙ now_same c.meet.new.self c.face.new.self c.meet.ensures.host c.meet.ensures.known);
     }

@@ -1,10 +1,14 @@
 use Rattle.std.proofs.Common.{◌∙◌, ap, sym}
 use Rattle.wh_host.specs.Paging.{MovesOnly}
 use Rattle.wh_cell.specs.Leaving.{LeftState}
-use Rattle.wh_cell.proofs.InHand.{on_owned}
+use Rattle.wh_cell.proofs.InHand.{in_hand_on, on_owned}
 use Rattle.wh_cell.proofs.owned.OwnedHost.scan.Goals as goal
+
+pub invariant_of-self : goal.invariant_of-self
+invariant_of-self g c =
+    in_hand_on c.self.inside.locked c.self.inside.backing c.self.inside.owner c.meet.new.owner c.in-Some.locked c.meet.new.self c.self.invariant c.in-Some.is (c.meet.ensures.known ∙ c.scan.ensures.known) c.meet.ensures.knows
 
 pub returns-clause-moves : goal.returns-clause-moves
 returns-clause-moves g c =
-    on_owned MovesOnly c.self.inside.locked c.self.inside.owner c.args.self.now c.in-Some.locked c.scan.new.self.host c.meet.new.owner.host
+    on_owned MovesOnly c.self.inside.locked c.self.inside.backing c.self.inside.owner c.args.self.now c.in-Some.locked c.scan.new.self.host c.meet.new.owner.host
     c.self.invariant c.self.view_is c.in-Some.is (sym (ap (λ (z : LeftState g.row.D.Denot). z.host) c.meet.ensures.knows ∙ c.meet.ensures.host)) c.scan.ensures.moves

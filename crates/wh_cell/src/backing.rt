@@ -1,0 +1,57 @@
+//! What lies under the lock of the swap device.
+
+ghost use Rattle.std.specs.Prelude.{◌≡◌, Some};
+ghost use Rattle.wh_cell.specs.Knowing.{NoneOut, known_of};
+
+use crate::keeper::Keeper;
+use crate::ties::Ties;
+use std::marker::Model;
+use wh_reclaim::Buf;
+use wh_swap::SwapDev;
+
+/// A swap device with who keeps it, and a buffer for the page of a call. It has a lock of its own, so that its calls are made
+/// while others go on under the host's. Contracts see the device and the tickets for its slots.
+///
+/// Its type keeps that no ticket is out while nobody has that lock, and that the host knows the device as it is.
+#[derive(Drop)]
+pub struct Backing<D: SwapDev, B: Ties> {
+    pub(crate) device: D,
+    // There is always one, but while a call is made.
+    pub(crate) buf: Option<Buf>,
+    pub(crate) keeper: Keeper<D, B>,
+}
+
+impl<D: SwapDev, B: Ties> Model for Backing<D, B> {
+    ghost use Rattle.wh_cell.specs.Knowing.{BackingState};
+    ghost use Rattle.wh_cell.specs.Locking.{IsKept};
+
+    ghost Value = { BackingState D };
+
+    ghost use Rattle.wh_cell.specs.Stored.{stored_backing};
+
+    ghost coded = { stored_backing D.code };
+
+    ghost view = { λ b. record { device = b.device; out = b.keeper.out } };
+
+    ghost invariant = { λ b. IsKept b.device b.buf b.keeper };
+}
+
+impl<D: SwapDev + Drop, B: Ties> Backing<D, B> {
+    /// The device, when the host is done with.
+    pub fn into_device(self) -> D
+        ensures { result ≡ self.device }
+    {
+        let Backing { device, .. } = self;
+        device
+    }
+}
+
+impl<D: SwapDev, B: Ties> Backing<D, B> {
+    // What always holds.
+    #[inline(always)]
+    pub(crate) fn known(&self)
+        ensures { NoneOut self.now.out }
+    {
+        let _ = &self.buf;
+    }
+}
