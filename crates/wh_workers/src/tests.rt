@@ -148,10 +148,21 @@ fn agree_on<B: Bond + Send + 'static, R: Threads>(
     Ok((first, back))
 }
 
+// The same, and both halves are let go.
+fn agree_once<B: Bond + Send + 'static, R: Threads>(
+    rt: &R,
+    blank: BlankPact<NumberMatter>,
+) -> Result<bool, AllocError>
+    requires { blank ≡ B.table }
+{
+    let (_first, _second) = agree_on::<B, R>(rt, blank)?;
+    Ok(true)
+}
+
 #[test]
 fn two_holders_agree(rt: HostRuntime) -> Result<(), Fail> {
     let blank = BlankPact::new(rt.alloc())?;
-    assert!(rt; agree_on::<Brand, HostRuntime>(&rt, blank).is_ok());
+    assert!(rt; agree_once::<Brand, HostRuntime>(&rt, blank)?);
     Ok(())
 }
 
