@@ -9,7 +9,11 @@
 mod error;
 mod items;
 mod linked;
+mod records;
+mod tags;
 
 pub use error::LinkError;
 pub use items::is_signature;
 pub use linked::{Linked, link};
+pub use records::FuncRecord;
+pub use tags::Tag;

@@ -5,12 +5,14 @@ ghost use Rattle.wh_model.specs.Linking.Imports.{Links};
 ghost use Rattle.wh_syntax.specs.View.{view_module};
 ghost use Rattle.wh_bodies.specs.Views.{view_side};
 ghost use Rattle.wh_validate.specs.Soundness.{IsChecked};
+ghost use Rattle.wh_imports.specs.Records.{AreRecords};
 ghost use Rattle.wh_imports.specs.Resolving.{IsResolved, Adds};
 ghost use Rattle.wh_imports.specs.Joined.{LinkedState, stored_joined};
 ghost use Rattle.wh_imports.specs.Refusing.{RefusesLink};
 
 use crate::error::LinkError;
 use crate::items::item_of;
+use crate::records::{FuncRecord, records_of};
 use std::alloc::Global;
 use std::marker::Model;
 use wh_bodies::SideTable;
@@ -24,6 +26,7 @@ pub struct Linked {
     valid: ValidModule,
     funcs: Vec<HostFunc>,
     globals: Vec<HostGlobal>,
+    records: Vec<FuncRecord>,
 }
 
 impl Model for Linked {
@@ -38,7 +41,8 @@ impl Model for Linked {
     } };
 
     ghost invariant = { λ l. IsChecked (view_module l.valid.decoded) (map view_side l.valid.tables)
-        × IsResolved (view_module l.valid.decoded) l.funcs.items l.globals.items };
+        × IsResolved (view_module l.valid.decoded) l.funcs.items l.globals.items
+        × AreRecords (view_module l.valid.decoded) l.records.items };
 }
 
 impl Linked {
@@ -58,6 +62,13 @@ impl Linked {
         ensures { result.now ≡ self.now.valid.tables }
     {
         self.valid.tables()
+    }
+
+    /// What is looked up of each function that the module defines, in order.
+    pub fn records(&self) -> &[FuncRecord]
+        ensures { AreRecords (view_module self.now.valid.decoded) result.now }
+    {
+        &self.records
     }
 
     /// The functions that are imported, in order: what the first indices of functions name.
@@ -131,9 +142,11 @@ pub fn link(alloc: Global, valid: ValidModule) -> Result<Linked, LinkError>
     ensures err { IfErr result (RefusesLink (view_module valid.decoded)) }
 {
     let resolved = resolve(alloc, valid.module())?;
+    let records = records_of(alloc, valid.module())?;
     Ok(Linked {
         valid,
         funcs: resolved.funcs,
         globals: resolved.globals,
+        records,
     })
 }

@@ -21,3 +21,5 @@ pub mod Takings
 pub mod Coming
 pub mod Seeing
 pub mod Quickly
+pub mod Totals
+pub mod Tagged

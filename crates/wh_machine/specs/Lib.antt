@@ -13,3 +13,4 @@ pub mod Stepping
 pub mod Looking
 pub mod Tried
 pub mod Quick
+pub mod Total

@@ -5,6 +5,7 @@ ghost use Rattle.wh_control.specs.Moves.{moved};
 ghost use Rattle.wh_syntax.specs.declared.instr.Instr.TheVariants.{Nop, Block, Loop, Drop, Select, LocalGet, LocalSet, LocalTee, I32Const, I64Const, Test, Compare, Unary, Binary, Convert, End};
 ghost use Rattle.wh_machine.specs.declared.machine.Exec.TheVariants.{Free, Charged};
 ghost use Rattle.wh_machine.specs.Alone.{ComesNextAnywhere, IsExecAnywhere};
+ghost use Rattle.wh_machine.specs.Total.{IsTotal};
 
 use crate::bytes::{word_of, word_of_i32};
 use crate::machine::{Exec, Stack};
@@ -85,6 +86,19 @@ pub fn exec_binary(stack: &mut Stack, width: ValType, op: BinaryOp) -> Exec
             Exec::Charged
         }
         Err(trap) => Exec::Trapped(trap),
+    }
+}
+
+/// A binary operator of this type that never traps.
+#[inline(always)]
+pub fn exec_total(stack: &mut Stack, width: ValType, op: BinaryOp)
+    requires next { ComesNextAnywhere stack.old (Binary width op) }
+    requires total { IsTotal op }
+    ensures { IsExecAnywhere stack.old (Binary width op) Charged stack.new }
+{
+    match binary(&mut stack.words, width, op) {
+        Ok(()) => advance(stack),
+        Err(_) => unreachable!(),
     }
 }
 

@@ -10,6 +10,7 @@ mod calling;
 mod control;
 mod dispatch;
 mod hosts;
+mod immediates;
 mod instructions;
 mod machine;
 mod opening;

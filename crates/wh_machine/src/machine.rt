@@ -1,11 +1,12 @@
 //! What a machine is made of.
 
-ghost use Rattle.std.specs.Prelude.{IsSome};
-ghost use Rattle.wh_machine.specs.Held.{MachineState, stack_in};
+ghost use Rattle.wh_syntax.specs.View.{view_module};
+ghost use Rattle.wh_imports.specs.Records.{AreRecords};
 
 use std::marker::Model;
 use wh_bodies::{BranchEntry, SideTable};
 use wh_control::{CallFrame, CallStack, ValueStack};
+use wh_imports::{FuncRecord, Tag};
 use wh_model::{HostFunc, Need, Trap};
 use wh_syntax::{Instr, Module};
 
@@ -16,8 +17,12 @@ pub struct Program<'a> {
     pub module: &'a Module,
     /// The branch targets of each body.
     pub tables: &'a [SideTable],
+    /// What is looked up of each function.
+    pub records: &'a [FuncRecord],
     /// The functions that are imported.
     pub hosts: &'a [HostFunc],
+    // The records are those of the module's functions.
+    ghost recorded: { AreRecords (view_module module.now) records.now },
 }
 
 /// The code of one function.
@@ -31,6 +36,8 @@ pub struct Code<'a> {
     pub entries: &'a [BranchEntry],
     /// Where the labels of `br_table`s lead to.
     pub pool: &'a [BranchEntry],
+    /// The tag of each instruction, and `Past` behind them.
+    pub tags: &'a [Tag],
 }
 
 /// The words and the frames of calls.
@@ -54,6 +61,9 @@ pub struct Machine {
 }
 
 impl Model for Machine {
+    ghost use Rattle.std.specs.Prelude.{IsSome};
+    ghost use Rattle.wh_machine.specs.Held.{MachineState, stack_in};
+
     ghost Value = { MachineState };
 
     ghost view = { λ m. record { stack = stack_in m.stack; running = m.running } };

@@ -1,4 +1,4 @@
-use Rattle.std.proofs.Common.{◌≡◌, ◌<◌, length, refl, sym, ap, ◌∙◌, arith}
+use Rattle.std.proofs.Common.{◌≡◌, ◌<◌, Some, length, refl, sym, ap, ◌∙◌, arith}
 use Rattle.std.proofs.lemmas.Option.{slice_get_within, slice_get_read}
 use Rattle.wh_control.proofs.Standing.{mapped_at}
 use Rattle.wh_machine.proofs.SameTypes.{type_matches}
@@ -6,7 +6,7 @@ use Rattle.wh_syntax.specs.View.{view_type, view_body}
 use Rattle.wh_bodies.specs.Views.{view_side, type_at}
 use Rattle.std.specs.Prelude.{map}
 use Rattle.wh_control.specs.Represents.{Func}
-use Rattle.wh_machine.proofs.Lookups.{parts_of, all_of, read_at, type_is}
+use Rattle.wh_machine.proofs.Lookups.{parts_of, all_of, read_at, type_is, type_there}
 use Rattle.wh_machine.proofs.calling.own_has_type.Goals as goal
 
 pub index-requires : goal.index-requires
@@ -25,6 +25,15 @@ index-requires-2 c =
     let k = all_of (λ x. x < length m.types.items) m.funcs.items c.args.func p.x c.requires.named p.x_at in
     let o = m.types.ok in
     omega (arith, k, o, same)
+
+pub returns-then-own-type_index : goal.returns-then-own-type_index
+returns-then-own-type_index c g at =
+    let m = c.args.program.now.module.now in
+    let types = map view_type m.types.items in
+    let p = parts_of types m.funcs.items (map view_body m.bodies.items) (map view_side c.args.program.now.tables.now) c.args.func g at in
+    let same = read_at m.funcs.items c.args.func c.index.result.now p.x c.index.ensures p.x_at in
+    let e : p.x ≡ c.args.type_index = sym same ∙ c.if-own-type_index.true in
+    type_there m.types.items c.args.type_index c.requires.wanted ∙ ap (λ x. Some (type_at types x)) (sym e) ∙ ap (λ (h : Func). Some h.type) (sym p.is)
 
 pub returns : goal.returns
 returns c g at =
