@@ -4,9 +4,12 @@ ghost use Rattle.std.specs.Prelude.{◌≡◌, ◌+◌, ◌-◌, ◌^◌, ◌<�
 
 use crate::cell::HostCell;
 use crate::moving::Moved;
+use crate::place::Place;
 use crate::roster::{Choice, Roster, Waiter};
 use crate::ties::Ties;
 use std::alloc::{AllocError, Global};
+use std::hint;
+use std::sync::atomic::{AtomicU64, Ordering};
 use std::sync::ledger::Ledger;
 use std::sync::{Arc, Condvar, Mutex, Wait};
 use std::time::Duration;
@@ -17,7 +20,13 @@ use wh_swap::SwapDev;
 use wh_workers::{Help, Helper, Progress, Supply, Turns, Worker};
 
 // For how many turns that are handed out the scanner offers a page: more often than it has to.
-const TURNS_FOR_AN_OFFER: u64 = 16;
+const TURNS_FOR_AN_OFFER: u64 = 32;
+
+// For how many turns a worker receives turns while another one waits to do so.
+const TURNS_OF_A_STINT: u64 = 128;
+
+// So often who hands out turns looks whether its bell rang before it sleeps: some microseconds.
+const LOOKS: u32 = 100;
 
 // So long who hands out turns sleeps at most, in seconds, though nobody rings.
 const LONGEST_SLEEP: u64 = 1;
@@ -34,34 +43,49 @@ pub struct Desk {
     pub frame_wanted: Condvar,
     /// Rings where a page is owed for turns that were handed out: for the scanner.
     pub offer_owed: Condvar,
+    /// Which worker receives turns.
+    pub place: Place,
 }
 
 impl Desk {
-    /// A desk with this roster.
-    pub fn new(roster: Roster) -> Desk {
-        Desk {
+    /// A desk with this roster, for so many workers.
+    ///
+    /// # Errors
+    /// Where room was refused.
+    pub fn new(alloc: Global, roster: Roster, workers: usize) -> Result<Desk, AllocError> {
+        Ok(Desk {
             roster: Mutex::new(roster),
             turn_back: Condvar::new(),
             frame_wanted: Condvar::new(),
             offer_owed: Condvar::new(),
-        }
+            place: Place::new(alloc, workers)?,
+        })
     }
 
-    // A turn has come back, which ended so.
+    // A turn has come back, which ended so. Who hands out turns isn't woken for each: it may sleep until half of those that
+    // are out are due again.
     fn take_back<R: Wait>(&self, rt: &R, instance: InstId, end: TurnEnd) {
-        let was_ready = self.free_seat(rt, instance);
-        self.turn_back.notify_all();
+        let (was_ready, has_to_look) = self.note_end(rt, instance, end);
+        if has_to_look {
+            self.turn_back.notify_all();
+        }
         if was_ready || end == TurnEnd::Frame {
             self.frame_wanted.notify_all();
         }
     }
 
-    // No turn of the instance is out any more. Whether its step was the one that was made ready.
-    fn free_seat<R: Wait>(&self, rt: &R, instance: InstId) -> bool {
+    // The next turn of the instance is due where its call goes on, and else none is out any more. Whether its step was the one
+    // that was made ready, and whether who hands out turns has to look.
+    fn note_end<R: Wait>(&self, rt: &R, instance: InstId, end: TurnEnd) -> (bool, bool) {
         let mut roster = self.roster.lock(rt);
         let was_ready = roster.ready == Some(instance);
+        if end == TurnEnd::Again {
+            if let Ok(has_to_look) = roster.call_again(instance) {
+                return (was_ready, has_to_look);
+            }
+        }
         roster.bring_back(instance);
-        was_ready
+        (was_ready, true)
     }
 
     // How many turns were handed out.
@@ -80,6 +104,8 @@ pub struct TurnJob<D: SwapDev, T: Ledger, C: Ledger, O: Ledger, E: Ledger, B: Ti
     pub desk: Arc<Desk, Global>,
     /// How many charges a turn has.
     pub quantum: u32,
+    /// How many turns this worker has awaited since it has the place; 0 where it hasn't.
+    pub stint: AtomicU64,
 }
 
 impl<D: SwapDev + Drop, T: Ledger, C: Ledger, O: Ledger, E: Ledger, B: Ties> TurnJob<
@@ -103,6 +129,26 @@ impl<D: SwapDev + Drop, T: Ledger, C: Ledger, O: Ledger, E: Ledger, B: Ties> Tur
 
 impl<D: SwapDev + Drop, T: Ledger, C: Ledger, O: Ledger, E: Ledger, B: Ties> Turns<T, C>
     for TurnJob<D, T, C, O, E, B> {
+    fn await_place<R: Wait>(&self, rt: &R) {
+        let turns = self.stint.fetch_add(1, Ordering::SeqCst);
+        let place = &self.desk.place;
+        if turns > 0 {
+            if turns < TURNS_OF_A_STINT || !place.is_wanted() {
+                return;
+            }
+            place.leave();
+            self.stint.store(1, Ordering::SeqCst);
+        }
+        place.take(rt);
+    }
+
+    fn leave_place(&self) {
+        if self.stint.load(Ordering::SeqCst) > 0 {
+            self.stint.store(0, Ordering::SeqCst);
+            self.desk.place.leave();
+        }
+    }
+
     fn run<R: Wait>(&self, rt: &R, instance: InstId, worker: &mut Worker<T, C>) {
         let end = self.take_turn(rt, instance, worker);
         self.desk.take_back(rt, instance, end);
@@ -115,6 +161,7 @@ impl<D: SwapDev + Drop, T: Ledger, C: Ledger, O: Ledger, E: Ledger, B: Ties> Tur
             cell,
             desk,
             quantum: self.quantum,
+            stint: AtomicU64::new(0),
         })
     }
 }
@@ -285,6 +332,10 @@ pub struct TurnSupply<D: SwapDev, T: Ledger, C: Ledger, O: Ledger, E: Ledger, B:
     pub cell: HostCell<D, T, C, O, E, B>,
     /// Who has turns out.
     pub desk: Arc<Desk, Global>,
+    /// Whose turns come next.
+    pub due: Vec<InstId>,
+    /// How many of these were handed out.
+    pub given: usize,
 }
 
 impl<D: SwapDev + Drop, T: Ledger, C: Ledger, O: Ledger, E: Ledger, B: Ties> TurnSupply<
@@ -295,15 +346,72 @@ impl<D: SwapDev + Drop, T: Ledger, C: Ledger, O: Ledger, E: Ledger, B: Ties> Tur
     E,
     B,
 > {
-    // What comes next now, and how many turns were handed out then.
-    fn choose<R: Wait>(&self, rt: &R) -> (Choice, u64) {
+    // The next one of those whose turns it has.
+    fn next_due(&mut self) -> Option<InstId> {
+        if self.given >= self.due.len() {
+            return None;
+        }
+        let id = self.due[self.given];
+        self.given += 1;
+        Some(id)
+    }
+
+    // Takes the turns that are due. Whether the host has to be looked at beside.
+    fn take_due<R: Wait>(&mut self, rt: &R) -> bool {
+        self.due.clear();
+        self.given = 0;
+        let mut roster = self.desk.roster.lock(rt);
+        roster.take_due(&mut self.due);
+        roster.has_news
+    }
+
+    // Chooses the turns of all that can go on and have none out. Whether none can any more, and no turn is out.
+    fn choose_all<R: Wait>(&mut self, rt: &R) -> bool {
         let locked = self.cell.lock(rt);
         let mut roster = self.desk.roster.lock(rt);
-        let choice = roster.choose(locked.host());
-        if matches!(choice, Choice::Turn(_)) {
-            roster.turns = roster.turns.wrapping_add(1);
+        for _ in rt.forever() {
+            match roster.choose(locked.host()) {
+                Choice::Turn(id) => {
+                    if self.due.push(id).is_err() {
+                        roster.bring_back(id);
+                        return false;
+                    }
+                }
+                Choice::Wait => return false,
+                Choice::Rest => return true,
+            }
         }
-        (choice, roster.turns)
+        unreachable!()
+    }
+
+    // So many turns more are handed out now. The scanner is told where a page is owed for them.
+    fn count_turns<R: Wait>(&self, rt: &R, more: u64) {
+        let mut roster = self.desk.roster.lock(rt);
+        let before = roster.turns;
+        roster.turns = before.wrapping_add(more);
+        if before / TURNS_FOR_AN_OFFER != roster.turns / TURNS_FOR_AN_OFFER {
+            self.desk.offer_owed.notify_all();
+        }
+    }
+
+    // Takes whatever turns there are now. Whether none comes any more.
+    fn refill<R: Wait>(&mut self, rt: &R) -> bool {
+        let has_news = self.take_due(rt);
+        let is_over = has_news && self.choose_all(rt);
+        self.count_turns(rt, self.due.len() as u64);
+        is_over
+    }
+
+    // Waits until the bell has rung more often than so.
+    fn wait<R: Wait>(&self, rt: &R, rings: u64) {
+        let bell = &self.desk.turn_back;
+        for _ in 0..LOOKS {
+            if bell.notifications() != rings {
+                return;
+            }
+            hint::spin_loop();
+        }
+        bell.sleep(rt, rings, Duration::from_secs(LONGEST_SLEEP));
     }
 }
 
@@ -311,19 +419,16 @@ impl<D: SwapDev + Drop, T: Ledger, C: Ledger, O: Ledger, E: Ledger, B: Ties> Sup
     for TurnSupply<D, T, C, O, E, B> {
     fn next<R: Wait>(&mut self, rt: &R) -> Option<InstId> {
         for _ in rt.forever() {
+            if let Some(id) = self.next_due() {
+                return Some(id);
+            }
             let rings = self.desk.turn_back.notifications();
-            match self.choose(rt) {
-                (Choice::Turn(id), turns) => {
-                    if turns % TURNS_FOR_AN_OFFER == 0 {
-                        self.desk.offer_owed.notify_all();
-                    }
-                    return Some(id);
-                }
-                (Choice::Wait, _) => {
-                    let longest = Duration::from_secs(LONGEST_SLEEP);
-                    self.desk.turn_back.sleep(rt, rings, longest);
-                },
-                (Choice::Rest, _) => return None,
+            let is_over = self.refill(rt);
+            if is_over {
+                return None;
+            }
+            if self.due.is_empty() {
+                self.wait(rt, rings);
             }
         }
         unreachable!()

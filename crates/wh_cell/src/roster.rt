@@ -1,6 +1,6 @@
 //! Which instances have turns: who can go on and has none out.
 
-ghost use Rattle.std.specs.Prelude.{◌≡◌, ◌≢◌, ◌<◌, false, true, Some, None, IfOk, map, vec_len};
+ghost use Rattle.std.specs.Prelude.{◌≡◌, ◌≢◌, ◌<◌, ◌++◌, ◌∷◌, [], false, true, Some, None, IfOk, map, vec_len};
 ghost use Rattle.wh_host.specs.Paging.{IsGoing, Tells};
 ghost use Rattle.wh_cell.specs.Rostered.{ChoosesTurn, RestsAll, at_home, ids_of};
 ghost use Rattle.wh_cell.specs.declared.roster.Prospect.TheVariants.{Now, Never};
@@ -8,6 +8,7 @@ ghost use Rattle.wh_cell.specs.declared.roster.Choice.TheVariants.{Turn, Rest};
 
 use crate::moving::Moved;
 use std::alloc::{AllocError, Global};
+use std::mem;
 use wh_host::Host;
 use wh_host_model::InstId;
 
@@ -55,6 +56,9 @@ pub struct Waiter {
 }
 
 /// The instances whose calls are run: which of them have a turn out, and whose step was made ready and waits for its turn.
+///
+/// A turn that came back from a call which goes on stays out: the next one of that instance is due, and is handed out
+/// without a look at the host.
 #[derive(Drop)]
 pub struct Roster {
     /// The instances, in the order in which they are looked at.
@@ -63,6 +67,12 @@ pub struct Roster {
     pub ready: Option<InstId>,
     /// How many turns were handed out.
     pub turns: u64,
+    /// Whose next turn is due, in the order in which their last ones came back.
+    pub due: Vec<InstId>,
+    /// Whether the host has to be looked at: one that has no turn out may go on, or none may any more.
+    pub has_news: bool,
+    // How many turns are out, those that are due among them.
+    out: usize,
     // Whose step is made ready, page by page.
     served: Option<InstId>,
     // How often in a row a page that was to leave for it was written meanwhile.
@@ -115,6 +125,7 @@ impl Roster {
         ensures { IfOk result (λ r. r.seats.items ≡ map at_home ids.now) }
     {
         let mut seats = Vec::with_capacity(alloc, ids.len())?;
+        let due = Vec::with_capacity(alloc, ids.len())?;
         for id in ids {
             seats.push(Seat {
                 id: *id,
@@ -125,6 +136,9 @@ impl Roster {
             seats,
             ready: None,
             turns: 0,
+            due,
+            has_news: true,
+            out: 0,
             served: None,
             voids: 0,
             from: 0,
@@ -146,22 +160,50 @@ impl Roster {
                         id: seat.id,
                         is_out: true,
                     };
+                    self.out = self.out.saturating_add(1);
                     return Choice::Turn(seat.id);
                 }
                 Prospect::Later => waits = true,
                 Prospect::Never => {}
             }
         }
+        self.has_news = false;
         if waits { Choice::Wait } else { Choice::Rest }
     }
 
-    /// The turn of this instance has come back.
+    /// The turn of this instance has come back, and its call goes on: its next one is due. Whether at least half of the turns
+    /// that are out are due.
+    ///
+    /// # Errors
+    /// Where there was no room: nothing has changed. There is room for all instances.
+    pub fn call_again(&mut self, id: InstId) -> Result<bool, AllocError>
+        ensures seats { self.new.seats ≡ self.old.seats }
+        ensures due { IfOk result (λ _. self.new.due.items ≡ self.old.due.items ++ id ∷ []) }
+    {
+        self.due.push(id)?;
+        if self.ready == Some(id) {
+            self.ready = None;
+        }
+        Ok(self.due.len() >= self.out.saturating_sub(self.due.len()))
+    }
+
+    /// Takes all turns that are due, and leaves this list in their place.
+    pub fn take_due(&mut self, list: &mut Vec<InstId>)
+        ensures due { (self.new.due ≡ list.old) × (list.new ≡ self.old.due) }
+        ensures seats { self.new.seats ≡ self.old.seats }
+    {
+        mem::swap(&mut self.due, list);
+    }
+
+    /// The turn of this instance has come back, and none of it is out.
     pub fn bring_back(&mut self, id: InstId)
         ensures { ids_of self.new.seats.items ≡ ids_of self.old.seats.items }
     {
         for at in 0..self.seats.len() {
             bring_back_at(&mut self.seats, at, id);
         }
+        self.out = self.out.saturating_sub(1);
+        self.has_news = true;
         if self.ready == Some(id) {
             self.ready = None;
         }
@@ -222,6 +264,7 @@ impl Roster {
             Moved::Failed => {}
         }
         self.served = None;
+        self.has_news = true;
         true
     }
 }

@@ -10,6 +10,7 @@ use crate::jobs::{Desk, ReclaimJob, ScanJob, TurnJob, TurnSupply};
 use crate::roster::Roster;
 use crate::ties::Ties;
 use std::alloc::{AllocError, Global};
+use std::sync::atomic::AtomicU64;
 use std::sync::ledger::Ledger;
 use std::sync::{Arc, Wait};
 use std::thread::Threads;
@@ -55,7 +56,7 @@ fn crew_of<
     manner: Manner<H>,
 ) -> Result<Crew<D, T, C, O, E, B, H>, AllocError> {
     let roster = Roster::new(alloc, ids)?;
-    let Ok(desk) = Arc::new(alloc, Desk::new(roster)) else {
+    let Ok(desk) = Arc::new(alloc, Desk::new(alloc, roster, manner.workers)?) else {
         return Err(AllocError);
     };
     let copies = Vec::from_slice(alloc, ids)?;
@@ -66,6 +67,7 @@ fn crew_of<
         cell: cell.share()?,
         desk: Arc::try_clone(&desk)?,
         quantum: manner.quantum,
+        stint: AtomicU64::new(0),
     };
     let scans = ScanJob {
         cell: cell.share()?,
@@ -80,6 +82,8 @@ fn crew_of<
     let supply = TurnSupply {
         cell: cell.share()?,
         desk,
+        due: Vec::with_capacity(alloc, ids.len())?,
+        given: 0,
     };
     let jobs = Jobs {
         turns,

@@ -175,6 +175,10 @@ struct Desk<T: Ledger, C: Ledger, O: Ledger, E: Ledger> {
 }
 
 impl<T: Ledger, C: Ledger, O: Ledger, E: Ledger> Turns<T, C> for Desk<T, C, O, E> {
+    fn await_place<R: Wait>(&self, _rt: &R) {}
+
+    fn leave_place(&self) {}
+
     fn run<R: Wait>(&self, rt: &R, _instance: InstId, worker: &mut Worker<T, C>) {
         self.both.wait(rt);
         let mut books = self.books.lock(rt);

@@ -18,6 +18,12 @@ use wh_host_model::InstId;
 
 /// What a worker does with a turn. Each worker has a value of its own.
 pub trait Turns<T: Ledger, C: Ledger> {
+    /// Waits until this worker may receive a turn. Where turns are run under one lock, whoever waits here doesn't wait there.
+    fn await_place<R: Wait>(&self, rt: &R);
+
+    /// This worker receives no further turn, so another one may.
+    fn leave_place(&self);
+
     /// Runs one turn of this instance, which the worker counts.
     fn run<R: Wait>(&self, rt: &R, instance: InstId, worker: &mut Worker<T, C>)
         requires room { worker.old.tally.turns < 2 ^ 64 - 1 }
@@ -91,11 +97,13 @@ fn work<T: Ledger, C: Ledger, J: Turns<T, C>, R: Wait>(
         if worker.is_full() {
             break;
         }
+        job.await_place(rt);
         let Some(instance) = next_turn(rt, inlet, &mut slip) else {
             break;
         };
         job.run(rt, instance, &mut worker);
     }
+    job.leave_place();
     Reply { worker, slip }
 }
 
