@@ -224,7 +224,8 @@ impl<D: SwapDev, T: Ledger, C: Ledger, O: Ledger, E: Ledger, B: Ties> HostCell<D
     /// # Errors
     /// Where memory was refused.
     pub fn roll<R: Wait>(&self, rt: &R, alloc: Global) -> Result<Roll, HostError>
-        ensures { IfOk result (λ roll. (h : HostState) × ((w : World) × IsHost h w) × IsRollOf h roll) }
+        ensures { IfOk result (λ roll. (h : HostState)
+            × ((w : World) × IsHost h w) × IsRollOf h roll) }
     {
         let guard = self.both.locked.lock(rt);
         guard.roll(alloc)

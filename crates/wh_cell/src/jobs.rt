@@ -4,6 +4,7 @@ ghost use Rattle.std.specs.Prelude.{◌≡◌, ◌+◌, ◌-◌, ◌^◌, ◌<�
 
 use crate::cell::HostCell;
 use crate::moving::Moved;
+use crate::patience::Patience;
 use crate::place::Place;
 use crate::roster::{Choice, Roster, Waiter};
 use crate::ties::Ties;
@@ -23,10 +24,7 @@ use wh_workers::{Help, Helper, Progress, Supply, Turns, Worker};
 const TURNS_FOR_AN_OFFER: u64 = 32;
 
 // For how many turns a worker receives turns while another one waits to do so.
-const TURNS_OF_A_STINT: u64 = 128;
-
-// So often who hands out turns looks whether its bell rang before it sleeps: some microseconds.
-const LOOKS: u32 = 100;
+const TURNS_OF_A_STINT: u64 = 1024;
 
 // So long who hands out turns sleeps at most, in seconds, though nobody rings.
 const LONGEST_SLEEP: u64 = 1;
@@ -134,6 +132,7 @@ impl<D: SwapDev + Drop, T: Ledger, C: Ledger, O: Ledger, E: Ledger, B: Ties> Tur
         let place = &self.desk.place;
         if turns > 0 {
             if turns < TURNS_OF_A_STINT || !place.is_wanted() {
+                place.look_for_turn();
                 return;
             }
             place.leave();
@@ -150,6 +149,7 @@ impl<D: SwapDev + Drop, T: Ledger, C: Ledger, O: Ledger, E: Ledger, B: Ties> Tur
     }
 
     fn run<R: Wait>(&self, rt: &R, instance: InstId, worker: &mut Worker<T, C>) {
+        self.desk.place.receive();
         let end = self.take_turn(rt, instance, worker);
         self.desk.take_back(rt, instance, end);
     }
@@ -166,7 +166,7 @@ impl<D: SwapDev + Drop, T: Ledger, C: Ledger, O: Ledger, E: Ledger, B: Ties> Tur
     }
 }
 
-/// What a scanner does: for each 16 turns that were handed out it looks at a page under the lock, hashes it without, and
+/// What a scanner does: for each 32 turns that were handed out it looks at a page under the lock, hashes it without, and
 /// offers it under the lock.
 #[derive(Drop)]
 pub struct ScanJob<D: SwapDev, T: Ledger, C: Ledger, O: Ledger, E: Ledger, B: Ties, H> {
@@ -336,6 +336,8 @@ pub struct TurnSupply<D: SwapDev, T: Ledger, C: Ledger, O: Ledger, E: Ledger, B:
     pub due: Vec<InstId>,
     /// How many of these were handed out.
     pub given: usize,
+    /// How long it looks for a turn that came back before it sleeps.
+    pub patience: Patience,
 }
 
 impl<D: SwapDev + Drop, T: Ledger, C: Ledger, O: Ledger, E: Ledger, B: Ties> TurnSupply<
@@ -402,15 +404,17 @@ impl<D: SwapDev + Drop, T: Ledger, C: Ledger, O: Ledger, E: Ledger, B: Ties> Tur
         is_over
     }
 
-    // Waits until the bell has rung more often than so.
+    // Waits until the bell rings again: it rang so often when it was last looked at.
     fn wait<R: Wait>(&self, rt: &R, rings: u64) {
         let bell = &self.desk.turn_back;
-        for _ in 0..LOOKS {
+        for _ in 0..self.patience.looks() {
             if bell.notifications() != rings {
+                self.patience.found();
                 return;
             }
             hint::spin_loop();
         }
+        self.patience.in_vain();
         bell.sleep(rt, rings, Duration::from_secs(LONGEST_SLEEP));
     }
 }
@@ -420,6 +424,7 @@ impl<D: SwapDev + Drop, T: Ledger, C: Ledger, O: Ledger, E: Ledger, B: Ties> Sup
     fn next<R: Wait>(&mut self, rt: &R) -> Option<InstId> {
         for _ in rt.forever() {
             if let Some(id) = self.next_due() {
+                self.desk.place.hand();
                 return Some(id);
             }
             let rings = self.desk.turn_back.notifications();

@@ -228,7 +228,8 @@ impl<D: SwapDev, T: Ledger, C: Ledger, O: Ledger, E: Ledger, B: Ties> OwnedHost<
     /// # Errors
     /// `NoInstance`; `NoCall` where no call is open. Nothing is done then.
     pub fn refuel(&mut self, id: InstId, fuel: u64) -> Result<(), HostError>
-        ensures asks { AnswersCall self.old.host (λ w answer w2. IsRefuel w id fuel answer w2) result
+        ensures asks { AnswersCall self.old.host (λ w answer w2.
+            IsRefuel w id fuel answer w2) result
             self.new.host }
         ensures err { OnErr result (self.new.host ≡ self.old.host) }
         ensures backing { KeepsBacking self.old.host.space self.new.host.space }

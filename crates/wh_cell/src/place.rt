@@ -1,6 +1,8 @@
 //! Which worker receives turns: one after another, since turns are run under one lock.
 
+use crate::patience::Patience;
 use std::alloc::{AllocError, Global};
+use std::hint;
 use std::sync::atomic::{AtomicU64, Ordering};
 use std::sync::{Condvar, Wait};
 use std::time::Duration;
@@ -16,6 +18,12 @@ pub struct Place {
     asked: AtomicU64,
     // How many have left it, modulo 2^64: the number of who has it.
     left: AtomicU64,
+    // How many turns were handed out, modulo 2^64.
+    handed: AtomicU64,
+    // How many of these were received, modulo 2^64.
+    received: AtomicU64,
+    // How long the worker that has the place looks for a turn before it sleeps.
+    patience: Patience,
     // As many as there are workers: who waits sleeps on the one at its number modulo their count, where no other one waits.
     bells: Vec<Condvar>,
 }
@@ -33,6 +41,9 @@ impl Place {
         Ok(Place {
             asked: AtomicU64::new(0),
             left: AtomicU64::new(0),
+            handed: AtomicU64::new(0),
+            received: AtomicU64::new(0),
+            patience: Patience::new(),
             bells,
         })
     }
@@ -73,5 +84,29 @@ impl Place {
         if let Some(bell) = self.bell(next) {
             bell.notify_all();
         }
+    }
+
+    /// A turn is about to be handed out.
+    pub fn hand(&self) {
+        let _ = self.handed.fetch_add(1, Ordering::SeqCst);
+    }
+
+    /// A turn was received by the worker that has the place.
+    pub fn receive(&self) {
+        let _ = self.received.fetch_add(1, Ordering::SeqCst);
+    }
+
+    /// Looks for some microseconds whether a turn was handed out that wasn't received. Whoever then receives finds it
+    /// without having to sleep.
+    pub fn look_for_turn(&self) {
+        let received = self.received.load(Ordering::SeqCst);
+        for _ in 0..self.patience.looks() {
+            if self.handed.load(Ordering::SeqCst) != received {
+                self.patience.found();
+                return;
+            }
+            hint::spin_loop();
+        }
+        self.patience.in_vain();
     }
 }

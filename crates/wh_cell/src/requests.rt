@@ -57,7 +57,8 @@ impl<D: SwapDev, T: Ledger, C: Ledger, O: Ledger, E: Ledger, B: Ties> Locked<D, 
         params: Params,
     ) -> Result<InstId, AdmitError>
         ensures came { ComesOn D.keeps D.honest D.faults owner.old (now_of self.old) }
-        ensures admits { AnswersAdmit self.old.host of.number (view_params params) result self.new.host }
+        ensures admits { AnswersAdmit self.old.host of.number (view_params params) result
+            self.new.host }
         ensures err { OnErr result (self.new.host ≡ self.old.host) }
         ensures knows { owner.new ≡ now_of self.new }
         ensures backing { KeepsBacking self.old.host.space self.new.host.space }
@@ -107,7 +108,8 @@ impl<D: SwapDev, T: Ledger, C: Ledger, O: Ledger, E: Ledger, B: Ties> Locked<D, 
         fuel: u64,
     ) -> Result<(), HostError>
         ensures came { ComesOn D.keeps D.honest D.faults owner.old (now_of self.old) }
-        ensures asks { AnswersCall self.old.host (λ w answer w2. IsRefuel w id fuel answer w2) result
+        ensures asks { AnswersCall self.old.host (λ w answer w2.
+            IsRefuel w id fuel answer w2) result
             self.new.host }
         ensures err { OnErr result (self.new.host ≡ self.old.host) }
         ensures knows { owner.new ≡ now_of self.new }

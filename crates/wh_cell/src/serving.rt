@@ -7,6 +7,7 @@ ghost use Rattle.wh_workers.specs.Handover.{AreNumbered, SameMessages, turns_in}
 
 use crate::cell::HostCell;
 use crate::jobs::{Desk, ReclaimJob, ScanJob, TurnJob, TurnSupply};
+use crate::patience::Patience;
 use crate::roster::Roster;
 use crate::ties::Ties;
 use std::alloc::{AllocError, Global};
@@ -84,6 +85,7 @@ fn crew_of<
         desk,
         due: Vec::with_capacity(alloc, ids.len())?,
         given: 0,
+        patience: Patience::new(),
     };
     let jobs = Jobs {
         turns,

@@ -20,7 +20,8 @@ use wh_swap::SwapDev;
 impl<D: SwapDev, T: Ledger, C: Ledger, O: Ledger, E: Ledger, B: Ties> Locked<D, T, C, O, E, B> {
     // The roll of a host to which events lead.
     pub(crate) fn roll(&self, alloc: Global) -> Result<Roll, HostError>
-        ensures { IfOk result (λ roll. (h : HostState) × ((w : World) × IsHost h w) × IsRollOf h roll) }
+        ensures { IfOk result (λ roll. (h : HostState)
+            × ((w : World) × IsHost h w) × IsRollOf h roll) }
     {
         self.known();
         self.host().roll(alloc)

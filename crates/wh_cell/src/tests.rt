@@ -329,7 +329,7 @@ fn each_has_worked<T: Ledger, C: Ledger, O: Ledger, E: Ledger>(
     true
 }
 
-// Each instance is asked for twenty stores and a load of what they stored: the last load. So there are turns for several stints
+// Each instance is asked for 200 stores and a load of what they stored: the last load. So there are turns for several stints
 // of workers.
 fn ask_each<T: Ledger, C: Ledger, O: Ledger, E: Ledger, B: Ties>(
     alloc: Global,
@@ -338,7 +338,7 @@ fn ask_each<T: Ledger, C: Ledger, O: Ledger, E: Ledger, B: Ties>(
 ) -> Result<Option<(InstId, u32)>, Fail> {
     let mut last = None;
     for id in ids {
-        for _ in 0..20 {
+        for _ in 0..200 {
             let _ = owned.invoke(alloc, *id, "s", &[4096, 7], 1000)?;
         }
         let call = owned.invoke(alloc, *id, "l", &[4096], 1000)?;
