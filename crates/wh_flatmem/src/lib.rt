@@ -6,10 +6,11 @@
 //! exactly up to the limit. Only making it takes memory, so nothing else can be refused any.
 //!
 //! Inlined where the count of bytes is known, as for numbers, a load or a store is one test of the bounds and one machine
-//! move.
+//! move. The quick ones refuse the few numbers whose first byte is one of the last seven, so that their test is a single
+//! comparison.
 #![tactic(auto)]
 
-ghost use Rattle.std.specs.Prelude.{◌≡◌, ◌+◌, ◌*◌, ◌<◌, ◌≤◌, length, replicate, IfOk, IsTrue, IsFalse, vec_capacity, refl};
+ghost use Rattle.std.specs.Prelude.{◌≡◌, ◌+◌, ◌-◌, ◌*◌, ◌<◌, ◌≤◌, length, replicate, IfOk, IsTrue, IsFalse, vec_capacity, refl};
 ghost use Rattle.std.proofs.Common.{◌∙◌};
 ghost use Rattle.wh_flatmem.specs.Flat.{FlatMemoryState, StartsAt};
 ghost use Rattle.wh_model.specs.Execution.Store.{bytes_at, written};
@@ -19,6 +20,9 @@ use std::marker::Model;
 use wh_linmem::LinearMem;
 use wh_model::{Got, Grown, Need, WASM_PAGE};
 
+// How many bytes a quick load or store takes at most: those of the widest number.
+const MOST_QUICK: usize = 8;
+
 /// A linear memory that is one list of bytes, all of them always at hand.
 ///
 /// Contracts see its bytes, and to how many pages it may grow.
@@ -26,6 +30,8 @@ use wh_model::{Got, Grown, Need, WASM_PAGE};
 pub struct FlatMemory {
     pages: u32,
     limit: u32,
+    // Before this place as many bytes begin as a quick load or store takes at most, all of them in the memory.
+    quick_end: usize,
     bytes: Vec<u8>,
 }
 
@@ -35,7 +41,15 @@ impl Model for FlatMemory {
     ghost view = { λ m. record { bytes = m.bytes.items; limit = m.limit } };
 
     ghost invariant = { λ m. (length m.bytes.items ≡ m.pages * 65536) × (m.pages ≤ m.limit)
-        × (m.limit ≤ 65536) × (m.limit * 65536 ≤ vec_capacity m.bytes) };
+        × (m.limit ≤ 65536) × (m.limit * 65536 ≤ vec_capacity m.bytes)
+        × (m.quick_end ≡ length m.bytes.items - 7) };
+}
+
+// Before which place so many bytes begin in a memory of this length as a quick load or store takes at most.
+fn quick_end_of(length: usize) -> usize
+    ensures { result ≡ length - 7 }
+{
+    length.saturating_sub(MOST_QUICK - 1)
 }
 
 // Writes over N bytes by as many, if there are so many, and says whether it did.
@@ -88,6 +102,7 @@ impl FlatMemory {
         Ok(FlatMemory {
             pages,
             limit,
+            quick_end: quick_end_of(bytes.len()),
             bytes,
         })
     }
@@ -117,6 +132,14 @@ impl FlatMemory {
             return None;
         }
         Some(at as usize)
+    }
+
+    // Whether a quick load or store takes so many bytes from this place on. They are in the memory then.
+    #[inline(always)]
+    fn is_quick(&self, at: u64, count: usize) -> bool
+        ensures { IsTrue result → at + count ≤ length self.now.bytes }
+    {
+        at < self.quick_end as u64 && count <= MOST_QUICK
     }
 
     // Reads so many bytes, if all of them are in the memory, and says whether it did.
@@ -185,12 +208,21 @@ impl LinearMem for FlatMemory {
 
     #[inline(always)]
     fn quick_load(&mut self, at: u64, into: &mut [u8]) -> bool {
-        self.read(at, into)
+        if !self.is_quick(at, into.len()) {
+            return false;
+        }
+        let start = at as usize;
+        into.copy_from_slice(&self.bytes[start..start + into.len()]);
+        true
     }
 
     #[inline(always)]
     fn quick_store(&mut self, at: u64, given: &[u8]) -> bool {
-        self.replace(at, given)
+        if !self.is_quick(at, given.len()) {
+            return false;
+        }
+        self.write(at as usize, given);
+        true
     }
 
     fn size(&self) -> u32 {
@@ -206,6 +238,7 @@ impl LinearMem for FlatMemory {
             unreachable!()
         };
         self.pages = before + pages;
+        self.quick_end = quick_end_of(self.bytes.len());
         Grown::Done(before)
     }
 
@@ -256,12 +289,13 @@ mod tests {
         assert_eq!(rt; sizes(&mut memory, 1), (1, Grown::Done(1), 2));
         assert_eq!(rt; stored(&mut memory, 65533, [2, 3, 4, 5]), Got::Value);
         assert_eq!(rt; loaded(&mut memory, 65534), (Got::Value, [3, 4, 5, 0]));
-        assert_eq!(rt; quickly(&mut memory, 131068, [6; 4]), (true, true, [6; 4]));
+        assert_eq!(rt; quickly(&mut memory, 131064, [6; 4]), (true, true, [6; 4]));
+        // One of the last seven bytes: it is in the memory, and left to a closer look.
         assert_eq!(rt;
-            quickly(&mut memory, 131069, [7; 4]),
+            quickly(&mut memory, 131065, [7; 4]),
             (false, false, [9; 4])
         );
-        assert_eq!(rt; loaded(&mut memory, 131068), (Got::Value, [6; 4]));
+        assert_eq!(rt; loaded(&mut memory, 131064), (Got::Value, [6; 4]));
         assert_eq!(rt; memory.bytes().len(), 131072);
         assert_eq!(rt; sizes(&mut memory, 0), (2, Grown::Done(2), 2));
         Ok(())
