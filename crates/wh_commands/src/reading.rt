@@ -21,7 +21,8 @@ use std::alloc::Global;
 
 /// `NAME HEX`
 fn keep(words: Words<'_>) -> Result<Command<'_>, LineError>
-    ensures ok { IfOk result (λ command. IsAskedBy (codes "module") (words_left words.entry) command) }
+    ensures ok { IfOk result (λ command. IsAskedBy (codes "module")
+        (words_left words.entry) command) }
     ensures err { IfErr result (λ e. e ≡ LineError.Syntax) }
     ensures none { OnErr result ((name hex : List ℕ) → IsName name → IsHexWord hex
         → words_left words.entry ≢ name ∷ hex ∷ []) }
@@ -35,7 +36,8 @@ fn keep(words: Words<'_>) -> Result<Command<'_>, LineError>
 
 /// `NAME PATH`
 fn load(words: Words<'_>) -> Result<Command<'_>, LineError>
-    ensures ok { IfOk result (λ command. IsAskedBy (codes "load") (words_left words.entry) command) }
+    ensures ok { IfOk result (λ command. IsAskedBy (codes "load")
+        (words_left words.entry) command) }
     ensures err { IfErr result (λ e. e ≡ LineError.Syntax) }
     ensures none { OnErr result ((name path : List ℕ) → IsName name → IsWord path
         → words_left words.entry ≢ name ∷ path ∷ []) }
@@ -49,7 +51,8 @@ fn load(words: Words<'_>) -> Result<Command<'_>, LineError>
 
 /// `INST N`
 fn refuel(words: Words<'_>) -> Result<Command<'_>, LineError>
-    ensures ok { IfOk result (λ command. IsAskedBy (codes "refuel") (words_left words.entry) command) }
+    ensures ok { IfOk result (λ command. IsAskedBy (codes "refuel")
+        (words_left words.entry) command) }
     ensures err { IfErr result (λ e. e ≡ LineError.Syntax) }
     ensures none { OnErr result ((inst word : List ℕ) (n : ℕ) → IsName inst → IsCount word n
         → words_left words.entry ≢ inst ∷ word ∷ []) }
@@ -65,7 +68,8 @@ fn refuel(words: Words<'_>) -> Result<Command<'_>, LineError>
 fn inst_alone(words: Words<'_>) -> Result<&str, LineError>
     ensures ok { IfOk result (λ inst. (words_left words.entry ≡ inst.now ∷ []) × IsName inst.now) }
     ensures err { IfErr result (λ e. e ≡ LineError.Syntax) }
-    ensures none { OnErr result ((inst : List ℕ) → IsName inst → words_left words.entry ≢ inst ∷ []) }
+    ensures none { OnErr result ((inst : List ℕ) → IsName inst
+        → words_left words.entry ≢ inst ∷ []) }
 {
     let mut words = words;
     let inst = words.next_name()?;
@@ -138,7 +142,8 @@ fn given(alloc: Global, words: Words<'_>) -> Result<Given, LineError>
 
 /// `INST MODULE SHARES MIN MAX FUEL BASE SALT [INPUT ..]`
 fn admit(alloc: Global, words: Words<'_>) -> Result<Command<'_>, LineError>
-    ensures ok { IfOk result (λ command. IsAskedBy (codes "admit") (words_left words.entry) command) }
+    ensures ok { IfOk result (λ command. IsAskedBy (codes "admit")
+        (words_left words.entry) command) }
     ensures none { IfErr result (Refuses ((inst of : List ℕ) × (params : Params)
         × Follow (lines.admit inst of params) (words_left words.entry))) }
 {
@@ -155,7 +160,8 @@ fn admit(alloc: Global, words: Words<'_>) -> Result<Command<'_>, LineError>
 
 /// `INST EXPORT FUEL [ARG ..]`
 fn invoke(alloc: Global, words: Words<'_>) -> Result<Command<'_>, LineError>
-    ensures ok { IfOk result (λ command. IsAskedBy (codes "invoke") (words_left words.entry) command) }
+    ensures ok { IfOk result (λ command. IsAskedBy (codes "invoke")
+        (words_left words.entry) command) }
     ensures none { IfErr result (Refuses ((inst export : List ℕ) × (fuel : ℕ) × (args : List ℤ)
         × Follow (lines.invoke inst export fuel args) (words_left words.entry))) }
 {
@@ -174,9 +180,11 @@ fn invoke(alloc: Global, words: Words<'_>) -> Result<Command<'_>, LineError>
 
 /// `INST`
 fn cancel(words: Words<'_>) -> Result<Command<'_>, LineError>
-    ensures ok { IfOk result (λ command. IsAskedBy (codes "cancel") (words_left words.entry) command) }
+    ensures ok { IfOk result (λ command. IsAskedBy (codes "cancel")
+        (words_left words.entry) command) }
     ensures err { IfErr result (λ e. e ≡ LineError.Syntax) }
-    ensures none { OnErr result ((inst : List ℕ) → IsName inst → words_left words.entry ≢ inst ∷ []) }
+    ensures none { OnErr result ((inst : List ℕ) → IsName inst
+        → words_left words.entry ≢ inst ∷ []) }
 {
     let inst = inst_alone(words)?;
     Ok(Command::Cancel { inst })
@@ -184,9 +192,11 @@ fn cancel(words: Words<'_>) -> Result<Command<'_>, LineError>
 
 /// `INST`
 fn retry(words: Words<'_>) -> Result<Command<'_>, LineError>
-    ensures ok { IfOk result (λ command. IsAskedBy (codes "retry") (words_left words.entry) command) }
+    ensures ok { IfOk result (λ command. IsAskedBy (codes "retry")
+        (words_left words.entry) command) }
     ensures err { IfErr result (λ e. e ≡ LineError.Syntax) }
-    ensures none { OnErr result ((inst : List ℕ) → IsName inst → words_left words.entry ≢ inst ∷ []) }
+    ensures none { OnErr result ((inst : List ℕ) → IsName inst
+        → words_left words.entry ≢ inst ∷ []) }
 {
     let inst = inst_alone(words)?;
     Ok(Command::Retry { inst })
@@ -194,9 +204,11 @@ fn retry(words: Words<'_>) -> Result<Command<'_>, LineError>
 
 /// `INST`
 fn release(words: Words<'_>) -> Result<Command<'_>, LineError>
-    ensures ok { IfOk result (λ command. IsAskedBy (codes "release") (words_left words.entry) command) }
+    ensures ok { IfOk result (λ command. IsAskedBy (codes "release")
+        (words_left words.entry) command) }
     ensures err { IfErr result (λ e. e ≡ LineError.Syntax) }
-    ensures none { OnErr result ((inst : List ℕ) → IsName inst → words_left words.entry ≢ inst ∷ []) }
+    ensures none { OnErr result ((inst : List ℕ) → IsName inst
+        → words_left words.entry ≢ inst ∷ []) }
 {
     let inst = inst_alone(words)?;
     Ok(Command::Release { inst })
@@ -204,7 +216,8 @@ fn release(words: Words<'_>) -> Result<Command<'_>, LineError>
 
 /// Nothing behind the verb.
 fn drain(words: Words<'_>) -> Result<Command<'_>, LineError>
-    ensures ok { IfOk result (λ command. IsAskedBy (codes "drain") (words_left words.entry) command) }
+    ensures ok { IfOk result (λ command. IsAskedBy (codes "drain")
+        (words_left words.entry) command) }
     ensures err { IfErr result (λ e. e ≡ LineError.Syntax) }
     ensures none { OnErr result (words_left words.entry ≢ []) }
 {
@@ -214,7 +227,8 @@ fn drain(words: Words<'_>) -> Result<Command<'_>, LineError>
 
 /// Nothing behind the verb.
 fn scan(words: Words<'_>) -> Result<Command<'_>, LineError>
-    ensures ok { IfOk result (λ command. IsAskedBy (codes "scan") (words_left words.entry) command) }
+    ensures ok { IfOk result (λ command. IsAskedBy (codes "scan")
+        (words_left words.entry) command) }
     ensures err { IfErr result (λ e. e ≡ LineError.Syntax) }
     ensures none { OnErr result (words_left words.entry ≢ []) }
 {
@@ -224,7 +238,8 @@ fn scan(words: Words<'_>) -> Result<Command<'_>, LineError>
 
 /// Nothing behind the verb.
 fn report(words: Words<'_>) -> Result<Command<'_>, LineError>
-    ensures ok { IfOk result (λ command. IsAskedBy (codes "report") (words_left words.entry) command) }
+    ensures ok { IfOk result (λ command. IsAskedBy (codes "report")
+        (words_left words.entry) command) }
     ensures err { IfErr result (λ e. e ≡ LineError.Syntax) }
     ensures none { OnErr result (words_left words.entry ≢ []) }
 {

@@ -28,7 +28,8 @@ pub fn words_in(line: &[u8]) -> Words<'_>
 impl<'a> Words<'a> {
     /// The next piece of the line, which is no word where two spaces meet, or at the line's ends.
     pub fn next(&mut self) -> Option<&'a [u8]>
-        ensures some { IfSome result (λ word. words_left self.old ≡ word.now ∷ words_left self.new) }
+        ensures some { IfSome result (λ word. words_left self.old
+            ≡ word.now ∷ words_left self.new) }
         ensures none { IfNone result (words_left self.old ≡ []) }
     {
         let line = self.rest?;

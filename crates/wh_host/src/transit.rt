@@ -113,7 +113,8 @@ fn end_eviction(
     device: Result<(), SwapError>,
 ) -> (EvictEnd, Buf)
     requires { IsOut memory.old ticket.slot to_write }
-    ensures ends { EndsEvict memory.old ticket.slot (is_ok device) ticket.bytes result.0 memory.new }
+    ensures ends { EndsEvict memory.old ticket.slot (is_ok device) ticket.bytes result.0
+        memory.new }
     ensures back { result.1.value ≡ ticket.bytes }
 {
     memory.known();
@@ -147,7 +148,8 @@ impl Host {
     /// leave.
     pub fn evict_begin(&mut self, id: InstId, buf: Buf) -> Result<Eviction, Buf>
         ensures moves { MovesOnly self.old self.new }
-        ensures begins { (need : Need) → WaitsFor self.old id need → BeginsEvict self.old.space id.place
+        ensures begins { (need : Need) → WaitsFor self.old id need
+            → BeginsEvict self.old.space id.place
             (slot_to_write result) (bytes_to_write result) self.new.space }
         ensures idle { ((need : Need) → ¬ WaitsFor self.old id need)
             → (self.new ≡ self.old) × IsErr result }
@@ -174,7 +176,8 @@ impl Host {
     /// earmarked for it.
     pub fn fetch_begin(&mut self, id: InstId, buf: Buf) -> Result<Fetch, Buf>
         ensures moves { MovesOnly self.old self.new }
-        ensures begins { (need : Need) → WaitsFor self.old id need → BeginsFetch self.old.space id.place
+        ensures begins { (need : Need) → WaitsFor self.old id need
+            → BeginsFetch self.old.space id.place
             (slot_to_read result) self.new.space }
         ensures idle { ((need : Need) → ¬ WaitsFor self.old id need)
             → (self.new ≡ self.old) × IsErr result }

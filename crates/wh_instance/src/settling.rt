@@ -70,7 +70,8 @@ impl Tenant {
         requires { HasPresent self.old.journal.open_calls }
         ensures answer { result ≡ answered self.old came still }
         ensures leaves { (c : JournalCallState) (cs : List JournalCallState)
-            → self.old.journal.open_calls ≡ c ∷ cs → self.new ≡ settled_to self.old came still c cs }
+            → self.old.journal.open_calls ≡ c ∷ cs → self.new
+            ≡ settled_to self.old came still c cs }
     {
         match came {
             Came::Returned(result) => {

@@ -195,7 +195,8 @@ impl PageTable {
     #[inline(always)]
     pub fn touch_private(&mut self, at: u32) -> Option<u32>
         requires { at < length self.old.pages }
-        ensures frame { IfSome result (λ frame. slice_get self.old.pages at ≡ Some (Private frame)) }
+        ensures frame { IfSome result (λ frame.
+            slice_get self.old.pages at ≡ Some (Private frame)) }
         ensures touched { self.new
             ≡ record self.old { touched = touched_if result self.old.touched at } }
     {

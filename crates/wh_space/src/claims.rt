@@ -42,7 +42,8 @@ pub fn resident_of(tables: &Vec<PageTable>, place: usize) -> (u32, u32)
 // The first page of the instance at a place, from this one on, that stands on a frame; with `idle`, of those alone that weren't
 // touched in this epoch.
 fn next_resident(tables: &Vec<PageTable>, place: usize, from: u32, idle: bool) -> Option<u32>
-    ensures { IsFirstFrom (IsSoughtAt (pages_in tables.now.items) (marks_in tables.now.items) place idle)
+    ensures { IsFirstFrom (IsSoughtAt (pages_in tables.now.items)
+        (marks_in tables.now.items) place idle)
         from result }
 {
     if place >= tables.len() {

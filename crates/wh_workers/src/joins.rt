@@ -60,7 +60,8 @@ impl<T: Ledger, C: Ledger, O: Ledger, E: Ledger> Lender<T, C, O, E> {
         requires channel { IsSeatAt (sends_on outlet.now) slip.old }
         requires part { 0 < (view slip.old).parts }
         requires seat { slice_get self.old.tallies seat ≡ Some reply.worker.from }
-        requires worked { HasWorked (sends_on outlet.now) reply.worker.from reply.worker reply.slip }
+        requires worked { HasWorked (sends_on outlet.now) reply.worker.from reply.worker
+            reply.slip }
         requires idle { reply.worker.tally ≡ reply.worker.from }
         ensures channel { IsSeatAt (sends_on outlet.now) slip.new }
         ensures back { TakesBack (view slip.old) (view slip.new) }

@@ -175,7 +175,10 @@ impl<T: Ledger, C: Ledger, O: Ledger, E: Ledger> Lender<T, C, O, E> {
     /// A reclaimer that goes on from what was counted of evictions.
     pub fn lend_reclaimer(&mut self) -> Helper<E>
         requires { self.old.reclaimers_out ≡ 0 }
-        ensures reclaimer { result ≡ record { from = self.old.evictions; count = self.old.evictions } }
+        ensures reclaimer { result ≡ record {
+          from = self.old.evictions;
+          count = self.old.evictions;
+        } }
         ensures out { self.new ≡ record self.old { reclaimers_out = 1 } }
     {
         Helper::begin(self.evictions, self.eviction_share.split_off(1, 0))

@@ -47,7 +47,8 @@ impl<T: Ledger, C: Ledger> Worker<T, C> {
     // What it has counted, and its parts with what they have.
     pub(crate) fn end(self) -> (Tally, Share<T>, Share<C>)
         ensures tally { result.0 ≡ self.tally }
-        ensures turns { (result.1.parts ≡ 1) × (self.from.turns + result.1.amount ≡ self.tally.turns) }
+        ensures turns { (result.1.parts ≡ 1)
+            × (self.from.turns + result.1.amount ≡ self.tally.turns) }
         ensures charges { (result.2.parts ≡ 1)
             × (self.from.charges + result.2.amount ≡ self.tally.charges) }
     {
@@ -92,7 +93,8 @@ impl<T: Ledger, C: Ledger> Worker<T, C> {
     pub(crate) fn count(&mut self, turns: &mut Count<T>, charges: &mut Count<C>, taken: u32)
         requires room { self.old.tally.turns < 2 ^ 64 - 1 }
         ensures from { self.new.from ≡ self.old.from }
-        ensures turns { (self.new.tally.turns ≡ self.old.tally.turns + 1) × (turns.new ≡ turns.old + 1) }
+        ensures turns { (self.new.tally.turns ≡ self.old.tally.turns + 1)
+            × (turns.new ≡ turns.old + 1) }
         ensures charges { (self.new.tally.charges ≡ self.old.tally.charges + taken)
             × (charges.new ≡ charges.old + taken) }
     {
