@@ -6,7 +6,7 @@ use Rattle.wh_model.specs.Execution.Instance.{Parameters}
 use Rattle.wh_syntax.specs.View.{view_module}
 use Rattle.wh_bodies.specs.Views.{view_side}
 use Rattle.wh_validate.specs.Soundness.{IsChecked}
-use Rattle.wh_imports.specs.Joined.{LinkedState}
+use Rattle.wh_imports.specs.LinkedState.{LinkedState}
 use Rattle.wh_imports.specs.Resolving.{IsResolved}
 use Rattle.wh_control.specs.declared.store.Store as code_store
 use Rattle.wh_control.specs.Storage.{RepresentsStore}

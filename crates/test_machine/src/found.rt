@@ -39,7 +39,7 @@ fn write_refusal<W: fmt::Write>(f: &mut fmt::Formatter<W>, error: CallError) -> 
             }
         }
         CallError::Load(LoadError::Link(error)) => write!(f, "{error}"),
-        CallError::Initial(error) => write!(f, "{error}"),
+        CallError::Instantiate(error) => write!(f, "{error}"),
         CallError::Memory => write!(f, "{error}"),
     }
 }

@@ -8,8 +8,6 @@
 #![tactic(auto)]
 
 mod random;
-#[cfg(test)]
-mod rows;
 mod same;
 mod trial;
 

@@ -11,9 +11,5 @@ mod arguments;
 mod errors;
 mod files;
 mod program;
-#[cfg(test)]
-mod swap_tests;
-#[cfg(test)]
-mod tests;
 
 pub use program::{ANSWERED, NOT_ACCEPTED, Outcome, STOPPED, answer, run};

@@ -2,7 +2,7 @@
 use Rattle.std.specs.Prelude.{Option, Some, None}
 use Rattle.wh_model.specs.Format.Syntax.{Module}
 use Rattle.wh_syntax.specs.View.{view_module}
-use Rattle.wh_imports.specs.Joined.{LinkedState}
+use Rattle.wh_imports.specs.LinkedState.{LinkedState}
 use Rattle.wh_host_model.specs.Host.Worlds as host
 use Rattle.wh_admit.specs.declared.params.Params.{Params}
 

@@ -10,8 +10,8 @@ use Rattle.wh_machine.specs.States.{CallState, Setting}
 use Rattle.wh_call.specs.declared.calling.RunEnd.{RunEnd}
 use Rattle.wh_call.specs.declared.calling.RunEnd.TheVariants as run
 use Rattle.wh_call.specs.Ends.{HasStoreIn, EndsWithin, TakesTo}
-use Rattle.wh_flatmem.specs.Flat.{FlatMemoryState}
-use Rattle.wh_imports.specs.Joined.{LinkedState}
+use Rattle.wh_flatmem.specs.FlatMemoryState.{FlatMemoryState}
+use Rattle.wh_imports.specs.LinkedState.{LinkedState}
 use Rattle.wh_alone.specs.declared.outcome.Outcome.{Outcome}
 use Rattle.wh_alone.specs.declared.outcome.Outcome.TheVariants.{Returned, Trapped, OutOfFuel}
 use Rattle.wh_alone.specs.Kept.{Kept, flat_setting, run_end, IsAnswered, EndsBy}

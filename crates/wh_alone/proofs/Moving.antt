@@ -16,11 +16,11 @@ use Rattle.wh_model.proofs.Journals.{functions_same, cancelled_stays}
 use Rattle.wh_syntax.specs.View.{view_module}
 use Rattle.wh_control.specs.Represents.{bits_of, result_of, IsFunc}
 use Rattle.wh_control.proofs.Jumps.{all_at}
-use Rattle.wh_control.specs.Parts.{funcs_in, IsInstance}
+use Rattle.wh_control.specs.Parts.{funcs_in}
 use Rattle.wh_machine.specs.Opening.{IsOwnCall}
-use Rattle.wh_machine.specs.Runs.{linked_parts}
+use Rattle.wh_machine.specs.Runs.{linked_parts, IsInstanceOf}
 use Rattle.wh_machine.proofs.Opened.{own_of}
-use Rattle.wh_imports.specs.Joined.{LinkedState}
+use Rattle.wh_imports.specs.LinkedState.{LinkedState}
 use Rattle.wh_alone.specs.declared.outcome.Outcome.{Outcome}
 use Rattle.wh_alone.specs.declared.outcome.Outcome.TheVariants.{Returned, Trapped, OutOfFuel}
 use Rattle.wh_alone.specs.declared.outcome.Stage.{Stage}
@@ -263,7 +263,7 @@ start_comes k k2 func fuel n outcome linked start comes m p ended call z at =
     ends_total k2 out inst c fuel fuel2 n n2 outcome s e f x = subst (λ a. EndsBy k2 out inst c fuel2 outcome a s) f (subst (λ a. EndsBy k2 out inst c a outcome n s) e x)
 
 -- another function is called
-pub call_comes : (k k2 : Kept) (func : ℕ) (args : List ℕ) (fuel n : ℕ) (outcome : Outcome) → k2.linked ≡ k.linked → ((c : Context) (inst : Instance) → IsInstance (linked_parts k.linked) c inst → HasCall inst func args) → InvocationEnds k func args fuel outcome n k2
+pub call_comes : (k k2 : Kept) (func : ℕ) (args : List ℕ) (fuel n : ℕ) (outcome : Outcome) → k2.linked ≡ k.linked → ((c : Context) (inst : Instance) → IsInstanceOf k.linked c inst → HasCall inst func args) → InvocationEnds k func args fuel outcome n k2
     → CallEnds (record { kept = k; stage = stages.Idle }) func args fuel outcome n (record { kept = k2; stage = after_call outcome })
 call_comes k k2 func args fuel n outcome linked can comes m p ended z at =
     let st = at.stage in

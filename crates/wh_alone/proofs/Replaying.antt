@@ -9,8 +9,6 @@ use Rattle.wh_model.specs.Execution.Replay.{Call, returned, stopped, cancelled, 
 use Rattle.wh_model.specs.Laws.ReplayLaws.{WithinFuel}
 use Rattle.wh_model.proofs.Histories.{replays_then}
 use Rattle.wh_model.proofs.Journals.{fuel_suffices}
-use Rattle.wh_control.specs.Parts.{IsInstance}
-use Rattle.wh_machine.specs.Runs.{linked_parts}
 use Rattle.wh_alone.specs.declared.outcome.Outcome.{Outcome}
 use Rattle.wh_alone.specs.declared.outcome.Outcome.TheVariants.{Returned, Trapped, OutOfFuel}
 use Rattle.wh_alone.specs.declared.outcome.CallResult.TheVariants as alone
@@ -25,6 +23,7 @@ use Rattle.wh_alone.specs.Journal.{InstanceState, IsOutcome, HasResults, ended_a
 use Rattle.wh_alone.specs.Stages.{IsOpen, RefusesCall}
 use Rattle.wh_alone.specs.Beginnings.{written_start, open_start, IsFresh, BeginsInstance}
 use Rattle.wh_alone.specs.Runs.{CameTo, IsStopped, ShowsStore, RunsModule}
+use Rattle.wh_machine.specs.Runs.{IsInstanceOf}
 
 -- ---- a journal replays
 
@@ -177,7 +176,7 @@ no_call bytes p i func args fuel n result m e accepted b refuses =
       comes = (b.start, b.z, replays_at i m p (b.start ∷ []) None b.z at, shows at.store, result, b.came, never e is refuses at.store.0 at.inst at.store.1.instance);
     }
   where
-    never : (e : Refused) → i.stage ≡ stages.Idle → RefusesCall i func args e → (c : _) (inst : Instance) → IsInstance (linked_parts i.kept.linked) c inst → ¬ (HasCall inst func args)
+    never : (e : Refused) → i.stage ≡ stages.Idle → RefusesCall i func args e → (c : _) (inst : Instance) → IsInstanceOf i.kept.linked c inst → ¬ (HasCall inst func args)
     never refusals.Busy is r = absurd (subst IsOpen is r)
     never refusals.Dead is r = absurd (cc (is, r))
     never refusals.NoCall is r = r.1

@@ -6,13 +6,13 @@ use Rattle.wh_model.specs.Execution.Store.{written}
 use Rattle.wh_syntax.specs.declared.module.Data.{Data}
 use Rattle.wh_initial.specs.Begins as initials
 use Rattle.wh_alone.specs.declared.outcome.CallError.{CallError}
-use Rattle.wh_alone.specs.declared.outcome.CallError.TheVariants.{Load, Initial, Memory}
+use Rattle.wh_alone.specs.declared.outcome.CallError.TheVariants.{Load, Instantiate, Memory}
 use Rattle.wh_model.specs.Linking.Accepting.{IsAccepted}
 use Rattle.wh_load.specs.Refusing.{RefusesBytes}
 
 -- why there is no instance; of memory nothing is said
 abbrev pub RefusesModule : List ℕ → Parameters → CallError → Type 0
-RefusesModule bytes p (Initial e) = (m : Module) × IsAccepted bytes m × initials.RefusesInstance m p e
+RefusesModule bytes p (Instantiate e) = (m : Module) × IsAccepted bytes m × initials.RefusesInstance m p e
 RefusesModule bytes p Memory = ⊤
 RefusesModule bytes p (Load e) = RefusesBytes bytes e
 

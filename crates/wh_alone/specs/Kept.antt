@@ -6,7 +6,7 @@ use Rattle.wh_model.specs.Validity.Typing.{Context}
 use Rattle.wh_model.specs.Execution.Store.{Value, Instance, Store}
 use Rattle.wh_model.specs.Execution.Configuration.{called, Config, config}
 use Rattle.wh_model.specs.Execution.Reduction.{IsSettled, After}
-use Rattle.wh_imports.specs.Joined.{LinkedState}
+use Rattle.wh_imports.specs.LinkedState.{LinkedState}
 use Rattle.wh_control.specs.Represents.{result_of}
 use Rattle.wh_control.specs.declared.store.Store as stored
 use Rattle.wh_machine.specs.declared.machine.Machine.{Machine}
@@ -16,7 +16,7 @@ use Rattle.wh_machine.specs.States.{CallState, Setting, HasConfiguration, Stands
 use Rattle.wh_call.specs.declared.calling.RunEnd.{RunEnd}
 use Rattle.wh_call.specs.declared.calling.RunEnd.TheVariants as run
 use Rattle.wh_call.specs.Ends.{EndsWithin, HasStoreIn}
-use Rattle.wh_flatmem.specs.Flat.{FlatMemoryState}
+use Rattle.wh_flatmem.specs.FlatMemoryState.{FlatMemoryState}
 use Rattle.wh_alone.specs.declared.outcome.Outcome.{Outcome}
 use Rattle.wh_alone.specs.declared.outcome.Outcome.TheVariants.{Returned, Trapped, OutOfFuel}
 
@@ -35,7 +35,7 @@ kept_of linked store memory machine =
 -- the setting and the state in which a call runs: all bytes of a flat memory are always at hand
 abbrev pub flat_setting : LinkedState → ℕ → Setting FlatMemoryState
 flat_setting linked limit =
-    setting_of (linked_parts linked) (λ m. m.bytes) (λ m need. Unit {0}) (λ m m2. m2.limit ≡ m.limit) limit
+    setting_of linked (λ m. m.bytes) (λ m need. Unit {0}) (λ m m2. m2.limit ≡ m.limit) limit
 
 abbrev pub setting_in : Kept → Setting FlatMemoryState
 setting_in k = flat_setting k.linked k.memory.limit

@@ -2,8 +2,6 @@
 use Rattle.std.specs.Prelude.{◌≡◌, ℕ, List, Option, Some, None}
 use Rattle.wh_model.specs.Validity.Typing.{Context}
 use Rattle.wh_model.specs.Execution.Store.{Instance}
-use Rattle.wh_control.specs.Parts.{IsInstance}
-use Rattle.wh_machine.specs.Runs.{linked_parts}
 use Rattle.wh_alone.specs.declared.outcome.Outcome.{Outcome}
 use Rattle.wh_alone.specs.declared.outcome.Outcome.TheVariants.{Returned, Trapped, OutOfFuel}
 use Rattle.wh_alone.specs.declared.outcome.Stage.{Stage}
@@ -14,6 +12,7 @@ use Rattle.wh_alone.specs.declared.outcome.Refused.TheVariants.{Busy, Dead, NoCa
 use Rattle.wh_call.specs.Arguments.{HasCall}
 use Rattle.wh_alone.specs.Kept.{Kept}
 use Rattle.wh_alone.specs.Journal.{InstanceState}
+use Rattle.wh_machine.specs.Runs.{IsInstanceOf}
 
 -- a call is open: the start function, or another one
 abbrev pub IsOpen : Stage → Type 0
@@ -43,7 +42,7 @@ after_call OutOfFuel = Calling
 -- none of the module's own functions has this index and such arguments
 abbrev pub IsNoCall : Kept → ℕ → List ℕ → Type 0
 IsNoCall k func args =
-    (c : Context) (inst : Instance) → IsInstance (linked_parts k.linked) c inst → ¬ (HasCall inst func args)
+    (c : Context) (inst : Instance) → IsInstanceOf k.linked c inst → ¬ (HasCall inst func args)
 
 -- why a function isn't called
 abbrev pub RefusesCall : InstanceState → ℕ → List ℕ → Refused → Type 0

@@ -1,12 +1,12 @@
 -- What is kept of an instance can be stored: as its parts.
 use Rattle.std.specs.Prelude.{ℕ, List, refl}
 use Rattle.std.specs.Coded.{Coded, code_by, coded_list, coded_ℕ, coded×}
-use Rattle.wh_imports.specs.Joined.{LinkedState, stored_joined}
+use Rattle.wh_imports.specs.LinkedState.{LinkedState, stored_linked}
 use Rattle.wh_control.specs.declared.store.Store.{Store}
 use Rattle.wh_control.specs.contracts.store.Store as store_type
 use Rattle.wh_machine.specs.declared.machine.Machine.{Machine}
 use Rattle.wh_machine.specs.contracts.machine.Machine as machine_type
-use Rattle.wh_flatmem.specs.Flat.{FlatMemoryState}
+use Rattle.wh_flatmem.specs.FlatMemoryState.{FlatMemoryState}
 use Rattle.wh_alone.specs.declared.outcome.Stage.{Stage}
 use Rattle.wh_alone.specs.contracts.outcome.Stage as stage_type
 use Rattle.wh_alone.specs.Kept.{Kept}
@@ -20,7 +20,7 @@ stored_flat =
 abbrev pub stored_kept : Coded Kept
 stored_kept =
     code_by (LinkedState × (Store × (FlatMemoryState × Machine)))
-    (coded× stored_joined (coded× store_type.the_row.coded (coded× stored_flat machine_type.the_row.coded)))
+    (coded× stored_linked (coded× store_type.the_row.coded (coded× stored_flat machine_type.the_row.coded)))
     (λ k. (k.linked, (k.store, (k.memory, k.machine))))
     (λ p. record { linked = p.0; store = p.1.0; memory = p.1.1.0; machine = p.1.1.1 }) (λ _. refl)
 

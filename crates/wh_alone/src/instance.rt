@@ -62,7 +62,7 @@ impl Instance {
         let linked = load(alloc, bytes)?;
         let begun = match instantiate(alloc, &linked, parameters) {
             Ok(begun) => begun,
-            Err(error) => return Err(CallError::Initial(error)),
+            Err(error) => return Err(CallError::Instantiate(error)),
         };
         let Ok(machine) = Machine::new(alloc) else {
             return Err(CallError::Memory);

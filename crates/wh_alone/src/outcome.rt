@@ -75,7 +75,7 @@ pub enum CallError {
     Load(LoadError),
     /// The module has no instance with these parameters.
     #[error("there is no such instance")]
-    Initial(InstantiateError),
+    Instantiate(InstantiateError),
     /// A growth of memory was refused.
     #[error("a growth of memory was refused")]
     Memory,

@@ -11,10 +11,11 @@ use Rattle.wh_model.specs.Validity.Typing.{Context}
 use Rattle.wh_model.specs.Execution.Numbers.{bits, unsigned}
 use Rattle.wh_model.specs.Execution.Store.{Value, value, type_of, InRange, bits_of, own, Instance}
 use Rattle.wh_host_model.specs.Host.Calls.{IsArgument, AreArguments}
-use Rattle.wh_control.specs.Parts.{ProgramParts, IsInstance}
 use Rattle.wh_call.specs.Arguments.{IsOwnType, HasNoOwn, LacksOwn}
 use Rattle.wh_call.proofs.Lists.{drop_at, drop_all}
 use Rattle.wh_arguments.specs.Asked.{CanTake, AreWords, WordsAre}
+use Rattle.wh_machine.specs.Runs.{IsInstanceOf}
+use Rattle.wh_imports.specs.LinkedState.{LinkedState}
 
 -- ---- one number
 
@@ -207,36 +208,36 @@ some_same e = cc
 own_same : {t u : FuncType} {b d : Body} → own t b ≡ own u d → t ≡ u
 own_same e = cc
 
-pub type_is : (p : ProgramParts) (func : ℕ) (type other : FuncType) (body : Body) (c : Context) (inst : Instance)
-    → IsOwnType p func type → IsInstance p c inst → slice_get inst.funcs func ≡ Some (own other body) → type ≡ other
-type_is p func type other body c inst owned is at = own_same (some_same (sym (owned c inst is).1 ∙ at))
+pub type_is : (l : LinkedState) (func : ℕ) (type other : FuncType) (body : Body) (c : Context) (inst : Instance)
+    → IsOwnType l func type → IsInstanceOf l c inst → slice_get inst.funcs func ≡ Some (own other body) → type ≡ other
+type_is l func type other body c inst owned is at = own_same (some_same (sym (owned c inst is).1 ∙ at))
 
 abbrev pub Decides : Bool → List ValType → List ℤ → Type 0
 Decides b ts ns = MatchBool b ((vs : List Value) × AreArguments ts ns vs)
     ((vs : List Value) → ¬ (AreArguments ts ns vs))
 
-pub decided : (p : ProgramParts) (func : ℕ) (type : FuncType) (given : List ℤ) (b : Bool) → IsOwnType p func type
+pub decided : (l : LinkedState) (func : ℕ) (type : FuncType) (given : List ℤ) (b : Bool) → IsOwnType l func type
     → Decides b type.params given
-    → (c : Context) (inst : Instance) (other : FuncType) (body : Body) → IsInstance p c inst
+    → (c : Context) (inst : Instance) (other : FuncType) (body : Body) → IsInstanceOf l c inst
     → slice_get inst.funcs func ≡ Some (own other body) → Decides b other.params given
-decided p func type given b owned h c inst other body is at = subst (λ (t : FuncType). Decides b t.params given)
-    (type_is p func type other body c inst owned is at) h
+decided l func type given b owned h c inst other body is at = subst (λ (t : FuncType). Decides b t.params given)
+    (type_is l func type other body c inst owned is at) h
 
-pub has_own : (p : ProgramParts) (func : ℕ) (type : FuncType) → IsOwnType p func type
-    → (c : Context) (inst : Instance) → IsInstance p c inst → HasNoOwn inst func → ⊥
-has_own p func type owned c inst is lacks = let o = owned c inst is in lacks type o.0 o.1
+pub has_own : (l : LinkedState) (func : ℕ) (type : FuncType) → IsOwnType l func type
+    → (c : Context) (inst : Instance) → IsInstanceOf l c inst → HasNoOwn inst func → ⊥
+has_own l func type owned c inst is lacks = let o = owned c inst is in lacks type o.0 o.1
 
-pub none_taken : (p : ProgramParts) (func : ℕ) (given : List ℤ) → LacksOwn p func → CanTake p func given → ⊥
-none_taken p func given lacks r = lacks r.context r.inst r.is r.type r.body r.is_own
+pub none_taken : (l : LinkedState) (func : ℕ) (given : List ℤ) → LacksOwn l func → CanTake l func given → ⊥
+none_taken l func given lacks r = lacks r.context r.inst r.is r.type r.body r.is_own
 
-pub as_many : (p : ProgramParts) (func : ℕ) (type : FuncType) (given : List ℤ) → IsOwnType p func type
-    → CanTake p func given → length type.params ≡ length given
-as_many p func type given owned r =
-    ap (λ (t : FuncType). length t.params) (type_is p func type r.type r.body r.context r.inst owned r.is r.is_own)
+pub as_many : (l : LinkedState) (func : ℕ) (type : FuncType) (given : List ℤ) → IsOwnType l func type
+    → CanTake l func given → length type.params ≡ length given
+as_many l func type given owned r =
+    ap (λ (t : FuncType). length t.params) (type_is l func type r.type r.body r.context r.inst owned r.is r.is_own)
     ∙ same_count r.type.params given r.vs r.fits
 
-pub words_by : (p : ProgramParts) (func : ℕ) (type : FuncType) (given : List ℤ) (words : List ℕ)
-    → IsOwnType p func type → AreWords type.params given words → WordsAre p func given words
-words_by p func type given words owned h c inst other body vs is at fits =
+pub words_by : (l : LinkedState) (func : ℕ) (type : FuncType) (given : List ℤ) (words : List ℕ)
+    → IsOwnType l func type → AreWords type.params given words → WordsAre l func given words
+words_by l func type given words owned h c inst other body vs is at fits =
     h vs (subst (λ (t : FuncType). AreArguments t.params given vs)
-    (sym (type_is p func type other body c inst owned is at)) fits)
+    (sym (type_is l func type other body c inst owned is at)) fits)

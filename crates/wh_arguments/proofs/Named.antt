@@ -13,8 +13,7 @@ use Rattle.wh_syntax.specs.View.{view_export, view_module}
 use Rattle.wh_syntax.specs.declared.module.Module.{Module as Decoded}
 use Rattle.wh_bodies.specs.Views.{view_side}
 use Rattle.wh_validate.specs.Soundness.{IsChecked}
-use Rattle.wh_imports.specs.Joined.{LinkedState}
-use Rattle.wh_machine.specs.Runs.{linked_parts}
+use Rattle.wh_imports.specs.LinkedState.{LinkedState}
 use Rattle.wh_machine.proofs.Lookups.{all_of}
 use Rattle.wh_call.specs.Exports.{Exports, LacksFunc}
 use Rattle.wh_call.specs.Arguments.{IsOwnType, LacksOwn}
@@ -75,7 +74,7 @@ pub names_differ : (l : LinkedState) (m : Decoded) → m ≡ l.valid.decoded
 names_differ l m same sound = subst (λ z. DifferentNames (view_module z).exports) same sound.valid.names
 
 pub named_own : (l : LinkedState) (name : List ℕ) (index : ℕ) (type : FuncType)
-    → Exports l.valid.decoded.exports.items name index → IsOwnType (linked_parts l) index type → NamesOwn l name index
+    → Exports l.valid.decoded.exports.items name index → IsOwnType l index type → NamesOwn l name index
 named_own l name index type h owned c inst is =
     let o = owned c inst is in
     let f = found l.valid.decoded.exports.items name index h in
@@ -94,7 +93,7 @@ named_only l name index d h c inst x type body is u = ap Some (index_is l name i
 
 -- a function of the host is exported by the name
 pub named_host : (l : LinkedState) (name : List ℕ) (index : ℕ) → DifferentNames (view_module l.valid.decoded).exports
-    → Exports l.valid.decoded.exports.items name index → LacksOwn (linked_parts l) index → NamesNone l name
+    → Exports l.valid.decoded.exports.items name index → LacksOwn l index → NamesNone l name
 named_host l name index d h lacks c inst x type body is = λ u. lacks c inst is type body
     (subst (λ z. slice_get inst.funcs z ≡ Some (own type body))
     (sym (index_is l name index x inst type body d h u)) u.is_own)

@@ -7,10 +7,9 @@ ghost use Rattle.wh_model.specs.Execution.Store.{Value, own, Instance};
 ghost use Rattle.wh_model.specs.Format.Syntax.{FuncType as ModelType, Body};
 ghost use Rattle.wh_model.specs.Validity.Typing.{Context};
 ghost use Rattle.wh_host_model.specs.Host.Calls.{IsArgument, AreArguments};
-ghost use Rattle.wh_control.specs.Parts.{IsInstance};
-ghost use Rattle.wh_machine.specs.Runs.{linked_parts};
 ghost use Rattle.wh_call.specs.Arguments.{HasNoOwn};
 ghost use Rattle.wh_arguments.specs.Asked.{CanTake, WordsAre, AreWords};
+ghost use Rattle.wh_machine.specs.Runs.{IsInstanceOf};
 
 use std::alloc::{AllocError, Global};
 use wh_call::own_type;
@@ -85,12 +84,12 @@ fn words_for(alloc: Global, params: &[ValType], given: &[i128]) -> Result<Vec<u6
 /// Whether the numbers given are arguments of the function of this index, one of the module's own.
 pub fn takes(linked: &Linked, func: u32, given: &[i128]) -> bool
     ensures own { (c : Context) (inst : Instance) (type : ModelType) (body : Body)
-        → IsInstance (linked_parts linked.now) c inst
+        → IsInstanceOf linked.now c inst
         → slice_get inst.funcs func ≡ Some (own type body)
         → MatchBool result
         ((vs : List Value) × AreArguments type.params given.now vs)
         ((vs : List Value) → ¬ (AreArguments type.params given.now vs)) }
-    ensures other { (c : Context) (inst : Instance) → IsInstance (linked_parts linked.now) c inst
+    ensures other { (c : Context) (inst : Instance) → IsInstanceOf linked.now c inst
         → HasNoOwn inst func → result ≡ false }
 {
     match own_type(linked, func) {
@@ -110,8 +109,8 @@ pub fn words_of(
     func: u32,
     given: &[i128],
 ) -> Result<Vec<u64>, AllocError>
-    requires { CanTake (linked_parts linked.now) func given.now }
-    ensures { IfOk result (λ words. WordsAre (linked_parts linked.now) func given.now words.items) }
+    requires { CanTake linked.now func given.now }
+    ensures { IfOk result (λ words. WordsAre linked.now func given.now words.items) }
 {
     match own_type(linked, func) {
         Some(func_type) => words_for(alloc, func_type.params.as_slice(), given),

@@ -14,12 +14,12 @@ use Rattle.wh_syntax.specs.View.{view_module, view_type}
 use Rattle.wh_bodies.specs.Table.{Table}
 use Rattle.wh_bodies.specs.Views.{view_side, type_at}
 use Rattle.wh_validate.specs.Soundness.{Checked, IsChecked}
-use Rattle.wh_imports.specs.Joined.{LinkedState}
+use Rattle.wh_imports.specs.LinkedState.{LinkedState}
 use Rattle.wh_control.specs.Represents.{Func}
 use Rattle.wh_control.proofs.Calling.{own_at}
 use Rattle.wh_control.proofs.Entries.{Callee, of_host, of_module, callee}
 use Rattle.wh_control.specs.Parts.{ProgramParts, funcs_of, funcs_in, IsInstance}
-use Rattle.wh_machine.specs.Runs.{linked_parts}
+use Rattle.wh_machine.specs.Runs.{linked_parts, IsInstanceOf}
 use Rattle.wh_machine.proofs.Lookups.{parts_of, all_of}
 use Rattle.wh_call.specs.Arguments.{Arguments, HasCall, IsOwnType, LacksOwn}
 use Rattle.wh_call.proofs.Lists.{values_of, arguments_of, mapped_to}
@@ -47,19 +47,6 @@ own_index_by p func type body (of_module g y index at is) = record { g = g; y = 
 own_index : (p : ProgramParts) (c : Context) (inst : Instance) (func : ℕ) (type : model.FuncType) (body : Body) → IsInstance p c inst → slice_get inst.funcs func ≡ Some (own type body) → OwnIndex p func type
 own_index p c inst func type body is at = own_index_by p func type body (callee p.hosts (funcs_in p) func (own type body) (ap (λ fs. slice_get fs func) (sym is.program.funcs_are) ∙ at))
 
--- no function of the host is one
-lacks_low : (p : ProgramParts) (func : ℕ) → func < length p.hosts → LacksOwn p func
-lacks_low p func low c inst is type body at = let o = own_index p c inst func type body is at in let index = o.index in absurd (omega (arith, low, index))
-
--- and none behind the last one
-lacks_high : (p : ProgramParts) (func : ℕ) → length p.decoded.funcs.items ≤ func - length p.hosts → LacksOwn p func
-lacks_high p func high c inst is type body at =
-    let o = own_index p c inst func type body is at in
-    let index = o.index in
-    let parts = parts_of _ _ _ _ o.y o.g o.at in
-    let within = slice_get_within p.decoded.funcs.items o.y parts.x parts.x_at in
-    absurd (omega (arith, high, index, within))
-
 -- ---- what is known of checked functions
 
 pub checked_named : (c : Context) (xs : List ℕ) (bs : List Body) (ts : List Table) → Checked c xs bs ts → AllByRecursion (λ x. x < length c.types) xs
@@ -78,12 +65,22 @@ checked_at c types (z ∷ xs) bs ts (suc y) x (b, rest, f, more, eb, et, at, val
 
 -- ---- of a linked module, by the clauses of its parts
 
-pub refused_low : (l : LinkedState) (func : ℕ) → func < length l.funcs → LacksOwn (linked_parts l) func
-refused_low l func low = lacks_low (linked_parts l) func low
+-- no function of the host is the module's own
+pub refused_low : (l : LinkedState) (func : ℕ) → func < length l.funcs → LacksOwn l func
+refused_low l func low c inst is type body at =
+    let o = own_index (linked_parts l) c inst func type body is at in
+    let index = o.index in
+    absurd (omega (arith, low, index))
 
+-- and none behind the last one
 pub refused_high : (l : LinkedState) (func : ℕ) → length l.valid.decoded.funcs.items ≤ func - length l.funcs
-    → LacksOwn (linked_parts l) func
-refused_high l func high = lacks_high (linked_parts l) func high
+    → LacksOwn l func
+refused_high l func high c inst is type body at =
+    let o = own_index (linked_parts l) c inst func type body is at in
+    let index = o.index in
+    let parts = parts_of _ _ _ _ o.y o.g o.at in
+    let within = slice_get_within l.valid.decoded.funcs.items o.y parts.x parts.x_at in
+    absurd (omega (arith, high, index, within))
 
 pub type_there : (l : LinkedState) (sound : IsChecked (view_module l.valid.decoded) (map view_side l.valid.tables)) (place x : ℕ) → slice_get l.valid.decoded.funcs.items place ≡ Some x → x < length l.valid.decoded.types.items
 type_there l sound place x at =
@@ -96,7 +93,7 @@ type_there l sound place x at =
 pub typed_at : (l : LinkedState) (sound : IsChecked (view_module l.valid.decoded) (map view_side l.valid.tables))
     (func place x : ℕ) (ft : FuncType) → func ≡ length l.funcs + place
     → slice_get l.valid.decoded.funcs.items place ≡ Some x → slice_get l.valid.decoded.types.items x ≡ Some ft
-    → IsOwnType (linked_parts l) func (view_type ft)
+    → IsOwnType l func (view_type ft)
 typed_at l sound func place x ft index at_x at_type c inst is =
     let types = map view_type l.valid.decoded.types.items in
     let found = checked_at sound.context types l.valid.decoded.funcs.items _ _ place x sound.checked at_x in
@@ -110,18 +107,18 @@ typed_at l sound func place x ft index at_x at_type c inst is =
 -- ---- calls
 
 -- the function of an index is called with arguments of its parameters
-pub calls_by : (p : ProgramParts) (func : ℕ) (type : model.FuncType) (args : List ℕ) → IsOwnType p func type
+pub calls_by : (l : LinkedState) (func : ℕ) (type : model.FuncType) (args : List ℕ) → IsOwnType l func type
     → (b : Bool) → MatchBool b (Arguments type.params args) (¬ (Arguments type.params args))
-    → (c : Context) (inst : Instance) → IsInstance p c inst
+    → (c : Context) (inst : Instance) → IsInstanceOf l c inst
     → MatchBool b (HasCall inst func args) (¬ (HasCall inst func args))
-calls_by p func type args owned true h c inst is =
+calls_by l func type args owned true h c inst is =
     let v = values_of type.params args h in
     let o = owned c inst is in
     (type, o.0, v.0, record { is_own = o.1; types = v.1; fit = v.2; words = v.3 })
-calls_by p func type args owned false h c inst is = λ (other, body, vs, u).
+calls_by l func type args owned false h c inst is = λ (other, body, vs, u).
     let same : other ≡ type = own_type (some_same (sym u.is_own ∙ (owned c inst is).1)) in
     h (arguments_of vs type.params args (u.types ∙ ap (λ (t : model.FuncType). t.params) same) u.fit u.words)
 
-pub no_call : (p : ProgramParts) (func : ℕ) (args : List ℕ) → LacksOwn p func → (c : Context) (inst : Instance)
-    → IsInstance p c inst → ¬ (HasCall inst func args)
-no_call p func args lacks c inst is = λ (type, body, vs, u). lacks c inst is type body u.is_own
+pub no_call : (l : LinkedState) (func : ℕ) (args : List ℕ) → LacksOwn l func → (c : Context) (inst : Instance)
+    → IsInstanceOf l c inst → ¬ (HasCall inst func args)
+no_call l func args lacks c inst is = λ (type, body, vs, u). lacks c inst is type body u.is_own

@@ -5,22 +5,23 @@ use Rattle.wh_model.specs.Format.Syntax.{FuncType, Body}
 use Rattle.wh_model.specs.Execution.Numbers.{bits}
 use Rattle.wh_model.specs.Validity.Typing.{Context}
 use Rattle.wh_model.specs.Execution.Store.{Value, own, Instance}
-use Rattle.wh_control.specs.Parts.{ProgramParts, IsInstance}
+use Rattle.wh_imports.specs.LinkedState.{LinkedState}
+use Rattle.wh_machine.specs.Runs.{IsInstanceOf}
 use Rattle.wh_machine.specs.Opening.{IsOwnCall}
 
--- in each instance of the program the function of this index is its own, of this type
-abbrev pub IsOwnType : ProgramParts → ℕ → FuncType → Type 0
-IsOwnType p func type =
-    (c : Context) (inst : Instance) → IsInstance p c inst
+-- in each instance of the linked module the function of this index is its own, of this type
+abbrev pub IsOwnType : LinkedState → ℕ → FuncType → Type 0
+IsOwnType l func type =
+    (c : Context) (inst : Instance) → IsInstanceOf l c inst
     → (body : Body) × (slice_get inst.funcs func ≡ Some (own type body))
 
 -- the function of this index is none of the instance's own
 abbrev pub HasNoOwn : Instance → ℕ → Type 0
 HasNoOwn inst func = (type : FuncType) (body : Body) → ¬ (slice_get inst.funcs func ≡ Some (own type body))
 
--- nor is it in any instance of the program
-abbrev pub LacksOwn : ProgramParts → ℕ → Type 0
-LacksOwn p func = (c : Context) (inst : Instance) → IsInstance p c inst → HasNoOwn inst func
+-- nor is it in any instance of the linked module
+abbrev pub LacksOwn : LinkedState → ℕ → Type 0
+LacksOwn l func = (c : Context) (inst : Instance) → IsInstanceOf l c inst → HasNoOwn inst func
 
 -- one number for each parameter, of the bits of its type
 abbrev pub Arguments : List ValType → List ℕ → Type 0

@@ -5,10 +5,9 @@ ghost use Rattle.std.specs.Bool.{MatchBool};
 ghost use Rattle.wh_model.specs.Execution.Numbers.{bits};
 ghost use Rattle.wh_model.specs.Validity.Typing.{Context};
 ghost use Rattle.wh_model.specs.Execution.Store.{Instance};
-ghost use Rattle.wh_control.specs.Parts.{IsInstance};
 ghost use Rattle.wh_syntax.specs.View.{view_type};
-ghost use Rattle.wh_machine.specs.Runs.{linked_parts};
 ghost use Rattle.wh_call.specs.Arguments.{Arguments, HasCall, IsOwnType, LacksOwn};
+ghost use Rattle.wh_machine.specs.Runs.{IsInstanceOf};
 
 use wh_imports::Linked;
 use wh_model::ValType;
@@ -70,8 +69,8 @@ fn func_type_at(types: &[FuncType], at: usize) -> &FuncType
 /// The type of the function of this index, where it is one of the module's own.
 pub fn own_type(linked: &Linked, func: u32) -> Option<&FuncType>
     ensures some { IfSome result
-        (λ found. IsOwnType (linked_parts linked.now) func (view_type found.now)) }
-    ensures none { IfNone result (LacksOwn (linked_parts linked.now) func) }
+        (λ found. IsOwnType linked.now func (view_type found.now)) }
+    ensures none { IfNone result (LacksOwn linked.now func) }
 {
     let module = linked.module();
     let place = (func as usize).checked_sub(linked.funcs().len())?;
@@ -83,7 +82,7 @@ pub fn own_type(linked: &Linked, func: u32) -> Option<&FuncType>
 
 /// Whether the function of this index is one of the module's own, and these words are arguments of it.
 pub fn can_call(linked: &Linked, func: u32, args: &[u64]) -> bool
-    ensures { (c : Context) (inst : Instance) → IsInstance (linked_parts linked.now) c inst
+    ensures { (c : Context) (inst : Instance) → IsInstanceOf linked.now c inst
         → MatchBool result (HasCall inst func args.now) (¬ (HasCall inst func args.now)) }
 {
     match own_type(linked, func) {

@@ -1,6 +1,5 @@
 //! Runs of calls, and how they end.
 
-ghost use Rattle.wh_machine.specs.Runs.{linked_parts};
 ghost use Rattle.wh_machine.specs.States.{HasConfiguration, setting_of, call_state};
 ghost use Rattle.wh_call.specs.Ends.{CanCall, RunEndsWithin, CallEndsWithin};
 
@@ -33,10 +32,10 @@ pub fn run_on<M: LinearMem>(
     fuel: u64,
 ) -> (RunEnd, u64)
     requires { HasConfiguration
-        (setting_of (linked_parts linked.now) M.bytes M.ready M.keeps (M.limit memory.old))
+        (setting_of linked.now M.bytes M.ready M.keeps (M.limit memory.old))
         (call_state machine.old store.old memory.old) }
     ensures ends { RunEndsWithin
-        (setting_of (linked_parts linked.now) M.bytes M.ready M.keeps (M.limit memory.old))
+        (setting_of linked.now M.bytes M.ready M.keeps (M.limit memory.old))
         (call_state machine.old store.old memory.old)
         fuel result.0 result.1
         (call_state machine.new store.new memory.new) }
@@ -64,11 +63,11 @@ pub fn call<M: LinearMem>(
     fuel: u64,
 ) -> (RunEnd, u64)
     requires { CanCall
-        (setting_of (linked_parts linked.now) M.bytes M.ready M.keeps (M.limit memory.old))
+        (setting_of linked.now M.bytes M.ready M.keeps (M.limit memory.old))
         (call_state machine.old store.old memory.old)
         func args.now }
     ensures ends { CallEndsWithin
-        (setting_of (linked_parts linked.now) M.bytes M.ready M.keeps (M.limit memory.old))
+        (setting_of linked.now M.bytes M.ready M.keeps (M.limit memory.old))
         (call_state machine.old store.old memory.old)
         func args.now fuel result.0 result.1
         (call_state machine.new store.new memory.new) }

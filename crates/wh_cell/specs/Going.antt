@@ -49,8 +49,8 @@ IsPartOf [] ys = Unit {0}
 IsPartOf (x ∷ xs) [] = ⊥
 IsPartOf (x ∷ xs) (y ∷ ys) = ((x ≡ y) × IsPartOf xs ys) ⊎ IsPartOf (x ∷ xs) ys
 
--- Events lead from one host to the other that are no requests, while the device's calls failed so. Each fault that is kept
--- with a call is one of these; one of a call for which nobody waits any more is kept by none.
+-- Events lead from one host to the other that are no requests, while the device's calls failed so. Each fault that is
+-- kept with a call is one of these; one of a call for which nobody waits any more is kept by none.
 pub record WorksTo (w : World) (faults : List SwapError) (w2 : World) : Type 0 where
   pub events : List Event
   pub work : AllByRecursion IsWork events

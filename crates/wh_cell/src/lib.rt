@@ -7,8 +7,6 @@ mod jobs;
 mod keeper;
 mod locked;
 mod moving;
-#[cfg(test)]
-mod overlap_tests;
 mod owned;
 mod owner;
 mod patience;
@@ -18,8 +16,6 @@ mod roster;
 mod serving;
 mod showing;
 mod taken;
-#[cfg(test)]
-mod tests;
 mod ties;
 
 pub use backing::Backing;

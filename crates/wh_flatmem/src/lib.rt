@@ -12,7 +12,7 @@
 
 ghost use Rattle.std.specs.Prelude.{◌≡◌, ◌+◌, ◌-◌, ◌*◌, ◌<◌, ◌≤◌, length, replicate, IfOk, IsTrue, IsFalse, vec_capacity, refl};
 ghost use Rattle.std.proofs.Common.{◌∙◌};
-ghost use Rattle.wh_flatmem.specs.Flat.{FlatMemoryState, StartsAt};
+ghost use Rattle.wh_flatmem.specs.FlatMemoryState.{FlatMemoryState, StartsAt};
 ghost use Rattle.wh_model.specs.Execution.Store.{bytes_at, written};
 
 use std::alloc::{AllocError, Global};

@@ -31,7 +31,7 @@ use Rattle.wh_host_model.specs.Host.Happens.{IsLive, OnlyMoves, IsCancel, is_can
 use Rattle.wh_host_model.proofs.Host.Bridges.{ends_well, epochs_leave_all, exits_depart}
 use Rattle.wh_host_model.specs.Host.Misreading.{ComesAbout}
 use Rattle.wh_host_model.proofs.Host.Lasting.{memory_stays_sound}
-use Rattle.wh_imports.specs.Joined.{LinkedState}
+use Rattle.wh_imports.specs.LinkedState.{LinkedState}
 use Rattle.wh_load.specs.Refusing.{view_linked}
 use Rattle.wh_instance.specs.declared.error.InvokeError.{InvokeError}
 use Rattle.wh_instance.specs.Asked.{CancelsTenant}

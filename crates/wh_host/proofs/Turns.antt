@@ -18,7 +18,7 @@ use Rattle.wh_host_model.specs.Host.Turns.{Proceeds, Upshot, to_end, out_of_fuel
 use Rattle.wh_host_model.specs.Host.Answers.{gone_further, ended_by, Closes, faces_next, is_dead, ProceedsIn, Turn, is_idle, has_ended, has_no_fuel, has_no_frame, can_go_on, keeps_its_fault}
 use Rattle.wh_host_model.proofs.Host.Bridges.{ends_well, stands_well}
 use Rattle.wh_host_model.proofs.Space.Reading.{view_length}
-use Rattle.wh_imports.specs.Joined.{LinkedState}
+use Rattle.wh_imports.specs.LinkedState.{LinkedState}
 use Rattle.wh_machine.specs.Runs.{linked_parts}
 use Rattle.wh_machine.specs.States.{Setting, setting_of}
 use Rattle.wh_instance.specs.declared.stages.Turned.{Turned}
@@ -131,7 +131,7 @@ idle_turn l limit q x s place t lies none = (t, is_idle none, lies)
 
 -- the setting in which the memory is lent
 abbrev pub lent_setting : LinkedState → View → Setting View
-lent_setting l v = setting_of (linked_parts l) view_bytes ViewReady KeepsView (min v.page_limit (page_limit v.memory.now v.place))
+lent_setting l v = setting_of l view_bytes ViewReady KeepsView (min v.page_limit (page_limit v.memory.now v.place))
 
 -- it is that instance over what is lent
 pub lent_open : (l : LinkedState) (x : TenantState) (v : View) (t : Tenant) → LiesAt l v.page_limit x v.memory.now v.place t → RepresentsTenant (lent_setting l v) x v t

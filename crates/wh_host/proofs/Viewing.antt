@@ -19,7 +19,7 @@ use Rattle.wh_control.specs.Represents.{CallsState, Func, RepresentsCalls, resul
 use Rattle.wh_control.specs.declared.store.Store as code_store
 use Rattle.wh_machine.specs.declared.machine.Machine.{Machine}
 use Rattle.wh_machine.specs.Runs.{RepresentsInstance, RepresentsMachine, calls_in}
-use Rattle.wh_machine.specs.States.{Setting, setting_of, call_state}
+use Rattle.wh_machine.specs.States.{Setting, call_state, parts_setting}
 use Rattle.wh_machine.proofs.Coming.{standing_settled}
 use Rattle.wh_instance.specs.Turned.{IsStarting, IsFaced, IsComputing}
 use Rattle.wh_instance.specs.Tenancy.{TenantState, IsWhere, rests, writes, is_faced, is_under_way, RepresentsTenant}
@@ -66,7 +66,7 @@ module _ {M N : Type 0} (p : ProgramParts) (n : ℕ) (bytes : M → List ℕ) (r
   store_over : (k : code_store.Store) (inst : Instance) (r : Rest) → (c : Context) × RepresentsInstance p k (bytes m) n c inst (store_with (bytes m) r) → (c : Context) × RepresentsInstance p k (bytes2 m2) n c inst (store_with (bytes2 m2) r)
   store_over k inst r = subst (λ b. (c : Context) × RepresentsInstance p k b n c inst (store_with b r)) (sym same)
 
-  starting_over : (machine : Machine) (k : code_store.Store) (inst : Instance) (call : Call) (r : Rest) (ps : List Piece) → IsStarting (setting_of p bytes ready keeps n) (call_state machine k m) inst call r ps → IsStarting (setting_of p bytes2 ready2 keeps2 n) (call_state machine k m2) inst call r ps
+  starting_over : (machine : Machine) (k : code_store.Store) (inst : Instance) (call : Call) (r : Rest) (ps : List Piece) → IsStarting (parts_setting p bytes ready keeps n) (call_state machine k m) inst call r ps → IsStarting (parts_setting p bytes2 ready2 keeps2 n) (call_state machine k m2) inst call r ps
   starting_over machine k inst call r ps st = record {
     store = store_over k inst r st.store;
     within = subst (λ b. Within (length b) ps) (sym same) st.within;
@@ -77,7 +77,7 @@ module _ {M N : Type 0} (p : ProgramParts) (n : ℕ) (bytes : M → List ℕ) (r
     calls_own = st.calls_own;
   }
 
-  faced_over : (machine : Machine) (k : code_store.Store) (inst : Instance) (call : Call) (r : Rest) (func : ℕ) (args : List ℕ) (t : Term) → IsFaced (setting_of p bytes ready keeps n) (call_state machine k m) inst call r func args t → IsFaced (setting_of p bytes2 ready2 keeps2 n) (call_state machine k m2) inst call r func args t
+  faced_over : (machine : Machine) (k : code_store.Store) (inst : Instance) (call : Call) (r : Rest) (func : ℕ) (args : List ℕ) (t : Term) → IsFaced (parts_setting p bytes ready keeps n) (call_state machine k m) inst call r func args t → IsFaced (parts_setting p bytes2 ready2 keeps2 n) (call_state machine k m2) inst call r func args t
   faced_over machine k inst call r func args t f = record {
     store = store_over k inst r f.store;
     invocation = subst (λ b. Invocation inst (store_with b r) call (config (store_with b r) [] t)) (sym same) f.invocation;
@@ -86,7 +86,7 @@ module _ {M N : Type 0} (p : ProgramParts) (n : ℕ) (bytes : M → List ℕ) (r
     no_charges = f.no_charges;
   }
 
-  computing_over : (machine : Machine) (k : code_store.Store) (inst : Instance) (call : Call) (r : Rest) (t : Term) → IsComputing (setting_of p bytes ready keeps n) (call_state machine k m) inst call r t → IsComputing (setting_of p bytes2 ready2 keeps2 n) (call_state machine k m2) inst call r t
+  computing_over : (machine : Machine) (k : code_store.Store) (inst : Instance) (call : Call) (r : Rest) (t : Term) → IsComputing (parts_setting p bytes ready keeps n) (call_state machine k m) inst call r t → IsComputing (parts_setting p bytes2 ready2 keeps2 n) (call_state machine k m2) inst call r t
   computing_over machine k inst call r t f = record {
     index = f.index;
     type = f.type;
@@ -99,13 +99,13 @@ module _ {M N : Type 0} (p : ProgramParts) (n : ℕ) (bytes : M → List ℕ) (r
     settled = subst (λ b. IsSettled inst (config (store_with b r) [] t)) (sym same) f.settled;
   }
 
-  where_over : (x : TenantState) (inst : Instance) (r : Rest) (d : Doing) (es : List Entry) → IsWhere (setting_of p bytes ready keeps n) x m inst r d es → IsWhere (setting_of p bytes2 ready2 keeps2 n) x m2 inst r d es
+  where_over : (x : TenantState) (inst : Instance) (r : Rest) (d : Doing) (es : List Entry) → IsWhere (parts_setting p bytes ready keeps n) x m inst r d es → IsWhere (parts_setting p bytes2 ready2 keeps2 n) x m2 inst r d es
   where_over x inst r d es (rests at) = rests at
   where_over x inst r d es (writes {ps = ps} {e = e} at some func st left few) = writes at some func (starting_over x.machine x.store inst e.call r ps st) left few
   where_over x inst r d es (is_faced {func = func} {term = term} {e = e} at f) = is_faced at (faced_over x.machine x.store inst e.call r func _ term f)
   where_over x inst r d es (is_under_way {term = term} {e = e} at c within) = is_under_way at (computing_over x.machine x.store inst e.call r term c) within
 
-  pub represents_over : (x : TenantState) (t : Tenant) → RepresentsTenant (setting_of p bytes ready keeps n) x m t → RepresentsTenant (setting_of p bytes2 ready2 keeps2 n) x m2 t
+  pub represents_over : (x : TenantState) (t : Tenant) → RepresentsTenant (parts_setting p bytes ready keeps n) x m t → RepresentsTenant (parts_setting p bytes2 ready2 keeps2 n) x m2 t
   represents_over x t rep = record {
     store = store_over x.store t.inst t.rest rep.store;
     ended = rep.ended;
@@ -121,7 +121,7 @@ module _ {M N : Type 0} (p : ProgramParts) (n : ℕ) (bytes : M → List ℕ) (r
 -- ---- over a memory of other bytes, as many
 
 abbrev setting_by : ProgramParts → ℕ → Setting (List ℕ)
-setting_by p n = setting_of p (λ b. b) (λ b need. Unit {0}) (λ b b2. Unit {0}) n
+setting_by p n = parts_setting p (λ b. b) (λ b need. Unit {0}) (λ b b2. Unit {0}) n
 
 abbrev config_over : List ℕ → Config → Config
 config_over b (config s f t) = config (record s { bytes = b }) f t

@@ -10,7 +10,7 @@ use Rattle.wh_host_model.specs.Host.Happens.{AdmitAnswer, admit_ok, admit_refuse
 use Rattle.wh_admit.specs.declared.error.AdmitError.{AdmitError}
 use Rattle.wh_admit.specs.declared.outcome.Admitted.{Admitted}
 use Rattle.wh_admit.specs.Faults.{fault_of}
-use Rattle.wh_imports.specs.Joined.{LinkedState}
+use Rattle.wh_imports.specs.LinkedState.{LinkedState}
 use Rattle.wh_instance.specs.Beginning.{BeginsTenant}
 use Rattle.wh_space.specs.Arrivals.{claimed}
 use Rattle.wh_space.specs.declared.guest.Promise.{Promise}

@@ -7,7 +7,7 @@ use Rattle.wh_host_model.specs.Space.Parts.{Space, Occupant, occupant_at}
 use Rattle.wh_host_model.specs.Space.Stores.{ended, stood}
 use Rattle.wh_host_model.specs.Host.Answers.{Turn}
 use Rattle.wh_host_model.specs.Host.Worlds.{Tenant}
-use Rattle.wh_imports.specs.Joined.{LinkedState}
+use Rattle.wh_imports.specs.LinkedState.{LinkedState}
 use Rattle.wh_instance.specs.declared.stages.Turned.{Turned}
 use Rattle.wh_instance.specs.declared.stages.Turned.TheVariants as turned
 use Rattle.wh_instance.specs.Tenancy.{TenantState}

@@ -9,7 +9,7 @@ use Rattle.wh_imports.specs.declared.error.LinkError.{LinkError}
 use Rattle.wh_imports.specs.declared.error.LinkError.TheVariants.{NoItem, Memory as NoRoomToLink}
 use Rattle.wh_load.specs.declared.error.LoadError.{LoadError}
 use Rattle.wh_load.specs.declared.error.LoadError.TheVariants.{Decode, Valid, Link}
-use Rattle.wh_imports.specs.Joined.{LinkedState}
+use Rattle.wh_imports.specs.LinkedState.{LinkedState}
 use Rattle.wh_host.specs.declared.parts.LoadedModule.{LoadedModule}
 use Rattle.wh_host.specs.declared.parts.ModuleId.{ModuleId}
 use Rattle.wh_host.specs.declared.error.ModuleError.{ModuleError}

@@ -2,7 +2,7 @@
 use Rattle.std.specs.Prelude.{◌≡◌, ℕ, ◌≤◌, Some}
 use Rattle.wh_host_model.specs.Space.Parts.{Claimed, Space, claim, view}
 use Rattle.wh_host_model.specs.Host.Worlds.{Tenant}
-use Rattle.wh_imports.specs.Joined.{LinkedState}
+use Rattle.wh_imports.specs.LinkedState.{LinkedState}
 use Rattle.wh_instance.specs.Tenancy.{TenantState, IsTenant}
 use Rattle.wh_space.specs.Steps.{page_limit}
 

@@ -9,4 +9,6 @@ OthersStay rs place rs2 = (j : ℕ) → j ≢ place → resident_at rs2 j ≡ re
 
 -- a place was given up, or nothing has changed
 abbrev pub PlaceIsLeft : List (Option Resident) → ℕ → List (Option Resident) → Type 0
-PlaceIsLeft rs place rs2 = OthersStay rs place rs2 × ((x : Resident) → resident_at rs2 place ≡ Some x → resident_at rs place ≡ Some x)
+PlaceIsLeft rs place rs2 =
+    OthersStay rs place rs2
+    × ((x : Resident) → resident_at rs2 place ≡ Some x → resident_at rs place ≡ Some x)

@@ -11,8 +11,6 @@ mod error;
 mod host;
 mod invoking;
 mod loading;
-#[cfg(test)]
-mod paging_tests;
 mod parts;
 mod providing;
 mod releasing;
@@ -23,10 +21,6 @@ mod scanning;
 mod seating;
 mod showing;
 mod telling;
-#[cfg(test)]
-mod telling_tests;
-#[cfg(test)]
-mod tests;
 mod transit;
 mod turning;
 

@@ -1,6 +1,6 @@
 pub mod Refusing
 pub mod Resolving
-pub mod Joined
+pub mod LinkedState
 pub mod Typed
 pub mod Tags
 pub mod Records

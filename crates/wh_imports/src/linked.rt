@@ -7,7 +7,7 @@ ghost use Rattle.wh_bodies.specs.Views.{view_side};
 ghost use Rattle.wh_validate.specs.Soundness.{IsChecked};
 ghost use Rattle.wh_imports.specs.Records.{AreRecords};
 ghost use Rattle.wh_imports.specs.Resolving.{IsResolved, Adds};
-ghost use Rattle.wh_imports.specs.Joined.{LinkedState, stored_joined};
+ghost use Rattle.wh_imports.specs.LinkedState.{LinkedState, stored_linked};
 ghost use Rattle.wh_imports.specs.Refusing.{RefusesLink};
 
 use crate::error::LinkError;
@@ -32,7 +32,7 @@ pub struct Linked {
 impl Model for Linked {
     ghost Value = { LinkedState };
 
-    ghost coded = { stored_joined };
+    ghost coded = { stored_linked };
 
     ghost view = { λ l. record {
       valid = l.valid;

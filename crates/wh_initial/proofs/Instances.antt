@@ -15,7 +15,7 @@ use Rattle.wh_syntax.specs.View.{view_module}
 use Rattle.wh_bodies.specs.Table.{Table, table_of}
 use Rattle.wh_bodies.specs.Views.{view_side, type_at}
 use Rattle.wh_validate.specs.Soundness.{Checked, IsChecked}
-use Rattle.wh_imports.specs.Joined.{LinkedState}
+use Rattle.wh_imports.specs.LinkedState.{LinkedState}
 use Rattle.wh_imports.specs.Resolving.{IsResolved}
 use Rattle.wh_control.specs.Represents.{Func, func_of, IsFunc}
 use Rattle.wh_control.proofs.Places.{same_at}

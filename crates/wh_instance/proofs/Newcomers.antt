@@ -18,7 +18,7 @@ use Rattle.wh_syntax.specs.declared.module.Data.{Data}
 use Rattle.wh_syntax.specs.View.{view_module, view_data}
 use Rattle.wh_bodies.specs.Views.{view_side}
 use Rattle.wh_validate.specs.Soundness.{IsChecked}
-use Rattle.wh_imports.specs.Joined.{LinkedState}
+use Rattle.wh_imports.specs.LinkedState.{LinkedState}
 use Rattle.wh_imports.specs.Resolving.{IsResolved}
 use Rattle.wh_initial.proofs.Instances.{instance_of}
 use Rattle.wh_initial.specs.declared.outcome.Instantiated.{Instantiated}

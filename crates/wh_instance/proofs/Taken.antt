@@ -9,8 +9,7 @@ use Rattle.wh_host_model.specs.Host.Answers.{Faces}
 use Rattle.wh_host_model.specs.Host.Calls.{most_open, most_calls, AreArguments, ExportsOwn, open_count, InvokeFault, no_export, arguments, queue_full, instance_dead, journal_full, Meets, rank, IsFirst, new_entry, TakesCall}
 use Rattle.wh_journal.specs.Calls.{JournalCallState, JournalState}
 use Rattle.wh_syntax.specs.View.{view_module}
-use Rattle.wh_imports.specs.Joined.{LinkedState}
-use Rattle.wh_machine.specs.Runs.{linked_parts}
+use Rattle.wh_imports.specs.LinkedState.{LinkedState}
 use Rattle.wh_machine.specs.States.{Setting}
 use Rattle.wh_arguments.specs.Asked.{NamesOwn, NamesOnly, NamesNone, CanTake}
 use Rattle.wh_arguments.proofs.Given.{types_of, all_fit}
@@ -268,7 +267,7 @@ refuses_memory l x name given func may limit bytes t s rep sees =
     let less = room.few_calls in
     none_met (view_module l.valid.decoded) t name given k.no_export k.no_arguments (omega (arith, opens, few)) (sym rep.dead ∙ room.alive) (omega (arith, calls, less))
 
-pub can_take : (l : LinkedState) (x : TenantState) (name : List ℕ) (given : List ℤ) (func : ℕ) → MayTake l x name given func → IsSomeTenant l x → CanTake (linked_parts l) func given
+pub can_take : (l : LinkedState) (x : TenantState) (name : List ℕ) (given : List ℤ) (func : ℕ) → MayTake l x name given func → IsSomeTenant l x → CanTake l func given
 can_take l x name given func may (limit, bytes, t, rep) =
     let (c, st) = rep.store in
     let (type, body, exports) = may.names c t.inst st.instance in

@@ -12,11 +12,10 @@ use Rattle.wh_host_model.specs.Host.Turns.{HaveTypes}
 use Rattle.wh_host_model.specs.Host.Journals.{HasEnded, InOrder, IsDeadCall, IsEnded, IsOpenCall, ReturnsTyped, is_starting, has_started, has_died}
 use Rattle.wh_host_model.specs.Lines.Made.{is_open}
 use Rattle.wh_host_model.proofs.Host.Entries.{all_join}
-use Rattle.wh_imports.specs.Joined.{LinkedState}
+use Rattle.wh_imports.specs.LinkedState.{LinkedState}
 use Rattle.wh_call.specs.Arguments.{IsOwnType}
-use Rattle.wh_control.specs.Parts.{IsInstance, ProgramParts}
 use Rattle.wh_control.proofs.Jumps.{all_at}
-use Rattle.wh_machine.specs.Runs.{linked_parts}
+use Rattle.wh_machine.specs.Runs.{linked_parts, IsInstanceOf}
 use Rattle.wh_journal.specs.Calls.{JournalCallState}
 use Rattle.wh_journal.specs.declared.calls.CallEnd.TheVariants as end
 use Rattle.wh_instance.specs.declared.stages.CallStatus.{CallStatus}
@@ -51,7 +50,7 @@ pub no_function : (l : LinkedState) (word : Option ℕ) → IsReturnedAs l None 
 no_function l word c inst call vs is none typed e = let empty = typed.0 none in (empty, rw empty tt)
 
 -- of a function that declares this result
-by_type : (l : LinkedState) (f : ℕ) (word : Option ℕ) (of : Option ValType) (c : Context) (inst : Instance) (call : Call) (vs : List Value) → IsInstance (linked_parts l) c inst → call.func ≡ Some f → (h : HaveTypes inst call vs) → of ≡ slice_get h.type.results 0 → word ≡ slice_get (map bits_of (reverse vs)) 0
+by_type : (l : LinkedState) (f : ℕ) (word : Option ℕ) (of : Option ValType) (c : Context) (inst : Instance) (call : Call) (vs : List Value) → IsInstanceOf l c inst → call.func ≡ Some f → (h : HaveTypes inst call vs) → of ≡ slice_get h.type.results 0 → word ≡ slice_get (map bits_of (reverse vs)) 0
     → (vs ≡ told_values (told_as word of)) × AllByRecursion InRange vs
 by_type l f word of c inst call vs is func h result e =
     let declared = declared_in (linked_parts l) c inst h.index h.type h.body is h.is_own in
@@ -67,15 +66,15 @@ pub no_word : (l : LinkedState) (f : ℕ) → IsReturnedAs l (Some f) None None
 no_word l f c inst call vs is func typed e =
     let h = typed.1 (some_function call.func f func) in by_type l f None (slice_get h.type.results 0) c inst call vs is func h refl e
 
-pub value_told : (l : LinkedState) (f n : ℕ) (of : Option ValType) → ((c : Context) (inst : Instance) (type : FuncType) (body : Body) → IsInstance (linked_parts l) c inst → slice_get inst.funcs f ≡ Some (own type body) → of ≡ slice_get type.results 0) → IsReturnedAs l (Some f) (Some n) (told_as (Some n) of)
+pub value_told : (l : LinkedState) (f n : ℕ) (of : Option ValType) → ((c : Context) (inst : Instance) (type : FuncType) (body : Body) → IsInstanceOf l c inst → slice_get inst.funcs f ≡ Some (own type body) → of ≡ slice_get type.results 0) → IsReturnedAs l (Some f) (Some n) (told_as (Some n) of)
 value_told l f n of types c inst call vs is func typed e =
     let h = typed.1 (some_function call.func f func) in
     let at = ap (slice_get inst.funcs) (sym (same_index call.func f h.index func h.calls)) ∙ h.is_own in
     by_type l f (Some n) of c inst call vs is func h (types c inst h.type h.body is at) e
 
 -- what a type declares, by the code's
-pub first_declared : (p : ProgramParts) (func : ℕ) (found : FuncType) (o : Option ValType) → IsOwnType p func found → o ≡ slice_get found.results 0 → (c : Context) (inst : Instance) (type : FuncType) (body : Body) → IsInstance p c inst → slice_get inst.funcs func ≡ Some (own type body) → o ≡ slice_get type.results 0
-first_declared p func found o has first c inst type body is at =
+pub first_declared : (l : LinkedState) (func : ℕ) (found : FuncType) (o : Option ValType) → IsOwnType l func found → o ≡ slice_get found.results 0 → (c : Context) (inst : Instance) (type : FuncType) (body : Body) → IsInstanceOf l c inst → slice_get inst.funcs func ≡ Some (own type body) → o ≡ slice_get type.results 0
+first_declared l func found o has first c inst type body is at =
     let h = has c inst is in
     let there = h.1 in
     let same : found ≡ type = cc in

@@ -7,7 +7,7 @@ use Rattle.wh_host_model.specs.Host.Worlds.{Entry, Tenant, for_device}
 use Rattle.wh_host_model.specs.Host.Answers.{ended_by, Closes}
 use Rattle.wh_host_model.specs.Host.Calls.{Refuels, Retries}
 use Rattle.wh_host_model.specs.Host.Happens.{AwaitsFrame}
-use Rattle.wh_imports.specs.Joined.{LinkedState}
+use Rattle.wh_imports.specs.LinkedState.{LinkedState}
 use Rattle.wh_journal.specs.Calls.{JournalCallState}
 use Rattle.wh_instance.specs.declared.stages.Suspension.{Suspension}
 use Rattle.wh_instance.specs.declared.stages.Suspension.TheVariants as stop

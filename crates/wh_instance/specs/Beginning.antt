@@ -5,7 +5,7 @@ use Rattle.wh_model.specs.Execution.Instance.{Parameters, fragments}
 use Rattle.wh_host_model.specs.Host.Worlds.{Entry, Rest, Doing, Tenant}
 use Rattle.wh_host_model.specs.Host.Admission.{StartsAs, rest_of}
 use Rattle.wh_syntax.specs.View.{view_module}
-use Rattle.wh_imports.specs.Joined.{LinkedState}
+use Rattle.wh_imports.specs.LinkedState.{LinkedState}
 use Rattle.wh_initial.specs.declared.outcome.Instantiated.{Instantiated}
 use Rattle.wh_initial.specs.Begins.{Instantiates, first_store}
 use Rattle.wh_journal.specs.Calls.{JournalCallState, JournalState}

@@ -7,15 +7,14 @@ use Rattle.wh_host_model.specs.Space.Parts.{Space, view}
 use Rattle.wh_host_model.specs.Host.Worlds.{Tenant}
 use Rattle.wh_host_model.specs.Host.Calls.{most_open, most_calls, InvokeFault, no_export, arguments, queue_full, instance_dead, journal_full, AreArguments, Meets, rank, IsFirst, TakesCall}
 use Rattle.wh_syntax.specs.View.{view_module}
-use Rattle.wh_imports.specs.Joined.{LinkedState}
-use Rattle.wh_control.specs.Parts.{IsInstance}
-use Rattle.wh_machine.specs.Runs.{linked_parts}
+use Rattle.wh_imports.specs.LinkedState.{LinkedState}
 use Rattle.wh_journal.specs.Calls.{JournalCallState, JournalState}
 use Rattle.wh_journal.specs.declared.calls.CallEnd.TheVariants.{Open}
 use Rattle.wh_arguments.specs.Asked.{NamesOwn, WordsAre}
 use Rattle.wh_instance.specs.declared.error.InvokeError.{InvokeError}
 use Rattle.wh_instance.specs.declared.error.InvokeError.TheVariants.{NoExport, Arguments, QueueFull, Dead, JournalFull, Memory}
 use Rattle.wh_instance.specs.Tenancy.{TenantState, IsTenant}
+use Rattle.wh_machine.specs.Runs.{IsInstanceOf}
 
 -- ---- faults
 
@@ -62,13 +61,13 @@ LacksCallRoom x e = ⊥
 -- in each instance of the module the numbers are arguments of this function
 abbrev pub TakesThese : LinkedState → ℕ → List ℤ → Type 0
 TakesThese l func given =
-    (c : Context) (inst : Instance) (type : FuncType) (body : Body) → IsInstance (linked_parts l) c inst
+    (c : Context) (inst : Instance) (type : FuncType) (body : Body) → IsInstanceOf l c inst
     → slice_get inst.funcs func ≡ Some (own type body) → (vs : List Value) × AreArguments type.params given vs
 
 -- in none they are
 abbrev pub TakesNone : LinkedState → ℕ → List ℤ → Type 0
 TakesNone l func given =
-    (c : Context) (inst : Instance) (type : FuncType) (body : Body) → IsInstance (linked_parts l) c inst
+    (c : Context) (inst : Instance) (type : FuncType) (body : Body) → IsInstanceOf l c inst
     → slice_get inst.funcs func ≡ Some (own type body) → (vs : List Value) → ¬ (AreArguments type.params given vs)
 
 -- the name is that of this function, these are arguments of it, and there is room for a call
@@ -87,7 +86,7 @@ with_journal x j = record x { journal = j }
 -- it stands behind the other calls, at this place
 abbrev pub AddsCall : LinkedState → TenantState → ℕ → List ℤ → ℕ → ℕ → TenantState → Type 0
 AddsCall l x func given fuel at x2 =
-    (words : List ℕ) × WordsAre (linked_parts l) func given words × (at ≡ calls_in_journal x)
+    (words : List ℕ) × WordsAre l func given words × (at ≡ calls_in_journal x)
     × (x2 ≡ with_journal x (record x.journal {
       open_calls = x.journal.open_calls ++ new_call func given words fuel ∷ [];
     }))

@@ -7,11 +7,10 @@ use Rattle.wh_model.specs.Execution.Configuration.{Term}
 use Rattle.wh_model.specs.Execution.Instance.{Piece}
 use Rattle.wh_model.specs.Execution.Replay.{Outcome, returned, stopped, cancelled, dead, pending, Waits}
 use Rattle.wh_host_model.specs.Host.Worlds.{Entry, Rest, Doing, resting, has_left, computing, Suspension, for_fuel, for_frame, for_device, Tenant}
-use Rattle.wh_imports.specs.Joined.{LinkedState}
+use Rattle.wh_imports.specs.LinkedState.{LinkedState}
 use Rattle.wh_control.specs.Represents.{bits_of}
 use Rattle.wh_control.specs.declared.store.Store as code_store
 use Rattle.wh_machine.specs.declared.machine.Machine.{Machine}
-use Rattle.wh_machine.specs.Runs.{linked_parts}
 use Rattle.wh_machine.specs.States.{CallState, Setting, setting_of, call_state}
 use Rattle.wh_journal.specs.Calls.{JournalCallState}
 use Rattle.wh_journal.specs.Calls.{JournalState}
@@ -133,7 +132,7 @@ pub record RepresentsTenant {M : Type 0} (w : Setting M) (x : TenantState) (m : 
 
 -- the setting of a call of a linked module over bytes alone
 abbrev pub byte_setting : LinkedState → ℕ → Setting (List ℕ)
-byte_setting l limit = setting_of (linked_parts l) (λ b. b) (λ b need. Unit {0}) (λ b b2. Unit {0}) limit
+byte_setting l limit = setting_of l (λ b. b) (λ b need. Unit {0}) (λ b b2. Unit {0}) limit
 
 -- With a memory of these bytes, which may grow to so many pages, the code's instance stands for this one. Over any
 -- memory with these bytes and this limit it is the same.

@@ -8,15 +8,14 @@ use Rattle.wh_model.specs.Execution.Replay.{Call, returned, stopped, cancelled, 
 use Rattle.wh_host_model.specs.Host.Worlds.{Entry, Suspension, Tenant, journal, journal_calls}
 use Rattle.wh_host_model.specs.Host.Journals.{InOrder, ReturnsTyped}
 use Rattle.wh_host_model.specs.Lines.Made.{first_open}
-use Rattle.wh_imports.specs.Joined.{LinkedState}
-use Rattle.wh_control.specs.Parts.{IsInstance}
-use Rattle.wh_machine.specs.Runs.{linked_parts}
+use Rattle.wh_imports.specs.LinkedState.{LinkedState}
 use Rattle.wh_journal.specs.Calls.{JournalCallState}
 use Rattle.wh_instance.specs.declared.stages.CallStatus.{CallStatus}
 use Rattle.wh_instance.specs.declared.stages.CallStatus.TheVariants as tells
 use Rattle.wh_instance.specs.declared.stages.CallValue.{CallValue}
 use Rattle.wh_instance.specs.declared.stages.Suspension as code
 use Rattle.wh_instance.specs.Tenancy.{IsTenant, RepresentsCall, TenantState, suspension_of}
+use Rattle.wh_machine.specs.Runs.{IsInstanceOf}
 
 -- the values that a call has returned: one, or none
 abbrev pub told_values : Option CallValue → List Value
@@ -56,12 +55,12 @@ TellsCall l x at told =
 -- in whatever instance of the module: what a call of this function returned, the last value being this word, is this
 abbrev pub IsReturnedAs : LinkedState → Option ℕ → Option ℕ → Option CallValue → Type 0
 IsReturnedAs l func word told =
-    (c : Context) (inst : Instance) (call : Call) (vs : List Value) → IsInstance (linked_parts l) c inst
+    (c : Context) (inst : Instance) (call : Call) (vs : List Value) → IsInstanceOf l c inst
     → call.func ≡ func → ReturnsTyped inst call (returned vs) → word ≡ slice_get (map bits_of (reverse vs)) 0
     → (vs ≡ told_values told) × AllByRecursion InRange vs
 
 -- so it is told of whatever call of an instance of the module for which the code's stands
 abbrev pub IsEntryTold : LinkedState → JournalCallState → Bool → Option code.Suspension → CallStatus → Type 0
 IsEntryTold l x waits stands status =
-    (c : Context) (inst : Instance) (e : Entry) → IsInstance (linked_parts l) c inst → RepresentsCall x e
+    (c : Context) (inst : Instance) (e : Entry) → IsInstanceOf l c inst → RepresentsCall x e
     → ReturnsTyped inst e.call e.call.outcome → IsCallStatus status waits (suspension_of stands) e.call

@@ -3,7 +3,6 @@
 ghost use Rattle.std.specs.Prelude.{◌≡◌, ◌≢◌, ◌∷◌, ◌+◌, [], List, None, Some};
 ghost use Rattle.std.specs.Bool.{MatchBool};
 ghost use Rattle.wh_journal.specs.Calls.{JournalCallState, HasPresent};
-ghost use Rattle.wh_machine.specs.Runs.{linked_parts};
 ghost use Rattle.wh_machine.specs.States.{setting_of};
 ghost use Rattle.wh_instance.specs.Pieces.{pieces_left};
 ghost use Rattle.wh_instance.specs.Advancing.{HasOpenCall, StaysBut, AdvancesAny, TurnsAny};
@@ -74,11 +73,11 @@ impl Tenant {
         q: u64,
     ) -> (Came, u64, u64)
         requires call { HasOpenCall
-            (setting_of (linked_parts linked.now) M.bytes M.ready M.keeps (M.limit memory.old))
+            (setting_of linked.now M.bytes M.ready M.keeps (M.limit memory.old))
             self.old memory.old }
         requires writes { self.old.progress ≡ at.Writing }
         ensures advances { AdvancesAny
-            (setting_of (linked_parts linked.now) M.bytes M.ready M.keeps (M.limit memory.old))
+            (setting_of linked.now M.bytes M.ready M.keeps (M.limit memory.old))
             q self.old memory.old result.0 result.1 result.2 self.new memory.new }
         ensures stays { StaysBut self.old self.new }
         ensures keeps { M.keeps memory.old memory.new }
@@ -106,11 +105,11 @@ impl Tenant {
         q: u64,
     ) -> (Came, u64)
         requires call { HasOpenCall
-            (setting_of (linked_parts linked.now) M.bytes M.ready M.keeps (M.limit memory.old))
+            (setting_of linked.now M.bytes M.ready M.keeps (M.limit memory.old))
             self.old memory.old }
         requires faced { self.old.progress ≡ at.Faced }
         ensures advances { AdvancesAny
-            (setting_of (linked_parts linked.now) M.bytes M.ready M.keeps (M.limit memory.old))
+            (setting_of linked.now M.bytes M.ready M.keeps (M.limit memory.old))
             q self.old memory.old result.0 0 result.1 self.new memory.new }
         ensures stays { StaysBut self.old self.new }
         ensures keeps { M.keeps memory.old memory.new }
@@ -136,11 +135,11 @@ impl Tenant {
     // A turn of q charges of a call that is under way: what came of it, and how many charges it took.
     fn advance_on<M: LinearMem>(&mut self, linked: &Linked, memory: &mut M, q: u64) -> (Came, u64)
         requires call { HasOpenCall
-            (setting_of (linked_parts linked.now) M.bytes M.ready M.keeps (M.limit memory.old))
+            (setting_of linked.now M.bytes M.ready M.keeps (M.limit memory.old))
             self.old memory.old }
         requires under_way { self.old.progress ≡ at.UnderWay }
         ensures advances { AdvancesAny
-            (setting_of (linked_parts linked.now) M.bytes M.ready M.keeps (M.limit memory.old))
+            (setting_of linked.now M.bytes M.ready M.keeps (M.limit memory.old))
             q self.old memory.old result.0 0 result.1 self.new memory.new }
         ensures stays { StaysBut self.old self.new }
         ensures keeps { M.keeps memory.old memory.new }
@@ -162,10 +161,10 @@ impl Tenant {
     // took. The journal stays.
     fn advance<M: LinearMem>(&mut self, linked: &Linked, memory: &mut M, q: u64) -> (Came, u64, u64)
         requires { HasOpenCall
-            (setting_of (linked_parts linked.now) M.bytes M.ready M.keeps (M.limit memory.old))
+            (setting_of linked.now M.bytes M.ready M.keeps (M.limit memory.old))
             self.old memory.old }
         ensures advances { AdvancesAny
-            (setting_of (linked_parts linked.now) M.bytes M.ready M.keeps (M.limit memory.old))
+            (setting_of linked.now M.bytes M.ready M.keeps (M.limit memory.old))
             q self.old memory.old result.0 result.1 result.2 self.new memory.new }
         ensures stays { StaysBut self.old self.new }
         ensures keeps { M.keeps memory.old memory.new }
@@ -187,10 +186,10 @@ impl Tenant {
     /// is written on, and for what the call stands then.
     pub fn turn<M: LinearMem>(&mut self, linked: &Linked, memory: &mut M, q: u64) -> Turned
         requires { HasOpenCall
-            (setting_of (linked_parts linked.now) M.bytes M.ready M.keeps (M.limit memory.old))
+            (setting_of linked.now M.bytes M.ready M.keeps (M.limit memory.old))
             self.old memory.old }
         ensures turns { TurnsAny
-            (setting_of (linked_parts linked.now) M.bytes M.ready M.keeps (M.limit memory.old))
+            (setting_of linked.now M.bytes M.ready M.keeps (M.limit memory.old))
             q self.old memory.old result self.new memory.new }
         ensures keeps { M.keeps memory.old memory.new }
     {

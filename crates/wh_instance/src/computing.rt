@@ -1,7 +1,6 @@
 //! A turn of a call that is under way.
 
 ghost use Rattle.std.specs.Prelude.{◌≡◌, min, IfSome, IfNone};
-ghost use Rattle.wh_machine.specs.Runs.{linked_parts};
 ghost use Rattle.wh_machine.specs.States.{HasConfiguration, setting_of, call_state};
 ghost use Rattle.wh_instance.specs.Computed.{AsksUnready, AsksReady, ComputesWithin};
 
@@ -40,13 +39,13 @@ fn lacking<M: LinearMem>(
     memory: &M,
 ) -> Option<Need>
     requires { HasConfiguration
-        (setting_of (linked_parts linked.now) M.bytes M.ready M.keeps (M.limit memory.now))
+        (setting_of linked.now M.bytes M.ready M.keeps (M.limit memory.now))
         (call_state machine.now store.now memory.now) }
     ensures some { IfSome result (AsksUnready
-        (setting_of (linked_parts linked.now) M.bytes M.ready M.keeps (M.limit memory.now))
+        (setting_of linked.now M.bytes M.ready M.keeps (M.limit memory.now))
         (call_state machine.now store.now memory.now)) }
     ensures none { IfNone result (AsksReady
-        (setting_of (linked_parts linked.now) M.bytes M.ready M.keeps (M.limit memory.now))
+        (setting_of linked.now M.bytes M.ready M.keeps (M.limit memory.now))
         (call_state machine.now store.now memory.now)) }
 {
     let Some(need) = asks(linked, store, machine, memory) else {
@@ -70,10 +69,10 @@ pub fn compute<M: LinearMem>(
     left: u64,
 ) -> (Came, u64)
     requires { HasConfiguration
-        (setting_of (linked_parts linked.now) M.bytes M.ready M.keeps (M.limit memory.old))
+        (setting_of linked.now M.bytes M.ready M.keeps (M.limit memory.old))
         (call_state machine.old store.old memory.old) }
     ensures computes { ComputesWithin
-        (setting_of (linked_parts linked.now) M.bytes M.ready M.keeps (M.limit memory.old))
+        (setting_of linked.now M.bytes M.ready M.keeps (M.limit memory.old))
         (call_state machine.old store.old memory.old)
         q left result.0 result.1
         (call_state machine.new store.new memory.new) }

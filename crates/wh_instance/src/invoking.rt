@@ -2,7 +2,6 @@
 
 ghost use Rattle.std.specs.Prelude.{◌≡◌, ◌<◌, OnOk, OnErr, IfOk, IfErr};
 ghost use Rattle.wh_host_model.specs.Host.Calls.{most_calls};
-ghost use Rattle.wh_machine.specs.Runs.{linked_parts};
 ghost use Rattle.wh_arguments.specs.Asked.{CanTake};
 ghost use Rattle.wh_instance.specs.Invoked.{IsSomeTenant, open_in, calls_in_journal, HasCallRoom, LacksCallRoom, MayTake, AddsCall, InvokesTenant, RefusesInvoke};
 
@@ -71,7 +70,7 @@ impl Tenant {
         given: &[i128],
         fuel: u64,
     ) -> Result<u32, AllocError>
-        requires can { CanTake (linked_parts linked.now) func given.now }
+        requires can { CanTake linked.now func given.now }
         requires few { calls_in_journal self.old < most_calls }
         ensures ok { IfOk result
             (λ at. AddsCall linked.now self.old func given.now fuel at self.new) }

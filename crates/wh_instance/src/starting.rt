@@ -4,7 +4,6 @@ ghost use Rattle.std.specs.Prelude.{◌≡◌};
 ghost use Rattle.wh_model.specs.Execution.Replay.{Call};
 ghost use Rattle.wh_model.specs.Execution.Store.{Instance};
 ghost use Rattle.wh_host_model.specs.Host.Worlds.{Rest, has_left};
-ghost use Rattle.wh_machine.specs.Runs.{linked_parts};
 ghost use Rattle.wh_machine.specs.States.{setting_of, call_state};
 ghost use Rattle.wh_instance.specs.Pieces.{pieces_left};
 ghost use Rattle.wh_instance.specs.Turned.{IsStarting, Turns};
@@ -32,17 +31,17 @@ pub fn turn_start<M: LinearMem>(
 ) -> (Came, u64, u64)
     requires starting { (inst : Instance) × (call : Call) × (r : Rest)
         × (call.func ≡ linked.now.valid.decoded.start) × IsStarting
-        (setting_of (linked_parts linked.now) M.bytes M.ready M.keeps (M.limit memory.old))
+        (setting_of linked.now M.bytes M.ready M.keeps (M.limit memory.old))
         (call_state machine.old store.old memory.old)
         inst call r
         (pieces_left linked.now.valid.decoded.segments.items places.now cursor.old) }
     ensures turns { (inst : Instance) (call : Call) (r : Rest)
         → call.func ≡ linked.now.valid.decoded.start → call.fuel ≡ fuel → IsStarting
-        (setting_of (linked_parts linked.now) M.bytes M.ready M.keeps (M.limit memory.old))
+        (setting_of linked.now M.bytes M.ready M.keeps (M.limit memory.old))
         (call_state machine.old store.old memory.old)
         inst call r
         (pieces_left linked.now.valid.decoded.segments.items places.now cursor.old) → Turns
-        (setting_of (linked_parts linked.now) M.bytes M.ready M.keeps (M.limit memory.old))
+        (setting_of linked.now M.bytes M.ready M.keeps (M.limit memory.old))
         inst q call memory.old r
         (has_left (pieces_left linked.now.valid.decoded.segments.items places.now cursor.old))
         result.0 result.1 result.2

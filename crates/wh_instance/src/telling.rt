@@ -4,9 +4,8 @@ ghost use Rattle.std.specs.Prelude.{◌≡◌, Some, slice_get};
 ghost use Rattle.wh_model.specs.Execution.Store.{Instance, own};
 ghost use Rattle.wh_model.specs.Format.Syntax.{Body, FuncType as ModelType};
 ghost use Rattle.wh_model.specs.Validity.Typing.{Context};
-ghost use Rattle.wh_control.specs.Parts.{IsInstance};
-ghost use Rattle.wh_machine.specs.Runs.{linked_parts};
 ghost use Rattle.wh_instance.specs.Told.{IsEntryTold, IsReturnedAs, TellsCall};
+ghost use Rattle.wh_machine.specs.Runs.{IsInstanceOf};
 
 use crate::stages::{CallStatus, CallValue, Suspension};
 use crate::tenant::Tenant;
@@ -27,7 +26,7 @@ fn first_type(types: &[ValType]) -> Option<ValType>
 // The type of what this function returns, if it returns a value.
 fn result_type(linked: &Linked, func: u32) -> Option<ValType>
     ensures { (c : Context) (inst : Instance) (type : ModelType) (body : Body)
-        → IsInstance (linked_parts linked.now) c inst
+        → IsInstanceOf linked.now c inst
         → slice_get inst.funcs func ≡ Some (own type body) → result ≡ slice_get type.results 0 }
 {
     match own_type(linked, func) {

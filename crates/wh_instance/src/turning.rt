@@ -5,7 +5,6 @@ ghost use Rattle.wh_model.specs.Execution.Configuration.{Term};
 ghost use Rattle.wh_model.specs.Execution.Replay.{Call};
 ghost use Rattle.wh_model.specs.Execution.Store.{Instance};
 ghost use Rattle.wh_host_model.specs.Host.Worlds.{Rest, computing};
-ghost use Rattle.wh_machine.specs.Runs.{linked_parts};
 ghost use Rattle.wh_machine.specs.States.{setting_of, call_state};
 ghost use Rattle.wh_instance.specs.Turned.{IsFaced, IsComputing, Turns};
 
@@ -26,16 +25,16 @@ pub fn turn_on<M: LinearMem>(
     fuel: u64,
 ) -> (Came, u64)
     requires computing { (inst : Instance) × (call : Call) × (r : Rest) × (t : Term) × IsComputing
-        (setting_of (linked_parts linked.now) M.bytes M.ready M.keeps (M.limit memory.old))
+        (setting_of linked.now M.bytes M.ready M.keeps (M.limit memory.old))
         (call_state machine.old store.old memory.old)
         inst call r t }
     requires within { charges ≤ fuel }
     ensures turns { (inst : Instance) (call : Call) (r : Rest) (t : Term)
         → call.charges ≡ charges → call.fuel ≡ fuel → IsComputing
-        (setting_of (linked_parts linked.now) M.bytes M.ready M.keeps (M.limit memory.old))
+        (setting_of linked.now M.bytes M.ready M.keeps (M.limit memory.old))
         (call_state machine.old store.old memory.old)
         inst call r t → Turns
-        (setting_of (linked_parts linked.now) M.bytes M.ready M.keeps (M.limit memory.old))
+        (setting_of linked.now M.bytes M.ready M.keeps (M.limit memory.old))
         inst q call memory.old r (computing t) result.0 0 result.1
         (call_state machine.new store.new memory.new) [] }
     ensures keeps { M.keeps memory.old memory.new }
@@ -56,15 +55,15 @@ pub fn turn_first<M: LinearMem>(
     args: &[u64],
 ) -> (Came, u64)
     requires { (inst : Instance) × (call : Call) × (r : Rest) × (t : Term) × IsFaced
-        (setting_of (linked_parts linked.now) M.bytes M.ready M.keeps (M.limit memory.old))
+        (setting_of linked.now M.bytes M.ready M.keeps (M.limit memory.old))
         (call_state machine.old store.old memory.old)
         inst call r func args.now t }
     ensures turns { (inst : Instance) (call : Call) (r : Rest) (t : Term)
         → call.fuel ≡ fuel → IsFaced
-        (setting_of (linked_parts linked.now) M.bytes M.ready M.keeps (M.limit memory.old))
+        (setting_of linked.now M.bytes M.ready M.keeps (M.limit memory.old))
         (call_state machine.old store.old memory.old)
         inst call r func args.now t → Turns
-        (setting_of (linked_parts linked.now) M.bytes M.ready M.keeps (M.limit memory.old))
+        (setting_of linked.now M.bytes M.ready M.keeps (M.limit memory.old))
         inst q call memory.old r (computing t) result.0 0 result.1
         (call_state machine.new store.new memory.new) [] }
     ensures keeps { M.keeps memory.old memory.new }

@@ -1,4 +1,4 @@
-pub mod Held
+pub mod MachineState
 pub mod Program
 pub mod Reading
 pub mod Executing

@@ -62,7 +62,7 @@ pub struct Machine {
 
 impl Model for Machine {
     ghost use Rattle.std.specs.Prelude.{IsSome};
-    ghost use Rattle.wh_machine.specs.Held.{MachineState, stack_in};
+    ghost use Rattle.wh_machine.specs.MachineState.{MachineState, stack_in};
 
     ghost Value = { MachineState };
 

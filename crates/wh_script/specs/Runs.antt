@@ -45,12 +45,14 @@ Sent old new (Err fault) text = ⊥
 
 -- the text answers the whole script
 abbrev pub IsWhole : Settings → Files → List (List ℕ) → List ℕ → Type 0
-IsWhole settings files lines text = (replies : List Reply) × AnswersScript true settings files lines replies × Speaks replies text
+IsWhole settings files lines text =
+    (replies : List Reply) × AnswersScript true settings files lines replies × Speaks replies text
 
 -- or these lines, with no drain behind them
 abbrev pub IsPartial : Settings → Files → List (List ℕ) → List ℕ → Type 0
 IsPartial settings files lines text =
-    (replies : List Reply) × (m : Made) × AnswersLines true settings files nothing_made 1 lines replies m × Speaks replies text
+    (replies : List Reply) × (m : Made) × AnswersLines true settings files nothing_made 1 lines replies m
+    × Speaks replies text
 
 -- ---- runs
 
@@ -62,8 +64,8 @@ StopsBetween settings files script before after =
 
 -- What a run did, from the script to what the reader has left, and from the writer's bytes before to those after, by
 -- how it ended. To the end: what answers the script was written. Where the writer failed: a beginning of what answers
--- the first lines. Where the reader failed: what answers the lines that it gave. Where memory or a thread was wanted, or
--- calls didn't run to their ends: what answers the first lines. It ends in no other way.
+-- the first lines. Where the reader failed: what answers the lines that it gave. Where memory or a thread was wanted,
+-- or calls didn't run to their ends: what answers the first lines. It ends in no other way.
 abbrev pub Runs : Settings → Files → Option (List ℕ) → Option (List ℕ) → Option (List ℕ) → Option (List ℕ)
     → Result Unit ScriptFault → Type 0
 Runs settings files script left before after (Ok _) =

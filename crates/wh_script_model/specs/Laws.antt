@@ -23,8 +23,9 @@ use Rattle.wh_script_model.specs.Replies.{SaysModule, admit_reply, reception, re
 -- a module comes
 abbrev pub ModulesFollow : Type 0
 ModulesFollow =
-    AfterEvents (λ w. (settings : Settings) (m : Made) (places : List ℕ) (name bytes : List ℕ) (answer : LoadAnswer) (w2 : World)
-    (reply : Reply) → Knows settings w m places → IsLoad w bytes answer w2 → SaysModule name answer reply
+    AfterEvents (λ w. (settings : Settings) (m : Made) (places : List ℕ) (name bytes : List ℕ)
+    (answer : LoadAnswer) (w2 : World) (reply : Reply) → Knows settings w m places → IsLoad w bytes answer w2
+    → SaysModule name answer reply
     → (m2 : Made) × ReceivesModule true m name bytes reply m2 × Knows settings w2 m2 places)
 
 -- the places behind an answer to an admission
@@ -36,8 +37,9 @@ places_after places admit_wants_memory = places
 -- an instance comes, of a module of the script
 abbrev pub GuestsFollow : Type 0
 GuestsFollow =
-    AfterEvents (λ w. (settings : Settings) (m : Made) (places : List ℕ) (k : ℕ) (named : NamedModule) (name : List ℕ) (p : Params)
-    (answer : AdmitAnswer) (w2 : World) → Knows settings w m places → slice_get m.modules k ≡ Some named
+    AfterEvents (λ w. (settings : Settings) (m : Made) (places : List ℕ) (k : ℕ) (named : NamedModule)
+    (name : List ℕ) (p : Params) (answer : AdmitAnswer) (w2 : World) → Knows settings w m places
+    → slice_get m.modules k ≡ Some named
     → IsAdmit w k p answer w2 → StaysWhole w.space w2.space
     → (m2 : Made) × ReceivesGuest true settings m name named.m p (admit_reply name answer) m2
     × Knows settings w2 m2 (places_after places answer))
@@ -45,8 +47,9 @@ GuestsFollow =
 -- a call is asked of an instance
 abbrev pub CallsFollow : Type 0
 CallsFollow =
-    AfterEvents (λ w. (settings : Settings) (m : Made) (places : List ℕ) (i place : ℕ) (g : Guest) (name : List ℕ) (given : List ℤ)
-    (fuel : ℕ) (answer : InvokeAnswer) (w2 : World) → Knows settings w m places → slice_get m.guests i ≡ Some g
+    AfterEvents (λ w. (settings : Settings) (m : Made) (places : List ℕ) (i place : ℕ) (g : Guest)
+    (name : List ℕ) (given : List ℤ) (fuel : ℕ) (answer : InvokeAnswer) (w2 : World) → Knows settings w m places
+    → slice_get m.guests i ≡ Some g
     → slice_get places i ≡ Some place → IsInvoke w (record { place = place; number = i }) name given fuel answer w2
     → StaysWhole w.space w2.space
     → (m2 : Made) × ReceivesCall true m i g name fuel given m2
@@ -54,10 +57,11 @@ CallsFollow =
     × Knows settings w2 m2 places)
 
 -- the answer to what is asked of the present call of an instance
-abbrev pub FollowsCommand : (World → InstId → CallAnswer → World → Type 0) → Command → (CallAnswer → Reply) → List ℕ → Type 0
+abbrev pub FollowsCommand : (World → InstId → CallAnswer → World → Type 0) → Command → (CallAnswer → Reply) → List ℕ
+    → Type 0
 FollowsCommand asks command reply name =
-    AfterEvents (λ w. (settings : Settings) (files : Files) (number : ℕ) (m : Made) (places : List ℕ) (i place : ℕ) (g : Guest)
-    (answer : CallAnswer) (w2 : World) → Knows settings w m places → HasGuest m name i g
+    AfterEvents (λ w. (settings : Settings) (files : Files) (number : ℕ) (m : Made) (places : List ℕ)
+    (i place : ℕ) (g : Guest) (answer : CallAnswer) (w2 : World) → Knows settings w m places → HasGuest m name i g
     → slice_get places i ≡ Some place → asks w (record { place = place; number = i }) answer w2
     → StaysWhole w.space w2.space
     → (m2 : Made) × IsObeyed true settings files m number command (reply answer ∷ []) m2 × Knows settings w2 m2 places)
@@ -78,8 +82,9 @@ RetriesFollow =
 -- an instance goes
 abbrev pub ReleasesFollow : Type 0
 ReleasesFollow =
-    AfterEvents (λ w. (settings : Settings) (files : Files) (number : ℕ) (m : Made) (places : List ℕ) (i place : ℕ) (g : Guest)
-    (name : List ℕ) (answer : Option (List ℕ)) (w2 : World) → Knows settings w m places → HasGuest m name i g
+    AfterEvents (λ w. (settings : Settings) (files : Files) (number : ℕ) (m : Made) (places : List ℕ)
+    (i place : ℕ) (g : Guest) (name : List ℕ) (answer : Option (List ℕ)) (w2 : World) → Knows settings w m places
+    → HasGuest m name i g
     → slice_get places i ≡ Some place → IsRelease w (record { place = place; number = i }) answer w2
     → StaysWhole w.space w2.space
     → (m2 : Made) × IsObeyed true settings files m number (release name) (release_reply name answer ∷ []) m2
@@ -96,15 +101,17 @@ DrainsBegin =
 -- turns bring calls further
 abbrev pub TurnsFollow : Type 0
 TurnsFollow =
-    AfterEvents (λ w. (settings : Settings) (m : Made) (places : List ℕ) (id : InstId) (q : ℕ) (answer : TurnEnd) (w2 : World)
-    → RunsKnown settings w m places → IsTurn w id q answer w2 → StaysWhole w.space w2.space → RunsKnown settings w2 m places)
+    AfterEvents (λ w. (settings : Settings) (m : Made) (places : List ℕ) (id : InstId) (q : ℕ) (answer : TurnEnd)
+    (w2 : World) → RunsKnown settings w m places → IsTurn w id q answer w2 → StaysWhole w.space w2.space
+    → RunsKnown settings w2 m places)
 
 -- moves of pages don't, and what is known stays so
 abbrev pub MovesFollow : Type 0
 MovesFollow =
     AfterEvents (λ w. (settings : Settings) (m : Made) (places : List ℕ) (w2 : World) → OnlyMoves w w2
     → StaysWhole w.space w2.space
-    → (Knows settings w m places → Knows settings w2 m places) × (RunsKnown settings w m places → RunsKnown settings w2 m places))
+    → (Knows settings w m places → Knows settings w2 m places)
+    × (RunsKnown settings w m places → RunsKnown settings w2 m places))
 
 -- nobody has a call that can go on
 abbrev pub AllServed : World → Type 0
@@ -133,7 +140,8 @@ BeginsWell = IsWellMade nothing_made
 -- while calls run
 abbrev pub RunsWell : Type 0
 RunsWell =
-    (m : Made) (run : List Guest) → IsWellMade m → AllZip RunsAlone m.guests run → IsWellMade (record m { guests = run })
+    (m : Made) (run : List Guest) → IsWellMade m → AllZip RunsAlone m.guests run
+    → IsWellMade (record m { guests = run })
 
 -- where it is said how they are: then it was said of all of them
 abbrev pub SaysWell : Type 0

@@ -14,7 +14,8 @@ use Rattle.wh_host_model.specs.Lines.Made.{Reception, turned_down, taken_on}
 -- why bytes aren't kept; which fault of the validator is named, and where, is left open
 abbrev pub SaysWhy : LoadFault → Refusal → Type 0
 SaysWhy (broken kind offset) why = why ≡ texts.broken (fault_number kind) offset
-SaysWhy invalid why = (kind : ValidKind) × (place : Place) × IsValidFault kind × (why ≡ texts.invalid (valid_number kind) place)
+SaysWhy invalid why =
+    (kind : ValidKind) × (place : Place) × IsValidFault kind × (why ≡ texts.invalid (valid_number kind) place)
 SaysWhy (unlinked fault place) why = why ≡ texts.unlinked (import_number fault) place
 SaysWhy modules_full why = why ≡ texts.modules_full
 

@@ -18,8 +18,10 @@ pub record IsClaimOf (s : Space) (i : ℕ) (t : Occupant) (claim : Claim) : Type
   pub active : claim.active ≡ active_of s i
   pub leaves : claim.can_leave ≡ true
 
--- Page p of the instance at place i stands on a frame; if idle ones alone are looked for, it wasn't touched in this epoch.
-pub record IsSoughtAt (tables : List (List Page)) (touched : List (List Bool)) (i : ℕ) (idle : Bool) (p : ℕ) : Type 0 where
+-- Page p of the instance at place i stands on a frame; if idle ones alone are looked for, it wasn't touched in this
+-- epoch.
+pub record IsSoughtAt (tables : List (List Page)) (touched : List (List Bool)) (i : ℕ) (idle : Bool) (p : ℕ)
+    : Type 0 where
   pub page : Page
   pub there : page_at tables i p ≡ Some page
   pub stands : resident page ≡ 1

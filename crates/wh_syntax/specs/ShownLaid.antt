@@ -14,16 +14,36 @@ use Rattle.wh_syntax.specs.Laid.{laid_instr, labels_of, laid_instrs, laid_labels
 index_at : (front : List ℕ) (x : ℕ) (back : List ℕ) (n : ℕ) → n ≡ length front → slice_index (front ++ x ∷ back) n ≡ x
 index_at front x back n e = rw e (get_or-append_seam front x back 0)
 
-table_shown : (front labels : List ℕ) (last : ℕ) (back : List ℕ)
-    → br_table (take (length labels) (drop (length front) (front ++ ((labels ++ last ∷ []) ++ back)))) (slice_index (front ++ ((labels ++ last ∷ []) ++ back)) (length front + length labels)) ≡ br_table labels last
-table_shown front labels last back =
-    let behind : drop (length front) (front ++ ((labels ++ last ∷ []) ++ back)) ≡ labels ++ (last ∷ back) = drop-append_seam front ((labels ++ last ∷ []) ++ back) ∙ append_assoc labels (last ∷ []) back in
-    let these : take (length labels) (drop (length front) (front ++ ((labels ++ last ∷ []) ++ back))) ≡ labels = ap (take (length labels)) behind ∙ take_at labels (last ∷ back) (length labels) refl in
-    let all : front ++ ((labels ++ last ∷ []) ++ back) ≡ (front ++ labels) ++ (last ∷ back) = ap (λ (x : List ℕ). front ++ x) (append_assoc labels (last ∷ []) back) ∙ sym (append_assoc front labels (last ∷ back)) in
-    let one : slice_index (front ++ ((labels ++ last ∷ []) ++ back)) (length front + length labels) ≡ last = ap (λ (x : List ℕ). slice_index x (length front + length labels)) all ∙ index_at (front ++ labels) last back (length front + length labels) (sym (length-append front labels)) in
-    ap (λ (x : List ℕ). br_table x (slice_index (front ++ ((labels ++ last ∷ []) ++ back)) (length front + length labels))) these ∙ ap (br_table labels) one
+-- labels with their last one, laid between others
+abbrev laid_between : List ℕ → List ℕ → ℕ → List ℕ → List ℕ
+laid_between front labels last back = front ++ ((labels ++ last ∷ []) ++ back)
 
-op_shown : (op : Op) (front back : List ℕ) → instr_of (front ++ (labels_of (single op) ++ back)) (laid_instr (length front) (single op)) ≡ single op
+labels_shown : (front labels : List ℕ) (last : ℕ) (back : List ℕ)
+    → take (length labels) (drop (length front) (laid_between front labels last back)) ≡ labels
+labels_shown front labels last back =
+    let behind : drop (length front) (laid_between front labels last back) ≡ labels ++ (last ∷ back) =
+    drop-append_seam front ((labels ++ last ∷ []) ++ back) ∙ append_assoc labels (last ∷ []) back in
+    ap (take (length labels)) behind ∙ take_at labels (last ∷ back) (length labels) refl
+
+last_shown : (front labels : List ℕ) (last : ℕ) (back : List ℕ)
+    → slice_index (laid_between front labels last back) (length front + length labels) ≡ last
+last_shown front labels last back =
+    let all : laid_between front labels last back ≡ (front ++ labels) ++ (last ∷ back) =
+    ap (λ (x : List ℕ). front ++ x) (append_assoc labels (last ∷ []) back)
+    ∙ sym (append_assoc front labels (last ∷ back)) in
+    ap (λ (x : List ℕ). slice_index x (length front + length labels)) all
+    ∙ index_at (front ++ labels) last back (length front + length labels) (sym (length-append front labels))
+
+table_shown : (front labels : List ℕ) (last : ℕ) (back : List ℕ)
+    → br_table (take (length labels) (drop (length front) (laid_between front labels last back)))
+    (slice_index (laid_between front labels last back) (length front + length labels)) ≡ br_table labels last
+table_shown front labels last back =
+    ap (λ (x : List ℕ). br_table x (slice_index (laid_between front labels last back) (length front + length labels)))
+    (labels_shown front labels last back)
+    ∙ ap (br_table labels) (last_shown front labels last back)
+
+op_shown : (op : Op) (front back : List ℕ)
+    → instr_of (front ++ (labels_of (single op) ++ back)) (laid_instr (length front) (single op)) ≡ single op
 op_shown unreachable front back = refl
 op_shown nop front back = refl
 op_shown (br l) front back = refl
@@ -51,7 +71,8 @@ op_shown (unary t op) front back = refl
 op_shown (binary t op) front back = refl
 op_shown (conversion op) front back = refl
 
-instr_shown : (i : model.Instr) (front back : List ℕ) → instr_of (front ++ (labels_of i ++ back)) (laid_instr (length front) i) ≡ i
+instr_shown : (i : model.Instr) (front back : List ℕ)
+    → instr_of (front ++ (labels_of i ++ back)) (laid_instr (length front) i) ≡ i
 instr_shown (single op) front back = op_shown op front back
 instr_shown (block_start t) front back = refl
 instr_shown (loop_start t) front back = refl
@@ -62,12 +83,14 @@ instr_shown end_mark front back = refl
 cons_is : (i j : model.Instr) (is js : List model.Instr) → i ≡ j → is ≡ js → i ∷ is ≡ j ∷ js
 cons_is i j is js e f = cc
 
-pub all_shown : (is : List model.Instr) (front : List ℕ) → map (instr_of (front ++ laid_labels is)) (laid_instrs (length front) is) ≡ is
+pub all_shown : (is : List model.Instr) (front : List ℕ)
+    → map (instr_of (front ++ laid_labels is)) (laid_instrs (length front) is) ≡ is
 all_shown [] front = refl
 all_shown (i ∷ is) front =
     let rest = all_shown is (front ++ labels_of i) in
     let at : length (front ++ labels_of i) ≡ length front + length (labels_of i) = length-append front (labels_of i) in
-    let pool : (front ++ labels_of i) ++ laid_labels is ≡ front ++ (labels_of i ++ laid_labels is) = append_assoc front (labels_of i) (laid_labels is) in
+    let pool : (front ++ labels_of i) ++ laid_labels is ≡ front ++ (labels_of i ++ laid_labels is) =
+    append_assoc front (labels_of i) (laid_labels is) in
     cons_is _ i _ is (instr_shown i front (laid_labels is)) (rw (at, pool) at rest)
 
 pub shown-laid : (c : Code) → nested (map (instr_of (laid_labels (expression c))) (laid_instrs 0 (expression c))) ≡ c

@@ -4,7 +4,7 @@ pub mod Constants
 pub mod Parts
 pub mod Names
 pub mod Soundness
-pub mod Validated
+pub mod ValidModuleState
 pub mod Gathering
 pub mod Sizing
 pub mod Blaming

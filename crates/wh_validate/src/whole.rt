@@ -8,7 +8,7 @@ ghost use Rattle.wh_syntax.specs.View.{view_module, view_global_type};
 ghost use Rattle.wh_bodies.specs.Views.{view_context, view_side};
 ghost use Rattle.wh_validate.specs.Blaming.{BlamesRightly};
 ghost use Rattle.wh_validate.specs.Soundness.{IsChecked};
-ghost use Rattle.wh_validate.specs.Validated.{ValidModuleState, stored_valid};
+ghost use Rattle.wh_validate.specs.ValidModuleState.{ValidModuleState, stored_valid};
 ghost use Rattle.wh_validate.specs.Gathering.{HasValidOutline, IsGathered, IsAround};
 ghost use Rattle.wh_validate.specs.Deciding.{Decides};
 

@@ -18,8 +18,6 @@ mod serving;
 mod shares;
 mod start;
 mod tally;
-#[cfg(test)]
-mod tests;
 mod work;
 mod worker;
 

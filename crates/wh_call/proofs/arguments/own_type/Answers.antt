@@ -3,7 +3,6 @@ use Rattle.wh_syntax.specs.declared.module.Module.{Module}
 use Rattle.wh_syntax.specs.View.{view_module}
 use Rattle.wh_bodies.specs.Views.{view_side}
 use Rattle.wh_validate.specs.Soundness.{IsChecked}
-use Rattle.wh_machine.specs.Runs.{linked_parts}
 use Rattle.wh_call.specs.Arguments.{LacksOwn}
 use Rattle.wh_call.proofs.Callable.{refused_low, refused_high, type_there, typed_at}
 use Rattle.wh_call.proofs.arguments.own_type.Goals as goal
@@ -13,7 +12,7 @@ returns-in_err-place-clause-none c =
     let high = c.in_err-place.ensures in
     let same = ap length c.funcs.ensures in
     let low : c.args.func < length c.args.linked.now.funcs = omega (arith, high, same) in
-    subst (λ o. IfNone o (LacksOwn (linked_parts c.args.linked.now) c.args.func)) (sym c.from_residual.ensures)
+    subst (λ o. IfNone o (LacksOwn c.args.linked.now c.args.func)) (sym c.from_residual.ensures)
     (refused_low c.args.linked.now c.args.func low)
 
 pub returns-then-place-len-clause-none : goal.returns-then-place-len-clause-none

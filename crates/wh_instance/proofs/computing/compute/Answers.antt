@@ -1,4 +1,3 @@
-use Rattle.wh_machine.specs.Runs.{linked_parts}
 use Rattle.wh_machine.specs.States.{setting_of, call_state}
 use Rattle.wh_instance.proofs.Coming.{came_returned, came_trapped, came_to_wait, taken, still_standing, came_to_fuel, came_to_frame, came_to_again}
 use Rattle.std.proofs.Common.{ℕ, subst}
@@ -7,7 +6,7 @@ use Rattle.wh_instance.proofs.computing.compute.Goals as goal
 
 pub returns-in-Returned-clause-computes : goal.returns-in-Returned-clause-computes
 returns-in-Returned-clause-computes g c =
-    let w = setting_of (linked_parts c.args.linked.now) g.M.LinearMem.bytes g.M.LinearMem.ready g.M.LinearMem.keeps (g.M.LinearMem.limit c.args.memory.now) in
+    let w = setting_of c.args.linked.now g.M.LinearMem.bytes g.M.LinearMem.ready g.M.LinearMem.keeps (g.M.LinearMem.limit c.args.memory.now) in
     let r = c.run_on-end in
     let before = call_state c.args.machine.now c.args.store.now c.args.memory.now in
     let after = call_state r.new.machine r.new.store r.new.memory in
@@ -15,7 +14,7 @@ returns-in-Returned-clause-computes g c =
 
 pub returns-in-Trapped-clause-computes : goal.returns-in-Trapped-clause-computes
 returns-in-Trapped-clause-computes g c =
-    let w = setting_of (linked_parts c.args.linked.now) g.M.LinearMem.bytes g.M.LinearMem.ready g.M.LinearMem.keeps (g.M.LinearMem.limit c.args.memory.now) in
+    let w = setting_of c.args.linked.now g.M.LinearMem.bytes g.M.LinearMem.ready g.M.LinearMem.keeps (g.M.LinearMem.limit c.args.memory.now) in
     let r = c.run_on-end in
     let before = call_state c.args.machine.now c.args.store.now c.args.memory.now in
     let after = call_state r.new.machine r.new.store r.new.memory in
@@ -23,7 +22,7 @@ returns-in-Trapped-clause-computes g c =
 
 pub returns-in-NotReady-clause-computes : goal.returns-in-NotReady-clause-computes
 returns-in-NotReady-clause-computes g c =
-    let w = setting_of (linked_parts c.args.linked.now) g.M.LinearMem.bytes g.M.LinearMem.ready g.M.LinearMem.keeps (g.M.LinearMem.limit c.args.memory.now) in
+    let w = setting_of c.args.linked.now g.M.LinearMem.bytes g.M.LinearMem.ready g.M.LinearMem.keeps (g.M.LinearMem.limit c.args.memory.now) in
     let r = c.run_on-end in
     let before = call_state c.args.machine.now c.args.store.now c.args.memory.now in
     let after = call_state r.new.machine r.new.store r.new.memory in
@@ -31,7 +30,7 @@ returns-in-NotReady-clause-computes g c =
 
 pub returns-then-used-left-clause-computes : goal.returns-then-used-left-clause-computes
 returns-then-used-left-clause-computes g c =
-    let w = setting_of (linked_parts c.args.linked.now) g.M.LinearMem.bytes g.M.LinearMem.ready g.M.LinearMem.keeps (g.M.LinearMem.limit c.args.memory.now) in
+    let w = setting_of c.args.linked.now g.M.LinearMem.bytes g.M.LinearMem.ready g.M.LinearMem.keeps (g.M.LinearMem.limit c.args.memory.now) in
     let r = c.run_on-end in
     let before = call_state c.args.machine.now c.args.store.now c.args.memory.now in
     let after = call_state r.new.machine r.new.store r.new.memory in
@@ -39,7 +38,7 @@ returns-then-used-left-clause-computes g c =
 
 pub lacking-requires : goal.lacking-requires
 lacking-requires g c =
-    let w = setting_of (linked_parts c.args.linked.now) g.M.LinearMem.bytes g.M.LinearMem.ready g.M.LinearMem.keeps (g.M.LinearMem.limit c.args.memory.now) in
+    let w = setting_of c.args.linked.now g.M.LinearMem.bytes g.M.LinearMem.ready g.M.LinearMem.keeps (g.M.LinearMem.limit c.args.memory.now) in
     let r = c.run_on-end in
     let before = call_state c.args.machine.now c.args.store.now c.args.memory.now in
     let after = call_state r.new.machine r.new.store r.new.memory in
@@ -48,20 +47,20 @@ lacking-requires g c =
 
 pub returns-in-Some-clause-computes : goal.returns-in-Some-clause-computes
 returns-in-Some-clause-computes g c =
-    let w = setting_of (linked_parts c.args.linked.now) g.M.LinearMem.bytes g.M.LinearMem.ready g.M.LinearMem.keeps (g.M.LinearMem.limit c.args.memory.now) in
+    let w = setting_of c.args.linked.now g.M.LinearMem.bytes g.M.LinearMem.ready g.M.LinearMem.keeps (g.M.LinearMem.limit c.args.memory.now) in
     let r = c.run_on-end in
     let before = call_state c.args.machine.now c.args.store.now c.args.memory.now in
     let after = call_state r.new.machine r.new.store r.new.memory in
     let limit = g.met.M.LinearMem.keeps_limit c.args.memory.now r.new.memory r.ensures.keeps in
-    let asks = subst (λ (n : ℕ). AsksUnready (setting_of (linked_parts c.args.linked.now) g.M.LinearMem.bytes g.M.LinearMem.ready g.M.LinearMem.keeps n) after c.in-Some.need) limit c.in-Some.ensures.some in
+    let asks = subst (λ (n : ℕ). AsksUnready (setting_of c.args.linked.now g.M.LinearMem.bytes g.M.LinearMem.ready g.M.LinearMem.keeps n) after c.in-Some.need) limit c.in-Some.ensures.some in
     came_to_frame w before after c.lesser.result c.args.q c.args.left r.result.1 c.in-Some.need c.lesser.ensures (taken w before after c.lesser.result r.result.1 r.result.0 r.ensures.ends c.in-OutOfFuel.is) c.if-used-left.false asks
 
 pub returns-in-None-clause-computes : goal.returns-in-None-clause-computes
 returns-in-None-clause-computes g c =
-    let w = setting_of (linked_parts c.args.linked.now) g.M.LinearMem.bytes g.M.LinearMem.ready g.M.LinearMem.keeps (g.M.LinearMem.limit c.args.memory.now) in
+    let w = setting_of c.args.linked.now g.M.LinearMem.bytes g.M.LinearMem.ready g.M.LinearMem.keeps (g.M.LinearMem.limit c.args.memory.now) in
     let r = c.run_on-end in
     let before = call_state c.args.machine.now c.args.store.now c.args.memory.now in
     let after = call_state r.new.machine r.new.store r.new.memory in
     let limit = g.met.M.LinearMem.keeps_limit c.args.memory.now r.new.memory r.ensures.keeps in
-    let asks = subst (λ (n : ℕ). AsksReady (setting_of (linked_parts c.args.linked.now) g.M.LinearMem.bytes g.M.LinearMem.ready g.M.LinearMem.keeps n) after) limit c.in-None.ensures.none in
+    let asks = subst (λ (n : ℕ). AsksReady (setting_of c.args.linked.now g.M.LinearMem.bytes g.M.LinearMem.ready g.M.LinearMem.keeps n) after) limit c.in-None.ensures.none in
     came_to_again w before after c.lesser.result c.args.q c.args.left r.result.1 c.lesser.ensures (taken w before after c.lesser.result r.result.1 r.result.0 r.ensures.ends c.in-OutOfFuel.is) c.if-used-left.false asks

@@ -1,7 +1,6 @@
 use Rattle.std.proofs.Common.{◌≡◌, ℕ, List, [], None, Some, sym, ap, subst, ◌∙◌}
 use Rattle.wh_syntax.specs.declared.module.Data.{Data}
 use Rattle.wh_syntax.specs.declared.module.Module.{Module}
-use Rattle.wh_machine.specs.Runs.{linked_parts}
 use Rattle.wh_machine.specs.States.{setting_of, call_state}
 use Rattle.wh_instance.specs.Pieces.{pieces_left, HasWritten, NextWaits}
 use Rattle.wh_instance.specs.Computed.{ComputesWithin}
@@ -13,7 +12,7 @@ returns-in-Some-clause-turns g c inst call r func given st =
     let bytes = g.M.LinearMem.bytes in
     let ready = g.M.LinearMem.ready in
     let keeps = g.M.LinearMem.keeps in
-    let w = setting_of (linked_parts c.args.linked.now) bytes ready keeps (g.M.LinearMem.limit c.args.memory.now) in
+    let w = setting_of c.args.linked.now bytes ready keeps (g.M.LinearMem.limit c.args.memory.now) in
     let p = c.write_pieces-pieces in
     let places = c.args.places.now in
     let ds = c.args.linked.now.valid.decoded.segments.items in
@@ -27,7 +26,7 @@ returns-in_default-start-clause-turns g c inst call r func given st =
     let bytes = g.M.LinearMem.bytes in
     let ready = g.M.LinearMem.ready in
     let keeps = g.M.LinearMem.keeps in
-    let w = setting_of (linked_parts c.args.linked.now) bytes ready keeps (g.M.LinearMem.limit c.args.memory.now) in
+    let w = setting_of c.args.linked.now bytes ready keeps (g.M.LinearMem.limit c.args.memory.now) in
     let p = c.write_pieces-pieces in
     let places = c.args.places.now in
     let ds = c.args.linked.now.valid.decoded.segments.items in
@@ -39,7 +38,7 @@ returns-in_default-start-clause-turns g c inst call r func given st =
 
 pub begin-requires : goal.begin-requires
 begin-requires g c =
-    let w = setting_of (linked_parts c.args.linked.now) g.M.LinearMem.bytes g.M.LinearMem.ready g.M.LinearMem.keeps (g.M.LinearMem.limit c.args.memory.now) in
+    let w = setting_of c.args.linked.now g.M.LinearMem.bytes g.M.LinearMem.ready g.M.LinearMem.keeps (g.M.LinearMem.limit c.args.memory.now) in
     let (inst, call, r, func, st) = c.requires.starting in
     let x = c.in-Some-start.func in
     let some : call.func ≡ Some x = func ∙ sym (ap (λ (m : Module). m.start) c.module-module.ensures.same) ∙ c.in-Some-start.is in
@@ -48,7 +47,7 @@ begin-requires g c =
 
 pub compute-came-requires : goal.compute-came-requires
 compute-came-requires g c =
-    let w = setting_of (linked_parts c.args.linked.now) g.M.LinearMem.bytes g.M.LinearMem.ready g.M.LinearMem.keeps (g.M.LinearMem.limit c.args.memory.now) in
+    let w = setting_of c.args.linked.now g.M.LinearMem.bytes g.M.LinearMem.ready g.M.LinearMem.keeps (g.M.LinearMem.limit c.args.memory.now) in
     let m2 = c.write_pieces-pieces.new.memory in
     let (inst, call, r, func, st) = c.requires.starting in
     let x = c.in-Some-start.func in
@@ -62,7 +61,7 @@ returns-clause-turns g c inst call r func given st =
     let bytes = g.M.LinearMem.bytes in
     let ready = g.M.LinearMem.ready in
     let keeps = g.M.LinearMem.keeps in
-    let w = setting_of (linked_parts c.args.linked.now) bytes ready keeps (g.M.LinearMem.limit c.args.memory.now) in
+    let w = setting_of c.args.linked.now bytes ready keeps (g.M.LinearMem.limit c.args.memory.now) in
     let p = c.write_pieces-pieces in
     let places = c.args.places.now in
     let ds = c.args.linked.now.valid.decoded.segments.items in
@@ -74,6 +73,6 @@ returns-clause-turns g c inst call r func given st =
     let mid = call_state c.begin.new.machine c.args.store.now p.new.memory in
     let k = c.compute-came in
     let after = call_state k.new.machine k.new.store k.new.memory in
-    let limited = subst (λ (n : ℕ). ComputesWithin (setting_of (linked_parts c.args.linked.now) bytes ready keeps n) mid c.args.q c.args.fuel k.result.0 k.result.1 after) p.ensures.limit k.ensures.computes in
+    let limited = subst (λ (n : ℕ). ComputesWithin (setting_of c.args.linked.now bytes ready keeps n) mid c.args.q c.args.fuel k.result.0 k.result.1 after) p.ensures.limit k.ensures.computes in
     let computes = subst (λ (n : ℕ). ComputesWithin w mid c.args.q n k.result.0 k.result.1 after) (sym given) limited in
     started_now w inst c.args.q call r (call_state c.args.machine.now c.args.store.now c.args.memory.now) after c.begin.new.machine p.new.memory (pieces_left ds places c.args.cursor.now) (pieces_left ds places p.new.cursor) p.result.0 k.result.1 x k.result.0 p.result.1 st written waits c.in_default.is some c.begin.ensures.begun computes

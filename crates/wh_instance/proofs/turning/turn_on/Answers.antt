@@ -1,6 +1,5 @@
 use Rattle.std.proofs.Common.{◌-◌, arith}
 use Rattle.wh_control.specs.Represents.{result_of}
-use Rattle.wh_machine.specs.Runs.{linked_parts}
 use Rattle.wh_machine.specs.States.{setting_of, call_state}
 use Rattle.wh_instance.proofs.Beginnings.{on_now}
 use Rattle.wh_instance.proofs.turning.turn_on.Goals as goal
@@ -12,7 +11,7 @@ compute-requires g c =
 
 pub returns-clause-turns : goal.returns-clause-turns
 returns-clause-turns g c inst call r t taken given k =
-    let w = setting_of (linked_parts c.args.linked.now) g.M.LinearMem.bytes g.M.LinearMem.ready g.M.LinearMem.keeps (g.M.LinearMem.limit c.args.memory.now) in
+    let w = setting_of c.args.linked.now g.M.LinearMem.bytes g.M.LinearMem.ready g.M.LinearMem.keeps (g.M.LinearMem.limit c.args.memory.now) in
     let before = call_state c.args.machine.now c.args.store.now c.args.memory.now in
     let after = call_state c.compute.new.machine c.compute.new.store c.compute.new.memory in
     let fits = c.requires.within in

@@ -1,5 +1,4 @@
 use Rattle.std.proofs.Common.{sym, ◌∙◌}
-use Rattle.wh_machine.specs.Runs.{linked_parts}
 use Rattle.wh_machine.specs.States.{setting_of}
 use Rattle.wh_machine.proofs.Holding.{while_running}
 use Rattle.wh_machine.proofs.Running.{sound_in, rests_in}
@@ -16,9 +15,9 @@ asks_next-requires g c =
 pub returns-clause-some : goal.returns-clause-some
 returns-clause-some g c =
     let was = while_running c.in-Some.is c.machine.view_is (sym c.is_running.ensures ∙ c.if-not-is_running.false) in
-    seen_some (setting_of (linked_parts c.args.linked.now) g.M.LinearMem.bytes g.M.LinearMem.ready g.M.LinearMem.keeps (g.M.LinearMem.limit c.args.memory.now)) c.args.store.now c.args.memory.now c.asks_next.result c.program_of-program.ensures.parts was c.asks_next.ensures
+    seen_some (setting_of c.args.linked.now g.M.LinearMem.bytes g.M.LinearMem.ready g.M.LinearMem.keeps (g.M.LinearMem.limit c.args.memory.now)) c.args.store.now c.args.memory.now c.asks_next.result c.program_of-program.ensures.parts was c.asks_next.ensures
 
 pub returns-clause-none : goal.returns-clause-none
 returns-clause-none g c =
     let was = while_running c.in-Some.is c.machine.view_is (sym c.is_running.ensures ∙ c.if-not-is_running.false) in
-    seen_none (setting_of (linked_parts c.args.linked.now) g.M.LinearMem.bytes g.M.LinearMem.ready g.M.LinearMem.keeps (g.M.LinearMem.limit c.args.memory.now)) c.args.store.now c.args.memory.now c.asks_next.result c.program_of-program.ensures.parts was c.asks_next.ensures
+    seen_none (setting_of c.args.linked.now g.M.LinearMem.bytes g.M.LinearMem.ready g.M.LinearMem.keeps (g.M.LinearMem.limit c.args.memory.now)) c.args.store.now c.args.memory.now c.asks_next.result c.program_of-program.ensures.parts was c.asks_next.ensures

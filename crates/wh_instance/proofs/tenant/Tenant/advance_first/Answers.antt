@@ -1,7 +1,6 @@
 use Rattle.std.proofs.Common.{◌≡◌, [], List, slice_get, refl, sym, ap, subst, ◌∙◌, arith}
 use Rattle.std.specs.Option.{option_copied}
 use Rattle.wh_journal.specs.Calls.{JournalCallState}
-use Rattle.wh_machine.specs.Runs.{linked_parts}
 use Rattle.wh_machine.specs.States.{setting_of}
 use Rattle.wh_host_model.specs.Host.Worlds.{computing}
 use Rattle.wh_instance.specs.declared.stages.Progress.TheVariants.{UnderWay}
@@ -11,7 +10,7 @@ use Rattle.wh_instance.proofs.tenant.Tenant.advance_first.Goals as goal
 
 pub unreachable-requires : goal.unreachable-requires
 unreachable-requires g c =
-    let w = setting_of (linked_parts c.args.linked.now) g.M.LinearMem.bytes g.M.LinearMem.ready g.M.LinearMem.keeps (g.M.LinearMem.limit c.args.memory.now) in
+    let w = setting_of c.args.linked.now g.M.LinearMem.bytes g.M.LinearMem.ready g.M.LinearMem.keeps (g.M.LinearMem.limit c.args.memory.now) in
     let i = c.self.inside in
     let x1 : TenantState = record { store = i.store; machine = i.machine; places = i.places.items; cursor = i.cursor; progress = i.progress; journal = i.journal; stands_for = i.stands_for; dead = i.dead } in
     let same : x1 ≡ c.args.self.now = c.self.view_is in
@@ -23,7 +22,7 @@ unreachable-requires g c =
 
 pub func_of-requires : goal.func_of-requires
 func_of-requires g c = λ none.
-    let w = setting_of (linked_parts c.args.linked.now) g.M.LinearMem.bytes g.M.LinearMem.ready g.M.LinearMem.keeps (g.M.LinearMem.limit c.args.memory.now) in
+    let w = setting_of c.args.linked.now g.M.LinearMem.bytes g.M.LinearMem.ready g.M.LinearMem.keeps (g.M.LinearMem.limit c.args.memory.now) in
     let m = c.args.memory.now in
     let i = c.self.inside in
     let x1 : TenantState = record { store = i.store; machine = i.machine; places = i.places.items; cursor = i.cursor; progress = i.progress; journal = i.journal; stands_for = i.stands_for; dead = i.dead } in
@@ -43,7 +42,7 @@ func_of-requires g c = λ none.
 
 pub turn_first-came-requires : goal.turn_first-came-requires
 turn_first-came-requires g c =
-    let w = setting_of (linked_parts c.args.linked.now) g.M.LinearMem.bytes g.M.LinearMem.ready g.M.LinearMem.keeps (g.M.LinearMem.limit c.args.memory.now) in
+    let w = setting_of c.args.linked.now g.M.LinearMem.bytes g.M.LinearMem.ready g.M.LinearMem.keeps (g.M.LinearMem.limit c.args.memory.now) in
     let m = c.args.memory.now in
     let i = c.self.inside in
     let x1 : TenantState = record { store = i.store; machine = i.machine; places = i.places.items; cursor = i.cursor; progress = i.progress; journal = i.journal; stands_for = i.stands_for; dead = i.dead } in
@@ -63,7 +62,7 @@ turn_first-came-requires g c =
 
 pub returns-clause-advances : goal.returns-clause-advances
 returns-clause-advances g c t e es is_open given =
-    let w = setting_of (linked_parts c.args.linked.now) g.M.LinearMem.bytes g.M.LinearMem.ready g.M.LinearMem.keeps (g.M.LinearMem.limit c.args.memory.now) in
+    let w = setting_of c.args.linked.now g.M.LinearMem.bytes g.M.LinearMem.ready g.M.LinearMem.keeps (g.M.LinearMem.limit c.args.memory.now) in
     let m = c.args.memory.now in
     let i = c.self.inside in
     let x1 : TenantState = record { store = i.store; machine = i.machine; places = i.places.items; cursor = i.cursor; progress = i.progress; journal = i.journal; stands_for = i.stands_for; dead = i.dead } in

@@ -1,6 +1,5 @@
 use Rattle.std.proofs.Common.{◌≡◌, [], refl, sym, ap, subst, ◌∙◌, arith}
 use Rattle.wh_journal.specs.Calls.{JournalCallState}
-use Rattle.wh_machine.specs.Runs.{linked_parts}
 use Rattle.wh_machine.specs.States.{setting_of}
 use Rattle.wh_host_model.specs.Host.Worlds.{computing}
 use Rattle.wh_instance.specs.Tenancy.{TenantState, IsWhere, RepresentsTenant}
@@ -9,12 +8,12 @@ use Rattle.wh_instance.proofs.tenant.Tenant.advance_on.Goals as goal
 
 pub present-call-requires : goal.present-call-requires
 present-call-requires g c =
-    let w = setting_of (linked_parts c.args.linked.now) g.M.LinearMem.bytes g.M.LinearMem.ready g.M.LinearMem.keeps (g.M.LinearMem.limit c.args.memory.now) in
+    let w = setting_of c.args.linked.now g.M.LinearMem.bytes g.M.LinearMem.ready g.M.LinearMem.keeps (g.M.LinearMem.limit c.args.memory.now) in
     has_present w c.args.self.now c.args.memory.now c.requires.call
 
 pub turn_on-requires : goal.turn_on-requires
 turn_on-requires g c =
-    let w = setting_of (linked_parts c.args.linked.now) g.M.LinearMem.bytes g.M.LinearMem.ready g.M.LinearMem.keeps (g.M.LinearMem.limit c.args.memory.now) in
+    let w = setting_of c.args.linked.now g.M.LinearMem.bytes g.M.LinearMem.ready g.M.LinearMem.keeps (g.M.LinearMem.limit c.args.memory.now) in
     let m = c.args.memory.now in
     let i = c.self.inside in
     let x1 : TenantState = record { store = i.store; machine = i.machine; places = i.places.items; cursor = i.cursor; progress = i.progress; journal = i.journal; stands_for = i.stands_for; dead = i.dead } in
@@ -34,7 +33,7 @@ turn_on-requires g c =
 
 pub returns-clause-advances : goal.returns-clause-advances
 returns-clause-advances g c t e es is_open given =
-    let w = setting_of (linked_parts c.args.linked.now) g.M.LinearMem.bytes g.M.LinearMem.ready g.M.LinearMem.keeps (g.M.LinearMem.limit c.args.memory.now) in
+    let w = setting_of c.args.linked.now g.M.LinearMem.bytes g.M.LinearMem.ready g.M.LinearMem.keeps (g.M.LinearMem.limit c.args.memory.now) in
     let m = c.args.memory.now in
     let i = c.self.inside in
     let x1 : TenantState = record { store = i.store; machine = i.machine; places = i.places.items; cursor = i.cursor; progress = i.progress; journal = i.journal; stands_for = i.stands_for; dead = i.dead } in

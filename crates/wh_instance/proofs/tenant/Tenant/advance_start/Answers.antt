@@ -1,7 +1,6 @@
 use Rattle.std.proofs.Common.{◌≡◌, ℕ, ◌+◌, ◌<◌, ◌^◌, length, List, sym, ap, subst, ◌∙◌, arith}
 use Rattle.wh_journal.specs.Calls.{JournalCallState}
 use Rattle.wh_model.specs.Execution.Instance.{Piece}
-use Rattle.wh_machine.specs.Runs.{linked_parts}
 use Rattle.wh_machine.specs.States.{setting_of}
 use Rattle.wh_host_model.specs.Host.Worlds.{has_left}
 use Rattle.wh_instance.specs.Pieces.{pieces_left}
@@ -11,12 +10,12 @@ use Rattle.wh_instance.proofs.tenant.Tenant.advance_start.Goals as goal
 
 pub present-requires : goal.present-requires
 present-requires g c =
-    let w = setting_of (linked_parts c.args.linked.now) g.M.LinearMem.bytes g.M.LinearMem.ready g.M.LinearMem.keeps (g.M.LinearMem.limit c.args.memory.now) in
+    let w = setting_of c.args.linked.now g.M.LinearMem.bytes g.M.LinearMem.ready g.M.LinearMem.keeps (g.M.LinearMem.limit c.args.memory.now) in
     has_present w c.args.self.now c.args.memory.now c.requires.call
 
 pub turn_start-came-requires : goal.turn_start-came-requires
 turn_start-came-requires g c =
-    let w = setting_of (linked_parts c.args.linked.now) g.M.LinearMem.bytes g.M.LinearMem.ready g.M.LinearMem.keeps (g.M.LinearMem.limit c.args.memory.now) in
+    let w = setting_of c.args.linked.now g.M.LinearMem.bytes g.M.LinearMem.ready g.M.LinearMem.keeps (g.M.LinearMem.limit c.args.memory.now) in
     let m = c.args.memory.now in
     let i = c.self.inside in
     let x1 : TenantState = record { store = i.store; machine = i.machine; places = i.places.items; cursor = i.cursor; progress = i.progress; journal = i.journal; stands_for = i.stands_for; dead = i.dead } in
@@ -31,7 +30,7 @@ turn_start-came-requires g c =
 
 pub returns-clause-advances : goal.returns-clause-advances
 returns-clause-advances g c t e es is_open given =
-    let w = setting_of (linked_parts c.args.linked.now) g.M.LinearMem.bytes g.M.LinearMem.ready g.M.LinearMem.keeps (g.M.LinearMem.limit c.args.memory.now) in
+    let w = setting_of c.args.linked.now g.M.LinearMem.bytes g.M.LinearMem.ready g.M.LinearMem.keeps (g.M.LinearMem.limit c.args.memory.now) in
     let m = c.args.memory.now in
     let i = c.self.inside in
     let x1 : TenantState = record { store = i.store; machine = i.machine; places = i.places.items; cursor = i.cursor; progress = i.progress; journal = i.journal; stands_for = i.stands_for; dead = i.dead } in

@@ -1,6 +1,5 @@
 use Rattle.std.proofs.Common.{◌≡◌, sym, ap, subst, ◌∙◌}
 use Rattle.wh_journal.specs.Calls.{JournalState, CanGoFurther, with_progress}
-use Rattle.wh_machine.specs.Runs.{linked_parts}
 use Rattle.wh_machine.specs.States.{setting_of}
 use Rattle.wh_instance.specs.Tenancy.{TenantState}
 use Rattle.wh_instance.specs.Advancing.{AdvancesTenant}
@@ -10,7 +9,7 @@ use Rattle.wh_instance.proofs.tenant.Tenant.turn.Goals as goal
 
 pub go_further-requires : goal.go_further-requires
 go_further-requires g c =
-    let w = setting_of (linked_parts c.args.linked.now) g.M.LinearMem.bytes g.M.LinearMem.ready g.M.LinearMem.keeps (g.M.LinearMem.limit c.args.memory.now) in
+    let w = setting_of c.args.linked.now g.M.LinearMem.bytes g.M.LinearMem.ready g.M.LinearMem.keeps (g.M.LinearMem.limit c.args.memory.now) in
     let p = present w c.args.self.now c.args.memory.now c.requires in
     let k = c.advance-came in
     let a = k.ensures.advances p.t p.e p.es p.is_open p.represents in
@@ -19,7 +18,7 @@ go_further-requires g c =
 
 pub settle-requires : goal.settle-requires
 settle-requires g c =
-    let w = setting_of (linked_parts c.args.linked.now) g.M.LinearMem.bytes g.M.LinearMem.ready g.M.LinearMem.keeps (g.M.LinearMem.limit c.args.memory.now) in
+    let w = setting_of c.args.linked.now g.M.LinearMem.bytes g.M.LinearMem.ready g.M.LinearMem.keeps (g.M.LinearMem.limit c.args.memory.now) in
     let p = present w c.args.self.now c.args.memory.now c.requires in
     let k = c.advance-came in
     let o = p.opened in
@@ -28,7 +27,7 @@ settle-requires g c =
 
 pub returns-clause-turns : goal.returns-clause-turns
 returns-clause-turns g c t e es is_open rep =
-    let w = setting_of (linked_parts c.args.linked.now) g.M.LinearMem.bytes g.M.LinearMem.ready g.M.LinearMem.keeps (g.M.LinearMem.limit c.args.memory.now) in
+    let w = setting_of c.args.linked.now g.M.LinearMem.bytes g.M.LinearMem.ready g.M.LinearMem.keeps (g.M.LinearMem.limit c.args.memory.now) in
     let k = c.advance-came in
     let i = c.self.inside in
     let x1 : TenantState = record { store = i.store; machine = i.machine; places = i.places.items; cursor = i.cursor; progress = i.progress; journal = i.journal; stands_for = i.stands_for; dead = i.dead } in

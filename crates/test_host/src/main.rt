@@ -1,0 +1,12 @@
+//! Tests of a host of many: whole lives of instances, what is told of their calls, and pages that leave for swap and come
+//! back.
+#![tactic(auto)]
+
+#[cfg(test)]
+mod lives;
+#[cfg(test)]
+mod paging;
+#[cfg(test)]
+mod telling;
+
+fn main() {}

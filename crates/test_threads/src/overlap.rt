@@ -1,0 +1,378 @@
+//! Turns and offers go on while the swap device is called, and each worker gets turns.
+
+ghost use Rattle.std.specs.Prelude.{◌≡◌, ◌≢◌, ◌+◌, ◌<◌, ⊤, [], length, get_or, replicate, slice_set, IfOk, IsOk, OnOk};
+ghost use Rattle.wh_swap.specs.Memory.{memory_held, memory_writes};
+
+use std::alloc::{AllocError, Global};
+use std::marker::Brand;
+use std::sync::atomic::{AtomicBool, Ordering};
+use std::sync::ledger::Ledger;
+use std::sync::{Arc, Wait};
+use std::test::Fail;
+use std::thread;
+use std::thread::Threads;
+use wh_cell::{Fittings, HostCell, Manner, OwnedHost, Owner, Ties, run_calls};
+use wh_host::{CallStatus, Host, Params};
+use wh_host_model::{InstId, SwapError, Tax};
+use wh_kernels::FnvHash;
+use wh_swap::{MemSwap, SwapDev};
+use wh_workers::Shares;
+
+/// `s` stores a byte.
+const STORES: [u8; 45] = [
+    0x00, 0x61, 0x73, 0x6d, 0x01, 0x00, 0x00, 0x00, 0x01, 0x06, 0x01, 0x60, 0x02, 0x7f, 0x7f, 0x00,
+    0x03, 0x02, 0x01, 0x00, 0x05, 0x03, 0x01, 0x00, 0x01, 0x07, 0x05, 0x01, 0x01, 0x73, 0x00, 0x00,
+    0x0a, 0x0b, 0x01, 0x09, 0x00, 0x20, 0x00, 0x20, 0x01, 0x3a, 0x00, 0x00, 0x0b,
+];
+
+/// `f` goes on forever: a charge to enter it, and one for each way back.
+const LOOPS: [u8; 36] = [
+    0x00, 0x61, 0x73, 0x6d, 0x01, 0x00, 0x00, 0x00, 0x01, 0x04, 0x01, 0x60, 0x00, 0x00, 0x03, 0x02,
+    0x01, 0x00, 0x07, 0x05, 0x01, 0x01, 0x66, 0x00, 0x00, 0x0a, 0x09, 0x01, 0x07, 0x00, 0x03, 0x40,
+    0x0c, 0x00, 0x0b, 0x0b,
+];
+
+/// So often a thread looks in vain before it gives up.
+const MOST_LOOKS: u32 = 1_000_000_000;
+
+// What a device and the thread of a test tell each other.
+#[derive(Drop)]
+struct Gate {
+    is_called: AtomicBool,
+    may_go_on: AtomicBool,
+}
+
+// Waits until it is set. Whether it was in time.
+fn wait_for(flag: &AtomicBool) -> bool {
+    for _ in 0..MOST_LOOKS {
+        if flag.load(Ordering::SeqCst) {
+            return true;
+        }
+        thread::yield_now();
+    }
+    false
+}
+
+// A swap device in memory whose writes wait until its gate is open.
+#[derive(Drop)]
+struct GatedSwap {
+    memory: MemSwap,
+    gate: Arc<Gate, Global>,
+}
+
+impl SwapDev for GatedSwap {
+    ghost held = { λ d. memory_held d.memory };
+
+    ghost writes = { λ d. memory_writes d.memory };
+
+    ghost faults = { λ _. [] };
+
+    ghost honest = { λ _. ⊤ };
+
+    ghost keeps = { λ _. ⊤ };
+
+    fn read(&mut self, slot: u32, into: &mut [u8; 4096]) -> Result<(), SwapError>
+        requires there { slot < length (memory_held self.old.memory) }
+        ensures ok { IsOk result }
+        ensures bytes { OnOk result (⊤ → get_or (memory_held self.old.memory) slot [] ≢ []
+            → into.new ≡ get_or (memory_held self.old.memory) slot []) }
+        ensures unchanged { self.new.memory ≡ self.old.memory }
+    {
+        self.memory.read(slot, into)
+    }
+
+    fn write(&mut self, slot: u32, from: &[u8; 4096]) -> Result<(), SwapError>
+        requires there { slot < length (memory_held self.old.memory) }
+        ensures ok { IsOk result }
+        ensures written { memory_held self.new.memory
+            ≡ slice_set (memory_held self.old.memory) slot from.now }
+        ensures slots { length (memory_held self.new.memory)
+            ≡ length (memory_held self.old.memory) }
+        ensures writes { memory_writes self.new.memory ≡ memory_writes self.old.memory + 1 }
+    {
+        self.gate.is_called.store(true, Ordering::SeqCst);
+        let _ = wait_for(&self.gate.may_go_on);
+        self.memory.write(slot, from)
+    }
+}
+
+// An owner gives two frames at least, and 16 at most.
+fn given(alloc: Global) -> Params {
+    Params {
+        shares: 100,
+        min: 2,
+        max: 16,
+        fuel: 0,
+        base: 0,
+        salt: 0,
+        inputs: Vec::new(alloc),
+    }
+}
+
+// One instance stores 1 to 5 on five pages, another goes on forever.
+fn ask<T: Ledger, C: Ledger, O: Ledger, E: Ledger, B: Ties, R: Wait>(
+    rt: &R,
+    alloc: Global,
+    cell: &HostCell<GatedSwap, T, C, O, E, B>,
+    owner: &mut Owner<GatedSwap, B>,
+) -> Result<[InstId; 2], Fail> {
+    let mut locked = cell.lock(rt);
+    let stores = locked.load(owner, alloc, &STORES)?;
+    let loops = locked.load(owner, alloc, &LOOPS)?;
+    let a = locked.admit(owner, alloc, stores, given(alloc))?;
+    let b = locked.admit(owner, alloc, loops, given(alloc))?;
+    for (at, byte) in [(0, 1), (4096, 2), (8192, 3), (12288, 4), (16384, 5)] {
+        let _ = locked.invoke(owner, alloc, a, "s", &[at, byte], 1000)?;
+    }
+    let _ = locked.invoke(owner, alloc, b, "f", &[], u64::MAX)?;
+    Ok([a, b])
+}
+
+// The charges and the offers in the books.
+fn counted<T: Ledger, C: Ledger, O: Ledger, E: Ledger, B: Ties, R: Wait>(
+    rt: &R,
+    cell: &HostCell<GatedSwap, T, C, O, E, B>,
+) -> (u64, u64) {
+    let locked = cell.lock(rt);
+    (locked.books().charges.low(), locked.books().offers.low())
+}
+
+// Whether charges and offers grow while the device is called.
+fn both_grow<T: Ledger, C: Ledger, O: Ledger, E: Ledger, B: Ties, R: Wait>(
+    rt: &R,
+    cell: &HostCell<GatedSwap, T, C, O, E, B>,
+    gate: &Gate,
+) -> bool {
+    if !wait_for(&gate.is_called) {
+        return false;
+    }
+    let (charges, offers) = counted(rt, cell);
+    for _ in 0..MOST_LOOKS {
+        let (more_charges, more_offers) = counted(rt, cell);
+        if more_charges > charges && more_offers > offers {
+            return true;
+        }
+        thread::yield_now();
+    }
+    false
+}
+
+// How many of the first calls of an instance have returned.
+fn returned<T: Ledger, C: Ledger, O: Ledger, E: Ledger, B: Ties, R: Wait>(
+    rt: &R,
+    cell: &HostCell<GatedSwap, T, C, O, E, B>,
+    id: InstId,
+) -> u32 {
+    let locked = cell.lock(rt);
+    let mut many: u32 = 0;
+    for at in 1..6 {
+        if let Some(CallStatus::Returned { .. }) = locked.host().call_status(id, at) {
+            many = many.saturating_add(1);
+        }
+    }
+    many
+}
+
+// What was seen while the calls ran: whether charges and offers grew, whether all calls ran, and how many stores returned.
+#[derive(Clone, Copy, Debug, PartialEq, Eq)]
+struct Seen {
+    grew: bool,
+    ran: bool,
+    returned: u32,
+}
+
+// All calls of these instances, by two workers. Whether they ran.
+fn run_all<
+    T: Ledger + Send + 'static,
+    C: Ledger + Send + 'static,
+    O: Ledger + Send + 'static,
+    E: Ledger + Send + 'static,
+    B: Ties + Send + 'static,
+    R: Threads + Wait + Copy + Send + 'static,
+>(
+    rt: R,
+    alloc: Global,
+    cell: HostCell<GatedSwap, T, C, O, E, B>,
+    shares: Shares<T, C, O, E>,
+    ids: [InstId; 2],
+) -> bool {
+    let mut shares = shares;
+    let manner = Manner {
+        hasher: FnvHash,
+        quantum: 10,
+        workers: 2,
+    };
+    run_calls(rt, alloc, &cell, &mut shares, &ids, manner).is_ok()
+}
+
+// Looks whether charges and offers grow, cancels the call that goes on forever, and lets the device go on.
+fn look_on<T: Ledger, C: Ledger, O: Ledger, E: Ledger, B: Ties, R: Wait>(
+    rt: &R,
+    cell: &HostCell<GatedSwap, T, C, O, E, B>,
+    owner: &mut Owner<GatedSwap, B>,
+    gate: &Gate,
+    id: InstId,
+) -> bool {
+    let grew = both_grow(rt, cell, gate);
+    {
+        let mut locked = cell.lock(rt);
+        let _ = locked.cancel(owner, id);
+    }
+    gate.may_go_on.store(true, Ordering::SeqCst);
+    grew
+}
+
+// The calls are run by a thread of their own, while this one looks.
+fn look_beside<
+    T: Ledger + Send + 'static,
+    C: Ledger + Send + 'static,
+    O: Ledger + Send + 'static,
+    E: Ledger + Send + 'static,
+    B: Ties + Send + 'static,
+    R: Threads + Wait + Copy + Send + 'static,
+>(
+    rt: R,
+    alloc: Global,
+    gate: &Gate,
+    cell: &HostCell<GatedSwap, T, C, O, E, B>,
+    owner: &mut Owner<GatedSwap, B>,
+    shares: Shares<T, C, O, E>,
+) -> Result<Seen, Fail> {
+    let ids = ask(&rt, alloc, cell, owner)?;
+    let theirs = cell.share()?;
+    let run = move || -> bool { run_all(rt, alloc, theirs, shares, ids) };
+    let runner = thread::spawn(&rt, run)?;
+    let grew = look_on(&rt, cell, owner, gate, ids[1]);
+    let ran = runner.join(&rt);
+    Ok(Seen {
+        grew,
+        ran,
+        returned: returned(&rt, cell, ids[0]),
+    })
+}
+
+// The same on a new host with four frames and 64 slots.
+fn look_on_new<
+    T: Ledger + Send + 'static,
+    C: Ledger + Send + 'static,
+    O: Ledger + Send + 'static,
+    E: Ledger + Send + 'static,
+    B: Ties + Send + 'static,
+    R: Threads + Wait + Copy + Send + 'static,
+>(rt: R, alloc: Global, gate: &Gate, fittings: Fittings<GatedSwap>) -> Result<Seen, Fail>
+    requires empty { memory_held fittings.device.memory ≡ replicate 64 [] }
+    requires owned { fittings.to_owner ≡ B.to_owner }
+    requires backed { fittings.to_device ≡ B.to_device }
+    requires turns { (fittings.turns.name ≡ T.name) × (fittings.turns.parts ≡ T.parts)
+        × (64 < T.parts) }
+    requires charges { (fittings.charges.name ≡ C.name) × (fittings.charges.parts ≡ C.parts)
+        × (64 < C.parts) }
+    requires offers { (fittings.offers.name ≡ O.name) × (fittings.offers.parts ≡ O.parts)
+        × (1 < O.parts) }
+    requires evictions { (fittings.evictions.name ≡ E.name)
+        × (fittings.evictions.parts ≡ E.parts) × (1 < E.parts) }
+{
+    let host = Host::new(alloc, 4, 64, Tax { num: 0, den: 1 })?;
+    let (cell, mut owner, shares) = HostCell::<GatedSwap, T, C, O, E, B>::new(
+        alloc, host, fittings,
+    )?;
+    look_beside(rt, alloc, gate, &cell, &mut owner, shares)
+}
+
+// A device behind this gate.
+fn gated(alloc: Global, gate: &Arc<Gate, Global>) -> Result<GatedSwap, AllocError>
+    ensures { IfOk result (λ d. memory_held d.memory ≡ replicate 64 []) }
+{
+    Ok(GatedSwap {
+        memory: MemSwap::new(alloc, 64)?,
+        gate: Arc::try_clone(gate)?,
+    })
+}
+
+#[test]
+fn turns_go_on_while_the_device_is_called(rt: HostRuntime) -> Result<(), Fail> {
+    let alloc = rt.alloc();
+    let shut = Gate {
+        is_called: AtomicBool::new(false),
+        may_go_on: AtomicBool::new(false),
+    };
+    let Ok(gate) = Arc::new(alloc, shut) else {
+        return Err(Fail::from(AllocError));
+    };
+    let device = gated(alloc, &gate)?;
+    let fittings = Fittings::new(alloc, device)?;
+    let seen = look_on_new::<Brand, Brand, Brand, Brand, Brand, HostRuntime>(
+        rt, alloc, &gate, fittings,
+    )?;
+    let wanted = Seen {
+        grew: true,
+        ran: true,
+        returned: 5,
+    };
+    assert_eq!(rt; seen, wanted);
+    Ok(())
+}
+
+// Two instances go on for 50000 charges each, by turns of one charge of two workers: how many turns each worker ran.
+fn run_loops<
+    T: Ledger + Send + 'static,
+    C: Ledger + Send + 'static,
+    O: Ledger + Send + 'static,
+    E: Ledger + Send + 'static,
+    B: Ties + Send + 'static,
+    R: Threads + Wait + Copy + Send + 'static,
+>(rt: R, alloc: Global, owned: &mut OwnedHost<MemSwap, T, C, O, E, B>) -> Result<(u64, u64), Fail> {
+    let loops = owned.load(alloc, &LOOPS)?;
+    let a = owned.admit(alloc, loops, given(alloc))?;
+    let b = owned.admit(alloc, loops, given(alloc))?;
+    let _ = owned.invoke(alloc, a, "f", &[], 50000)?;
+    let _ = owned.invoke(alloc, b, "f", &[], 50000)?;
+    let manner = Manner {
+        hasher: FnvHash,
+        quantum: 1,
+        workers: 2,
+    };
+    if owned.run(rt, alloc, &[a, b], manner).is_err() {
+        return Ok((0, 0));
+    }
+    Ok((owned.shares().tally(0).turns, owned.shares().tally(1).turns))
+}
+
+// The same on a new host.
+fn run_evenly<
+    T: Ledger + Send + 'static,
+    C: Ledger + Send + 'static,
+    O: Ledger + Send + 'static,
+    E: Ledger + Send + 'static,
+    B: Ties + Send + 'static,
+    R: Threads + Wait + Copy + Send + 'static,
+>(rt: R, alloc: Global, fittings: Fittings<MemSwap>) -> Result<(u64, u64), Fail>
+    requires empty { memory_held fittings.device ≡ replicate 64 [] }
+    requires owned { fittings.to_owner ≡ B.to_owner }
+    requires backed { fittings.to_device ≡ B.to_device }
+    requires turns { (fittings.turns.name ≡ T.name) × (fittings.turns.parts ≡ T.parts)
+        × (64 < T.parts) }
+    requires charges { (fittings.charges.name ≡ C.name) × (fittings.charges.parts ≡ C.parts)
+        × (64 < C.parts) }
+    requires offers { (fittings.offers.name ≡ O.name) × (fittings.offers.parts ≡ O.parts)
+        × (1 < O.parts) }
+    requires evictions { (fittings.evictions.name ≡ E.name)
+        × (fittings.evictions.parts ≡ E.parts) × (1 < E.parts) }
+{
+    let host = Host::new(alloc, 4, 64, Tax { num: 0, den: 1 })?;
+    let mut owned: OwnedHost<MemSwap, T, C, O, E, B> = OwnedHost::new(alloc, host, fittings)?;
+    run_loops(rt, alloc, &mut owned)
+}
+
+#[test]
+fn both_workers_get_turns(rt: HostRuntime) -> Result<(), Fail> {
+    let alloc = rt.alloc();
+    let device = MemSwap::new(alloc, 64)?;
+    let fittings = Fittings::new(alloc, device)?;
+    let (first, second) = run_evenly::<Brand, Brand, Brand, Brand, Brand, HostRuntime>(
+        rt, alloc, fittings,
+    )?;
+    assert!(rt; first > 0 && second > 0);
+    assert!(rt; first.saturating_add(second) >= 100_000);
+    Ok(())
+}

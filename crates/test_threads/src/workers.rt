@@ -1,0 +1,323 @@
+// Each part once, at concrete types; and threads that run to their end.
+
+ghost use Rattle.std.specs.Prelude.{◌≡◌, ◌<◌, IfOk};
+
+use std::alloc::{AllocError, Global};
+use std::marker::{Brand, Model, PhantomData};
+use std::sync::ledger::{Blank, Ledger};
+use std::sync::{Arc, Barrier, Condvar, Mutex, Wait};
+use std::test::Fail;
+use std::thread;
+use std::thread::Threads;
+use wh_host_model::InstId;
+use wh_workers::{
+    BlankPact, Bond, Books, Change, Half, Help, Helper, Jobs, Matter, Message, Progress, Shares,
+    Supply, Tally, Turns, Worker, hand_out, left_over, open_channel, pass_for, put_back, receive,
+    serve,
+};
+
+// An instance by its number.
+fn instance(number: u64) -> InstId {
+    InstId { place: 0, number }
+}
+
+// Two turns of a worker, an offer and five evictions are counted; what is shown is seat 3, and what the books have.
+fn counts<T: Ledger, C: Ledger, O: Ledger, E: Ledger>(
+    alloc: Global,
+    turns: Blank,
+    charges: Blank,
+    offers: Blank,
+    evictions: Blank,
+) -> Result<(Tally, u64, u64, [u64; 4]), AllocError>
+    requires turns { (turns.name ≡ T.name) × (turns.parts ≡ T.parts) × (64 < T.parts) }
+    requires charges { (charges.name ≡ C.name) × (charges.parts ≡ C.parts) × (64 < C.parts) }
+    requires offers { (offers.name ≡ O.name) × (offers.parts ≡ O.parts) × (1 < O.parts) }
+    requires evictions { (evictions.name ≡ E.name) × (evictions.parts ≡ E.parts) × (1 < E.parts) }
+{
+    let (mut books, shares) = Books::<T, C, O, E>::open(alloc, turns, charges, offers, evictions)?;
+    let Shares { all } = shares;
+    let mut lender = all;
+    let mut worker = lender.lend_worker(3);
+    if !worker.is_full() {
+        books.turn(&mut worker, 7);
+    }
+    if !worker.is_full() {
+        books.turn(&mut worker, 4_000_000_000);
+    }
+    let mut scanner = lender.lend_scanner();
+    if scanner.count() < 1000 {
+        books.offer(&mut scanner);
+    }
+    let mut reclaimer = lender.lend_reclaimer();
+    if reclaimer.count() < 1000 {
+        books.evict(&mut reclaimer, 5);
+    }
+    let tally = worker.tally();
+    let low = [
+        books.turns.low(),
+        books.charges.low(),
+        books.offers.low(),
+        books.evictions.low(),
+    ];
+    Ok((tally, scanner.count(), reclaimer.count(), low))
+}
+
+#[test]
+fn counts_are_kept(rt: HostRuntime) -> Result<(), Fail> {
+    let blanks = (Blank::new(65), Blank::new(65), Blank::new(2), Blank::new(2));
+    let (turns, charges, offers, evictions) = blanks;
+    let (tally, offered, evicted, low) = counts::<Brand, Brand, Brand, Brand>(
+        rt.alloc(),
+        turns,
+        charges,
+        offers,
+        evictions,
+    )?;
+    assert_eq!(rt; (tally.turns, tally.charges), (2, 4_000_000_007));
+    assert_eq!(rt; (offered, evicted), (1, 5));
+    assert_eq!(rt; low, [2, 4_000_000_007, 1, 5]);
+    Ok(())
+}
+
+// The turn of this number.
+fn turn(number: u64) -> Message {
+    Message::Turn {
+        number,
+        instance: instance(number),
+    }
+}
+
+#[test]
+fn messages_are_handed_over(rt: HostRuntime) -> Result<(), Fail> {
+    let (outlet, inlet, first) = open_channel(rt.alloc(), 4)?;
+    let mut slip = first;
+    let mut theirs = pass_for(&outlet, &mut slip);
+    assert!(rt; hand_out(&rt, &outlet, &mut slip, turn(0)));
+    assert!(rt; hand_out(&rt, &outlet, &mut slip, turn(1)));
+    assert!(rt; hand_out(&rt, &outlet, &mut slip, Message::Last));
+    assert_eq!(rt; receive(&rt, &inlet, &mut theirs), Some(turn(0)));
+    assert_eq!(rt; receive(&rt, &inlet, &mut theirs), Some(turn(1)));
+    put_back(&outlet, &mut slip, theirs);
+    assert_eq!(rt; left_over(&rt, &inlet, &mut slip), Some(Message::Last));
+    assert_eq!(rt; left_over(&rt, &inlet, &mut slip), None);
+    Ok(())
+}
+
+// A pact about a number of contracts.
+struct NumberMatter {
+    none: PhantomData<u8>,
+}
+
+impl Model for NumberMatter {
+    ghost use Rattle.std.specs.Prelude.{ℕ};
+
+    ghost Value = { ℕ };
+
+    ghost view = { λ _. 0 };
+}
+
+impl Matter for NumberMatter {
+    ghost nothing = { 0 };
+}
+
+// So much is added.
+#[derive(Clone, Copy)]
+struct Added {
+    amount: u32,
+}
+
+impl Change<NumberMatter> for Added {
+    ghost use Rattle.std.specs.Prelude.{◌+◌};
+
+    ghost after = { λ c n. n + c.amount };
+}
+
+// Both know 3, and then 5; one half goes through another thread, and both know 12.
+fn agree_on<B: Bond + Send + 'static, R: Threads>(
+    rt: &R,
+    blank: BlankPact<NumberMatter>,
+) -> Result<(Half<B, NumberMatter>, Half<B, NumberMatter>), AllocError>
+    requires { blank ≡ B.table }
+    ensures { IfOk result (λ r. r.0 ≡ r.1) }
+{
+    let (pact, mut first, mut second) = blank.open::<B, Added>(&Added { amount: 3 });
+    pact.settle(&mut first, &mut second, &Added { amount: 2 });
+    let child = thread::spawn(rt, move || -> Half<B, NumberMatter> { second })?;
+    let mut back = child.join(rt);
+    pact.settle(&mut first, &mut back, &Added { amount: 7 });
+    Ok((first, back))
+}
+
+// The same, and both halves are let go.
+fn agree_once<B: Bond + Send + 'static, R: Threads>(
+    rt: &R,
+    blank: BlankPact<NumberMatter>,
+) -> Result<bool, AllocError>
+    requires { blank ≡ B.table }
+{
+    let (_first, _second) = agree_on::<B, R>(rt, blank)?;
+    Ok(true)
+}
+
+#[test]
+fn two_holders_agree(rt: HostRuntime) -> Result<(), Fail> {
+    let blank = BlankPact::new(rt.alloc())?;
+    assert!(rt; agree_once::<Brand, HostRuntime>(&rt, blank)?);
+    Ok(())
+}
+
+// Books under a lock, a place where two workers meet in each turn, and a bell for whoever helps.
+#[derive(Drop)]
+struct Desk<T: Ledger, C: Ledger, O: Ledger, E: Ledger> {
+    books: Arc<Mutex<Books<T, C, O, E>>, Global>,
+    both: Arc<Barrier, Global>,
+    bell: Arc<Condvar, Global>,
+}
+
+impl<T: Ledger, C: Ledger, O: Ledger, E: Ledger> Turns<T, C> for Desk<T, C, O, E> {
+    fn await_place<R: Wait>(&self, _rt: &R) {}
+
+    fn leave_place(&self) {}
+
+    fn run<R: Wait>(&self, rt: &R, _instance: InstId, worker: &mut Worker<T, C>) {
+        self.both.wait(rt);
+        let mut books = self.books.lock(rt);
+        books.turn(worker, 5);
+    }
+
+    fn share(&self) -> Result<Self, AllocError> {
+        let books = Arc::try_clone(&self.books)?;
+        let both = Arc::try_clone(&self.both)?;
+        let bell = Arc::try_clone(&self.bell)?;
+        Ok(Desk { books, both, bell })
+    }
+}
+
+impl<T: Ledger, C: Ledger, O: Ledger, E: Ledger> Help<O> for Desk<T, C, O, E> {
+    fn help<R: Wait>(&self, rt: &R, helper: &mut Helper<O>) -> Progress {
+        let mut books = self.books.lock(rt);
+        books.offer(helper);
+        if helper.count() < 3 {
+            return Progress::Did;
+        }
+        Progress::Ended
+    }
+
+    fn bell(&self) -> &Condvar {
+        &self.bell
+    }
+
+    fn share(&self) -> Result<Self, AllocError> {
+        Turns::<T, C>::share(self)
+    }
+}
+
+// So many turns.
+#[derive(Drop)]
+struct Several {
+    left: u64,
+}
+
+impl Supply for Several {
+    fn next<R: Wait>(&mut self, _rt: &R) -> Option<InstId> {
+        if self.left == 0 {
+            return None;
+        }
+        self.left -= 1;
+        Some(instance(self.left))
+    }
+}
+
+// A reclaimer that has nothing to do, and waits until it is told to stop.
+#[derive(Drop)]
+struct Idle {
+    bell: Arc<Condvar, Global>,
+}
+
+impl<E: Ledger> Help<E> for Idle {
+    fn help<R: Wait>(&self, _rt: &R, _helper: &mut Helper<E>) -> Progress {
+        Progress::Waits
+    }
+
+    fn bell(&self) -> &Condvar {
+        &self.bell
+    }
+
+    fn share(&self) -> Result<Self, AllocError> {
+        let bell = Arc::try_clone(&self.bell)?;
+        Ok(Idle { bell })
+    }
+}
+
+// 128 turns by two workers, who meet in each turn; beside them a scanner that offers three pages at most, and a
+// reclaimer that waits.
+fn serve_many<
+    T: Ledger + Send + 'static,
+    C: Ledger + Send + 'static,
+    O: Ledger + Send + 'static,
+    E: Ledger + Send + 'static,
+    R: Threads + Wait + Copy + Send + 'static,
+>(
+    rt: R,
+    alloc: Global,
+    turns: Blank,
+    charges: Blank,
+    offers: Blank,
+    evictions: Blank,
+) -> Result<Option<(u64, Tally, Tally, (u64, u64))>, AllocError>
+    requires turns { (turns.name ≡ T.name) × (turns.parts ≡ T.parts) × (64 < T.parts) }
+    requires charges { (charges.name ≡ C.name) × (charges.parts ≡ C.parts) × (64 < C.parts) }
+    requires offers { (offers.name ≡ O.name) × (offers.parts ≡ O.parts) × (1 < O.parts) }
+    requires evictions { (evictions.name ≡ E.name) × (evictions.parts ≡ E.parts) × (1 < E.parts) }
+{
+    let (books, mut shares) = Books::<T, C, O, E>::open(alloc, turns, charges, offers, evictions)?;
+    let desk = Desk {
+        books: Arc::new(alloc, Mutex::new(books))?,
+        both: Arc::new(alloc, Barrier::new(2))?,
+        bell: Arc::new(alloc, Condvar::new())?,
+    };
+    let mine: Desk<T, C, O, E> = Turns::<T, C>::share(&desk)?;
+    let scans: Desk<T, C, O, E> = Turns::<T, C>::share(&desk)?;
+    let jobs = Jobs {
+        turns: desk,
+        scans,
+        reclaims: Idle {
+            bell: Arc::try_clone(&mine.bell)?,
+        },
+    };
+    let mut supply = Several { left: 128 };
+    let served = serve(rt, alloc, jobs, &mut supply, &mut shares, 2);
+    let mut books = mine.books.lock(&rt);
+    books.agree(&mut shares);
+    let Ok(served) = served else {
+        return Ok(None);
+    };
+    let helped = (shares.offers(), shares.evictions());
+    Ok(Some((served.turns, shares.tally(0), shares.tally(1), helped)))
+}
+
+#[test]
+fn two_workers_run_turns(rt: HostRuntime) -> Result<(), Fail> {
+    let (turns, charges) = (Blank::new(65), Blank::new(65));
+    let (offers, evictions) = (Blank::new(2), Blank::new(2));
+    let served = serve_many::<Brand, Brand, Brand, Brand, HostRuntime>(
+        rt,
+        rt.alloc(),
+        turns,
+        charges,
+        offers,
+        evictions,
+    )?;
+    let Some((turns, first, second, helped)) = served else {
+        assert!(rt; false, "threads were started");
+        return Ok(());
+    };
+    assert_eq!(rt; turns, 128);
+    assert_eq!(rt; (first.turns, first.charges), (64, 320));
+    assert_eq!(rt; (second.turns, second.charges), (64, 320));
+
+    // Two offers are owed. The scanner stops at the third, or earlier where it is told to.
+    assert!(rt; helped.0 == 2 || helped.0 == 3);
+    assert_eq!(rt; helped.1, 0);
+    Ok(())
+}

@@ -1,5 +1,0 @@
-use Rattle.wh_cell.proofs.Begun.{new_uncharged}
-use Rattle.wh_cell.proofs.tests.begin_cell.Goals as goal
-
-pub new-requires-4-clause-uncharged : goal.new-requires-4-clause-uncharged
-new-requires-4-clause-uncharged g c = new_uncharged c.in_ok-host.host 4 64 _ c.in_ok-host.ensures.ok

@@ -1,4 +1,0 @@
-use Rattle.wh_workers.proofs.tests.two_holders_agree.Given as goal
-
-abbrev pub ghosts-agree_once : goal.ghosts-agree_once
-ghosts-agree_once g a = record { table = a.blank }
