@@ -9,4 +9,5 @@ mod paging;
 #[cfg(test)]
 mod telling;
 
+// Its tests are all that this crate is for.
 fn main() {}

@@ -9,4 +9,5 @@ mod rows;
 #[cfg(test)]
 mod views;
 
+// Its tests are all that this crate is for.
 fn main() {}

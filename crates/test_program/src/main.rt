@@ -7,4 +7,5 @@ mod lines;
 #[cfg(test)]
 mod swapping;
 
+// Its tests are all that this crate is for.
 fn main() {}

@@ -27,4 +27,5 @@ mod starts;
 #[cfg(test)]
 mod swapping;
 
+// Its tests are all that this crate is for.
 fn main() {}

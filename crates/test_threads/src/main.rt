@@ -9,4 +9,5 @@ mod overlap;
 #[cfg(test)]
 mod workers;
 
+// Its tests are all that this crate is for.
 fn main() {}
