@@ -41,18 +41,26 @@ fn admit(alloc: Global, host: &mut Host, module: ModuleId) -> Result<InstId> {
     Ok(host.admit(alloc, module, params)?)
 }
 
-fn crowd_of(alloc: Global, count: usize) -> Result<Crowd> {
-    let mut host = Host::new(alloc, 65536, 65536, Tax { num: 3, den: 4 })?;
+// A host without instances.
+fn empty_crowd(alloc: Global) -> Result<Crowd> {
+    Ok(Crowd {
+        host: Host::new(alloc, 65536, 65536, Tax { num: 3, den: 4 })?,
+        ids: Vec::new(alloc),
+    })
+}
+
+// So many instances with a call come, and one without.
+fn fill(alloc: Global, crowd: &mut Crowd, count: usize) -> Result<()> {
+    let Crowd { host, ids } = crowd;
     let module = host.load(alloc, &ENDLESS)?;
-    let mut ids = Vec::new(alloc);
     for _ in 0..count {
-        let id = admit(alloc, &mut host, module)?;
+        let id = admit(alloc, host, module)?;
         host.invoke(alloc, id, "f", &[], u64::MAX)?;
         ids.push(id)?;
     }
-    let idle = admit(alloc, &mut host, module)?;
+    let idle = admit(alloc, host, module)?;
     ids.push(idle)?;
-    Ok(Crowd { host, ids })
+    Ok(())
 }
 
 // The instance of this number.
@@ -121,27 +129,29 @@ fn compare_empty(rt: &(impl Print + CpuClock), few: &mut Crowd, many: &mut Crowd
     Ok(())
 }
 
+// Compares a host with few instances and one to which many come.
+fn compare_all(
+    rt: &(impl Print + CpuClock + AllocGlobal),
+    few: &mut Crowd,
+    many: &mut Crowd,
+) -> Result<()> {
+    fill(rt.alloc(), many, MANY)?;
+    compare(rt, "a turn of 1 charge", few, many, 1, 1)?;
+    compare(rt, "a turn of 100 charges", few, many, 1, 100)?;
+    compare(rt, "a turn of 1 charge, to each", few, many, MANY, 1)?;
+    compare(rt, "a turn of 100 charges, to each", few, many, MANY, 100)?;
+    compare_empty(rt, few, many)
+}
+
+// Owns the host of many, and lends it to what can fail; one instance with a call comes to the other.
+fn run_beside(rt: &(impl Print + CpuClock + AllocGlobal), few: &mut Crowd) -> Result<()> {
+    fill(rt.alloc(), few, 1)?;
+    let mut many = empty_crowd(rt.alloc())?;
+    compare_all(rt, few, &mut many)
+}
+
 /// Times turns.
 pub fn run(rt: &(impl Print + CpuClock + AllocGlobal)) -> Result<()> {
-    let mut few = crowd_of(rt.alloc(), 1)?;
-    let mut many = crowd_of(rt.alloc(), MANY)?;
-    compare(rt, "a turn of 1 charge", &mut few, &mut many, 1, 1)?;
-    compare(rt, "a turn of 100 charges", &mut few, &mut many, 1, 100)?;
-    compare(
-        rt,
-        "a turn of 1 charge, to each",
-        &mut few,
-        &mut many,
-        MANY,
-        1,
-    )?;
-    compare(
-        rt,
-        "a turn of 100 charges, to each",
-        &mut few,
-        &mut many,
-        MANY,
-        100,
-    )?;
-    compare_empty(rt, &mut few, &mut many)
+    let mut few = empty_crowd(rt.alloc())?;
+    run_beside(rt, &mut few)
 }

@@ -1,6 +1,6 @@
 //! Calls over a memory, a flat one and one on shared frames.
 
-ghost use Rattle.std.specs.Prelude.{◌≡◌, ◌≤◌, IfOk, length};
+ghost use Rattle.std.specs.Prelude.{◌≡◌, ◌≤◌, IfOk, OnOk, length};
 ghost use Rattle.wh_initial.specs.Begins.{Instantiates};
 ghost use Rattle.wh_model.specs.Execution.Instance.{Parameters as Given};
 ghost use Rattle.wh_space.specs.Steps.{page_limit};
@@ -37,6 +37,15 @@ pub struct Call<'a> {
     pub word: u64,
     /// Its charges.
     pub charges: u64,
+}
+
+/// Over what a call is made.
+#[derive(Clone, Copy)]
+pub enum Kind {
+    /// A flat memory.
+    Flat,
+    /// A memory on shared frames, in which nobody else is.
+    Frames,
 }
 
 /// Writes a piece of a data segment, and says whether it could.
@@ -116,12 +125,24 @@ fn time_on<M: LinearMem>(
     after.checked_sub(before).context("the clock went back")
 }
 
+/// Looks that an instance has no more pages than it may have, and may have no more than any.
+fn check_size(begun: &Instantiated) -> Result<()>
+    ensures within { OnOk result (begun.now.pages ≤ begun.now.page_limit) }
+    ensures most { OnOk result (begun.now.page_limit ≤ 4096) }
+{
+    if begun.pages > begun.page_limit {
+        bail!("it is too large");
+    }
+    if begun.page_limit > PAGES {
+        bail!("it may grow too far");
+    }
+    Ok(())
+}
+
 /// What an instance begins with.
 fn begin(alloc: Global, linked: &Linked) -> Result<Instantiated>
-    ensures begins { IfOk result (λ begun. (given : Given)
+    ensures { IfOk result (λ begun. (given : Given)
         × Instantiates (view_module linked.now.valid.decoded) given begun) }
-    ensures within { IfOk result (λ begun. begun.pages ≤ begun.page_limit) }
-    ensures most { IfOk result (λ begun. begun.page_limit ≤ 4096) }
 {
     let parameters = Parameters {
         base: 0,
@@ -129,37 +150,32 @@ fn begin(alloc: Global, linked: &Linked) -> Result<Instantiated>
         inputs: Vec::new(alloc),
         page_limit: PAGES,
     };
-    let begun = instantiate(alloc, linked, parameters)?;
-    if begun.pages > begun.page_limit {
-        bail!("it is too large");
-    }
-    if begun.page_limit > PAGES {
-        bail!("it may grow too far");
-    }
-    Ok(begun)
+    Ok(instantiate(alloc, linked, parameters)?)
 }
 
-/// The time over a flat memory.
-pub fn time_flat(
+/// The time over a flat memory, which it makes.
+fn time_flat(
     rt: &(impl CpuClock + AllocGlobal),
     linked: &Linked,
+    begun: &mut Instantiated,
+    machine: &mut Machine,
     wanted: &Call<'_>,
-) -> Result<Duration> {
-    let alloc = rt.alloc();
-    let mut begun = begin(alloc, linked)?;
-    let mut machine = Machine::new(alloc)?;
-    let mut memory = FlatMemory::new(alloc, begun.pages, begun.page_limit)?;
-    time_on(rt, linked, &mut begun, &mut machine, &mut memory, wanted)
+) -> Result<Duration>
+    requires { (given : Given)
+        × Instantiates (view_module linked.now.valid.decoded) given begun.old }
+{
+    check_size(begun)?;
+    let mut memory = FlatMemory::new(rt.alloc(), begun.pages, begun.page_limit)?;
+    time_on(rt, linked, begun, machine, &mut memory, wanted)
 }
 
-/// A memory of so many frames and slots, with an instance at its first place. That has so many pages of 65536 bytes, and may
-/// get as many as the limit says.
-fn memory_of_one(alloc: Global, frames: u32, slots: u32, size: u32, limit: u32) -> Result<Memory>
+/// An instance comes to the first place of a memory. It has so many pages of 65536 bytes, and may get as many as the limit
+/// says.
+fn enter_first(alloc: Global, memory: &mut Memory, size: u32, limit: u32) -> Result<()>
     requires within { size ≤ limit }
     requires most { limit ≤ 4096 }
-    ensures { IfOk result (λ memory. page_limit memory 0 ≡ limit) }
+    ensures { OnOk result (page_limit memory.new 0 ≡ limit) }
 {
-    let mut memory = Memory::new(alloc, frames, slots, Tax { num: 3, den: 4 })?;
     let promise = Promise {
         number: 0,
         shares: 100,
@@ -180,23 +196,72 @@ fn memory_of_one(alloc: Global, frames: u32, slots: u32, size: u32, limit: u32) 
     if memory.limit(0) != limit {
         bail!("the limits differ");
     }
-    Ok(memory)
+    Ok(())
 }
 
-/// The time over a memory on shared frames, in which nobody else is.
-pub fn time_view(
+/// The time over a memory on shared frames, in which nobody is yet.
+fn time_view(
     rt: &(impl CpuClock + AllocGlobal),
     linked: &Linked,
+    begun: &mut Instantiated,
+    machine: &mut Machine,
+    memory: &mut Memory,
     wanted: &Call<'_>,
-) -> Result<Duration> {
-    let alloc = rt.alloc();
-    let mut begun = begin(alloc, linked)?;
-    let mut machine = Machine::new(alloc)?;
-    let mut memory = memory_of_one(alloc, FRAMES, SLOTS, begun.pages, begun.page_limit)?;
+) -> Result<Duration>
+    requires { (given : Given)
+        × Instantiates (view_module linked.now.valid.decoded) given begun.old }
+{
+    check_size(begun)?;
+    enter_first(rt.alloc(), memory, begun.pages, begun.page_limit)?;
     let mut view = View {
-        memory: &mut memory,
+        memory,
         place: 0,
         page_limit: begun.page_limit,
     };
-    time_on(rt, linked, &mut begun, &mut machine, &mut view, wanted)
+    time_on(rt, linked, begun, machine, &mut view, wanted)
+}
+
+/// The time over a memory on shared frames, which it makes.
+fn time_frames(
+    rt: &(impl CpuClock + AllocGlobal),
+    linked: &Linked,
+    begun: &mut Instantiated,
+    machine: &mut Machine,
+    wanted: &Call<'_>,
+) -> Result<Duration>
+    requires { (given : Given)
+        × Instantiates (view_module linked.now.valid.decoded) given begun.old }
+{
+    let mut memory = Memory::new(rt.alloc(), FRAMES, SLOTS, Tax { num: 3, den: 4 })?;
+    time_view(rt, linked, begun, machine, &mut memory, wanted)
+}
+
+/// The time on a machine, which it makes.
+fn time_machine(
+    rt: &(impl CpuClock + AllocGlobal),
+    linked: &Linked,
+    begun: &mut Instantiated,
+    kind: Kind,
+    wanted: &Call<'_>,
+) -> Result<Duration>
+    requires { (given : Given)
+        × Instantiates (view_module linked.now.valid.decoded) given begun.old }
+{
+    let mut machine = Machine::new(rt.alloc())?;
+    match kind {
+        Kind::Flat => time_flat(rt, linked, begun, &mut machine, wanted),
+        Kind::Frames => time_frames(rt, linked, begun, &mut machine, wanted),
+    }
+}
+
+/// The time of a call on an instance of its own. Of instance, machine and memory each is made by a function that does nothing
+/// else, and lent to what can fail: so it takes less to prove.
+pub fn time_call(
+    rt: &(impl CpuClock + AllocGlobal),
+    linked: &Linked,
+    kind: Kind,
+    wanted: &Call<'_>,
+) -> Result<Duration> {
+    let mut begun = begin(rt.alloc(), linked)?;
+    time_machine(rt, linked, &mut begun, kind, wanted)
 }

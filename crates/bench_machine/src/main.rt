@@ -12,12 +12,13 @@
 mod calls;
 
 use anyhow::{Context, Result, bail, ensure};
-use calls::{Call, time_flat, time_view};
+use calls::{Call, Kind, time_call};
 use std::alloc::Global;
 use std::io::Read;
 use std::rt::{Env, Files};
 use std::time::{CpuClock, Duration};
 use std::{env, fs};
+use wh_imports::Linked;
 use wh_load::load;
 
 const ROUNDS: u32 = 5;
@@ -40,21 +41,17 @@ fn parse_call(alloc: Global, line: &str) -> Result<Call<'_>> {
 }
 
 /// Makes the call on both memories again and again, and prints the best time of each.
-fn run_call(
+fn print_times(
     rt: &(impl Print + CpuClock + AllocGlobal),
     name: &str,
-    bytes: &[u8],
+    linked: &Linked,
     call: &Call<'_>,
 ) -> Result<()> {
-    let linked = match load(rt.alloc(), bytes) {
-        Ok(linked) => linked,
-        Err(error) => bail!("{error}"),
-    };
     let mut flat = Duration::MAX;
     let mut framed = Duration::MAX;
     for _ in 0..ROUNDS {
-        flat = flat.min(time_flat(rt, &linked, call)?);
-        framed = framed.min(time_view(rt, &linked, call)?);
+        flat = flat.min(time_call(rt, linked, Kind::Flat, call)?);
+        framed = framed.min(time_call(rt, linked, Kind::Frames, call)?);
     }
     println!(rt;
         "{name} {} {}.{:06} {}.{:06}",
@@ -65,6 +62,19 @@ fn run_call(
         framed.subsec_micros()
     )?;
     Ok(())
+}
+
+/// Loads the module, and lends it to what can fail.
+fn run_call(
+    rt: &(impl Print + CpuClock + AllocGlobal),
+    name: &str,
+    bytes: &[u8],
+    call: &Call<'_>,
+) -> Result<()> {
+    match load(rt.alloc(), bytes) {
+        Ok(linked) => print_times(rt, name, &linked, call),
+        Err(error) => bail!("{error}"),
+    }
 }
 
 /// Makes the calls of a table, of all modules or of the one of this name.

@@ -14,9 +14,9 @@ const PAGES: u32 = 10000;
 // How many pages of 65536 bytes hold these.
 const SIZE: u32 = 625;
 
-// Others of which nobody is below its minimum, on all frames, and the one that will write, whose minimum is all that it writes.
-fn made(rt: &(impl CpuClock + AllocGlobal)) -> Result<Pool> {
-    let mut pool = Pool::new(rt.alloc(), OTHERS * EACH, 32768)?;
+// Others come, of which nobody is below its minimum, on all frames, and the one that will write, whose minimum is all that it
+// writes.
+fn fill(rt: &(impl CpuClock + AllocGlobal), pool: &mut Pool) -> Result<()> {
     for place in 0..OTHERS {
         pool.enter(rt.alloc(), place, 2, 1)?;
         for page in 0..EACH {
@@ -27,12 +27,12 @@ fn made(rt: &(impl CpuClock + AllocGlobal)) -> Result<Pool> {
     pool.enter(rt.alloc(), OTHERS, PAGES, SIZE)?;
     pool.epoch();
     ensure!(pool.waits == 0, "a frame is missing");
-    Ok(pool)
+    Ok(())
 }
 
-// Writes all pages: how long the whole took.
-fn round(rt: &(impl Print + CpuClock + AllocGlobal)) -> Result<()> {
-    let mut pool = made(rt)?;
+// Fills a new pool, and writes all pages: how long the whole took.
+fn time_writes(rt: &(impl Print + CpuClock + AllocGlobal), pool: &mut Pool) -> Result<()> {
+    fill(rt, pool)?;
     let before = rt.thread_cpu_time()?;
     for page in 0..PAGES {
         pool.write(rt, OTHERS, page, 7)?;
@@ -41,6 +41,12 @@ fn round(rt: &(impl Print + CpuClock + AllocGlobal)) -> Result<()> {
     ensure!(pool.waits == PAGES, "a store didn't wait");
     ensure!(pool.left == u64::from(PAGES), "other pages left");
     say(rt, pool.time, whole)
+}
+
+// Owns a new pool, and lends it to what can fail.
+fn round(rt: &(impl Print + CpuClock + AllocGlobal)) -> Result<()> {
+    let mut pool = Pool::new(rt.alloc(), OTHERS * EACH, 32768)?;
+    time_writes(rt, &mut pool)
 }
 
 fn say(rt: &impl Print, time: Duration, whole: Duration) -> Result<()> {

@@ -35,14 +35,19 @@ fn round(rt: &(impl Print + CpuClock), pool: &mut Pool, round: u32) -> Result<()
     Ok(())
 }
 
-/// Writes all pages, three times over.
-pub fn run(rt: &(impl Print + CpuClock + AllocGlobal)) -> Result<()> {
-    let mut pool = Pool::new(rt.alloc(), FRAMES, INSTANCES * PAGES)?;
+// The instances come to a new pool, and write all pages, three times over.
+fn run_rounds(rt: &(impl Print + CpuClock + AllocGlobal), pool: &mut Pool) -> Result<()> {
     for place in 0..INSTANCES {
         pool.enter(rt.alloc(), place, 2, PAGES / 16)?;
     }
     for number in 0..ROUNDS {
-        round(rt, &mut pool, number)?;
+        round(rt, pool, number)?;
     }
     Ok(())
+}
+
+/// Writes all pages, three times over.
+pub fn run(rt: &(impl Print + CpuClock + AllocGlobal)) -> Result<()> {
+    let mut pool = Pool::new(rt.alloc(), FRAMES, INSTANCES * PAGES)?;
+    run_rounds(rt, &mut pool)
 }

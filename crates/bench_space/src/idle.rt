@@ -41,12 +41,11 @@ fn say(rt: &(impl Files + Print + AllocGlobal), what: &str, before: u64) -> Resu
 }
 
 // Makes a machine for each instance.
-fn machines_of(alloc: Global) -> Result<Vec<Machine>> {
-    let mut machines = Vec::new(alloc);
+fn add_machines(alloc: Global, machines: &mut Vec<Machine>) -> Result<()> {
     for _ in 0..INSTANCES {
         machines.push(Machine::new(alloc)?)?;
     }
-    Ok(machines)
+    Ok(())
 }
 
 // What an instance of a module begins with.
@@ -60,14 +59,18 @@ fn store_of(alloc: Global, linked: &Linked) -> Result<Store> {
     Ok(instantiate(alloc, linked, parameters)?.store)
 }
 
-// Makes a store of the module for each instance.
-fn stores_of(alloc: Global, bytes: &[u8]) -> Result<Vec<Store>> {
-    let linked = load(alloc, bytes)?;
-    let mut stores = Vec::new(alloc);
+// Makes a store of a linked module for each instance.
+fn add_linked_stores(alloc: Global, linked: &Linked, stores: &mut Vec<Store>) -> Result<()> {
     for _ in 0..INSTANCES {
-        stores.push(store_of(alloc, &linked)?)?;
+        stores.push(store_of(alloc, linked)?)?;
     }
-    Ok(stores)
+    Ok(())
+}
+
+// Makes a store of the module for each instance.
+fn add_stores(alloc: Global, bytes: &[u8], stores: &mut Vec<Store>) -> Result<()> {
+    let linked = load(alloc, bytes)?;
+    add_linked_stores(alloc, &linked, stores)
 }
 
 // The instances come to a memory, each to a place of its own.
@@ -87,23 +90,64 @@ fn write_all(memory: &mut Memory) -> Result<()> {
     Ok(())
 }
 
-/// Makes the instances, one kind of thing after the other. What they take beyond their frames is what there is more at the
-/// end, less 4096 bytes for each.
-pub fn run(rt: &(impl Files + Print + AllocGlobal)) -> Result<()> {
-    let alloc = rt.alloc();
-    let before = resident(rt)?;
-    let mut memory = memory_of(alloc, 16384)?;
-    let mut now = say(rt, "pool and content table, of 16384 frames", before)?;
-    enter_all(alloc, &mut memory)?;
-    now = say(rt, "places and page tables, of 16 pages each", now)?;
-    write_all(&mut memory)?;
-    now = say(rt, "a page on a frame each", now)?;
-    let _machines = machines_of(alloc)?;
-    now = say(rt, "stacks", now)?;
-    let _stores = stores_of(alloc, &EMPTY)?;
-    now = say(rt, "globals, tables and outputs, of an empty module", now)?;
+// Makes the stores, and says what they take, and what all takes beyond the frames: how much there was at the beginning, and
+// how much there is now.
+fn fill_stores(
+    rt: &(impl Files + Print + AllocGlobal),
+    stores: &mut Vec<Store>,
+    before: u64,
+    now: u64,
+) -> Result<()> {
+    add_stores(rt.alloc(), &EMPTY, stores)?;
+    let now = say(rt, "globals, tables and outputs, of an empty module", now)?;
     let frames = 4 * u64::from(INSTANCES);
     let beyond = now.saturating_sub(before).saturating_sub(frames);
     println!(rt; "beyond {frames} kB of frames: {beyond} kB")?;
     Ok(())
+}
+
+// Owns the stores, and lends them to what can fail.
+fn keep_stores(rt: &(impl Files + Print + AllocGlobal), before: u64, now: u64) -> Result<()> {
+    let mut stores = Vec::new(rt.alloc());
+    fill_stores(rt, &mut stores, before, now)
+}
+
+// Makes the machines, says what they take, and goes on with the stores.
+fn fill_machines(
+    rt: &(impl Files + Print + AllocGlobal),
+    machines: &mut Vec<Machine>,
+    before: u64,
+    now: u64,
+) -> Result<()> {
+    add_machines(rt.alloc(), machines)?;
+    let now = say(rt, "stacks", now)?;
+    keep_stores(rt, before, now)
+}
+
+// Owns the machines, as long as there are stores, and lends them to what can fail.
+fn keep_machines(rt: &(impl Files + Print + AllocGlobal), before: u64, now: u64) -> Result<()> {
+    let mut machines = Vec::new(rt.alloc());
+    fill_machines(rt, &mut machines, before, now)
+}
+
+// Says what the memory takes, with instances and with a page of each, and goes on with the machines.
+fn fill_memory(
+    rt: &(impl Files + Print + AllocGlobal),
+    memory: &mut Memory,
+    before: u64,
+) -> Result<()> {
+    let mut now = say(rt, "pool and content table, of 16384 frames", before)?;
+    enter_all(rt.alloc(), memory)?;
+    now = say(rt, "places and page tables, of 16 pages each", now)?;
+    write_all(memory)?;
+    now = say(rt, "a page on a frame each", now)?;
+    keep_machines(rt, before, now)
+}
+
+/// Makes the instances, one kind of thing after the other. What they take beyond their frames is what there is more at the
+/// end, less 4096 bytes for each.
+pub fn run(rt: &(impl Files + Print + AllocGlobal)) -> Result<()> {
+    let before = resident(rt)?;
+    let mut memory = memory_of(rt.alloc(), 16384)?;
+    fill_memory(rt, &mut memory, before)
 }

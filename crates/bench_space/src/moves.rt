@@ -128,19 +128,29 @@ fn round(rt: &impl CpuClock, memory: &mut Memory, hashes: &[u64], best: Times) -
     })
 }
 
-// Times the moves of the first of so many instances. Each other one has a page with a content of its own, which is a hint.
-fn time_moves(rt: &impl CpuClock, alloc: Global, instances: u32) -> Result<Times> {
-    let mut memory = memory_of(alloc, 16384)?;
-    enter(alloc, &mut memory, 0, SIZE)?;
+// So many instances come. Each but the first has a page with a content of its own, which is a hint.
+fn enter_all(alloc: Global, memory: &mut Memory, instances: u32) -> Result<()> {
+    enter(alloc, memory, 0, SIZE)?;
     for place in 1..instances {
-        enter(alloc, &mut memory, place as usize, 1)?;
+        enter(alloc, memory, place as usize, 1)?;
         let number = u64::from(place).wrapping_add(1000000);
-        write(&mut memory, place as usize, 15, number)?;
+        write(memory, place as usize, 15, number)?;
         ensure!(memory.has_few_pages(), "there are too many pages");
-        let answer = scan_page(&mut memory, &FnvHash, place, 15);
+        let answer = scan_page(memory, &FnvHash, place, 15);
         ensure!(answer == Offer::Hinted, "the offer came to {answer:?}");
     }
-    let hashes = hashes_of(alloc, &mut memory)?;
+    Ok(())
+}
+
+// The best times of all rounds, in a memory in which nobody is yet.
+fn best_of(
+    rt: &impl CpuClock,
+    alloc: Global,
+    memory: &mut Memory,
+    instances: u32,
+) -> Result<Times> {
+    enter_all(alloc, memory, instances)?;
+    let hashes = hashes_of(alloc, memory)?;
     let mut best = Times {
         hint: Duration::MAX,
         pair: Duration::MAX,
@@ -150,9 +160,15 @@ fn time_moves(rt: &impl CpuClock, alloc: Global, instances: u32) -> Result<Times
         stale: Duration::MAX,
     };
     for _ in 0..ROUNDS {
-        best = round(rt, &mut memory, &hashes, best)?;
+        best = round(rt, memory, &hashes, best)?;
     }
     Ok(best)
+}
+
+// Times the moves of the first of so many instances. It owns their memory, and lends it to what can fail.
+fn time_moves(rt: &impl CpuClock, alloc: Global, instances: u32) -> Result<Times> {
+    let mut memory = memory_of(alloc, 16384)?;
+    best_of(rt, alloc, &mut memory, instances)
 }
 
 fn say(rt: &impl Print, what: &str, time: Duration) -> Result<()> {

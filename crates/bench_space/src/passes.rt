@@ -2,6 +2,7 @@
 
 use crate::pages::{enter, memory_of, since, write};
 use anyhow::{Context, Result, ensure};
+use std::alloc::Global;
 use std::time::{CpuClock, Duration};
 use wh_kernels::{FnvHash, fnv64};
 use wh_scan::scan_all;
@@ -30,33 +31,51 @@ fn speed(hash: Duration, pass: Duration) -> u128 {
     hash.as_nanos().saturating_mul(100) / pass.as_nanos().max(1)
 }
 
+// Makes the pages of one instance.
+fn fill(alloc: Global, memory: &mut Memory) -> Result<()> {
+    enter(alloc, memory, 0, PAGES / 16)?;
+    for page in 0..PAGES {
+        write(memory, 0, page, u64::from(page).wrapping_add(1))?;
+    }
+    Ok(())
+}
+
+// Times a full pass.
+fn time_pass(rt: &impl CpuClock, memory: &mut Memory) -> Result<Duration> {
+    ensure!(memory.has_few_pages(), "there are too many pages");
+    ensure!(memory.has_places_below(1), "there are too many places");
+    let before = rt.thread_cpu_time()?;
+    scan_all(memory, &FnvHash, 1);
+    since(rt, before)
+}
+
+// Times the hash and two passes, in a memory in which nobody is yet, and prints the times.
+fn time_passes(rt: &(impl Print + CpuClock + AllocGlobal), memory: &mut Memory) -> Result<()> {
+    fill(rt.alloc(), memory)?;
+    let before = rt.thread_cpu_time()?;
+    let sum = hash_all(memory)?;
+    let hash = since(rt, before)?;
+    let first = time_pass(rt, memory)?;
+    let second = time_pass(rt, memory)?;
+    ensure!(memory.used() == PAGES, "pages were merged");
+    say(rt, "fnv64 of each page", hash)?;
+    say(rt, "a pass that hints at each", first)?;
+    say(rt, "a pass that finds each hint", second)?;
+    let (slow, quick) = (speed(hash, first), speed(hash, second));
+    println!(rt; "at {slow} and {quick} % of the hash's speed (sum {sum})")?;
+    Ok(())
+}
+
+// Owns a new memory, and lends it to what can fail.
+fn run_once(rt: &(impl Print + CpuClock + AllocGlobal)) -> Result<()> {
+    let mut memory = memory_of(rt.alloc(), PAGES)?;
+    time_passes(rt, &mut memory)
+}
+
 /// Makes the pages, and times the hash and two passes, three times over.
 pub fn run(rt: &(impl Print + CpuClock + AllocGlobal)) -> Result<()> {
     for _ in 0..3 {
-        let mut memory = memory_of(rt.alloc(), PAGES)?;
-        enter(rt.alloc(), &mut memory, 0, PAGES / 16)?;
-        for page in 0..PAGES {
-            write(&mut memory, 0, page, u64::from(page).wrapping_add(1))?;
-        }
-        ensure!(memory.has_few_pages(), "there are too many pages");
-        ensure!(memory.has_places_below(1), "there are too many places");
-        let before = rt.thread_cpu_time()?;
-        let sum = hash_all(&memory)?;
-        let hash = since(rt, before)?;
-        let before = rt.thread_cpu_time()?;
-        scan_all(&mut memory, &FnvHash, 1);
-        let first = since(rt, before)?;
-        ensure!(memory.has_few_pages(), "there are too many pages");
-        ensure!(memory.has_places_below(1), "there are too many places");
-        let before = rt.thread_cpu_time()?;
-        scan_all(&mut memory, &FnvHash, 1);
-        let second = since(rt, before)?;
-        ensure!(memory.used() == PAGES, "pages were merged");
-        say(rt, "fnv64 of each page", hash)?;
-        say(rt, "a pass that hints at each", first)?;
-        say(rt, "a pass that finds each hint", second)?;
-        let (slow, quick) = (speed(hash, first), speed(hash, second));
-        println!(rt; "at {slow} and {quick} % of the hash's speed (sum {sum})")?;
+        run_once(rt)?;
     }
     Ok(())
 }

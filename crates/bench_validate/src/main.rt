@@ -10,7 +10,7 @@ use std::time::Instant;
 use std::{env, fs};
 use wh_decode::decode;
 use wh_syntax::Module;
-use wh_validate::validate;
+use wh_validate::{ValidError, ValidModule, validate};
 
 const ROUNDS: u32 = 20;
 
@@ -22,10 +22,25 @@ struct Times {
 }
 
 impl Times {
+    /// Of no call yet.
+    const NONE: Times = Times {
+        least: u128::MAX,
+        sum: 0,
+    };
+
     fn add(&mut self, nanos: u128) {
         self.least = self.least.min(nanos);
         self.sum = self.sum.saturating_add(nanos);
     }
+}
+
+/// What is known of a module so far.
+#[derive(Clone, Copy)]
+struct Report {
+    decoding: Times,
+    validating: Times,
+    instructions: u128,
+    valid: u32,
 }
 
 /// How many instructions the bodies have, `else` and `end` included.
@@ -60,48 +75,93 @@ fn print(rt: &impl Print, name: &str, times: Times, instructions: u128) -> Resul
     Ok(())
 }
 
-/// Decodes and validates the bytes again and again.
-fn time(rt: &(impl Print + Clock), alloc: Global, bytes: &[u8]) -> Result<()> {
-    let none = Times {
-        least: u128::MAX,
-        sum: 0,
-    };
-    let mut decoding = none;
-    let mut validating = none;
-    let mut instructions = 0;
-    let mut valid = 0u32;
-    for round in 0..ROUNDS {
-        let start = Instant::now(rt)?;
-        let outcome = decode(alloc, bytes);
-        decoding.add(start.elapsed(rt)?.as_nanos());
-        let decoded = match outcome {
-            Ok(decoded) => decoded,
-            Err(error) => {
-                println!(rt; "refused D{} at {}", error.kind.number(), error.offset)?;
-                return Ok(());
-            }
-        };
+/// Notes how long decoding took and, of a module in the first round, how many instructions there are. It gives the time behind
+/// that.
+fn note_decoding(
+    rt: &impl Clock,
+    report: &mut Report,
+    round: u32,
+    start: Instant,
+    decoded: Option<&Module>,
+) -> Result<Instant> {
+    report.decoding.add(start.elapsed(rt)?.as_nanos());
+    if let Some(decoded) = decoded {
         if round == 0 {
-            instructions = count_instructions(&decoded);
+            report.instructions = count_instructions(decoded);
         }
-        let start = Instant::now(rt)?;
-        let outcome = validate(alloc, decoded);
-        validating.add(start.elapsed(rt)?.as_nanos());
-        match outcome {
-            Ok(_) => valid = valid.saturating_add(1),
-            Err(error) => {
-                if round == 0 {
-                    println!(rt; "refused V{}", error.kind.number())?;
-                }
+    }
+    Ok(Instant::now(rt)?)
+}
+
+/// Notes how long validation took and whether the module is valid; prints how it is refused, if it is and this is the first
+/// round.
+fn note_validation(
+    rt: &(impl Print + Clock),
+    report: &mut Report,
+    round: u32,
+    start: Instant,
+    outcome: &Result<ValidModule, ValidError>,
+) -> Result<()> {
+    report.validating.add(start.elapsed(rt)?.as_nanos());
+    match outcome {
+        Ok(_) => report.valid = report.valid.saturating_add(1),
+        Err(error) => {
+            if round == 0 {
+                println!(rt; "refused V{}", error.kind.number())?;
             }
         }
     }
+    Ok(())
+}
+
+/// Decodes the bytes and validates the module, and says whether they are one. What is decoded is owned here, and lent to what
+/// can fail.
+fn run_round(
+    rt: &(impl Print + Clock),
+    alloc: Global,
+    bytes: &[u8],
+    report: &mut Report,
+    round: u32,
+) -> Result<bool> {
+    let start = Instant::now(rt)?;
+    let outcome = decode(alloc, bytes);
+    let start = note_decoding(rt, report, round, start, outcome.as_ref().ok())?;
+    match outcome {
+        Ok(decoded) => {
+            note_validation(rt, report, round, start, &validate(alloc, decoded))?;
+            Ok(true)
+        }
+        Err(error) => {
+            println!(rt; "refused D{} at {}", error.kind.number(), error.offset)?;
+            Ok(false)
+        }
+    }
+}
+
+/// Decodes and validates the bytes again and again.
+fn time(rt: &(impl Print + Clock), alloc: Global, bytes: &[u8]) -> Result<()> {
+    let mut report = Report {
+        decoding: Times::NONE,
+        validating: Times::NONE,
+        instructions: 0,
+        valid: 0,
+    };
+    for round in 0..ROUNDS {
+        if !run_round(rt, alloc, bytes, &mut report, round)? {
+            return Ok(());
+        }
+    }
+    let Report {
+        instructions,
+        valid,
+        ..
+    } = report;
     println!(rt;
         "{} bytes, {instructions} instructions, valid {valid} times of {ROUNDS}",
         bytes.len()
     )?;
-    print(rt, "decode", decoding, instructions)?;
-    print(rt, "validate", validating, instructions)
+    print(rt, "decode", report.decoding, instructions)?;
+    print(rt, "validate", report.validating, instructions)
 }
 
 fn main(rt: HostRuntime) -> Result<()> {

@@ -12,24 +12,28 @@ const SLICE: u64 = 1000;
 
 const MOST_SLICES: u32 = 10;
 
-/// An instance of the module, with the inputs 40 and 2. Its start function, if it has one, has returned.
-fn begun(alloc: Global, bytes: &[u8]) -> Result<Instance> {
+/// An instance of the module, with the inputs 40 and 2.
+fn make_instance(alloc: Global, bytes: &[u8]) -> Result<Instance> {
     let parameters = Parameters {
         base: 0,
         salt: 0,
         inputs: vec![in alloc; 40u64, 2]?,
         page_limit: 16,
     };
-    let mut instance = match Instance::new(alloc, bytes, parameters) {
-        Ok(instance) => instance,
+    match Instance::new(alloc, bytes, parameters) {
+        Ok(instance) => Ok(instance),
         Err(error) => bail!("{error}"),
-    };
+    }
+}
+
+/// Runs the start function, if the module has one, until it has returned.
+fn run_start(instance: &mut Instance) -> Result<()> {
     if instance.stage() == Stage::Fresh {
         let Some((Outcome::Returned(_), _)) = instance.run(100000) else {
             bail!("the start function has failed");
         };
     }
-    Ok(instance)
+    Ok(())
 }
 
 /// Calls a function without arguments, slice by slice: what the call came to, and its charges.
@@ -69,12 +73,24 @@ fn print_outcome(rt: &HostRuntime, outcome: Outcome, charges: u64) -> Result<()>
     Ok(())
 }
 
+/// Calls the export `run` of a new instance, and prints what came of it and what the instance has put out.
+fn print_run(rt: &HostRuntime, instance: &mut Instance) -> Result<()> {
+    run_start(instance)?;
+    let (outcome, charges) = call_run(instance)?;
+    print_outcome(rt, outcome, charges)?;
+    println!(rt; "{:?}", instance.output())?;
+    Ok(())
+}
+
+/// Makes an instance and lends it to what can fail: the fewer ways out of the function that owns it, the sooner it is
+/// proved.
+fn run_module(rt: &HostRuntime, bytes: &[u8]) -> Result<()> {
+    let mut instance = make_instance(rt.alloc(), bytes)?;
+    print_run(rt, &mut instance)
+}
+
 fn main(rt: HostRuntime) -> Result<()> {
     let words: Vec<String> = env::args(&rt)?.collect(rt.alloc())?;
     let bytes = fs::read(&rt, words.get(1).context("a module is wanted")?)?;
-    let mut instance = begun(rt.alloc(), &bytes)?;
-    let (outcome, charges) = call_run(&mut instance)?;
-    print_outcome(&rt, outcome, charges)?;
-    println!(rt; "{:?}", instance.output())?;
-    Ok(())
+    run_module(&rt, &bytes)
 }

@@ -21,6 +21,8 @@ use show::show;
 use std::alloc::Global;
 use std::io::{BufRead, BufReader};
 use wh_decode::decode;
+use wh_model::DecodeError;
+use wh_syntax::Module;
 
 /// How many cases there were, and how many of them came out otherwise than expected.
 #[derive(Drop)]
@@ -45,6 +47,18 @@ fn judge(
     Ok(())
 }
 
+/// Counts a case by what its bytes are decoded to.
+fn judge_decoded(
+    rt: &impl Print,
+    tally: &mut Tally,
+    name: &str,
+    expected: Answer,
+    decoded: &Result<Module, DecodeError>,
+) -> Result<()> {
+    judge(rt, tally, name, expected, answer_of(decoded)?)
+}
+
+/// Decodes the bytes of a case, and lends what comes of it to what can fail.
 fn judge_bytes(
     rt: &impl Print,
     alloc: Global,
@@ -53,8 +67,7 @@ fn judge_bytes(
     expected: Answer,
     bytes: &[u8],
 ) -> Result<()> {
-    let found = answer_of(&decode(alloc, bytes))?;
-    judge(rt, tally, name, expected, found)
+    judge_decoded(rt, tally, name, expected, &decode(alloc, bytes))
 }
 
 fn judge_cuts(
@@ -74,6 +87,39 @@ fn judge_cuts(
     judge_bytes(rt, alloc, tally, name, Answer::Module, bytes)
 }
 
+/// Prints the contents of a module; where the bytes are none, a case that should be one is counted.
+fn show_decoded(
+    rt: &impl Print,
+    alloc: Global,
+    tally: &mut Tally,
+    name: &str,
+    decoded: &Result<Module, DecodeError>,
+) -> Result<()> {
+    match decoded {
+        Ok(module) => show(rt, alloc, name, module),
+        Err(_) => judge_decoded(rt, tally, name, Answer::Module, decoded),
+    }
+}
+
+/// Judges the module of a pattern that has this byte.
+fn run_bytes(
+    rt: &impl Print,
+    alloc: Global,
+    tally: &mut Tally,
+    name: &str,
+    expected: &str,
+    bytes: &[u8],
+) -> Result<()> {
+    if let Some(list) = expected.strip_prefix("cuts") {
+        judge_cuts(rt, alloc, tally, name, list, bytes)
+    } else if expected == "show" {
+        show_decoded(rt, alloc, tally, name, &decode(alloc, bytes))
+    } else {
+        let expected = parse_answer(expected)?;
+        judge_bytes(rt, alloc, tally, name, expected, bytes)
+    }
+}
+
 fn run_pattern(
     rt: &impl Print,
     alloc: Global,
@@ -84,18 +130,7 @@ fn run_pattern(
 ) -> Result<()> {
     for byte in u16::from(pattern.first)..u16::from(pattern.last) + 1 {
         let bytes = pattern.bytes(alloc, byte as u8)?;
-        if let Some(list) = expected.strip_prefix("cuts") {
-            judge_cuts(rt, alloc, tally, name, list, &bytes)?;
-        } else if expected == "show" {
-            let decoded = decode(alloc, &bytes);
-            match &decoded {
-                Ok(module) => show(rt, alloc, name, module)?,
-                Err(_) => judge(rt, tally, name, Answer::Module, answer_of(&decoded)?)?,
-            }
-        } else {
-            let expected = parse_answer(expected)?;
-            judge_bytes(rt, alloc, tally, name, expected, &bytes)?;
-        }
+        run_bytes(rt, alloc, tally, name, expected, &bytes)?;
     }
     Ok(())
 }

@@ -1,222 +1,204 @@
-//! Whole lives of instances.
+// Whole lives of instances, worked out by hand.
 
-use std::alloc::Global;
-use std::test::Fail;
-use wh_host::{AdmitError, Host, HostError, ModuleError, ModuleId, Params};
-use wh_host_model::{InstId, Tax, TurnEnd};
+use crate::life::{Life, Step};
+use crate::modules::{DYING, ENDLESS, PASSING, PUTTING, SEVEN};
+use Step::{
+    Admit, Cancel, Epoch, Invoke, Load, Refuel, Release, ReportIs, Retry, Status, Trapped, Turn,
+};
+use wh_host::{CallStatus, CallValue, Suspension};
+use wh_host_model::{Tax, TurnEnd};
+use wh_model::{Trap, ValType};
 
-/// `f` gives 7.
-pub const SEVEN: [u8; 34] = [
-    0x00, 0x61, 0x73, 0x6d, 0x01, 0x00, 0x00, 0x00, 0x01, 0x05, 0x01, 0x60, 0x00, 0x01, 0x7f, 0x03,
-    0x02, 0x01, 0x00, 0x07, 0x05, 0x01, 0x01, 0x66, 0x00, 0x00, 0x0a, 0x06, 0x01, 0x04, 0x00, 0x41,
-    0x07, 0x0b,
+/// All idle pages count four times.
+const TAXED: Tax = Tax { num: 3, den: 4 };
+
+/// Nobody was admitted, and the pager is the only module.
+const NOBODY: &[Step] = &[
+    Turn(0, 1000, TurnEnd::Idle),
+    Invoke(0, "f", &[], 5, Err(1)),
+    Refuel(0, 5, Err(1)),
+    Cancel(0, Err(1)),
+    Retry(0, Err(1)),
+    Release(0, Err(1)),
+    Admit(1, (2, 16), 0, Err(1)),
 ];
 
-/// `f` goes round for ever.
-pub const ENDLESS: [u8; 36] = [
-    0x00, 0x61, 0x73, 0x6d, 0x01, 0x00, 0x00, 0x00, 0x01, 0x04, 0x01, 0x60, 0x00, 0x00, 0x03, 0x02,
-    0x01, 0x00, 0x07, 0x05, 0x01, 0x01, 0x66, 0x00, 0x00, 0x0a, 0x09, 0x01, 0x07, 0x00, 0x03, 0x40,
-    0x0c, 0x00, 0x0b, 0x0b,
+/// The pager has number 0. Bytes that are cut off get none.
+const NUMBERED: &[Step] = &[
+    Load(&SEVEN, Some(1)),
+    Load(&[0x00, 0x61, 0x73, 0x6d, 0x01, 0x00, 0x00], None),
+    Load(&SEVEN, Some(2)),
 ];
 
-/// `f` puts out the number 5 in 8 bytes.
-const PUTTING: [u8; 53] = [
-    0x00, 0x61, 0x73, 0x6d, 0x01, 0x00, 0x00, 0x00, 0x01, 0x08, 0x02, 0x60, 0x01, 0x7e, 0x00, 0x60,
-    0x00, 0x00, 0x02, 0x0c, 0x01, 0x04, 0x68, 0x6f, 0x73, 0x74, 0x03, 0x70, 0x75, 0x74, 0x00, 0x00,
-    0x03, 0x02, 0x01, 0x01, 0x07, 0x05, 0x01, 0x01, 0x66, 0x00, 0x01, 0x0a, 0x08, 0x01, 0x06, 0x00,
-    0x42, 0x05, 0x10, 0x00, 0x0b,
+/// The start is at place 0 of the journal, and has ended.
+const ENDED: &[Step] = &[
+    Load(&SEVEN, Some(1)),
+    Admit(1, (2, 16), 0, Ok((0, 0))),
+    Turn(0, 1000, TurnEnd::Idle),
+    Invoke(0, "f", &[], 0, Ok(1)),
+    Invoke(0, "g", &[], 0, Err(2)),
+    Invoke(0, "f", &[5], 0, Err(3)),
+    Turn(0, 1000, TurnEnd::Ended),
+    Turn(0, 1000, TurnEnd::Idle),
+    Refuel(0, 1, Err(8)),
 ];
 
-/// The start function traps; `f` is the same function.
-pub const DYING: [u8; 35] = [
-    0x00, 0x61, 0x73, 0x6d, 0x01, 0x00, 0x00, 0x00, 0x01, 0x04, 0x01, 0x60, 0x00, 0x00, 0x03, 0x02,
-    0x01, 0x00, 0x07, 0x05, 0x01, 0x01, 0x66, 0x00, 0x00, 0x08, 0x01, 0x00, 0x0a, 0x05, 0x01, 0x03,
-    0x00, 0x00, 0x0b,
+const FUELLED: &[Step] = &[
+    Load(&ENDLESS, Some(1)),
+    Admit(1, (2, 16), 0, Ok((0, 0))),
+    Invoke(0, "f", &[], 5, Ok(1)),
+    Invoke(0, "f", &[], 0, Ok(2)),
+    Turn(0, 3, TurnEnd::Again),
+    Turn(0, 2, TurnEnd::Fuel),
+    Retry(0, Err(8)),
+    Refuel(0, 2, Ok(())),
+    Turn(0, 2, TurnEnd::Fuel),
+    Cancel(0, Ok(())),
+    Turn(0, 1000, TurnEnd::Fuel),
+    Cancel(0, Ok(())),
+    Cancel(0, Err(8)),
 ];
 
-/// A memory of one page with a segment of two bytes at its last byte.
-const PASSING: [u8; 25] = [
-    0x00, 0x61, 0x73, 0x6d, 0x01, 0x00, 0x00, 0x00, 0x05, 0x03, 0x01, 0x00, 0x01, 0x0b, 0x0a, 0x01,
-    0x00, 0x41, 0xff, 0xff, 0x03, 0x0b, 0x02, 0xaa, 0xbb,
+const PUT_OUT: &[Step] = &[
+    Load(&PUTTING, Some(1)),
+    Admit(1, (2, 16), 0, Ok((0, 0))),
+    Invoke(0, "f", &[], 1, Ok(1)),
+    Turn(0, 1000, TurnEnd::Ended),
+    Release(0, Ok(&[5, 0, 0, 0, 0, 0, 0, 0])),
+    Release(0, Err(1)),
+    Turn(0, 1000, TurnEnd::Idle),
 ];
 
-/// A host with so many frames and slots.
-pub fn host_of(alloc: Global, frames: u32, slots: u32) -> Result<Host, Fail> {
-    let tax = Tax { num: 3, den: 4 };
-    Ok(Host::new(alloc, frames, slots, tax)?)
-}
+/// A place is used again, and a number never: who asks by the old number isn't heard.
+const USED_AGAIN: &[Step] = &[
+    Load(&SEVEN, Some(1)),
+    Admit(1, (4, 16), 0, Ok((0, 0))),
+    Admit(1, (4, 16), 0, Ok((1, 1))),
+    Admit(1, (2, 16), 0, Err(4)),
+    Release(0, Ok(&[])),
+    Admit(1, (2, 16), 0, Ok((0, 2))),
+    Invoke(0, "f", &[], 0, Err(1)),
+    Invoke(2, "f", &[], 0, Ok(1)),
+    Turn(2, 1000, TurnEnd::Ended),
+];
 
-/// What an owner gives: these frames, and fuel for the start.
-pub fn given(alloc: Global, min: u64, max: u64, fuel: u64) -> Params {
-    Params {
-        shares: 100,
-        min,
-        max,
-        fuel,
-        base: 0,
-        salt: 0,
-        inputs: Vec::new(alloc),
-    }
-}
+/// A start that traps leaves its instance dead.
+const DEAD: &[Step] = &[
+    Load(&DYING, Some(1)),
+    Admit(1, (2, 16), 10, Ok((0, 0))),
+    Invoke(0, "f", &[], 0, Ok(1)),
+    Turn(0, 1000, TurnEnd::Ended),
+    Turn(0, 1000, TurnEnd::Idle),
+    Invoke(0, "f", &[], 0, Err(5)),
+];
 
-/// The number of its fault, 0 where there is none.
-fn fault(taken: Result<u32, HostError>) -> u8 {
-    match taken {
-        Ok(_) => 0,
-        Err(error) => error.number(),
-    }
-}
+/// What isn't admitted changes nothing: a segment passes the end, and the memory begins too large.
+const REFUSED: &[Step] = &[
+    Load(&PASSING, Some(1)),
+    Load(&SEVEN, Some(2)),
+    Admit(1, (2, 16), 0, Err(8)),
+    Admit(1, (2, 15), 0, Err(7)),
+    Admit(2, (2, 16), 0, Ok((0, 0))),
+    Epoch,
+    Turn(0, 1000, TurnEnd::Idle),
+];
 
-#[test]
-fn nobody_is_there(rt: HostRuntime) -> Result<(), Fail> {
-    let mut host = host_of(rt.alloc(), 4, 100)?;
-    let nobody = InstId {
-        place: 0,
-        number: 0,
-    };
-    let none = ModuleId { number: 0 };
-    assert_eq!(rt; host.turn(nobody, 1000), TurnEnd::Idle);
-    assert_eq!(rt;
-        host.invoke(rt.alloc(), nobody, "f", &[], 5),
-        Err(HostError::NoInstance)
-    );
-    assert_eq!(rt; host.refuel(nobody, 5), Err(HostError::NoInstance));
-    assert_eq!(rt; host.cancel(nobody), Err(HostError::NoInstance));
-    assert_eq!(rt; host.retry(nobody), Err(HostError::NoInstance));
-    assert!(rt; host.release(rt.alloc(), nobody).is_err());
-    let params = given(rt.alloc(), 2, 16, 0);
-    assert_eq!(rt;
-        host.admit(rt.alloc(), none, params),
-        Err(AdmitError::NoModule)
-    );
-    assert_eq!(rt; HostError::NoInstance.number(), 1);
-    assert_eq!(rt; HostError::NoCall.number(), 8);
-    Ok(())
-}
+/// The call is the present one, stands for nothing, and has taken no charge.
+const PRESENT: CallStatus = CallStatus::Present {
+    stands_for: None,
+    charges: 0,
+};
 
-#[test]
-fn modules_are_numbered_from_nought(rt: HostRuntime) -> Result<(), Fail> {
-    let mut host = host_of(rt.alloc(), 4, 100)?;
-    assert_eq!(rt; host.load(rt.alloc(), &SEVEN), Ok(ModuleId { number: 0 }));
-    let cut = host.load(rt.alloc(), &SEVEN[..7]);
-    assert!(rt; matches!(cut, Err(ModuleError::Bytes(_))));
-    assert_eq!(rt; host.load(rt.alloc(), &SEVEN), Ok(ModuleId { number: 1 }));
-    Ok(())
-}
+/// A call is told from its beginning to its end.
+const TOLD: &[Step] = &[
+    Load(&SEVEN, Some(1)),
+    Admit(1, (2, 16), 0, Ok((0, 0))),
+    Status(
+        0,
+        0,
+        Some(CallStatus::Returned {
+            value: None,
+            charges: 0,
+        }),
+    ),
+    Status(0, 1, None),
+    Invoke(0, "f", &[], 0, Ok(1)),
+    Invoke(0, "f", &[], 0, Ok(2)),
+    Status(0, 1, Some(PRESENT)),
+    Status(0, 2, Some(CallStatus::Waiting)),
+    Turn(0, 1000, TurnEnd::Ended),
+    Status(
+        0,
+        1,
+        Some(CallStatus::Returned {
+            value: Some(CallValue {
+                of: ValType::I32,
+                word: 7,
+            }),
+            charges: 0,
+        }),
+    ),
+    Status(0, 2, Some(PRESENT)),
+    Status(1, 0, None),
+];
 
-#[test]
-fn a_call_runs_and_ends(rt: HostRuntime) -> Result<(), Fail> {
-    let mut host = host_of(rt.alloc(), 1024, 4096)?;
-    let seven = host.load(rt.alloc(), &SEVEN)?;
-    let a = host.admit(rt.alloc(), seven, given(rt.alloc(), 2, 16, 0))?;
-    assert_eq!(rt; a.number, 0);
-    assert_eq!(rt; host.turn(a, 1000), TurnEnd::Idle);
-    // The start is at place 0 of the journal, and has ended.
-    assert_eq!(rt; host.invoke(rt.alloc(), a, "f", &[], 0), Ok(1));
-    let absent = host.invoke(rt.alloc(), a, "g", &[], 0);
-    assert_eq!(rt; fault(absent), 2);
-    let one_too_many = host.invoke(rt.alloc(), a, "f", &[5], 0);
-    assert_eq!(rt; fault(one_too_many), 3);
-    assert_eq!(rt; host.turn(a, 1000), TurnEnd::Ended);
-    assert_eq!(rt; host.turn(a, 1000), TurnEnd::Idle);
-    assert_eq!(rt; host.refuel(a, 1), Err(HostError::NoCall));
-    Ok(())
-}
+/// So is fuel that ran out, a call that was cancelled, one that trapped, and one behind it.
+const TOLD_OF_ENDS: &[Step] = &[
+    Load(&ENDLESS, Some(1)),
+    Load(&DYING, Some(2)),
+    Admit(1, (2, 16), 0, Ok((0, 0))),
+    Invoke(0, "f", &[], 5, Ok(1)),
+    Turn(0, 1000, TurnEnd::Fuel),
+    Status(
+        0,
+        1,
+        Some(CallStatus::Present {
+            stands_for: Some(Suspension::Fuel),
+            charges: 5,
+        }),
+    ),
+    Cancel(0, Ok(())),
+    Status(0, 1, Some(CallStatus::Cancelled { charges: 5 })),
+    Admit(2, (2, 16), 10, Ok((1, 1))),
+    Invoke(1, "f", &[], 0, Ok(1)),
+    Turn(1, 1000, TurnEnd::Ended),
+    Trapped(1, 0, Trap::Unreachable),
+    Status(1, 1, Some(CallStatus::Dead)),
+];
 
-#[test]
-fn fuel_runs_out_and_is_given(rt: HostRuntime) -> Result<(), Fail> {
-    let mut host = host_of(rt.alloc(), 1024, 4096)?;
-    let endless = host.load(rt.alloc(), &ENDLESS)?;
-    let a = host.admit(rt.alloc(), endless, given(rt.alloc(), 2, 16, 0))?;
-    assert_eq!(rt; host.invoke(rt.alloc(), a, "f", &[], 5), Ok(1));
-    assert_eq!(rt; host.invoke(rt.alloc(), a, "f", &[], 0), Ok(2));
-    assert_eq!(rt; host.turn(a, 3), TurnEnd::Again);
-    assert_eq!(rt; host.turn(a, 2), TurnEnd::Fuel);
-    assert_eq!(rt; host.retry(a), Err(HostError::NoCall));
-    assert_eq!(rt; host.refuel(a, 2), Ok(()));
-    assert_eq!(rt; host.turn(a, 2), TurnEnd::Fuel);
-    assert_eq!(rt; host.cancel(a), Ok(()));
-    assert_eq!(rt; host.turn(a, 1000), TurnEnd::Fuel);
-    assert_eq!(rt; host.cancel(a), Ok(()));
-    assert_eq!(rt; host.cancel(a), Err(HostError::NoCall));
-    Ok(())
-}
+/// A place that is used again is shown by the number of who has it.
+const SHOWN_BY_NUMBER: &[Step] = &[
+    Load(&SEVEN, Some(1)),
+    Admit(1, (2, 16), 0, Ok((0, 0))),
+    Admit(1, (3, 16), 0, Ok((1, 1))),
+    Release(0, Ok(&[])),
+    Admit(1, (4, 16), 0, Ok((0, 2))),
+    ReportIs(
+        "# frames 8 used 0 free 8\n# slots 64 used 0 free 64\n# shared frames 0 sharers 0\n#     1     100     3    16     0     0     0 -\n#     2     100     4    16     0     0     0 -\n",
+    ),
+];
 
-#[test]
-fn output_is_handed_out(rt: HostRuntime) -> Result<(), Fail> {
-    let mut host = host_of(rt.alloc(), 1024, 4096)?;
-    let putting = host.load(rt.alloc(), &PUTTING)?;
-    let a = host.admit(rt.alloc(), putting, given(rt.alloc(), 2, 16, 0))?;
-    assert_eq!(rt; host.invoke(rt.alloc(), a, "f", &[], 1), Ok(1));
-    assert_eq!(rt; host.turn(a, 1000), TurnEnd::Ended);
-    let output = host.release(rt.alloc(), a)?;
-    assert_eq!(rt; output.as_slice(), [5, 0, 0, 0, 0, 0, 0, 0].as_slice());
-    assert!(rt; host.release(rt.alloc(), a).is_err());
-    assert_eq!(rt; host.turn(a, 1000), TurnEnd::Idle);
-    Ok(())
-}
-
-#[test]
-fn a_place_is_used_again_and_a_number_never(rt: HostRuntime) -> Result<(), Fail> {
-    let mut host = host_of(rt.alloc(), 8, 64)?;
-    let seven = host.load(rt.alloc(), &SEVEN)?;
-    let a = host.admit(rt.alloc(), seven, given(rt.alloc(), 4, 16, 0))?;
-    let b = host.admit(rt.alloc(), seven, given(rt.alloc(), 4, 16, 0))?;
-    assert_eq!(rt; (a.number, b.number), (0, 1));
-    let third = host.admit(rt.alloc(), seven, given(rt.alloc(), 2, 16, 0));
-    assert_eq!(rt; third, Err(AdmitError::Frames));
-    let output = host.release(rt.alloc(), a)?;
-    assert_eq!(rt; output.len(), 0);
-    let c = host.admit(rt.alloc(), seven, given(rt.alloc(), 2, 16, 0))?;
-    assert_eq!(rt; (c.place, c.number), (a.place, 2));
-    // Who asks by the old number isn't heard.
-    assert_eq!(rt;
-        host.invoke(rt.alloc(), a, "f", &[], 0),
-        Err(HostError::NoInstance)
-    );
-    assert_eq!(rt; host.invoke(rt.alloc(), c, "f", &[], 0), Ok(1));
-    assert_eq!(rt; host.turn(c, 1000), TurnEnd::Ended);
-    Ok(())
-}
-
-#[test]
-fn a_start_that_traps_leaves_an_instance_dead(rt: HostRuntime) -> Result<(), Fail> {
-    let mut host = host_of(rt.alloc(), 1024, 4096)?;
-    let dying = host.load(rt.alloc(), &DYING)?;
-    let b = host.admit(rt.alloc(), dying, given(rt.alloc(), 2, 16, 10))?;
-    assert_eq!(rt; host.invoke(rt.alloc(), b, "f", &[], 0), Ok(1));
-    assert_eq!(rt; host.turn(b, 1000), TurnEnd::Ended);
-    assert_eq!(rt; host.turn(b, 1000), TurnEnd::Idle);
-    let dead = host.invoke(rt.alloc(), b, "f", &[], 0);
-    assert_eq!(rt; fault(dead), 5);
-    Ok(())
-}
-
-#[test]
-fn what_is_not_admitted_changes_nothing(rt: HostRuntime) -> Result<(), Fail> {
-    let mut host = host_of(rt.alloc(), 1024, 4096)?;
-    let passing = host.load(rt.alloc(), &PASSING)?;
-    let seven = host.load(rt.alloc(), &SEVEN)?;
-    let past = host.admit(rt.alloc(), passing, given(rt.alloc(), 2, 16, 0));
-    assert_eq!(rt; past, Err(AdmitError::SegmentBounds));
-    let small = host.admit(rt.alloc(), passing, given(rt.alloc(), 2, 15, 0));
-    assert_eq!(rt; small, Err(AdmitError::MemoryMin));
-    let a = host.admit(rt.alloc(), seven, given(rt.alloc(), 2, 16, 0))?;
-    assert_eq!(rt; a.number, 0);
-    host.epoch();
-    assert_eq!(rt; host.turn(a, 1000), TurnEnd::Idle);
-    Ok(())
-}
-
-#[test]
-fn no_more_than_1024_calls_are_open(rt: HostRuntime) -> Result<(), Fail> {
-    let mut host = host_of(rt.alloc(), 1024, 4096)?;
-    let seven = host.load(rt.alloc(), &SEVEN)?;
-    let a = host.admit(rt.alloc(), seven, given(rt.alloc(), 2, 16, 0))?;
-    for at in 1..1025 {
-        assert_eq!(rt; host.invoke(rt.alloc(), a, "f", &[], 0), Ok(at));
-    }
-    let full = host.invoke(rt.alloc(), a, "f", &[], 0);
-    assert_eq!(rt; fault(full), 4);
-    Ok(())
-}
+/// All of them.
+pub const LIVES: [Life; 11] = [
+    Life("nobody is there", (4, 100, TAXED), &[], NOBODY),
+    Life("modules are numbered", (4, 100, TAXED), &[], NUMBERED),
+    Life("a call runs and ends", (1024, 4096, TAXED), &[], ENDED),
+    Life(
+        "fuel runs out and is given",
+        (1024, 4096, TAXED),
+        &[],
+        FUELLED,
+    ),
+    Life("output is handed out", (1024, 4096, TAXED), &[], PUT_OUT),
+    Life("a place is used again", (8, 64, TAXED), &[], USED_AGAIN),
+    Life("a start traps", (1024, 4096, TAXED), &[], DEAD),
+    Life("what is not admitted", (1024, 4096, TAXED), &[], REFUSED),
+    Life("a call is told", (1024, 4096, TAXED), &[], TOLD),
+    Life("ends are told", (1024, 4096, TAXED), &[], TOLD_OF_ENDS),
+    Life(
+        "a report goes by number",
+        (8, 64, TAXED),
+        &[],
+        SHOWN_BY_NUMBER,
+    ),
+];

@@ -1,319 +1,533 @@
-//! Instances whose pages leave and come, and whose equal pages come to one frame.
+// Worked by hand: what becomes of pages that leave and come while their instances write, wait and go, and of equal pages that
+// come to one frame.
 
-ghost use Rattle.std.specs.Prelude.{◌≡◌, ⊤, [], IfOk, get_or, replicate};
-ghost use Rattle.wh_reclaim.specs.Together.{AreTogether};
+use crate::life::{Life, Step};
+use Step::{
+    Admit, Cancel, Done, Emit, Epoch, EvictBegin, EvictCommit, Failed, FetchBegin, FetchCommit,
+    FetchFails, Invoke, Offer, OfferAlike, Provide, Release, Report, ReportIs, Retry, Returned,
+    RunOut, Scan, Store, Turn, Waits,
+};
+use wh_host_model::{EvictEnd, FetchEnd, Offer as Offered, SwapError, Tax, TurnEnd};
 
-use std::alloc::Global;
-use std::io;
-use std::test::Fail;
-use wh_host::{Host, Params};
-use wh_host_model::{EvictEnd, FetchEnd, InstId, Offer, SwapError, Tax, TurnEnd};
-use wh_kernels::FnvHash;
-use wh_reclaim::Buf;
-use wh_swap::{MemSwap, PageSwap, Pages, SwapDev};
+const UNTAXED: Tax = Tax { num: 0, den: 1 };
 
-/// `s` stores a byte, and `l` loads one.
-pub const BYTES: [u8; 63] = [
-    0x00, 0x61, 0x73, 0x6d, 0x01, 0x00, 0x00, 0x00, 0x01, 0x0b, 0x02, 0x60, 0x02, 0x7f, 0x7f, 0x00,
-    0x60, 0x01, 0x7f, 0x01, 0x7f, 0x03, 0x03, 0x02, 0x00, 0x01, 0x05, 0x03, 0x01, 0x00, 0x01, 0x07,
-    0x09, 0x02, 0x01, 0x73, 0x00, 0x00, 0x01, 0x6c, 0x00, 0x01, 0x0a, 0x13, 0x02, 0x09, 0x00, 0x20,
-    0x00, 0x20, 0x01, 0x3a, 0x00, 0x00, 0x0b, 0x07, 0x00, 0x20, 0x00, 0x2d, 0x00, 0x00, 0x0b,
+const TAXED: Tax = Tax { num: 3, den: 4 };
+
+/// The instance that is admitted first, and the second one.
+const A: usize = 0;
+
+const B: usize = 1;
+
+/// Two instances with two pages each on four frames.
+const FOUR_FRAMES: &[Step] = &[
+    Admit(0, (2, 16), 0, Ok((0, 0))),
+    Admit(0, (2, 16), 0, Ok((1, 1))),
+    Store(A, 0, 7, TurnEnd::Ended),
+    Store(A, 4096, 7, TurnEnd::Ended),
+    Store(B, 0, 7, TurnEnd::Ended),
+    Store(B, 4096, 7, TurnEnd::Ended),
 ];
 
-/// Pages of which the first read fails.
-#[derive(Drop)]
-struct Failing {
-    pages: Vec<[u8; 4096]>,
-    fails: bool,
-}
+/// Nobody is above its minimum: who stores gives its first page, and then its second, since the first is wanted again.
+const OWN_FRAME: &[Step] = &[
+    Store(A, 8192, 9, TurnEnd::Frame),
+    Waits(A, true, true),
+    Waits(B, false, false),
+    Provide(B, 0, Ok(0)),
+    Provide(A, 0, Ok(1)),
+    Turn(A, 3, TurnEnd::Ended),
+    Waits(A, false, false),
+    Invoke(A, "get8", &[0], 2, Ok(4)),
+    Turn(A, 2, TurnEnd::Frame),
+    Provide(A, 0, Ok(1)),
+    Turn(A, 2, TurnEnd::Ended),
+];
 
-impl Pages for Failing {
-    ghost tells = { λ _. ⊤ };
+/// The second page leaves for the first one, and the read fails. The next try wants no other to leave.
+const ANOTHER_TRY: &[Step] = &[
+    Store(A, 8192, 9, TurnEnd::Frame),
+    Provide(A, 0, Ok(1)),
+    Turn(A, 3, TurnEnd::Ended),
+    Invoke(A, "get8", &[0], 2, Ok(4)),
+    Turn(A, 2, TurnEnd::Frame),
+    Provide(A, 2, Err(SwapError::Read)),
+    Waits(A, false, false),
+    Provide(A, 0, Ok(0)),
+    Retry(A, Ok(())),
+    Waits(A, true, true),
+    Provide(A, 0, Ok(0)),
+    Turn(A, 2, TurnEnd::Ended),
+];
 
-    ghost page = { λ failing k. get_or failing.pages.items k [] };
+/// All four pages come to one frame, so three are free.
+const ONE_FRAME: &[Step] = &[
+    Scan,
+    Offer(A, 0, 5, Some(Offered::Skipped)),
+    Store(A, 8192, 9, TurnEnd::Ended),
+    Store(A, 12288, 9, TurnEnd::Ended),
+    Store(A, 16384, 9, TurnEnd::Ended),
+    Store(B, 8192, 9, TurnEnd::Frame),
+];
 
-    fn get(&mut self, at: u32, into: &mut [u8; 4096]) -> io::Result<()> {
-        if self.fails {
-            self.fails = false;
-            return Err(io::ErrorKind::InvalidInput.into());
-        }
-        let Some(bytes) = self.pages.get(at as usize) else {
-            return Err(io::ErrorKind::InvalidInput.into());
-        };
-        *into = *bytes;
-        Ok(())
-    }
+/// A write that fails is tried again. No page leaves for who doesn't wait.
+const EVICTED_AGAIN: &[Step] = &[
+    Store(A, 8192, 9, TurnEnd::Frame),
+    EvictBegin(B, None),
+    EvictBegin(A, Some(7)),
+    EvictCommit(true, EvictEnd::Failed),
+    Waits(A, false, false),
+    Retry(A, Ok(())),
+    EvictBegin(A, Some(7)),
+    EvictCommit(false, EvictEnd::Evicted),
+    Turn(A, 3, TurnEnd::Ended),
+];
 
-    fn put(&mut self, at: u32, from: &[u8; 4096]) -> io::Result<()> {
-        if at as usize >= self.pages.len() {
-            return Err(io::ErrorKind::InvalidInput.into());
-        }
-        self.pages[at as usize] = *from;
-        Ok(())
-    }
-}
+/// The page that left is wanted again. No frame is free, and then some are; but the read fails.
+const UNFETCHED: &[Step] = &[
+    Store(A, 8192, 9, TurnEnd::Frame),
+    EvictBegin(A, Some(7)),
+    EvictCommit(false, EvictEnd::Evicted),
+    Turn(A, 3, TurnEnd::Ended),
+    Invoke(A, "get8", &[0], 2, Ok(4)),
+    Turn(A, 2, TurnEnd::Frame),
+    FetchBegin(A, false),
+    Release(B, Ok(&[])),
+    FetchBegin(A, true),
+    FetchFails(SwapError::Read, FetchEnd::Failed),
+    Waits(A, false, false),
+];
 
-// An owner gives two frames at least.
-fn given(alloc: Global) -> Params {
-    Params {
-        shares: 100,
-        min: 2,
-        max: 16,
-        fuel: 0,
-        base: 0,
-        salt: 0,
-        inputs: Vec::new(alloc),
-    }
-}
+/// A place is kept while a page leaves for who had it.
+const KEPT_PLACE: &[Step] = &[
+    Store(A, 8192, 9, TurnEnd::Frame),
+    EvictBegin(A, Some(7)),
+    Release(A, Ok(&[])),
+    EvictCommit(false, EvictEnd::Void),
+    Admit(0, (2, 16), 0, Ok((0, 2))),
+];
 
-// A host with so many frames and 64 slots, and two instances.
-fn host_for_two(alloc: Global, frames: u32) -> Result<(Host, InstId, InstId), Fail>
-    ensures { IfOk result (λ made. AreTogether made.0.space (replicate 64 [])) }
-{
-    let tax = Tax { num: 0, den: 1 };
-    let mut host = Host::new(alloc, frames, 64, tax)?;
-    let bytes = host.load(alloc, &BYTES)?;
-    let a = host.admit(alloc, bytes, given(alloc))?;
-    let b = host.admit(alloc, bytes, given(alloc))?;
-    Ok((host, a, b))
-}
+/// Three instances have a page of equal bytes, and then one of them another.
+const SHARED: &[Step] = &[
+    Admit(0, (2, 16), 0, Ok((0, 0))),
+    Admit(0, (2, 16), 0, Ok((1, 1))),
+    Admit(0, (2, 16), 0, Ok((2, 2))),
+    Store(A, 0, 1, TurnEnd::Ended),
+    Store(B, 0, 1, TurnEnd::Ended),
+    Store(2, 0, 1, TurnEnd::Ended),
+    Scan,
+    ReportIs(
+        "# frames 1024 used 1 free 1023\n# slots 4096 used 0 free 4096\n# shared frames 1 sharers 3\n#     0     100     2    16     1     1     0 100/1\n#     1     100     2    16     1     1     0 100/1\n#     2     100     2    16     1     1     0 100/1\n",
+    ),
+    Epoch,
+    Store(A, 0, 2, TurnEnd::Ended),
+    ReportIs(
+        "# frames 1024 used 2 free 1022\n# slots 4096 used 0 free 4096\n# shared frames 1 sharers 2\n#     0     100     2    16     1     1     0 100/1\n#     1     100     2    16     1     0     0 100/4\n#     2     100     2    16     1     0     0 100/4\n",
+    ),
+];
 
-// A call, and its first turn.
-fn called<D: SwapDev>(
-    alloc: Global,
-    host: &mut Host,
-    device: &D,
-    id: InstId,
-    name: &str,
-    given: &[i128],
-) -> TurnEnd
-    requires { AreTogether host.old.space (D.held device.now) }
-    ensures { AreTogether host.new.space (D.held device.now) }
-{
-    let _ = device;
-    let _ = host.invoke(alloc, id, name, given, 1000);
-    host.turn(id, 1000)
-}
+/// Two instances on five frames: the first has two pages and waits for a third, the second has three.
+const FIVE_FRAMES: &[Step] = &[
+    Admit(0, (2, 16), 0, Ok((0, 0))),
+    Admit(0, (2, 16), 0, Ok((1, 1))),
+    Store(A, 0, 1, TurnEnd::Ended),
+    Store(A, 4096, 2, TurnEnd::Ended),
+    Store(B, 0, 3, TurnEnd::Ended),
+    Store(B, 4096, 4, TurnEnd::Ended),
+    Store(B, 8192, 5, TurnEnd::Ended),
+    Store(A, 8192, 6, TurnEnd::Frame),
+    ReportIs(
+        "# frames 5 used 5 free 0\n# slots 64 used 0 free 64\n# shared frames 0 sharers 0\n#     0     100     2    16     2     2     0 100/2\n#     1     100     2    16     3     3     0 100/3\n",
+    ),
+];
 
-// The next step is made ready.
-fn provided<D: SwapDev>(
-    host: &mut Host,
-    device: &mut D,
-    id: InstId,
-    buf: &mut Buf,
-) -> Result<u64, SwapError>
-    requires { AreTogether host.old.space (D.held device.old) }
-    ensures { AreTogether host.new.space (D.held device.new) }
-{
-    host.provide(device, id, buf)
-}
+/// A page that is written while it leaves doesn't leave, and is the first to be taken again.
+const WRITTEN_MEANWHILE: &[Step] = &[
+    EvictBegin(A, Some(3)),
+    Report(
+        "# frames 5 used 5 free 0\n# slots 64 used 1 free 63\n",
+        " 3     3     0 100/3\n",
+    ),
+    Store(B, 0, 9, TurnEnd::Ended),
+    Invoke(B, "get8", &[0], 2, Ok(5)),
+    Turn(B, 2, TurnEnd::Ended),
+    Returned(B, 5, 9),
+    EvictCommit(false, EvictEnd::Void),
+    Report(
+        "# frames 5 used 5 free 0\n# slots 64 used 0 free 64\n",
+        " 3     3     0 100/3\n",
+    ),
+    EvictBegin(A, Some(9)),
+];
 
-// A turn.
-fn turned<D: SwapDev>(host: &mut Host, device: &D, id: InstId) -> TurnEnd
-    requires { AreTogether host.old.space (D.held device.now) }
-    ensures { AreTogether host.new.space (D.held device.now) }
-{
-    let _ = device;
-    host.turn(id, 1000)
-}
+/// An instance goes while a page of it leaves: its slot is in use until the ticket comes back, whatever the device did.
+const GONE_MEANWHILE: &[Step] = &[
+    EvictBegin(A, Some(3)),
+    Release(B, Ok(&[])),
+    Report(
+        "# frames 5 used 2 free 3\n# slots 64 used 1 free 63\n",
+        " 2     2     0 100/2\n",
+    ),
+    EvictCommit(false, EvictEnd::Void),
+    Report(
+        "# frames 5 used 2 free 3\n# slots 64 used 0 free 64\n",
+        " 2     2     0 100/2\n",
+    ),
+];
 
-// The present call is to be tried again. Whether it stood for a device fault.
-fn tried_again<D: SwapDev>(host: &mut Host, device: &D, id: InstId) -> bool
-    requires { AreTogether host.old.space (D.held device.now) }
-    ensures { AreTogether host.new.space (D.held device.now) }
-{
-    let _ = device;
-    host.retry(id).is_ok()
-}
+const GONE_WHILE_IT_FAILS: &[Step] = &[
+    EvictBegin(A, Some(3)),
+    Release(B, Ok(&[])),
+    Report(
+        "# frames 5 used 2 free 3\n# slots 64 used 1 free 63\n",
+        " 2     2     0 100/2\n",
+    ),
+    EvictCommit(true, EvictEnd::Void),
+    Report(
+        "# frames 5 used 2 free 3\n# slots 64 used 0 free 64\n",
+        " 2     2     0 100/2\n",
+    ),
+];
 
-// Two pages of each are written, and so all four frames are in use. Whether they were.
-fn filled<D: SwapDev>(alloc: Global, host: &mut Host, device: &D, a: InstId, b: InstId) -> bool
-    requires { AreTogether host.old.space (D.held device.now) }
-    ensures { AreTogether host.new.space (D.held device.now) }
-{
-    if called(alloc, host, device, a, "s", &[0, 7]) != TurnEnd::Ended {
-        return false;
-    }
-    if called(alloc, host, device, a, "s", &[4096, 7]) != TurnEnd::Ended {
-        return false;
-    }
-    if called(alloc, host, device, b, "s", &[0, 7]) != TurnEnd::Ended {
-        return false;
-    }
-    called(alloc, host, device, b, "s", &[4096, 7]) == TurnEnd::Ended
-}
+/// A page that can't be written stays as it was, and the call for which it had to leave waits for another try.
+const UNWRITTEN: &[Step] = &[
+    EvictBegin(A, Some(3)),
+    EvictCommit(true, EvictEnd::Failed),
+    Report(
+        "# frames 5 used 5 free 0\n# slots 64 used 0 free 64\n",
+        " 3     3     0 100/3\n",
+    ),
+    Failed(A, 3, SwapError::Write, 2),
+    Invoke(B, "get8", &[0], 2, Ok(4)),
+    Turn(B, 2, TurnEnd::Ended),
+    Returned(B, 4, 3),
+    EvictBegin(A, None),
+    Retry(A, Ok(())),
+    EvictBegin(A, Some(3)),
+    EvictCommit(false, EvictEnd::Evicted),
+    Turn(A, 3, TurnEnd::Ended),
+    Done(A, 3, 3),
+];
 
-// A page leaves for the instance, where the device so answers: to what its ticket comes.
-fn evicted(
-    alloc: Global,
-    host: &mut Host,
-    id: InstId,
-    device: Result<(), SwapError>,
-) -> Result<Option<EvictEnd>, Fail> {
-    let buf = Box::new(alloc, [0; 4096])?;
-    match host.evict_begin(id, buf) {
-        Ok(eviction) => Ok(Some(host.evict_commit(eviction, device).0)),
-        Err(_) => Ok(None),
-    }
-}
+/// A page comes, and its instance goes: frame and slot are free when the ticket comes back.
+const FETCHED_FOR_NOBODY: &[Step] = &[
+    EvictBegin(A, Some(3)),
+    EvictCommit(false, EvictEnd::Evicted),
+    Invoke(B, "get8", &[0], 2, Ok(4)),
+    Turn(B, 2, TurnEnd::Frame),
+    FetchBegin(B, true),
+    Report(
+        "# frames 5 used 5 free 0\n# slots 64 used 1 free 63\n",
+        "\n",
+    ),
+    Release(B, Ok(&[])),
+    Report(
+        "# frames 5 used 3 free 2\n# slots 64 used 1 free 63\n",
+        " 2     2     0 100/2\n",
+    ),
+    FetchCommit(false, FetchEnd::Void),
+    Report(
+        "# frames 5 used 2 free 3\n# slots 64 used 0 free 64\n",
+        " 2     2     0 100/2\n",
+    ),
+];
 
-// The same of a page that comes, where the device fails.
-fn unfetched(
-    alloc: Global,
-    host: &mut Host,
-    id: InstId,
-    fault: SwapError,
-) -> Result<Option<FetchEnd>, Fail> {
-    let buf = Box::new(alloc, [0; 4096])?;
-    match host.fetch_begin(id, buf) {
-        Ok(fetched) => Ok(Some(host.fetch_commit(fetched, Err(fault)).0)),
-        Err(_) => Ok(None),
-    }
-}
+/// Two instances on four frames, whose first two pages are equal and merged. The first one stands at a store over both, and
+/// the second, which has a third page, has a call open.
+const MERGED: &[Step] = &[
+    Admit(0, (2, 16), 0, Ok((0, 0))),
+    Admit(0, (2, 16), 0, Ok((1, 1))),
+    Store(A, 0, 1, TurnEnd::Ended),
+    Store(A, 4096, 2, TurnEnd::Ended),
+    Store(B, 0, 1, TurnEnd::Ended),
+    Store(B, 4096, 2, TurnEnd::Ended),
+    Scan,
+    Store(B, 8192, 3, TurnEnd::Ended),
+    Invoke(A, "wide", &[], 1, Ok(3)),
+    Turn(A, 1, TurnEnd::Frame),
+    Invoke(B, "five", &[], 1, Ok(4)),
+    ReportIs(
+        "# frames 4 used 3 free 1\n# slots 64 used 0 free 64\n# shared frames 2 sharers 4\n#     0     100     2    16     2     2     0 100/2\n#     1     100     2    16     3     3     0 100/3\n",
+    ),
+];
 
-// An instance goes while a page of it leaves for it.
-fn gone_meanwhile(alloc: Global, host: &mut Host, id: InstId, buf: Buf) -> Option<EvictEnd> {
-    match host.evict_begin(id, buf) {
-        Ok(eviction) => {
-            let _ = host.release(alloc, id);
-            Some(host.evict_commit(eviction, Ok(())).0)
-        }
-        Err(_) => None,
-    }
-}
+/// A shared page leaves, and the other sharer is written: it gets a frame of its own, and the old one is free once the page has
+/// left.
+const OTHER_SHARER_WRITES: &[Step] = &[
+    Cancel(B, Ok(())),
+    EvictBegin(A, Some(1)),
+    Cancel(A, Ok(())),
+    Report(
+        "# frames 4 used 3 free 1\n# slots 64 used 1 free 63\n# shared frames 2 sharers 4\n",
+        "\n",
+    ),
+    Store(A, 0, 9, TurnEnd::Ended),
+    Report(
+        "# frames 4 used 4 free 0\n# slots 64 used 1 free 63\n",
+        "\n",
+    ),
+    EvictCommit(false, EvictEnd::Evicted),
+    Report(
+        "# frames 4 used 3 free 1\n# slots 64 used 1 free 63\n# shared frames 1 sharers 2\n",
+        " 2     2     1 100/2\n",
+    ),
+    Invoke(A, "get8", &[0], 2, Ok(5)),
+    RunOut(A),
+    Returned(A, 5, 9),
+    Invoke(B, "get8", &[0], 2, Ok(5)),
+    RunOut(B),
+    Returned(B, 5, 1),
+];
 
-#[test]
-fn a_store_gets_its_frame(rt: HostRuntime) -> Result<(), Fail> {
-    let alloc = rt.alloc();
-    let (mut host, a, b) = host_for_two(alloc, 4)?;
-    let mut device = MemSwap::new(alloc, 64)?;
-    let mut buf = Box::new(alloc, [0; 4096])?;
-    assert!(rt; filled(alloc, &mut host, &device, a, b));
+/// What `wide` leaves of the first instance's bytes.
+const WIDE: &[(usize, u8)] = &[
+    (0, 1),
+    (4092, 1),
+    (4093, 2),
+    (4094, 3),
+    (4095, 4),
+    (4096, 5),
+    (4097, 6),
+    (4098, 7),
+    (4099, 8),
+];
 
-    // Nobody is above its minimum: it gives its first page.
-    let store = called(alloc, &mut host, &device, a, "s", &[8192, 9]);
-    assert_eq!(rt; store, TurnEnd::Frame);
-    assert!(rt; host.awaits_frame(a) && host.can_go_on(a) && !host.awaits_frame(b));
-    assert_eq!(rt; provided(&mut host, &mut device, b, &mut buf), Ok(0));
-    assert_eq!(rt; provided(&mut host, &mut device, a, &mut buf), Ok(1));
-    assert_eq!(rt; turned(&mut host, &device, a), TurnEnd::Ended);
-    assert!(rt; !host.can_go_on(a));
+/// A store over two shared pages wants two frames, of which one is free: a page of the other instance leaves. Its view stays.
+const WIDE_IS_PROVIDED: &[Step] = &[
+    Cancel(B, Ok(())),
+    Provide(A, 0, Ok(1)),
+    Report("# frames 4 ", " 2     2     1 100/2\n"),
+    Turn(A, 1, TurnEnd::Ended),
+    Report(
+        "# frames 4 used 4 free 0\n# slots 64 used 1 free 63\n",
+        "\n",
+    ),
+    Emit(A, WIDE),
+    Emit(B, &[(0, 1), (4096, 2), (8192, 3)]),
+];
 
-    // That page is wanted again: the second one leaves for it.
-    let load = called(alloc, &mut host, &device, a, "l", &[0]);
-    assert_eq!(rt; load, TurnEnd::Frame);
-    assert_eq!(rt; provided(&mut host, &mut device, a, &mut buf), Ok(1));
-    assert_eq!(rt; turned(&mut host, &device, a), TurnEnd::Ended);
-    Ok(())
-}
+/// The same where the page that nobody shares was offered under a hash that says nothing.
+const WIDE_IS_PROVIDED_BESIDE_A_HINT: &[Step] = &[
+    OfferAlike(B, 2, 0, Some(Offered::Hinted)),
+    Cancel(B, Ok(())),
+    Provide(A, 0, Ok(1)),
+    Report("# frames 4 ", " 2     2     1 100/2\n"),
+    Turn(A, 1, TurnEnd::Ended),
+    Report(
+        "# frames 4 used 4 free 0\n# slots 64 used 1 free 63\n",
+        "\n",
+    ),
+    Emit(A, WIDE),
+    Emit(B, &[(0, 1), (4096, 2), (8192, 3)]),
+];
 
-#[test]
-fn a_fault_waits_for_another_try(rt: HostRuntime) -> Result<(), Fail> {
-    let alloc = rt.alloc();
-    let (mut host, a, b) = host_for_two(alloc, 4)?;
-    let failing = Failing {
-        pages: vec![in alloc; [0; 4096]; 64]?,
-        fails: true,
-    };
-    let mut device = PageSwap::over(alloc, failing, 64)?;
-    let mut buf = Box::new(alloc, [0; 4096])?;
-    assert!(rt; filled(alloc, &mut host, &device, a, b));
-    let store = called(alloc, &mut host, &device, a, "s", &[8192, 9]);
-    assert_eq!(rt; store, TurnEnd::Frame);
-    assert_eq!(rt; provided(&mut host, &mut device, a, &mut buf), Ok(1));
-    assert_eq!(rt; turned(&mut host, &device, a), TurnEnd::Ended);
+/// Promises count while a ticket of who was released is out.
+const PROMISED_MEANWHILE: &[Step] = &[
+    Admit(0, (4, 16), 0, Ok((0, 0))),
+    Admit(0, (4, 16), 0, Ok((1, 1))),
+    Store(A, 0, 1, TurnEnd::Ended),
+    Store(A, 4096, 2, TurnEnd::Ended),
+    Store(A, 8192, 3, TurnEnd::Ended),
+    Store(A, 12288, 4, TurnEnd::Ended),
+    Store(A, 16384, 5, TurnEnd::Ended),
+    Store(B, 0, 7, TurnEnd::Ended),
+    Store(B, 4096, 8, TurnEnd::Ended),
+    Store(B, 8192, 9, TurnEnd::Ended),
+    Store(B, 12288, 10, TurnEnd::Frame),
+    EvictBegin(B, Some(1)),
+    Release(A, Ok(&[])),
+    Report(
+        "# frames 8 used 3 free 5\n# slots 64 used 1 free 63\n",
+        " 3     3     0 100/3\n",
+    ),
+    Admit(0, (4, 16), 0, Err(4)),
+    EvictCommit(false, EvictEnd::Void),
+    Admit(0, (4, 16), 0, Ok((0, 2))),
+    Emit(2, &[]),
+];
 
-    // The second page leaves for the first one, and the read fails. The next try wants no other to leave.
-    let load = called(alloc, &mut host, &device, a, "l", &[0]);
-    assert_eq!(rt; load, TurnEnd::Frame);
-    let fault = provided(&mut host, &mut device, a, &mut buf);
-    assert_eq!(rt; fault, Err(SwapError::Read));
-    assert!(rt; !host.awaits_frame(a) && !host.can_go_on(a));
-    assert_eq!(rt; provided(&mut host, &mut device, a, &mut buf), Ok(0));
-    assert!(rt; tried_again(&mut host, &device, a));
-    assert!(rt; host.awaits_frame(a));
-    assert_eq!(rt; provided(&mut host, &mut device, a, &mut buf), Ok(0));
-    assert_eq!(rt; turned(&mut host, &device, a), TurnEnd::Ended);
-    Ok(())
-}
+/// One instance on two frames gives its own page for its third, and reads it again; then the second page leaves for the first
+/// one. A write fails, and a read.
+const ALONE: &[Step] = &[
+    Admit(0, (2, 16), 0, Ok((0, 0))),
+    Store(A, 0, 1, TurnEnd::Ended),
+    Store(A, 4096, 2, TurnEnd::Ended),
+    Store(A, 8192, 3, TurnEnd::Frame),
+    Provide(A, 1, Err(SwapError::Write)),
+    Failed(A, 3, SwapError::Write, 2),
+    Provide(A, 0, Ok(0)),
+    Retry(A, Ok(())),
+    RunOut(A),
+    Done(A, 3, 3),
+    Invoke(A, "get8", &[0], 2, Ok(4)),
+    Turn(A, 2, TurnEnd::Frame),
+    Provide(A, 2, Err(SwapError::Read)),
+    Failed(A, 4, SwapError::Read, 1),
+    Retry(A, Ok(())),
+    Provide(A, 0, Ok(0)),
+    Turn(A, 2, TurnEnd::Ended),
+    Returned(A, 4, 1),
+];
 
-#[test]
-fn equal_pages_come_to_one_frame(rt: HostRuntime) -> Result<(), Fail> {
-    let alloc = rt.alloc();
-    let (mut host, a, b) = host_for_two(alloc, 4)?;
-    let device = MemSwap::new(alloc, 64)?;
-    assert!(rt; filled(alloc, &mut host, &device, a, b));
-    assert!(rt; host.scan(&FnvHash));
-    let shared = host.offer(&FnvHash, a, 0, 5);
-    assert_eq!(rt; shared, Some(Offer::Skipped));
+/// The first page is in its slot, and the call stores over it and the second one, which is on a frame. The third has to leave,
+/// which fails, and then the first can't be read: neither time a page stays pinned, and so the second may be offered.
+const NOTHING_IS_PINNED: &[Step] = &[
+    Admit(0, (2, 16), 0, Ok((0, 0))),
+    Store(A, 0, 1, TurnEnd::Ended),
+    Store(A, 4096, 2, TurnEnd::Ended),
+    Store(A, 8192, 3, TurnEnd::Frame),
+    RunOut(A),
+    Invoke(A, "wide", &[], 1, Ok(4)),
+    Turn(A, 1, TurnEnd::Frame),
+    Provide(A, 1, Err(SwapError::Write)),
+    OfferAlike(A, 1, 77, Some(Offered::Hinted)),
+    Retry(A, Ok(())),
+    Provide(A, 2, Err(SwapError::Read)),
+    OfferAlike(A, 1, 78, Some(Offered::Hinted)),
+    Retry(A, Ok(())),
+    RunOut(A),
+    Done(A, 4, 1),
+    Emit(
+        A,
+        &[
+            (0, 1),
+            (4092, 1),
+            (4093, 2),
+            (4094, 3),
+            (4095, 4),
+            (4096, 5),
+            (4097, 6),
+            (4098, 7),
+            (4099, 8),
+            (8192, 3),
+        ],
+    ),
+];
 
-    // Three frames are free.
-    for at in [8192, 12288, 16384] {
-        assert!(rt; host.invoke(alloc, a, "s", &[at, 9], 1000).is_ok());
-        assert_eq!(rt; host.turn(a, 1000), TurnEnd::Ended);
-    }
-    assert!(rt; host.invoke(alloc, b, "s", &[8192, 9], 1000).is_ok());
-    assert_eq!(rt; host.turn(b, 1000), TurnEnd::Frame);
-    Ok(())
-}
+/// A slot whose bytes have changed: the call stands so, again and again, until they are right.
+const DAMAGED: &[Step] = &[
+    Admit(0, (2, 16), 0, Ok((0, 0))),
+    Store(A, 0, 1, TurnEnd::Ended),
+    Store(A, 4096, 2, TurnEnd::Ended),
+    Store(A, 8192, 3, TurnEnd::Frame),
+    EvictBegin(A, Some(1)),
+    EvictCommit(false, EvictEnd::Evicted),
+    Turn(A, 3, TurnEnd::Ended),
+    Invoke(A, "get8", &[0], 2, Ok(4)),
+    Turn(A, 2, TurnEnd::Frame),
+    EvictBegin(A, Some(2)),
+    EvictCommit(false, EvictEnd::Evicted),
+    FetchBegin(A, true),
+    FetchFails(SwapError::Damaged, FetchEnd::Failed),
+    Failed(A, 4, SwapError::Damaged, 1),
+    Retry(A, Ok(())),
+    FetchBegin(A, true),
+    FetchFails(SwapError::Damaged, FetchEnd::Failed),
+    Failed(A, 4, SwapError::Damaged, 1),
+    Retry(A, Ok(())),
+    FetchBegin(A, true),
+    FetchCommit(false, FetchEnd::Fetched),
+    Report(
+        "# frames 2 used 2 free 0\n# slots 15 used 1 free 14\n",
+        "\n",
+    ),
+    Turn(A, 2, TurnEnd::Ended),
+    Returned(A, 4, 1),
+];
 
-// Two instances of which the first waits for a third frame.
-fn waiting(alloc: Global) -> Result<(Host, InstId, InstId, TurnEnd), Fail> {
-    let (mut host, a, b) = host_for_two(alloc, 4)?;
-    let device = MemSwap::new(alloc, 64)?;
-    let _ = filled(alloc, &mut host, &device, a, b);
-    let _ = host.invoke(alloc, a, "s", &[8192, 9], 1000);
-    let end = host.turn(a, 1000);
-    Ok((host, a, b, end))
-}
-
-#[test]
-fn an_eviction_is_tried_again(rt: HostRuntime) -> Result<(), Fail> {
-    let (mut host, a, b, end) = waiting(rt.alloc())?;
-    assert_eq!(rt; end, TurnEnd::Frame);
-    let none = evicted(rt.alloc(), &mut host, b, Ok(()))?;
-    assert_eq!(rt; none, None);
-    let failed = evicted(rt.alloc(), &mut host, a, Err(SwapError::Write))?;
-    assert_eq!(rt; failed, Some(EvictEnd::Failed));
-    assert!(rt; !host.awaits_frame(a));
-    assert_eq!(rt; host.retry(a), Ok(()));
-    let left = evicted(rt.alloc(), &mut host, a, Ok(()))?;
-    assert_eq!(rt; left, Some(EvictEnd::Evicted));
-    assert_eq!(rt; host.turn(a, 1000), TurnEnd::Ended);
-    Ok(())
-}
-
-#[test]
-fn a_fetch_that_fails_is_kept(rt: HostRuntime) -> Result<(), Fail> {
-    let (mut host, a, b, _) = waiting(rt.alloc())?;
-    let left = evicted(rt.alloc(), &mut host, a, Ok(()))?;
-    assert_eq!(rt; left, Some(EvictEnd::Evicted));
-    assert_eq!(rt; host.turn(a, 1000), TurnEnd::Ended);
-
-    // The page that left is wanted again. No frame is free, and then some are.
-    assert_eq!(rt; host.invoke(rt.alloc(), a, "l", &[0], 1000), Ok(4));
-    assert_eq!(rt; host.turn(a, 1000), TurnEnd::Frame);
-    let none = unfetched(rt.alloc(), &mut host, a, SwapError::Read)?;
-    assert_eq!(rt; none, None);
-    assert!(rt; host.release(rt.alloc(), b).is_ok());
-    let failed = unfetched(rt.alloc(), &mut host, a, SwapError::Read)?;
-    assert_eq!(rt; failed, Some(FetchEnd::Failed));
-    assert!(rt; !host.awaits_frame(a));
-    Ok(())
-}
-
-#[test]
-fn a_place_is_kept_while_a_page_leaves(rt: HostRuntime) -> Result<(), Fail> {
-    let alloc = rt.alloc();
-    let (mut host, a, b) = host_for_two(alloc, 4)?;
-    let device = MemSwap::new(alloc, 64)?;
-    assert!(rt; filled(alloc, &mut host, &device, a, b));
-    assert!(rt; host.invoke(alloc, a, "s", &[8192, 9], 1000).is_ok());
-    assert_eq!(rt; host.turn(a, 1000), TurnEnd::Frame);
-    let gone = gone_meanwhile(alloc, &mut host, a, Box::new(alloc, [0; 4096])?);
-    assert_eq!(rt; gone, Some(EvictEnd::Void));
-    let module = host.load(alloc, &BYTES)?;
-    let c = host.admit(alloc, module, given(alloc))?;
-    assert_eq!(rt; (c.place, c.number), (a.place, 2));
-    Ok(())
-}
+/// All of them.
+pub const PAGING: [Life; 19] = [
+    Life(
+        "a store gets its frame",
+        (4, 64, UNTAXED),
+        FOUR_FRAMES,
+        OWN_FRAME,
+    ),
+    Life(
+        "a fault waits for another try",
+        (4, 64, UNTAXED),
+        FOUR_FRAMES,
+        ANOTHER_TRY,
+    ),
+    Life(
+        "equal pages come to one frame",
+        (4, 64, UNTAXED),
+        FOUR_FRAMES,
+        ONE_FRAME,
+    ),
+    Life(
+        "an eviction is tried again",
+        (4, 64, UNTAXED),
+        FOUR_FRAMES,
+        EVICTED_AGAIN,
+    ),
+    Life(
+        "a fetch that fails is kept",
+        (4, 64, UNTAXED),
+        FOUR_FRAMES,
+        UNFETCHED,
+    ),
+    Life("a place is kept", (4, 64, UNTAXED), FOUR_FRAMES, KEPT_PLACE),
+    Life(
+        "a report shows how frames are shared",
+        (1024, 4096, TAXED),
+        &[],
+        SHARED,
+    ),
+    Life(
+        "a page that is written",
+        (5, 64, UNTAXED),
+        FIVE_FRAMES,
+        WRITTEN_MEANWHILE,
+    ),
+    Life(
+        "a page whose instance goes",
+        (5, 64, UNTAXED),
+        FIVE_FRAMES,
+        GONE_MEANWHILE,
+    ),
+    Life(
+        "the same, and the write fails",
+        (5, 64, UNTAXED),
+        FIVE_FRAMES,
+        GONE_WHILE_IT_FAILS,
+    ),
+    Life(
+        "a page that can not be written",
+        (5, 64, UNTAXED),
+        FIVE_FRAMES,
+        UNWRITTEN,
+    ),
+    Life(
+        "a page comes for nobody",
+        (5, 64, UNTAXED),
+        FIVE_FRAMES,
+        FETCHED_FOR_NOBODY,
+    ),
+    Life(
+        "a shared page leaves alone",
+        (4, 64, UNTAXED),
+        MERGED,
+        OTHER_SHARER_WRITES,
+    ),
+    Life(
+        "a store over two shared pages",
+        (4, 64, UNTAXED),
+        MERGED,
+        WIDE_IS_PROVIDED,
+    ),
+    Life(
+        "the same beside a hint",
+        (4, 64, UNTAXED),
+        MERGED,
+        WIDE_IS_PROVIDED_BESIDE_A_HINT,
+    ),
+    Life("promises count", (8, 64, TAXED), &[], PROMISED_MEANWHILE),
+    Life("one instance swaps with itself", (2, 15, TAXED), &[], ALONE),
+    Life(
+        "a failed provision pins nothing",
+        (2, 15, TAXED),
+        &[],
+        NOTHING_IS_PINNED,
+    ),
+    Life("a damaged slot is read again", (2, 15, TAXED), &[], DAMAGED),
+];

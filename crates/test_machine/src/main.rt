@@ -35,15 +35,24 @@ fn run_table(
     session.finish(rt)
 }
 
-fn run(rt: &(impl Env + Files + Print + AllocGlobal)) -> Result<()> {
-    let mut session = Session::new(rt.alloc());
+/// Obeys all tables that are named, and says how many these are.
+fn run_tables(
+    rt: &(impl Env + Files + Print + AllocGlobal),
+    session: &mut Session,
+) -> Result<usize> {
     let mut tables = 0usize;
     for path in env::args(rt)?.skip(1) {
         println!(rt; "{path}:")?;
-        run_table(rt, &mut session, &path).context(format_args!("{path}"))?;
+        run_table(rt, session, &path).context(format_args!("{path}"))?;
         tables = tables.saturating_add(1);
     }
     ensure!(tables > 0, "no table is named");
+    Ok(tables)
+}
+
+/// Obeys the tables, makes the calls of one function, and says how all fared.
+fn run_session(rt: &(impl Env + Files + Print + AllocGlobal), session: &mut Session) -> Result<()> {
+    let tables = run_tables(rt, session)?;
     alone::try_calls(rt)?;
     let sums = session.sums();
     println!(rt;
@@ -59,5 +68,6 @@ fn run(rt: &(impl Env + Files + Print + AllocGlobal)) -> Result<()> {
 }
 
 fn main(rt: HostRuntime) -> Result<()> {
-    run(&rt)
+    let mut session = Session::new(rt.alloc());
+    run_session(&rt, &mut session)
 }

@@ -56,20 +56,31 @@ impl Session {
         Ok(bytes)
     }
 
-    /// Does what the lines say, of which the first one names a module, and says how it fared.
-    fn run(&mut self, rt: &(impl Print + AllocGlobal), head: &str, lines: &[String]) -> Result<()> {
-        let Line::Module { name, digits, .. } = Line::parse(rt.alloc(), head)? else {
-            bail!("no module is named");
-        };
-        let bytes = self.bytes_of(rt.alloc(), name, digits)?;
-        let mut trial = Trial::new(String::from_str(rt.alloc(), name)?);
-        trial.run(rt, &bytes, lines)?;
+    /// Does what the lines say of a module with these bytes, and says how it fared.
+    fn try_module(
+        &mut self,
+        rt: &(impl Print + AllocGlobal),
+        trial: &mut Trial,
+        bytes: &[u8],
+        lines: &[String],
+    ) -> Result<()> {
+        trial.run(rt, bytes, lines)?;
         let Tally { agreed, wrong } = trial.tally;
         ensure!(agreed > 0 || wrong > 0, "nothing is wanted of it");
         println!(rt; "{}: {agreed} agree, {wrong} differ", trial.name)?;
         self.sums.agreed = self.sums.agreed.saturating_add(agreed);
         self.sums.wrong = self.sums.wrong.saturating_add(wrong);
         Ok(())
+    }
+
+    /// Does what the lines say, of which the first one names a module.
+    fn run(&mut self, rt: &(impl Print + AllocGlobal), head: &str, lines: &[String]) -> Result<()> {
+        let Line::Module { name, digits, .. } = Line::parse(rt.alloc(), head)? else {
+            bail!("no module is named");
+        };
+        let bytes = self.bytes_of(rt.alloc(), name, digits)?;
+        let mut trial = Trial::new(String::from_str(rt.alloc(), name)?);
+        self.try_module(rt, &mut trial, &bytes, lines)
     }
 
     /// Does what the lines on the last module say.

@@ -37,39 +37,45 @@ pub struct Trial {
     pub tally: Tally,
 }
 
-/// What the host gives an instance, by the lines before its first call.
-fn parameters_of(alloc: Global, lines: &[String]) -> Result<Parameters> {
-    let mut base = 0;
-    let mut salt = 0;
-    let mut inputs = Vec::new(alloc);
-    let mut page_limit = MOST_WASM_PAGES;
+/// Takes in what a line says of what the host gives an instance, and whether a call has come.
+fn note_parameters(parameters: &mut Parameters, called: &mut bool, line: Line<'_>) -> Result<()> {
+    match line {
+        Line::Host { base, salt, inputs } => {
+            ensure!(!*called, "parameters behind a call");
+            parameters.base = base;
+            parameters.salt = salt;
+            parameters.inputs = inputs;
+        }
+        Line::Pages(pages) => {
+            ensure!(!*called, "pages behind a call");
+            parameters.page_limit = pages;
+        }
+        Line::Module { .. } => {}
+        Line::Call { .. } | Line::More { .. } | Line::Output(_) => *called = true,
+    }
+    Ok(())
+}
+
+/// Takes in what all lines say of it.
+fn note_all(alloc: Global, parameters: &mut Parameters, lines: &[String]) -> Result<()> {
     let mut called = false;
     for text in lines {
-        match Line::parse(alloc, text).context(format_args!("{text}"))? {
-            Line::Host {
-                base: new_base,
-                salt: new_salt,
-                inputs: new_inputs,
-            } => {
-                ensure!(!called, "parameters behind a call");
-                base = new_base;
-                salt = new_salt;
-                inputs = new_inputs;
-            }
-            Line::Pages(pages) => {
-                ensure!(!called, "pages behind a call");
-                page_limit = pages;
-            }
-            Line::Module { .. } => {}
-            Line::Call { .. } | Line::More { .. } | Line::Output(_) => called = true,
-        }
+        let line = Line::parse(alloc, text).context(format_args!("{text}"))?;
+        note_parameters(parameters, &mut called, line)?;
     }
-    Ok(Parameters {
-        base,
-        salt,
-        inputs,
-        page_limit,
-    })
+    Ok(())
+}
+
+/// What the host gives an instance, by the lines before its first call.
+fn parameters_of(alloc: Global, lines: &[String]) -> Result<Parameters> {
+    let mut parameters = Parameters {
+        base: 0,
+        salt: 0,
+        inputs: Vec::new(alloc),
+        page_limit: MOST_WASM_PAGES,
+    };
+    note_all(alloc, &mut parameters, lines)?;
+    Ok(parameters)
 }
 
 /// Runs the start function, if there is one.
@@ -206,6 +212,25 @@ impl Trial {
         Ok(())
     }
 
+    /// Looks whether a line wants the refusal that came.
+    fn refuse_line(
+        &mut self,
+        rt: &(impl Print + AllocGlobal),
+        found: &str,
+        text: &str,
+    ) -> Result<()> {
+        match Line::parse(rt.alloc(), text)? {
+            Line::Module { refusal, .. } => {
+                let agrees = refusal.is_some_and(|refusal| refusal == found);
+                self.judge(rt, text, agrees, &found)
+            }
+            Line::Host { .. } | Line::Pages(_) => Ok(()),
+            Line::Call { .. } | Line::More { .. } | Line::Output(_) => {
+                self.judge(rt, text, false, &found)
+            }
+        }
+    }
+
     /// Looks at each line whether it wants the refusal that came.
     fn refuse(
         &mut self,
@@ -215,16 +240,7 @@ impl Trial {
     ) -> Result<()> {
         let found = format!(in rt.alloc(); "{}", Found::Refused(error))?;
         for text in lines {
-            match Line::parse(rt.alloc(), text)? {
-                Line::Module { refusal, .. } => {
-                    let agrees = refusal.is_some_and(|refusal| refusal == found.as_str());
-                    self.judge(rt, text, agrees, &found)?;
-                }
-                Line::Host { .. } | Line::Pages(_) => {}
-                Line::Call { .. } | Line::More { .. } | Line::Output(_) => {
-                    self.judge(rt, text, false, &found)?;
-                }
-            }
+            self.refuse_line(rt, &found, text)?;
         }
         Ok(())
     }

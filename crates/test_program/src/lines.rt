@@ -1,7 +1,12 @@
+use crate::asking::{Got, ask, status_of, words};
 use std::fs;
 use std::io::{Error, ErrorKind, Result as IoResult, Write};
+use std::process::Abort;
+use std::rt::Files;
+use std::sync::Wait;
 use std::test::Fail;
-use wasmhost_program::{ANSWERED, NOT_ACCEPTED, STOPPED, answer};
+use std::thread::Threads;
+use wasmhost_program::{ANSWERED, NOT_ACCEPTED, STOPPED};
 
 /// A writer that takes nothing.
 #[derive(Drop)]
@@ -15,15 +20,6 @@ impl Write for Full {
     fn flush(&mut self) -> IoResult<()> {
         Ok(())
     }
-}
-
-/// The words of a command line.
-fn words(rt: &HostRuntime, line: &[&str]) -> Result<Vec<String>, Fail> {
-    let mut words = Vec::new(rt.alloc());
-    for word in line {
-        words.push(String::from_str(rt.alloc(), word)?)?;
-    }
-    Ok(words)
 }
 
 /// Command lines that get no reply, each with its status and the beginning of what stands on standard error.
@@ -67,21 +63,40 @@ const WITHOUT_A_REPLY: [(&[&str], u8, &str); 9] = [
     (&["wasmhost", "--workers", "-1"], NOT_ACCEPTED, "error: "),
 ];
 
+/// That a command line got this status and no reply, and that this is the beginning of what stands on standard error.
+fn expect_complaint(rt: &impl Abort, got: &Got, wanted: u8, complaint: &str) {
+    assert_eq!(rt; got.status, wanted, "{complaint}");
+    assert_eq!(rt; got.output.len(), 0, "{complaint}");
+    assert!(rt;
+        got.errors.as_slice().starts_with(complaint.as_bytes()),
+        "{complaint}"
+    );
+}
+
 #[test]
 fn what_has_no_script_ends_without_a_reply(rt: HostRuntime) -> Result<(), Fail> {
     for (line, wanted, complaint) in WITHOUT_A_REPLY {
-        let words = words(&rt, line)?;
-        let mut output = Vec::new(rt.alloc());
-        let mut errors = Vec::new(rt.alloc());
-        let status = answer(&rt, &words, &mut output, &mut errors).status;
-        assert_eq!(rt; status, wanted, "{complaint}");
-        assert_eq!(rt; output.len(), 0, "{complaint}");
-        assert!(rt;
-            errors.as_slice().starts_with(complaint.as_bytes()),
-            "{complaint}"
-        );
+        let got = ask(&rt, line)?;
+        expect_complaint(&rt, &got, wanted, complaint);
     }
     Ok(())
+}
+
+/// The statuses of a script whose output is kept, then can't be written, and then can't be written while nothing can be said
+/// of that either.
+fn statuses<E: Files + Input + AllocGlobal + Threads + Wait + Copy + Send + 'static>(
+    rt: &E,
+    words: &[String],
+    output: &mut Vec<u8>,
+    errors: &mut Vec<u8>,
+) -> [u8; 3]
+where
+    E::File: Send + 'static,
+{
+    let kept = status_of(rt, words, output, errors);
+    let stopped = status_of(rt, words, &mut Full, errors);
+    let unheard = status_of(rt, words, &mut Full, &mut Full);
+    [kept, stopped, unheard]
 }
 
 #[test]
@@ -91,15 +106,11 @@ fn a_failed_write_stops_the_program(rt: HostRuntime) -> Result<(), Fail> {
     let words = words(&rt, &["wasmhost", path])?;
     let mut output = Vec::new(rt.alloc());
     let mut errors = Vec::new(rt.alloc());
-    let status = answer(&rt, &words, &mut output, &mut errors).status;
-    let stopped = answer(&rt, &words, &mut Full, &mut errors).status;
-    let unheard = answer(&rt, &words, &mut Full, &mut Full).status;
+    let statuses = statuses(&rt, &words, &mut output, &mut errors);
     fs::remove_file(&rt, path)?;
-    assert_eq!(rt; status, ANSWERED);
+    assert_eq!(rt; statuses, [ANSWERED, STOPPED, STOPPED]);
     assert_eq!(rt; str::from_utf8(output.as_slice()), Ok("error C1 line 1\n"));
-    assert_eq!(rt; stopped, STOPPED);
     assert_eq!(rt; str::from_utf8(errors.as_slice()), Ok("wasmhost: output\n"));
-    assert_eq!(rt; unheard, STOPPED);
     Ok(())
 }
 
@@ -111,19 +122,21 @@ const UNFIT: [(&str, &str); 4] = [
     ("swap = \"no/such/pages\"\n", "wasmhost: swap\n"),
 ];
 
+/// That a program stopped without a reply, for these settings, and that this is what stands on standard error.
+fn expect_stopped(rt: &impl Abort, got: &Got, settings: &str, complaint: &str) {
+    assert_eq!(rt; got.status, STOPPED, "{settings}");
+    assert_eq!(rt; got.output.len(), 0, "{settings}");
+    assert_eq!(rt; str::from_utf8(got.errors.as_slice()), Ok(complaint));
+}
+
 #[test]
 fn settings_that_are_unfit_stop_the_program(rt: HostRuntime) -> Result<(), Fail> {
     let path = "wasmhost_program_tests.toml";
-    let words = words(&rt, &["wasmhost", "--settings", path, "no/such.script"])?;
     for (settings, complaint) in UNFIT {
         fs::write(&rt, path, settings)?;
-        let mut output = Vec::new(rt.alloc());
-        let mut errors = Vec::new(rt.alloc());
-        let status = answer(&rt, &words, &mut output, &mut errors).status;
+        let got = ask(&rt, &["wasmhost", "--settings", path, "no/such.script"])?;
         fs::remove_file(&rt, path)?;
-        assert_eq!(rt; status, STOPPED, "{settings}");
-        assert_eq!(rt; output.len(), 0, "{settings}");
-        assert_eq!(rt; str::from_utf8(errors.as_slice()), Ok(complaint));
+        expect_stopped(&rt, &got, settings, complaint);
     }
     Ok(())
 }
@@ -134,22 +147,24 @@ admit a m 100 2 16 0 0 0
 invoke a f 0
 ";
 
+/// That a script got the replies that `SEVEN` has to get, with so many workers.
+fn expect_seven(rt: &impl Abort, got: &Got, number: &str) {
+    assert_eq!(rt; got.status, ANSWERED, "{number}");
+    assert_eq!(rt;
+        str::from_utf8(got.output.as_slice()),
+        Ok("module m ok\nadmit a ok 0\ncall 1 done 7 charges 0\n"),
+        "{number}"
+    );
+    assert_eq!(rt; got.errors.len(), 0, "{number}");
+}
+
 #[test]
 fn a_script_has_1_to_64_workers(rt: HostRuntime) -> Result<(), Fail> {
     let path = "wasmhost_program_workers.script";
     fs::write(&rt, path, SEVEN)?;
     for number in ["1", "2", "64"] {
-        let words = words(&rt, &["wasmhost", "--workers", number, path])?;
-        let mut output = Vec::new(rt.alloc());
-        let mut errors = Vec::new(rt.alloc());
-        let status = answer(&rt, &words, &mut output, &mut errors).status;
-        assert_eq!(rt; status, ANSWERED, "{number}");
-        assert_eq!(rt;
-            str::from_utf8(output.as_slice()),
-            Ok("module m ok\nadmit a ok 0\ncall 1 done 7 charges 0\n"),
-            "{number}"
-        );
-        assert_eq!(rt; errors.len(), 0, "{number}");
+        let got = ask(&rt, &["wasmhost", "--workers", number, path])?;
+        expect_seven(&rt, &got, number);
     }
     fs::remove_file(&rt, path)?;
     Ok(())

@@ -1,9 +1,11 @@
+use crate::asking::{Got, ask};
 use std::fs;
+use std::process::Abort;
 use std::rt::Files;
 use std::sync::Wait;
 use std::test::Fail;
 use std::thread::Threads;
-use wasmhost_program::{ANSWERED, answer};
+use wasmhost_program::ANSWERED;
 
 /// An instance with two frames stores a byte to each of three pages, and loads the first again: `s` stores one, and `l` loads
 /// one. So one page has to leave for the third store, and another one for the load, for which the first comes.
@@ -37,12 +39,12 @@ const SWAPS: [(&str, &str, &str); 4] = [
     ),
 ];
 
-/// What a script gets with these settings, and the status.
+/// What a script gets with these settings.
 fn answered<E: Files + Input + AllocGlobal + Threads + Wait + Copy + Send + 'static>(
     rt: &E,
     settings: &str,
     script: &str,
-) -> Result<(u8, Vec<u8>), Fail>
+) -> Result<Got, Fail>
 where
     E::File: Send + 'static,
 {
@@ -50,16 +52,16 @@ where
     let script_path = "wasmhost_program_swap_tests.script";
     fs::write(rt, settings_path, settings)?;
     fs::write(rt, script_path, script)?;
-    let mut words = Vec::new(rt.alloc());
-    for word in ["wasmhost", "--settings", settings_path, script_path] {
-        words.push(String::from_str(rt.alloc(), word)?)?;
-    }
-    let mut output = Vec::new(rt.alloc());
-    let mut errors = Vec::new(rt.alloc());
-    let outcome = answer(rt, &words, &mut output, &mut errors);
+    let got = ask(rt, &["wasmhost", "--settings", settings_path, script_path])?;
     fs::remove_file(rt, settings_path)?;
     fs::remove_file(rt, script_path)?;
-    Ok((outcome.status, output))
+    Ok(got)
+}
+
+/// That a script was answered so, with pages at this path.
+fn expect_answered(rt: &impl Abort, got: &Got, wanted: &str, path: &str) {
+    assert_eq!(rt; got.status, ANSWERED, "{path}");
+    assert_eq!(rt; str::from_utf8(got.output.as_slice()), Ok(wanted), "{path}");
 }
 
 #[test]
@@ -67,13 +69,8 @@ fn pages_are_swapped_to_a_file(rt: HostRuntime) -> Result<(), Fail> {
     for (path, stored, last) in SWAPS {
         let settings = format!(in rt.alloc(); "frames = 2\nslots = 15\nswap = \"{path}\"\n")?;
         let wanted = format!(in rt.alloc(); "module m ok\nadmit a ok 0\n{stored}{last}")?;
-        let (status, output) = answered(&rt, &settings, SCRIPT)?;
-        assert_eq!(rt; status, ANSWERED, "{path}");
-        assert_eq!(rt;
-            str::from_utf8(output.as_slice()),
-            Ok(wanted.as_str()),
-            "{path}"
-        );
+        let got = answered(&rt, &settings, SCRIPT)?;
+        expect_answered(&rt, &got, &wanted, path);
     }
     fs::remove_file(&rt, "wasmhost_program_tests.pages")?;
     Ok(())

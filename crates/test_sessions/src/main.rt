@@ -32,13 +32,14 @@ fn run_table(
     session.finish(rt)
 }
 
+/// Obeys the tables that are named, and says how their scripts fared.
 fn run(
     rt: &(impl Env + Files + Print + AllocGlobal + Threads + Wait + Copy + Send + 'static),
+    session: &mut Session,
 ) -> Result<()> {
-    let mut session = Session::new(rt.alloc());
     let mut tables = 0usize;
     for path in env::args(rt)?.skip(1) {
-        run_table(rt, &mut session, &path).context(format_args!("{path}"))?;
+        run_table(rt, session, &path).context(format_args!("{path}"))?;
         let table = session.end_table();
         println!(rt; "{path}: {table}")?;
         tables = tables.saturating_add(1);
@@ -53,5 +54,6 @@ fn run(
 }
 
 fn main(rt: HostRuntime) -> Result<()> {
-    run(&rt)
+    let mut session = Session::new(rt.alloc());
+    run(&rt, &mut session)
 }

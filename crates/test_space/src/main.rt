@@ -1,15 +1,31 @@
-//! Does the same to four memories on shared frames and to four flat ones, and compares all that is seen: 10000 random loads,
-//! stores, growths and offers, with pages offered under their own hash alone, and again under others' too; each list once under
-//! FNV-1a and once under the hash that is 0 for each page. Every 250 steps all bytes are compared, and the sums of frames; and
-//! every 1000, where all hashes were right, all pages are offered, and the frames in use counted.
+//! Tests the memory on which all instances lie.
 //!
-//! It prints a line for each list. The status is 1 where anything differs, or an answer of an offer that a list ought to meet
-//! never came.
+//! First it does the same to four memories on shared frames and to four flat ones, and compares all that is seen: 10000 random
+//! loads, stores, growths and offers, with pages offered under their own hash alone, and again under others' too; each list once
+//! under FNV-1a and once under the hash that is 0 for each page. Every 250 steps all bytes are compared, and the sums of frames;
+//! and every 1000, where all hashes were right, all pages are offered, and the frames in use counted.
+//!
+//! Then it goes through tables that were worked out by hand: what is done, row by row, and what has to come of it.
+//!
+//! It prints a line for each list and each table. The status is 1 where anything differs, or an answer of an offer that a list
+//! ought to meet never came.
 #![tactic(auto)]
 
+mod access;
+mod arrivals;
+mod ground;
+mod leaving;
+mod offers;
+mod paging;
 mod random;
 mod same;
+mod sharing;
+mod steps;
+mod tables;
+mod taxes;
+mod told;
 mod trial;
+mod views;
 
 use anyhow::{Context, Result, ensure};
 use std::alloc::Global;
@@ -18,9 +34,15 @@ use wh_kernels::{ConstantHash, FnvHash, PageHash};
 
 const STEPS: u32 = 10000;
 
-// Takes all steps of a list, and gives how often each answer came.
-fn run<H: PageHash>(alloc: Global, hasher: &H, astray: bool, exactly: bool) -> Result<Counts> {
-    let mut trial = Trial::new(alloc)?;
+// Takes all steps of a list.
+fn take_steps<H: PageHash>(
+    trial: &mut Trial,
+    alloc: Global,
+    hasher: &H,
+    astray: bool,
+    exactly: bool,
+) -> Result<()> {
+    trial.begin(alloc)?;
     for step in 0..STEPS {
         trial
             .step(hasher, astray)
@@ -33,7 +55,16 @@ fn run<H: PageHash>(alloc: Global, hasher: &H, astray: bool, exactly: bool) -> R
             }
         }
     }
-    Ok(trial.counts)
+    Ok(())
+}
+
+// A list, and how often each answer came.
+fn run<H: PageHash>(alloc: Global, hasher: &H, astray: bool, exactly: bool) -> Result<Counts> {
+    let mut trial = Trial::new(alloc)?;
+    let answer = take_steps(&mut trial, alloc, hasher, astray, exactly);
+    let counts = trial.finish();
+    answer?;
+    Ok(counts)
 }
 
 // Whether answers came that come under any hash, and stores that found no frame.
@@ -72,5 +103,7 @@ fn main(rt: HostRuntime) -> Result<()> {
     ensure!(counts.hinted > 0 && counts.merged > 10, "{counts:?}");
     ensure!(counts.stale > 0 && counts.false_match > 100, "{counts:?}");
     println!(rt; "one hash for all, others too: {STEPS} steps agree")?;
-    Ok(())
+
+    tables::run(&rt)?;
+    paging::run(&rt)
 }

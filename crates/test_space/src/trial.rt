@@ -2,6 +2,7 @@
 
 ghost use Rattle.std.specs.Prelude.{◌≤◌};
 
+use crate::arrivals::{enter, let_go};
 use crate::random::Random;
 use crate::same;
 use anyhow::{Context, Result, ensure};
@@ -34,7 +35,6 @@ pub struct Counts {
 }
 
 // The memories, by place.
-#[derive(Drop)]
 pub struct Trial {
     memory: Memory,
     flats: Vec<FlatMemory>,
@@ -42,44 +42,44 @@ pub struct Trial {
     pub counts: Counts,
 }
 
-// An instance comes to a place, with a page of 65536 bytes.
-fn enter(memory: &mut Memory, alloc: Global, place: usize) -> Result<()> {
-    let promise = Promise {
-        number: place as u64,
-        shares: 100,
-        min: 2,
-        max: MAX,
-    };
-    ensure!(memory.is_free(place), "the place is taken");
-    ensure!(memory.is_fresh(promise.number), "the number is taken");
-    ensure!(
-        memory.has_frames_for(promise.min),
-        "there are too few frames"
-    );
-    ensure!(
-        memory.has_slots_for(promise.min, promise.max),
-        "there are too few slots"
-    );
-    memory.enter(alloc, place, promise, 1)?;
-    Ok(())
-}
-
 impl Trial {
-    // Four memories of one page of 65536 zeros each.
+    // Memories without instances.
     pub fn new(alloc: Global) -> Result<Trial> {
         let tax = Tax { num: 3, den: 4 };
-        let mut memory = Memory::new(alloc, FRAMES, 4096, tax)?;
-        let mut flats = Vec::new(alloc);
-        for place in 0..PLACES as usize {
-            enter(&mut memory, alloc, place)?;
-            flats.push(FlatMemory::new(alloc, 1, MAX / 16)?)?;
-        }
         Ok(Trial {
-            memory,
-            flats,
+            memory: Memory::new(alloc, FRAMES, 4096, tax)?,
+            flats: Vec::new(alloc),
             random: Random::new(0x9E37_79B9_7F4A_7C15),
             counts: Counts::default(),
         })
+    }
+
+    // An instance comes to each place, with one page of 65536 zeros.
+    pub fn begin(&mut self, alloc: Global) -> Result<()> {
+        for place in 0..PLACES as usize {
+            let promise = Promise {
+                number: place as u64,
+                shares: 100,
+                min: 2,
+                max: MAX,
+            };
+            let is_there = enter(&mut self.memory, alloc, place, promise, 1);
+            ensure!(is_there, "an instance doesn't come to its place");
+            self.flats.push(FlatMemory::new(alloc, 1, MAX / 16)?)?;
+        }
+        Ok(())
+    }
+
+    // They end: how often each answer came.
+    pub fn finish(self) -> Counts {
+        let Trial {
+            memory,
+            flats: _,
+            random: _,
+            counts,
+        } = self;
+        let_go(memory);
+        counts
     }
 
     // Does one thing. Where `astray`, pages are offered under the hashes of others, too.

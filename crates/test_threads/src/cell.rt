@@ -1,22 +1,22 @@
 //! A cell with a swap device in memory: what is asked of it, what is counted, and calls that threads run.
 
-ghost use Rattle.std.specs.Prelude.{◌≡◌, ◌<◌, IfOk};
+ghost use Rattle.std.specs.Prelude.{◌≡◌, ◌<◌, [], replicate};
+ghost use Rattle.wh_swap.specs.Memory.{memory_held};
 
-use std::alloc::{AllocError, Global};
+use std::alloc::Global;
 use std::marker::Brand;
+use std::process::Abort;
 use std::sync::Wait;
-use std::sync::ledger::{Blank, Ledger};
+use std::sync::ledger::Ledger;
 use std::test::Fail;
 use std::thread::Threads;
-use wh_cell::{
-    DeviceMatter, Fittings, HostCell, HostMatter, Manner, OwnedHost, Owner, Ties, run_calls,
-};
+use wh_cell::{Fittings, HostCell, Locked, Manner, OwnedHost, Owner, Ties, run_calls};
 use wh_host::{CallStatus, CallValue, Host, ModuleId, Params};
 use wh_host_model::{InstId, Tax, TurnEnd};
 use wh_kernels::FnvHash;
 use wh_model::ValType;
 use wh_swap::MemSwap;
-use wh_workers::{BlankPact, Shares};
+use wh_workers::{Shares, Worker};
 
 /// `s` stores a byte, and `l` loads one.
 const BYTES: [u8; 63] = [
@@ -25,17 +25,6 @@ const BYTES: [u8; 63] = [
     0x09, 0x02, 0x01, 0x73, 0x00, 0x00, 0x01, 0x6c, 0x00, 0x01, 0x0a, 0x13, 0x02, 0x09, 0x00, 0x20,
     0x00, 0x20, 0x01, 0x3a, 0x00, 0x00, 0x0b, 0x07, 0x00, 0x20, 0x00, 0x2d, 0x00, 0x00, 0x0b,
 ];
-
-// What names a cell's ledgers and its pact.
-#[derive(Drop)]
-struct Blanks {
-    to_owner: BlankPact<HostMatter<MemSwap>>,
-    to_device: BlankPact<DeviceMatter<MemSwap>>,
-    turns: Blank,
-    charges: Blank,
-    offers: Blank,
-    evictions: Blank,
-}
 
 // A cell, its owner's right and its shares.
 #[derive(Drop)]
@@ -61,38 +50,21 @@ fn given(alloc: Global) -> Params {
 // A cell of a new host with four frames and 64 slots.
 fn begin_cell<T: Ledger, C: Ledger, O: Ledger, E: Ledger, B: Ties>(
     alloc: Global,
-    blanks: Blanks,
+    fittings: Fittings<MemSwap>,
 ) -> Result<Begun<T, C, O, E, B>, Fail>
-    requires owned { blanks.to_owner ≡ B.to_owner }
-    requires backed { blanks.to_device ≡ B.to_device }
-    requires turns { (blanks.turns.name ≡ T.name) × (blanks.turns.parts ≡ T.parts)
+    requires empty { memory_held fittings.device ≡ replicate 64 [] }
+    requires owned { fittings.to_owner ≡ B.to_owner }
+    requires backed { fittings.to_device ≡ B.to_device }
+    requires turns { (fittings.turns.name ≡ T.name) × (fittings.turns.parts ≡ T.parts)
         × (64 < T.parts) }
-    requires charges { (blanks.charges.name ≡ C.name) × (blanks.charges.parts ≡ C.parts)
+    requires charges { (fittings.charges.name ≡ C.name) × (fittings.charges.parts ≡ C.parts)
         × (64 < C.parts) }
-    requires offers { (blanks.offers.name ≡ O.name) × (blanks.offers.parts ≡ O.parts)
+    requires offers { (fittings.offers.name ≡ O.name) × (fittings.offers.parts ≡ O.parts)
         × (1 < O.parts) }
-    requires evictions { (blanks.evictions.name ≡ E.name) × (blanks.evictions.parts ≡ E.parts)
-        × (1 < E.parts) }
+    requires evictions { (fittings.evictions.name ≡ E.name)
+        × (fittings.evictions.parts ≡ E.parts) × (1 < E.parts) }
 {
-    let Blanks {
-        to_owner,
-        to_device,
-        turns,
-        charges,
-        offers,
-        evictions,
-    } = blanks;
     let host = Host::new(alloc, 4, 64, Tax { num: 0, den: 1 })?;
-    let fittings = Fittings {
-        device: MemSwap::new(alloc, 64)?,
-        buf: Box::new(alloc, [0; 4096])?,
-        to_owner,
-        to_device,
-        turns,
-        charges,
-        offers,
-        evictions,
-    };
     let (cell, owner, shares) = HostCell::new(alloc, host, fittings)?;
     Ok(Begun {
         cell,
@@ -102,13 +74,11 @@ fn begin_cell<T: Ledger, C: Ledger, O: Ledger, E: Ledger, B: Ties>(
 }
 
 // Two instances, with these calls of each: stores of 7 to three pages, and loads of them.
-fn asked<T: Ledger, C: Ledger, O: Ledger, E: Ledger, B: Ties, R: Wait>(
-    rt: &R,
+fn ask_locked<T: Ledger, C: Ledger, O: Ledger, E: Ledger, B: Ties>(
     alloc: Global,
-    begun: &mut Begun<T, C, O, E, B>,
+    locked: &mut Locked<MemSwap, T, C, O, E, B>,
+    owner: &mut Owner<MemSwap, B>,
 ) -> Result<[InstId; 2], Fail> {
-    let mut locked = begun.cell.lock(rt);
-    let owner = &mut begun.owner;
     let bytes: ModuleId = locked.load(owner, alloc, &BYTES)?;
     let a = locked.admit(owner, alloc, bytes, given(alloc))?;
     let b = locked.admit(owner, alloc, bytes, given(alloc))?;
@@ -123,6 +93,16 @@ fn asked<T: Ledger, C: Ledger, O: Ledger, E: Ledger, B: Ties, R: Wait>(
     Ok([a, b])
 }
 
+// The same, under the lock of the cell.
+fn asked<T: Ledger, C: Ledger, O: Ledger, E: Ledger, B: Ties, R: Wait>(
+    rt: &R,
+    alloc: Global,
+    begun: &mut Begun<T, C, O, E, B>,
+) -> Result<[InstId; 2], Fail> {
+    let mut locked = begun.cell.lock(rt);
+    ask_locked(alloc, &mut locked, &mut begun.owner)
+}
+
 // How far a call is.
 fn status<T: Ledger, C: Ledger, O: Ledger, E: Ledger, B: Ties, R: Wait>(
     rt: &R,
@@ -134,25 +114,44 @@ fn status<T: Ledger, C: Ledger, O: Ledger, E: Ledger, B: Ties, R: Wait>(
     locked.host().call_status(id, at)
 }
 
-// One turn of one worker: how it ended, what the worker and the books have.
-fn one_turn<T: Ledger, C: Ledger, O: Ledger, E: Ledger, B: Ties, R: Wait>(
+// How a turn ended, what the worker and the books have then, and how far the first call is.
+type Turned = (TurnEnd, u128, u64, Option<CallStatus>);
+
+// One turn of this worker, where it can count one more.
+fn turn_locked<T: Ledger, C: Ledger, O: Ledger, E: Ledger, B: Ties>(
+    locked: &mut Locked<MemSwap, T, C, O, E, B>,
+    owner: &mut Owner<MemSwap, B>,
+    worker: &mut Worker<T, C>,
+    id: InstId,
+) -> Turned {
+    if worker.is_full() {
+        return (TurnEnd::Idle, 0, 0, None);
+    }
+    let end = locked.turn(id, 1000, worker);
+    locked.meet(owner);
+    let charged = locked.books().charges.low();
+    let status = locked.host().call_status(id, 1);
+    (end, worker.tally().charges, charged, status)
+}
+
+// The same, under the lock of the cell.
+fn turn_by<T: Ledger, C: Ledger, O: Ledger, E: Ledger, B: Ties, R: Wait>(
     rt: &R,
-    alloc: Global,
-    blanks: Blanks,
-) -> Result<(TurnEnd, u128, u64, Option<CallStatus>), Fail>
-    requires owned { blanks.to_owner ≡ B.to_owner }
-    requires backed { blanks.to_device ≡ B.to_device }
-    requires turns { (blanks.turns.name ≡ T.name) × (blanks.turns.parts ≡ T.parts)
-        × (64 < T.parts) }
-    requires charges { (blanks.charges.name ≡ C.name) × (blanks.charges.parts ≡ C.parts)
-        × (64 < C.parts) }
-    requires offers { (blanks.offers.name ≡ O.name) × (blanks.offers.parts ≡ O.parts)
-        × (1 < O.parts) }
-    requires evictions { (blanks.evictions.name ≡ E.name) × (blanks.evictions.parts ≡ E.parts)
-        × (1 < E.parts) }
-{
-    let mut begun = begin_cell::<T, C, O, E, B>(alloc, blanks)?;
-    let [a, _] = asked(rt, alloc, &mut begun)?;
+    cell: &HostCell<MemSwap, T, C, O, E, B>,
+    owner: &mut Owner<MemSwap, B>,
+    worker: &mut Worker<T, C>,
+    id: InstId,
+) -> Turned {
+    let mut locked = cell.lock(rt);
+    turn_locked(&mut locked, owner, worker, id)
+}
+
+// One turn of the first worker, to which its share is lent.
+fn turn_of<T: Ledger, C: Ledger, O: Ledger, E: Ledger, B: Ties, R: Wait>(
+    rt: &R,
+    begun: Begun<T, C, O, E, B>,
+    id: InstId,
+) -> Turned {
     let Begun {
         cell,
         mut owner,
@@ -161,38 +160,39 @@ fn one_turn<T: Ledger, C: Ledger, O: Ledger, E: Ledger, B: Ties, R: Wait>(
     let Shares { all } = shares;
     let mut lender = all;
     let mut worker = lender.lend_worker(0);
-    let mut locked = cell.lock(rt);
-    if worker.is_full() {
-        return Ok((TurnEnd::Idle, 0, 0, None));
-    }
-    let end = locked.turn(a, 1000, &mut worker);
-    locked.meet(&mut owner);
-    let charged = locked.books().charges.low();
-    let status = locked.host().call_status(a, 1);
-    Ok((end, worker.tally().charges, charged, status))
+    turn_by(rt, &cell, &mut owner, &mut worker, id)
 }
 
-// Blanks with parts enough.
-fn make_blanks(alloc: Global) -> Result<Blanks, AllocError>
-    ensures { IfOk result (λ b. (b.turns.parts ≡ 65) × (b.charges.parts ≡ 65)
-        × (b.offers.parts ≡ 2) × (b.evictions.parts ≡ 2)) }
+// One turn of one worker on a new cell that was asked.
+fn one_turn<T: Ledger, C: Ledger, O: Ledger, E: Ledger, B: Ties, R: Wait>(
+    rt: &R,
+    alloc: Global,
+    fittings: Fittings<MemSwap>,
+) -> Result<Turned, Fail>
+    requires empty { memory_held fittings.device ≡ replicate 64 [] }
+    requires owned { fittings.to_owner ≡ B.to_owner }
+    requires backed { fittings.to_device ≡ B.to_device }
+    requires turns { (fittings.turns.name ≡ T.name) × (fittings.turns.parts ≡ T.parts)
+        × (64 < T.parts) }
+    requires charges { (fittings.charges.name ≡ C.name) × (fittings.charges.parts ≡ C.parts)
+        × (64 < C.parts) }
+    requires offers { (fittings.offers.name ≡ O.name) × (fittings.offers.parts ≡ O.parts)
+        × (1 < O.parts) }
+    requires evictions { (fittings.evictions.name ≡ E.name)
+        × (fittings.evictions.parts ≡ E.parts) × (1 < E.parts) }
 {
-    Ok(Blanks {
-        to_owner: BlankPact::new(alloc)?,
-        to_device: BlankPact::new(alloc)?,
-        turns: Blank::new(65),
-        charges: Blank::new(65),
-        offers: Blank::new(2),
-        evictions: Blank::new(2),
-    })
+    let mut begun = begin_cell::<T, C, O, E, B>(alloc, fittings)?;
+    let [a, _] = asked(rt, alloc, &mut begun)?;
+    Ok(turn_of(rt, begun, a))
 }
 
 #[test]
 fn a_turn_is_counted(rt: HostRuntime) -> Result<(), Fail> {
     let alloc = rt.alloc();
-    let blanks = make_blanks(alloc)?;
+    let device = MemSwap::new(alloc, 64)?;
+    let fittings = Fittings::new(alloc, device)?;
     let (end, tally, book, status) = one_turn::<Brand, Brand, Brand, Brand, Brand, HostRuntime>(
-        &rt, alloc, blanks,
+        &rt, alloc, fittings,
     )?;
     assert_eq!(rt; end, TurnEnd::Ended);
     let Some(CallStatus::Returned { value, charges }) = status else {
@@ -205,7 +205,73 @@ fn a_turn_is_counted(rt: HostRuntime) -> Result<(), Fail> {
     Ok(())
 }
 
-// All calls, by two workers: what came of the loads of each instance, and whether the turns are those of the workers.
+// How many turns there were while two workers ran all calls; none where they couldn't.
+fn run_turns<
+    T: Ledger + Send + 'static,
+    C: Ledger + Send + 'static,
+    O: Ledger + Send + 'static,
+    E: Ledger + Send + 'static,
+    B: Ties + Send + 'static,
+    R: Threads + Wait + Copy + Send + 'static,
+>(rt: R, alloc: Global, begun: &mut Begun<T, C, O, E, B>, ids: &[InstId]) -> u64 {
+    let manner = Manner {
+        hasher: FnvHash,
+        quantum: 2,
+        workers: 2,
+    };
+    match run_calls(rt, alloc, &begun.cell, &mut begun.shares, ids, manner) {
+        Ok(served) => served.turns,
+        Err(_) => 0,
+    }
+}
+
+// How many turns all workers have counted.
+fn counted_turns<T: Ledger, C: Ledger, O: Ledger, E: Ledger>(shares: &Shares<T, C, O, E>) -> u64 {
+    let mut counted: u64 = 0;
+    for seat in 0..64 {
+        counted = shares.tally(seat).turns.wrapping_add(counted);
+    }
+    counted
+}
+
+// How far the loads of these instances are.
+fn loads<T: Ledger, C: Ledger, O: Ledger, E: Ledger, B: Ties, R: Wait>(
+    rt: &R,
+    alloc: Global,
+    begun: &Begun<T, C, O, E, B>,
+    ids: [InstId; 2],
+) -> Result<Vec<Option<CallStatus>>, Fail> {
+    let mut all = Vec::new(alloc);
+    for id in ids {
+        for at in 4..7 {
+            all.push(status(rt, begun, id, at))?;
+        }
+    }
+    Ok(all)
+}
+
+// All calls, by two workers: what came of the loads of each instance, whether the turns are those of the workers, and how many
+// pages were evicted.
+fn run_begun<
+    T: Ledger + Send + 'static,
+    C: Ledger + Send + 'static,
+    O: Ledger + Send + 'static,
+    E: Ledger + Send + 'static,
+    B: Ties + Send + 'static,
+    R: Threads + Wait + Copy + Send + 'static,
+>(
+    rt: R,
+    alloc: Global,
+    begun: &mut Begun<T, C, O, E, B>,
+) -> Result<(Vec<Option<CallStatus>>, bool, u64), Fail> {
+    let ids = asked(&rt, alloc, begun)?;
+    let ran = run_turns(rt, alloc, begun, &ids);
+    let is_counted = counted_turns(&begun.shares) == ran;
+    let all = loads(&rt, alloc, begun, ids)?;
+    Ok((all, is_counted, begun.shares.evictions()))
+}
+
+// The same on a new cell.
 fn all_run<
     T: Ledger + Send + 'static,
     C: Ledger + Send + 'static,
@@ -213,61 +279,51 @@ fn all_run<
     E: Ledger + Send + 'static,
     B: Ties + Send + 'static,
     R: Threads + Wait + Copy + Send + 'static,
->(rt: R, alloc: Global, blanks: Blanks) -> Result<(Vec<Option<CallStatus>>, bool, u64), Fail>
-    requires owned { blanks.to_owner ≡ B.to_owner }
-    requires backed { blanks.to_device ≡ B.to_device }
-    requires turns { (blanks.turns.name ≡ T.name) × (blanks.turns.parts ≡ T.parts)
+>(
+    rt: R,
+    alloc: Global,
+    fittings: Fittings<MemSwap>,
+) -> Result<(Vec<Option<CallStatus>>, bool, u64), Fail>
+    requires empty { memory_held fittings.device ≡ replicate 64 [] }
+    requires owned { fittings.to_owner ≡ B.to_owner }
+    requires backed { fittings.to_device ≡ B.to_device }
+    requires turns { (fittings.turns.name ≡ T.name) × (fittings.turns.parts ≡ T.parts)
         × (64 < T.parts) }
-    requires charges { (blanks.charges.name ≡ C.name) × (blanks.charges.parts ≡ C.parts)
+    requires charges { (fittings.charges.name ≡ C.name) × (fittings.charges.parts ≡ C.parts)
         × (64 < C.parts) }
-    requires offers { (blanks.offers.name ≡ O.name) × (blanks.offers.parts ≡ O.parts)
+    requires offers { (fittings.offers.name ≡ O.name) × (fittings.offers.parts ≡ O.parts)
         × (1 < O.parts) }
-    requires evictions { (blanks.evictions.name ≡ E.name) × (blanks.evictions.parts ≡ E.parts)
-        × (1 < E.parts) }
+    requires evictions { (fittings.evictions.name ≡ E.name)
+        × (fittings.evictions.parts ≡ E.parts) × (1 < E.parts) }
 {
-    let mut begun = begin_cell::<T, C, O, E, B>(alloc, blanks)?;
-    let ids = asked(&rt, alloc, &mut begun)?;
-    let manner = Manner {
-        hasher: FnvHash,
-        quantum: 2,
-        workers: 2,
+    let mut begun = begin_cell::<T, C, O, E, B>(alloc, fittings)?;
+    run_begun(rt, alloc, &mut begun)
+}
+
+// That a call has returned 7.
+fn expect_seven(rt: &impl Abort, status: Option<CallStatus>, what: &str) {
+    let Some(CallStatus::Returned { value, .. }) = status else {
+        assert!(rt; false, "{what}");
+        return;
     };
-    let served = run_calls(rt, alloc, &begun.cell, &mut begun.shares, &ids, manner);
-    let ran = match served {
-        Ok(served) => served.turns,
-        Err(_) => 0,
+    let seven = CallValue {
+        of: ValType::I32,
+        word: 7,
     };
-    let mut counted = 0;
-    for seat in 0..64 {
-        counted = begun.shares.tally(seat).turns.wrapping_add(counted);
-    }
-    let mut all = Vec::new(alloc);
-    for id in ids {
-        for at in 4..7 {
-            all.push(status(&rt, &begun, id, at))?;
-        }
-    }
-    Ok((all, counted == ran, begun.shares.evictions()))
+    assert_eq!(rt; value, Some(seven));
 }
 
 #[test]
 fn workers_run_all_calls(rt: HostRuntime) -> Result<(), Fail> {
     let alloc = rt.alloc();
-    let blanks = make_blanks(alloc)?;
+    let device = MemSwap::new(alloc, 64)?;
+    let fittings = Fittings::new(alloc, device)?;
     let (all, are_counted, evictions) = all_run::<Brand, Brand, Brand, Brand, Brand, HostRuntime>(
-        rt, alloc, blanks,
+        rt, alloc, fittings,
     )?;
     assert_eq!(rt; all.len(), 6);
     for status in &all {
-        let Some(CallStatus::Returned { value, .. }) = status else {
-            assert!(rt; false, "each load has returned");
-            return Ok(());
-        };
-        let seven = CallValue {
-            of: ValType::I32,
-            word: 7,
-        };
-        assert_eq!(rt; *value, Some(seven));
+        expect_seven(&rt, *status, "each load has returned");
     }
     assert!(rt; are_counted);
 
@@ -279,38 +335,21 @@ fn workers_run_all_calls(rt: HostRuntime) -> Result<(), Fail> {
 // A new host with 64 frames and 256 slots, in its owner's hand.
 fn begin_owned<T: Ledger, C: Ledger, O: Ledger, E: Ledger, B: Ties>(
     alloc: Global,
-    blanks: Blanks,
+    fittings: Fittings<MemSwap>,
 ) -> Result<OwnedHost<MemSwap, T, C, O, E, B>, Fail>
-    requires owned { blanks.to_owner ≡ B.to_owner }
-    requires backed { blanks.to_device ≡ B.to_device }
-    requires turns { (blanks.turns.name ≡ T.name) × (blanks.turns.parts ≡ T.parts)
+    requires empty { memory_held fittings.device ≡ replicate 256 [] }
+    requires owned { fittings.to_owner ≡ B.to_owner }
+    requires backed { fittings.to_device ≡ B.to_device }
+    requires turns { (fittings.turns.name ≡ T.name) × (fittings.turns.parts ≡ T.parts)
         × (64 < T.parts) }
-    requires charges { (blanks.charges.name ≡ C.name) × (blanks.charges.parts ≡ C.parts)
+    requires charges { (fittings.charges.name ≡ C.name) × (fittings.charges.parts ≡ C.parts)
         × (64 < C.parts) }
-    requires offers { (blanks.offers.name ≡ O.name) × (blanks.offers.parts ≡ O.parts)
+    requires offers { (fittings.offers.name ≡ O.name) × (fittings.offers.parts ≡ O.parts)
         × (1 < O.parts) }
-    requires evictions { (blanks.evictions.name ≡ E.name) × (blanks.evictions.parts ≡ E.parts)
-        × (1 < E.parts) }
+    requires evictions { (fittings.evictions.name ≡ E.name)
+        × (fittings.evictions.parts ≡ E.parts) × (1 < E.parts) }
 {
-    let Blanks {
-        to_owner,
-        to_device,
-        turns,
-        charges,
-        offers,
-        evictions,
-    } = blanks;
     let host = Host::new(alloc, 64, 256, Tax { num: 0, den: 1 })?;
-    let fittings = Fittings {
-        device: MemSwap::new(alloc, 256)?,
-        buf: Box::new(alloc, [0; 4096])?,
-        to_owner,
-        to_device,
-        turns,
-        charges,
-        offers,
-        evictions,
-    };
     Ok(OwnedHost::new(alloc, host, fittings)?)
 }
 
@@ -420,35 +459,33 @@ fn all_work<
     E: Ledger + Send + 'static,
     B: Ties + Send + 'static,
     R: Threads + Wait + Copy + Send + 'static,
->(rt: R, alloc: Global, blanks: Blanks) -> Result<Option<CallStatus>, Fail>
-    requires owned { blanks.to_owner ≡ B.to_owner }
-    requires backed { blanks.to_device ≡ B.to_device }
-    requires turns { (blanks.turns.name ≡ T.name) × (blanks.turns.parts ≡ T.parts)
+>(rt: R, alloc: Global, fittings: Fittings<MemSwap>) -> Result<Option<CallStatus>, Fail>
+    requires empty { memory_held fittings.device ≡ replicate 256 [] }
+    requires owned { fittings.to_owner ≡ B.to_owner }
+    requires backed { fittings.to_device ≡ B.to_device }
+    requires turns { (fittings.turns.name ≡ T.name) × (fittings.turns.parts ≡ T.parts)
         × (64 < T.parts) }
-    requires charges { (blanks.charges.name ≡ C.name) × (blanks.charges.parts ≡ C.parts)
+    requires charges { (fittings.charges.name ≡ C.name) × (fittings.charges.parts ≡ C.parts)
         × (64 < C.parts) }
-    requires offers { (blanks.offers.name ≡ O.name) × (blanks.offers.parts ≡ O.parts)
+    requires offers { (fittings.offers.name ≡ O.name) × (fittings.offers.parts ≡ O.parts)
         × (1 < O.parts) }
-    requires evictions { (blanks.evictions.name ≡ E.name) × (blanks.evictions.parts ≡ E.parts)
-        × (1 < E.parts) }
+    requires evictions { (fittings.evictions.name ≡ E.name)
+        × (fittings.evictions.parts ≡ E.parts) × (1 < E.parts) }
 {
-    let mut owned = begin_owned::<T, C, O, E, B>(alloc, blanks)?;
+    let mut owned = begin_owned::<T, C, O, E, B>(alloc, fittings)?;
     work_on(rt, alloc, &mut owned)
 }
 
 #[test]
 fn each_worker_runs_turns(rt: HostRuntime) -> Result<(), Fail> {
     let alloc = rt.alloc();
-    let blanks = make_blanks(alloc)?;
-    let last = all_work::<Brand, Brand, Brand, Brand, Brand, HostRuntime>(rt, alloc, blanks)?;
-    let Some(CallStatus::Returned { value, .. }) = last else {
-        assert!(rt; false, "each worker runs a turn, and the last load returns");
-        return Ok(());
-    };
-    let seven = CallValue {
-        of: ValType::I32,
-        word: 7,
-    };
-    assert_eq!(rt; value, Some(seven));
+    let device = MemSwap::new(alloc, 256)?;
+    let fittings = Fittings::new(alloc, device)?;
+    let last = all_work::<Brand, Brand, Brand, Brand, Brand, HostRuntime>(rt, alloc, fittings)?;
+    expect_seven(
+        &rt,
+        last,
+        "each worker runs a turn, and the last load returns",
+    );
     Ok(())
 }

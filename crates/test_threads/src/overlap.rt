@@ -11,7 +11,7 @@ use std::sync::{Arc, Wait};
 use std::test::Fail;
 use std::thread;
 use std::thread::Threads;
-use wh_cell::{Fittings, HostCell, Manner, OwnedHost, Owner, Ties, run_calls};
+use wh_cell::{Fittings, HostCell, Locked, Manner, OwnedHost, Owner, Ties, run_calls};
 use wh_host::{CallStatus, Host, Params};
 use wh_host_model::{InstId, SwapError, Tax};
 use wh_kernels::FnvHash;
@@ -110,13 +110,11 @@ fn given(alloc: Global) -> Params {
 }
 
 // One instance stores 1 to 5 on five pages, another goes on forever.
-fn ask<T: Ledger, C: Ledger, O: Ledger, E: Ledger, B: Ties, R: Wait>(
-    rt: &R,
+fn ask_locked<T: Ledger, C: Ledger, O: Ledger, E: Ledger, B: Ties>(
     alloc: Global,
-    cell: &HostCell<GatedSwap, T, C, O, E, B>,
+    locked: &mut Locked<GatedSwap, T, C, O, E, B>,
     owner: &mut Owner<GatedSwap, B>,
 ) -> Result<[InstId; 2], Fail> {
-    let mut locked = cell.lock(rt);
     let stores = locked.load(owner, alloc, &STORES)?;
     let loops = locked.load(owner, alloc, &LOOPS)?;
     let a = locked.admit(owner, alloc, stores, given(alloc))?;
@@ -126,6 +124,17 @@ fn ask<T: Ledger, C: Ledger, O: Ledger, E: Ledger, B: Ties, R: Wait>(
     }
     let _ = locked.invoke(owner, alloc, b, "f", &[], u64::MAX)?;
     Ok([a, b])
+}
+
+// The same, under the lock of the cell.
+fn ask<T: Ledger, C: Ledger, O: Ledger, E: Ledger, B: Ties, R: Wait>(
+    rt: &R,
+    alloc: Global,
+    cell: &HostCell<GatedSwap, T, C, O, E, B>,
+    owner: &mut Owner<GatedSwap, B>,
+) -> Result<[InstId; 2], Fail> {
+    let mut locked = cell.lock(rt);
+    ask_locked(alloc, &mut locked, owner)
 }
 
 // The charges and the offers in the books.
@@ -158,19 +167,24 @@ fn both_grow<T: Ledger, C: Ledger, O: Ledger, E: Ledger, B: Ties, R: Wait>(
 }
 
 // How many of the first calls of an instance have returned.
+fn returned_on(host: &Host, id: InstId) -> u32 {
+    let mut many: u32 = 0;
+    for at in 1..6 {
+        if let Some(CallStatus::Returned { .. }) = host.call_status(id, at) {
+            many = many.saturating_add(1);
+        }
+    }
+    many
+}
+
+// The same, under the lock of the cell.
 fn returned<T: Ledger, C: Ledger, O: Ledger, E: Ledger, B: Ties, R: Wait>(
     rt: &R,
     cell: &HostCell<GatedSwap, T, C, O, E, B>,
     id: InstId,
 ) -> u32 {
     let locked = cell.lock(rt);
-    let mut many: u32 = 0;
-    for at in 1..6 {
-        if let Some(CallStatus::Returned { .. }) = locked.host().call_status(id, at) {
-            many = many.saturating_add(1);
-        }
-    }
-    many
+    returned_on(locked.host(), id)
 }
 
 // What was seen while the calls ran: whether charges and offers grew, whether all calls ran, and how many stores returned.
@@ -289,27 +303,32 @@ fn gated(alloc: Global, gate: &Arc<Gate, Global>) -> Result<GatedSwap, AllocErro
     })
 }
 
+// What is seen at this gate of a device.
+fn see<R: AllocGlobal + Threads + Wait + Copy + Send + 'static>(
+    rt: R,
+    gate: &Arc<Gate, Global>,
+) -> Result<Seen, Fail> {
+    let alloc = rt.alloc();
+    let device = gated(alloc, gate)?;
+    let fittings = Fittings::new(alloc, device)?;
+    look_on_new::<Brand, Brand, Brand, Brand, Brand, R>(rt, alloc, gate, fittings)
+}
+
 #[test]
 fn turns_go_on_while_the_device_is_called(rt: HostRuntime) -> Result<(), Fail> {
-    let alloc = rt.alloc();
     let shut = Gate {
         is_called: AtomicBool::new(false),
         may_go_on: AtomicBool::new(false),
     };
-    let Ok(gate) = Arc::new(alloc, shut) else {
+    let Ok(gate) = Arc::new(rt.alloc(), shut) else {
         return Err(Fail::from(AllocError));
     };
-    let device = gated(alloc, &gate)?;
-    let fittings = Fittings::new(alloc, device)?;
-    let seen = look_on_new::<Brand, Brand, Brand, Brand, Brand, HostRuntime>(
-        rt, alloc, &gate, fittings,
-    )?;
     let wanted = Seen {
         grew: true,
         ran: true,
         returned: 5,
     };
-    assert_eq!(rt; seen, wanted);
+    assert_eq!(rt; see(rt, &gate)?, wanted);
     Ok(())
 }
 

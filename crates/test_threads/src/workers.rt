@@ -249,8 +249,95 @@ impl<E: Ledger> Help<E> for Idle {
     }
 }
 
+// What two workers meet at, and a bell.
+fn make_tools(alloc: Global) -> Result<(Arc<Barrier, Global>, Arc<Condvar, Global>), AllocError> {
+    let both = Arc::new(alloc, Barrier::new(2))?;
+    let bell = Arc::new(alloc, Condvar::new())?;
+    Ok((both, bell))
+}
+
+// A desk with these books.
+fn make_desk<T: Ledger, C: Ledger, O: Ledger, E: Ledger>(
+    alloc: Global,
+    books: Books<T, C, O, E>,
+) -> Result<Desk<T, C, O, E>, AllocError> {
+    let books = Arc::new(alloc, Mutex::new(books))?;
+    let (both, bell) = make_tools(alloc)?;
+    Ok(Desk { books, both, bell })
+}
+
+// What two workers, a scanner and a reclaimer do at this desk.
+fn jobs_at<T: Ledger, C: Ledger, O: Ledger, E: Ledger>(
+    desk: &Desk<T, C, O, E>,
+) -> Result<Jobs<Desk<T, C, O, E>, Desk<T, C, O, E>, Idle>, AllocError> {
+    let reclaims = Idle {
+        bell: Arc::try_clone(&desk.bell)?,
+    };
+    let turns: Desk<T, C, O, E> = Turns::<T, C>::share(desk)?;
+    let scans: Desk<T, C, O, E> = Turns::<T, C>::share(desk)?;
+    Ok(Jobs {
+        turns,
+        scans,
+        reclaims,
+    })
+}
+
+// The books agree with the counts of all threads.
+fn settle<T: Ledger, C: Ledger, O: Ledger, E: Ledger, R: Wait>(
+    rt: &R,
+    desk: &Desk<T, C, O, E>,
+    shares: &mut Shares<T, C, O, E>,
+) {
+    let mut books = desk.books.lock(rt);
+    books.agree(shares);
+}
+
+// How many turns there were, what the two workers counted, and how many offers and evictions there were.
+type Ran = (u64, Tally, Tally, (u64, u64));
+
 // 128 turns by two workers, who meet in each turn; beside them a scanner that offers three pages at most, and a
 // reclaimer that waits.
+fn serve_at<
+    T: Ledger + Send + 'static,
+    C: Ledger + Send + 'static,
+    O: Ledger + Send + 'static,
+    E: Ledger + Send + 'static,
+    R: Threads + Wait + Copy + Send + 'static,
+>(
+    rt: R,
+    alloc: Global,
+    desk: &Desk<T, C, O, E>,
+    shares: &mut Shares<T, C, O, E>,
+) -> Result<Option<Ran>, AllocError> {
+    let jobs = jobs_at(desk)?;
+    let mut supply = Several { left: 128 };
+    let served = serve(rt, alloc, jobs, &mut supply, shares, 2);
+    settle(&rt, desk, shares);
+    let Ok(served) = served else {
+        return Ok(None);
+    };
+    let helped = (shares.offers(), shares.evictions());
+    Ok(Some((served.turns, shares.tally(0), shares.tally(1), helped)))
+}
+
+// The same with these books, at a new desk.
+fn serve_books<
+    T: Ledger + Send + 'static,
+    C: Ledger + Send + 'static,
+    O: Ledger + Send + 'static,
+    E: Ledger + Send + 'static,
+    R: Threads + Wait + Copy + Send + 'static,
+>(
+    rt: R,
+    alloc: Global,
+    books: Books<T, C, O, E>,
+    shares: &mut Shares<T, C, O, E>,
+) -> Result<Option<Ran>, AllocError> {
+    let desk = make_desk(alloc, books)?;
+    serve_at(rt, alloc, &desk, shares)
+}
+
+// The same with new books.
 fn serve_many<
     T: Ledger + Send + 'static,
     C: Ledger + Send + 'static,
@@ -264,36 +351,14 @@ fn serve_many<
     charges: Blank,
     offers: Blank,
     evictions: Blank,
-) -> Result<Option<(u64, Tally, Tally, (u64, u64))>, AllocError>
+) -> Result<Option<Ran>, AllocError>
     requires turns { (turns.name ≡ T.name) × (turns.parts ≡ T.parts) × (64 < T.parts) }
     requires charges { (charges.name ≡ C.name) × (charges.parts ≡ C.parts) × (64 < C.parts) }
     requires offers { (offers.name ≡ O.name) × (offers.parts ≡ O.parts) × (1 < O.parts) }
     requires evictions { (evictions.name ≡ E.name) × (evictions.parts ≡ E.parts) × (1 < E.parts) }
 {
     let (books, mut shares) = Books::<T, C, O, E>::open(alloc, turns, charges, offers, evictions)?;
-    let desk = Desk {
-        books: Arc::new(alloc, Mutex::new(books))?,
-        both: Arc::new(alloc, Barrier::new(2))?,
-        bell: Arc::new(alloc, Condvar::new())?,
-    };
-    let mine: Desk<T, C, O, E> = Turns::<T, C>::share(&desk)?;
-    let scans: Desk<T, C, O, E> = Turns::<T, C>::share(&desk)?;
-    let jobs = Jobs {
-        turns: desk,
-        scans,
-        reclaims: Idle {
-            bell: Arc::try_clone(&mine.bell)?,
-        },
-    };
-    let mut supply = Several { left: 128 };
-    let served = serve(rt, alloc, jobs, &mut supply, &mut shares, 2);
-    let mut books = mine.books.lock(&rt);
-    books.agree(&mut shares);
-    let Ok(served) = served else {
-        return Ok(None);
-    };
-    let helped = (shares.offers(), shares.evictions());
-    Ok(Some((served.turns, shares.tally(0), shares.tally(1), helped)))
+    serve_books(rt, alloc, books, &mut shares)
 }
 
 #[test]

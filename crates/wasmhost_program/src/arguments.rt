@@ -3,7 +3,7 @@
 use clap::builder::ValueParser;
 use clap::error::ErrorKind;
 use clap::{Arg, ArgMatches, Command, Error};
-use std::alloc::Global;
+use std::alloc::{AllocError, Global};
 use wh_settings::Workers;
 
 /// Why a command line isn't accepted.
@@ -41,33 +41,56 @@ fn workers_of(matches: &ArgMatches<'_>) -> Workers {
     number.and_then(Workers::new).unwrap_or(Workers::default())
 }
 
+/// The option that names a file of settings.
+fn settings_option<'a>(alloc: Global) -> Arg<'a> {
+    Arg::new(alloc, "settings")
+        .long("settings")
+        .value_name("FILE")
+        .help("A file of settings, in TOML; without it they are as they are by default")
+}
+
+/// The option that says how many threads run calls.
+fn workers_option<'a>(alloc: Global) -> Arg<'a> {
+    Arg::new(alloc, "workers")
+        .long("workers")
+        .value_name("N")
+        .value_parser(ValueParser::unsigned(1, 64))
+        .help("How many threads run calls, 1 to 64; without it they are 4")
+}
+
+/// The word that names a script.
+fn script_word<'a>(alloc: Global) -> Arg<'a> {
+    Arg::new(alloc, "SCRIPT").help("A file of requests; standard input without it")
+}
+
+/// What the program accepts.
+fn accepted<'a>(alloc: Global) -> Result<Command<'a>, AllocError> {
+    Command::new(alloc, "wasmhost")
+        .about("Runs WebAssembly modules as a script of requests asks for it")
+        .arg(settings_option(alloc))?
+        .arg(workers_option(alloc))?
+        .arg(script_word(alloc))
+}
+
+/// What these words match of what the program accepts.
+fn matches_of<'a>(alloc: Global, words: &'a [String]) -> Result<ArgMatches<'a>, Error> {
+    accepted(alloc)?.try_get_matches_from(words)
+}
+
+/// What these matches ask for.
+fn arguments_of<'a>(matches: &ArgMatches<'a>) -> Arguments<'a> {
+    Arguments {
+        settings: matches.get_str("settings"),
+        workers: workers_of(matches),
+        script: matches.get_str("SCRIPT"),
+    }
+}
+
 /// What these words ask for. The first one is the program's name.
 ///
 /// # Errors
 /// `Line` for words that the program doesn't accept, `--help` among them; `Memory` where there is none to read them.
 pub fn read_args<'a>(alloc: Global, words: &'a [String]) -> Result<Arguments<'a>, Refused> {
-    let settings = Arg::new(alloc, "settings")
-        .long("settings")
-        .value_name("FILE")
-        .help("A file of settings, in TOML; without it they are as they are by default");
-    let workers = Arg::new(alloc, "workers")
-        .long("workers")
-        .value_name("N")
-        .value_parser(ValueParser::unsigned(1, 64))
-        .help("How many threads run calls, 1 to 64; without it they are 4");
-    let script = Arg::new(alloc, "SCRIPT").help("A file of requests; standard input without it");
-    let command = Command::new(alloc, "wasmhost")
-        .about("Runs WebAssembly modules as a script of requests asks for it")
-        .arg(settings)
-        .map_err(Error::from)?
-        .arg(workers)
-        .map_err(Error::from)?
-        .arg(script)
-        .map_err(Error::from)?;
-    let matches = command.try_get_matches_from(words)?;
-    Ok(Arguments {
-        settings: matches.get_str("settings"),
-        workers: workers_of(&matches),
-        script: matches.get_str("SCRIPT"),
-    })
+    let matches = matches_of(alloc, words)?;
+    Ok(arguments_of(&matches))
 }

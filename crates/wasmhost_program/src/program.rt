@@ -153,6 +153,29 @@ fn run_in_memory<E: Files + Input + AllocGlobal + Threads + Wait + Copy + Send +
     outcome
 }
 
+/// Runs the script of a command line with these settings and its workers. The device comes back, where the settings name a
+/// file for it.
+fn run_with<E: Files + Input + AllocGlobal + Threads + Wait + Copy + Send + 'static, W: Write>(
+    rt: &E,
+    settings: &Settings,
+    given: Arguments<'_>,
+    output: &mut W,
+) -> (Result<(), ScriptFault>, Option<StreamSwap<E::File>>)
+where
+    E::File: Send + 'static,
+    ensures { HasServedSo result.1
+        → WritesReplies (W.contents output.old) (W.contents output.new) }
+{
+    let Some(path) = &settings.swap else {
+        let outcome = run_in_memory(rt, settings, given.workers, given.script, output);
+        return (outcome, None);
+    };
+    match open_swap(rt, path, settings.slots) {
+        Ok(device) => run_over(rt, settings, given.workers, device, given.script, output),
+        Err(fault) => (Err(fault), None),
+    }
+}
+
 /// Runs the script of a command line with its settings and workers. The device comes back, where the settings name a file
 /// for it.
 fn run_given<E: Files + Input + AllocGlobal + Threads + Wait + Copy + Send + 'static, W: Write>(
@@ -165,16 +188,8 @@ where
     ensures { HasServedSo result.1
         → WritesReplies (W.contents output.old) (W.contents output.new) }
 {
-    let settings = match settings_of_file(rt, given.settings) {
-        Ok(settings) => settings,
-        Err(fault) => return (Err(fault), None),
-    };
-    let Some(path) = &settings.swap else {
-        let outcome = run_in_memory(rt, &settings, given.workers, given.script, output);
-        return (outcome, None);
-    };
-    match open_swap(rt, path, settings.slots) {
-        Ok(device) => run_over(rt, &settings, given.workers, device, given.script, output),
+    match settings_of_file(rt, given.settings) {
+        Ok(settings) => run_with(rt, &settings, given, output),
         Err(fault) => (Err(fault), None),
     }
 }

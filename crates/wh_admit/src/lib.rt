@@ -14,8 +14,6 @@ mod limits;
 mod outcome;
 mod params;
 mod room;
-#[cfg(test)]
-mod tests;
 mod words;
 
 pub use admission::admit;

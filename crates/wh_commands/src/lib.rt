@@ -7,8 +7,6 @@ mod laws;
 mod numbers;
 mod reading;
 mod shapes;
-#[cfg(test)]
-mod tests;
 mod words;
 
 pub use command::{Command, Given};

@@ -352,6 +352,3 @@ fn shift_count(width: ValType, count: u64) -> u32
         ValType::I64 => (count % 64) as u32,
     }
 }
-
-#[cfg(test)]
-mod tests;

@@ -12,6 +12,3 @@ pub use choice::{PageOf, page_to_take};
 pub use commit::{evict_commit, fetch_commit};
 pub use ready::provide;
 pub use tickets::{Buf, EvictTicket, FetchTicket};
-
-#[cfg(test)]
-mod tests;

@@ -6,8 +6,6 @@ mod released;
 mod reply;
 mod report;
 mod row;
-#[cfg(test)]
-mod tests;
 mod value;
 
 pub use call::{Call, Caller, Status};

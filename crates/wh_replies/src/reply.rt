@@ -81,7 +81,7 @@ impl fmt::Display for Refusal {
 }
 
 /// What a line is answered.
-#[derive(Clone, Copy, Debug, PartialEq, Eq)]
+#[derive(Clone, Copy, PartialEq, Eq)]
 pub enum Reply<'a> {
     /// A line that can't be obeyed.
     Error {

@@ -6,8 +6,6 @@ mod laws;
 mod numbers;
 mod reading;
 mod settings;
-#[cfg(test)]
-mod tests;
 mod words;
 mod workers;
 

@@ -7,8 +7,6 @@ mod memory;
 mod pages;
 mod slots;
 mod stream;
-#[cfg(test)]
-mod tests;
 mod written;
 
 pub use device::SwapDev;

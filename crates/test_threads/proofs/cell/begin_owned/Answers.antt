@@ -1,5 +1,5 @@
 use Rattle.wh_cell.proofs.Begun.{new_uncharged}
 use Rattle.test_threads.proofs.cell.begin_owned.Goals as goal
 
-pub new-requires-4-clause-uncharged : goal.new-requires-4-clause-uncharged
-new-requires-4-clause-uncharged g c = new_uncharged c.in_ok-host.host 64 256 _ c.in_ok-host.ensures.ok
+pub new-requires-2-clause-uncharged : goal.new-requires-2-clause-uncharged
+new-requires-2-clause-uncharged g c = new_uncharged c.in_ok-host.host 64 256 _ c.in_ok-host.ensures.ok

@@ -1,0 +1,8 @@
+use Rattle.std.proofs.Common.{◌≡◌, vec_len}
+use Rattle.test_host.proofs.rig.Rig.end_leaving.Given as goal
+
+abbrev pub invariant-loop-self : goal.invariant-loop-self
+invariant-loop-self l = vec_len l.self.coming ≡ vec_len l.fn.self.coming
+
+abbrev pub decreases-loop-self : goal.decreases-loop-self
+decreases-loop-self l = vec_len l.self.leaving

@@ -1,0 +1,26 @@
+use Rattle.std.proofs.Common.{◌<◌, length, sym, subst, refl, arith}
+use Rattle.wh_swap.specs.Written.{page_held}
+use Rattle.test_host.specs.Carried.{IsCarried, coming_slots, leaving_slots}
+use Rattle.test_host.proofs.Carrying.{fetch_first, fetch_returned, host_on}
+use Rattle.test_host.proofs.rig.Rig.fetch_fails.Goals as goal
+
+pub fetch_commit-end-requires : goal.fetch_commit-end-requires
+fetch_commit-end-requires c =
+    let ok = c.args.self.now.coming.ok in
+    let less : 0 < length c.args.self.now.coming.items = grind (arith, ok, c.if-is_empty.false, c.is_empty.ensures) in
+    record {
+      out = fetch_first c.args.self.now.host.space _ _ c.args.self.now.coming.items c.remove-fetched.result less c.remove-fetched.ensures.value c.args.self.now.carried;
+    }
+
+pub invariant_of-self : goal.invariant_of-self
+invariant_of-self c =
+    let ok = c.args.self.now.coming.ok in
+    let less : 0 < length c.args.self.now.coming.items = grind (arith, ok, c.if-is_empty.false, c.is_empty.ensures) in
+    let h = c.args.self.now.host in
+    let h2 = c.fetch_commit-end.new.self in
+    let held = page_held c.args.self.now.device in
+    record {
+      stands = host_on h h2 c.args.self.now.stands (λ w st. let t = c.fetch_commit-end.ensures.anyhow w st in (t.1, t.4));
+      carried = subst (λ zs. IsCarried h2.space held (leaving_slots c.args.self.now.leaving.items) (coming_slots zs)) (sym c.remove-fetched.ensures.items)
+          (fetch_returned h.space h2.space held held (leaving_slots c.args.self.now.leaving.items) c.args.self.now.coming.items c.remove-fetched.result _ _ _ _ less c.remove-fetched.ensures.value refl c.args.self.now.carried refl c.fetch_commit-end.ensures.ends);
+    }

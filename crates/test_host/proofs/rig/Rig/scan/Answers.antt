@@ -1,0 +1,8 @@
+use Rattle.test_host.proofs.Carrying.{carried_on, host_on}
+use Rattle.test_host.proofs.rig.Rig.scan.Goals as goal
+
+pub invariant_of-self : goal.invariant_of-self
+invariant_of-self g c = record {
+  stands = host_on c.args.self.now.host c.scan.new.self c.args.self.now.stands (λ w st. let t = c.scan.ensures.moves w st in (t.0, t.2));
+  carried = carried_on c.args.self.now.host.space c.scan.new.self.space _ _ _ c.scan.ensures.backing.pass c.args.self.now.carried;
+}

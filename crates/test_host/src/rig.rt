@@ -1,0 +1,228 @@
+// A host beside its swap device, with the tickets that are out.
+
+ghost use Rattle.std.specs.Prelude.{◌≡◌, [], true, IfOk, replicate, vec_len};
+ghost use Rattle.wh_host_model.specs.Space.Errands.{tickets};
+ghost use Rattle.wh_swap.specs.Written.{page_held};
+ghost use Rattle.test_host.specs.Carried.{IsCarried, IsSomeHost, coming_slots, leaving_slots};
+
+use crate::guest::PAGER;
+use crate::store::Store;
+use anyhow::{Context, Result};
+use std::alloc::Global;
+use std::cell::Cell;
+use std::rc::Rc;
+use wh_host::{
+    AdmitError, CallStatus, Eviction, Fetch, Host, HostError, ModuleError, ModuleId, Params,
+};
+use wh_host_model::{InstId, Offer, SwapError, Tax, TurnEnd};
+use wh_kernels::PageHash;
+use wh_swap::PageSwap;
+
+/// A host with one module, its swap device, and the tickets that are out, of each kind the oldest one first.
+pub struct Rig {
+    pub host: Host,
+    pub module: ModuleId,
+    pub device: PageSwap<Store>,
+    pub failing: Rc<Cell<u32>>,
+    pub leaving: Vec<Eviction>,
+    pub coming: Vec<Fetch>,
+    ghost stands: { IsSomeHost host },
+    ghost carried: { IsCarried host.space (page_held device) (leaving_slots leaving.items)
+        (coming_slots coming.items) },
+}
+
+// A host with so many frames and slots, and the pager as its first module.
+fn host_with_pager(alloc: Global, frames: u32, slots: u32, tax: Tax) -> Result<Host>
+    ensures { IfOk result (λ host. IsSomeHost host × (host.space.slots.held ≡ replicate slots [])) }
+{
+    let mut host = Host::new(alloc, frames, slots, tax)?;
+    let module = host.load(alloc, &PAGER)?;
+    let _ = module;
+    Ok(host)
+}
+
+impl Rig {
+    /// One with so many frames and slots, and without instances.
+    pub fn new(alloc: Global, frames: u32, slots: u32, tax: Tax) -> Result<Rig> {
+        let failing = Rc::new(alloc, Cell::new(0))?;
+        let pages = vec![in alloc; [0; 4096]; slots as usize]?;
+        let store = Store::new(pages, failing.clone()?);
+        let device = PageSwap::over(alloc, store, slots)?;
+        let host = host_with_pager(alloc, frames, slots, tax)?;
+        Ok(Rig {
+            host,
+            module: ModuleId { number: 0 },
+            device,
+            failing,
+            leaving: Vec::new(alloc),
+            coming: Vec::new(alloc),
+        })
+    }
+
+    /// Loads another module.
+    pub fn load(&mut self, alloc: Global, bytes: &[u8]) -> Result<ModuleId, ModuleError> {
+        self.host.load(alloc, bytes)
+    }
+
+    /// An instance of a module with 100 shares, this least and this greatest number of frames, and fuel for its start.
+    pub fn admit_of(
+        &mut self,
+        alloc: Global,
+        module: ModuleId,
+        min: u64,
+        max: u64,
+        fuel: u64,
+    ) -> Result<InstId, AdmitError> {
+        let params = Params {
+            shares: 100,
+            min,
+            max,
+            fuel,
+            base: 0,
+            salt: 0,
+            inputs: Vec::new(alloc),
+        };
+        self.host.admit(alloc, module, params)
+    }
+
+    /// An instance of the first module with this least number of frames, and 16 at most.
+    pub fn admit(&mut self, alloc: Global, min: u64) -> Result<InstId, AdmitError> {
+        self.admit_of(alloc, self.module, min, 16, 0)
+    }
+
+    /// A call of an instance, with so much fuel: its place in the journal.
+    pub fn invoke(
+        &mut self,
+        alloc: Global,
+        id: InstId,
+        name: &str,
+        given: &[i128],
+        fuel: u64,
+    ) -> Result<u32, HostError> {
+        self.host.invoke(alloc, id, name, given, fuel)
+    }
+
+    /// A turn of so many charges.
+    pub fn turn(&mut self, id: InstId, charges: u64) -> TurnEnd {
+        self.host.turn(id, charges)
+    }
+
+    /// A page is offered under this hash.
+    pub fn offer<H: PageHash>(
+        &mut self,
+        hasher: &H,
+        id: InstId,
+        page: u32,
+        hash: u64,
+    ) -> Option<Offer> {
+        self.host.offer(hasher, id, page, hash)
+    }
+
+    /// All pages are offered under their own hash.
+    pub fn scan<H: PageHash>(&mut self, hasher: &H) -> bool {
+        self.host.scan(hasher)
+    }
+
+    /// A new epoch.
+    pub fn epoch(&mut self) {
+        self.host.epoch();
+    }
+
+    /// More fuel for the present call.
+    pub fn refuel(&mut self, id: InstId, fuel: u64) -> Result<(), HostError> {
+        self.host.refuel(id, fuel)
+    }
+
+    /// The end of the present call.
+    pub fn cancel(&mut self, id: InstId) -> Result<(), HostError> {
+        self.host.cancel(id)
+    }
+
+    /// Another try, where the present call stands for a device fault.
+    pub fn retry(&mut self, id: InstId) -> Result<(), HostError> {
+        self.host.retry(id)
+    }
+
+    /// The instance goes: its output.
+    pub fn release(&mut self, alloc: Global, id: InstId) -> Result<Vec<u8>, HostError> {
+        self.host.release(alloc, id)
+    }
+
+    /// How far a call is.
+    pub fn status(&self, id: InstId, at: u32) -> Option<CallStatus> {
+        self.host.call_status(id, at)
+    }
+
+    /// Whether the present call stands for a frame.
+    pub fn awaits_frame(&self, id: InstId) -> bool {
+        self.host.awaits_frame(id)
+    }
+
+    /// The report.
+    pub fn report(&self, alloc: Global) -> Result<String, HostError> {
+        self.host.report(alloc)
+    }
+
+    /// How many tickets are out, as the host says it.
+    pub fn tickets(&self, alloc: Global) -> Result<u32, HostError>
+        ensures { IfOk result (λ out. out ≡ tickets self.now.host.space) }
+    {
+        let roll = self.host.roll(alloc)?;
+        Ok(roll.tickets())
+    }
+
+    // Whether no ticket is kept here.
+    fn keeps_none(&self) -> bool
+        ensures leaving { result ≡ true → vec_len self.now.leaving ≡ 0 }
+        ensures coming { result ≡ true → vec_len self.now.coming ≡ 0 }
+    {
+        self.leaving.is_empty() && self.coming.is_empty()
+    }
+
+    /// How many tickets are kept here.
+    pub fn kept(&self) -> (usize, usize) {
+        (self.leaving.len(), self.coming.len())
+    }
+
+    /// The first byte of the page whose eviction is the oldest.
+    pub fn leaving_byte(&self) -> Option<u8> {
+        let eviction = self.leaving.first()?;
+        Some(eviction.ticket.bytes()[0])
+    }
+
+    /// The next step of an instance is made ready, while the device's call of this number fails. `None` where a ticket is out,
+    /// and then nothing is done.
+    pub fn provide(
+        &mut self,
+        alloc: Global,
+        id: InstId,
+        failing: u32,
+    ) -> Result<Option<Result<u64, SwapError>>> {
+        let mut buf = Box::new(alloc, [0; 4096])?;
+        if !self.keeps_none() {
+            return Ok(None);
+        }
+        let out = self.tickets(alloc)?;
+        if out != 0 {
+            return Ok(None);
+        }
+        self.failing.set(failing);
+        let answer = self.host.provide(&mut self.device, id, &mut buf);
+        self.failing.set(0);
+        Ok(Some(answer))
+    }
+
+    /// Turns and provisions until the instance can't go on. The fault, where the device failed.
+    pub fn run_out(&mut self, alloc: Global, id: InstId) -> Result<Option<SwapError>> {
+        for _ in 0..1000 {
+            if !self.host.can_go_on(id) {
+                return Ok(None);
+            }
+            if let Err(fault) = self.provide(alloc, id, 0)?.context("a ticket is out")? {
+                return Ok(Some(fault));
+            }
+            let _ = self.turn(id, 1000);
+        }
+        anyhow::bail!("it goes on for ever")
+    }
+}

@@ -1,0 +1,154 @@
+//! The texts that `wh_replies` writes, and values with their signs.
+
+use crate::tables::agree;
+use anyhow::{Result, ensure};
+use std::alloc::{AllocError, Global};
+use wh_host_model::Tax;
+use wh_model::ValType;
+use wh_replies::{
+    Call, Caller, Place, Refusal, Reply, Row, Status, signed_value, write_frames, write_released,
+    write_reply, write_row, write_shared, write_slots,
+};
+
+const REPLIES: [Reply<'static>; 7] = [
+    Reply::Error { cause: 1, line: 4 },
+    Reply::ModuleOk { name: "m" },
+    Reply::ModuleRefused {
+        name: "m",
+        why: Refusal::Invalid {
+            kind: 1,
+            place: Place::Instr { func: 0, instr: 4 },
+        },
+    },
+    Reply::AdmitRefused {
+        inst: "a",
+        fault: 4,
+    },
+    Reply::RefuelRefused {
+        inst: "a",
+        fault: 8,
+    },
+    Reply::Call {
+        call: Call {
+            who: Caller::Call(9),
+            is: Status::Value {
+                value: -1,
+                charges: 2,
+            },
+        },
+    },
+    Reply::Call {
+        call: Call {
+            who: Caller::Start("b"),
+            is: Status::Trap {
+                trap: 1,
+                charges: 1,
+            },
+        },
+    },
+];
+
+const REPLIES_TEXT: &str =
+    "error C1 line 4\nmodule m ok\nmodule m refused V1 func 0 instr 4\nadmit a refused A4\nrefuel a refused H8\ncall 9 done -1 charges 2\nstart b trap T1 charges 1\n";
+
+const OUTPUT_AND_SUMS_TEXT: &str =
+    "release a ok 05000000000000fa\nrelease b ok -\n# frames 1024 used 1 free 1023\n# slots 4096 used 0 free 4096\n# shared frames 1 sharers 3\n";
+
+const ROWS: [Row; 3] = [
+    Row {
+        number: 1,
+        shares: 100,
+        min: 2,
+        max: 16,
+        resident: 1,
+        touched: 0,
+        swapped: 0,
+        tax: Tax { num: 3, den: 4 },
+    },
+    Row {
+        number: 1,
+        shares: 100,
+        min: 2,
+        max: 16,
+        resident: 0,
+        touched: 0,
+        swapped: 0,
+        tax: Tax { num: 3, den: 4 },
+    },
+    Row {
+        number: 2,
+        shares: 1000000,
+        min: 2,
+        max: 65536,
+        resident: 5,
+        touched: 2,
+        swapped: 3,
+        tax: Tax {
+            num: 999,
+            den: 1000,
+        },
+    },
+];
+
+const ROWS_TEXT: &str =
+    "#     1     100     2    16     1     0     0 100/4\n#     1     100     2    16     0     0     0 -\n#     2 1000000     2 65536     5     2     3 1000000/3002\n";
+
+const VALUES: [(ValType, u64, Option<i64>); 6] = [
+    (ValType::I32, 0xFFFF_FFFF, Some(-1)),
+    (ValType::I32, 0x7FFF_FFFF, Some(2147483647)),
+    (ValType::I64, 0xFFFF_FFFF_FFFF_FFFF, Some(-1)),
+    (
+        ValType::I64,
+        0x8000_0000_0000_0000,
+        Some(-9223372036854775808),
+    ),
+    (ValType::I64, 7, Some(7)),
+    (ValType::I32, 0x1_0000_0000, None),
+];
+
+fn replies(alloc: Global) -> Result<String, AllocError> {
+    let mut text = String::new(alloc);
+    for reply in &REPLIES {
+        write_reply(&mut text, *reply)?;
+    }
+    Ok(text)
+}
+
+fn output_and_sums(alloc: Global) -> Result<String, AllocError> {
+    let mut text = String::new(alloc);
+    write_released(alloc, &mut text, "a", &[5, 0, 0, 0, 0, 0, 0, 0xFA])?;
+    write_released(alloc, &mut text, "b", &[])?;
+    write_frames(&mut text, 1024, 1)?;
+    write_slots(&mut text, 4096, 0)?;
+    write_shared(&mut text, 1, 3)?;
+    Ok(text)
+}
+
+fn rows(alloc: Global) -> Result<String, AllocError> {
+    let mut text = String::new(alloc);
+    for row in &ROWS {
+        write_row(&mut text, *row)?;
+    }
+    Ok(text)
+}
+
+fn wrong_value() -> Option<usize> {
+    for (row, (of, word, value)) in VALUES.iter().enumerate() {
+        if signed_value(*of, *word) != *value {
+            return Some(row);
+        }
+    }
+    None
+}
+
+/// Compares each text and each value: how many lines and values they are.
+pub fn check(alloc: Global) -> Result<usize> {
+    let text = replies(alloc)?;
+    ensure!(text.as_str() == REPLIES_TEXT, "replies: {text}");
+    let text = output_and_sums(alloc)?;
+    ensure!(text.as_str() == OUTPUT_AND_SUMS_TEXT, "sums: {text}");
+    let text = rows(alloc)?;
+    ensure!(text.as_str() == ROWS_TEXT, "rows: {text}");
+    agree("values", wrong_value())?;
+    Ok(REPLIES.len() + 5 + ROWS.len() + VALUES.len())
+}

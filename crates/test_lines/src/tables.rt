@@ -1,0 +1,11 @@
+//! What a table of cases came to.
+
+use anyhow::{Result, bail};
+
+/// Fails where a row of a table came out otherwise than it says: the first such row.
+pub fn agree(table: &str, wrong: Option<usize>) -> Result<()> {
+    match wrong {
+        Some(row) => bail!("{table}: row {row} came out otherwise"),
+        None => Ok(()),
+    }
+}

@@ -1,8 +1,0 @@
-use Rattle.test_paging.proofs.Carrying.{carried_on, host_on}
-use Rattle.test_paging.proofs.rig.Rig.invoke.Goals as goal
-
-pub invariant_of-self : goal.invariant_of-self
-invariant_of-self c = record {
-  stands = host_on c.args.self.now.host c.invoke.new.self c.args.self.now.stands (λ w st. let t = c.invoke.ensures.asks w st in (t.1, t.4));
-  carried = carried_on c.args.self.now.host.space c.invoke.new.self.space _ _ _ c.invoke.ensures.backing.pass c.args.self.now.carried;
-}

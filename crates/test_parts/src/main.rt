@@ -1,0 +1,40 @@
+//! Tests of the small libraries: tables of cases, with what has to come of each. It prints how many cases each library
+//! has, and fails at the first one that comes out otherwise.
+#![tactic(auto)]
+
+mod admit;
+mod arguments;
+mod content;
+mod flatmem;
+mod frames;
+mod intops;
+mod journal;
+mod kernels;
+mod pages;
+mod swap;
+mod tables;
+mod tax;
+
+use anyhow::Result;
+
+// Prints how many cases a library has.
+fn tell(rt: &HostRuntime, library: &str, cases: usize) -> Result<()> {
+    println!(rt; "{library}: {cases} cases")?;
+    Ok(())
+}
+
+fn main(rt: HostRuntime) -> Result<()> {
+    let alloc = rt.alloc();
+    tell(&rt, "wh_intops", intops::check()?)?;
+    tell(&rt, "wh_flatmem", flatmem::check(alloc)?)?;
+    tell(&rt, "wh_journal", journal::check(alloc)?)?;
+    tell(&rt, "wh_kernels", kernels::check()?)?;
+    tell(&rt, "wh_frames", frames::check(alloc)?)?;
+    tell(&rt, "wh_pages", pages::check(alloc)?)?;
+    tell(&rt, "wh_content", content::check(alloc)?)?;
+    tell(&rt, "wh_swap", swap::check(alloc)?)?;
+    tell(&rt, "wh_tax", tax::check()?)?;
+    tell(&rt, "wh_admit", admit::check(alloc)?)?;
+    tell(&rt, "wh_arguments", arguments::check(alloc)?)?;
+    Ok(())
+}

@@ -1,0 +1,90 @@
+//! Who gives up a page by `wh_tax`: worked examples.
+
+ghost use Rattle.std.specs.Prelude.{◌≤◌};
+
+use crate::tables::{agree, first_other};
+use anyhow::Result;
+use std::cmp::Ordering;
+use wh_tax::{Claim, Tax, cmp_rho, victim, weight};
+
+// What a busy instance and an idle one weigh under a tax.
+const WEIGHTS: [u64; 2] = [100, 200];
+
+// Who pays of the two: under the tax, and without one. The first of two that weigh 40; the second, where the first
+// weighs more, and isn't above its minimum; and nobody, where there is nobody.
+const PAYERS: [Option<usize>; 5] = [Some(1), Some(0), Some(0), Some(1), None];
+
+// How claims of one share more, of one less and of as many stand to each other.
+const ORDERS: [Ordering; 3] = [Ordering::Greater, Ordering::Less, Ordering::Equal];
+
+// A claim with 100 shares and a page that can leave.
+fn claim(min: u32, pages: u32, active: u32) -> Claim
+    requires pages { pages ≤ 65536 }
+    requires active { active ≤ pages }
+{
+    Claim {
+        shares: 100,
+        min,
+        pages,
+        active,
+        can_leave: true,
+    }
+}
+
+fn weights() -> [u64; 2] {
+    let taxed = Tax { num: 3, den: 4 };
+    [
+        weight(taxed, &claim(2, 100, 100)),
+        weight(taxed, &claim(2, 50, 0)),
+    ]
+}
+
+fn payers() -> [Option<usize>; 5] {
+    let taxed = Tax { num: 3, den: 4 };
+    let untaxed = Tax { num: 0, den: 1 };
+    // Weights 100 and 200 under the tax, 100 and 50 without one.
+    let busy_and_idle = [claim(2, 100, 100), claim(2, 50, 0)];
+    [
+        victim(taxed, &busy_and_idle),
+        victim(untaxed, &busy_and_idle),
+        victim(taxed, &[claim(2, 10, 0), claim(2, 40, 40)]),
+        victim(taxed, &[claim(2, 2, 0), claim(2, 3, 3)]),
+        victim(taxed, &[]),
+    ]
+}
+
+// A claim of so many shares, at the ends of the ranges.
+fn greatest(shares: u32) -> Claim
+    requires above { 1 ≤ shares }
+    requires within { shares ≤ 1000000 }
+{
+    Claim {
+        shares,
+        min: 2,
+        pages: 65536,
+        active: 0,
+        can_leave: true,
+    }
+}
+
+fn orders() -> [Ordering; 3] {
+    let tax = Tax {
+        num: 999,
+        den: 1000,
+    };
+    let most = greatest(1000000);
+    let one_less = greatest(999999);
+    [
+        cmp_rho(tax, &most, &one_less),
+        cmp_rho(tax, &one_less, &most),
+        cmp_rho(tax, &most, &most),
+    ]
+}
+
+/// Looks at each answer: how many they are.
+pub fn check() -> Result<usize> {
+    agree("weights", first_other(&weights(), &WEIGHTS))?;
+    agree("who pays", first_other(&payers(), &PAYERS))?;
+    agree("claims compared", first_other(&orders(), &ORDERS))?;
+    Ok(WEIGHTS.len() + PAYERS.len() + ORDERS.len())
+}

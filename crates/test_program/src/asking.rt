@@ -1,0 +1,60 @@
+// Command lines that are asked of the program, and what they get.
+
+use std::io::Write;
+use std::rt::Files;
+use std::sync::Wait;
+use std::test::Fail;
+use std::thread::Threads;
+use wasmhost_program::answer;
+
+/// What a command line got.
+#[derive(Drop)]
+pub struct Got {
+    /// The status.
+    pub status: u8,
+    /// What was written in answer.
+    pub output: Vec<u8>,
+    /// What stands on standard error.
+    pub errors: Vec<u8>,
+}
+
+/// The words of a command line.
+pub fn words(rt: &impl AllocGlobal, line: &[&str]) -> Result<Vec<String>, Fail> {
+    let mut words = Vec::new(rt.alloc());
+    for word in line {
+        words.push(String::from_str(rt.alloc(), word)?)?;
+    }
+    Ok(words)
+}
+
+/// The status of a command line. The device to which pages were swapped is let go.
+pub fn status_of<E: Files + Input + AllocGlobal + Threads + Wait + Copy + Send + 'static>(
+    rt: &E,
+    words: &[String],
+    output: &mut impl Write,
+    errors: &mut impl Write,
+) -> u8
+where
+    E::File: Send + 'static,
+{
+    answer(rt, words, output, errors).status
+}
+
+/// What a command line gets.
+pub fn ask<E: Files + Input + AllocGlobal + Threads + Wait + Copy + Send + 'static>(
+    rt: &E,
+    line: &[&str],
+) -> Result<Got, Fail>
+where
+    E::File: Send + 'static,
+{
+    let words = words(rt, line)?;
+    let mut output = Vec::new(rt.alloc());
+    let mut errors = Vec::new(rt.alloc());
+    let status = status_of(rt, &words, &mut output, &mut errors);
+    Ok(Got {
+        status,
+        output,
+        errors,
+    })
+}

@@ -1,0 +1,38 @@
+// How an instance comes to a place, and how a memory ends.
+
+ghost use Rattle.std.specs.Prelude.{◌≡◌};
+
+use std::alloc::Global;
+use wh_space::{Memory, Promise};
+
+/// An instance comes to a place, with so many pages of 65536 bytes. Whether it came: the place and its number are free, and there
+/// are frames, slots and room for it.
+pub fn enter(memory: &mut Memory, alloc: Global, place: usize, promise: Promise, size: u32) -> bool
+    ensures { memory.new.slots ≡ memory.old.slots }
+{
+    let Promise {
+        number,
+        shares,
+        min,
+        max,
+    } = promise;
+    if shares < 1 || shares > 1000000 || min < 2 || max < min || max > 65536 {
+        return false;
+    }
+    if size > max / 16 {
+        return false;
+    }
+    if !memory.is_free(place) || !memory.is_fresh(number) {
+        return false;
+    }
+    if !memory.has_frames_for(min) || !memory.has_slots_for(min, max) {
+        return false;
+    }
+    memory.enter(alloc, place, promise, size).is_ok()
+}
+
+/// A memory ends. It is dropped here alone, and what holds one isn't `Drop`: each function that may drop one on some of its ways
+/// takes half a minute more to prove.
+pub fn let_go(memory: Memory) {
+    drop(memory);
+}

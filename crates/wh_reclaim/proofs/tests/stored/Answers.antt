@@ -1,8 +1,0 @@
-use Rattle.std.proofs.Common.{[], ◌∷◌}
-use Rattle.wh_space.proofs.Keeping.{keeps_store}
-use Rattle.wh_reclaim.proofs.Together.{same_pass}
-use Rattle.wh_reclaim.proofs.tests.stored.Goals as goal
-
-pub returns : goal.returns
-returns g c =
-    same_pass c.args.memory.now c.store.new.self _ (keeps_store c.args.memory.now c.args.place c.args.at (c.args.byte ∷ []) c.store.result c.store.new.self c.known.ensures.sound c.store.ensures.leaves).pass c.requires
