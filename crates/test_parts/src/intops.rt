@@ -1,5 +1,5 @@
 //! The operators of `wh_intops`: edge values of each at both widths, against what another engine gives.
-//! `node crates/wh_intops/vectors/vectors.js` printed the tables.
+//! `node crates/test_parts/vectors/vectors.js` printed the tables.
 
 use crate::tables::{agree, agree_in_rows};
 use anyhow::Result;

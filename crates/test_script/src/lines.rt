@@ -1,8 +1,11 @@
 //! Lines with the replies that they have to get: how lines are cut and counted, and what makes a module.
 
 use crate::fakes::Trickle;
-use crate::running::{NUMBERS, outcome};
+use crate::running::{expect_each, outcome};
+use std::process::Abort;
+use std::sync::Wait;
 use std::test::Fail;
+use std::thread::Threads;
 use wh_settings::Settings;
 
 const LONGEST_LINE: usize = 2200000;
@@ -119,48 +122,93 @@ const SCRIPTS: [(&[u8], &str); 44] = [
     (b"module m \xc3\xa9\n", "error C1 line 1\n"),
 ];
 
+/// That a script gets these replies, with each number of workers, and a byte at a time too.
+fn expect_both(
+    rt: &(impl Abort + AllocGlobal + Threads + Wait + Copy + Send + 'static),
+    settings: &Settings,
+    script: &[u8],
+    replies: &str,
+) -> Result<(), Fail> {
+    expect_each(rt, settings, script, replies)?;
+    let all = Trickle {
+        bytes: script,
+        fails_after: usize::MAX,
+    };
+    let (result, written) = outcome(rt, settings, 2, all)?;
+    assert_eq!(rt; result, Ok(()), "a byte at a time: {replies}");
+    assert_eq!(rt; str::from_utf8(written.as_slice()), Ok(replies));
+    Ok(())
+}
+
 #[test]
 fn scripts_get_their_replies(rt: HostRuntime) -> Result<(), Fail> {
-    let settings = Settings::default();
     for (script, replies) in SCRIPTS {
-        for number in NUMBERS {
-            let (result, written) = outcome(&rt, &settings, number, script)?;
-            assert_eq!(rt; result, Ok(()), "{replies}");
-            assert_eq!(rt; str::from_utf8(written.as_slice()), Ok(replies));
-        }
-        let all = Trickle {
-            bytes: script,
-            fails_after: usize::MAX,
-        };
-        let (result, written) = outcome(&rt, &settings, 2, all)?;
-        assert_eq!(rt; result, Ok(()), "a byte at a time: {replies}");
-        assert_eq!(rt; str::from_utf8(written.as_slice()), Ok(replies));
+        let settings = Settings::default();
+        expect_both(&rt, &settings, script, replies)?;
     }
+    Ok(())
+}
+
+/// What a script gets with settings as they are by default and four workers, where it has to be answered whole.
+fn answered(
+    rt: &(impl Abort + AllocGlobal + Threads + Wait + Copy + Send + 'static),
+    script: &[u8],
+) -> Result<Vec<u8>, Fail> {
+    let settings = Settings::default();
+    let (result, written) = outcome(rt, &settings, 4, script)?;
+    assert_eq!(rt; result, Ok(()));
+    Ok(written)
+}
+
+/// That a module whose name has so many bytes gets a reply that begins so.
+fn expect_named(
+    rt: &(impl Abort + AllocGlobal + Threads + Wait + Copy + Send + 'static),
+    length: usize,
+    reply: &str,
+) -> Result<(), Fail> {
+    let mut script = b"module ".to_vec(rt.alloc())?;
+    for _ in 0..length {
+        script.push(b'z')?;
+    }
+    script.extend_from_slice(b" 0061736d01000000\n")?;
+    let written = answered(rt, script.as_slice())?;
+    assert!(rt;
+        written.as_slice().starts_with(reply.as_bytes()),
+        "at {length}"
+    );
     Ok(())
 }
 
 #[test]
 fn names_have_32_bytes_at_most(rt: HostRuntime) -> Result<(), Fail> {
-    let settings = Settings::default();
     for (length, reply) in [(32, "module "), (33, "error C1 line 1\n")] {
-        let mut script = b"module ".to_vec(rt.alloc())?;
-        for _ in 0..length {
-            script.push(b'z')?;
-        }
-        script.extend_from_slice(b" 0061736d01000000\n")?;
-        let (result, written) = outcome(&rt, &settings, 4, script.as_slice())?;
-        assert_eq!(rt; result, Ok(()));
-        assert!(rt;
-            written.as_slice().starts_with(reply.as_bytes()),
-            "at {length}"
-        );
+        expect_named(&rt, length, reply)?;
     }
+    Ok(())
+}
+
+/// That a line of so many bytes that begins so gets this reply, and the line behind it its own.
+fn expect_long(
+    rt: &(impl Abort + AllocGlobal + Threads + Wait + Copy + Send + 'static),
+    length: usize,
+    first: &[u8],
+    reply: &str,
+) -> Result<(), Fail> {
+    let mut script = first.to_vec(rt.alloc())?;
+    for _ in first.len()..length {
+        script.push(b'0')?;
+    }
+    script.extend_from_slice(b"\nmodule n 00\n")?;
+    let written = answered(rt, script.as_slice())?;
+    let mut replies = reply.as_bytes().to_vec(rt.alloc())?;
+    replies.extend_from_slice(b"module n refused D3 at 1\n")?;
+    assert_eq!(rt; written.len(), replies.len(), "at {length}");
+    assert!(rt; written.as_slice() == replies.as_slice(), "at {length}");
     Ok(())
 }
 
 #[test]
 fn lines_have_2200000_bytes_at_most(rt: HostRuntime) -> Result<(), Fail> {
-    let settings = Settings::default();
     for (length, first, reply) in [
         // An odd number of digits is no line to obey; here they are even.
         (
@@ -173,24 +221,13 @@ fn lines_have_2200000_bytes_at_most(rt: HostRuntime) -> Result<(), Fail> {
         (3 * LONGEST_LINE, b"# comments", ""),
         (3 * LONGEST_LINE, b"module mm ", "error C1 line 1\n"),
     ] {
-        let mut script = first.to_vec(rt.alloc())?;
-        for _ in first.len()..length {
-            script.push(b'0')?;
-        }
-        script.extend_from_slice(b"\nmodule n 00\n")?;
-        let (result, written) = outcome(&rt, &settings, 4, script.as_slice())?;
-        let mut replies = reply.as_bytes().to_vec(rt.alloc())?;
-        replies.extend_from_slice(b"module n refused D3 at 1\n")?;
-        assert_eq!(rt; result, Ok(()), "at {length}");
-        assert_eq!(rt; written.len(), replies.len(), "at {length}");
-        assert!(rt; written.as_slice() == replies.as_slice(), "at {length}");
+        expect_long(&rt, length, first, reply)?;
     }
     Ok(())
 }
 
 #[test]
 fn all_lines_are_counted(rt: HostRuntime) -> Result<(), Fail> {
-    let settings = Settings::default();
     let mut script = Vec::new(rt.alloc());
     let mut replies = Vec::new(rt.alloc());
     for number in 1..30001 {
@@ -202,8 +239,7 @@ fn all_lines_are_counted(rt: HostRuntime) -> Result<(), Fail> {
             replies.extend_from_slice(reply.as_bytes())?;
         }
     }
-    let (result, written) = outcome(&rt, &settings, 4, script.as_slice())?;
-    assert_eq!(rt; result, Ok(()));
+    let written = answered(&rt, script.as_slice())?;
     assert!(rt; written.as_slice() == replies.as_slice());
     Ok(())
 }

@@ -46,6 +46,33 @@ where
     Ok((result, written))
 }
 
+/// That a script gets these replies with these settings and so many workers.
+pub fn expect_with(
+    rt: &(impl Abort + AllocGlobal + Threads + Wait + Copy + Send + 'static),
+    settings: &Settings,
+    number: u8,
+    script: &[u8],
+    replies: &str,
+) -> Result<(), Fail> {
+    let (result, written) = outcome(rt, settings, number, script)?;
+    assert_eq!(rt; result, Ok(()), "{replies}");
+    assert_eq!(rt; str::from_utf8(written.as_slice()), Ok(replies));
+    Ok(())
+}
+
+/// That a script gets these replies with these settings, and with each number of workers.
+pub fn expect_each(
+    rt: &(impl Abort + AllocGlobal + Threads + Wait + Copy + Send + 'static),
+    settings: &Settings,
+    script: &[u8],
+    replies: &str,
+) -> Result<(), Fail> {
+    for number in NUMBERS {
+        expect_with(rt, settings, number, script, replies)?;
+    }
+    Ok(())
+}
+
 /// That a script gets these replies, with settings as a document says them, and with each number of workers.
 pub fn expect(
     rt: &(impl Abort + AllocGlobal + Threads + Wait + Copy + Send + 'static),
@@ -54,12 +81,7 @@ pub fn expect(
     replies: &str,
 ) -> Result<(), Fail> {
     let settings = read_settings(rt.alloc(), settings.as_bytes())?;
-    for number in NUMBERS {
-        let (result, written) = outcome(rt, &settings, number, script.as_bytes())?;
-        assert_eq!(rt; result, Ok(()), "{replies}");
-        assert_eq!(rt; str::from_utf8(written.as_slice()), Ok(replies));
-    }
-    Ok(())
+    expect_each(rt, &settings, script.as_bytes(), replies)
 }
 
 /// A script, and what it has to get.
@@ -128,6 +150,47 @@ fn frames_in_use(line: &str) -> Option<u32> {
     used.parse().ok()
 }
 
+/// That by each report in a text so many frames are in use at least and at most.
+fn expect_used(rt: &impl Abort, text: &str, least: u32, most: u32) {
+    for line in text.split_terminator('\n') {
+        if let Some(used) = frames_in_use(line) {
+            assert!(rt; used >= least && used <= most, "{line}");
+        }
+    }
+}
+
+/// The same as `expect_frames` asks, with these settings and so many workers.
+fn expect_frames_with(
+    rt: &(impl Abort + AllocGlobal + Threads + Wait + Copy + Send + 'static),
+    settings: &Settings,
+    number: u8,
+    table: &Table,
+    least: u32,
+    most: u32,
+) -> Result<(), Fail> {
+    let (result, written) = outcome(rt, settings, number, table.script.as_bytes())?;
+    assert_eq!(rt; result, Ok(()), "{least} to {most} frames");
+    let text = str::from_utf8(written.as_slice()).unwrap_or("no text");
+    let replies = without_reports(rt.alloc(), text)?;
+    assert_eq!(rt; replies.as_str(), table.replies.as_str());
+    expect_used(rt, text, least, most);
+    Ok(())
+}
+
+/// The same with each number of workers.
+fn expect_frames_each(
+    rt: &(impl Abort + AllocGlobal + Threads + Wait + Copy + Send + 'static),
+    settings: &Settings,
+    table: &Table,
+    least: u32,
+    most: u32,
+) -> Result<(), Fail> {
+    for number in NUMBERS {
+        expect_frames_with(rt, settings, number, table, least, most)?;
+    }
+    Ok(())
+}
+
 /// That a script gets its replies in turns of one charge, where its reports depend on what a scanner came to see beside the
 /// calls: by each of them so many frames are in use at least and at most.
 pub fn expect_frames(
@@ -141,17 +204,5 @@ pub fn expect_frames(
     let table = Table::new(alloc, lines)?;
     let short = format!(in alloc; "quantum = 1\n{settings}")?;
     let settings = read_settings(alloc, short.as_bytes())?;
-    for number in NUMBERS {
-        let (result, written) = outcome(rt, &settings, number, table.script.as_bytes())?;
-        assert_eq!(rt; result, Ok(()), "{least} to {most} frames");
-        let text = str::from_utf8(written.as_slice()).unwrap_or("no text");
-        let replies = without_reports(alloc, text)?;
-        assert_eq!(rt; replies.as_str(), table.replies.as_str());
-        for line in text.split_terminator('\n') {
-            if let Some(used) = frames_in_use(line) {
-                assert!(rt; used >= least && used <= most, "{line}");
-            }
-        }
-    }
-    Ok(())
+    expect_frames_each(rt, &settings, &table, least, most)
 }

@@ -1,7 +1,10 @@
 //! What instances share: pages that are merged and copied, pages that leave and come back, and the report on them.
 
 use crate::running::{expect, expect_all, expect_frames, expect_lines};
+use std::process::Abort;
+use std::sync::Wait;
 use std::test::Fail;
+use std::thread::Threads;
 
 /// Three instances with one page each, which comes to be equal, then not, and then equal again.
 const KEEP: &[(&str, &str)] = &[
@@ -271,22 +274,31 @@ const TAXES: [(&str, &str); 3] = [
     ("", "1000000/14"),
 ];
 
+/// That the report says this of the shares by pages, with these settings.
+fn expect_share(
+    rt: &(impl Abort + AllocGlobal + Threads + Wait + Copy + Send + 'static),
+    settings: &str,
+    rho: &str,
+) -> Result<(), Fail> {
+    let mut script = String::new(rt.alloc());
+    let mut replies = String::new(rt.alloc());
+    for (line, reply) in SHARES {
+        script.push_str(line)?;
+        script.push('\n')?;
+        replies.push_str(reply)?;
+    }
+    script.push_str("report\n")?;
+    let report = format!(in rt.alloc();
+        "# frames 1024 used 5 free 1019\n# slots 4096 used 0 free 4096\n# shared frames 0 sharers 0\n#     0 1000000     2    16     5     2     0 {rho}\n"
+    )?;
+    replies.push_str(&report)?;
+    expect(rt, settings, &script, &replies)
+}
+
 #[test]
 fn the_report_shows_shares_by_pages(rt: HostRuntime) -> Result<(), Fail> {
     for (settings, rho) in TAXES {
-        let report = format!(in rt.alloc();
-            "# frames 1024 used 5 free 1019\n# slots 4096 used 0 free 4096\n# shared frames 0 sharers 0\n#     0 1000000     2    16     5     2     0 {rho}\n"
-        )?;
-        let mut script = String::new(rt.alloc());
-        let mut replies = String::new(rt.alloc());
-        for (line, reply) in SHARES {
-            script.push_str(line)?;
-            script.push('\n')?;
-            replies.push_str(reply)?;
-        }
-        script.push_str("report\n")?;
-        replies.push_str(&report)?;
-        expect(&rt, settings, &script, &replies)?;
+        expect_share(&rt, settings, rho)?;
     }
     Ok(())
 }

@@ -1,15 +1,17 @@
 //! Scripts whose pages are swapped to a device that goes wrong.
 
-ghost use Rattle.std.specs.Prelude.{[]};
+ghost use Rattle.std.specs.Prelude.{◌≡◌, [], replicate, IfOk};
+ghost use Rattle.wh_swap.specs.Written.{page_held};
 
 use crate::fakes::Shelf;
+use std::alloc::{AllocError, Global};
 use std::io;
 use std::process::Abort;
 use std::sync::Wait;
 use std::test::Fail;
 use std::thread::Threads;
-use wh_script::run_script;
-use wh_settings::{Workers, read_settings};
+use wh_script::{ScriptFault, run_script};
+use wh_settings::{Settings, Workers, read_settings};
 use wh_swap::{PageSwap, Pages};
 
 /// What becomes of a read or a write.
@@ -104,6 +106,51 @@ impl Pages for Worn {
     }
 }
 
+/// A device over so many pages, whose reads and writes have these fates.
+fn make_worn(
+    alloc: Global,
+    slots: u32,
+    reads: Fates,
+    writes: Fates,
+) -> Result<PageSwap<Worn>, AllocError>
+    ensures held { IfOk result (λ device. page_held device ≡ replicate slots []) }
+{
+    let pages = vec![in alloc; [0; 4096]; slots as usize]?;
+    let worn = Worn {
+        pages,
+        reads,
+        writes,
+    };
+    PageSwap::over(alloc, worn, slots)
+}
+
+/// Runs a script with these settings and so many workers, on such pages.
+fn run_worn(
+    rt: &(impl AllocGlobal + Threads + Wait + Copy + Send + 'static),
+    settings: &Settings,
+    number: u8,
+    script: &str,
+    fates: [Fates; 2],
+    written: &mut Vec<u8>,
+) -> Result<Result<(), ScriptFault>, AllocError> {
+    let alloc = rt.alloc();
+    let [reads, writes] = fates;
+    let device = make_worn(alloc, settings.slots, reads, writes)?;
+    let workers = Workers::new(number).unwrap_or(Workers::default());
+    let mut reader = script.as_bytes();
+    let (result, _) = run_script(
+        *rt,
+        alloc,
+        settings,
+        workers,
+        &Shelf,
+        device,
+        &mut reader,
+        written,
+    );
+    Ok(result)
+}
+
 /// What is written in answer to a script, with these settings and so many workers, on such pages.
 fn answered(
     rt: &(impl AllocGlobal + Threads + Wait + Copy + Send + 'static),
@@ -115,26 +162,8 @@ fn answered(
 ) -> Result<Vec<u8>, Fail> {
     let alloc = rt.alloc();
     let settings = read_settings(alloc, settings.as_bytes())?;
-    let worn = Worn {
-        pages: vec![in alloc; [0; 4096]; settings.slots as usize]?,
-        reads,
-        writes,
-    };
-    let device = PageSwap::over(alloc, worn, settings.slots)?;
-    let workers = Workers::new(number).unwrap_or(Workers::default());
-    let mut reader = script.as_bytes();
     let mut written = Vec::new(alloc);
-    let (result, _) = run_script(
-        *rt,
-        alloc,
-        &settings,
-        workers,
-        &Shelf,
-        device,
-        &mut reader,
-        &mut written,
-    );
-    result?;
+    run_worn(rt, &settings, number, script, [reads, writes], &mut written)??;
     Ok(written)
 }
 
@@ -167,14 +196,26 @@ const STORES: &str =
 
 const ADMITTED: &str = "module m ok\nadmit a ok 0\n";
 
+/// That `STORES` and these tries get these replies behind `ADMITTED`, where reads and writes have these fates.
+fn expect_worn(
+    rt: &(impl Abort + AllocGlobal + Threads + Wait + Copy + Send + 'static),
+    reads: Fates,
+    writes: Fates,
+    retries: &str,
+    replies: &str,
+) -> Result<(), Fail> {
+    let script = format!(in rt.alloc(); "{STORES}{retries}")?;
+    let wanted = format!(in rt.alloc(); "{ADMITTED}{replies}")?;
+    let settings = "frames = 2\nslots = 15\n";
+    let written = answered(rt, settings, 2, &script, reads, writes)?;
+    assert_eq!(rt; str::from_utf8(written.as_slice()), Ok(wanted.as_str()));
+    Ok(())
+}
+
 #[test]
 fn a_call_waits_for_another_try(rt: HostRuntime) -> Result<(), Fail> {
     for (reads, writes, retries, replies) in WORN {
-        let script = format!(in rt.alloc(); "{STORES}{retries}")?;
-        let wanted = format!(in rt.alloc(); "{ADMITTED}{replies}")?;
-        let settings = "frames = 2\nslots = 15\n";
-        let written = answered(&rt, settings, 2, &script, reads, writes)?;
-        assert_eq!(rt; str::from_utf8(written.as_slice()), Ok(wanted.as_str()));
+        expect_worn(&rt, reads, writes, retries, replies)?;
     }
     Ok(())
 }
@@ -202,10 +243,21 @@ fn all_is_loaded(rt: &impl Abort, written: &[u8]) -> Result<bool, Fail> {
     Ok(text.contains("frame S"))
 }
 
+/// The script of two instances, on a device of which one read or write fails behind so many that are fine. Whether it failed
+/// on the way.
+fn fails_once(
+    rt: &(impl Abort + AllocGlobal + Threads + Wait + Copy + Send + 'static),
+    reads: Fates,
+    writes: Fates,
+) -> Result<bool, Fail> {
+    let settings = "frames = 4\nslots = 30\nquantum = 1\n";
+    let written = answered(rt, settings, 2, PAIR, reads, writes)?;
+    all_is_loaded(rt, &written)
+}
+
 /// Each of the first forty reads and writes fails in turn while two workers run, and no byte is lost.
 #[test]
 fn each_call_of_a_device_may_fail(rt: HostRuntime) -> Result<(), Fail> {
-    let settings = "frames = 4\nslots = 30\nquantum = 1\n";
     let mut failures: u32 = 0;
     for fine in 0..40 {
         let fates = Fates {
@@ -214,8 +266,7 @@ fn each_call_of_a_device_may_fail(rt: HostRuntime) -> Result<(), Fail> {
             fate: Fails,
         };
         for (reads, writes) in [(fates, ALL_FINE), (ALL_FINE, fates)] {
-            let written = answered(&rt, settings, 2, PAIR, reads, writes)?;
-            if all_is_loaded(&rt, &written)? {
+            if fails_once(&rt, reads, writes)? {
                 failures = failures.saturating_add(1);
             }
         }

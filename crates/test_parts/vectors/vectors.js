@@ -1,4 +1,4 @@
-// Prints the tables of src/tests.rt, as another WebAssembly engine computes them: run `node vectors.js`.
+// Prints the tables of src/intops.rt, as another WebAssembly engine computes them: run `node vectors.js`.
 // Each operator is compiled in a module of its own, from the opcodes of section 5.4.5 of the standard.
 const I32 = 0x7f, I64 = 0x7e;
 

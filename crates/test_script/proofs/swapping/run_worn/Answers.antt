@@ -4,7 +4,7 @@ use Rattle.std.proofs.Crossing.{crosses}
 use Rattle.boxcar.proofs.Sent.{tag_send}
 use Rattle.wh_swap.specs.contracts.stream.PageSwap as PageSwap
 use Rattle.test_script.specs.contracts.swapping.Worn as Worn
-use Rattle.test_script.proofs.swapping.answered.Goals as goal
+use Rattle.test_script.proofs.swapping.run_worn.Goals as goal
 
 -- a device over such pages may cross threads
 worn_send : IsSend (PageSwap.the_row Worn.the_row)
