@@ -1,13 +1,15 @@
 -- What the machine's instructions on words of 64 and 32 bits give, in the terms of the definitions: signs, sums, differences and products, and the bounds of every result.
-use Rattle.std.proofs.Common.{◌≡◌, ◌∙◌, ap, ℕ, suc, ◌+◌, ◌-◌, ◌*◌, ◌%◌, ◌^◌, ◌<◌, ltb, ℤ, pos, negsuc, w8, w16, w32, w64, to_z, of_z, SFits, refl, sym, arith, ⊎_elim, le-ltb, lt-ltb, lt_of_le_of_lt, neg_ℤ, ◌≤ℤ◌, ◌<ℤ◌}
+use Rattle.std.proofs.Common.{◌≡◌, ◌==◌, ◌∙◌, ap, ℕ, suc, ◌+◌, ◌-◌, ◌*◌, ◌%◌, ◌^◌, ◌<◌, ltb, ℤ, pos, negsuc, w8, w16, w32, w64, to_z, of_z, SFits, refl, sym, arith, ⊎_elim, le-ltb, lt-ltb, lt_of_le_of_lt, neg_ℤ, ◌≤ℤ◌, ◌<ℤ◌}
 use Rattle.std.proofs.lemmas.Bool.{cases_lt}
 use Rattle.std.proofs.lemmas.Int.{ints}
 use Rattle.std.proofs.lemmas.Nat.{and_le_l, or_lt, xor_lt}
 use Rattle.std.specs.Prelude.{bit_and, bit_or, bit_xor}
 use Rattle.wh_model.proofs.Numbers.{signed-low, signed-high, signed-bounds, bits-pos, iadd-lt, isub-lt, imul-lt, idiv_u-lt, idiv_s-lt, irem_u-lt, irem_s-lt, ishl-lt, ishr_u-lt, ishr_s-lt, irotl-lt, irotr-lt, iclz-lt, ictz-lt, ipopcnt-lt, iextend_s-lt}
-use Rattle.wh_model.specs.Execution.Numbers.{bits, signed, unsigned, iadd, isub, imul, ishr_s, irotl, irotr, wrap, extend_s, iextend_s, unary}
+use Rattle.wh_model.specs.Execution.Numbers.{bits, signed, unsigned, test, truth, iadd, isub, imul, ishr_s, irotl, irotr, wrap, extend_s, iextend_s, unary}
 use Rattle.wh_model.specs.declared.ValType.{ValType}
 use Rattle.wh_model.specs.declared.ValType.TheVariants.{I32, I64}
+use Rattle.wh_model.specs.declared.TestOp.{TestOp}
+use Rattle.wh_model.specs.declared.TestOp.TheVariants.{Eqz}
 use Rattle.wh_model.specs.declared.UnaryOp.{UnaryOp}
 use Rattle.wh_model.specs.declared.UnaryOp.TheVariants.{Extend8S, Extend16S, Extend32S}
 use Rattle.std.specs.Int.Signed.{mag}
@@ -131,3 +133,9 @@ shr_s-lt t a b fits = ishr_s-lt (bits t) a b (bits-pos t) fits
 pub ruleset results = (iadd-lt, isub-lt, imul-lt, idiv_u-lt, idiv_s-lt, irem_u-lt, irem_s-lt, ishl-lt, ishr_u-lt, shr_s-lt, rotl-lt, rotr-lt, and-lt, or-lt, xor-lt)
 
 pub ruleset unary_results = (counts, iclz-lt, ictz-lt, ipopcnt-lt)
+
+-- ---- the one test
+
+pub tests_zero : (op : TestOp) (i : ℕ) → test op i ≡ truth (i == 0)
+unfolding test
+tests_zero Eqz i = refl

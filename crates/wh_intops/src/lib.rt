@@ -70,7 +70,7 @@ pub fn binop(width: ValType, op: BinaryOp, left: u64, right: u64) -> Result<u64,
 
 /// A test of one integer, of either type (`ieqz` of the standard, 4.3.2), with an i32 result: 1 if it holds, else 0.
 #[inline(always)]
-#[tactic(auto, unfolding(wh_model::specs::Execution::Numbers::test, wh_model::specs::Execution::Numbers::truth))]
+#[tactic(auto, using(crate::proofs::Words::tests_zero), unfolding(wh_model::specs::Execution::Numbers::truth))]
 pub fn testop(op: TestOp, operand: u64) -> u64
     ensures value { result ≡ test op operand }
     ensures fits { result < 2 ^ 32 }
