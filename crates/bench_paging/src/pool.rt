@@ -16,7 +16,6 @@ use wh_swap::MemSwap;
 
 /// A memory, its device, and what was done so far: how many stores had to wait, how many pages left for them, and how long that
 /// took.
-#[derive(Drop)]
 pub struct Pool {
     memory: Memory,
     device: MemSwap,
@@ -25,6 +24,20 @@ pub struct Pool {
     pub left: u64,
     pub time: Duration,
     ghost together: { AreTogether memory (memory_held device) },
+}
+
+// Written out, so that letting one go is one call, and not one for each part of its parts.
+impl Drop for Pool {
+    fn drop(self) {
+        let Pool {
+            memory: _,
+            device: _,
+            buf: _,
+            waits: _,
+            left: _,
+            time: _,
+        } = self;
+    }
 }
 
 impl Pool {

@@ -10,10 +10,16 @@ use wh_host::{CallStatus, Suspension};
 use wh_host_model::InstId;
 
 /// An instance, and the same on a flat memory, which goes as far as the instance has come.
-#[derive(Drop)]
 pub struct Pair {
     pub id: InstId,
     pub flat: Flat,
+}
+
+// Written out, so that letting one go is one call, and not one for each part of its parts.
+impl Drop for Pair {
+    fn drop(self) {
+        let Pair { id: _, flat: _ } = self;
+    }
 }
 
 impl Pair {
@@ -23,6 +29,12 @@ impl Pair {
             id,
             flat: Flat::over(alloc, memory),
         }
+    }
+
+    /// Its memory, with nothing in it, when the instance is gone.
+    pub fn cleared(self) -> FlatMemory {
+        let Pair { id: _, flat } = self;
+        flat.cleared()
     }
 
     /// Asks both for a call.

@@ -15,11 +15,21 @@ use wh_swap::{StreamSwap, SwapDev};
 
 /// A stream of 8192 bytes in memory. It seems to end at a place that others may move; what lies behind it can be neither read
 /// nor written, and may have other bytes.
-#[derive(Drop)]
 struct Moody {
     stream: Cursor<Vec<u8>>,
     end: Rc<Cell<u64>>,
     turned: Rc<Cell<bool>>,
+}
+
+// Written out, so that letting one go is one call, and not one for each part of its parts.
+impl Drop for Moody {
+    fn drop(self) {
+        let Moody {
+            stream: _,
+            end: _,
+            turned: _,
+        } = self;
+    }
 }
 
 impl Moody {

@@ -44,12 +44,23 @@ fn more(times: &mut u32) {
 }
 
 /// Three instances, some of which may not be there, and flat memories of zeros for others.
-#[derive(Drop)]
 pub struct Trial {
     pairs: [Option<Pair>; 3],
     spare: Vec<FlatMemory>,
     pub random: Random,
     pub counts: Counts,
+}
+
+// Written out, so that letting one go is one call, and not one for each part of its parts.
+impl Drop for Trial {
+    fn drop(self) {
+        let Trial {
+            pairs: _,
+            spare: _,
+            random: _,
+            counts: _,
+        } = self;
+    }
 }
 
 impl Trial {
@@ -164,7 +175,7 @@ impl Trial {
             more(&mut self.counts.released);
             let output = rig.release(alloc, pair.id)?;
             ensure!(output.is_empty(), "an instance put out");
-            self.spare.push(pair.flat.cleared())?;
+            self.spare.push(pair.cleared())?;
             return Ok(());
         }
         match kind {
@@ -355,7 +366,7 @@ impl Trial {
                 pair.run_out(rig, alloc)?;
                 more(&mut self.counts.compared);
                 pair.compare(rig, alloc, parts)?;
-                self.spare.push(pair.flat.cleared())?;
+                self.spare.push(pair.cleared())?;
             }
         }
         let report = rig.report(alloc)?;

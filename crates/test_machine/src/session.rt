@@ -8,11 +8,21 @@ use std::collections::HashMap;
 use std::mem;
 
 /// All modules that were named, the lines on the last one, and how the others fared.
-#[derive(Drop)]
 pub struct Session {
     modules: HashMap<String, Vec<u8>>,
     lines: Vec<String>,
     sums: Tally,
+}
+
+// Written out, so that letting one go is one call, and not one for each part of its parts.
+impl Drop for Session {
+    fn drop(self) {
+        let Session {
+            modules: _,
+            lines: _,
+            sums: _,
+        } = self;
+    }
 }
 
 impl Session {

@@ -27,7 +27,6 @@ impl Tally {
 }
 
 /// A module, and how it fares.
-#[derive(Drop)]
 pub struct Trial {
     /// Its name.
     pub name: String,
@@ -35,6 +34,17 @@ pub struct Trial {
     taken: Option<u64>,
     /// How many lines agree.
     pub tally: Tally,
+}
+
+// Written out, so that letting one go is one call, and not one for each part of its parts.
+impl Drop for Trial {
+    fn drop(self) {
+        let Trial {
+            name: _,
+            taken: _,
+            tally: _,
+        } = self;
+    }
 }
 
 /// Takes in what a line says of what the host gives an instance, and whether a call has come.

@@ -69,11 +69,21 @@ const TWO_DAMAGED: Fates = Fates {
 };
 
 /// Pages whose reads and writes have these fates.
-#[derive(Drop)]
 struct Worn {
     pages: Vec<[u8; 4096]>,
     reads: Fates,
     writes: Fates,
+}
+
+// Written out, so that letting one go is one call, and not one for each part of its parts.
+impl Drop for Worn {
+    fn drop(self) {
+        let Worn {
+            pages: _,
+            reads: _,
+            writes: _,
+        } = self;
+    }
 }
 
 impl Pages for Worn {

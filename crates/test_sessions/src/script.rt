@@ -10,7 +10,6 @@ use wh_settings::{Settings, Workers, read_settings};
 use wh_swap::MemSwap;
 
 /// A script, with what it is run with and what it is to get.
-#[derive(Drop)]
 pub struct Script {
     /// Its name.
     pub name: String,
@@ -22,6 +21,19 @@ pub struct Script {
     pub given: String,
     /// The replies that it is to get.
     pub wanted: String,
+}
+
+// Written out, so that letting one go is one call, and not one for each part of its parts.
+impl Drop for Script {
+    fn drop(self) {
+        let Script {
+            name: _,
+            settings: _,
+            is_ended: _,
+            given: _,
+            wanted: _,
+        } = self;
+    }
 }
 
 /// Adds a line.

@@ -56,7 +56,6 @@ impl fmt::Display for Tally {
 }
 
 /// The files and settings that were named, the script whose lines are read, and how others fared.
-#[derive(Drop)]
 pub struct Session {
     shelf: Shelf,
     settings: HashMap<String, String>,
@@ -66,6 +65,21 @@ pub struct Session {
     count: usize,
     table: Tally,
     sums: Tally,
+}
+
+// Written out, so that letting one go is one call, and not one for each part of its parts.
+impl Drop for Session {
+    fn drop(self) {
+        let Session {
+            shelf: _,
+            settings: _,
+            document: _,
+            script: _,
+            count: _,
+            table: _,
+            sums: _,
+        } = self;
+    }
 }
 
 impl Session {

@@ -26,13 +26,25 @@ use wh_machine::{Machine, Store};
 /// An instance of a module, with a memory of its own, and its call that hasn't ended, if there is one.
 ///
 /// Contracts see its parts. Of each instance it is known that it is where a journal of its calls leads.
-#[derive(Drop)]
 pub struct Instance {
     linked: Linked,
     store: Store,
     memory: FlatMemory,
     machine: Machine,
     stage: Stage,
+}
+
+// Written out, so that letting one go is one call, and not one for each part of its parts.
+impl Drop for Instance {
+    fn drop(self) {
+        let Instance {
+            linked: _,
+            store: _,
+            memory: _,
+            machine: _,
+            stage: _,
+        } = self;
+    }
 }
 
 impl Model for Instance {

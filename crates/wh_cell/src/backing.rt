@@ -13,12 +13,22 @@ use wh_swap::SwapDev;
 /// while others go on under the host's. Contracts see the device and the tickets for its slots.
 ///
 /// Its type keeps that no ticket is out while nobody has that lock, and that the host knows the device as it is.
-#[derive(Drop)]
 pub struct Backing<D: SwapDev, B: Ties> {
     pub(crate) device: D,
     // There is always one, but while a call is made.
     pub(crate) buf: Option<Buf>,
     pub(crate) keeper: Keeper<D, B>,
+}
+
+// Written out, so that letting one go is one call, and not one for each part of its parts.
+impl<D: SwapDev + Drop, B: Ties> Drop for Backing<D, B> {
+    fn drop(self) {
+        let Backing {
+            device: _,
+            buf: _,
+            keeper: _,
+        } = self;
+    }
 }
 
 impl<D: SwapDev, B: Ties> Model for Backing<D, B> {
@@ -41,7 +51,11 @@ impl<D: SwapDev + Drop, B: Ties> Backing<D, B> {
     pub fn into_device(self) -> D
         ensures { result ≡ self.device }
     {
-        let Backing { device, .. } = self;
+        let Backing {
+            device,
+            buf: _,
+            keeper: _,
+        } = self;
         device
     }
 }

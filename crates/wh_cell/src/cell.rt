@@ -35,9 +35,16 @@ struct Both<D: SwapDev, T: Ledger, C: Ledger, O: Ledger, E: Ledger, B: Ties> {
 
 /// A host under a lock, with the books of what threads count, and its swap device under another. Each thread has a handle of
 /// its own.
-#[derive(Drop)]
 pub struct HostCell<D: SwapDev, T: Ledger, C: Ledger, O: Ledger, E: Ledger, B: Ties> {
     both: Arc<Both<D, T, C, O, E, B>, Global>,
+}
+
+// Written out, so that letting one go is one call, and not one for each part of its parts.
+impl<D: SwapDev + Drop, T: Ledger, C: Ledger, O: Ledger, E: Ledger, B: Ties> Drop
+    for HostCell<D, T, C, O, E, B> {
+    fn drop(self) {
+        let HostCell { both: _ } = self;
+    }
 }
 
 /// What a host needs beside itself to lie under a lock: its device, a buffer for pages that come, and what is to name its

@@ -31,7 +31,6 @@ const LONGEST_SLEEP: u64 = 1;
 
 /// What the threads of a run have between them: who has turns out, and a bell for each for whom something may have to be
 /// waited. Whoever waits counts how often its bell rang, looks, and sleeps unless it rang again meanwhile.
-#[derive(Drop)]
 pub struct Desk {
     /// Who has turns out, and whose step is ready.
     pub roster: Mutex<Roster>,
@@ -43,6 +42,19 @@ pub struct Desk {
     pub offer_owed: Condvar,
     /// Which worker receives turns.
     pub place: Place,
+}
+
+// Written out, so that letting one go is one call, and not one for each part of its parts.
+impl Drop for Desk {
+    fn drop(self) {
+        let Desk {
+            roster: _,
+            turn_back: _,
+            frame_wanted: _,
+            offer_owed: _,
+            place: _,
+        } = self;
+    }
 }
 
 impl Desk {
@@ -94,7 +106,6 @@ impl Desk {
 }
 
 /// What a worker does with a turn: it takes the lock for it, and says that the turn is back.
-#[derive(Drop)]
 pub struct TurnJob<D: SwapDev, T: Ledger, C: Ledger, O: Ledger, E: Ledger, B: Ties> {
     /// The cell.
     pub cell: HostCell<D, T, C, O, E, B>,
@@ -104,6 +115,19 @@ pub struct TurnJob<D: SwapDev, T: Ledger, C: Ledger, O: Ledger, E: Ledger, B: Ti
     pub quantum: u32,
     /// How many turns this worker has awaited since it has the place; 0 where it hasn't.
     pub stint: AtomicU64,
+}
+
+// Written out, so that letting one go is one call, and not one for each part of its parts.
+impl<D: SwapDev + Drop, T: Ledger, C: Ledger, O: Ledger, E: Ledger, B: Ties> Drop
+    for TurnJob<D, T, C, O, E, B> {
+    fn drop(self) {
+        let TurnJob {
+            cell: _,
+            desk: _,
+            quantum: _,
+            stint: _,
+        } = self;
+    }
 }
 
 impl<D: SwapDev + Drop, T: Ledger, C: Ledger, O: Ledger, E: Ledger, B: Ties> TurnJob<
@@ -168,7 +192,6 @@ impl<D: SwapDev + Drop, T: Ledger, C: Ledger, O: Ledger, E: Ledger, B: Ties> Tur
 
 /// What a scanner does: for each 32 turns that were handed out it looks at a page under the lock, hashes it without, and
 /// offers it under the lock.
-#[derive(Drop)]
 pub struct ScanJob<D: SwapDev, T: Ledger, C: Ledger, O: Ledger, E: Ledger, B: Ties, H> {
     /// The cell.
     pub cell: HostCell<D, T, C, O, E, B>,
@@ -178,6 +201,19 @@ pub struct ScanJob<D: SwapDev, T: Ledger, C: Ledger, O: Ledger, E: Ledger, B: Ti
     pub ids: Arc<Vec<InstId>, Global>,
     /// How pages are hashed.
     pub hasher: H,
+}
+
+// Written out, so that letting one go is one call, and not one for each part of its parts.
+impl<D: SwapDev + Drop, T: Ledger, C: Ledger, O: Ledger, E: Ledger, B: Ties, H: Drop> Drop
+    for ScanJob<D, T, C, O, E, B, H> {
+    fn drop(self) {
+        let ScanJob {
+            cell: _,
+            desk: _,
+            ids: _,
+            hasher: _,
+        } = self;
+    }
 }
 
 // The page of the round of this number, of an instance with so many pages of 65536 bytes: 0 where it has none.
@@ -269,12 +305,19 @@ impl<
 
 /// What a reclaimer does: page by page it makes the step of an instance ready that waits for a frame, and then waits until
 /// that has had its turn. While the device is called turns go on.
-#[derive(Drop)]
 pub struct ReclaimJob<D: SwapDev, T: Ledger, C: Ledger, O: Ledger, E: Ledger, B: Ties> {
     /// The cell.
     pub cell: HostCell<D, T, C, O, E, B>,
     /// Who has turns out, and whose step is ready.
     pub desk: Arc<Desk, Global>,
+}
+
+// Written out, so that letting one go is one call, and not one for each part of its parts.
+impl<D: SwapDev + Drop, T: Ledger, C: Ledger, O: Ledger, E: Ledger, B: Ties> Drop
+    for ReclaimJob<D, T, C, O, E, B> {
+    fn drop(self) {
+        let ReclaimJob { cell: _, desk: _ } = self;
+    }
 }
 
 impl<D: SwapDev + Drop, T: Ledger, C: Ledger, O: Ledger, E: Ledger, B: Ties> ReclaimJob<
@@ -326,7 +369,6 @@ impl<D: SwapDev + Drop, T: Ledger, C: Ledger, O: Ledger, E: Ledger, B: Ties> Hel
 }
 
 /// Who hands out turns: of whoever can go on and has none out, until none can.
-#[derive(Drop)]
 pub struct TurnSupply<D: SwapDev, T: Ledger, C: Ledger, O: Ledger, E: Ledger, B: Ties> {
     /// The cell.
     pub cell: HostCell<D, T, C, O, E, B>,
@@ -338,6 +380,20 @@ pub struct TurnSupply<D: SwapDev, T: Ledger, C: Ledger, O: Ledger, E: Ledger, B:
     pub given: usize,
     /// How long it looks for a turn that came back before it sleeps.
     pub patience: Patience,
+}
+
+// Written out, so that letting one go is one call, and not one for each part of its parts.
+impl<D: SwapDev + Drop, T: Ledger, C: Ledger, O: Ledger, E: Ledger, B: Ties> Drop
+    for TurnSupply<D, T, C, O, E, B> {
+    fn drop(self) {
+        let TurnSupply {
+            cell: _,
+            desk: _,
+            due: _,
+            given: _,
+            patience: _,
+        } = self;
+    }
 }
 
 impl<D: SwapDev + Drop, T: Ledger, C: Ledger, O: Ledger, E: Ledger, B: Ties> TurnSupply<

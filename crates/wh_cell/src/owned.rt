@@ -37,13 +37,25 @@ use wh_workers::{ServeError, Served, Shares};
 ///
 /// It lies under no lock, so that requests wait for nobody. While calls run it lies under one, and threads share it; then the
 /// owner has it again, and knows by its right that nothing but work has befallen it.
-#[derive(Drop)]
 pub struct OwnedHost<D: SwapDev, T: Ledger, C: Ledger, O: Ledger, E: Ledger, B: Ties> {
     // There is always one of each, but while calls run.
     locked: Option<Locked<D, T, C, O, E, B>>,
     backing: Option<Backing<D, B>>,
     owner: Owner<D, B>,
     shares: Shares<T, C, O, E>,
+}
+
+// Written out, so that letting one go is one call, and not one for each part of its parts.
+impl<D: SwapDev + Drop, T: Ledger, C: Ledger, O: Ledger, E: Ledger, B: Ties> Drop
+    for OwnedHost<D, T, C, O, E, B> {
+    fn drop(self) {
+        let OwnedHost {
+            locked: _,
+            backing: _,
+            owner: _,
+            shares: _,
+        } = self;
+    }
 }
 
 impl<D: SwapDev, T: Ledger, C: Ledger, O: Ledger, E: Ledger, B: Ties> Model
@@ -111,7 +123,12 @@ impl<D: SwapDev + Drop, T: Ledger, C: Ledger, O: Ledger, E: Ledger, B: Ties> Own
     pub fn into_device(self) -> D
         ensures { self.device ≡ Some result }
     {
-        let OwnedHost { backing, .. } = self;
+        let OwnedHost {
+            locked: _,
+            backing,
+            owner: _,
+            shares: _,
+        } = self;
         let Some(backing) = backing else {
             unreachable!();
         };
@@ -350,18 +367,52 @@ impl<
         let Some(backing) = self.backing.take() else {
             unreachable!();
         };
-        let (served, parts) = match HostCell::around(alloc, locked, backing) {
-            Ok(cell) => {
-                let served = run_calls(rt, alloc, &cell, &mut self.shares, ids, manner);
-                (served, cell.into_parts(&rt))
-            }
-            Err(parts) => (Err(ServeError::Memory), parts),
-        };
+        let (served, parts) = run_between(
+            rt,
+            alloc,
+            (locked, backing),
+            &mut self.shares,
+            ids,
+            manner,
+        );
         let (mut locked, mut backing) = parts;
         locked.face(&mut backing);
         locked.meet(&mut self.owner);
         self.locked = Some(locked);
         self.backing = Some(backing);
         served
+    }
+}
+
+// Runs the calls on a cell that these parts lie in meanwhile, and gives them back.
+fn run_between<
+    D: SwapDev + Drop + Send + 'static,
+    T: Ledger + Send + 'static,
+    C: Ledger + Send + 'static,
+    O: Ledger + Send + 'static,
+    E: Ledger + Send + 'static,
+    B: Ties + Send + 'static,
+    H: PageHash + Copy + Send + 'static,
+    R: Threads + Wait + Copy + Send + 'static,
+>(
+    rt: R,
+    alloc: Global,
+    parts: (Locked<D, T, C, O, E, B>, Backing<D, B>),
+    shares: &mut Shares<T, C, O, E>,
+    ids: &[InstId],
+    manner: Manner<H>,
+) -> (
+    Result<Served, ServeError>,
+    (Locked<D, T, C, O, E, B>, Backing<D, B>),
+)
+    requires { manner.workers ≤ 64 }
+{
+    let (locked, backing) = parts;
+    match HostCell::around(alloc, locked, backing) {
+        Ok(cell) => {
+            let served = run_calls(rt, alloc, &cell, shares, ids, manner);
+            (served, cell.into_parts(&rt))
+        }
+        Err(parts) => (Err(ServeError::Memory), parts),
     }
 }

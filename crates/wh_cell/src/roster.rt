@@ -59,7 +59,6 @@ pub struct Waiter {
 ///
 /// A turn that came back from a call which goes on stays out: the next one of that instance is due, and is handed out
 /// without a look at the host.
-#[derive(Drop)]
 pub struct Roster {
     /// The instances, in the order in which they are looked at.
     pub seats: Vec<Seat>,
@@ -79,6 +78,23 @@ pub struct Roster {
     voids: u32,
     // Behind which seat the next one is looked for.
     from: usize,
+}
+
+// Written out, so that letting one go is one call, and not one for each part of its parts.
+impl Drop for Roster {
+    fn drop(self) {
+        let Roster {
+            seats: _,
+            ready: _,
+            turns: _,
+            due: _,
+            has_news: _,
+            out: _,
+            served: _,
+            voids: _,
+            from: _,
+        } = self;
+    }
 }
 
 // Whether this one has a turn next.

@@ -11,7 +11,6 @@ use crate::parts::{Guest, Invoked};
 use std::alloc::Global;
 
 /// What a script has made. The host on which it was made comes with each request.
-#[derive(Drop)]
 pub struct Engine {
     pub(crate) module_names: Names,
     pub(crate) guest_names: Names,
@@ -19,6 +18,19 @@ pub struct Engine {
     pub(crate) invoked: Vec<Invoked>,
     // How many modules were kept.
     pub(crate) modules: usize,
+}
+
+// Written out, so that letting one go is one call, and not one for each part of its parts.
+impl Drop for Engine {
+    fn drop(self) {
+        let Engine {
+            module_names: _,
+            guest_names: _,
+            guests: _,
+            invoked: _,
+            modules: _,
+        } = self;
+    }
 }
 
 impl Engine {

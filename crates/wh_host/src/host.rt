@@ -24,7 +24,6 @@ pub(crate) fn module_at(modules: &Vec<LoadedModule>, number: usize) -> Option<&L
 }
 
 /// A host of many instances on one memory.
-#[derive(Drop)]
 pub struct Host {
     pub(crate) modules: Vec<LoadedModule>,
     pub(crate) residents: Slab<Resident>,
@@ -32,6 +31,19 @@ pub struct Host {
     pub(crate) live: usize,
     pub(crate) memory: Memory,
     pub(crate) next: u64,
+}
+
+// Written out, so that letting one go is one call, and not one for each part of its parts.
+impl Drop for Host {
+    fn drop(self) {
+        let Host {
+            modules: _,
+            residents: _,
+            live: _,
+            memory: _,
+            next: _,
+        } = self;
+    }
 }
 
 impl Model for Host {

@@ -29,7 +29,6 @@ use wh_swap::SwapDev;
 const LONGEST_REPLY: usize = 128;
 
 /// What a script has made so far, the host on which it runs, and the text of the replies to the present line.
-#[derive(Drop)]
 pub struct Session<D: SwapDev, T: Ledger, C: Ledger, O: Ledger, E: Ledger, B: Ties> {
     pub alloc: Global,
     pub engine: Engine,
@@ -41,6 +40,22 @@ pub struct Session<D: SwapDev, T: Ledger, C: Ledger, O: Ledger, E: Ledger, B: Ti
     pub hash: HashKind,
     /// How many threads run calls.
     pub workers: Workers,
+}
+
+// Written out, so that letting one go is one call, and not one for each part of its parts.
+impl<D: SwapDev + Drop, T: Ledger, C: Ledger, O: Ledger, E: Ledger, B: Ties> Drop
+    for Session<D, T, C, O, E, B> {
+    fn drop(self) {
+        let Session {
+            alloc: _,
+            engine: _,
+            host: _,
+            text: _,
+            quantum: _,
+            hash: _,
+            workers: _,
+        } = self;
+    }
 }
 
 impl<D: SwapDev + Drop, T: Ledger, C: Ledger, O: Ledger, E: Ledger, B: Ties> Session<
@@ -101,7 +116,15 @@ impl<D: SwapDev + Drop, T: Ledger, C: Ledger, O: Ledger, E: Ledger, B: Ties> Ses
     pub fn into_device(self) -> D
         ensures { self.host.device ≡ Some result }
     {
-        let Session { host, .. } = self;
+        let Session {
+            alloc: _,
+            engine: _,
+            host,
+            text: _,
+            quantum: _,
+            hash: _,
+            workers: _,
+        } = self;
         host.into_device()
     }
 }

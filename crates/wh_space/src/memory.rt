@@ -12,7 +12,6 @@ use wh_pages::PageTable;
 use wh_swap::Slots;
 
 /// The memory of all instances, by their places, on one pool of frames.
-#[derive(Drop)]
 pub struct Memory {
     pub(crate) guests: Vec<Option<Guest>>,
     pub(crate) tables: Vec<PageTable>,
@@ -21,6 +20,21 @@ pub struct Memory {
     pub(crate) slots: Slots,
     pub(crate) pins: Option<Pinned>,
     pub(crate) tax: Tax,
+}
+
+// Written out, so that letting one go is one call, and not one for each part of its parts.
+impl Drop for Memory {
+    fn drop(self) {
+        let Memory {
+            guests: _,
+            tables: _,
+            pool: _,
+            content: _,
+            slots: _,
+            pins: _,
+            tax: _,
+        } = self;
+    }
 }
 
 impl Model for Memory {

@@ -12,7 +12,6 @@ use std::sync::ledger::{Ledger, Share};
 
 /// The counts of all threads, by kind: turns and charges by worker, offers, evictions. With them are the parts of the
 /// ledgers that no thread has. There are 64 seats for workers.
-#[derive(Drop)]
 pub struct Lender<T: Ledger, C: Ledger, O: Ledger, E: Ledger> {
     tallies: Vec<Tally>,
     offers: u64,
@@ -21,6 +20,21 @@ pub struct Lender<T: Ledger, C: Ledger, O: Ledger, E: Ledger> {
     charge_share: Share<C>,
     offer_share: Share<O>,
     eviction_share: Share<E>,
+}
+
+// Written out, so that letting one go is one call, and not one for each part of its parts.
+impl<T: Ledger, C: Ledger, O: Ledger, E: Ledger> Drop for Lender<T, C, O, E> {
+    fn drop(self) {
+        let Lender {
+            tallies: _,
+            offers: _,
+            evictions: _,
+            turn_share: _,
+            charge_share: _,
+            offer_share: _,
+            eviction_share: _,
+        } = self;
+    }
 }
 
 impl<T: Ledger, C: Ledger, O: Ledger, E: Ledger> Model for Lender<T, C, O, E> {

@@ -2,7 +2,6 @@ use Rattle.std.proofs.Common.{◌≡◌, ◌∙◌, ap, sym}
 use Rattle.wh_cell.specs.Knowing.{BackingState, known_of}
 use Rattle.wh_cell.specs.Locking.{LockedState}
 use Rattle.wh_cell.proofs.InHand.{comes_on, in_hand_still, now_same}
-use Rattle.wh_cell.proofs.owned.OwnedHost.run.Goals.{in-Ok, in-Err}
 use Rattle.wh_cell.proofs.owned.OwnedHost.run.Goals as goal
 
 pub invariant_of-self : goal.invariant_of-self
@@ -12,13 +11,7 @@ invariant_of-self g c =
     in_hand_still c.meet.new.owner c.meet.new.self c.face.new.backing agree c.meet.ensures.knows
 
 pub returns : goal.returns
-returns g c =
-    let m = c.match-around in
-    let same : m.self-inside.owner ≡ c.self.inside.owner = elim m.branch [
-      | in-Ok w ↦ ap (λ s. s.owner) w.self-inside-is
-      | in-Err w ↦ ap (λ s. s.owner) w.self-inside-is
-    ] in
-    record {
-      came = comes_on g.D.SwapDev.keeps g.D.SwapDev.honest g.D.SwapDev.faults m.self-inside.owner c.args.self.now c.meet.new.owner c.face.new.self
-          (same ∙ c.self.view_is) c.meet.ensures.came (c.meet.ensures.knows ∙ now_same c.meet.new.self c.face.new.self c.meet.ensures.host c.meet.ensures.known);
-    }
+returns g c = record {
+  came = comes_on g.D.SwapDev.keeps g.D.SwapDev.honest g.D.SwapDev.faults c.self.inside.owner c.args.self.now c.meet.new.owner c.face.new.self c.self.view_is c.meet.ensures.came
+      (c.meet.ensures.knows ∙ now_same c.meet.new.self c.face.new.self c.meet.ensures.host c.meet.ensures.known);
+}
