@@ -6,7 +6,6 @@ import os, resource, shutil, subprocess, sys, tempfile
 
 HERE = os.path.dirname(os.path.abspath(__file__))
 PROGRAM = sys.argv[1] if len(sys.argv) > 1 else HERE + "/out/wasmhost"
-FILE = HERE + "/../wasmhost_file"
 NOBODY = 65534
 
 
@@ -21,14 +20,14 @@ def run(program, script, threads):
         return subprocess.run([program], stdin=given, capture_output=True, preexec_fn=limit, timeout=60)
 
 
-with open(FILE + "/stdout", "rb") as file:
+with open(HERE + "/stdout", "rb") as file:
     whole = file.read()
 with tempfile.TemporaryDirectory() as folder:
     os.chmod(folder, 0o755)
     program = shutil.copy(PROGRAM, folder)
     refused = 0
     while True:
-        found = run(program, FILE + "/data/instances.script", refused + 1)
+        found = run(program, HERE + "/stdin", refused + 1)
         if (found.returncode, found.stdout, found.stderr) == (0, whole, b""):
             break
         assert (found.returncode, found.stderr) == (1, b"wasmhost: threads\n"), found
