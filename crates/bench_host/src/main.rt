@@ -1,10 +1,19 @@
-//! Times turns on a host, alone and among many.
+//! Times what a host of many is made of: the kernels, full passes, merges and breaks, pages that leave and come, and turns; and
+//! looks how much memory instances take.
 //!
-//! `bench_host turns` gives turns to an instance whose call never ends, alone on a host and among 4095 such instances, to each
-//! of these in turn, and to one that has no call. Without an argument it does nothing, so that what it prints never depends on the
-//! time.
+//! `bench_host WORD` times what the word names: `kernels`, `pass`, `moves`, `idle`, `revoke`, `rounds` or `turns`. Without an
+//! argument it does nothing, so that what it prints never depends on the time.
 #![tactic(auto)]
 
+mod clock;
+mod idle;
+mod kernels;
+mod moves;
+mod pages;
+mod passes;
+mod pool;
+mod revoking;
+mod rounds;
 mod turns;
 
 use anyhow::{Result, bail};
@@ -16,7 +25,13 @@ fn main(rt: HostRuntime) -> Result<()> {
         return Ok(());
     };
     match word.as_str() {
+        "kernels" => kernels::run(&rt),
+        "pass" => passes::run(&rt),
+        "moves" => moves::run(&rt),
+        "idle" => idle::run(&rt),
+        "revoke" => revoking::run(&rt),
+        "rounds" => rounds::run(&rt),
         "turns" => turns::run(&rt),
-        other => bail!("{other:?} is not turns"),
+        other => bail!("{other:?} is none of kernels, pass, moves, idle, revoke, rounds and turns"),
     }
 }

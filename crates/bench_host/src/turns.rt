@@ -1,8 +1,9 @@
 //! What a turn costs, by how many instances there are.
 
+use crate::clock::since;
 use anyhow::{Context, Result, ensure};
 use std::alloc::Global;
-use std::time::{CpuClock, Duration};
+use std::time::CpuClock;
 use wh_host::{Host, ModuleId, Params};
 use wh_host_model::{InstId, Tax, TurnEnd};
 
@@ -66,13 +67,6 @@ fn fill(alloc: Global, crowd: &mut Crowd, count: usize) -> Result<()> {
 // The instance of this number.
 fn nth(ids: &[InstId], number: usize) -> Result<InstId> {
     ids.get(number).copied().context("nobody has the number")
-}
-
-// The processor time since then.
-fn since(rt: &impl CpuClock, before: Duration) -> Result<Duration> {
-    rt.thread_cpu_time()?
-        .checked_sub(before)
-        .context("the clock went back")
 }
 
 // Turns of so many charges, to the first so many instances one after another. The time a turn, in picoseconds.

@@ -1,5 +1,5 @@
 -- What is written by how a run ends.
-use Rattle.std.proofs.Common.{◌≡◌, ◌∙◌, ℕ, inl, inr, List, [], Option, Some, None, Result, Ok, Err, refl, sym, append-nil}
+use Rattle.std.proofs.Common.{◌≡◌, ◌∙◌, ℕ, inl, List, [], Option, Some, None, Result, Ok, Err, refl, sym, append-nil}
 use Rattle.std.specs.Prelude.{IfSome, ⊤}
 use Rattle.wh_host_model.specs.declared.plain.SwapError.{SwapError}
 use Rattle.wh_host_model.specs.Lines.Settings.{Settings, default_settings}
@@ -12,14 +12,14 @@ use Rattle.wh_script.proofs.Written.{appends_nothing}
 use Rattle.wh_engine.specs.Draining.{HasServed}
 use Rattle.wh_swap.specs.declared.stream.PageSwap.{PageSwap}
 use Rattle.wh_swap.specs.Written.{HasReadRight, page_faults}
-use Rattle.wasmhost_program.specs.Written.{any_files, HasServedSo, WritesReplies}
+use Rattle.wasmhost_program.specs.Written.{any_files, HasServedSo, WritesByEnd, WritesReplies}
 
 pub writes_nothing : (w : Option (List ℕ)) → WritesReplies w w
 writes_nothing w = (default_settings, [], [], inl ([], nothing_made, (refl, refl), says_nothing), ([], [], refl, appends_nothing w))
 
 pub writes_replies : (settings : Settings) (script left before after : Option (List ℕ)) (r : Result Unit ScriptFault) → Runs settings any_files script left before after r
-    → WritesReplies before after
-writes_replies settings script left before after (Ok x) p = (settings, p.0, p.1, inr p.3, (p.1, [], sym (append-nil p.1), p.4))
+    → WritesByEnd r before after
+writes_replies settings script left before after (Ok x) p = (settings, p.0, p.1, p.3, p.4)
 writes_replies settings script left before after (Err Script) p = (settings, p.0, p.1, inl p.3, (p.1, [], sym (append-nil p.1), p.4))
 writes_replies settings script left before after (Err Memory) p = (settings, p.0, p.1, inl p.3, (p.1, [], sym (append-nil p.1), p.4))
 writes_replies settings script left before after (Err Output) p = (settings, p.0, p.1, p.3, p.4)

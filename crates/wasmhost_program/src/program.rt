@@ -4,7 +4,7 @@ ghost use Rattle.std.specs.Prelude.{◌≡◌, ◌≤◌, replicate, [], IfOk, I
 ghost use Rattle.wh_engine.specs.Draining.{HasServed};
 ghost use Rattle.wh_script.specs.Starting.{IsEmptyDevice};
 ghost use Rattle.wh_swap.specs.Written.{HasReadRight, page_faults, page_held};
-ghost use Rattle.wasmhost_program.specs.Written.{HasServedSo, WritesReplies};
+ghost use Rattle.wasmhost_program.specs.Written.{HasServedSo, WritesByStatus, WritesByEnd};
 
 use crate::arguments::{Arguments, Refused, read_args};
 use crate::errors::Errors;
@@ -102,7 +102,7 @@ fn run_over<
 ) -> (Result<(), ScriptFault>, Option<D>)
     requires { IsEmptyDevice settings.now.slots (D.held device) }
     ensures { IfSome result.1 (λ after. HasServed (D.honest after) (D.faults device)
-        (D.faults after)) → WritesReplies (W.contents output.old) (W.contents output.new) }
+        (D.faults after)) → WritesByEnd result.0 (W.contents output.old) (W.contents output.new) }
 {
     let alloc = rt.alloc();
     let source = SystemFiles { rt };
@@ -144,7 +144,7 @@ fn run_in_memory<E: Files + Input + AllocGlobal + Threads + Wait + Copy + Send +
     script: Option<&str>,
     output: &mut W,
 ) -> Result<(), ScriptFault>
-    ensures { WritesReplies (W.contents output.old) (W.contents output.new) }
+    ensures { WritesByEnd result (W.contents output.old) (W.contents output.new) }
 {
     let Ok(device) = MemSwap::new(rt.alloc(), settings.slots) else {
         return Err(ScriptFault::Memory);
@@ -164,7 +164,7 @@ fn run_with<E: Files + Input + AllocGlobal + Threads + Wait + Copy + Send + 'sta
 where
     E::File: Send + 'static,
     ensures { HasServedSo result.1
-        → WritesReplies (W.contents output.old) (W.contents output.new) }
+        → WritesByEnd result.0 (W.contents output.old) (W.contents output.new) }
 {
     let Some(path) = &settings.swap else {
         let outcome = run_in_memory(rt, settings, given.workers, given.script, output);
@@ -186,7 +186,7 @@ fn run_given<E: Files + Input + AllocGlobal + Threads + Wait + Copy + Send + 'st
 where
     E::File: Send + 'static,
     ensures { HasServedSo result.1
-        → WritesReplies (W.contents output.old) (W.contents output.new) }
+        → WritesByEnd result.0 (W.contents output.old) (W.contents output.new) }
 {
     match settings_of_file(rt, given.settings) {
         Ok(settings) => run_with(rt, &settings, given, output),
@@ -196,7 +196,7 @@ where
 
 /// Says why the program stops. A failed write of that has nobody to be told.
 fn stop(errors: &mut impl Write, fault: ScriptFault) -> u8
-    ensures { result ≤ 2 }
+    ensures { result ≡ 1 }
 {
     let _ = writeln!(errors, "wasmhost: {fault}");
     STOPPED
@@ -213,10 +213,10 @@ pub fn answer<E: Files + Input + AllocGlobal + Threads + Wait + Copy + Send + 's
 where
     E::File: Send + 'static,
     ensures status { result.status ≤ 2 }
-    // Nothing but what answers a script is written to the output: so it is where pages are swapped to memory, and over a
-    // file where that has given what was written to it, and no call of it failed.
+    // Nothing but what answers a script is written to the output, and at status 0 all of it: so it is where pages are swapped
+    // to memory, and over a file where that has given what was written to it, and no call of it failed.
     ensures replies { HasServedSo result.swap
-        → WritesReplies (W.contents output.old) (W.contents output.new) }
+        → WritesByStatus result.status (W.contents output.old) (W.contents output.new) }
 {
     let (outcome, swap) = match read_args(rt.alloc(), words) {
         Ok(given) => run_given(rt, given, output),

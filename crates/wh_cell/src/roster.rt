@@ -1,10 +1,13 @@
 //! Which instances have turns: who can go on and has none out.
 
-ghost use Rattle.std.specs.Prelude.{◌≡◌, ◌≢◌, ◌<◌, ◌++◌, ◌∷◌, [], false, true, Some, None, IfOk, map, vec_len};
-ghost use Rattle.wh_host.specs.Paging.{IsGoing, Tells};
-ghost use Rattle.wh_cell.specs.Rostered.{ChoosesTurn, RestsAll, at_home, ids_of};
-ghost use Rattle.wh_cell.specs.declared.roster.Prospect.TheVariants.{Now, Never};
-ghost use Rattle.wh_cell.specs.declared.roster.Choice.TheVariants.{Turn, Rest};
+ghost use Rattle.std.specs.List.{AllZip};
+ghost use Rattle.std.specs.Prelude.{◌≡◌, ◌≢◌, ◌<◌, ◌⊎◌, ◌++◌, ◌∷◌, [], false, true, Some, None, IfOk, IfSome, map, vec_len};
+ghost use Rattle.wh_host_model.specs.declared.plain.InstId.{InstId};
+ghost use Rattle.wh_host.specs.Paging.{IsAwaiting, IsGoing, Tells};
+ghost use Rattle.wh_cell.specs.Rostered.{ChoosesTurn, HasToWait, IsBack, IsBackAt, RestsAll, at_home, ends_service};
+ghost use Rattle.wh_cell.specs.declared.moving.Moved.TheVariants.{Ready};
+ghost use Rattle.wh_cell.specs.declared.roster.Choice.TheVariants.{Wait, Rest};
+ghost use Rattle.wh_cell.specs.declared.roster.Prospect.TheVariants.{Now, Later, Never};
 
 use crate::moving::Moved;
 use std::alloc::{AllocError, Global};
@@ -101,6 +104,8 @@ impl Drop for Roster {
 fn prospect_of(host: &Host, seat: Seat, ready: Option<InstId>) -> Prospect
     ensures now { result ≡ Now → (seat.is_out ≡ false)
         × Tells host.now true (λ w. IsGoing w seat.id) }
+    ensures later { result ≡ Later → (seat.is_out ≡ true)
+        ⊎ (Tells host.now true (λ w. IsAwaiting w seat.id) × (ready ≢ Some seat.id)) }
     ensures never { result ≡ Never → (seat.is_out ≡ false)
         × Tells host.now false (λ w. IsGoing w seat.id) }
 {
@@ -119,7 +124,7 @@ fn prospect_of(host: &Host, seat: Seat, ready: Option<InstId>) -> Prospect
 // No turn is out of who has this seat, if it is this instance.
 fn bring_back_at(seats: &mut Vec<Seat>, at: usize, id: InstId)
     requires { at < vec_len seats.old }
-    ensures same { ids_of seats.new.items ≡ ids_of seats.old.items }
+    ensures back { IsBackAt id at seats.old.items seats.new.items }
     ensures len { vec_len seats.new ≡ vec_len seats.old }
 {
     let seat = seats[at];
@@ -162,9 +167,10 @@ impl Roster {
     }
 
     /// What comes next: the first instance that can go on and has no turn out, which has one out then. It waits for a frame only
-    /// where its step was made ready. The answer is `Rest` where no instance can go on, and no turn is out.
+    /// where its step was made ready. The answer is `Rest` where no instance can go on, and no turn is out; else it is `Wait`.
     pub fn choose(&mut self, host: &Host) -> Choice
         ensures turn { ChoosesTurn host.now self.old.seats.items result self.new.seats.items }
+        ensures wait { result ≡ Wait → HasToWait host.now self.old.seats.items self.old.ready }
         ensures rest { result ≡ Rest → RestsAll host.now self.old.seats.items }
     {
         let mut waits = false;
@@ -213,7 +219,7 @@ impl Roster {
 
     /// The turn of this instance has come back, and none of it is out.
     pub fn bring_back(&mut self, id: InstId)
-        ensures { ids_of self.new.seats.items ≡ ids_of self.old.seats.items }
+        ensures { AllZip (IsBack id) self.old.seats.items self.new.seats.items }
     {
         for at in 0..self.seats.len() {
             bring_back_at(&mut self.seats, at, id);
@@ -227,7 +233,11 @@ impl Roster {
 
     /// Whose step is made ready: the one for which a page was moved last, while it still waits for a frame; else the next one
     /// behind it that waits and has no turn out. Nobody's, while a step is ready that waits for its turn.
-    pub fn next_waiter(&mut self, host: &Host) -> Option<Waiter> {
+    pub fn next_waiter(&mut self, host: &Host) -> Option<Waiter>
+        ensures some { IfSome result (λ waiter. (self.old.ready ≡ None)
+            × Tells host.now true (λ w. IsAwaiting w waiter.id)) }
+        ensures same { (self.new.seats ≡ self.old.seats) × (self.new.ready ≡ self.old.ready) }
+    {
         if self.ready.is_some() {
             return None;
         }
@@ -242,7 +252,10 @@ impl Roster {
     }
 
     // Whether the one that is served still waits for a frame.
-    fn still_waits(&self, host: &Host) -> bool {
+    fn still_waits(&self, host: &Host) -> bool
+        ensures { result ≡ true → (id : InstId) × (self.now.served ≡ Some id)
+            × Tells host.now true (λ w. IsAwaiting w id) }
+    {
         match self.served {
             Some(id) => host.awaits_frame(id),
             None => false,
@@ -250,7 +263,11 @@ impl Roster {
     }
 
     // The next seat is served whose instance waits, or none.
-    fn begin_with_next(&mut self, host: &Host) {
+    fn begin_with_next(&mut self, host: &Host)
+        ensures served { (id : InstId) → self.new.served ≡ Some id
+            → Tells host.now true (λ w. IsAwaiting w id) }
+        ensures same { (self.new.seats ≡ self.old.seats) × (self.new.ready ≡ self.old.ready) }
+    {
         self.served = None;
         self.voids = 0;
         let many = self.seats.len();
@@ -266,7 +283,12 @@ impl Roster {
     }
 
     /// Notes what came of a move for the instance that is served. Whether it may go on now, or not at all.
-    pub fn note(&mut self, id: InstId, moved: Moved) -> bool {
+    pub fn note(&mut self, id: InstId, moved: Moved) -> bool
+        ensures ends { result ≡ ends_service moved }
+        ensures ready { moved ≡ Ready → self.new.ready ≡ Some id }
+        ensures left { moved ≢ Ready → self.new.ready ≡ self.old.ready }
+        ensures seats { self.new.seats ≡ self.old.seats }
+    {
         match moved {
             Moved::Made => {
                 self.voids = 0;

@@ -1,5 +1,5 @@
 -- Drains: the device behind a host, and what calls come to.
-use Rattle.std.specs.Prelude.{◌≡◌, ℕ, List, ◌++◌, slice_get, Option, Some, None, false}
+use Rattle.std.specs.Prelude.{◌≡◌, ℕ, List, ◌++◌, slice_get, Option, Some, None, false, true}
 use Rattle.std.specs.List.{AllZip}
 use Rattle.wh_host_model.specs.declared.plain.SwapError.{SwapError}
 use Rattle.wh_host_model.specs.Lines.Settings.{Settings}
@@ -51,6 +51,10 @@ DeviceServesWell honest faults o o2 = ⊥
 -- no call of these instances can go on
 abbrev pub AllRest : HostState → List Guest → Type 0
 AllRest h xs = (i : ℕ) (x : Guest) → slice_get xs i ≡ Some x → Tells h false (λ w. IsGoing w x.id)
+
+-- a call of one of them can
+abbrev pub SomeGoes : HostState → List Guest → Type 0
+SomeGoes h xs = (i : ℕ) × (x : Guest) × (slice_get xs i ≡ Some x) × Tells h true (λ w. IsGoing w x.id)
 
 -- why a drain stops: memory was refused, a thread can't be started, or calls can go on that should have run
 abbrev pub StopsRun : ScriptFault → Type 0

@@ -1,7 +1,9 @@
 // Calls that run until none can go on.
 
-ghost use Rattle.std.specs.Prelude.{◌≡◌, ◌≤◌, false, IfErr, OnOk};
-ghost use Rattle.wh_engine.specs.Draining.{AllRest, DeviceMayFail, DeviceServesWell, DeviceStaysTrue, RunsEach, StopsRun};
+ghost use Rattle.std.specs.Bool.{MatchBool};
+ghost use Rattle.std.specs.Prelude.{◌≡◌, ◌≢◌, ◌≤◌, IfErr, OnOk};
+ghost use Rattle.wh_engine.specs.declared.fault.ScriptFault.TheVariants.{Transcript};
+ghost use Rattle.wh_engine.specs.Draining.{AllRest, DeviceMayFail, DeviceServesWell, DeviceStaysTrue, RunsEach, SomeGoes, StopsRun};
 ghost use Rattle.wh_engine.specs.Standing.{engine_on};
 
 use crate::engine::Engine;
@@ -19,7 +21,8 @@ use wh_workers::ServeError;
 
 // Why calls weren't run, as a script says it.
 fn stops_by(error: ServeError) -> ScriptFault
-    ensures { StopsRun result }
+    ensures stops { StopsRun result }
+    ensures others { result ≢ Transcript }
 {
     match error {
         ServeError::Memory => ScriptFault::Memory,
@@ -30,7 +33,8 @@ fn stops_by(error: ServeError) -> ScriptFault
 impl Engine {
     /// Whether a call of some instance can go on.
     pub fn can_go_on(&self, host: &Host) -> bool
-        ensures { result ≡ false → AllRest host.now self.now.guests.items }
+        ensures { MatchBool result (SomeGoes host.now self.now.guests.items)
+            (AllRest host.now self.now.guests.items) }
     {
         for guest in &self.guests {
             if host.can_go_on(guest.id) {
@@ -90,6 +94,8 @@ impl Engine {
             (DeviceServesWell D.honest D.faults host.old.device host.new.device
             → RunsEach (engine_on host.old.host self.now) (engine_on host.new.host self.now)) }
         ensures err { IfErr result StopsRun }
+        ensures transcript { IfErr result (λ fault. fault ≡ Transcript
+            → SomeGoes host.new.host self.now.guests.items) }
     {
         if !self.can_go_on(host.host()) {
             return Ok(());

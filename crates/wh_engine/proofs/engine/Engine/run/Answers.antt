@@ -1,15 +1,22 @@
-use Rattle.std.proofs.Common.{refl, subst}
-use Rattle.wh_engine.specs.Draining.{AllRest}
+use Rattle.std.proofs.Common.{subst}
+use Rattle.wh_engine.specs.Draining.{AllRest, SomeGoes}
 use Rattle.wh_engine.proofs.Runs.{ran_at_once, ran_each}
 use Rattle.wh_engine.proofs.engine.Engine.run.Goals as goal
 
 pub returns-then-not-can_go_on-clause-runs : goal.returns-then-not-can_go_on-clause-runs
 returns-then-not-can_go_on-clause-runs g c well =
     ran_at_once c.args.self.now c.args.host.now.host
-    (subst (λ h. AllRest h c.args.self.now.guests.items) c.host.ensures (c.if-not-can_go_on.ensures refl))
+    (subst (λ h. AllRest h c.args.self.now.guests.items) c.host.ensures c.if-not-can_go_on.ensures)
 
 pub returns-clause-runs : goal.returns-clause-runs
 returns-clause-runs g c =
     ran_each g.D.SwapDev.keeps g.D.SwapDev.honest g.D.SwapDev.faults c.args.self.now c.args.host.now c.run-served.new.self
     c.run-served.ensures.came c.known.ensures.together.none_out
-    (subst (λ h. AllRest h c.args.self.now.guests.items) c.host-3.ensures (c.if-can_go_on.ensures refl))
+    (subst (λ h. AllRest h c.args.self.now.guests.items) c.host-3.ensures c.if-can_go_on.ensures)
+
+pub returns-in-Err-clause-transcript : goal.returns-in-Err-clause-transcript
+returns-in-Err-clause-transcript g c same = absurd (c.stops_by.ensures.others same)
+
+pub returns-then-can_go_on-clause-transcript : goal.returns-then-can_go_on-clause-transcript
+returns-then-can_go_on-clause-transcript g c same =
+    subst (λ h. SomeGoes h c.args.self.now.guests.items) c.host-3.ensures c.if-can_go_on.ensures

@@ -1,6 +1,7 @@
 //! Hints, merges, breaks and stale hints, alone and beside other instances.
 
-use crate::pages::{enter, memory_of, since, write};
+use crate::clock::since;
+use crate::pages::{enter, memory_of, write};
 use anyhow::{Context, Result, ensure};
 use std::alloc::Global;
 use std::time::{CpuClock, Duration};

@@ -1,6 +1,7 @@
 //! Four instances with twice as many pages as there are frames.
 
-use crate::pool::{Pool, since};
+use crate::clock::since;
+use crate::pool::Pool;
 use anyhow::Result;
 use std::time::CpuClock;
 

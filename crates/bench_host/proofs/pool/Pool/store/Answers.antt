@@ -1,7 +1,7 @@
 use Rattle.wh_swap.specs.Memory.{memory_held}
 use Rattle.wh_space.proofs.Keeping.{keeps_store}
 use Rattle.wh_reclaim.proofs.Together.{same_pass}
-use Rattle.bench_paging.proofs.pool.Pool.store.Goals as goal
+use Rattle.bench_host.proofs.pool.Pool.store.Goals as goal
 
 pub invariant_of-self : goal.invariant_of-self
 invariant_of-self c = record {

@@ -37,7 +37,7 @@ fn time_writes(rt: &(impl Print + CpuClock + AllocGlobal), pool: &mut Pool) -> R
     for page in 0..PAGES {
         pool.write(rt, OTHERS, page, 7)?;
     }
-    let whole = crate::pool::since(rt, before)?;
+    let whole = crate::clock::since(rt, before)?;
     ensure!(pool.waits == PAGES, "a store didn't wait");
     ensure!(pool.left == u64::from(PAGES), "other pages left");
     say(rt, pool.time, whole)

@@ -1,6 +1,7 @@
 //! Full passes beside the hash of the same pages.
 
-use crate::pages::{enter, memory_of, since, write};
+use crate::clock::since;
+use crate::pages::{enter, memory_of, write};
 use anyhow::{Context, Result, ensure};
 use std::alloc::Global;
 use std::time::{CpuClock, Duration};

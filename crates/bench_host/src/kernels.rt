@@ -1,10 +1,9 @@
-//! Times the kernels beside plain byte loops. Run it with any argument: without one it does nothing, so that what it
-//! prints never depends on the time.
-#![tactic(auto)]
+//! The kernels beside plain byte loops.
 
+use anyhow::Result;
+use std::io;
 use std::rt::Clock;
 use std::time::Instant;
-use std::{env, io};
 use wh_kernels::{fnv64, is_zero, pages_equal};
 
 const ROUNDS: u32 = 1000000;
@@ -60,27 +59,31 @@ fn time<R: Print + Clock, F: Fn(&[u8; 4096], &[u8; 4096]) -> u64>(
     Ok(())
 }
 
-fn main(rt: HostRuntime) -> io::Result<()> {
-    if env::args(&rt)?.count() < 2 {
-        return Ok(());
-    }
+// Times two kernels that compare, beside their loops.
+fn time_comparisons(rt: &(impl Print + Clock)) -> io::Result<()> {
     time(
-        &rt,
+        rt,
         "pages_equal",
         |first, second| u64::from(pages_equal(first, second)),
     )?;
     time(
-        &rt,
+        rt,
         "pages_equal, byte by byte",
         |first, second| u64::from(equal_by_bytes(first, second)),
     )?;
-    time(&rt, "is_zero", |page, _| u64::from(is_zero(page)))?;
+    time(rt, "is_zero", |page, _| u64::from(is_zero(page)))?;
     time(
-        &rt,
+        rt,
         "is_zero, byte by byte",
         |page, _| u64::from(zero_by_bytes(page)),
     )?;
-    time(&rt, "fnv64", |page, _| fnv64(page))?;
-    time(&rt, "fnv64, byte by byte", |page, _| hash_by_bytes(page))?;
+    Ok(())
+}
+
+/// Times each kernel on two pages that stay in the cache, beside a loop over the bytes that gives the same.
+pub fn run(rt: &(impl Print + Clock)) -> Result<()> {
+    time_comparisons(rt)?;
+    time(rt, "fnv64", |page, _| fnv64(page))?;
+    time(rt, "fnv64, byte by byte", |page, _| hash_by_bytes(page))?;
     Ok(())
 }

@@ -5,6 +5,7 @@ ghost use Rattle.wh_host_model.specs.Space.Parts.{Occupant, occupant_at};
 ghost use Rattle.wh_reclaim.specs.Together.{AreTogether};
 ghost use Rattle.wh_swap.specs.Memory.{memory_held};
 
+use crate::clock::since;
 use anyhow::{Context, Result, anyhow, ensure};
 use std::alloc::Global;
 use std::time::{CpuClock, Duration};
@@ -142,11 +143,4 @@ impl Pool {
         self.memory.end(place as usize);
         Ok(())
     }
-}
-
-/// The processor time since then.
-pub fn since(rt: &impl CpuClock, before: Duration) -> Result<Duration> {
-    rt.thread_cpu_time()?
-        .checked_sub(before)
-        .context("the clock went back")
 }

@@ -1,8 +1,7 @@
 //! Memories with instances in them.
 
-use anyhow::{Context, Result, ensure};
+use anyhow::{Result, ensure};
 use std::alloc::Global;
-use std::time::{CpuClock, Duration};
 use wh_host_model::Tax;
 use wh_model::Got;
 use wh_space::{Memory, Promise};
@@ -42,11 +41,4 @@ pub fn write(memory: &mut Memory, place: usize, page: u32, number: u64) -> Resul
     let got = memory.store(place, at, &number.to_le_bytes());
     ensure!(got == Got::Value, "the store came to {got:?}");
     Ok(())
-}
-
-/// The processor time since then.
-pub fn since(rt: &impl CpuClock, before: Duration) -> Result<Duration> {
-    rt.thread_cpu_time()?
-        .checked_sub(before)
-        .context("the clock went back")
 }
