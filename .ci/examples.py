@@ -1,11 +1,20 @@
 #!/usr/bin/env python3
-"""Says whether the guide's program is the one that the gate builds."""
+"""Says whether the guide's pages show the programs that are built and run."""
 import pathlib
 import sys
 
 root = pathlib.Path(__file__).resolve().parent.parent
-program = (root / "crates/example_embedding/src/main.rt").read_text()
-page = (root / "docs/guide/embedding.md").read_text()
-if f"```rust\n{program}```" not in page:
-    print("docs/guide/embedding.md has another program than crates/example_embedding/src/main.rt")
-    sys.exit(1)
+shown = [
+    ("docs/guide/embedding.md", "crates/example_embedding/src/main.rt", "rust"),
+    ("docs/guide/compiling-libc.md", "examples/libc/sort.c", "c"),
+    ("docs/guide/compiling-rust.md", "examples/rust/words.rs", "rust"),
+    ("docs/guide/compiling-cpp.md", "examples/cpp/shapes.cpp", "cpp"),
+]
+others = [
+    (page, program)
+    for page, program, language in shown
+    if f"```{language}\n{(root / program).read_text()}```" not in (root / page).read_text()
+]
+for page, program in others:
+    print(f"{page} has another program than {program}")
+sys.exit(1 if others else 0)
