@@ -5,7 +5,7 @@ use std::rt::Files;
 use std::sync::Wait;
 use std::test::Fail;
 use std::thread::Threads;
-use wasmhost_program::answer;
+use wasmhost_program::{Lockable, answer};
 
 /// What a command line got.
 #[derive(Drop)]
@@ -35,7 +35,7 @@ pub fn status_of<E: Files + Input + AllocGlobal + Threads + Wait + Copy + Send +
     errors: &mut impl Write,
 ) -> u8
 where
-    E::File: Send + 'static,
+    E::File: Lockable + Send + 'static,
 {
     answer(rt, words, output, errors).status
 }
@@ -46,7 +46,7 @@ pub fn ask<E: Files + Input + AllocGlobal + Threads + Wait + Copy + Send + 'stat
     line: &[&str],
 ) -> Result<Got, Fail>
 where
-    E::File: Send + 'static,
+    E::File: Lockable + Send + 'static,
 {
     let words = words(rt, line)?;
     let mut output = Vec::new(rt.alloc());

@@ -6,7 +6,7 @@ use std::rt::Files;
 use std::sync::Wait;
 use std::test::Fail;
 use std::thread::Threads;
-use wasmhost_program::{ANSWERED, NOT_ACCEPTED, STOPPED};
+use wasmhost_program::{ANSWERED, Lockable, NOT_ACCEPTED, STOPPED};
 
 /// A writer that takes nothing.
 #[derive(Drop)]
@@ -91,7 +91,7 @@ fn statuses<E: Files + Input + AllocGlobal + Threads + Wait + Copy + Send + 'sta
     errors: &mut Vec<u8>,
 ) -> [u8; 3]
 where
-    E::File: Send + 'static,
+    E::File: Lockable + Send + 'static,
 {
     let kept = status_of(rt, words, output, errors);
     let stopped = status_of(rt, words, &mut Full, errors);
@@ -115,11 +115,9 @@ fn a_failed_write_stops_the_program(rt: HostRuntime) -> Result<(), Fail> {
 }
 
 /// Settings, each with why the program stops for them.
-const UNFIT: [(&str, &str); 4] = [
+const UNFIT: [(&str, &str); 2] = [
     ("frames = 1\n", "wasmhost: settings\n"),
     ("speed = 1\n", "wasmhost: settings\n"),
-    ("swap = \"/\"\n", "wasmhost: swap\n"),
-    ("swap = \"no/such/pages\"\n", "wasmhost: swap\n"),
 ];
 
 /// That a program stopped without a reply, for these settings, and that this is what stands on standard error.

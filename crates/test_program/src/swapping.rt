@@ -5,7 +5,7 @@ use std::rt::Files;
 use std::sync::Wait;
 use std::test::Fail;
 use std::thread::Threads;
-use wasmhost_program::ANSWERED;
+use wasmhost_program::{ANSWERED, Lockable};
 
 /// An instance with two frames stores a byte to each of three pages, and loads the first again: `s` stores one, and `l` loads
 /// one. So one page has to leave for the third store, and another one for the load, for which the first comes.
@@ -46,7 +46,7 @@ fn answered<E: Files + Input + AllocGlobal + Threads + Wait + Copy + Send + 'sta
     script: &str,
 ) -> Result<Got, Fail>
 where
-    E::File: Send + 'static,
+    E::File: Lockable + Send + 'static,
 {
     let settings_path = "wasmhost_program_swap_tests.toml";
     let script_path = "wasmhost_program_swap_tests.script";

@@ -1,11 +1,24 @@
 // The files of the system.
 
 use std::alloc::Global;
-use std::fs;
 use std::fs::File;
 use std::io::{ErrorKind, Read, Result as IoResult};
 use std::rt::Files;
 use wh_script::{FileError, Source};
+
+/// How many bytes of a module's file are read: one more than a module may have, so that a longer one is refused for its
+/// length.
+const MOST_MODULE_BYTES: u64 = 1_048_577;
+
+/// Reads the file at this path, and of a longer one, a pipe or a device its first `most` bytes alone.
+///
+/// # Errors
+/// Where it can't be opened or read, and `OutOfMemory` where there is no room for its bytes.
+pub fn read_at_most(rt: &(impl Files + AllocGlobal), path: &str, most: u64) -> IoResult<Vec<u8>> {
+    let mut bytes = Vec::new(rt.alloc());
+    File::open(rt, path)?.take(most).read_to_end(&mut bytes)?;
+    Ok(bytes)
+}
 
 /// Files by their paths. What they hold isn't known.
 #[derive(Drop)]
@@ -19,7 +32,7 @@ impl<F: Files + AllocGlobal> Source for SystemFiles<'_, F> {
     ghost files = { λ system path bytes. true };
 
     fn read(&self, _alloc: Global, path: &str) -> Result<Vec<u8>, FileError> {
-        match fs::read(self.rt, path) {
+        match read_at_most(self.rt, path, MOST_MODULE_BYTES) {
             Ok(bytes) => Ok(bytes),
             Err(error) if error.kind() == ErrorKind::OutOfMemory => Err(FileError::Memory),
             Err(_) => Err(FileError::Unreadable),

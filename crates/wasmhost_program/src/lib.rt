@@ -11,5 +11,7 @@ mod arguments;
 mod errors;
 mod files;
 mod program;
+mod swap_file;
 
 pub use program::{ANSWERED, NOT_ACCEPTED, Outcome, STOPPED, answer, run};
+pub use swap_file::Lockable;

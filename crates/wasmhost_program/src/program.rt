@@ -8,14 +8,16 @@ ghost use Rattle.wasmhost_program.specs.Written.{HasServedSo, WritesByStatus, Wr
 
 use crate::arguments::{Arguments, Refused, read_args};
 use crate::errors::Errors;
-use crate::files::{LateFile, SystemFiles};
-use std::fs::OpenOptions;
-use std::io::{ErrorKind, Write};
+use crate::files::{LateFile, SystemFiles, read_at_most};
+use crate::swap_file::{Lockable, SwapFile, open_swap_file};
+use std::alloc::Global;
+use std::fs::OpenFile;
+use std::io::{ErrorKind, Read, Seek, Write};
 use std::process::ExitCode;
 use std::rt::{Env, Files};
 use std::sync::Wait;
 use std::thread::Threads;
-use std::{env, fs, io};
+use std::{env, io};
 use wh_script::{ScriptFault, run_script};
 use wh_settings::{Settings, SettingsError, Workers, read_settings};
 use wh_swap::{MemSwap, StreamSwap, SwapDev};
@@ -28,6 +30,9 @@ pub const STOPPED: u8 = 1;
 
 /// The status where the command line isn't accepted.
 pub const NOT_ACCEPTED: u8 = 2;
+
+/// How many bytes a file of settings may have.
+const MOST_SETTINGS_BYTES: u32 = 65536;
 
 /// The words of the command line.
 fn words(rt: &(impl Env + AllocGlobal)) -> io::Result<Vec<String>> {
@@ -42,10 +47,10 @@ fn settings_of_file(
     let Some(path) = path else {
         return Ok(Settings::default());
     };
-    let bytes = match fs::read(rt, path) {
-        Ok(bytes) => bytes,
+    let bytes = match read_at_most(rt, path, u64::from(MOST_SETTINGS_BYTES) + 1) {
+        Ok(bytes) if bytes.len() <= MOST_SETTINGS_BYTES as usize => bytes,
         Err(error) if error.kind() == ErrorKind::OutOfMemory => return Err(ScriptFault::Memory),
-        Err(_) => return Err(ScriptFault::Settings),
+        Ok(_) | Err(_) => return Err(ScriptFault::Settings),
     };
     match read_settings(rt.alloc(), &bytes) {
         Ok(settings) => Ok(settings),
@@ -63,24 +68,19 @@ pub struct Outcome<F> {
     pub swap: Option<StreamSwap<F>>,
 }
 
-/// A device over this file, which is made where it isn't there. What it held is lost.
-fn open_swap<E: Files + AllocGlobal>(
-    rt: &E,
-    path: &str,
+/// A device over this file. What it held is lost.
+fn device_over<F: OpenFile + Read + Write + Seek + Drop>(
+    alloc: Global,
+    own: &SwapFile<F>,
     slots: u32,
-) -> Result<StreamSwap<E::File>, ScriptFault>
+) -> Result<StreamSwap<F>, ScriptFault>
     ensures held { IfOk result (λ device. page_held device ≡ replicate slots []) }
     ensures faults { IfOk result (λ device. page_faults device ≡ []) }
 {
-    let mut options = OpenOptions::new();
-    options.read(true);
-    options.write(true);
-    options.create(true);
-    options.truncate(true);
-    let Ok(file) = options.open(rt, path) else {
+    let Ok(file) = own.handle() else {
         return Err(ScriptFault::Swap);
     };
-    let Ok(device) = StreamSwap::new(rt.alloc(), file, slots) else {
+    let Ok(device) = StreamSwap::new(alloc, file, slots) else {
         return Err(ScriptFault::Memory);
     };
     Ok(device)
@@ -153,6 +153,26 @@ fn run_in_memory<E: Files + Input + AllocGlobal + Threads + Wait + Copy + Send +
     outcome
 }
 
+/// Runs the script of a command line with these settings and its workers. Pages are swapped to this file, over which the
+/// device comes back.
+fn run_on_file<E: Files + Input + AllocGlobal + Threads + Wait + Copy + Send + 'static, W: Write>(
+    rt: &E,
+    settings: &Settings,
+    given: Arguments<'_>,
+    own: &SwapFile<E::File>,
+    output: &mut W,
+) -> (Result<(), ScriptFault>, Option<StreamSwap<E::File>>)
+where
+    E::File: Send + 'static,
+    ensures { HasServedSo result.1
+        → WritesByEnd result.0 (W.contents output.old) (W.contents output.new) }
+{
+    match device_over(rt.alloc(), own, settings.slots) {
+        Ok(device) => run_over(rt, settings, given.workers, device, given.script, output),
+        Err(fault) => (Err(fault), None),
+    }
+}
+
 /// Runs the script of a command line with these settings and its workers. The device comes back, where the settings name a
 /// file for it.
 fn run_with<E: Files + Input + AllocGlobal + Threads + Wait + Copy + Send + 'static, W: Write>(
@@ -162,7 +182,7 @@ fn run_with<E: Files + Input + AllocGlobal + Threads + Wait + Copy + Send + 'sta
     output: &mut W,
 ) -> (Result<(), ScriptFault>, Option<StreamSwap<E::File>>)
 where
-    E::File: Send + 'static,
+    E::File: Lockable + Send + 'static,
     ensures { HasServedSo result.1
         → WritesByEnd result.0 (W.contents output.old) (W.contents output.new) }
 {
@@ -170,10 +190,13 @@ where
         let outcome = run_in_memory(rt, settings, given.workers, given.script, output);
         return (outcome, None);
     };
-    match open_swap(rt, path, settings.slots) {
-        Ok(device) => run_over(rt, settings, given.workers, device, given.script, output),
-        Err(fault) => (Err(fault), None),
-    }
+    let Ok(own) = open_swap_file(rt, path) else {
+        return (Err(ScriptFault::Swap), None);
+    };
+    let ended = run_on_file(rt, settings, given, &own, output);
+    // That nothing could be taken out of the file has nobody to be told: what was answered stays so.
+    let _ = own.empty();
+    ended
 }
 
 /// Runs the script of a command line with its settings and workers. The device comes back, where the settings name a file
@@ -184,7 +207,7 @@ fn run_given<E: Files + Input + AllocGlobal + Threads + Wait + Copy + Send + 'st
     output: &mut W,
 ) -> (Result<(), ScriptFault>, Option<StreamSwap<E::File>>)
 where
-    E::File: Send + 'static,
+    E::File: Lockable + Send + 'static,
     ensures { HasServedSo result.1
         → WritesByEnd result.0 (W.contents output.old) (W.contents output.new) }
 {
@@ -211,7 +234,7 @@ pub fn answer<E: Files + Input + AllocGlobal + Threads + Wait + Copy + Send + 's
     errors: &mut impl Write,
 ) -> Outcome<E::File>
 where
-    E::File: Send + 'static,
+    E::File: Lockable + Send + 'static,
     ensures status { result.status ≤ 2 }
     // Nothing but what answers a script is written to the output, and at status 0 all of it: so it is where pages are swapped
     // to memory, and over a file where that has given what was written to it, and no call of it failed.
@@ -241,7 +264,7 @@ pub fn run<
     E: Env + Files + Input + Print + Eprint + AllocGlobal + Threads + Wait + Copy + Send + 'static,
 >(rt: E) -> ExitCode
 where
-    E::File: Send + 'static,
+    E::File: Lockable + Send + 'static,
 {
     let mut errors = Errors { rt: &rt };
     let words = match words(&rt) {

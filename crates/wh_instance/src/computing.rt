@@ -11,7 +11,7 @@ use wh_machine::{Machine, Store, asks};
 use wh_model::{Need, Trap};
 
 /// What a turn makes of a call.
-#[derive(Clone, Copy, Debug, PartialEq, Eq)]
+#[derive(Clone, Copy)]
 pub enum Came {
     /// It has returned, with a result where its type has one; an i32 in the low 32 bits.
     Returned(Option<u64>),

@@ -26,7 +26,7 @@ pub enum Suspension {
 }
 
 /// What a turn of an instance comes to.
-#[derive(Clone, Copy, Debug, PartialEq, Eq)]
+#[derive(Clone, Copy)]
 pub enum Turned {
     /// The call has ended.
     Ended,

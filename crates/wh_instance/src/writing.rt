@@ -13,7 +13,7 @@ use wh_model::{Got, Need};
 use wh_syntax::Data;
 
 /// How far the data segments of a module are written: up to this byte of this segment.
-#[derive(Clone, Copy, Debug, PartialEq, Eq)]
+#[derive(Clone, Copy)]
 pub struct Cursor {
     /// The index of the segment.
     pub segment: usize,

@@ -1,3 +1,4 @@
 mod Kept
 mod Once
+mod Reserved
 mod Seen

@@ -1,19 +1,49 @@
 // A swap device in memory.
 
-ghost use Rattle.std.specs.Prelude.{◌≡◌, ◌≢◌, ◌+◌, ◌<◌, ⊤, [], length, get_or, replicate, slice_set, IsOk, IfOk, OnOk};
+ghost use Rattle.std.specs.Prelude.{◌≡◌, ◌≢◌, ◌+◌, ◌-◌, ◌<◌, ◌≤◌, ◌++◌, ⊤, None, [], length, get_or, replicate, slice_set, IsOk, IfOk, OnOk};
+ghost use Rattle.std.specs.Vec.{vec_capacity};
 ghost use Rattle.wh_swap.specs.Memory.{memory_held, memory_writes};
 
 use crate::SwapDev;
 use crate::counts::one_more;
 use boxcar::tag::Tag;
 use std::alloc::{AllocError, Global};
+use std::marker::Model;
 use wh_host_model::SwapError;
 
 /// A swap device in memory. No call of it fails.
+///
+/// Room for all slots is reserved when it is made, and used only as far as slots are written, the lowest first: what lies
+/// behind costs addresses and no memory.
 #[derive(Drop)]
 pub struct MemSwap {
+    // What was written to each slot, for as many as were needed so far. To those behind them nothing was.
     slots: Vec<Option<[u8; 4096]>>,
+    // How many slots there are.
+    count: u32,
     writes: Tag,
+}
+
+impl Model for MemSwap {
+    ghost use Rattle.wh_swap.specs.Memory.{Contents, contents_of, HasRoomForSlots};
+
+    ghost Value = { Contents };
+
+    ghost view = { contents_of };
+
+    ghost invariant = { HasRoomForSlots };
+}
+
+// The slots up to this one are there, and nothing was written to those that weren't.
+fn reach(slots: &mut Vec<Option<[u8; 4096]>>, slot: u32)
+    requires { slot < vec_capacity slots.old }
+    ensures items { slots.new.items
+        ≡ slots.old.items ++ replicate (slot + 1 - length slots.old.items) None }
+    ensures capacity { vec_capacity slots.new ≡ vec_capacity slots.old }
+{
+    while slots.len() <= slot as usize {
+        slots.push_reserved(None);
+    }
 }
 
 impl MemSwap {
@@ -26,7 +56,8 @@ impl MemSwap {
         ensures writes { IfOk result (λ device. memory_writes device ≡ 0) }
     {
         Ok(MemSwap {
-            slots: vec![in alloc; None; slots as usize]?,
+            slots: Vec::with_capacity(alloc, slots as usize)?,
+            count: slots,
             writes: Tag::empty(),
         })
     }
@@ -50,7 +81,10 @@ impl SwapDev for MemSwap {
             → into.new ≡ get_or (memory_held self.old) slot []) }
         ensures unchanged { self.new ≡ self.old }
     {
-        *into = self.slots[slot as usize].unwrap_or([0; 4096]);
+        match self.slots.get(slot as usize) {
+            Some(Some(page)) => *into = *page,
+            _ => *into = [0; 4096],
+        }
         Ok(())
     }
 
@@ -61,6 +95,7 @@ impl SwapDev for MemSwap {
         ensures slots { length (memory_held self.new) ≡ length (memory_held self.old) }
         ensures writes { memory_writes self.new ≡ memory_writes self.old + 1 }
     {
+        reach(&mut self.slots, slot);
         self.slots[slot as usize] = Some(*from);
         self.writes = one_more(&self.writes);
         Ok(())

@@ -41,7 +41,7 @@ fn numbers(alloc: Global, count: u32) -> Result<Vec<u32>, AllocError>
     let mut left = count;
     while left > 0 {
         left -= 1;
-        list.push(left)?;
+        list.push_reserved(left);
     }
     Ok(list)
 }
@@ -58,7 +58,7 @@ fn nothing(alloc: Global, count: u32) -> Result<Vec<Tag>, AllocError>
 {
     let mut tags = Vec::with_capacity(alloc, count as usize)?;
     for _ in 0..count {
-        tags.push(Tag::empty())?;
+        tags.push_reserved(Tag::empty());
     }
     Ok(tags)
 }

@@ -4,6 +4,7 @@ use Rattle.wh_swap.proofs.slots.numbers.Goals as goal
 
 pub loop-left-preserved : goal.loop-left-preserved
 loop-left-preserved c = record {
-  items = numbers_next c.loop-left.left (c.loop-left.left - 1) c.loop-left.list.items c.push.new.self.items _ (omega arith) c.in_ok-push.ensures.items c.loop-left.invariant.items;
+  items = numbers_next c.loop-left.left (c.loop-left.left - 1) c.loop-left.list.items c.push_reserved.new.self.items _ (omega arith) c.push_reserved.ensures.items c.loop-left.invariant.items;
+  long = search rules;
   room = search rules;
 }

@@ -1,4 +1,4 @@
-use Rattle.std.proofs.Common.{◌≡◌, List, ℕ, slice_set, ap, ◌∙◌}
+use Rattle.std.proofs.Common.{List, ℕ, slice_set, ap, ◌∙◌}
 use Rattle.std.proofs.lemmas.List.{map-set}
 use Rattle.boxcar.specs.declared.tag.Tag.{Tag}
 use Rattle.wh_host_model.specs.Space.Parts.{Slots}

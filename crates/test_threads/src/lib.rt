@@ -8,6 +8,3 @@ mod cell;
 mod overlap;
 #[cfg(test)]
 mod workers;
-
-// Its tests are all that this crate is for.
-fn main() {}

@@ -26,6 +26,3 @@ mod speaking;
 mod starts;
 #[cfg(test)]
 mod swapping;
-
-// Its tests are all that this crate is for.
-fn main() {}

@@ -5,9 +5,8 @@
 #[cfg(test)]
 mod asking;
 #[cfg(test)]
+mod files;
+#[cfg(test)]
 mod lines;
 #[cfg(test)]
 mod swapping;
-
-// Its tests are all that this crate is for.
-fn main() {}

@@ -1,0 +1,175 @@
+// Files that the program reads and writes: modules and settings that are too long, and files for swap.
+
+use crate::asking::{Got, ask};
+use std::fs;
+use std::fs::File;
+use std::os::unix::fs::MetadataExt;
+use std::process::Abort;
+use std::rt::Files;
+use std::sync::Wait;
+use std::test::Fail;
+use std::thread::Threads;
+use wasmhost_program::{ANSWERED, Lockable, STOPPED};
+
+/// How many bytes a module may have, and a file of settings.
+const MOST_MODULE_BYTES: usize = 1_048_576;
+
+const MOST_SETTINGS_BYTES: usize = 65536;
+
+/// What a script of one line gets, with settings where a path is given.
+fn answered<E: Files + Input + AllocGlobal + Threads + Wait + Copy + Send + 'static>(
+    rt: &E,
+    settings: Option<&str>,
+    line: &str,
+) -> Result<Got, Fail>
+where
+    E::File: Lockable + Send + 'static,
+{
+    let script = "wasmhost_program_files.script";
+    fs::write(rt, script, line)?;
+    let got = match settings {
+        Some(path) => ask(rt, &["wasmhost", "--settings", path, script])?,
+        None => ask(rt, &["wasmhost", script])?,
+    };
+    fs::remove_file(rt, script)?;
+    Ok(got)
+}
+
+/// That a script was answered whole, and so.
+fn expect_reply(rt: &impl Abort, got: &Got, reply: &str, about: &str) {
+    assert_eq!(rt; got.status, ANSWERED, "{about}");
+    assert_eq!(rt; str::from_utf8(got.output.as_slice()), Ok(reply), "{about}");
+    assert_eq!(rt; got.errors.len(), 0, "{about}");
+}
+
+/// That the program stopped before its script, and said this.
+fn expect_stopped(rt: &impl Abort, got: &Got, complaint: &str, about: &str) {
+    assert_eq!(rt; got.status, STOPPED, "{about}");
+    assert_eq!(rt; got.output.len(), 0, "{about}");
+    assert_eq!(rt;
+        str::from_utf8(got.errors.as_slice()),
+        Ok(complaint),
+        "{about}"
+    );
+}
+
+#[test]
+fn a_module_that_never_ends_is_refused(rt: HostRuntime) -> Result<(), Fail> {
+    let got = answered(&rt, None, "load m /dev/zero\n")?;
+    expect_reply(&rt, &got, "module m refused D11 at 1048576\n", "/dev/zero");
+    Ok(())
+}
+
+/// Lengths of files of zeros, which are no module, each with its fault.
+const ZEROS: [(usize, &str); 3] = [
+    (MOST_MODULE_BYTES, "module m refused D1 at 1\n"),
+    (MOST_MODULE_BYTES + 1, "module m refused D11 at 1048576\n"),
+    (MOST_MODULE_BYTES + 2, "module m refused D11 at 1048576\n"),
+];
+
+#[test]
+fn a_module_may_have_1048576_bytes(rt: HostRuntime) -> Result<(), Fail> {
+    let path = "wasmhost_program_files.wasm";
+    for (length, reply) in ZEROS {
+        fs::write(&rt, path, vec![in rt.alloc(); 0u8; length]?)?;
+        let got = answered(&rt, None, "load m wasmhost_program_files.wasm\n")?;
+        expect_reply(&rt, &got, reply, "zeros");
+    }
+    fs::remove_file(&rt, path)?;
+    Ok(())
+}
+
+#[test]
+fn settings_may_have_65536_bytes(rt: HostRuntime) -> Result<(), Fail> {
+    let path = "wasmhost_program_files.toml";
+    fs::write(&rt, path, vec![in rt.alloc(); b'\n'; MOST_SETTINGS_BYTES]?)?;
+    let whole = answered(&rt, Some(path), "scan\n")?;
+    fs::write(
+        &rt,
+        path,
+        vec![in rt.alloc(); b'\n'; MOST_SETTINGS_BYTES + 1]?,
+    )?;
+    let longer = answered(&rt, Some(path), "scan\n")?;
+    fs::remove_file(&rt, path)?;
+    let endless = answered(&rt, Some("/dev/zero"), "scan\n")?;
+    expect_reply(&rt, &whole, "scan ok\n", "65536 bytes");
+    expect_stopped(&rt, &longer, "wasmhost: settings\n", "65537 bytes");
+    expect_stopped(&rt, &endless, "wasmhost: settings\n", "/dev/zero");
+    Ok(())
+}
+
+/// What a script of one line gets where pages are swapped to this file.
+fn answered_over<E: Files + Input + AllocGlobal + Threads + Wait + Copy + Send + 'static>(
+    rt: &E,
+    pages: &str,
+) -> Result<Got, Fail>
+where
+    E::File: Lockable + Send + 'static,
+{
+    let path = "wasmhost_program_files_swap.toml";
+    let settings = format!(in rt.alloc(); "swap = \"{pages}\"\n")?;
+    fs::write(rt, path, settings)?;
+    let got = answered(rt, Some(path), "scan\n")?;
+    fs::remove_file(rt, path)?;
+    Ok(got)
+}
+
+#[test]
+fn a_file_for_swap_is_made_for_its_owner(rt: HostRuntime) -> Result<(), Fail> {
+    let pages = "wasmhost_program_files_made.pages";
+    let got = answered_over(&rt, pages)?;
+    let left = fs::metadata(&rt, pages)?;
+    fs::remove_file(&rt, pages)?;
+    expect_reply(&rt, &got, "scan ok\n", pages);
+    assert_eq!(rt; left.mode() & 0o777, 0o600);
+    assert_eq!(rt; left.len(), 0);
+    Ok(())
+}
+
+#[test]
+fn a_file_that_holds_other_bytes_is_emptied(rt: HostRuntime) -> Result<(), Fail> {
+    let pages = "wasmhost_program_files_other.pages";
+    fs::write(&rt, pages, "what another program wrote")?;
+    let got = answered_over(&rt, pages)?;
+    let left = fs::metadata(&rt, pages)?.len();
+    fs::remove_file(&rt, pages)?;
+    expect_reply(&rt, &got, "scan ok\n", pages);
+    assert_eq!(rt; left, 0);
+    Ok(())
+}
+
+#[test]
+fn a_file_that_another_host_has_is_left_alone(rt: HostRuntime) -> Result<(), Fail> {
+    let pages = "wasmhost_program_files_used.pages";
+    fs::write(&rt, pages, "pages of another host")?;
+    let held = File::open(&rt, pages)?;
+    assert!(rt; held.lock_alone());
+    let refused = answered_over(&rt, pages)?;
+    let left = fs::metadata(&rt, pages)?.len();
+    held.unlock()?;
+    let taken = answered_over(&rt, pages)?;
+    fs::remove_file(&rt, pages)?;
+    expect_stopped(&rt, &refused, "wasmhost: swap\n", "a locked file");
+    assert_eq!(rt; left, 21);
+    expect_reply(&rt, &taken, "scan ok\n", "an unlocked file");
+    Ok(())
+}
+
+/// What can't be opened for swap: a folder, what may only be read (a program that runs), and a name in no folder.
+const NO_SWAP: [&str; 3] = ["/", "/proc/self/exe", "no/such/pages"];
+
+/// What can, and keeps no bytes.
+const DEVICES: [&str; 2] = ["/dev/null", "/dev/full"];
+
+#[test]
+fn devices_are_taken_as_they_are(rt: HostRuntime) -> Result<(), Fail> {
+    for pages in NO_SWAP {
+        let got = answered_over(&rt, pages)?;
+        expect_stopped(&rt, &got, "wasmhost: swap\n", pages);
+    }
+    for pages in DEVICES {
+        let got = answered_over(&rt, pages)?;
+        expect_reply(&rt, &got, "scan ok\n", pages);
+    }
+    Ok(())
+}

@@ -1,0 +1,75 @@
+// The file to which pages are swapped: this host's own while it runs, and empty where it has ended in order.
+
+use std::fs::{File, OpenFile, OpenOptions, TryLockError};
+use std::io::{Error, ErrorKind, Result as IoResult};
+use std::os::unix::fs::{FileTypeExt, OpenOptionsExt};
+use std::rt::Files;
+
+/// Who may read and write a file that is made for pages, which hold tenants' bytes: its owner.
+const OWNER_ALONE: u32 = 0o600;
+
+/// A file that can be locked against others that ask for the same lock.
+pub trait Lockable {
+    /// Locks the file for as long as it is open, and says whether it may be used: that nobody else has it locked. Where
+    /// the system has no locks for it, it may.
+    fn lock_alone(&self) -> bool;
+}
+
+impl Lockable for File {
+    fn lock_alone(&self) -> bool {
+        !matches!(self.try_lock(), Err(TryLockError::WouldBlock))
+    }
+}
+
+/// A file for swap. What keeps bytes, a file or a block device, is locked while it is open; what doesn't, as a pipe or
+/// `/dev/null`, is taken as it is.
+#[derive(Drop)]
+pub struct SwapFile<F> {
+    file: F,
+    is_regular: bool,
+}
+
+impl<F: OpenFile> SwapFile<F> {
+    /// Another handle of the file.
+    ///
+    /// # Errors
+    /// Where the system gives none.
+    pub fn handle(&self) -> IoResult<F> {
+        self.file.try_clone()
+    }
+
+    /// Leaves nothing in a regular file. A device and a pipe stay as they are.
+    ///
+    /// # Errors
+    /// Where the system can't.
+    pub fn empty(&self) -> IoResult<()> {
+        if self.is_regular {
+            self.file.set_len(0)?;
+        }
+        Ok(())
+    }
+}
+
+/// Opens the file at this path for swap, and empties it. One that isn't there is made, for its owner alone.
+///
+/// # Errors
+/// Where it can't be opened or emptied, and where another host has it.
+pub fn open_swap_file<E: Files>(rt: &E, path: &str) -> IoResult<SwapFile<E::File>>
+where
+    E::File: Lockable,
+{
+    let mut options = OpenOptions::new();
+    options.read(true);
+    options.write(true);
+    options.create(true);
+    options.mode(OWNER_ALONE);
+    let file = options.open(rt, path)?;
+    let kind = file.metadata()?.file_type();
+    let is_regular = kind.is_file();
+    if (is_regular || kind.is_block_device()) && !file.lock_alone() {
+        return Err(Error::from(ErrorKind::WouldBlock));
+    }
+    let own = SwapFile { file, is_regular };
+    own.empty()?;
+    Ok(own)
+}
