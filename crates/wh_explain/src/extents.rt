@@ -4,6 +4,9 @@ use crate::reader::Reader;
 use crate::section::Section;
 use wh_model::{DecodeError, FaultKind};
 
+/// How many bytes a module may have.
+pub const MOST_MODULE_BYTES: usize = 1048576;
+
 /// How many bytes stand before the first section.
 const PREAMBLE: usize = 8;
 
@@ -67,8 +70,11 @@ pub fn section_extent(bytes: &[u8], section: Section) -> Option<Extent> {
     None
 }
 
-/// Finds the section that a fault is one of, and its id.
+/// Finds the section that a fault is one of, and its id; none where there are too many bytes for a module.
 pub fn section_at(bytes: &[u8], fault: DecodeError) -> Option<(u8, Extent)> {
+    if bytes.len() > MOST_MODULE_BYTES {
+        return None;
+    }
     let mut reader = Reader::at(bytes, PREAMBLE);
     for _ in 0..bytes.len() {
         let (id, extent) = pass_section(&mut reader)?;

@@ -1,14 +1,11 @@
 //! The limits of this host on modules.
 
-use crate::extents::section_at;
+use crate::extents::{MOST_MODULE_BYTES, section_at};
 use crate::place::Place;
 use crate::section::Section;
 use std::fmt;
 use wh_model::{DecodeError, FaultKind, MOST_HEIGHT, MOST_LOCALS, MOST_WASM_PAGES};
 use wh_syntax::{Limits, Module};
-
-/// How many bytes a module may have.
-pub const MOST_MODULE_BYTES: usize = 1048576;
 
 const MOST_INSTRUCTIONS: u32 = 65536;
 
