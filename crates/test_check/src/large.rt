@@ -68,8 +68,8 @@ fn with_code(alloc: Global, code: Repeated) -> Result<Vec<u8>, AllocError> {
 
 /// Looks at each module: how many they are.
 pub fn check(alloc: Global) -> Result<usize> {
-    for (code, wanted) in CODE {
-        expect(alloc, &with_code(alloc, code)?, wanted)?;
+    for (code, wanted) in CODE.iter() {
+        expect(alloc, &with_code(alloc, *code)?, wanted)?;
     }
     let mut high = with_code(alloc, HIGH)?;
     high.push(0x0b)?;

@@ -137,10 +137,10 @@ fn expect_length(alloc: Global, length: usize, wanted: &str) -> Result<()> {
 
 /// Looks at each line and script: how many they are.
 pub fn check(alloc: Global) -> Result<usize> {
-    for line in TAKEN {
+    for line in TAKEN.iter() {
         expect_taken(alloc, line)?;
     }
-    for (line, wanted) in REFUSED {
+    for (line, wanted) in REFUSED.iter() {
         expect_refused(alloc, line, wanted)?;
     }
     expect_script(alloc, SCRIPT, SAID)?;

@@ -284,7 +284,7 @@ pub fn expect(alloc: Global, bytes: &[u8], wanted: &str) -> Result<()> {
 
 /// Looks at each module: how many they are.
 pub fn check(alloc: Global) -> Result<usize> {
-    for (bytes, wanted) in MODULES {
+    for (bytes, wanted) in MODULES.iter() {
         expect(alloc, bytes, wanted)?;
     }
     Ok(MODULES.len())

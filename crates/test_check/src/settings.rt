@@ -117,10 +117,10 @@ fn expect_length(alloc: Global, length: usize, is_accepted: bool) -> Result<()> 
 
 /// Looks at each document: how many they are.
 pub fn check(alloc: Global) -> Result<usize> {
-    for text in ACCEPTED {
+    for text in ACCEPTED.iter() {
         expect_accepted(alloc, text)?;
     }
-    for (text, wanted) in REFUSED {
+    for (text, wanted) in REFUSED.iter() {
         expect_refused(alloc, text, wanted)?;
     }
     expect_length(alloc, 65536, true)?;

@@ -58,6 +58,19 @@ fn pass_section(reader: &mut Reader<'_>) -> Option<(u8, Extent)> {
     Some((id, pass_sized(reader, head)))
 }
 
+/// Finds the contents of a custom section of this name, behind the name.
+pub fn custom_section<'a>(bytes: &'a [u8], name: &[u8]) -> Option<Reader<'a>> {
+    let mut reader = Reader::at(bytes, PREAMBLE);
+    for _ in 0..bytes.len() {
+        let (id, extent) = pass_section(&mut reader)?;
+        let mut contents = Reader::at(bytes, extent.start);
+        if id == 0 && contents.name() == Some(name) {
+            return Some(contents);
+        }
+    }
+    None
+}
+
 /// Finds the first section of a kind.
 pub fn section_extent(bytes: &[u8], section: Section) -> Option<Extent> {
     let mut reader = Reader::at(bytes, PREAMBLE);
@@ -105,8 +118,8 @@ pub struct ImportEntry {
 /// Passes an import; none where it can't be read up to its kind.
 fn pass_import(reader: &mut Reader<'_>) -> Option<ImportEntry> {
     let head = reader.offset();
-    reader.pass_name()?;
-    reader.pass_name()?;
+    reader.name()?;
+    reader.name()?;
     let kind_offset = reader.offset();
     let kind = reader.byte()?;
     let passed = match kind {

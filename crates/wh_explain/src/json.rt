@@ -16,6 +16,7 @@ struct ModuleObject<'a> {
     name: Option<String>,
     section: Option<&'static str>,
     function: Option<u32>,
+    function_name: Option<&'a str>,
     instruction: Option<u32>,
     opcode: Option<&'static str>,
     offset: Option<usize>,
@@ -76,6 +77,7 @@ fn accepted_module(file: &str) -> ModuleObject<'_> {
         name: None,
         section: None,
         function: None,
+        function_name: None,
         instruction: None,
         opcode: None,
         offset: None,
@@ -90,7 +92,7 @@ fn accepted_module(file: &str) -> ModuleObject<'_> {
 fn refused_module<'a>(
     alloc: Global,
     file: &'a str,
-    refusal: &Refusal,
+    refusal: &'a Refusal,
 ) -> Result<ModuleObject<'a>, AllocError> {
     let place = refusal.place;
     let limit = refusal.limit();
@@ -102,6 +104,7 @@ fn refused_module<'a>(
         name: Some(format!(in alloc; "{}", Name(refusal.error))?),
         section: place.section.map(|section| section.name()),
         function: place.function,
+        function_name: refusal.function_name.as_deref(),
         instruction: place.instruction,
         opcode: place.opcode,
         offset: place.offset,

@@ -8,6 +8,7 @@ mod advice;
 mod answer;
 mod detail;
 mod extents;
+mod function_names;
 mod json;
 mod limit;
 mod module;

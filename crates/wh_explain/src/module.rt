@@ -9,6 +9,7 @@ ghost use Rattle.wh_explain.specs.Modules.{IsWantOfMemory, IsFaultOf};
 
 use crate::advice::advice_of;
 use crate::detail::{Detail, detail_of};
+use crate::function_names::function_name;
 use crate::limit::Limit;
 use crate::place::Place;
 use crate::section::Section;
@@ -25,6 +26,8 @@ pub struct Refusal {
     pub error: LoadError,
     /// Where that lies.
     pub place: Place,
+    /// The name of the function in which it lies, where the bytes have one.
+    pub function_name: Option<String>,
     /// What it is about, beyond its kind.
     pub detail: Detail,
 }
@@ -111,6 +114,17 @@ fn place_of(bytes: &[u8], error: LoadError) -> Place {
     }
 }
 
+/// Finds the name of the function of a place.
+fn name_of(alloc: Global, bytes: &[u8], place: Place) -> Result<Option<String>, AllocError> {
+    let Some(function) = place.function else {
+        return Ok(None);
+    };
+    match function_name(bytes, function) {
+        Some(name) => Ok(Some(String::from_str(alloc, name)?)),
+        None => Ok(None),
+    }
+}
+
 /// Tells all that is to be said of a fault.
 fn refusal_by(alloc: Global, bytes: &[u8], error: LoadError) -> Result<Refusal, AllocError>
     ensures { IfOk result (λ refusal. refusal.error ≡ error) }
@@ -120,6 +134,7 @@ fn refusal_by(alloc: Global, bytes: &[u8], error: LoadError) -> Result<Refusal, 
     Ok(Refusal {
         error,
         place,
+        function_name: name_of(alloc, bytes, place)?,
         detail,
     })
 }

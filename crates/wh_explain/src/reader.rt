@@ -62,9 +62,11 @@ impl<'a> Reader<'a> {
         self.rest = &[];
     }
 
-    /// Passes a count and as many bytes, as names are spelled; none where they aren't there.
-    pub fn pass_name(&mut self) -> Option<()> {
-        let count = self.number()?;
-        self.pass(count as usize)
+    /// Reads a count and as many bytes, as names are spelled; none where they aren't there.
+    pub fn name(&mut self) -> Option<&'a [u8]> {
+        let count = self.number()? as usize;
+        let name = self.rest.get(..count)?;
+        self.pass(count)?;
+        Some(name)
     }
 }

@@ -27,6 +27,9 @@ pub fn write_module<W: Write>(
     writeln!(output, "{file}: refused, {} {}", Code(error), Name(error))?;
     writeln!(output, "What is wrong: {refusal}")?;
     writeln!(output, "Where: {}", refusal.place)?;
+    if let Some(name) = &refusal.function_name {
+        writeln!(output, "The function's name: {name:?}")?;
+    }
     writeln!(output, "What to do: {}", refusal.advice())
 }
 
