@@ -33,8 +33,8 @@ SaysOfLine line Refused = AsksNone line
 SaysOfLine line Memory = ⊤
 
 -- the host skips the line, or obeys it as a command
-abbrev pub IsTaken : List ℕ → Type 0
-IsTaken line = (is_skipped line ≡ true) ⊎ ((length line ≤ longest_line) × AsksSome line)
+abbrev pub IsSkippedOrAsked : List ℕ → Type 0
+IsSkippedOrAsked line = (is_skipped line ≡ true) ⊎ ((length line ≤ longest_line) × AsksSome line)
 
 -- the host doesn't skip the line, and it is too long, or asks for no command
 abbrev pub IsNoCommand : List ℕ → Type 0

@@ -1,8 +1,8 @@
 //! Which lines of a script are no commands, and why.
 
-ghost use Rattle.std.specs.Prelude.{◌≡◌, IfOk, MatchOption};
+ghost use Rattle.std.specs.Prelude.{◌≡◌, ◌↔◌, [], IsTrue, IfOk, MatchOption};
 ghost use Rattle.wh_host_model.specs.Script.{is_skipped};
-ghost use Rattle.wh_explain.specs.Answers.{IsTaken, IsNoCommand, SaysOfLine};
+ghost use Rattle.wh_explain.specs.Answers.{IsSkippedOrAsked, IsNoCommand, SaysOfLine};
 
 use crate::answer::Answer;
 use crate::shapes::{Param, Shape, WordFault, shape_of, word_fault};
@@ -57,8 +57,10 @@ pub struct ScriptVerdict {
 }
 
 impl ScriptVerdict {
-    /// Whether each line is skipped or obeyed.
-    pub fn is_accepted(&self) -> bool {
+    /// Whether no line is complained of.
+    pub fn is_accepted(&self) -> bool
+        ensures { IsTrue result ↔ (self.now.findings.items ≡ []) }
+    {
         self.findings.is_empty()
     }
 }
@@ -139,7 +141,7 @@ fn cause_of(alloc: Global, line: &[u8]) -> Result<LineCause, AllocError> {
 /// Where a growth of memory is refused, in the host's own look at the line too.
 pub fn explain_line(alloc: Global, line: &[u8]) -> Result<Option<LineCause>, AllocError>
     // A line is complained of exactly if the host neither skips it nor takes it for a command.
-    ensures verdict { IfOk result (λ cause. MatchOption cause (IsTaken line.now)
+    ensures verdict { IfOk result (λ cause. MatchOption cause (IsSkippedOrAsked line.now)
         (λ cause. IsNoCommand line.now)) }
 {
     if is_skipped(line) {
