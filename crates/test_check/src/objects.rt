@@ -54,8 +54,8 @@ const SCRIPTS: [(&[u8], &str, &str); 2] = [
     ),
     (
         b"\nscan now\nscan\r\n",
-        "{\"file\":\"a.script\",\"kind\":\"script\",\"accepted\":false,\"findings\":[{\"line\":2,\"word\":2,\"message\":\"word 2, \\\"now\\\", is one too many\",\"advice\":\"Write the words that the command takes.\"},{\"line\":3,\"word\":null,\"message\":\"the line ends with a carriage return\",\"advice\":\"End lines by a newline alone, as by dos2unix.\"}]}",
-        "a.script: refused\nLine 2: word 2, \"now\", is one too many\nWhat to do: Write the words that the command takes.\nLine 3: the line ends with a carriage return\nWhat to do: End lines by a newline alone, as by dos2unix.\n",
+        "{\"file\":\"a.script\",\"kind\":\"script\",\"accepted\":false,\"findings\":[{\"line\":2,\"word\":2,\"message\":\"word 2, \\\"now\\\", is one too many\",\"advice\":\"Write scan.\"},{\"line\":3,\"word\":null,\"message\":\"the line ends with a carriage return\",\"advice\":\"End lines by a newline alone, as by dos2unix.\"}]}",
+        "a.script: refused\nLine 2: word 2, \"now\", is one too many\nWhat to do: Write scan.\nLine 3: the line ends with a carriage return\nWhat to do: End lines by a newline alone, as by dos2unix.\n",
     ),
 ];
 

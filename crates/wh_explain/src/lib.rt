@@ -33,5 +33,5 @@ pub use section::Section;
 pub use settings::{
     MOST_SETTINGS_BYTES, SettingCause, SettingFinding, SettingsVerdict, explain_settings,
 };
-pub use shapes::{Param, WordFault, WordKind};
+pub use shapes::{Param, Shape, WordFault, WordKind};
 pub use text::{write_module, write_script, write_settings};

@@ -30,12 +30,12 @@ pub enum LineCause {
     EmptyWord(usize),
     /// No command begins with this word.
     UnknownCommand(String),
-    /// A command's word is missing at this place.
-    Missing(usize, Param),
-    /// No word may stand at this place.
-    Extra(usize, String),
-    /// The word at this place is another one than it has to be.
-    Wrong(usize, String, Param, WordFault),
+    /// A word of this command is missing at this place.
+    Missing(&'static Shape, usize, Param),
+    /// No word of this command may stand at this place.
+    Extra(&'static Shape, usize, String),
+    /// The word of this command at this place is another one than it has to be.
+    Wrong(&'static Shape, usize, String, Param, WordFault),
     /// The host takes it for no command, and no cause is found here.
     Other,
 }
@@ -92,20 +92,24 @@ fn shown(alloc: Global, word: &str) -> Result<String, AllocError> {
 }
 
 /// Why the words behind a command aren't those that it takes; none where they are.
-fn words_cause(alloc: Global, text: &str, shape: &Shape) -> Result<Option<LineCause>, AllocError> {
+fn words_cause(
+    alloc: Global,
+    text: &str,
+    shape: &'static Shape,
+) -> Result<Option<LineCause>, AllocError> {
     let mut count = 0usize;
     for word in text.split(' ').skip(1) {
         let place = count.saturating_add(2);
         let Some(param) = shape.params.get(count).copied().or(shape.rest) else {
-            return Ok(Some(LineCause::Extra(place, shown(alloc, word)?)));
+            return Ok(Some(LineCause::Extra(shape, place, shown(alloc, word)?)));
         };
         if let Some(fault) = word_fault(param.kind, word) {
-            return Ok(Some(LineCause::Wrong(place, shown(alloc, word)?, param, fault)));
+            return Ok(Some(LineCause::Wrong(shape, place, shown(alloc, word)?, param, fault)));
         }
         count = count.saturating_add(1);
     }
     let missing = shape.params.get(count).copied();
-    Ok(missing.map(|param| LineCause::Missing(count.saturating_add(2), param)))
+    Ok(missing.map(|param| LineCause::Missing(shape, count.saturating_add(2), param)))
 }
 
 /// Why a line of ASCII is no command.
@@ -216,11 +220,14 @@ impl fmt::Display for LineCause {
             LineCause::CarriageReturn => f.write_str("the line ends with a carriage return"),
             LineCause::EmptyWord(place) => write!(f, "word {place} is empty"),
             LineCause::UnknownCommand(verb) => write!(f, "there is no command {verb:?}"),
-            LineCause::Missing(place, param) => {
+            LineCause::Missing(_, place, param) => {
                 write!(f, "word {place} is missing, which is {}", param.label)
             }
-            LineCause::Extra(place, word) => write!(f, "word {place}, {word:?}, is one too many"),
-            LineCause::Wrong(place, word, param, fault) => {
+            LineCause::Extra(_, place, word) => write!(
+                f,
+                "word {place}, {word:?}, is one too many"
+            ),
+            LineCause::Wrong(_, place, word, param, fault) => {
                 write!(f, "word {place}, {word:?}, ")?;
                 write_word_fault(f, *param, *fault)
             }
@@ -234,9 +241,9 @@ impl LineCause {
     pub fn word(&self) -> Option<usize> {
         match self {
             LineCause::EmptyWord(place)
-            | LineCause::Missing(place, _)
-            | LineCause::Extra(place, _)
-            | LineCause::Wrong(place, _, _, _) => Some(*place),
+            | LineCause::Missing(_, place, _)
+            | LineCause::Extra(_, place, _)
+            | LineCause::Wrong(_, place, _, _, _) => Some(*place),
             LineCause::UnknownCommand(_) => Some(1),
             _ => None,
         }
@@ -254,7 +261,10 @@ impl LineCause {
             LineCause::UnknownCommand(_) => {
                 "The commands are module, load, admit, invoke, drain, refuel, cancel, retry, scan, report and release; a comment begins with #."
             }
-            _ => "Write the words that the command takes.",
+            LineCause::Missing(shape, _, _)
+            | LineCause::Extra(shape, _, _)
+            | LineCause::Wrong(shape, _, _, _, _) => shape.advice,
+            LineCause::Other => "Compare the line with the description of scripts.",
         }
     }
 }

@@ -33,6 +33,8 @@ pub struct Param {
 pub struct Shape {
     /// Its first word.
     pub verb: &'static str,
+    /// How it is written, as a sentence.
+    pub advice: &'static str,
     /// The words behind that.
     pub params: &'static [Param],
     /// What any further words are, where there may be more.
@@ -57,6 +59,7 @@ const FUEL: Param = Param {
 static SHAPES: [Shape; 11] = [
     Shape {
         verb: "module",
+        advice: "Write module NAME HEX.",
         params: &[
             NAME,
             Param {
@@ -68,6 +71,7 @@ static SHAPES: [Shape; 11] = [
     },
     Shape {
         verb: "load",
+        advice: "Write load NAME PATH.",
         params: &[
             NAME,
             Param {
@@ -79,6 +83,7 @@ static SHAPES: [Shape; 11] = [
     },
     Shape {
         verb: "admit",
+        advice: "Write admit INST NAME SHARES MIN MAX FUEL BASE SALT [INPUT ..].",
         params: &[
             INST,
             NAME,
@@ -111,6 +116,7 @@ static SHAPES: [Shape; 11] = [
     },
     Shape {
         verb: "invoke",
+        advice: "Write invoke INST EXPORT FUEL [ARG ..].",
         params: &[
             INST,
             Param {
@@ -126,11 +132,13 @@ static SHAPES: [Shape; 11] = [
     },
     Shape {
         verb: "drain",
+        advice: "Write drain.",
         params: &[],
         rest: None,
     },
     Shape {
         verb: "refuel",
+        advice: "Write refuel INST N.",
         params: &[
             INST,
             Param {
@@ -142,26 +150,31 @@ static SHAPES: [Shape; 11] = [
     },
     Shape {
         verb: "cancel",
+        advice: "Write cancel INST.",
         params: &[INST],
         rest: None,
     },
     Shape {
         verb: "retry",
+        advice: "Write retry INST.",
         params: &[INST],
         rest: None,
     },
     Shape {
         verb: "scan",
+        advice: "Write scan.",
         params: &[],
         rest: None,
     },
     Shape {
         verb: "report",
+        advice: "Write report.",
         params: &[],
         rest: None,
     },
     Shape {
         verb: "release",
+        advice: "Write release INST.",
         params: &[INST],
         rest: None,
     },
