@@ -1,0 +1,221 @@
+//! Where in a module's bytes a fault lies.
+
+use crate::extents::{Extent, Imports, imported_functions, pass_sized, section_at, section_extent};
+use crate::names::instruction_name;
+use crate::reader::Reader;
+use crate::section::Section;
+use crate::walk::{Step, Walk};
+use std::fmt;
+use wh_model::{DecodeError, FaultKind};
+
+/// Where in a module's bytes a fault lies, as far as that can be said.
+#[derive(Clone, Copy, Debug, Default, PartialEq, Eq)]
+pub struct Place {
+    /// The section.
+    pub section: Option<Section>,
+    /// The function in whose entry of the code section it lies. Imported functions count first.
+    pub function: Option<u32>,
+    /// The instruction of the function, where opcodes count from 0, `else` and `end` included.
+    pub instruction: Option<u32>,
+    /// The name of that instruction, where the byte that stands there has one.
+    pub opcode: Option<&'static str>,
+    /// The offset of the byte. At the end of the input it is the number of bytes.
+    pub offset: Option<usize>,
+}
+
+/// What of a function's body an offset lies in.
+#[derive(Clone, Copy)]
+enum Part {
+    /// Its locals.
+    Locals,
+    /// This instruction, or the one that is wanted where the bytes end.
+    Instruction(Step),
+    /// What stands behind its last `end`.
+    Behind,
+}
+
+/// Finds what of the body that begins at `start` an offset lies in. The bytes end where the body does.
+fn part_at(window: &[u8], start: usize, offset: usize) -> Part {
+    let Some(mut walk) = Walk::behind_locals(window, start) else {
+        return Part::Locals;
+    };
+    if offset < walk.offset() {
+        return Part::Locals;
+    }
+    for _ in 0..=window.len() {
+        match walk.next() {
+            Some(step) if offset < step.end => return Part::Instruction(step),
+            Some(_) => {}
+            None => return Part::Behind,
+        }
+    }
+    Part::Behind
+}
+
+/// Gives the bytes up to an offset, or all where there are fewer.
+fn up_to(bytes: &[u8], end: usize) -> &[u8] {
+    bytes.get(..end).unwrap_or(bytes)
+}
+
+/// Names the instruction whose opcode stands at an offset.
+fn name_at(bytes: &[u8], offset: usize) -> Option<&'static str> {
+    instruction_name(*bytes.get(offset)?)
+}
+
+impl Place {
+    /// Is the place of an instruction of a function.
+    fn of_step(bytes: &[u8], function: u32, step: Step, offset: usize) -> Place {
+        Place {
+            section: Some(Section::Code),
+            function: Some(function),
+            instruction: Some(step.number),
+            opcode: name_at(bytes, step.offset),
+            offset: Some(offset),
+        }
+    }
+
+    /// Is a place in the entry of a function, but in none of its instructions.
+    fn of_entry(function: u32, offset: usize) -> Place {
+        Place {
+            section: Some(Section::Code),
+            function: Some(function),
+            instruction: None,
+            opcode: None,
+            offset: Some(offset),
+        }
+    }
+
+    /// Finds where a fault of the decoder lies, by its offset.
+    pub fn of_fault(bytes: &[u8], fault: DecodeError) -> Place {
+        let Some((id, extent)) = section_at(bytes, fault) else {
+            return Place::of_offset(None, fault.offset);
+        };
+        let section = Section::of_id(id);
+        if section == Some(Section::Code)
+            && let Some(place) = place_in_code(bytes, extent, fault)
+        {
+            return place;
+        }
+        Place::of_offset(section, fault.offset)
+    }
+
+    /// Is a place in a section, and in no function.
+    pub fn of_offset(section: Option<Section>, offset: usize) -> Place {
+        Place {
+            section,
+            function: None,
+            instruction: None,
+            opcode: None,
+            offset: Some(offset),
+        }
+    }
+
+    /// Is a section as a whole.
+    pub fn of_section(section: Section) -> Place {
+        Place {
+            section: Some(section),
+            function: None,
+            instruction: None,
+            opcode: None,
+            offset: None,
+        }
+    }
+
+    /// Finds where an instruction of a function stands.
+    pub fn of_instruction(bytes: &[u8], function: u32, instruction: u32) -> Place {
+        match step_numbered(bytes, function, instruction) {
+            Some(step) => Place::of_step(bytes, function, step, step.offset),
+            None => Place {
+                section: Some(Section::Code),
+                function: Some(function),
+                instruction: Some(instruction),
+                opcode: None,
+                offset: None,
+            },
+        }
+    }
+
+    /// Finds where an import stands, by its place among them.
+    pub fn of_import(bytes: &[u8], index: usize) -> Place {
+        let mut imports = Imports::of(bytes);
+        for _ in 0..index {
+            if imports.next().is_none() {
+                return Place::of_section(Section::Import);
+            }
+        }
+        match imports.next() {
+            Some(entry) => Place::of_offset(Some(Section::Import), entry.head),
+            None => Place::of_section(Section::Import),
+        }
+    }
+}
+
+/// Finds the function and the instruction in which a fault of the code section lies; none where it lies in no function.
+fn place_in_code(bytes: &[u8], code: Extent, fault: DecodeError) -> Option<Place> {
+    let imported = imported_functions(bytes);
+    let mut reader = Reader::at(up_to(bytes, code.end), code.start);
+    for at in 0..reader.number()? {
+        let head = reader.offset();
+        if fault.offset < head {
+            return None;
+        }
+        let body = pass_sized(&mut reader, head);
+        if body.holds(fault)
+            && let Some(place) = place_in_body(bytes, body, imported.saturating_add(at), fault)
+        {
+            return Some(place);
+        }
+    }
+    None
+}
+
+/// Finds the instruction in which a fault of a body lies; none where it lies at the body's end, and the body is whole.
+fn place_in_body(bytes: &[u8], body: Extent, function: u32, fault: DecodeError) -> Option<Place> {
+    let window = up_to(bytes, body.end);
+    match part_at(window, body.start, fault.offset) {
+        Part::Instruction(step) => Some(Place::of_step(window, function, step, fault.offset)),
+        Part::Behind if fault.offset == body.end && fault.kind == FaultKind::SectionSize => None,
+        _ => Some(Place::of_entry(function, fault.offset)),
+    }
+}
+
+/// Finds an instruction by its number in a function.
+fn step_numbered(bytes: &[u8], function: u32, instruction: u32) -> Option<Step> {
+    let code = section_extent(bytes, Section::Code)?;
+    let at = function.checked_sub(imported_functions(bytes))?;
+    let mut reader = Reader::at(up_to(bytes, code.end), code.start);
+    reader.number()?;
+    for _ in 0..at {
+        let head = reader.offset();
+        pass_sized(&mut reader, head);
+    }
+    reader.number()?;
+    let mut walk = Walk::behind_locals(bytes, reader.offset())?;
+    for _ in 0..instruction {
+        walk.next()?;
+    }
+    walk.next()
+}
+
+impl fmt::Display for Place {
+    fn fmt<W: fmt::Write>(&self, f: &mut fmt::Formatter<W>) -> fmt::Result {
+        match (self.section, self.offset) {
+            (Some(section), _) => write!(f, "the {section} section")?,
+            (None, Some(_)) => f.write_str("no section")?,
+            (None, None) => f.write_str("the module as a whole")?,
+        }
+        if let Some(function) = self.function {
+            write!(f, ", function {function}")?;
+        }
+        if let Some(instruction) = self.instruction {
+            write!(f, ", instruction {instruction}")?;
+        }
+        if let Some(name) = self.opcode {
+            write!(f, " ({name})")?;
+        }
+        match self.offset {
+            Some(offset) => write!(f, ", byte {offset}"),
+            None => Ok(()),
+        }
+    }
+}
