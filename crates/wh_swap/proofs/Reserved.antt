@@ -1,12 +1,12 @@
 -- Slots of which the first ones are there.
 use Rattle.std.proofs.Common.{◌≡◌, ◌≤◌, ◌<◌, ℕ, ◌+◌, ◌-◌, ◌++◌, suc, List, [], ◌∷◌, Option, Some, None, length, map, replicate, slice_set, ap, sym, ◌∙◌, arith}
 use Rattle.std.proofs.lemmas.List.{append_assoc, length-append, length-map, length-replicate, length-set, map-append, map-set, replicate-append-replicate, set-append_left}
-use Rattle.wh_swap.specs.Memory.{bytes_in, slot_bytes}
+use Rattle.wh_swap.specs.Memory.{slots_held, slot_bytes}
 use Rattle.wh_swap.proofs.Seen.{map-replicate}
 
 -- more of them are there, to which nothing was written
 pub more_there : (count more : ℕ) (slots : List (Option (List ℕ))) → length slots + more ≤ count
-    → bytes_in count (slots ++ replicate more None) ≡ bytes_in count slots
+    → slots_held count (slots ++ replicate more None) ≡ slots_held count slots
 more_there count more slots room =
     let long : length (slots ++ replicate {A = Option (List ℕ)} more None) ≡ length slots + more = length-append slots (replicate more None) ∙ ap (λ n. length slots + n) (length-replicate {A = Option (List ℕ)} more None) in
     let left : more + (count - (length slots + more)) ≡ count - length slots = omega (arith, room) in
@@ -17,7 +17,7 @@ more_there count more slots room =
 
 -- one of them is written
 pub one_written : (count : ℕ) (slots : List (Option (List ℕ))) (k : ℕ) (bytes : List ℕ) → k < length slots
-    → bytes_in count (slice_set slots k (Some bytes)) ≡ slice_set (bytes_in count slots) k bytes
+    → slots_held count (slice_set slots k (Some bytes)) ≡ slice_set (slots_held count slots) k bytes
 one_written count slots k bytes within =
     let long : length (slice_set slots k (Some bytes)) ≡ length slots = length-set slots k (Some bytes) in
     ap (λ n. map slot_bytes (slice_set slots k (Some bytes)) ++ replicate {A = List ℕ} (count - n) []) long
@@ -25,7 +25,7 @@ one_written count slots k bytes within =
     ∙ sym (set-append_left (map slot_bytes slots) (replicate (count - length slots) []) k bytes (rw (length-map slots slot_bytes) within))
 
 -- as many slots as there are
-pub all_slots : (count : ℕ) (slots : List (Option (List ℕ))) → length slots ≤ count → length (bytes_in count slots) ≡ count
+pub all_slots : (count : ℕ) (slots : List (Option (List ℕ))) → length slots ≤ count → length (slots_held count slots) ≡ count
 all_slots count slots within =
     omega (arith, within, length-append (map slot_bytes slots) (replicate {A = List ℕ} (count - length slots) []), length-map slots slot_bytes, length-replicate {A = List ℕ} (count - length slots) [])
 

@@ -14,11 +14,11 @@ slot_bytes None = []
 slot_bytes (Some bytes) = bytes
 
 -- of so many slots the first ones were needed so far, and nothing was written to the others
-abbrev pub bytes_in : ℕ → List (Option (List ℕ)) → List (List ℕ)
-bytes_in count slots = map slot_bytes slots ++ replicate (count - length slots) []
+abbrev pub slots_held : ℕ → List (Option (List ℕ)) → List (List ℕ)
+slots_held count slots = map slot_bytes slots ++ replicate (count - length slots) []
 
 abbrev pub contents_of : Inside → Contents
-contents_of a = record { held = bytes_in a.count a.slots.items; writes = length a.writes.numbers }
+contents_of a = record { held = slots_held a.count a.slots.items; writes = length a.writes.numbers }
 
 -- none of them is needed that isn't there, and there is room for all
 pub record HasRoomForSlots (a : Inside) : Type 0 where
