@@ -11,22 +11,22 @@ use wh_explain::{
 const MODULES: [(&[u8], &str, &str); 4] = [
     (
         b"\x00asm\x01\x00\x00\x00",
-        "{\"file\":\"m.wasm\",\"kind\":\"module\",\"accepted\":true,\"fault\":null,\"name\":null,\"section\":null,\"function\":null,\"function_name\":null,\"instruction\":null,\"opcode\":null,\"offset\":null,\"limit\":null,\"most\":null,\"message\":null,\"advice\":null}",
+        "{\"file\":\"m.wasm\",\"kind\":\"module\",\"accepted\":true,\"refusal\":null}",
         "m.wasm: accepted\n",
     ),
     (
         b"\x00asm\x01\x00\x00\x00\x01\x02\x81\x08",
-        "{\"file\":\"m.wasm\",\"kind\":\"module\",\"accepted\":false,\"fault\":\"D11\",\"name\":\"Limit\",\"section\":\"type\",\"function\":null,\"function_name\":null,\"instruction\":null,\"opcode\":null,\"offset\":10,\"limit\":\"function types\",\"most\":1024,\"message\":\"a limit of this host is passed: more than 1024 function types\",\"advice\":\"Leave out what isn't called, by -Wl,--gc-sections, or split the module.\"}",
+        "{\"file\":\"m.wasm\",\"kind\":\"module\",\"accepted\":false,\"refusal\":{\"fault\":\"D11\",\"name\":\"Limit\",\"place\":{\"section\":\"type\",\"function\":null,\"function_name\":null,\"instruction\":null,\"opcode\":null,\"offset\":10},\"limit\":{\"name\":\"function types\",\"most\":1024},\"message\":\"a limit of this host is passed: more than 1024 function types\",\"advice\":\"Leave out what isn't called, by -Wl,--gc-sections, or split the module.\"}}",
         "m.wasm: refused, D11 Limit\nWhat is wrong: a limit of this host is passed: more than 1024 function types\nWhere: the type section, byte 10\nWhat to do: Leave out what isn't called, by -Wl,--gc-sections, or split the module.\n",
     ),
     (
         b"\x00asm\x01\x00\x00\x00\x01\x04\x01\x60\x00\x00\x03\x02\x01\x00\x07\x05\x01\x01a\x00\x00\x0A\x05\x01\x03\x00\x92\x0B",
-        "{\"file\":\"m.wasm\",\"kind\":\"module\",\"accepted\":false,\"fault\":\"D9\",\"name\":\"Float\",\"section\":\"code\",\"function\":0,\"function_name\":\"a\",\"instruction\":0,\"opcode\":\"f32.add\",\"offset\":30,\"limit\":null,\"most\":null,\"message\":\"floating point is left out: f32.add\",\"advice\":\"Compute with integers: no float or double may be left, in libraries that are linked in either.\"}",
+        "{\"file\":\"m.wasm\",\"kind\":\"module\",\"accepted\":false,\"refusal\":{\"fault\":\"D9\",\"name\":\"Float\",\"place\":{\"section\":\"code\",\"function\":0,\"function_name\":\"a\",\"instruction\":0,\"opcode\":\"f32.add\",\"offset\":30},\"limit\":null,\"message\":\"floating point is left out: f32.add\",\"advice\":\"Compute with integers: no float or double may be left, in libraries that are linked in either.\"}}",
         "m.wasm: refused, D9 Float\nWhat is wrong: floating point is left out: f32.add\nWhere: the code section, function 0, instruction 0 (f32.add), byte 30\nThe function's name: \"a\"\nWhat to do: Compute with integers: no float or double may be left, in libraries that are linked in either.\n",
     ),
     (
         b"\x00asm\x01\x00\x00\x00\x01\x04\x01\x60\x00\x00\x03\x02\x01\x00\x07\x05\x01\x01a\x00\x00\x0A\x05\x01\x03\x00\x92\x0B\x00\x0D\x04name\x01\x06\x01\x00\x03sum",
-        "{\"file\":\"m.wasm\",\"kind\":\"module\",\"accepted\":false,\"fault\":\"D9\",\"name\":\"Float\",\"section\":\"code\",\"function\":0,\"function_name\":\"sum\",\"instruction\":0,\"opcode\":\"f32.add\",\"offset\":30,\"limit\":null,\"most\":null,\"message\":\"floating point is left out: f32.add\",\"advice\":\"Compute with integers: no float or double may be left, in libraries that are linked in either.\"}",
+        "{\"file\":\"m.wasm\",\"kind\":\"module\",\"accepted\":false,\"refusal\":{\"fault\":\"D9\",\"name\":\"Float\",\"place\":{\"section\":\"code\",\"function\":0,\"function_name\":\"sum\",\"instruction\":0,\"opcode\":\"f32.add\",\"offset\":30},\"limit\":null,\"message\":\"floating point is left out: f32.add\",\"advice\":\"Compute with integers: no float or double may be left, in libraries that are linked in either.\"}}",
         "m.wasm: refused, D9 Float\nWhat is wrong: floating point is left out: f32.add\nWhere: the code section, function 0, instruction 0 (f32.add), byte 30\nThe function's name: \"sum\"\nWhat to do: Compute with integers: no float or double may be left, in libraries that are linked in either.\n",
     ),
 ];

@@ -88,8 +88,11 @@ class Call:
     def __init__(self, name, function, words, fuel):
         self.name, self.function, self.words, self.fuel = name, function, words, fuel
         self.charges, self.is_begun, self.ending, self.said, self.is_hidden = 0, False, None, None, False
+        self.fault = None
 
     def line(self, is_present):
+        if self.ending is None and self.fault is not None:
+            return f"{self.name} frame {self.fault} charges {self.charges}"
         if self.ending is None:
             return f"{self.name} fuel charges {self.charges}" if is_present else f"{self.name} queued"
         if self.ending == "dead" or self.ending.startswith("refused"):
@@ -126,8 +129,9 @@ class Held:
                 waiting.ending = "dead"
             self.calls = []
 
-    def go_on(self):
-        """Runs calls until one stands for fuel or none is left."""
+    def go_on(self, faults):
+        """Runs calls until one stands for fuel or for a fault of the device, or none is left. `faults` says by the names of
+        calls which fault each meets, and behind how many charges."""
         while self.calls:
             call, guest = self.calls[0], self.guest
             if not call.is_begun:
@@ -138,8 +142,12 @@ class Held:
                     self.end("done")
                     continue
                 guest.begin(call.function, call.words)
-            kind, value = guest.run(call.fuel)
+            fault, most = faults.get(call.name, (None, MOST))
+            kind, value = guest.run(min(call.fuel, most))
             call.charges = guest.charges
+            if kind == "fuel" and most < call.fuel:
+                call.fault = fault
+                return
             if kind == "fuel":
                 return
             self.end(f"trap T{value}" if kind == "trap" else "done" + self.result(call.function, value))
@@ -180,7 +188,7 @@ class Session:
 
     def __init__(self, frames, slots, files, verdicts):
         self.frames, self.slots, self.files, self.verdicts = frames, slots, files, verdicts
-        self.modules, self.names, self.held, self.calls = {}, {}, [], []
+        self.modules, self.names, self.held, self.calls, self.faults = {}, {}, [], [], {}
         self.count, self.number, self.out = 0, 0, []
 
     def line(self, text):
@@ -216,7 +224,7 @@ class Session:
     def drain(self):
         for held in self.held:
             if not held.is_gone:
-                held.go_on()
+                held.go_on(self.faults)
         present = [held.calls[0] for held in self.held if held.calls]
         for call in [held.start for held in self.held if not held.start.is_hidden] + self.calls:
             line = call.line(call in present)
@@ -342,8 +350,11 @@ class Session:
 
     def retry(self, name):
         def act(held):
-            held.present()
-            raise Refused("H8")
+            call = held.present()
+            if call.fault is None:
+                raise Refused("H8")
+            call.fault = None
+            del self.faults[call.name]
 
         self.reply("retry", name, act)
 

@@ -1,29 +1,48 @@
 //! Verdicts as JSON, one object each.
 
+use crate::limit::Limit;
 use crate::module::{Code, ModuleVerdict, Name, Refusal};
 use crate::script::{LineFinding, ScriptVerdict};
 use crate::settings::{SettingFinding, SettingsVerdict};
 use serde::Serialize;
 use std::alloc::{AllocError, Global};
 
-/// What is said of a module. All but the first three members are null where it is accepted, or where there is no such thing.
+/// Where a fault lies. What can't be said is null.
 #[derive(Drop, Serialize)]
-struct ModuleObject<'a> {
-    file: &'a str,
-    kind: &'static str,
-    accepted: bool,
-    fault: Option<String>,
-    name: Option<String>,
+struct PlaceObject<'a> {
     section: Option<&'static str>,
     function: Option<u32>,
     function_name: Option<&'a str>,
     instruction: Option<u32>,
     opcode: Option<&'static str>,
     offset: Option<usize>,
-    limit: Option<&'static str>,
+}
+
+/// A limit, and how many there may be, where that is a number.
+#[derive(Drop, Serialize)]
+struct LimitObject {
+    name: &'static str,
     most: Option<usize>,
-    message: Option<String>,
-    advice: Option<&'static str>,
+}
+
+/// Why a module is refused. The limit is null where none is passed.
+#[derive(Drop, Serialize)]
+struct RefusalObject<'a> {
+    fault: String,
+    name: String,
+    place: PlaceObject<'a>,
+    limit: Option<LimitObject>,
+    message: String,
+    advice: &'static str,
+}
+
+/// What is said of a module. Where it is accepted the refusal is null.
+#[derive(Drop, Serialize)]
+struct ModuleObject<'a> {
+    file: &'a str,
+    kind: &'static str,
+    accepted: bool,
+    refusal: Option<RefusalObject<'a>>,
 }
 
 /// One thing for which settings are refused.
@@ -67,51 +86,36 @@ fn text_of<T: Serialize>(alloc: Global, object: &T) -> Result<String, AllocError
     serde_json::to_string(alloc, object).map_err(|_| AllocError)
 }
 
-/// An accepted module.
-fn accepted_module(file: &str) -> ModuleObject<'_> {
-    ModuleObject {
-        file,
-        kind: "module",
-        accepted: true,
-        fault: None,
-        name: None,
-        section: None,
-        function: None,
-        function_name: None,
-        instruction: None,
-        opcode: None,
-        offset: None,
-        limit: None,
-        most: None,
-        message: None,
-        advice: None,
-    }
-}
-
-/// A refused module.
-fn refused_module<'a>(
-    alloc: Global,
-    file: &'a str,
-    refusal: &'a Refusal,
-) -> Result<ModuleObject<'a>, AllocError> {
+/// Where a fault lies, as an object.
+fn place_object(refusal: &Refusal) -> PlaceObject<'_> {
     let place = refusal.place;
-    let limit = refusal.limit();
-    Ok(ModuleObject {
-        file,
-        kind: "module",
-        accepted: false,
-        fault: Some(format!(in alloc; "{}", Code(refusal.error))?),
-        name: Some(format!(in alloc; "{}", Name(refusal.error))?),
+    PlaceObject {
         section: place.section.map(|section| section.name()),
         function: place.function,
         function_name: refusal.function_name.as_deref(),
         instruction: place.instruction,
         opcode: place.opcode,
         offset: place.offset,
-        limit: limit.map(|limit| limit.name()),
-        most: limit.and_then(|limit| limit.most()),
-        message: Some(format!(in alloc; "{refusal}")?),
-        advice: Some(refusal.advice()),
+    }
+}
+
+/// The limit that a module passes, as an object.
+fn limit_object(limit: Limit) -> LimitObject {
+    LimitObject {
+        name: limit.name(),
+        most: limit.most(),
+    }
+}
+
+/// Why a module is refused, as an object.
+fn refusal_object(alloc: Global, refusal: &Refusal) -> Result<RefusalObject<'_>, AllocError> {
+    Ok(RefusalObject {
+        fault: format!(in alloc; "{}", Code(refusal.error))?,
+        name: format!(in alloc; "{}", Name(refusal.error))?,
+        place: place_object(refusal),
+        limit: refusal.limit().map(limit_object),
+        message: format!(in alloc; "{refusal}")?,
+        advice: refusal.advice(),
     })
 }
 
@@ -124,9 +128,15 @@ pub fn module_json(
     file: &str,
     verdict: &ModuleVerdict,
 ) -> Result<String, AllocError> {
-    let object = match &verdict.refusal {
-        None => accepted_module(file),
-        Some(refusal) => refused_module(alloc, file, refusal)?,
+    let refusal = match &verdict.refusal {
+        None => None,
+        Some(refusal) => Some(refusal_object(alloc, refusal)?),
+    };
+    let object = ModuleObject {
+        file,
+        kind: "module",
+        accepted: refusal.is_none(),
+        refusal,
     };
     text_of(alloc, &object)
 }
