@@ -134,6 +134,25 @@ def changed_pages(program, folder):
     expect("what is left", os.path.getsize(pages), 0)
 
 
+def odd_files(program, folder):
+    """What keeps no bytes is taken as it is, and its faults are those of one call; a folder, and a file in none, are refused."""
+    case = next(case for case in CASES if case.name == "pages that leave")
+    lines, settings, pipe = case.script.format(**digits()).splitlines(), folder + "/odd.toml", folder + "/pipe"
+    os.mkfifo(pipe)
+    for path, faults in ((pipe, {"call 3": ("S2", 2)}), ("/dev/full", {"call 3": ("S2", 2)}), ("/dev/null", {"call 4": ("S1", 1)}), ("/dev/zero", {"call 4": ("S3", 1)})):
+        expect(path, *ran_over(program, settings, path, lines, (0, b"", answers(case, lines, faults=faults))))
+    for path in (folder, folder + "/none/pages"):
+        expect(path, *ran_over(program, settings, path, lines, (1, b"wasmhost: swap\n", [])))
+
+
+def ran_over(program, settings, path, lines, wanted):
+    """What a script comes to with pages swapped to this path, and what it has to."""
+    with open(settings, "w") as file:
+        file.write(f'frames = 2\nslots = 15\nswap = "{path}"\n')
+    ran = subprocess.run([program, "--settings", settings], input="\n".join(lines).encode(), capture_output=True, timeout=60)
+    return (ran.returncode, ran.stderr, told(ran.stdout)), wanted
+
+
 def write(path, contents):
     """Writes a file that the program has open, and leaves it the same file."""
     with open(path, "r+b") as file:
@@ -156,7 +175,8 @@ def main():
             kinds += found
             print(f"{case.name}: {found.total()} calls failed in turn: " + ", ".join(f"{n} {kind}" for kind, n in sorted(found.items())))
         changed_pages(program, folder)
-    print(f"{kinds.total()} runs with a call that failed: every reply was right; a swap file was changed, put back and cut")
+        odd_files(program, folder)
+    print(f"{kinds.total()} runs with a call that failed: every reply was right; a swap file was changed, put back and cut; six odd ones were tried")
     lacking = [kind for kind in WANTED if not kinds[kind]]
     if lacking:
         sys.exit(f"kinds that never came: {', '.join(lacking)}")

@@ -14,6 +14,8 @@ from scripts import CASES, MODULES, ROOT, answers, digits, told
 STAGES = {"ok": "D13 V11 L3 M2", "D": "D13", "V": "D13 V11", "L": "D13 V11 L3"}
 
 WANTED = "D13 V11 L3 M2 A9 H7 C5 F2 memory threads".split()
+# The bytes of a leaf of a page table, and how many leaves an instance has by its greatest number of pages.
+LEAF, LEAVES = 2048, {256: 1, 257: 2, 65536: 256}
 
 
 def causes(line):
@@ -60,6 +62,12 @@ def sizes_in(path):
         return [int(line) for line in file]
 
 
+def leaf_of(lines, ran):
+    """The greatest number of pages of the instance whose admission found no memory."""
+    name = re.search(r"admit (\w+) refused A9", ran.stdout.decode())[1]
+    return next(int(line.split(" ")[5]) for line in lines if line.startswith(f"admit {name} "))
+
+
 class Runs:
     """The runs of one script, in a folder of their own."""
 
@@ -87,6 +95,8 @@ class Runs:
             sys.exit(f"{self.case.name}, request {numbers}: {ran.returncode} {ran.stderr} {ran.stdout.decode()}")
         if "memory" in kinds and ran.stdout == b"" and max(sizes, default=0) >= 4096 * self.case.settings.get("frames", 1024):
             kinds = kinds + ["F2"]
+        if kinds == ["A9"] and sizes == [LEAF]:
+            kinds = kinds + [f"leaf of {leaf_of(self.lines, ran)}"]
         return kinds, sizes
 
 
@@ -128,6 +138,9 @@ def main():
     lacking = [kind for kind in WANTED if not kinds[kind]]
     if lacking:
         sys.exit(f"kinds that never came: {', '.join(lacking)}")
+    leaves = {most: kinds[f"leaf of {most}"] for most in LEAVES}
+    if leaves != LEAVES:
+        sys.exit(f"leaves of page tables, by the greatest number of pages: {leaves} in place of {LEAVES}")
 
 
 main()

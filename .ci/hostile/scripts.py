@@ -63,6 +63,15 @@ CASES = [
         False,
         "module m {bytes}\nadmit a m 100 2 16 0 0 0\ninvoke a s 9 0 1\ninvoke a s 9 4096 2\ninvoke a s 9 8192 3\ninvoke a l 9 0\n",
     ),
+    # Where the first admission leaves nothing behind the second one has its frames, its slots and its number.
+    Case(
+        "page tables",
+        {"frames": 2, "slots": 65535},
+        1,
+        False,
+        "module m {byte}\nadmit a m 100 2 65536 0 0 0\nadmit b m 100 2 65536 0 0 0\nrelease a\nadmit c m 100 2 257 0 0 0\nrelease c\n"
+        "admit d m 100 2 256 0 0 0\n",
+    ),
     Case("output", {}, 4, False, "module m {put}\nadmit a m 100 2 16 0 0 0\ninvoke a f 9\nrelease a\n"),
     Case(
         "all of it",
