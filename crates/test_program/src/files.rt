@@ -16,21 +16,23 @@ const MOST_MODULE_BYTES: usize = 1_048_576;
 
 const MOST_SETTINGS_BYTES: usize = 65536;
 
-/// What a script of one line gets, with settings where a path is given.
+/// A command line with a script, and one with settings too.
+type Plain = [&'static str; 2];
+
+type Settled = [&'static str; 4];
+
+/// What a command line gets whose script is at this path and has one line.
 fn answered<E: Files + Input + AllocGlobal + Threads + Wait + Copy + Send + 'static>(
     rt: &E,
-    settings: Option<&str>,
+    script: &str,
+    words: &[&str],
     line: &str,
 ) -> Result<Got, Fail>
 where
     E::File: Lockable + Send + 'static,
 {
-    let script = "wasmhost_program_files.script";
     fs::write(rt, script, line)?;
-    let got = match settings {
-        Some(path) => ask(rt, &["wasmhost", "--settings", path, script])?,
-        None => ask(rt, &["wasmhost", script])?,
-    };
+    let got = ask(rt, words)?;
     fs::remove_file(rt, script)?;
     Ok(got)
 }
@@ -53,9 +55,11 @@ fn expect_stopped(rt: &impl Abort, got: &Got, complaint: &str, about: &str) {
     );
 }
 
+const ENDLESS: Plain = ["wasmhost", "wasmhost_program_endless.script"];
+
 #[test]
 fn a_module_that_never_ends_is_refused(rt: HostRuntime) -> Result<(), Fail> {
-    let got = answered(&rt, None, "load m /dev/zero\n")?;
+    let got = answered(&rt, ENDLESS[1], &ENDLESS, "load m /dev/zero\n")?;
     expect_reply(&rt, &got, "module m refused D11 at 1048576\n", "/dev/zero");
     Ok(())
 }
@@ -67,31 +71,50 @@ const ZEROS: [(usize, &str); 3] = [
     (MOST_MODULE_BYTES + 2, "module m refused D11 at 1048576\n"),
 ];
 
+const ZERO: Plain = ["wasmhost", "wasmhost_program_zeros.script"];
+
 #[test]
 fn a_module_may_have_1048576_bytes(rt: HostRuntime) -> Result<(), Fail> {
     let path = "wasmhost_program_files.wasm";
     for (length, reply) in ZEROS {
         fs::write(&rt, path, vec![in rt.alloc(); 0u8; length]?)?;
-        let got = answered(&rt, None, "load m wasmhost_program_files.wasm\n")?;
+        let got = answered(&rt, ZERO[1], &ZERO, "load m wasmhost_program_files.wasm\n")?;
         expect_reply(&rt, &got, reply, "zeros");
     }
     fs::remove_file(&rt, path)?;
     Ok(())
 }
 
+const LONG: Settled = [
+    "wasmhost",
+    "--settings",
+    "wasmhost_program_long.toml",
+    "wasmhost_program_long.script",
+];
+
+const LONGEST: Settled = [
+    "wasmhost",
+    "--settings",
+    "/dev/zero",
+    "wasmhost_program_long.script",
+];
+
 #[test]
 fn settings_may_have_65536_bytes(rt: HostRuntime) -> Result<(), Fail> {
-    let path = "wasmhost_program_files.toml";
-    fs::write(&rt, path, vec![in rt.alloc(); b'\n'; MOST_SETTINGS_BYTES]?)?;
-    let whole = answered(&rt, Some(path), "scan\n")?;
     fs::write(
         &rt,
-        path,
+        LONG[2],
+        vec![in rt.alloc(); b'\n'; MOST_SETTINGS_BYTES]?,
+    )?;
+    let whole = answered(&rt, LONG[3], &LONG, "scan\n")?;
+    fs::write(
+        &rt,
+        LONG[2],
         vec![in rt.alloc(); b'\n'; MOST_SETTINGS_BYTES + 1]?,
     )?;
-    let longer = answered(&rt, Some(path), "scan\n")?;
-    fs::remove_file(&rt, path)?;
-    let endless = answered(&rt, Some("/dev/zero"), "scan\n")?;
+    let longer = answered(&rt, LONG[3], &LONG, "scan\n")?;
+    fs::remove_file(&rt, LONG[2])?;
+    let endless = answered(&rt, LONGEST[3], &LONGEST, "scan\n")?;
     expect_reply(&rt, &whole, "scan ok\n", "65536 bytes");
     expect_stopped(&rt, &longer, "wasmhost: settings\n", "65537 bytes");
     expect_stopped(&rt, &endless, "wasmhost: settings\n", "/dev/zero");
@@ -101,23 +124,30 @@ fn settings_may_have_65536_bytes(rt: HostRuntime) -> Result<(), Fail> {
 /// What a script of one line gets where pages are swapped to this file.
 fn answered_over<E: Files + Input + AllocGlobal + Threads + Wait + Copy + Send + 'static>(
     rt: &E,
+    words: &Settled,
     pages: &str,
 ) -> Result<Got, Fail>
 where
     E::File: Lockable + Send + 'static,
 {
-    let path = "wasmhost_program_files_swap.toml";
     let settings = format!(in rt.alloc(); "swap = \"{pages}\"\n")?;
-    fs::write(rt, path, settings)?;
-    let got = answered(rt, Some(path), "scan\n")?;
-    fs::remove_file(rt, path)?;
+    fs::write(rt, words[2], settings)?;
+    let got = answered(rt, words[3], words, "scan\n")?;
+    fs::remove_file(rt, words[2])?;
     Ok(got)
 }
+
+const MADE: Settled = [
+    "wasmhost",
+    "--settings",
+    "wasmhost_program_made.toml",
+    "wasmhost_program_made.script",
+];
 
 #[test]
 fn a_file_for_swap_is_made_for_its_owner(rt: HostRuntime) -> Result<(), Fail> {
     let pages = "wasmhost_program_files_made.pages";
-    let got = answered_over(&rt, pages)?;
+    let got = answered_over(&rt, &MADE, pages)?;
     let left = fs::metadata(&rt, pages)?;
     fs::remove_file(&rt, pages)?;
     expect_reply(&rt, &got, "scan ok\n", pages);
@@ -126,11 +156,18 @@ fn a_file_for_swap_is_made_for_its_owner(rt: HostRuntime) -> Result<(), Fail> {
     Ok(())
 }
 
+const OTHER: Settled = [
+    "wasmhost",
+    "--settings",
+    "wasmhost_program_other.toml",
+    "wasmhost_program_other.script",
+];
+
 #[test]
 fn a_file_that_holds_other_bytes_is_emptied(rt: HostRuntime) -> Result<(), Fail> {
     let pages = "wasmhost_program_files_other.pages";
     fs::write(&rt, pages, "what another program wrote")?;
-    let got = answered_over(&rt, pages)?;
+    let got = answered_over(&rt, &OTHER, pages)?;
     let left = fs::metadata(&rt, pages)?.len();
     fs::remove_file(&rt, pages)?;
     expect_reply(&rt, &got, "scan ok\n", pages);
@@ -138,16 +175,23 @@ fn a_file_that_holds_other_bytes_is_emptied(rt: HostRuntime) -> Result<(), Fail>
     Ok(())
 }
 
+const USED: Settled = [
+    "wasmhost",
+    "--settings",
+    "wasmhost_program_used.toml",
+    "wasmhost_program_used.script",
+];
+
 #[test]
 fn a_file_that_another_host_has_is_left_alone(rt: HostRuntime) -> Result<(), Fail> {
     let pages = "wasmhost_program_files_used.pages";
     fs::write(&rt, pages, "pages of another host")?;
     let held = File::open(&rt, pages)?;
     assert!(rt; held.lock_alone());
-    let refused = answered_over(&rt, pages)?;
+    let refused = answered_over(&rt, &USED, pages)?;
     let left = fs::metadata(&rt, pages)?.len();
     held.unlock()?;
-    let taken = answered_over(&rt, pages)?;
+    let taken = answered_over(&rt, &USED, pages)?;
     fs::remove_file(&rt, pages)?;
     expect_stopped(&rt, &refused, "wasmhost: swap\n", "a locked file");
     assert_eq!(rt; left, 21);
@@ -161,14 +205,21 @@ const NO_SWAP: [&str; 3] = ["/", "/proc/self/exe", "no/such/pages"];
 /// What can, and keeps no bytes.
 const DEVICES: [&str; 2] = ["/dev/null", "/dev/full"];
 
+const DEVICE: Settled = [
+    "wasmhost",
+    "--settings",
+    "wasmhost_program_device.toml",
+    "wasmhost_program_device.script",
+];
+
 #[test]
 fn devices_are_taken_as_they_are(rt: HostRuntime) -> Result<(), Fail> {
     for pages in NO_SWAP {
-        let got = answered_over(&rt, pages)?;
+        let got = answered_over(&rt, &DEVICE, pages)?;
         expect_stopped(&rt, &got, "wasmhost: swap\n", pages);
     }
     for pages in DEVICES {
-        let got = answered_over(&rt, pages)?;
+        let got = answered_over(&rt, &DEVICE, pages)?;
         expect_reply(&rt, &got, "scan ok\n", pages);
     }
     Ok(())
