@@ -1,18 +1,27 @@
 #!/usr/bin/env python3
 """Runs wasmhost over scripts with one read, write or seek failing, for each of its calls in turn; and over a swap file that is
-changed and cut while it runs: `python3 .ci/hostile/devices.py [PROGRAM]`, after `rt run` or `rt ci` made
-crates/wasmhost/out/wasmhost. It needs a C compiler.
+changed and cut while it runs; and over files that their modes forbid to open: `python3 .ci/hostile/devices.py [PROGRAM]`, after
+`rt run` or `rt ci` made crates/wasmhost/out/wasmhost. It needs a C compiler.
 
 Where a call of settings, script or output fails, the program ends with status 1 and that cause, behind a beginning of the replies.
 Where a module's file can't be read, its line is C4. Where a call of the swap device fails, one call stands for that fault, and all
 else is answered as by the second model of scripts (crates/test_sessions/model). It fails where anything else comes."""
-import collections, itertools, os, re, subprocess, sys, tempfile
+import collections, itertools, os, re, shutil, subprocess, sys, tempfile
 
 from scripts import CASES, MODULES, ROOT, Case, answers, digits, told
 
 STOPPED = {"settings": b"wasmhost: settings\n", "script": b"wasmhost: script\n", "output": b"wasmhost: output\n"}
 LOADS = Case("a file", {}, 1, False, "load m {folder}/seven.wasm\nload n {folder}/none.wasm\nadmit a m 100 2 16 0 0 0\ninvoke a f 0\n")
 WANTED = "settings script output module S1 S2".split()
+FORBIDDEN = Case(
+    "files that may not be opened",
+    {},
+    1,
+    False,
+    "load m {folder}/module\nload n {folder}/seven.wasm\nload m {folder}/seven.wasm\nadmit a m 100 2 16 0 0 0\ninvoke a f 0\n",
+)
+# Modes by which a file can't be read; a swap file has to be read and written.
+UNREADABLE, UNUSABLE = (0o000, 0o222), (0o000, 0o222, 0o444)
 
 
 def faults_in(got):
@@ -153,6 +162,67 @@ def ran_over(program, settings, path, lines, wanted):
     return (ran.returncode, ran.stderr, told(ran.stdout)), wanted
 
 
+class Forbidden:
+    """Runs over files some of which may not be opened, by a user whom modes bind: nobody, where this runs as root, whom they don't."""
+
+    def __init__(self, program, folder):
+        os.chmod(folder, 0o755)
+        self.folder, self.program = folder, shutil.copy(program, folder + "/wasmhost")
+        self.user = {"user": 65534, "group": 65534, "extra_groups": []} if os.geteuid() == 0 else {}
+        self.script = FORBIDDEN.script.format(folder=folder)
+        self.seven = bytes.fromhex(MODULES["seven"][0])
+        self.make("seven.wasm", self.seven, 0o644)
+        os.chmod(self.program, 0o755)
+        self.tried = 0
+
+    def make(self, name, contents, mode):
+        path = os.path.join(self.folder, name)
+        if os.path.exists(path):
+            os.remove(path)
+        with open(path, "wb") as file:
+            file.write(contents)
+        os.chmod(path, mode)
+
+    def expect(self, modes, cause, pages="pages"):
+        """That files with these modes stop the run for this cause; with none it goes on, without the module that may not be opened.
+        What the swap file held is lost only where the host has opened it."""
+        what = " ".join(f"{name} {mode:03o}" for name, mode in modes.items())
+        self.make("module", self.seven, modes.get("module", 0o644))
+        self.make("script", self.script.encode(), modes.get("script", 0o644))
+        self.make("settings", f'swap = "{self.folder}/{pages}"\n'.encode(), modes.get("settings", 0o644))
+        self.make("pages", b"kept", modes.get("pages", 0o666))
+        words = [self.program, "--settings", self.folder + "/settings", self.folder + "/script"]
+        ran = subprocess.run(words, capture_output=True, timeout=60, **self.user)
+        files = {f"{self.folder}/{name}": self.seven for name in ("seven.wasm", "module") if name not in modes}
+        whole = answers(FORBIDDEN, self.script.splitlines(), files=files)
+        wanted = (1, f"wasmhost: {cause}\n".encode(), []) if cause else (0, b"", whole)
+        expect(what, (ran.returncode, ran.stderr, told(ran.stdout)), wanted)
+        os.chmod(self.folder + "/pages", 0o644)
+        with open(self.folder + "/pages", "rb") as file:
+            expect(f"{what}: the swap file", file.read(), b"kept" if cause in ("settings", "swap") else b"")
+        self.tried += 1
+
+
+def forbidden_files(program):
+    """Runs over files that may not be opened, and one where all may. Answers how many."""
+    with tempfile.TemporaryDirectory() as folder:
+        runs = Forbidden(program, folder)
+        runs.expect({}, None)
+        for mode in UNREADABLE:
+            runs.expect({"module": mode}, None)
+            runs.expect({"script": mode}, "script")
+            runs.expect({"settings": mode}, "settings")
+        for mode in UNUSABLE:
+            runs.expect({"pages": mode}, "swap")
+        runs.expect({"script": 0, "pages": 0}, "swap")
+        runs.expect({"script": 0, "pages": 0, "settings": 0}, "settings")
+        # In this folder no file may be made.
+        os.mkdir(folder + "/shut", 0o555)
+        runs.expect({}, "swap", pages="shut/pages")
+        expect("what was made", os.listdir(folder + "/shut"), [])
+        return runs.tried
+
+
 def write(path, contents):
     """Writes a file that the program has open, and leaves it the same file."""
     with open(path, "r+b") as file:
@@ -176,7 +246,9 @@ def main():
             print(f"{case.name}: {found.total()} calls failed in turn: " + ", ".join(f"{n} {kind}" for kind, n in sorted(found.items())))
         changed_pages(program, folder)
         odd_files(program, folder)
+    forbidden = forbidden_files(program)
     print(f"{kinds.total()} runs with a call that failed: every reply was right; a swap file was changed, put back and cut; six odd ones were tried")
+    print(f"{forbidden} runs, in all but one of which a file may not be opened: each stopped for it, or went on without that module")
     lacking = [kind for kind in WANTED if not kinds[kind]]
     if lacking:
         sys.exit(f"kinds that never came: {', '.join(lacking)}")
