@@ -16,6 +16,8 @@ pub enum Call {
     Set { at: u32, word: u64 },
     Get { at: u32 },
     Two { at: u32, and: u32, byte: u8 },
+    Five,
+    Wide,
 }
 
 /// What one charge of a call does.
@@ -38,6 +40,11 @@ impl Call {
             (Call::Get { at }, 2) => Some(Step::Load { at }),
             (Call::Two { at, byte, .. }, 3) => Some(Step::Store8 { at, byte }),
             (Call::Two { and, byte, .. }, 6) => Some(Step::Store8 { at: and, byte }),
+            (Call::Five, 1) => Some(Step::Store8 { at: 0, byte: 5 }),
+            (Call::Wide, 1) => Some(Step::Store {
+                at: 4092,
+                word: 0x0807_0605_0403_0201,
+            }),
             (Call::Get8 { .. } | Call::Get { .. }, 1) => Some(Step::Local),
             (Call::Set8 { .. } | Call::Set { .. }, 1 | 2) => Some(Step::Local),
             (Call::Two { .. }, 1..=5) => Some(Step::Local),
@@ -49,6 +56,8 @@ impl Call {
     fn places(self) -> [u32; 2] {
         match self {
             Call::Two { at, and, .. } => [at, and],
+            Call::Five => [0, 0],
+            Call::Wide => [4092, 4092],
             Call::Set8 { at, .. } | Call::Get8 { at } | Call::Set { at, .. } | Call::Get { at } => [
                 at, at,
             ],
@@ -62,6 +71,8 @@ impl Call {
             Call::Get8 { at } => ("get8", [i128::from(at), 0, 0], 1),
             Call::Set { at, word } => ("set", [i128::from(at), i128::from(word), 0], 2),
             Call::Get { at } => ("get", [i128::from(at), 0, 0], 1),
+            Call::Five => ("five", [0, 0, 0], 0),
+            Call::Wide => ("wide", [0, 0, 0], 0),
             Call::Two { at, and, byte } => {
                 (
                     "two",
@@ -120,20 +131,27 @@ impl Flat {
         }
     }
 
-    /// Its memory, all of whose bytes are 0 again.
-    pub fn cleared(self) -> FlatMemory {
-        let Flat {
-            mut memory,
-            calls,
-            ended: _,
-        } = self;
-        for asked in &calls {
+    /// All its bytes are 0 again, and it has no calls.
+    pub fn clear(&mut self) {
+        for asked in &self.calls {
             for at in asked.call.places() {
                 for offset in 0..8 {
-                    let _ = memory.store(u64::from(at) + offset, &[0]);
+                    let _ = self.memory.store(u64::from(at) + offset, &[0]);
                 }
             }
         }
+        self.calls.clear();
+        self.ended = 0;
+    }
+
+    /// Its memory, all of whose bytes are 0 again.
+    pub fn cleared(mut self) -> FlatMemory {
+        self.clear();
+        let Flat {
+            memory,
+            calls: _,
+            ended: _,
+        } = self;
         memory
     }
 

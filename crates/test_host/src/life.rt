@@ -1,7 +1,7 @@
 // Lives of instances as tables: step by step what is asked of a host and of whoever serves it, and what has to come of it.
 
 use crate::rig::Rig;
-use crate::views::ALL;
+use crate::views::PAGES;
 use anyhow::{Context, Result, ensure};
 use std::alloc::Global;
 use wh_host::{AdmitError, CallStatus, CallValue, HostError, ModuleId, Suspension};
@@ -210,7 +210,7 @@ fn is_served(rig: &mut Rig, alloc: Global, id: InstId, step: Step) -> Result<boo
         Step::RunOut(_) => rig.run_out(alloc, id)?.is_none(),
         Step::EvictBegin(_, want) => leaves(rig, alloc, id, want)?,
         Step::FetchBegin(_, want) => rig.fetch_begin(alloc, id)? == want,
-        Step::Emit(_, want) => are_all(&rig.emitted(alloc, id, &ALL)?, want),
+        Step::Emit(_, want) => are_all(&rig.emitted(alloc, id, &PAGES)?, want),
         other => is_asked(rig, alloc, id, other),
     })
 }

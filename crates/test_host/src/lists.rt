@@ -1,10 +1,12 @@
 // The lists of five events that the digits of a number name, and how often each end came.
 
+use crate::flat::Call;
+use crate::pair::Pair;
 use crate::rig::Rig;
-use crate::views::{ALL, EDGES, Part, difference};
 use anyhow::{Context, Result, ensure};
 use std::alloc::Global;
-use wh_host::{CallStatus, Suspension};
+use wh_flatmem::FlatMemory;
+use wh_host::Suspension;
 use wh_host_model::{EvictEnd, FetchEnd, InstId, Offer, Tax, TurnEnd};
 use wh_kernels::{FnvHash, PageHash};
 
@@ -74,61 +76,113 @@ impl Ends {
     }
 }
 
+/// How many views were compared behind single events, and how many of them were read from the first byte to the last one while a
+/// ticket was out.
+#[derive(Clone, Copy, Debug, Default)]
+pub struct Seen {
+    pub views: u32,
+    pub during: u32,
+}
+
 /// Two instances on four frames, whose first two pages are equal and merged. The first one stands at a store over both, and
-/// the second, which has a third page, has a call open.
+/// the second, which has a third page, has a call open. Beside each is a flat memory to which the same is done.
 pub struct Two {
     pub rig: Rig,
-    pub a: InstId,
-    pub b: InstId,
+    pub a: Pair,
+    pub b: Pair,
 }
 
 // Runs a call that needs no page to leave.
-fn done(rig: &mut Rig, alloc: Global, id: InstId, at: i128, byte: i128) -> Result<()> {
-    rig.invoke(alloc, id, "set8", &[at, byte], 3)?;
-    ensure!(rig.turn(id, 3) == TurnEnd::Ended, "a store isn't done");
-    Ok(())
+fn done(rig: &mut Rig, alloc: Global, pair: &mut Pair, at: u32, byte: u8) -> Result<()> {
+    pair.ask(rig, alloc, Call::Set8 { at, byte }, 3)?;
+    ensure!(rig.turn(pair.id, 3) == TurnEnd::Ended, "a store isn't done");
+    pair.follow(rig)
 }
 
-// All that comes before the lists.
-fn prepare(rig: &mut Rig, alloc: Global) -> Result<(InstId, InstId)> {
-    let a = rig.admit(alloc, 2)?;
-    let b = rig.admit(alloc, 2)?;
-    for id in [a, b] {
-        done(rig, alloc, id, 0, 1)?;
-        done(rig, alloc, id, 4096, 2)?;
-    }
-    ensure!(rig.scan(&FnvHash), "there is no pass");
-    done(rig, alloc, b, 8192, 3)?;
-    rig.invoke(alloc, a, "wide", &[], 1)?;
-    ensure!(rig.turn(a, 1) == TurnEnd::Frame, "the store is ready");
-    rig.invoke(alloc, b, "five", &[], 1)?;
-    let report = rig.report(alloc)?;
-    let want = format!(in alloc;
-        "# frames 4 used 3 free 1\n# slots 64 used 0 free 64\n# shared frames 2 sharers 4\n#{:6}     100     2    16     2     2     0 100/2\n#{:6}     100     2    16     3     3     0 100/3\n",
-        a.number, b.number
-    )?;
+// An instance comes, and writes its first two pages.
+fn enter(rig: &mut Rig, alloc: Global, pair: &mut Pair) -> Result<()> {
+    pair.renew(rig.admit(alloc, 2)?);
+    done(rig, alloc, pair, 0, 1)?;
+    done(rig, alloc, pair, 4096, 2)
+}
+
+// A turn of one charge. On the flat memory a call has ended where it has on the host.
+fn turn(rig: &mut Rig, pair: &mut Pair) -> Result<TurnEnd> {
+    let before = pair.flat.open();
+    let end = rig.turn(pair.id, 1);
+    pair.follow(rig)?;
+    let has_ended = pair.flat.open() < before;
     ensure!(
-        report.as_str() == want.as_str(),
-        "the lists begin elsewhere"
+        has_ended == (end == TurnEnd::Ended),
+        "a turn came to {end:?}"
     );
-    Ok((a, b))
+    Ok(end)
+}
+
+// An open call goes on to its end, on the host and on the flat memory. No ticket is out.
+fn end_calls(rig: &mut Rig, alloc: Global, pair: &mut Pair) -> Result<()> {
+    let failed = matches!(pair.stands_for(rig)?, Some(Suspension::Device(_)));
+    ensure!(
+        rig.retry(pair.id).is_ok() == failed,
+        "another try isn't as the call stands"
+    );
+    pair.run_out(rig, alloc)
+}
+
+// All bytes of an instance are those of its flat memory.
+fn look(rig: &mut Rig, alloc: Global, pair: &Pair, seen: &mut Seen) -> Result<()> {
+    pair.compare(rig, alloc)?;
+    more(&mut seen.views);
+    if rig.kept() != (0, 0) {
+        more(&mut seen.during);
+    }
+    Ok(())
 }
 
 impl Two {
     pub fn new(alloc: Global) -> Result<Two> {
-        let mut rig = Rig::new(alloc, 4, 64, Tax { num: 0, den: 1 })?;
-        match prepare(&mut rig, alloc) {
-            Ok((a, b)) => Ok(Two { rig, a, b }),
+        let first = FlatMemory::new(alloc, 1, 1)?;
+        let second = FlatMemory::new(alloc, 1, 1)?;
+        let nobody = InstId {
+            place: 0,
+            number: 0,
+        };
+        let mut two = Two {
+            rig: Rig::new(alloc, 4, 64, Tax { num: 0, den: 1 })?,
+            a: Pair::new(alloc, nobody, first),
+            b: Pair::new(alloc, nobody, second),
+        };
+        match two.begin(alloc) {
+            Ok(()) => Ok(two),
             Err(error) => {
-                rig.finish();
+                two.finish();
                 Err(error)
             }
         }
     }
 
-    // Two others, once these are gone.
-    fn renew(&mut self, alloc: Global) -> Result<()> {
-        (self.a, self.b) = prepare(&mut self.rig, alloc)?;
+    // All that comes before a list, on a host where nobody is.
+    fn begin(&mut self, alloc: Global) -> Result<()> {
+        let rig = &mut self.rig;
+        enter(rig, alloc, &mut self.a)?;
+        enter(rig, alloc, &mut self.b)?;
+        ensure!(rig.scan(&FnvHash), "there is no pass");
+        done(rig, alloc, &mut self.b, 8192, 3)?;
+        self.a.ask(rig, alloc, Call::Wide, 1)?;
+        ensure!(
+            turn(rig, &mut self.a)? == TurnEnd::Frame,
+            "the store is ready"
+        );
+        self.b.ask(rig, alloc, Call::Five, 1)?;
+        let report = rig.report(alloc)?;
+        let want = format!(in alloc;
+            "# frames 4 used 3 free 1\n# slots 64 used 0 free 64\n# shared frames 2 sharers 4\n#{:6}     100     2    16     2     2     0 100/2\n#{:6}     100     2    16     3     3     0 100/3\n",
+            self.a.id.number, self.b.id.number
+        )?;
+        ensure!(
+            report.as_str() == want.as_str(),
+            "the lists begin elsewhere"
+        );
         Ok(())
     }
 
@@ -148,89 +202,38 @@ impl Two {
     ) -> Result<()> {
         let rig = &mut self.rig;
         match digit {
-            0 => ends.turned(rig.turn(self.a, 1)),
-            1 => ends.turned(rig.turn(self.b, 1)),
-            2 => ends.offered(rig.offer(hasher, self.a, 0, 0)),
-            3 => ends.offered(rig.offer(hasher, self.b, 0, 0)),
+            0 => ends.turned(turn(rig, &mut self.a)?),
+            1 => ends.turned(turn(rig, &mut self.b)?),
+            2 => ends.offered(rig.offer(hasher, self.a.id, 0, 0)),
+            3 => ends.offered(rig.offer(hasher, self.b.id, 0, 0)),
             4 => {
-                if rig.evict_begin(alloc, self.a)? {
+                if rig.evict_begin(alloc, self.a.id)? {
                     more(&mut ends.left);
                 }
             }
             5 => ends.evicted(rig.evict_commit(false)),
             6 => ends.evicted(rig.evict_commit(true)),
             7 => {
-                if rig.fetch_begin(alloc, self.b)? {
+                if rig.fetch_begin(alloc, self.b.id)? {
                     more(&mut ends.came);
                 }
             }
             8 => ends.fetched(rig.fetch_commit(false)),
             _ => ends.fetched(rig.fetch_commit(true)),
         }
-        Ok(())
+        self.a.follow(rig)?;
+        self.b.follow(rig)
     }
 
-    // Whether the call at this place of the journal, of one charge, has ended; else it has done nothing.
-    fn has_ended(&self, id: InstId, at: u32) -> Result<bool> {
-        let done = CallStatus::Returned {
-            value: None,
-            charges: 1,
-        };
-        match self.rig.status(id, at) {
-            Some(CallStatus::Present { charges: 0, .. }) => Ok(false),
-            status => {
-                ensure!(status == Some(done), "a call came to {status:?}");
-                Ok(true)
-            }
-        }
-    }
-
-    // The open calls go on to their end, where `goes_on`, and else they are cancelled.
-    fn end_calls(&mut self, alloc: Global, id: InstId, at: u32, goes_on: bool) -> Result<bool> {
-        if self.has_ended(id, at)? {
-            return Ok(true);
-        }
-        if !goes_on {
-            self.rig.cancel(id)?;
-            return Ok(false);
-        }
-        let failed = matches!(
-            self.rig.status(id, at),
-            Some(CallStatus::Present {
-                stands_for: Some(Suspension::Device(_)),
-                ..
-            })
-        );
-        ensure!(
-            self.rig.retry(id).is_ok() == failed,
-            "another try isn't as the call stands"
-        );
-        ensure!(
-            self.rig.run_out(alloc, id)?.is_none(),
-            "a device call failed"
-        );
-        ensure!(self.has_ended(id, at)?, "a call doesn't end");
-        Ok(true)
-    }
-
-    // What comes of a list: all calls end, and each sees its own bytes.
-    fn compare(&mut self, alloc: Global, goes_on: bool, parts: &[Part]) -> Result<()> {
-        let wide = self.end_calls(alloc, self.a, 3, goes_on)?;
-        let five = self.end_calls(alloc, self.b, 4, goes_on)?;
-        ensure!(self.rig.tickets(alloc)? == 0, "a ticket is lost");
-        let seen = self.rig.emitted(alloc, self.a, parts)?;
-        let other = difference(parts, &seen, &first_bytes(alloc, wide)?);
-        ensure!(
-            other.is_none(),
-            "the first one sees other bytes at {other:?}"
-        );
-        let seen = self.rig.emitted(alloc, self.b, parts)?;
-        let other = difference(parts, &seen, &second_bytes(alloc, five)?);
-        ensure!(
-            other.is_none(),
-            "the second one sees other bytes at {other:?}"
-        );
-        let report = self.rig.report(alloc)?;
+    // Both see all their own bytes, whatever tickets are out, and go. Nothing is in use then.
+    fn compare(&mut self, alloc: Global, seen: &mut Seen) -> Result<()> {
+        let rig = &mut self.rig;
+        look(rig, alloc, &self.a, seen).context("the first one")?;
+        look(rig, alloc, &self.b, seen).context("the second one")?;
+        let _ = rig.evict_commit(false);
+        let _ = rig.fetch_commit(false);
+        ensure!(rig.tickets(alloc)? == 0, "a ticket is lost");
+        let report = rig.report(alloc)?;
         ensure!(
             report.as_str()
                 == "# frames 4 used 0 free 4\n# slots 64 used 0 free 64\n# shared frames 0 sharers 0\n",
@@ -238,35 +241,67 @@ impl Two {
         );
         Ok(())
     }
+
+    // The open calls are cancelled, whatever tickets are out.
+    fn break_off(&mut self) -> Result<()> {
+        self.a.break_off(&mut self.rig)?;
+        self.b.break_off(&mut self.rig)
+    }
 }
 
-// The memory of the first instance, whose wide store was done or not.
-fn first_bytes(alloc: Global, wide: bool) -> Result<Vec<u8>> {
-    let mut bytes = vec![in alloc; 0; 65536]?;
-    put(&mut bytes, 0, 1);
-    put(&mut bytes, 4096, 2);
-    if wide {
-        for (at, byte) in (4092..4100).zip(1..9) {
-            put(&mut bytes, at, byte);
+// One list, and the tickets that are out at its end; then the open calls go on or are cancelled, and both are looked at.
+fn drive<H: PageHash>(
+    two: &mut Two,
+    alloc: Global,
+    hasher: &H,
+    events: &[u32],
+    goes_on: bool,
+    ends: &mut Ends,
+) -> Result<()> {
+    for digit in events {
+        two.event(alloc, hasher, *digit, ends)?;
+    }
+    ends.evicted(two.rig.evict_commit(false));
+    ends.fetched(two.rig.fetch_commit(false));
+    ensure!(two.rig.kept() == (0, 0), "two tickets of a kind are out");
+    if goes_on {
+        end_calls(&mut two.rig, alloc, &mut two.a)?;
+        end_calls(&mut two.rig, alloc, &mut two.b)?;
+    } else {
+        two.break_off()?;
+    }
+    two.compare(alloc, &mut Seen::default())?;
+    two.begin(alloc)
+}
+
+// The events of a list up to the one at this place. Then the open calls are cancelled, and both are looked at, while tickets are
+// out.
+fn stop<H: PageHash>(
+    two: &mut Two,
+    alloc: Global,
+    hasher: &H,
+    events: &[u32],
+    last: usize,
+    seen: &mut Seen,
+) -> Result<()> {
+    for digit in events.iter().take(last.saturating_add(1)) {
+        two.event(alloc, hasher, *digit, &mut Ends::default())?;
+    }
+    two.break_off()?;
+    two.compare(alloc, seen)?;
+    two.begin(alloc)
+}
+
+// With how many events two lists begin alike.
+fn alike(one: &[u32], other: &[u32]) -> usize {
+    let mut count = 0usize;
+    for (first, second) in one.iter().zip(other) {
+        if first != second {
+            return count;
         }
+        count = count.saturating_add(1);
     }
-    Ok(bytes)
-}
-
-// That of the second, whose store of 5 was done or not.
-fn second_bytes(alloc: Global, five: bool) -> Result<Vec<u8>> {
-    let mut bytes = vec![in alloc; 0; 65536]?;
-    put(&mut bytes, 0, if five { 5 } else { 1 });
-    put(&mut bytes, 4096, 2);
-    put(&mut bytes, 8192, 3);
-    Ok(bytes)
-}
-
-// Writes a byte, where there is one.
-fn put(bytes: &mut [u8], at: usize, byte: u8) {
-    if let Some(place) = bytes.get_mut(at) {
-        *place = byte;
-    }
+    count
 }
 
 // The five digits of a number, with leading zeros, from the left.
@@ -280,59 +315,51 @@ fn digits(number: u32) -> [u32; 5] {
     ]
 }
 
-// What is compared after a list: after every fiftieth all bytes, and else those about the stores.
-fn parts_to_see(number: u32) -> &'static [Part] {
-    if number % 4850 == 0 { &ALL } else { &EDGES }
-}
-
-// One list, the tickets that are out at its end, and what comes of it.
-fn drive<H: PageHash>(
-    two: &mut Two,
-    alloc: Global,
-    hasher: &H,
-    prefix: &[u32],
-    number: u32,
-    goes_on: bool,
-    ends: &mut Ends,
-) -> Result<()> {
-    for digit in prefix {
-        two.event(alloc, hasher, *digit, ends)?;
-    }
+// These events, and those that the digits of a number name.
+fn events_of(alloc: Global, prefix: &[u32], number: u32) -> Result<Vec<u32>> {
+    let mut events = Vec::from_slice(alloc, prefix)?;
     for digit in digits(number) {
-        two.event(alloc, hasher, digit, ends)?;
+        events.push(digit)?;
     }
-    ends.evicted(two.rig.evict_commit(false));
-    ends.fetched(two.rig.fetch_commit(false));
-    ensure!(two.rig.kept() == (0, 0), "two tickets of a kind are out");
-    two.compare(alloc, goes_on, parts_to_see(number))
+    Ok(events)
 }
 
-// All lists, on one host. The calls of each then go on, and on those of another they are cancelled.
+// All lists, on one host. Each is driven up to each of its events, but where the list before it begins so too; then twice to its
+// end, where the open calls go on and where they are cancelled.
 fn drive_all<H: PageHash>(
     two: &mut Two,
     alloc: Global,
     hasher: &H,
     prefix: &[u32],
     ends: &mut Ends,
+    seen: &mut Seen,
 ) -> Result<()> {
+    let mut before = Vec::new(alloc);
     for k in 0..LISTS {
+        let number = 97 * k;
+        let events = events_of(alloc, prefix, number)?;
+        for last in alike(&before, &events)..events.len() {
+            stop(two, alloc, hasher, &events, last, seen).context(format_args!(
+                "list {number}, behind event {last}"
+            ))?;
+        }
         for goes_on in [true, false] {
-            let number = 97 * k;
-            drive(two, alloc, hasher, prefix, number, goes_on, ends).context(format_args!(
+            drive(two, alloc, hasher, &events, goes_on, ends).context(format_args!(
                 "list {number}"
             ))?;
-            two.renew(alloc)?;
         }
+        before = events;
     }
     Ok(())
 }
 
-/// All lists under a hash, each behind these events: how often each end came.
-pub fn run<H: PageHash>(alloc: Global, hasher: &H, prefix: &[u32]) -> Result<Ends> {
+/// All lists under a hash, each behind these events: how often each end came, and how many views were compared.
+pub fn run<H: PageHash>(alloc: Global, hasher: &H, prefix: &[u32]) -> Result<(Ends, Seen)> {
     let mut ends = Ends::default();
+    let mut seen = Seen::default();
     let mut two = Two::new(alloc)?;
-    let answer = drive_all(&mut two, alloc, hasher, prefix, &mut ends);
+    let answer = drive_all(&mut two, alloc, hasher, prefix, &mut ends, &mut seen);
     two.finish();
     answer?;
-    Ok(ends)
+    Ok((ends, seen))
 }

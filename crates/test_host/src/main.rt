@@ -23,14 +23,13 @@ mod views;
 use anyhow::{Context, Result, ensure};
 use enrolled::{enroll, open_most};
 use life::live;
-use lists::Ends;
+use lists::{Ends, Seen};
 use lives::LIVES;
 use paging::PAGING;
 use rig::Rig;
 use std::alloc::Global;
 use streams::run_streams;
 use trial::{Counts, Trial};
-use views::{ALL, EDGES, Part};
 use wh_host_model::Tax;
 use wh_kernels::{ConstantHash, FnvHash, PageHash};
 
@@ -45,7 +44,6 @@ fn run_events<H: PageHash>(
     rig: &mut Rig,
     alloc: Global,
     hasher: &H,
-    parts: &[Part],
 ) -> Result<()> {
     trial.begin(rig, alloc)?;
     for event in 0..EVENTS {
@@ -53,21 +51,15 @@ fn run_events<H: PageHash>(
             .event(rig, alloc, hasher)
             .context(format_args!("event {event}"))?;
     }
-    trial.end(rig, alloc, parts)
+    trial.end(rig, alloc)
 }
 
-// All lists with this tax, under one hash and the other in turn. After every hundredth all bytes are looked at, and else those
-// to which calls come.
+// All lists with this tax, under one hash and the other in turn.
 fn run_all(trial: &mut Trial, rig: &mut Rig, alloc: Global) -> Result<()> {
     for list in 0..LISTS / 2 {
-        let parts = if list % 100 == 0 {
-            ALL.as_slice()
-        } else {
-            EDGES.as_slice()
-        };
         let answer = match list % 2 {
-            0 => run_events(trial, rig, alloc, &FnvHash, parts),
-            _ => run_events(trial, rig, alloc, &ConstantHash, parts),
+            0 => run_events(trial, rig, alloc, &FnvHash),
+            _ => run_events(trial, rig, alloc, &ConstantHash),
         };
         answer.context(format_args!("list {list}"))?;
     }
@@ -93,8 +85,8 @@ fn run_trials(alloc: Global) -> Result<Counts> {
     answer.map(|()| counts)
 }
 
-// Whether ends came that come in any order of these events.
-fn look(ends: &Ends) -> Result<()> {
+// Whether ends came that come in any order of these events, and views were read while a ticket was out.
+fn look(ends: &Ends, seen: &Seen) -> Result<()> {
     ensure!(
         ends.ended > 0 && ends.stood > 0 && ends.idle > 0,
         "too few turns came to something: {ends:?}"
@@ -104,23 +96,26 @@ fn look(ends: &Ends) -> Result<()> {
         "too few offers came to something: {ends:?}"
     );
     ensure!(ends.left > 0 && ends.evicted > 0, "no page left: {ends:?}");
+    ensure!(seen.during > 0, "all tickets were back: {seen:?}");
     Ok(())
 }
 
 // The lists from their beginning, and behind the eviction of the page that is then wanted.
 fn run_lists<H: PageHash>(rt: &(impl Print + AllocGlobal), hasher: &H, name: &str) -> Result<()> {
-    let ends = lists::run(rt.alloc(), hasher, &[])?;
-    look(&ends)?;
+    let (ends, seen) = lists::run(rt.alloc(), hasher, &[])?;
+    look(&ends, &seen)?;
     ensure!(ends.void > 0 && ends.failed > 0, "all pages left: {ends:?}");
     println!(rt; "lists, {name}: {ends:?}")?;
+    println!(rt; "views compared behind single events: {}", seen.views)?;
 
-    let ends = lists::run(rt.alloc(), hasher, &[4, 5, 1])?;
-    look(&ends)?;
+    let (ends, seen) = lists::run(rt.alloc(), hasher, &[4, 5, 1])?;
+    look(&ends, &seen)?;
     ensure!(
         ends.came > 0 && ends.fetched > 0 && ends.unfetched > 0,
         "no page came: {ends:?}"
     );
     println!(rt; "lists behind an eviction, {name}: {ends:?}")?;
+    println!(rt; "views compared behind single events: {}", seen.views)?;
     Ok(())
 }
 

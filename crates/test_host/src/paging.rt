@@ -291,7 +291,8 @@ const WIDE: &[(usize, u8)] = &[
     (4099, 8),
 ];
 
-/// A store over two shared pages wants two frames, of which one is free: a page of the other instance leaves. Its view stays.
+/// A store over two shared pages wants two frames, of which one is free: the first page of the other instance leaves, and no other.
+/// Its view stays.
 const WIDE_IS_PROVIDED: &[Step] = &[
     Cancel(B, Ok(())),
     Provide(A, 0, Ok(1)),
@@ -301,12 +302,24 @@ const WIDE_IS_PROVIDED: &[Step] = &[
         "# frames 4 used 4 free 0\n# slots 64 used 1 free 63\n",
         "\n",
     ),
+    Invoke(B, "get8", &[4096], 2, Ok(5)),
+    Turn(B, 2, TurnEnd::Ended),
+    Invoke(B, "get8", &[8192], 2, Ok(6)),
+    Turn(B, 2, TurnEnd::Ended),
+    Invoke(B, "get8", &[0], 2, Ok(7)),
+    Turn(B, 2, TurnEnd::Frame),
+    RunOut(B),
+    Returned(B, 7, 1),
     Emit(A, WIDE),
     Emit(B, &[(0, 1), (4096, 2), (8192, 3)]),
 ];
 
-/// The same where the page that nobody shares was offered under a hash that says nothing.
-const WIDE_IS_PROVIDED_BESIDE_A_HINT: &[Step] = &[
+/// The same where all pages were offered once more, under one hash for all.
+const WIDE_IS_PROVIDED_UNDER_ONE_HASH: &[Step] = &[
+    OfferAlike(A, 0, 0, Some(Offered::Skipped)),
+    OfferAlike(A, 1, 0, Some(Offered::Skipped)),
+    OfferAlike(B, 0, 0, Some(Offered::Skipped)),
+    OfferAlike(B, 1, 0, Some(Offered::Skipped)),
     OfferAlike(B, 2, 0, Some(Offered::Hinted)),
     Cancel(B, Ok(())),
     Provide(A, 0, Ok(1)),
@@ -316,6 +329,14 @@ const WIDE_IS_PROVIDED_BESIDE_A_HINT: &[Step] = &[
         "# frames 4 used 4 free 0\n# slots 64 used 1 free 63\n",
         "\n",
     ),
+    Invoke(B, "get8", &[4096], 2, Ok(5)),
+    Turn(B, 2, TurnEnd::Ended),
+    Invoke(B, "get8", &[8192], 2, Ok(6)),
+    Turn(B, 2, TurnEnd::Ended),
+    Invoke(B, "get8", &[0], 2, Ok(7)),
+    Turn(B, 2, TurnEnd::Frame),
+    RunOut(B),
+    Returned(B, 7, 1),
     Emit(A, WIDE),
     Emit(B, &[(0, 1), (4096, 2), (8192, 3)]),
 ];
@@ -516,10 +537,10 @@ pub const PAGING: [Life; 19] = [
         WIDE_IS_PROVIDED,
     ),
     Life(
-        "the same beside a hint",
+        "the same under one hash for all",
         (4, 64, UNTAXED),
         MERGED,
-        WIDE_IS_PROVIDED_BESIDE_A_HINT,
+        WIDE_IS_PROVIDED_UNDER_ONE_HASH,
     ),
     Life("promises count", (8, 64, TAXED), &[], PROMISED_MEANWHILE),
     Life("one instance swaps with itself", (2, 15, TAXED), &[], ALONE),

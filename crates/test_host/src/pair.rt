@@ -2,7 +2,7 @@
 
 use crate::flat::{Call, Flat};
 use crate::rig::Rig;
-use crate::views::{Part, difference};
+use crate::views::{PAGES, difference};
 use anyhow::{Context, Result, bail, ensure};
 use std::alloc::Global;
 use wh_flatmem::FlatMemory;
@@ -35,6 +35,12 @@ impl Pair {
     pub fn cleared(self) -> FlatMemory {
         let Pair { id: _, flat } = self;
         flat.cleared()
+    }
+
+    /// Another instance, and the flat memory is one of zeros again.
+    pub fn renew(&mut self, id: InstId) {
+        self.id = id;
+        self.flat.clear();
     }
 
     /// Asks both for a call.
@@ -116,13 +122,24 @@ impl Pair {
         bail!("its calls don't end")
     }
 
-    /// All calls came to the same, and the bytes of these parts are the same. The instance goes.
-    pub fn compare(&self, rig: &mut Rig, alloc: Global, parts: &[Part]) -> Result<()> {
+    /// The present call is cancelled, if there is one.
+    pub fn break_off(&mut self, rig: &mut Rig) -> Result<()> {
+        if self.flat.cancel() {
+            rig.cancel(self.id)?;
+        }
+        Ok(())
+    }
+
+    /// All calls came to the same, and all bytes are the same. The instance goes. Its first pages, which may have left, are
+    /// looked at last: while others are, tickets stay out.
+    pub fn compare(&self, rig: &mut Rig, alloc: Global) -> Result<()> {
         for at in 0..self.flat.len() {
             self.is_same(rig, u32::try_from(at)?.saturating_add(1))?;
         }
-        let seen = rig.emitted(alloc, self.id, parts)?;
-        let other = difference(parts, &seen, self.flat.bytes());
+        let mut pages = PAGES;
+        pages.reverse();
+        let seen = rig.emitted(alloc, self.id, &pages)?;
+        let other = difference(&pages, &seen, self.flat.bytes());
         ensure!(other.is_none(), "other bytes are seen at {other:?}");
         Ok(())
     }

@@ -4,7 +4,6 @@ use crate::flat::Call;
 use crate::pair::Pair;
 use crate::random::Random;
 use crate::rig::Rig;
-use crate::views::Part;
 use anyhow::{Context, Result, bail, ensure};
 use std::alloc::Global;
 use wh_flatmem::FlatMemory;
@@ -354,7 +353,7 @@ impl Trial {
     }
 
     /// All tickets come back, all calls go on to their end, and all that is seen is compared.
-    pub fn end(&mut self, rig: &mut Rig, alloc: Global, parts: &[Part]) -> Result<()> {
+    pub fn end(&mut self, rig: &mut Rig, alloc: Global) -> Result<()> {
         for _ in 0..10 {
             self.evict_commit(rig);
             self.fetch_commit(rig);
@@ -365,7 +364,7 @@ impl Trial {
             if let Some(mut pair) = pair {
                 pair.run_out(rig, alloc)?;
                 more(&mut self.counts.compared);
-                pair.compare(rig, alloc, parts)?;
+                pair.compare(rig, alloc)?;
                 self.spare.push(pair.cleared())?;
             }
         }

@@ -6,69 +6,55 @@ use std::alloc::Global;
 use wh_host::CallStatus;
 use wh_host_model::InstId;
 
-/// A part of a memory: an address, and how many bytes from it on, at most 4096.
-pub type Part = (u32, u32);
-
-/// All bytes of an instance, page by page.
-pub const ALL: [Part; 16] = [
-    (0, 4096),
-    (4096, 4096),
-    (8192, 4096),
-    (12288, 4096),
-    (16384, 4096),
-    (20480, 4096),
-    (24576, 4096),
-    (28672, 4096),
-    (32768, 4096),
-    (36864, 4096),
-    (40960, 4096),
-    (45056, 4096),
-    (49152, 4096),
-    (53248, 4096),
-    (57344, 4096),
-    (61440, 4096),
+/// Where the pages of an instance begin.
+pub const PAGES: [u32; 16] = [
+    0, 4096, 8192, 12288, 16384, 20480, 24576, 28672, 32768, 36864, 40960, 45056, 49152, 53248,
+    57344, 61440,
 ];
 
-/// The bytes to which calls of the tests come: those about the beginnings of the first five pages, and the last ones.
-pub const EDGES: [Part; 6] = [
-    (0, 16),
-    (4088, 24),
-    (8184, 24),
-    (12280, 24),
-    (16376, 24),
-    (65520, 16),
-];
-
-/// Where the bytes differ that an instance has put out of these parts, from those of a memory; `None` where they don't.
-pub fn difference(parts: &[Part], seen: &[u8], memory: &[u8]) -> Option<u32> {
+/// Which of these pages an instance has put out with other bytes than those of a memory; `None` where it has none. It is 65536
+/// where there are further bytes.
+pub fn difference(pages: &[u32], seen: &[u8], memory: &[u8]) -> Option<u32> {
     let mut rest = seen;
-    for (at, count) in parts {
-        let part = rest.get(..*count as usize);
+    for at in pages {
+        let page = rest.get(..4096);
         let wanted = memory
             .get(*at as usize..)
-            .and_then(|bytes| bytes.get(..*count as usize));
-        if part.is_none() || part != wanted {
+            .and_then(|bytes| bytes.get(..4096));
+        if page.is_none() || page != wanted {
             return Some(*at);
         }
-        rest = rest.get(*count as usize..).unwrap_or(&[]);
+        rest = rest.get(4096..).unwrap_or(&[]);
     }
     if rest.is_empty() { None } else { Some(65536) }
 }
 
 impl Rig {
-    /// The bytes that an instance sees in these parts of its memory. It puts them out, and goes.
-    pub fn emitted(&mut self, alloc: Global, id: InstId, parts: &[Part]) -> Result<Vec<u8>> {
-        let done = CallStatus::Returned {
+    // A call that puts out bytes goes on to its end: by a turn alone where its pages are at hand, whatever tickets are out. Else
+    // they come back, and its pages are brought.
+    fn put_out(&mut self, alloc: Global, id: InstId, call: u32) -> Result<()> {
+        let done = Some(CallStatus::Returned {
             value: None,
             charges: 3,
-        };
-        for (at, count) in parts {
-            let given = [i128::from(*at), i128::from(*count)];
-            let call = self.invoke(alloc, id, "emit", &given, 3)?;
-            let fault = self.run_out(alloc, id)?;
-            ensure!(fault.is_none(), "a device call failed");
-            let status = self.status(id, call);
-            ensure!(status == Some(done), "bytes came to {status:?}");
+        });
+        let _ = self.turn(id, 3);
+        if self.status(id, call) == done {
+            return Ok(());
+        }
+        let _ = self.evict_commit(false);
+        let _ = self.fetch_commit(false);
+        let fault = self.run_out(alloc, id)?;
+        ensure!(fault.is_none(), "a device call failed");
+        let status = self.status(id, call);
+        ensure!(status == done, "bytes came to {status:?}");
+        Ok(())
+    }
+
+    /// The bytes that an instance sees in these pages of its memory. It puts them out, and goes.
+    pub fn emitted(&mut self, alloc: Global, id: InstId, pages: &[u32]) -> Result<Vec<u8>> {
+        for at in pages {
+            let call = self.invoke(alloc, id, "emit", &[i128::from(*at), 4096], 3)?;
+            self.put_out(alloc, id, call)?;
         }
         Ok(self.release(alloc, id)?)
     }
