@@ -163,7 +163,7 @@ def ran_over(program, settings, path, lines, wanted):
 
 
 class Forbidden:
-    """Runs over files some of which may not be opened, by a user whom modes bind: nobody, where this runs as root, whom they don't."""
+    """Runs over files some of which may not be opened; by the user `nobody` where this runs as root, whom no mode binds."""
 
     def __init__(self, program, folder):
         os.chmod(folder, 0o755)
