@@ -4,16 +4,20 @@
 
 mod admit;
 mod arguments;
+mod charges;
 mod content;
 mod flatmem;
 mod frames;
 mod intops;
 mod journal;
+mod kept;
 mod kernels;
 mod pages;
+mod plain;
 mod swap;
 mod tables;
 mod tax;
+mod walk;
 
 use anyhow::Result;
 
@@ -31,6 +35,9 @@ fn main(rt: HostRuntime) -> Result<()> {
     tell(&rt, "wh_kernels", kernels::check()?)?;
     tell(&rt, "wh_frames", frames::check(alloc)?)?;
     tell(&rt, "wh_pages", pages::check(alloc)?)?;
+    tell(&rt, "wh_tables", charges::check(alloc)?)?;
+    let steps = walk::check(alloc)?;
+    println!(rt; "wh_tables: {steps} random steps")?;
     tell(&rt, "wh_content", content::check(alloc)?)?;
     tell(&rt, "wh_swap", swap::check(alloc)?)?;
     tell(&rt, "wh_tax", tax::check()?)?;

@@ -1,0 +1,36 @@
+use Rattle.std.proofs.Common.{refl, sym, ap, ◌∙◌, subst}
+use Rattle.wh_host_model.specs.declared.states.Page.TheVariants.{Untouched}
+use Rattle.wh_tables.specs.Index.{Counted, IsIndexBut, counted_of, with_page}
+use Rattle.wh_tables.proofs.Settling.{counts_touched, left_frame}
+use Rattle.wh_tables.proofs.index.Index.leave.Goals as goal
+
+pub untouch-requires-clause-some : goal.untouch-requires-clause-some
+untouch-requires-clause-some c =
+    let held = c.requires.0 in
+    let holds = c.requires.1 in
+    let touchers = ap (λ (z : Counted). z.touchers) c.self.view_is ∙ c.set_aside.ensures.touchers in
+    rw touchers (counts_touched c.args.self.now held c.args.frame c.args.id c.args.touched holds)
+
+pub take_back-requires-clause-index : goal.take_back-requires-clause-index
+take_back-requires-clause-index c =
+    let held = c.requires.0 in
+    let holds = c.requires.1 in
+    let x : Counted = c.args.self.now in
+    let y : Counted = counted_of c.self.inside in
+    let aside = subst (λ (z : Counted). IsIndexBut c.args.frame z held) (sym c.self.view_is) (c.set_aside.ensures.index held holds.index) in
+    let chains = ap (λ (z : Counted). z.chains) c.self.view_is ∙ c.set_aside.ensures.chains in
+    let touchers = ap (λ (z : Counted). z.touchers) c.self.view_is ∙ c.set_aside.ensures.touchers in (
+      with_page held c.args.id Untouched,
+      left_frame x y (record { chains = c.take_off.new.self; counts = y.counts; touchers = c.untouch.new.touchers.items }) held c.args.frame c.args.id c.args.touched holds aside chains touchers
+          (c.take_off.ensures.in_order held.pages aside.order holds.on) c.take_off.ensures.large refl c.untouch.ensures,
+    )
+
+pub returns-clause-index : goal.returns-clause-index
+returns-clause-index c held holds =
+    let x : Counted = c.args.self.now in
+    let y : Counted = counted_of c.self.inside in
+    let aside = subst (λ (z : Counted). IsIndexBut c.args.frame z held) (sym c.self.view_is) (c.set_aside.ensures.index held holds.index) in
+    let chains = ap (λ (z : Counted). z.chains) c.self.view_is ∙ c.set_aside.ensures.chains in
+    let touchers = ap (λ (z : Counted). z.touchers) c.self.view_is ∙ c.set_aside.ensures.touchers in
+    c.take_back.ensures.index (with_page held c.args.id Untouched) (left_frame x y (record { chains = c.take_off.new.self; counts = y.counts; touchers = c.untouch.new.touchers.items }) held c.args.frame c.args.id c.args.touched holds aside chains touchers
+    (c.take_off.ensures.in_order held.pages aside.order holds.on) c.take_off.ensures.large refl c.untouch.ensures)

@@ -1,0 +1,29 @@
+use Rattle.std.proofs.Common.{true, refl, sym, ap, ◌∙◌, subst}
+use Rattle.wh_tables.specs.Index.{Counted, IsIndexBut, counted_of, with_mark}
+use Rattle.wh_tables.proofs.Settling.{marked_there, room_touched}
+use Rattle.wh_tables.proofs.index.Index.mark.Goals as goal
+
+pub touch-requires-clause-few : goal.touch-requires-clause-few
+touch-requires-clause-few c =
+    let held = c.requires.0 in
+    let holds = c.requires.1 in
+    let touchers = ap (λ (z : Counted). z.touchers) c.self.view_is ∙ c.set_aside.ensures.touchers in
+    rw touchers (room_touched c.args.self.now held c.args.frame holds.index (holds.index.order.room c.args.frame c.args.id holds.on).frame)
+
+pub take_back-requires-clause-index : goal.take_back-requires-clause-index
+take_back-requires-clause-index c =
+    let held = c.requires.0 in
+    let holds = c.requires.1 in
+    let x : Counted = c.args.self.now in
+    let y : Counted = counted_of c.self.inside in
+    let aside = subst (λ (z : Counted). IsIndexBut c.args.frame z held) (sym c.self.view_is) (c.set_aside.ensures.index held holds.index) in
+    let chains = ap (λ (z : Counted). z.chains) c.self.view_is ∙ c.set_aside.ensures.chains in
+    (with_mark held c.args.id true, marked_there x y (record { chains = y.chains; counts = y.counts; touchers = c.touch.new.touchers.items }) held c.args.frame c.args.id holds aside chains refl refl c.touch.ensures)
+
+pub returns-clause-index : goal.returns-clause-index
+returns-clause-index c held holds =
+    let x : Counted = c.args.self.now in
+    let y : Counted = counted_of c.self.inside in
+    let aside = subst (λ (z : Counted). IsIndexBut c.args.frame z held) (sym c.self.view_is) (c.set_aside.ensures.index held holds.index) in
+    let chains = ap (λ (z : Counted). z.chains) c.self.view_is ∙ c.set_aside.ensures.chains in
+    c.take_back.ensures.index (with_mark held c.args.id true) (marked_there x y (record { chains = y.chains; counts = y.counts; touchers = c.touch.new.touchers.items }) held c.args.frame c.args.id holds aside chains refl refl c.touch.ensures)

@@ -1,0 +1,5 @@
+pub mod Charges
+pub mod Linking
+pub mod Order
+pub mod Index
+pub mod Tables

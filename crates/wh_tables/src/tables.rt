@@ -1,0 +1,468 @@
+// The page tables as their caller sees them.
+
+ghost use Rattle.std.specs.Prelude.{ℕ, ◌≡◌, ◌≢◌, ◌<◌, ◌≤◌, ◌+◌, ◌^◌, ◌++◌, [], true, false, Some, None, IfOk, IfSome, IfNone, MatchBool, OnErr, OnOk, length, map, replicate, get_or, slice_set};
+ghost use Rattle.wh_host_model.specs.Space.Places.{with_row};
+ghost use Rattle.wh_host_model.specs.Space.Moves.{frame_of};
+ghost use Rattle.wh_host_model.specs.Space.States.{page_at, put};
+ghost use Rattle.wh_host_model.specs.declared.states.Page.{Page};
+ghost use Rattle.wh_host_model.specs.declared.states.Page.TheVariants.{Private, Untouched};
+ghost use Rattle.wh_tables.specs.Charges.{IsFirstOn, IsOnFrame, active_in, charged_in, touchers_in};
+ghost use Rattle.wh_tables.specs.Index.{number_in};
+ghost use Rattle.wh_tables.specs.Order.{ComesBefore, StandsOn};
+ghost use Rattle.wh_tables.specs.Tables.{marked_if, new_table, without_marks, without_touched};
+
+use crate::index::Index;
+use crate::order::put_row;
+use crate::page_id::PageId;
+use std::alloc::{AllocError, Global};
+use std::marker::Model;
+use wh_host_model::Page;
+use wh_pages::PageTable;
+
+/// The page tables of all instances, by their places, with an index of the frames on which their pages stand.
+#[derive(Drop)]
+pub struct Tables {
+    tables: Vec<PageTable>,
+    index: Index,
+}
+
+impl Model for Tables {
+    ghost use Rattle.wh_tables.specs.Tables.{TablesState, tables_of, IsTables};
+
+    ghost Value = { TablesState };
+
+    ghost view = { tables_of };
+
+    ghost invariant = { IsTables };
+}
+
+// The frame on which a page stands, if it stands on one.
+fn frame_under(page: Page) -> Option<u32>
+    ensures { result ≡ frame_of page }
+{
+    match page {
+        Page::Untouched => None,
+        Page::Private(frame) => Some(frame),
+        Page::Shared(frame) => Some(frame),
+        Page::Leaving(frame) => Some(frame),
+        Page::LeavingShared(frame) => Some(frame),
+        Page::Coming(_) => None,
+        Page::Swapped(_) => None,
+    }
+}
+
+// Takes the marks of all pages of all tables away.
+fn clear_tables(tables: &mut Vec<PageTable>)
+    ensures { tables.new.items ≡ map without_touched tables.old.items }
+{
+    for place in 0..tables.len() {
+        let table = &mut tables[place];
+        table.clear_touched();
+    }
+}
+
+// A table with so many untouched pages.
+fn table_of(alloc: Global, pages: u32, max: u32) -> Result<PageTable, AllocError>
+    requires within { pages ≤ max }
+    requires most { max ≤ 65536 }
+    ensures { IfOk result (λ table. table ≡ new_table pages max) }
+{
+    let mut table = PageTable::new(alloc, max)?;
+    let _ = table.grow(pages);
+    Ok(table)
+}
+
+impl Tables {
+    /// Tables of nobody, over so many frames.
+    ///
+    /// # Errors
+    /// `AllocError` where room is refused.
+    pub fn new(alloc: Global, frames: u32) -> Result<Tables, AllocError>
+        ensures { IfOk result (λ tables. tables ≡ record {
+          pages = [];
+          marks = [];
+          limits = [];
+          numbers = [];
+          frames = frames;
+        }) }
+    {
+        let index = Index::new(alloc, frames)?;
+        Ok(Tables {
+            tables: Vec::new(alloc),
+            index,
+        })
+    }
+
+    /// How many places there are.
+    pub fn places(&self) -> usize
+        ensures { result ≡ length self.now.pages }
+    {
+        self.tables.len()
+    }
+
+    /// How many pages the instance at a place has.
+    #[inline(always)]
+    pub fn len_at(&self, place: usize) -> u32
+        ensures { result ≡ length (get_or self.now.pages place []) }
+    {
+        if place < self.tables.len() {
+            self.tables[place].len()
+        } else {
+            0
+        }
+    }
+
+    /// The page of this number of the instance at a place.
+    #[inline(always)]
+    pub fn page(&self, place: usize, number: u32) -> Page
+        requires { number < length (get_or self.now.pages place []) }
+        ensures { page_at self.now.pages place number ≡ Some result }
+    {
+        self.tables[place].page(number)
+    }
+
+    /// Puts a page there. The mark stays.
+    pub fn set(&mut self, place: usize, number: u32, page: Page)
+        requires there { number < length (get_or self.old.pages place []) }
+        requires frame { IfSome (frame_of page) (λ frame. frame < self.old.frames) }
+        ensures { self.new ≡ record self.old { pages = put self.old.pages place number page } }
+    {
+        if frame_under(self.page(place, number)) == frame_under(page) {
+            self.replace(place, number, page);
+        } else {
+            self.lift(place, number);
+            self.land(place, number, page);
+        }
+    }
+
+    // Takes a page off its frame, if it stands on one; it is untouched then.
+    fn lift(&mut self, place: usize, number: u32)
+        requires { number < length (get_or self.old.pages place []) }
+        ensures { self.new ≡ record self.old { pages = put self.old.pages place number Untouched } }
+    {
+        match frame_under(self.page(place, number)) {
+            Some(frame) => self.leave(place, number, frame),
+            None => self.replace(place, number, Page::Untouched),
+        }
+    }
+
+    // Puts a page in place of one that stands on no frame.
+    fn land(&mut self, place: usize, number: u32, page: Page)
+        requires off { (was : Page) × (page_at self.old.pages place number ≡ Some was)
+            × (frame_of was ≡ None) }
+        requires frame { IfSome (frame_of page) (λ frame. frame < self.old.frames) }
+        ensures { self.new ≡ record self.old { pages = put self.old.pages place number page } }
+    {
+        match frame_under(page) {
+            Some(frame) => self.come(place, number, frame, page),
+            None => self.replace(place, number, page),
+        }
+    }
+
+    // Puts a page that stands where the one before it stood.
+    fn replace(&mut self, place: usize, number: u32, page: Page)
+        requires { (was : Page) × (page_at self.old.pages place number ≡ Some was)
+            × (frame_of was ≡ frame_of page) }
+        ensures { self.new ≡ record self.old { pages = put self.old.pages place number page } }
+    {
+        self.tables[place].set(number, page);
+    }
+
+    // Takes a page off the frame on which it stands.
+    fn leave(&mut self, place: usize, number: u32, frame: u32)
+        requires { IsOnFrame self.old.pages place number frame }
+        ensures { self.new ≡ record self.old { pages = put self.old.pages place number Untouched } }
+    {
+        let touched = self.tables[place].is_touched(number);
+        let id = PageId {
+            place: place as u32,
+            page: number,
+        };
+        self.index.leave(frame, id, touched);
+        self.tables[place].set(number, Page::Untouched);
+    }
+
+    // Puts a page, which stands on this frame, in place of one that stands on none.
+    fn come(&mut self, place: usize, number: u32, frame: u32, page: Page)
+        requires off { (was : Page) × (page_at self.old.pages place number ≡ Some was)
+            × (frame_of was ≡ None) }
+        requires on { frame_of page ≡ Some frame }
+        requires frame { frame < self.old.frames }
+        ensures { self.new ≡ record self.old { pages = put self.old.pages place number page } }
+    {
+        let touched = self.tables[place].is_touched(number);
+        let id = PageId {
+            place: place as u32,
+            page: number,
+        };
+        self.index.come(frame, id, touched);
+        self.tables[place].set(number, page);
+    }
+
+    /// Adds untouched pages, for which there is room, to an instance of whose number no other one with pages is.
+    pub fn grow(&mut self, place: usize, count: u32)
+        requires there { place < length self.old.pages }
+        requires room { length (get_or self.old.pages place []) + count ≤ get_or self.old.limits place 0 }
+        requires apart { (j : ℕ) → j ≢ place → 1 ≤ length (get_or self.old.pages j [])
+            → get_or self.old.numbers j 0 ≢ get_or self.old.numbers place 0 }
+        ensures { self.new ≡ record self.old {
+          pages = slice_set self.old.pages place
+              (get_or self.old.pages place [] ++ replicate count Untouched);
+          marks = slice_set self.old.marks place
+              (get_or self.old.marks place [] ++ replicate count false);
+        } }
+    {
+        let table = &mut self.tables[place];
+        let _ = table.grow(count);
+    }
+
+    /// Takes all pages of the instance at a place away. The room stays.
+    pub fn clear(&mut self, place: usize)
+        requires { place < length self.old.pages }
+        ensures { self.new ≡ record self.old {
+          pages = slice_set self.old.pages place [];
+          marks = slice_set self.old.marks place [];
+        } }
+    {
+        for number in 0..self.len_at(place) {
+            self.lift(place, number);
+        }
+        self.forget(place);
+    }
+
+    // Takes pages away none of which stands on a frame.
+    fn forget(&mut self, place: usize)
+        requires there { place < length self.old.pages }
+        requires off { (p : ℕ) (page : Page) → page_at self.old.pages place p ≡ Some page → frame_of page ≡ None }
+        ensures { self.new ≡ record self.old {
+          pages = slice_set self.old.pages place [];
+          marks = slice_set self.old.marks place [];
+        } }
+    {
+        let table = &mut self.tables[place];
+        table.clear();
+    }
+
+    /// Takes the marks of all pages away: a new epoch begins. It goes over all pages.
+    pub fn clear_marks(&mut self)
+        ensures { self.new ≡ record self.old { marks = without_marks self.old.marks } }
+    {
+        clear_tables(&mut self.tables);
+        self.index.clear_marks();
+    }
+
+    /// An instance with this number comes to a place, where no pages are, or to the next one behind all, with so many
+    /// untouched pages, of which it may have up to `max`. All room for them is taken now.
+    ///
+    /// # Errors
+    /// `AllocError` where room is refused. Nothing is done then.
+    pub fn enter(
+        &mut self,
+        alloc: Global,
+        place: usize,
+        number: u64,
+        pages: u32,
+        max: u32,
+    ) -> Result<(), AllocError>
+        requires place { (place < 2 ^ 32) × (place ≤ length self.old.pages) }
+        requires empty { get_or self.old.pages place [] ≡ [] }
+        requires fresh { (j : ℕ) → 1 ≤ length (get_or self.old.pages j [])
+            → get_or self.old.numbers j 0 ≢ number }
+        requires within { (pages ≤ max) × (max ≤ 65536) }
+        ensures ok { OnOk result (self.new ≡ record self.old {
+          pages = with_row self.old.pages place (replicate pages Untouched);
+          marks = with_row self.old.marks place (replicate pages false);
+          limits = with_row self.old.limits place max;
+          numbers = with_row self.old.numbers place number;
+        }) }
+        ensures err { OnErr result (self.new ≡ self.old) }
+    {
+        let table = table_of(alloc, pages, max)?;
+        self.tables.reserve(1)?;
+        self.index.enter(alloc, place, number, max)?;
+        put_row(&mut self.tables, place, table);
+        Ok(())
+    }
+
+    /// Whether the page of this number of the instance at a place was touched in this epoch.
+    #[inline(always)]
+    pub fn is_touched(&self, place: usize, number: u32) -> bool
+        requires { number < length (get_or self.now.pages place []) }
+        ensures { page_at self.now.marks place number ≡ Some result }
+    {
+        self.tables[place].is_touched(number)
+    }
+
+    /// Marks a page as touched.
+    pub fn touch(&mut self, place: usize, number: u32)
+        requires { number < length (get_or self.old.pages place []) }
+        ensures { self.new ≡ record self.old { marks = put self.old.marks place number true } }
+    {
+        if self.is_touched(place, number) {
+            return;
+        }
+        match frame_under(self.page(place, number)) {
+            Some(frame) => self.mark_on(place, number, frame),
+            None => self.mark_off(place, number),
+        }
+    }
+
+    /// Takes the mark from a page: it wasn't touched in this epoch.
+    pub fn untouch(&mut self, place: usize, number: u32)
+        requires { number < length (get_or self.old.pages place []) }
+        ensures { self.new ≡ record self.old { marks = put self.old.marks place number false } }
+    {
+        if !self.is_touched(place, number) {
+            return;
+        }
+        match frame_under(self.page(place, number)) {
+            Some(frame) => self.unmark_on(place, number, frame),
+            None => self.unmark_off(place, number),
+        }
+    }
+
+    /// The frame on which a page stands, which is marked as touched then; or none, and nothing is done.
+    #[inline(always)]
+    pub fn touch_resident(&mut self, place: usize, number: u32) -> Option<u32>
+        requires { number < length (get_or self.old.pages place []) }
+        ensures frame { (page : Page) → page_at self.old.pages place number ≡ Some page
+            → result ≡ frame_of page }
+        ensures marks { self.new ≡ record self.old {
+          marks = marked_if result self.old.marks place number;
+        } }
+    {
+        let frame = frame_under(self.page(place, number))?;
+        if !self.is_touched(place, number) {
+            self.mark_on(place, number, frame);
+        }
+        Some(frame)
+    }
+
+    /// The frame on which a page stands alone, if it is `Private`; it is marked as touched then. Else nothing is done.
+    #[inline(always)]
+    pub fn touch_private(&mut self, place: usize, number: u32) -> Option<u32>
+        requires { number < length (get_or self.old.pages place []) }
+        ensures frame { IfSome result (λ frame.
+            page_at self.old.pages place number ≡ Some (Private frame)) }
+        ensures marks { self.new ≡ record self.old {
+          marks = marked_if result self.old.marks place number;
+        } }
+    {
+        let Page::Private(frame) = self.page(place, number) else {
+            return None;
+        };
+        if !self.is_touched(place, number) {
+            self.mark_on(place, number, frame);
+        }
+        Some(frame)
+    }
+
+    /// How many frames are charged to the instance at a place: those of which its page is the first. The number is kept.
+    pub fn charged(&self, place: usize) -> u32
+        ensures is { result ≡ charged_in (number_in self.now.numbers) self.now.pages self.now.frames place }
+        ensures most { result ≤ length (get_or self.now.pages place []) }
+    {
+        self.index.counts(place).charged
+    }
+
+    /// On how many of these a touched page stands, of whichever instance. The number is kept.
+    pub fn active(&self, place: usize) -> u32
+        ensures is { result ≡ active_in (number_in self.now.numbers) self.now.pages self.now.marks
+            self.now.frames place }
+        ensures within { result ≤ charged_in (number_in self.now.numbers) self.now.pages
+            self.now.frames place }
+    {
+        self.index.counts(place).active
+    }
+
+    /// Whether a touched page stands on a frame, of whichever instance.
+    pub fn has_touched(&self, frame: u32) -> bool
+        requires { frame < self.now.frames }
+        ensures { MatchBool result (1 ≤ touchers_in self.now.pages self.now.marks frame)
+            (touchers_in self.now.pages self.now.marks frame ≡ 0) }
+    {
+        self.index.touchers(frame) > 0
+    }
+
+    /// The first page on a frame, by the numbers of instances and then of pages: the frame is charged to its instance.
+    pub fn first_on(&self, frame: u32) -> Option<PageId>
+        requires { frame < self.now.frames }
+        ensures some { IfSome result (λ id.
+            IsFirstOn (number_in self.now.numbers) self.now.pages id.place id.page frame) }
+        ensures none { IfNone result ((j q : ℕ) → ¬ IsOnFrame self.now.pages j q frame) }
+    {
+        self.index.first(frame)
+    }
+
+    /// The last page on a frame.
+    pub fn last_on(&self, frame: u32) -> Option<PageId>
+        requires { frame < self.now.frames }
+        ensures some { IfSome result (λ id. StandsOn self.now.pages frame id
+            × ((z : PageId) → StandsOn self.now.pages frame z
+            → ¬ ComesBefore self.now.numbers id z)) }
+        ensures none { IfNone result ((z : PageId) → ¬ StandsOn self.now.pages frame z) }
+    {
+        self.index.prior(frame, None)
+    }
+
+    /// The last page on a frame before this one, which stands there.
+    pub fn prior_on(&self, frame: u32, id: PageId) -> Option<PageId>
+        requires { StandsOn self.now.pages frame id }
+        ensures some { IfSome result (λ prior. StandsOn self.now.pages frame prior
+            × ComesBefore self.now.numbers prior id
+            × ((z : PageId) → StandsOn self.now.pages frame z → ComesBefore self.now.numbers z id
+            → ¬ ComesBefore self.now.numbers prior z)) }
+        ensures none { IfNone result ((z : PageId) → StandsOn self.now.pages frame z
+            → ¬ ComesBefore self.now.numbers z id) }
+    {
+        self.index.prior(frame, Some(id))
+    }
+
+    // Marks a page that stands on this frame and wasn't touched.
+    fn mark_on(&mut self, place: usize, number: u32, frame: u32)
+        requires on { IsOnFrame self.old.pages place number frame }
+        requires mark { page_at self.old.marks place number ≡ Some false }
+        ensures { self.new ≡ record self.old { marks = put self.old.marks place number true } }
+    {
+        let _ = self.tables.len();
+        let id = PageId {
+            place: place as u32,
+            page: number,
+        };
+        self.index.mark(frame, id);
+        self.tables[place].touch(number);
+    }
+
+    // Takes the mark from one that was.
+    fn unmark_on(&mut self, place: usize, number: u32, frame: u32)
+        requires on { IsOnFrame self.old.pages place number frame }
+        requires mark { page_at self.old.marks place number ≡ Some true }
+        ensures { self.new ≡ record self.old { marks = put self.old.marks place number false } }
+    {
+        let _ = self.tables.len();
+        let id = PageId {
+            place: place as u32,
+            page: number,
+        };
+        self.index.unmark(frame, id);
+        self.tables[place].untouch(number);
+    }
+
+    // Marks a page that stands on no frame.
+    fn mark_off(&mut self, place: usize, number: u32)
+        requires { (page : Page) × (page_at self.old.pages place number ≡ Some page)
+            × (frame_of page ≡ None) }
+        ensures { self.new ≡ record self.old { marks = put self.old.marks place number true } }
+    {
+        self.tables[place].touch(number);
+    }
+
+    // Takes the mark from one.
+    fn unmark_off(&mut self, place: usize, number: u32)
+        requires { (page : Page) × (page_at self.old.pages place number ≡ Some page)
+            × (frame_of page ≡ None) }
+        ensures { self.new ≡ record self.old { marks = put self.old.marks place number false } }
+    {
+        self.tables[place].untouch(number);
+    }
+}
