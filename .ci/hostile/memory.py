@@ -14,8 +14,10 @@ from scripts import CASES, MODULES, ROOT, answers, digits, told
 STAGES = {"ok": "D13 V11 L3 M2", "D": "D13", "V": "D13 V11", "L": "D13 V11 L3"}
 
 WANTED = "D13 V11 L3 M2 A9 H7 C5 F2 memory threads".split()
-# The bytes of a leaf of a page table, and how many leaves an instance has by its greatest number of pages.
+# The bytes of a leaf of a page table, and how many leaves an instance has by its greatest number of pages. The bytes of the links
+# of a page, and how many lists of links an instance has.
 LEAF, LEAVES = 2048, {256: 1, 257: 2, 65536: 256}
+LINK, LINKS = 24, {256: 1, 257: 1, 65536: 1}
 
 
 def causes(line):
@@ -62,7 +64,7 @@ def sizes_in(path):
         return [int(line) for line in file]
 
 
-def leaf_of(lines, ran):
+def most_of(lines, ran):
     """The greatest number of pages of the instance whose admission found no memory."""
     name = re.search(r"admit (\w+) refused A9", ran.stdout.decode())[1]
     return next(int(line.split(" ")[5]) for line in lines if line.startswith(f"admit {name} "))
@@ -95,8 +97,9 @@ class Runs:
             sys.exit(f"{self.case.name}, request {numbers}: {ran.returncode} {ran.stderr} {ran.stdout.decode()}")
         if "memory" in kinds and ran.stdout == b"" and max(sizes, default=0) >= 4096 * self.case.settings.get("frames", 1024):
             kinds = kinds + ["F2"]
-        if kinds == ["A9"] and sizes == [LEAF]:
-            kinds = kinds + [f"leaf of {leaf_of(self.lines, ran)}"]
+        if kinds == ["A9"]:
+            most = most_of(self.lines, ran)
+            kinds = kinds + [f"{part} of {most}" for part, size in (("leaf", LEAF), ("links", LINK * most)) if sizes == [size]]
         return kinds, sizes
 
 
@@ -138,9 +141,10 @@ def main():
     lacking = [kind for kind in WANTED if not kinds[kind]]
     if lacking:
         sys.exit(f"kinds that never came: {', '.join(lacking)}")
-    leaves = {most: kinds[f"leaf of {most}"] for most in LEAVES}
-    if leaves != LEAVES:
-        sys.exit(f"leaves of page tables, by the greatest number of pages: {leaves} in place of {LEAVES}")
+    for part, wanted in (("leaf", LEAVES), ("links", LINKS)):
+        found = {most: kinds[f"{part} of {most}"] for most in wanted}
+        if found != wanted:
+            sys.exit(f"requests for each {part}, by the greatest number of pages: {found} in place of {wanted}")
 
 
 main()

@@ -176,7 +176,7 @@ impl Two {
         self.b.ask(rig, alloc, Call::Five, 1)?;
         let report = rig.report(alloc)?;
         let want = format!(in alloc;
-            "# frames 4 used 3 free 1\n# slots 64 used 0 free 64\n# shared frames 2 sharers 4\n#{:6}     100     2    16     2     2     0 100/2\n#{:6}     100     2    16     3     3     0 100/3\n",
+            "# frames 4 used 3 free 1\n# slots 64 used 0 free 64\n# shared frames 2 sharers 4\n#{:6}     100     2    16     2     2     0 100/2\n#{:6}     100     2    16     1     1     0 100/1\n",
             self.a.id.number, self.b.id.number
         )?;
         ensure!(

@@ -3,6 +3,7 @@
 //! memories.
 #![tactic(auto)]
 
+mod charging;
 mod enrolled;
 mod flat;
 mod guest;
@@ -21,6 +22,7 @@ mod trial;
 mod views;
 
 use anyhow::{Context, Result, ensure};
+use charging::CHARGING;
 use enrolled::{enroll, open_most};
 use life::live;
 use lists::{Ends, Seen};
@@ -146,10 +148,11 @@ fn look_at(counts: &Counts) -> Result<()> {
 
 fn main(rt: HostRuntime) -> Result<()> {
     let alloc = rt.alloc();
-    for life in LIVES.iter().chain(&PAGING) {
+    for life in LIVES.iter().chain(&PAGING).chain(&CHARGING) {
         live(alloc, life)?;
     }
-    println!(rt; "lives: {}", LIVES.len() + PAGING.len())?;
+    let lives = LIVES.len() + PAGING.len() + CHARGING.len();
+    println!(rt; "lives: {lives}")?;
     open_most(alloc)?;
     enroll(alloc)?;
     println!(rt; "calls that are open, and a roll: 2")?;

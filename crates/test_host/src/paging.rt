@@ -116,12 +116,12 @@ const SHARED: &[Step] = &[
     Store(2, 0, 1, TurnEnd::Ended),
     Scan,
     ReportIs(
-        "# frames 1024 used 1 free 1023\n# slots 4096 used 0 free 4096\n# shared frames 1 sharers 3\n#     0     100     2    16     1     1     0 100/1\n#     1     100     2    16     1     1     0 100/1\n#     2     100     2    16     1     1     0 100/1\n",
+        "# frames 1024 used 1 free 1023\n# slots 4096 used 0 free 4096\n# shared frames 1 sharers 3\n#     0     100     2    16     1     1     0 100/1\n#     1     100     2    16     0     0     0 -\n#     2     100     2    16     0     0     0 -\n",
     ),
     Epoch,
     Store(A, 0, 2, TurnEnd::Ended),
     ReportIs(
-        "# frames 1024 used 2 free 1022\n# slots 4096 used 0 free 4096\n# shared frames 1 sharers 2\n#     0     100     2    16     1     1     0 100/1\n#     1     100     2    16     1     0     0 100/4\n#     2     100     2    16     1     0     0 100/4\n",
+        "# frames 1024 used 2 free 1022\n# slots 4096 used 0 free 4096\n# shared frames 1 sharers 2\n#     0     100     2    16     1     1     0 100/1\n#     1     100     2    16     1     0     0 100/4\n#     2     100     2    16     0     0     0 -\n",
     ),
 ];
 
@@ -246,7 +246,7 @@ const MERGED: &[Step] = &[
     Turn(A, 1, TurnEnd::Frame),
     Invoke(B, "five", &[], 1, Ok(4)),
     ReportIs(
-        "# frames 4 used 3 free 1\n# slots 64 used 0 free 64\n# shared frames 2 sharers 4\n#     0     100     2    16     2     2     0 100/2\n#     1     100     2    16     3     3     0 100/3\n",
+        "# frames 4 used 3 free 1\n# slots 64 used 0 free 64\n# shared frames 2 sharers 4\n#     0     100     2    16     2     2     0 100/2\n#     1     100     2    16     1     1     0 100/1\n",
     ),
 ];
 
@@ -268,7 +268,7 @@ const OTHER_SHARER_WRITES: &[Step] = &[
     EvictCommit(false, EvictEnd::Evicted),
     Report(
         "# frames 4 used 3 free 1\n# slots 64 used 1 free 63\n# shared frames 1 sharers 2\n",
-        " 2     2     1 100/2\n",
+        " 1     1     1 100/1\n",
     ),
     Invoke(A, "get8", &[0], 2, Ok(5)),
     RunOut(A),
@@ -296,7 +296,7 @@ const WIDE: &[(usize, u8)] = &[
 const WIDE_IS_PROVIDED: &[Step] = &[
     Cancel(B, Ok(())),
     Provide(A, 0, Ok(1)),
-    Report("# frames 4 ", " 2     2     1 100/2\n"),
+    Report("# frames 4 ", " 1     1     1 100/1\n"),
     Turn(A, 1, TurnEnd::Ended),
     Report(
         "# frames 4 used 4 free 0\n# slots 64 used 1 free 63\n",
@@ -323,7 +323,7 @@ const WIDE_IS_PROVIDED_UNDER_ONE_HASH: &[Step] = &[
     OfferAlike(B, 2, 0, Some(Offered::Hinted)),
     Cancel(B, Ok(())),
     Provide(A, 0, Ok(1)),
-    Report("# frames 4 ", " 2     2     1 100/2\n"),
+    Report("# frames 4 ", " 1     1     1 100/1\n"),
     Turn(A, 1, TurnEnd::Ended),
     Report(
         "# frames 4 used 4 free 0\n# slots 64 used 1 free 63\n",

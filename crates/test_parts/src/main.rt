@@ -36,8 +36,8 @@ fn main(rt: HostRuntime) -> Result<()> {
     tell(&rt, "wh_frames", frames::check(alloc)?)?;
     tell(&rt, "wh_pages", pages::check(alloc)?)?;
     tell(&rt, "wh_tables", charges::check(alloc)?)?;
-    let steps = walk::check(alloc)?;
-    println!(rt; "wh_tables: {steps} random steps")?;
+    let lists = walk::check(alloc)?;
+    println!(rt; "wh_tables: {lists} random lists")?;
     tell(&rt, "wh_content", content::check(alloc)?)?;
     tell(&rt, "wh_swap", swap::check(alloc)?)?;
     tell(&rt, "wh_tax", tax::check()?)?;

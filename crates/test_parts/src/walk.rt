@@ -1,5 +1,6 @@
-//! A random walk over page tables of four instances, whose numbers aren't in the order of their places, and over plain
-//! ones to which the same is done. After each step all that the index says is counted from nothing.
+//! Random lists of what is done to the page tables of four instances, whose numbers aren't in the order of their places, and
+//! to plain ones. After each step the charged and active frames of each instance are counted from nothing, and behind each
+//! list the pages on each frame too.
 
 ghost use Rattle.std.specs.Prelude.{◌<◌};
 
@@ -11,8 +12,10 @@ use std::alloc::{AllocError, Global};
 use wh_host_model::Page;
 use wh_tables::PageId;
 
-// How many steps it has.
-const STEPS: usize = 10000;
+// How many lists there are, and how many steps each has.
+const LISTS: u32 = 10000;
+
+const STEPS: u32 = 12;
 
 // Numbers that look random and are the same in each run: each state is a product of the one before it, and a sum.
 #[derive(Drop)]
@@ -34,7 +37,7 @@ impl Random {
     }
 }
 
-// The tables, the plain ones, and how many instances came.
+// The tables, the plain ones, and how many instances came, counted from any number on.
 #[derive(Drop)]
 struct Walk {
     kept: Kept,
@@ -97,7 +100,9 @@ impl Walk {
         if self.plain.len_at(place) > 0 || self.came >= 1000 {
             return Ok(true);
         }
-        let number = 4 * self.came + (u64::from(place) + 2) % 4;
+        // 1009 is prime: so the first 1009 of these are different, and they come in no order.
+        let turn = (701 * self.came + 5) % 1009;
+        let number = 4 * turn + (u64::from(place) + 2) % 4;
         let pages = self.random.below(MAX + 1);
         self.came += 1;
         self.plain.enter(place, number, pages);
@@ -199,12 +204,16 @@ impl Walk {
         Ok(is_right)
     }
 
-    fn new(alloc: Global) -> Result<Walk, AllocError> {
+    fn new(alloc: Global, list: u32) -> Result<Walk, AllocError> {
+        let mut random = Random {
+            state: u64::from(list),
+        };
+        let came = u64::from(random.below(900));
         let mut walk = Walk {
             kept: Kept::new(alloc, u64::from(PLACES))?,
             plain: Plain::new(),
-            random: Random { state: 1 },
-            came: 0,
+            random,
+            came,
         };
         for place in 0..PLACES {
             walk.enter(alloc, place)?;
@@ -213,20 +222,30 @@ impl Walk {
     }
 }
 
-// The first step behind which something is otherwise.
-fn first_wrong(alloc: Global) -> Result<Option<usize>, AllocError> {
-    let mut walk = Walk::new(alloc)?;
-    for step in 0..STEPS {
+// Whether all answers and all counts are right behind each step of a list, and all else behind the last one.
+fn is_list_right(alloc: Global, list: u32) -> Result<bool, AllocError> {
+    let mut walk = Walk::new(alloc, list)?;
+    for _ in 0..STEPS {
         let is_right = walk.step(alloc)?;
-        if !is_right || !is_all_so(&walk.kept, &walk.plain, alloc)? {
-            return Ok(Some(step));
+        if !is_right || !are_counts_so(&walk.kept, &walk.plain) {
+            return Ok(false);
+        }
+    }
+    is_all_so(&walk.kept, &walk.plain, alloc)
+}
+
+// The first list behind a step of which something is otherwise.
+fn first_wrong(alloc: Global) -> Result<Option<usize>, AllocError> {
+    for list in 0..LISTS {
+        if !is_list_right(alloc, list)? {
+            return Ok(Some(list as usize));
         }
     }
     Ok(None)
 }
 
-/// Takes each step: how many they are.
-pub fn check(alloc: Global) -> Anyhow<usize> {
-    agree("a random walk over tables", first_wrong(alloc)?)?;
-    Ok(STEPS)
+/// Takes each step of each list: how many lists there are.
+pub fn check(alloc: Global) -> Anyhow<u32> {
+    agree("random lists over tables", first_wrong(alloc)?)?;
+    Ok(LISTS)
 }

@@ -21,23 +21,23 @@ const KEEP: &[(&str, &str)] = &[
     ),
     (
         "report",
-        "# frames 1024 used 1 free 1023\n# slots 4096 used 0 free 4096\n# shared frames 1 sharers 3\n#     0     100     2    16     1     1     0 100/1\n#     1     100     2    16     1     1     0 100/1\n#     2     100     2    16     1     1     0 100/1\n",
+        "# frames 1024 used 1 free 1023\n# slots 4096 used 0 free 4096\n# shared frames 1 sharers 3\n#     0     100     2    16     1     1     0 100/1\n#     1     100     2    16     0     0     0 -\n#     2     100     2    16     0     0     0 -\n",
     ),
     ("invoke a f 10 2", ""),
     (
         "report",
-        "call 4 done charges 2\n# frames 1024 used 2 free 1022\n# slots 4096 used 0 free 4096\n# shared frames 1 sharers 2\n#     0     100     2    16     1     1     0 100/1\n#     1     100     2    16     1     0     0 100/4\n#     2     100     2    16     1     0     0 100/4\n",
+        "call 4 done charges 2\n# frames 1024 used 2 free 1022\n# slots 4096 used 0 free 4096\n# shared frames 1 sharers 2\n#     0     100     2    16     1     1     0 100/1\n#     1     100     2    16     1     0     0 100/4\n#     2     100     2    16     0     0     0 -\n",
     ),
     ("invoke a f 10 1", ""),
     ("scan", "call 5 done charges 2\nscan ok\n"),
     (
         "report",
-        "# frames 1024 used 1 free 1023\n# slots 4096 used 0 free 4096\n# shared frames 1 sharers 3\n#     0     100     2    16     1     1     0 100/1\n#     1     100     2    16     1     0     0 100/4\n#     2     100     2    16     1     0     0 100/4\n",
+        "# frames 1024 used 1 free 1023\n# slots 4096 used 0 free 4096\n# shared frames 1 sharers 3\n#     0     100     2    16     1     1     0 100/1\n#     1     100     2    16     0     0     0 -\n#     2     100     2    16     0     0     0 -\n",
     ),
     ("scan", "scan ok\n"),
     (
         "report",
-        "# frames 1024 used 1 free 1023\n# slots 4096 used 0 free 4096\n# shared frames 1 sharers 3\n#     0     100     2    16     1     1     0 100/1\n#     1     100     2    16     1     0     0 100/4\n#     2     100     2    16     1     0     0 100/4\n",
+        "# frames 1024 used 1 free 1023\n# slots 4096 used 0 free 4096\n# shared frames 1 sharers 3\n#     0     100     2    16     1     1     0 100/1\n#     1     100     2    16     0     0     0 -\n#     2     100     2    16     0     0     0 -\n",
     ),
 ];
 
@@ -65,7 +65,7 @@ const TWO_PAGES: &[(&str, &str)] = &[
     ),
     (
         "report",
-        "# frames 2 used 1 free 1\n# slots 15 used 0 free 15\n# shared frames 1 sharers 2\n#     0     100     2    16     2     2     0 100/2\n",
+        "# frames 2 used 1 free 1\n# slots 15 used 0 free 15\n# shared frames 1 sharers 2\n#     0     100     2    16     1     1     0 100/1\n",
     ),
     ("invoke a set 9 4092 578437695752307201", ""),
     (
@@ -103,13 +103,13 @@ const STALE: &[(&str, &str)] = &[
     ("scan", "call 4 done charges 3\nscan ok\n"),
     (
         "report",
-        "# frames 1024 used 2 free 1022\n# slots 4096 used 0 free 4096\n# shared frames 1 sharers 2\n#     0     100     2    16     3     1     0 100/9\n",
+        "# frames 1024 used 2 free 1022\n# slots 4096 used 0 free 4096\n# shared frames 1 sharers 2\n#     0     100     2    16     2     1     0 100/5\n",
     ),
     ("invoke a set8 9 12288 2", ""),
     ("scan", "call 5 done charges 3\nscan ok\n"),
     (
         "report",
-        "# frames 1024 used 2 free 1022\n# slots 4096 used 0 free 4096\n# shared frames 2 sharers 4\n#     0     100     2    16     4     1     0 100/13\n",
+        "# frames 1024 used 2 free 1022\n# slots 4096 used 0 free 4096\n# shared frames 2 sharers 4\n#     0     100     2    16     2     1     0 100/5\n",
     ),
 ];
 

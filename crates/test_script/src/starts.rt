@@ -73,7 +73,7 @@ const NOPS: &[(&str, &str)] = &[
     ("scan", "start b fuel charges 0\nscan ok\n"),
     (
         "report",
-        "# frames 1024 used 1 free 1023\n# slots 4096 used 0 free 4096\n# shared frames 1 sharers 2\n#     0     100     2    16     1     0     0 100/4\n#     1     100     2    16     1     1     0 100/1\n",
+        "# frames 1024 used 1 free 1023\n# slots 4096 used 0 free 4096\n# shared frames 1 sharers 2\n#     0     100     2    16     1     1     0 100/1\n#     1     100     2    16     0     0     0 -\n",
     ),
 ];
 

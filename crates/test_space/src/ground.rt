@@ -129,14 +129,22 @@ fn filled(memory: &mut Memory, place: usize, pages: u64) -> bool {
     pages <= 128
 }
 
-// Whether this page has to leave for a step that writes the first byte of the instance at a place.
-fn must_leave(memory: &Memory, place: usize, page: PageOf) -> bool {
+// Whether this page has to leave for a step that writes the first byte of the instance at a place, whose number is that too, and
+// which stands at it then.
+fn must_leave(memory: &mut Memory, place: u32, page: PageOf) -> bool {
     let need = Need {
         at: 0,
         length: 1,
         writes: true,
     };
-    page_to_take(memory, place, need) == Some(page)
+    if !memory.is_at(place, u64::from(place)) || memory.size(place as usize) == 0 {
+        return false;
+    }
+    memory.stand(place as usize, Some(need));
+    match memory.wanted_step(place as usize) {
+        Some(wanted) => page_to_take(memory, place as usize, wanted) == Some(page),
+        None => false,
+    }
 }
 
 // Whether the hint of a page is found, which stands alone on its frame.
@@ -299,7 +307,7 @@ impl Ground {
                 self.memory.new_epoch();
                 true
             }
-            Step::MustLeave(place, page) => must_leave(&self.memory, place, page),
+            Step::MustLeave(place, page) => must_leave(&mut self.memory, place, page),
             Step::Used(frames) => self.memory.used() == frames,
             Step::Free(frames) => self.memory.free() == frames,
             Step::Sharing(frames, pages) => self.memory.sharing() == (frames, pages),

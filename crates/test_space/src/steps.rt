@@ -64,7 +64,7 @@ pub enum Step {
     /// A new epoch begins, in which no page was touched.
     Epoch,
     /// The page that has to leave where an instance's step lacks a frame to write its first byte.
-    MustLeave(usize, PageOf),
+    MustLeave(u32, PageOf),
 
     /// So many frames are in use.
     Used(u32),

@@ -1,8 +1,8 @@
 -- The report of a host: how its frames, slots and pages are used, and what each instance has of them.
 use Rattle.std.specs.Prelude.{◌≡◌, ℕ, ◌+◌, ◌-◌, ◌++◌, min, List, [], ◌∷◌, length, Option, Some, None}
 use Rattle.wh_host_model.specs.Frames.{tally}
-use Rattle.wh_host_model.specs.Space.Claims.{active_of}
-use Rattle.wh_host_model.specs.Space.Parts.{Space, numbers_below, pages_of, sharers}
+use Rattle.wh_host_model.specs.Space.Charges.{active_of, charged_of}
+use Rattle.wh_host_model.specs.Space.Parts.{Space, numbers_below, sharers}
 use Rattle.wh_host_model.specs.Space.States.{count_of, swapped}
 use Rattle.wh_host_model.specs.Host.Worlds.{Tenant, World}
 use Rattle.wh_host_model.specs.Lines.Texts.{Row, frames_text, row_text, shared_text, slots_text}
@@ -15,16 +15,16 @@ shared_frames s = tally (λ f. min 1 (sharers s f)) (numbers_below (length s.poo
 abbrev pub all_sharers : Space → ℕ
 all_sharers s = tally (sharers s) (numbers_below (length s.pool.frames))
 
--- what is reported of an instance: what its owner was promised, and how many of its pages are resident, touched and
--- swapped
+-- what is reported of an instance: what its owner was promised, how many frames are charged to it and on how many of
+-- these a page was touched, and how many of its pages are swapped
 abbrev pub row_in : Space → (number : ℕ) → Tenant → Row
 row_in s number t = record {
   number = number;
   shares = t.params.shares;
   min = t.params.min;
   max = t.params.max;
-  resident = pages_of s t.place;
-  touched = active_of s t.place;
+  charged = charged_of s t.place;
+  active = active_of s t.place;
   swapped = count_of swapped s.tables t.place;
   num = s.tax.num;
   den = s.tax.den;

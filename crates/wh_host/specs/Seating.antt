@@ -1,8 +1,8 @@
 -- The instances of a host by number, and the lines of its report by what the code has of them.
 use Rattle.std.specs.Prelude.{◌≡◌, ◌≤◌, ℕ, zero, suc, ◌+◌, ◌++◌, List, [], ◌∷◌, Option, Some, None}
 use Rattle.std.specs.List.Sorted.{IsNonDecreasingBy, IsPermutation}
-use Rattle.wh_host_model.specs.Space.Claims.{active_of}
-use Rattle.wh_host_model.specs.Space.Parts.{Space, pages_of}
+use Rattle.wh_host_model.specs.Space.Charges.{active_of, charged_of}
+use Rattle.wh_host_model.specs.Space.Parts.{Space}
 use Rattle.wh_host_model.specs.Space.States.{count_of, swapped}
 use Rattle.wh_host_model.specs.Host.Worlds.{Tenant, World}
 use Rattle.wh_host_model.specs.Lines.Texts.{Row, row_text}
@@ -51,8 +51,8 @@ line_row s seat x = record {
   shares = x.given.shares;
   min = x.given.min;
   max = x.given.max;
-  resident = pages_of s seat.place;
-  touched = active_of s seat.place;
+  charged = charged_of s seat.place;
+  active = active_of s seat.place;
   swapped = count_of swapped s.tables seat.place;
   num = s.tax.num;
   den = s.tax.den;

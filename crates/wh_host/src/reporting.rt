@@ -41,15 +41,15 @@ fn write_line(
     ensures { OnOk result (string_bytes text.new
         ≡ string_bytes text.old ++ row_text (line_row memory.now seat resident.now)) }
 {
-    let (pages, touched) = memory.resident_at(seat.place);
+    let (charged, active) = memory.charged_at(seat.place);
     let given = resident.given;
     let row = Row {
         number: seat.number,
         shares: given.shares,
         min: given.min,
         max: given.max,
-        resident: pages,
-        touched,
+        charged,
+        active,
         swapped: memory.swapped_at(seat.place),
         tax: memory.tax(),
     };
@@ -90,8 +90,9 @@ impl Host {
     }
 
     /// The report: three lines on frames, slots and shared frames, and one for each instance by number, with what its owner
-    /// gave it, how many of its pages are resident, touched and swapped, and what its shares are to the weight of its pages.
-    /// It goes over all frames and all pages.
+    /// gave it, how many frames are charged to it, on how many of these a page was touched, how many of its pages are
+    /// swapped, and what its shares are to the weight of its frames. A frame that many pages share is charged to the first of
+    /// them, by number and then by page. It goes over all frames and all pages.
     ///
     /// # Errors
     /// `Memory` where room for the text, or for the numbers of the instances, is refused.

@@ -5,7 +5,10 @@ pub mod Contents
 pub mod Counting
 pub mod Rooms
 pub mod Wanting
+pub mod Charging
+pub mod Changing
 pub mod Taking
+pub mod OnePage
 pub mod Serving
 pub mod Evicted
 pub mod Living
@@ -19,6 +22,7 @@ pub mod Quiet
 pub mod Worked
 pub mod WorkedTransit
 pub mod WorkedClaims
+pub mod WorkedCharges
 pub mod Voiding
 pub mod Steady
 pub mod Returned

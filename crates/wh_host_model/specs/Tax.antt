@@ -1,13 +1,13 @@
--- Who gives up a page: shares of memory under a tax on idle pages.
+-- Who gives up a page: shares of memory under a tax on idle frames.
 --
--- An instance that holds S shares and pages of weight w has the fraction S * (den - num) / w. The lower its fraction,
+-- An instance that holds S shares and frames of weight w has the fraction S * (den - num) / w. The lower its fraction,
 -- the more memory it holds for its shares, so the instance with the least fraction pays.
 use Rattle.std.specs.Prelude.{ℕ, ◌≡◌, ◌+◌, ◌-◌, ◌*◌, ◌<◌, Option, Some, List, take, slice_get, IsTrue, MatchOption}
 use Rattle.std.specs.List.{All}
 use Rattle.wh_host_model.specs.declared.Claim.{Claim}
 use Rattle.wh_host_model.specs.declared.Tax.{Tax}
 
--- what the pages of a claim weigh: den for each idle one, and den - num for each that was touched
+-- what the frames of a claim weigh: den for each idle one, and den - num for each active one
 abbrev pub weight : Tax → Claim → ℕ
 weight tax claim = claim.active * (tax.den - tax.num) + (claim.pages - claim.active) * tax.den
 
@@ -20,7 +20,7 @@ RhoLess tax first second = first.shares * weight tax second < second.shares * we
 abbrev pub RhoEqual : Tax → Claim → Claim → Type 0
 RhoEqual tax first second = first.shares * weight tax second ≡ second.shares * weight tax first
 
--- an instance that may have to pay: it holds more than its minimum, and a page of it can leave
+-- an instance that may have to pay: it holds more than its minimum, and a charged page of it can leave
 abbrev pub CanPay : Claim → Type 0
 CanPay claim = (claim.min < claim.pages) × IsTrue claim.can_leave
 

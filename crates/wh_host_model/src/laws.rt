@@ -1,6 +1,6 @@
 //! Laws of the definitions alone.
 
-ghost use Rattle.wh_host_model.specs.Space.Laws.{ReadyIsDecided, NoBytesAreReady, OneUseOfAFrame, SomePageCanBeTaken, SomeSlotIsVacant, EvictionKeepsAll, FetchKeepsSound, FetchKeepsBytes, MovesAreFew, ProvisionIsRight, BeginsEvictSoundly, BeginsEvictQuietly, BeginsFetchQuietly, CommitsEvictQuietly, CommitsFetchQuietly};
+ghost use Rattle.wh_host_model.specs.Space.Laws.{ReadyIsDecided, NoBytesAreReady, OneUseOfAFrame, SomePageCanBeTaken, SomeSlotIsVacant, EvictionKeepsAll, FetchKeepsSound, FetchKeepsBytes, MovesAreFew, ProvisionIsRight, OnePageMustLeave, OneChargedPage, ChargesAddUp, BeginsEvictSoundly, BeginsEvictQuietly, BeginsFetchQuietly, CommitsEvictQuietly, CommitsFetchQuietly};
 ghost use Rattle.wh_host_model.specs.Space.Sight.{OffersQuietly, WritesQuietly, StepsQuietly, GrowsAlone, GrowsByZeros, EntersAlone, EntersAtZeros, ExitsAlone, PinsEnd, GoneIsSkipped, WrittenIsVoid, ReleasedIsVoid, NothingNeedless};
 ghost use Rattle.wh_host_model.specs.Space.Kept.{TouchesSoundly, EpochsSoundly, WritesSoundly, StandsSoundly, EndsSoundly, CommitsEvictSoundly, OffersSoundly, BeginsFetchSoundly, CommitsFetchSoundly, GrowsSoundly, EntersSoundly, ExitsSoundly};
 ghost use Rattle.wh_host_model.specs.Space.Chain.{FailsSoundly, EmptyIsSound, StaysSound, ScansSoundly, PassesFully, ContentsAreListed};
@@ -18,6 +18,9 @@ pub fn space_holds()
     ensures fetch_keeps_bytes { FetchKeepsBytes }
     ensures moves_are_few { MovesAreFew }
     ensures provision_is_right { ProvisionIsRight }
+    ensures one_page_must_leave { OnePageMustLeave }
+    ensures one_charged_page { OneChargedPage }
+    ensures charges_add_up { ChargesAddUp }
     ensures begins_evict_soundly { BeginsEvictSoundly }
     ensures begins_evict_quietly { BeginsEvictQuietly }
     ensures begins_fetch_quietly { BeginsFetchQuietly }

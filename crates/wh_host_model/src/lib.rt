@@ -19,8 +19,8 @@ pub use plain::{InstId, SwapError, TurnEnd};
 pub use runs::{every_misread_run, every_run};
 pub use states::{EvictEnd, FetchEnd, Mark, Offer, Page, Slot};
 
-/// The tax on idle memory: the fraction `num / den` of a page that isn't touched is taken from its owner, so that
-/// an idle page costs its owner as much as `den / (den - num)` touched ones.
+/// The tax on idle memory: the fraction `num / den` of a frame on which no page was touched is taken from its owner, so
+/// that an idle frame costs its owner as much as `den / (den - num)` active ones.
 #[derive(Clone, Copy, Debug, PartialEq, Eq)]
 pub struct Tax {
     /// The numerator, below the denominator. 0 is no tax.
@@ -36,13 +36,13 @@ pub struct Tax {
 pub struct Claim {
     /// The share of memory that its owner has, 1 to 1000000, against the shares of the other instances.
     pub shares: u32,
-    /// How many pages it may keep in any case.
+    /// How many frames it may keep in any case.
     pub min: u32,
-    /// How many of its pages are resident, at most 65536. A page on a shared frame counts like any other.
+    /// How many frames are charged to it, at most 65536: a frame that several share is charged to the first of them alone.
     pub pages: u32,
-    /// How many of these were touched in this epoch.
+    /// On how many of these a page was touched in this epoch, of whichever sharer.
     pub active: u32,
-    /// Whether one of its pages can leave now.
+    /// Whether one of its charged pages can leave now.
     pub can_leave: bool,
     ghost shares_above: { 1 ≤ shares },
     ghost shares_within: { shares ≤ 1000000 },

@@ -1,7 +1,5 @@
--- The counts that a table keeps are counts.
-use Rattle.std.proofs.Common.{◌≡◌, ◌≢◌, ℕ, zero, suc, ◌+◌, ◌<◌, ◌≤◌, ◌++◌, cond, Bool, true, false, not, List, [], ◌∷◌, Some, length, map, take, slice_get, slice_set, refl, ap, subst, arith}
-use Rattle.wh_host_model.specs.Frames.{tally}
-use Rattle.wh_host_model.specs.Space.Claims.{active}
+-- Columns of rows, and what a page counts.
+use Rattle.std.proofs.Common.{◌≡◌, ℕ, zero, suc, ◌<◌, ◌≤◌, ◌++◌, List, [], ◌∷◌, Some, length, map, take, slice_get, slice_set, refl, ap, subst, arith}
 use Rattle.wh_host_model.specs.Space.States.{resident}
 use Rattle.wh_host_model.specs.declared.states.Page.{Page}
 use Rattle.wh_host_model.specs.declared.states.Page.TheVariants.{Untouched, Private, Shared, Leaving, LeavingShared, Coming, Swapped}
@@ -39,37 +37,5 @@ resident_one (LeavingShared f) = omega arith
 resident_one (Coming k) = omega arith
 resident_one (Swapped k) = omega arith
 
-pub residents_few : (ps : List Page) → tally resident ps ≤ length ps
-residents_few [] = omega arith
-residents_few (x ∷ ps) = let one = resident_one x in let few = residents_few ps in omega (arith, one, few)
-
-pub actives_few : (ps : List Page) (ms : List Bool) → active ps ms ≤ tally resident ps
-actives_few [] ms = omega arith
-actives_few (x ∷ ps) [] = omega arith
-actives_few (x ∷ ps) (true ∷ ms) = let few = actives_few ps ms in omega (arith, few)
-actives_few (x ∷ ps) (false ∷ ms) = let few = actives_few ps ms in omega (arith, few)
-
-pub active_there : (ps : List Page) (ms : List Bool) (i : ℕ) (x : Page) (m : Bool) → slice_get ps i ≡ Some x → slice_get ms i ≡ Some m → cond m (resident x) 0 ≤ active ps ms
-active_there [] ms i x m e h = absurd (cc e)
-active_there (y ∷ ps) [] i x m e h = absurd (cc h)
-active_there (y ∷ ps) (n ∷ ms) zero x m e h = rw (one_value y x e, one_value n m h) (omega arith)
-active_there (y ∷ ps) (n ∷ ms) (suc i) x m e h = let k = active_there ps ms i x m e h in omega (arith, k)
-
-pub active_set : (ps : List Page) (ms : List Bool) (i : ℕ) (x y : Page) (m n : Bool) → slice_get ps i ≡ Some x → slice_get ms i ≡ Some m → active (slice_set ps i y) (slice_set ms i n) + cond m (resident x) 0 ≡ active ps ms + cond n (resident y) 0
-active_set [] ms i x y m n e h = absurd (cc e)
-active_set (z ∷ ps) [] i x y m n e h = absurd (cc h)
-active_set (z ∷ ps) (l ∷ ms) zero x y m n e h = rw (one_value z x e, one_value l m h) (omega arith)
-active_set (z ∷ ps) (l ∷ ms) (suc i) x y m n e h = let k = active_set ps ms i x y m n e h in omega (arith, k)
-
-pub active_end : (ps : List Page) (ms : List Bool) → length ps ≡ length ms → active (ps ++ Untouched ∷ []) (ms ++ false ∷ []) ≡ active ps ms
-active_end [] [] same = refl
-active_end [] (m ∷ ms) same = absurd (omega (arith, same))
-active_end (x ∷ ps) [] same = absurd (omega (arith, same))
-active_end (x ∷ ps) (m ∷ ms) same = ap (λ n. cond m (resident x) 0 + n) (active_end ps ms (omega (arith, same)))
-
 pub slice_there : {X : Type 0} {xs ys : List X} (i : ℕ) (x : X) → xs ≡ ys → slice_get xs i ≡ Some x → slice_get ys i ≡ Some x
 slice_there i x same e = subst (λ zs. slice_get zs i ≡ Some x) same e
-
-pub marked : (b : Bool) → not b ≡ false → b ≡ true
-marked true e = refl
-marked false e = cc e

@@ -1,14 +1,12 @@
 -- What is looked for among the rows of a table.
-use Rattle.std.proofs.Common.{◌≡◌, ◌≢◌, ◌∙◌, ℕ, zero, suc, ◌+◌, ◌*◌, ◌<◌, ◌≤◌, ◌⊎◌, inl, inr, is_some, Bool, true, false, List, [], ◌∷◌, Option, Some, None, length, map, take, slice_get, refl, sym, ap, subst, arith}
+use Rattle.std.proofs.Common.{◌≡◌, ◌≢◌, ◌∙◌, ℕ, zero, suc, ◌+◌, ◌*◌, ◌<◌, ◌≤◌, ◌⊎◌, inl, inr, is_some, Bool, true, false, List, [], ◌∷◌, Option, Some, None, map, take, slice_get, refl, sym, ap, arith}
 use Rattle.std.specs.Prelude.{IfNone, IfSome}
-use Rattle.wh_host_model.specs.declared.states.Page.{Page}
 use Rattle.wh_host_model.specs.Space.States.{resident}
 use Rattle.wh_pages.specs.declared.entry.Entry.{Entry}
 use Rattle.wh_pages.specs.declared.table.PageTable.TheInside.{Inside}
 use Rattle.wh_pages.specs.Leaves.{IsSoughtEntry}
 use Rattle.wh_pages.specs.Parts.{page_of, page_table_of}
 use Rattle.wh_pages.specs.Seeking.{IsFirstFrom, IsSought}
-use Rattle.wh_pages.specs.Table.{PageTableState}
 use Rattle.wh_pages.proofs.Counts.{column_get}
 
 one_value : {X : Type 0} {x y : X} → Some x ≡ Some y → x ≡ y

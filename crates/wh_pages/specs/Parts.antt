@@ -1,10 +1,7 @@
 -- What the parts of a page table stand for.
-use Rattle.std.specs.Prelude.{ℕ, ◌≡◌, ◌≤◌, length, map, take}
+use Rattle.std.specs.Prelude.{ℕ, ◌≤◌, length, map, take}
 use Rattle.wh_host_model.specs.declared.states.Page.{Page}
 use Rattle.wh_host_model.specs.declared.states.Page.TheVariants.{Untouched, Private, Shared, Leaving, LeavingShared, Coming, Swapped}
-use Rattle.wh_host_model.specs.Frames.{tally}
-use Rattle.wh_host_model.specs.Space.Claims.{active}
-use Rattle.wh_host_model.specs.Space.States.{resident}
 use Rattle.wh_pages.specs.declared.entry.Kind.{Kind}
 use Rattle.wh_pages.specs.declared.entry.Kind.TheVariants as kind
 use Rattle.wh_pages.specs.declared.entry.Entry.{Entry}
@@ -33,10 +30,8 @@ page_table_of a = record {
   max = a.max;
 }
 
--- there is an entry for each page that there may be, and the counts are counts
+-- there is an entry for each page that there may be
 pub record HasRows (a : Inside) : Type 0 where
   pub within : a.len ≤ a.max
   pub room : a.max ≤ length a.rows
   pub most : a.max ≤ 65536
-  pub residents : a.residents ≡ tally resident (map page_of (take a.len a.rows))
-  pub actives : a.actives ≡ active (map page_of (take a.len a.rows)) (map (λ entry. entry.touched) (take a.len a.rows))

@@ -1,9 +1,8 @@
 // An entry of the table: a page with its mark, in 8 bytes.
 
 ghost use Rattle.std.specs.Bool.{MatchBool};
-ghost use Rattle.std.specs.Prelude.{◌≡◌, ◌≤◌, false, cond, IfSome};
-ghost use Rattle.wh_host_model.specs.declared.states.Page.TheVariants.{Private, Untouched as UntouchedPage};
-ghost use Rattle.wh_host_model.specs.Space.Moves.{frame_of};
+ghost use Rattle.std.specs.Prelude.{◌≡◌, ◌≤◌, false, cond};
+ghost use Rattle.wh_host_model.specs.declared.states.Page.TheVariants.{Untouched as UntouchedPage};
 ghost use Rattle.wh_host_model.specs.Space.States.{resident};
 ghost use Rattle.wh_pages.specs.Leaves.{IsSoughtEntry};
 ghost use Rattle.wh_pages.specs.Parts.{page_of};
@@ -93,28 +92,6 @@ impl Entry {
         ensures { MatchBool result (IsSoughtEntry idle self) (¬ IsSoughtEntry idle self) }
     {
         self.residents() == 1 && !(idle && self.touched)
-    }
-
-    // The frame on which the page stands, if it stands on one.
-    #[inline(always)]
-    pub fn frame(self) -> Option<u32>
-        ensures { result ≡ frame_of (page_of self) }
-    {
-        match self.kind {
-            Kind::Private | Kind::Shared | Kind::Leaving | Kind::LeavingShared => Some(self.number),
-            Kind::Untouched | Kind::Coming | Kind::Swapped => None,
-        }
-    }
-
-    // The frame on which the page stands alone, without leaving it.
-    #[inline(always)]
-    pub fn own_frame(self) -> Option<u32>
-        ensures { IfSome result (λ frame. page_of self ≡ Private frame) }
-    {
-        match self.kind {
-            Kind::Private => Some(self.number),
-            _ => None,
-        }
     }
 
     // The page.

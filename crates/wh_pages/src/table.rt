@@ -1,14 +1,9 @@
 // The table as its caller sees it.
 
 ghost use Rattle.std.specs.Prelude.{◌≡◌, ℕ, ◌*◌, ◌↔◌, ◌+◌, ◌<◌, ◌≤◌, ◌++◌, [], ◌∷◌, true, false, IsTrue, IsFalse, Some, IfOk, IfSome, IfNone, length, replicate, slice_get, slice_set};
-ghost use Rattle.wh_host_model.specs.Frames.{tally};
-ghost use Rattle.wh_host_model.specs.Space.Claims.{active};
-ghost use Rattle.wh_host_model.specs.Space.Moves.{frame_of};
-ghost use Rattle.wh_host_model.specs.Space.States.{resident};
 ghost use Rattle.wh_pages.specs.Parts.{page_of};
-ghost use Rattle.wh_host_model.specs.declared.states.Page.TheVariants.{Private, Untouched};
+ghost use Rattle.wh_host_model.specs.declared.states.Page.TheVariants.{Untouched};
 ghost use Rattle.wh_pages.specs.Seeking.{IsFirstFrom, IsSought};
-ghost use Rattle.wh_pages.specs.Table.{touched_if};
 
 use crate::entry::Entry;
 use crate::leaf::LEAF;
@@ -27,9 +22,6 @@ pub struct PageTable {
     rows: Rows,
     len: u32,
     max: u32,
-    // How many pages stand on frames, and how many of these were touched in this epoch.
-    residents: u32,
-    actives: u32,
 }
 
 impl Model for PageTable {
@@ -54,13 +46,7 @@ impl PageTable {
         ensures { IfOk result (λ table. table ≡ record { pages = []; touched = []; max = max }) }
     {
         let rows = Rows::new(alloc, max.div_ceil(LEAF))?;
-        Ok(PageTable {
-            rows,
-            len: 0,
-            max,
-            residents: 0,
-            actives: 0,
-        })
+        Ok(PageTable { rows, len: 0, max })
     }
 
     /// How many pages there are.
@@ -81,22 +67,6 @@ impl PageTable {
         self.max
     }
 
-    /// How many pages stand on frames. The number is kept.
-    pub fn residents(&self) -> u32
-        ensures pages { result ≡ tally resident self.now.pages }
-        ensures most { result ≤ length self.now.pages }
-    {
-        self.residents
-    }
-
-    /// How many pages stand on frames and were touched in this epoch. The number is kept.
-    pub fn actives(&self) -> u32
-        ensures pages { result ≡ active self.now.pages self.now.touched }
-        ensures within { result ≤ tally resident self.now.pages }
-    {
-        self.actives
-    }
-
     /// The page at this place, which is below `len`.
     #[inline(always)]
     pub fn page(&self, at: u32) -> Page
@@ -113,6 +83,17 @@ impl PageTable {
         ensures { slice_get self.now.touched at ≡ Some result }
     {
         self.rows.get(at).touched
+    }
+
+    /// The page at this place, which is below `len`, and whether it was touched in this epoch, by one look.
+    #[inline(always)]
+    pub fn page_and_mark(&self, at: u32) -> (Page, bool)
+        requires { at < length self.now.pages }
+        ensures page { slice_get self.now.pages at ≡ Some result.0 }
+        ensures mark { slice_get self.now.touched at ≡ Some result.1 }
+    {
+        let entry = self.rows.get(at);
+        (entry.page(), entry.touched)
     }
 
     /// The first page from this place on that stands on a frame; with `idle`, of those alone that weren't touched in this epoch.
@@ -160,8 +141,8 @@ impl PageTable {
         requires { at < length self.old.pages }
         ensures { self.new ≡ record self.old { pages = slice_set self.old.pages at page } }
     {
-        let old = self.rows.get(at);
-        self.put(at, old, Entry::new(page, old.touched));
+        let touched = self.is_touched(at);
+        self.put(at, Entry::new(page, touched));
     }
 
     /// Marks the page at this place, which is below `len`, as touched.
@@ -170,42 +151,6 @@ impl PageTable {
         ensures { self.new ≡ record self.old { touched = slice_set self.old.touched at true } }
     {
         self.mark(at, true);
-    }
-
-    /// The frame on which the page at this place, which is below `len`, stands; the page is marked as touched then. Where
-    /// it stands on none nothing is done.
-    #[inline(always)]
-    pub fn touch_resident(&mut self, at: u32) -> Option<u32>
-        requires { at < length self.old.pages }
-        ensures frame { (page : Page) → slice_get self.old.pages at ≡ Some page
-            → result ≡ frame_of page }
-        ensures touched { self.new
-            ≡ record self.old { touched = touched_if result self.old.touched at } }
-    {
-        let entry = self.rows.get(at);
-        let frame = entry.frame()?;
-        if !entry.touched {
-            self.mark(at, true);
-        }
-        Some(frame)
-    }
-
-    /// The frame on which the page at this place, which is below `len`, stands alone, if it is `Private`; the page is
-    /// marked as touched then. Else nothing is done.
-    #[inline(always)]
-    pub fn touch_private(&mut self, at: u32) -> Option<u32>
-        requires { at < length self.old.pages }
-        ensures frame { IfSome result (λ frame.
-            slice_get self.old.pages at ≡ Some (Private frame)) }
-        ensures touched { self.new
-            ≡ record self.old { touched = touched_if result self.old.touched at } }
-    {
-        let entry = self.rows.get(at);
-        let frame = entry.own_frame()?;
-        if !entry.touched {
-            self.mark(at, true);
-        }
-        Some(frame)
     }
 
     /// Takes the mark from the page at this place, which is below `len`: it wasn't touched in this epoch.
@@ -249,8 +194,6 @@ impl PageTable {
         ensures { self.new ≡ record self.old { pages = []; touched = [] } }
     {
         self.len = 0;
-        self.residents = 0;
-        self.actives = 0;
     }
 
     // Gives the page at this place this mark.
@@ -259,21 +202,17 @@ impl PageTable {
         ensures { self.new ≡ record self.old { touched = slice_set self.old.touched at touched } }
     {
         let old = self.rows.get(at);
-        self.put(at, old, Entry { touched, ..old });
+        self.put(at, Entry { touched, ..old });
     }
 
-    // Puts an entry in place of the old one, and counts again.
-    fn put(&mut self, at: u32, old: Entry, entry: Entry)
-        requires there { at < length self.old.pages }
-        requires page { slice_get self.old.pages at ≡ Some (page_of old) }
-        requires mark { slice_get self.old.touched at ≡ Some old.touched }
+    // Puts an entry there.
+    fn put(&mut self, at: u32, entry: Entry)
+        requires { at < length self.old.pages }
         ensures { self.new ≡ record self.old {
           pages = slice_set self.old.pages at (page_of entry);
           touched = slice_set self.old.touched at entry.touched;
         } }
     {
-        self.residents = self.residents - old.residents() + entry.residents();
-        self.actives = self.actives - old.actives() + entry.actives();
         self.rows.set(at, entry);
     }
 

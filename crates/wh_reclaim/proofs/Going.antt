@@ -132,10 +132,10 @@ left_once s i need s2 once (lacks, (j, p, must, evicts)) q =
     rw pages (once q)
 
 pub came_nearer : (s0 : Space) (i : ℕ) (need : Need) (n : ℕ) (s : Space) (bytes : List ℕ) (s2 : Space) → IsSound s → IsOnTheWay s0 i need n s → MovesOn s i need (comes bytes) s2 → far s2 i need < far s i need
-came_nearer s0 i need n s bytes s2 sound way (p, first, fetches) = (fetch_on s0 i need n s p bytes s2 way first.0 fetches (λ k there. slot_taken s i p k sound.slots there)).1
+came_nearer s0 i need n s bytes s2 sound way (p, first, fetches) = (fetch_on s0 i need n s p bytes s2 sound.frames way first.0 fetches (λ k there. slot_taken s i p k sound.slots there)).1
 
 pub left_nearer : (s0 : Space) (i : ℕ) (need : Need) (n : ℕ) (s : Space) (s2 : Space) → IsSound s → IsOnTheWay s0 i need n s → MovesOn s i need goes s2 → far s2 i need < far s i need
-left_nearer s0 i need n s s2 sound way (lacks, (j, p, must, evicts)) = (evict_on s0 i need n s j p s2 sound.slots way must evicts).1
+left_nearer s0 i need n s s2 sound way (lacks, (j, p, must, evicts)) = (evict_on s0 i need n s j p s2 sound way must evicts).1
 
 -- ---- what was made of a move
 

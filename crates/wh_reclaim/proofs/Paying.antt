@@ -3,13 +3,14 @@ use Rattle.std.proofs.Common.{◌≡◌, ◌≢◌, ◌∙◌, ◌⊎◌, inl, i
 use Rattle.std.specs.Prelude.{MatchBool}
 use Rattle.wh_host_model.specs.declared.Claim.{Claim}
 use Rattle.wh_host_model.specs.declared.Tax.{Tax}
-use Rattle.wh_host_model.specs.Space.Claims.{CanLeave, HasLess, IsEarlier, IsPayer, MayPay, NobodyPays, active_of, weight_of}
-use Rattle.wh_host_model.specs.Space.Parts.{Occupant, Space, occupant_at, pages_of}
+use Rattle.wh_host_model.specs.Space.Charges.{active_of, charged_of}
+use Rattle.wh_host_model.specs.Space.Claims.{CanBeTaken, HasLess, IsEarlier, IsPayer, MayPay, NobodyPays, weight_of}
+use Rattle.wh_host_model.specs.Space.Parts.{Occupant, Space, occupant_at}
 use Rattle.wh_host_model.specs.Tax.{weight}
 use Rattle.wh_host_model.proofs.Space.Putting.{there_of}
 use Rattle.wh_reclaim.specs.Choosing.{IsAtPlace, IsPayerBelow, PaysBefore, PaysBelow}
 use Rattle.wh_reclaim.specs.declared.choice.Payer.{Payer}
-use Rattle.wh_space.specs.Claiming.{GivesNone, IsClaimOf}
+use Rattle.wh_space.specs.Claiming.{IsClaimOf, TakesNoPage}
 use Rattle.wh_tax.proofs.Choice.{cross_lt, some_price}
 
 -- ---- fractions by cross products
@@ -38,19 +39,19 @@ product s x y a b = rw (a.claim.shares, weight_same s y.place b.occupant y.claim
 weighs : (s : Space) (i : ℕ) → MayPay s i → 0 < weight_of s i
 weighs s i may =
     let over = may.0.2 in
-    some_price (active_of s i) (pages_of s i) _ s.tax.den (omega arith) (omega (arith, s.tax.below_one)) (omega (arith, s.tax.below_one))
+    some_price (active_of s i) (charged_of s i) _ s.tax.den (omega arith) (omega (arith, s.tax.below_one)) (omega (arith, s.tax.below_one))
 
-pub may_pay : (s : Space) (i : ℕ) (t : Occupant) (claim : Claim) → occupant_at s i t → IsClaimOf s i t claim → claim.min < claim.pages → (p : ℕ) × CanLeave s i p → MayPay s i
+pub may_pay : (s : Space) (i : ℕ) (t : Occupant) (claim : Claim) → occupant_at s i t → IsClaimOf s i t claim → claim.min < claim.pages → (p : ℕ) × CanBeTaken s i p → MayPay s i
 may_pay s i t claim there c over some = ((t, there, rw (← c.min, ← c.pages) over), some)
 
 pub not_above : (s : Space) (i : ℕ) (t : Occupant) (claim : Claim) → occupant_at s i t → IsClaimOf s i t claim → ¬ (claim.min < claim.pages) → ¬ MayPay s i
 not_above s i t claim there c unable = λ may.
     (let same : may.0.0 ≡ t = same_occupant s i t may.0.0 there may.0.1 in
-    let over : t.min < pages_of s i = rw (← same) may.0.2 in
+    let over : t.min < charged_of s i = rw (← same) may.0.2 in
     unable (rw (c.min, c.pages) over))
 
-pub gives_none : (s : Space) (i : ℕ) → GivesNone s i → ¬ MayPay s i
-gives_none s i none = λ may. none may.1.0 may.1.1
+pub takes_none : (s : Space) (i : ℕ) → TakesNoPage s i → ¬ MayPay s i
+takes_none s i none = λ may. none may.1.0 may.1.1
 
 pub nobody_there : (s : Space) (i : ℕ) → ((t : Occupant) → ¬ occupant_at s i t) → ¬ MayPay s i
 nobody_there s i none = λ may. none may.0.0 may.0.1
@@ -210,6 +211,6 @@ all_pay s payer pays = record {
 pub nobody_pays : (s : Space) → IsPayerBelow s (length s.occupants) None → NobodyPays s
 nobody_pays s none = λ j may. none j (within s j may) may
 
--- who pays has a page to give
-pub payer_gives : (s : Space) (i : ℕ) → MayPay s i → GivesNone s i → ⊥
+-- from who pays a page can be taken
+pub payer_gives : (s : Space) (i : ℕ) → MayPay s i → TakesNoPage s i → ⊥
 payer_gives s i may none = none may.1.0 may.1.1

@@ -1,14 +1,18 @@
 -- What a provision comes to.
 use Rattle.std.proofs.Common.{◌≡◌, ◌∙◌, inl, inr, ℕ, Some, Result, Ok, Err, sym, ap, arith}
-use Rattle.std.specs.Prelude.{IfOk, OnErr}
+use Rattle.std.specs.Prelude.{IfOk, OnErr, OnOk}
 use Rattle.wh_model.specs.declared.memory.Need.{Need}
 use Rattle.wh_host_model.specs.Space.Errands.{tickets}
 use Rattle.wh_host_model.specs.Space.Laws.{IsProvided}
-use Rattle.wh_host_model.specs.Space.Parts.{Space, pages_of}
+use Rattle.wh_host_model.specs.Space.Charges.{charged_of}
+use Rattle.wh_host_model.specs.Space.Claims.{MustLeave}
+use Rattle.wh_host_model.specs.Space.Moves.{Evicts}
+use Rattle.wh_host_model.specs.Space.Parts.{Space}
 use Rattle.wh_host_model.specs.Space.Provide.{FailsToProvide, GivesUp, OthersKeepMinimum, Provides}
 use Rattle.wh_host_model.specs.Space.Sound.{IsSound}
 use Rattle.wh_host_model.specs.Space.Tickets.{StandsForFrame}
 use Rattle.wh_host_model.proofs.Space.Provided.{provision_is_right, serves_way}
+use Rattle.wh_reclaim.specs.Providing.{Revokes}
 use Rattle.wh_reclaim.proofs.Beginning.{stands_wants}
 
 some_need : {a b : Need} → Some a ≡ Some b → a ≡ b
@@ -31,9 +35,9 @@ pub is_right : {E : Type 0} (answer : Result ℕ E) (s : Space) (i : ℕ) (need 
 is_right (Ok n) s i need s2 sound none stands provides = provision_is_right s i need n s2 sound none stands provides
 is_right (Err e) s i need s2 sound none stands provides = tt
 
-pages_still : (mid s2 : Space) (j : ℕ) → GivesUp mid s2 → pages_of s2 j ≡ pages_of mid j
-pages_still mid s2 j (inl is) = ap (λ (z : Space). pages_of z j) is
-pages_still mid s2 j (inr (k, vacant, is)) = ap (λ (z : Space). pages_of z j) is
+charges_still : (mid s2 : Space) (j : ℕ) → GivesUp mid s2 → charged_of s2 j ≡ charged_of mid j
+charges_still mid s2 j (inl is) = ap (λ (z : Space). charged_of z j) is
+charges_still mid s2 j (inr (k, vacant, is)) = ap (λ (z : Space). charged_of z j) is
 
 -- nobody else is below its minimum that wasn't
 pub keeps_others : {E : Type 0} (answer : Result ℕ E) (s : Space) (i : ℕ) (need : Need) (s2 : Space) → IsSound s → tickets s ≡ 0 → StandsForFrame s i need → IfOk answer (λ n. Provides s i need n s2) → OnErr answer (FailsToProvide s i need s2)
@@ -42,7 +46,7 @@ keeps_others (Ok n) s i need s2 sound none stands provides fails = (provision_is
 keeps_others (Err e) s i need s2 sound none stands provides (moves, mid, serves, gives) = λ j t other there.
     (let way = serves_way s i need moves mid sound none stands serves in
     let least = way.1.others j t other there in
-    let same = pages_still mid s2 j gives in
+    let same = charges_still mid s2 j gives in
     omega arith)
 
 ticket_free : (mid s2 : Space) → GivesUp mid s2 → tickets s2 ≡ tickets mid
@@ -55,3 +59,8 @@ pub none_left : {E : Type 0} (answer : Result ℕ E) (s : Space) (i : ℕ) (need
 none_left (Ok n) s i need s2 sound none stands (moves, mid, serves, many, served, earmarks) fails =
     ap tickets earmarks.leaves ∙ (serves_way s i need moves mid sound none stands serves).1.none_out
 none_left (Err e) s i need s2 sound none stands provides (moves, mid, serves, gives) = ticket_free mid s2 gives ∙ (serves_way s i need moves mid sound none stands serves).1.none_out
+
+-- the page that had to leave has left, where the device did its part
+pub revoked : {T E : Type 0} (r : Result T E) (s : Space) (i : ℕ) (need : Need) (j p : ℕ) (s2 : Space) → MustLeave s i need j p → OnOk r (Evicts s j p s2) → OnOk r (Revokes s i need s2)
+revoked (Ok x) s i need j p s2 must evicts = (j, p, must, evicts)
+revoked (Err e) s i need j p s2 must evicts = tt

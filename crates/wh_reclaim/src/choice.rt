@@ -1,7 +1,8 @@
 // Which page leaves.
 
 ghost use Rattle.std.specs.Prelude.{◌≡◌, ◌+◌, ◌<◌, None, Some, MatchBool, MatchOption, length};
-ghost use Rattle.wh_host_model.specs.Space.Claims.{MustLeave, NoneMustLeave};
+ghost use Rattle.wh_host_model.specs.Space.Claims.{MustLeave, NobodyPays, NoneMustLeave};
+ghost use Rattle.wh_host_model.specs.Space.Tickets.{StandsForFrame};
 ghost use Rattle.wh_reclaim.specs.Choosing.{IsPayerBelow, PaysBefore};
 
 use std::cmp::Ordering;
@@ -28,7 +29,7 @@ pub struct Payer {
     pub claim: Claim,
 }
 
-// Whether the instance may have to pay if a page of it can leave: it is above its minimum.
+// Whether the instance may have to pay if a charged page of it can leave: more frames are charged to it than its minimum.
 fn is_above(claim: &Claim) -> bool
     ensures { MatchBool result (claim.now.min < claim.now.pages)
         (¬ (claim.now.min < claim.now.pages)) }
@@ -79,7 +80,7 @@ fn next_payer(memory: &Memory, place: usize, payer: Option<Payer>) -> Option<Pay
     if !pays_before_any(memory.tax(), next, payer) {
         return payer;
     }
-    if !memory.has_page_to_give(place) {
+    if !memory.has_page_to_take(place) {
         return payer;
     }
     Some(next)
@@ -96,23 +97,39 @@ fn payer_of(memory: &Memory) -> Option<Payer>
     payer
 }
 
-/// The page that has to leave where a step of the instance at this place lacks a frame: that of the one that pays, or where
-/// nobody has to pay one of its own; or none. It looks at each instance once, and takes no memory.
+/// The page that has to leave where a step of the instance at this place lacks a frame: that of the one that pays; where
+/// nobody has to pay, a sharer of a frame that the step writes, so that the write needs no copy; and where there is none, one of
+/// its own; or none. It looks at each instance once, and takes no memory.
 pub fn page_to_take(memory: &Memory, place: usize, need: Need) -> Option<PageOf>
+    requires { StandsForFrame memory.now place need }
     ensures { MatchOption result (NoneMustLeave memory.now place need)
         (λ taken. MustLeave memory.now place need taken.place taken.page) }
 {
     let Some(payer) = payer_of(memory) else {
-        let Some(page) = memory.given_page(place) else {
-            return None;
-        };
-        return Some(PageOf { place, page });
+        return page_unpaid(memory, place, need);
     };
-    let Some(page) = memory.given_page(payer.place) else {
+    let Some(page) = memory.taken_page(payer.place) else {
         unreachable!()
     };
     Some(PageOf {
         place: payer.place,
         page,
     })
+}
+
+// The same where nobody has to pay.
+fn page_unpaid(memory: &Memory, place: usize, need: Need) -> Option<PageOf>
+    requires stands { StandsForFrame memory.now place need }
+    requires nobody { NobodyPays memory.now }
+    ensures { MatchOption result (NoneMustLeave memory.now place need)
+        (λ taken. MustLeave memory.now place need taken.place taken.page) }
+{
+    if let Some(shed) = memory.shed_page(place, need) {
+        return Some(PageOf {
+            place: shed.place as usize,
+            page: shed.page,
+        });
+    }
+    let page = memory.given_page(place)?;
+    Some(PageOf { place, page })
 }

@@ -45,12 +45,12 @@ pub fn write_shared(text: &mut String, frames: u64, sharers: u64) -> Result<(), 
     writeln!(text, "# shared frames {frames} sharers {sharers}")
 }
 
-/// What the pages weigh: `den` for each idle one, and `den - num` for each that was touched.
+/// What the frames weigh: `den` for each idle one, and `den - num` for each active one.
 fn weight(row: Row) -> u64
     ensures { result ≡ row_weight (row_of row) }
 {
-    let idle = row.resident - row.touched;
-    u64::from(row.touched) * u64::from(row.tax.den - row.tax.num)
+    let idle = row.charged - row.active;
+    u64::from(row.active) * u64::from(row.tax.den - row.tax.num)
         + u64::from(idle) * u64::from(row.tax.den)
 }
 
@@ -89,8 +89,8 @@ fn write_column(text: &mut String, width: usize, n: u64) -> Result<(), AllocErro
     write!(text, "{n:>width$}")
 }
 
-/// Puts the line of an instance behind a text: `#`, its number, shares, least and greatest number of frames, resident,
-/// touched and swapped pages, right-aligned, and the fraction of its shares to what its pages weigh.
+/// Puts the line of an instance behind a text: `#`, its number, shares, least and greatest number of frames, charged
+/// and active frames, swapped pages, right-aligned, and the fraction of its shares to what its frames weigh.
 ///
 /// # Errors
 /// A growth of memory was refused; a beginning of the line may stand behind the text.
@@ -102,8 +102,8 @@ pub fn write_row(text: &mut String, row: Row) -> Result<(), AllocError>
     write_column(text, 8, u64::from(row.shares))?;
     write_column(text, 6, u64::from(row.min))?;
     write_column(text, 6, u64::from(row.max))?;
-    write_column(text, 6, u64::from(row.resident))?;
-    write_column(text, 6, u64::from(row.touched))?;
+    write_column(text, 6, u64::from(row.charged))?;
+    write_column(text, 6, u64::from(row.active))?;
     write_column(text, 6, u64::from(row.swapped))?;
     let rho = Rho { row };
     writeln!(text, " {rho}")

@@ -15,15 +15,16 @@ pub struct Row {
     pub min: u32,
     /// The greatest number of frames of its memory.
     pub max: u32,
-    /// How many of its pages are resident, at most 65536.
-    pub resident: u32,
-    /// How many of these were touched.
-    pub touched: u32,
+    /// How many frames are charged to it, at most 65536: those on which its pages stand alone, and those that it
+    /// shares as the first of all sharers.
+    pub charged: u32,
+    /// On how many of these a page was touched, of whichever sharer.
+    pub active: u32,
     /// How many of its pages are swapped.
     pub swapped: u32,
     /// The tax on idle pages.
     pub tax: Tax,
     ghost shares_within: { shares ≤ 1000000 },
-    ghost resident_within: { resident ≤ 65536 },
-    ghost touched_within: { touched ≤ resident },
+    ghost charged_within: { charged ≤ 65536 },
+    ghost active_within: { active ≤ charged },
 }

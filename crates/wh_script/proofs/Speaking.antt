@@ -127,7 +127,7 @@ shared_remark frames sharers =
 pub row_remark : (r : Row) → IsRemark (row_text r)
 row_remark r =
     let promised = joined (joined (joined (column_of 6 r.number) (column_of 8 r.shares)) (column_of 6 r.min)) (column_of 6 r.max) in
-    let kept = joined (joined (joined promised (column_of 6 r.resident)) (column_of 6 r.touched)) (column_of 6 r.swapped) in
+    let kept = joined (joined (joined promised (column_of 6 r.charged)) (column_of 6 r.active)) (column_of 6 r.swapped) in
     is_remark (joined (joined kept (codes " ", refl)) (rho_text r, rho_of r))
 
 pub speaks_remark : (text : List ℕ) → IsRemark text → Speaks [] text

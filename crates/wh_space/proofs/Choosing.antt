@@ -4,19 +4,22 @@ use Rattle.std.specs.Prelude.{MatchBool, MatchOption}
 use Rattle.std.proofs.lemmas.List.{length-map}
 use Rattle.wh_host_model.specs.declared.states.Page.{Page}
 use Rattle.wh_host_model.specs.declared.states.Page.TheVariants.{Untouched, Private, Shared, Leaving, LeavingShared, Coming, Swapped}
-use Rattle.wh_host_model.specs.Space.Claims.{CanLeave, IsGiven, IsTouched, active, stays}
+use Rattle.wh_host_model.specs.Space.Charges.{IsOnTouched, IsTouched, touchers_in}
+use Rattle.wh_host_model.specs.Space.Claims.{CanBeTaken, CanLeave, IsGiven, IsTakenFrom, stays}
 use Rattle.wh_host_model.specs.Space.Parts.{Occupant, Space, occupant_at}
 use Rattle.wh_host_model.specs.Space.States.{at, page_at, resident}
 use Rattle.wh_host_model.proofs.Space.Putting.{there_of}
 use Rattle.wh_host_model.specs.Space.Sound.{IsSound}
-use Rattle.wh_pages.specs.Table.{PageTableState}
 use Rattle.wh_space.specs.declared.guest.Guest.{Guest}
 use Rattle.wh_space.specs.declared.memory.Memory.TheInside.{Inside}
-use Rattle.wh_pages.specs.Seeking.{IsFirstFrom, IsSought}
-use Rattle.wh_space.specs.Pages.{marks_in, pages_in}
-use Rattle.wh_space.specs.Claiming.{GivesNone, IsSoughtAt, MightLeave}
+use Rattle.wh_pages.specs.Seeking.{IsFirstFrom}
+use Rattle.wh_tables.specs.Tables.{IsSoughtAt}
+use Rattle.wh_host_model.specs.Space.Moves.{frame_of}
+use Rattle.wh_tables.proofs.Keeping.{frame_stands}
+use Rattle.wh_tables.proofs.Touching.{touchers_with_page}
+use Rattle.wh_space.proofs.Charged.{not_on_touched, on_touched}
+use Rattle.wh_space.specs.Claiming.{GivesNone, MightBeTaken, MightLeave, TakesNoPage}
 use Rattle.wh_space.specs.Parts.{occupant_of, space_of}
-use Rattle.wh_space.proofs.Tables.{column_at}
 
 -- ---- pages that are counted
 
@@ -101,37 +104,6 @@ sought_leaving s i idle q might = go (page_at s.tables i q) refl might.0.0 where
 pub sought_there : (s : Space) (i : ℕ) (idle : Bool) (q : ℕ) → IsSoughtAt s.tables s.touched i idle q → q < length (get_or s.tables i [])
 sought_there s i idle q sought = there_of (get_or s.tables i []) q sought.page sought.there
 
--- ---- the next page that stands on a frame
-
-next_map : (P Q : ℕ → Type 0) → ((q : ℕ) → P q → Q q) → ((q : ℕ) → Q q → P q) → (from : ℕ) (o : Option ℕ) → IsFirstFrom P from o → IsFirstFrom Q from o
-next_map P Q there back from None none = λ q at is. none q at (back q is)
-next_map P Q there back from (Some p) next = ((there p next.0.0, next.0.1), λ q at below is. next.1 q at below (back q is))
-
-pub next_at : (tables : List PageTableState) (i : ℕ) (t : PageTableState) (idle : Bool) (from : ℕ) (o : Option ℕ) → i < length tables → t ≡ get_or tables i t → IsFirstFrom (IsSought t idle) from o
-    → IsFirstFrom (IsSoughtAt (pages_in tables) (marks_in tables) i idle) from o
-next_at tables i t idle from o within found next =
-    let pages : get_or (pages_in tables) i [] ≡ t.pages = column_at (λ (z : PageTableState). z.pages) tables i t [] within found in
-    let marks : get_or (marks_in tables) i [] ≡ t.touched = column_at (λ (z : PageTableState). z.touched) tables i t [] within found in
-    next_map (IsSought t idle) (IsSoughtAt (pages_in tables) (marks_in tables) i idle)
-    (λ q x. record {
-      page = x.page;
-      there = ap (λ (xs : List Page). slice_get xs q) pages ∙ x.there;
-      stands = x.stands;
-      untouched = λ so e. x.untouched so (sym (ap (λ (xs : List Bool). slice_get xs q) marks) ∙ e);
-    })
-    (λ q x. record {
-      page = x.page;
-      there = sym (ap (λ (xs : List Page). slice_get xs q) pages) ∙ x.there;
-      stands = x.stands;
-      untouched = λ so e. x.untouched so (ap (λ (xs : List Bool). slice_get xs q) marks ∙ e);
-    })
-    from o next
-
--- of the memory
-pub next_in : (s : Space) (tables : List PageTableState) (i : ℕ) (idle : Bool) (from : ℕ) (o : Option ℕ) → pages_in tables ≡ s.tables → marks_in tables ≡ s.touched
-    → IsFirstFrom (IsSoughtAt (pages_in tables) (marks_in tables) i idle) from o → IsFirstFrom (IsSoughtAt s.tables s.touched i idle) from o
-next_in s tables i idle from o pages marks next = rw (← pages, ← marks) next
-
 -- none before this page might leave, and none from it on stands on a frame
 pub none_left : (s : Space) (i : ℕ) (idle : Bool) (from : ℕ) → ((q : ℕ) → q < from → ¬ MightLeave s i idle q) → IsFirstFrom (IsSoughtAt s.tables s.touched i idle) from None → IsFirstFrom (MightLeave s i idle) 0 None
 none_left s i idle from passed none = λ q at might. elim (either q from) [ inl below ↦ passed q below might | inr more ↦ none q more (sought_leaving s i idle q might) ]
@@ -157,41 +129,84 @@ next_passed s i idle from p passed next unable = λ q below might. elim (either 
 pub all_passed : (s : Space) (i : ℕ) (idle : Bool) (from : ℕ) → length (get_or s.tables i []) ≤ from → ((q : ℕ) → q < from → ¬ MightLeave s i idle q) → IsFirstFrom (MightLeave s i idle) 0 None
 all_passed s i idle from far passed = λ q at might. (let less = leaving_within s i q might.0 in passed q (omega arith) might)
 
--- ---- a claim
+-- ---- the page that is taken
 
-pub record HasClaim (s : Space) (i : ℕ) (t : Occupant) (row : List Page) (marks : List Bool) : Type 0 where
-  pub there : occupant_at s i t
-  pub shares : (1 ≤ t.shares) × (t.shares ≤ 1000000)
-  pub few : length row ≤ 65536
-  pub pages : get_or s.tables i [] ≡ row
-  pub touched : get_or s.touched i [] ≡ marks
+-- what is looked for among what might be: the first from here on, or none
+pub none_of : (P Q : ℕ → Type 0) → ((q : ℕ) → P q → Q q) → (from : ℕ) → ((q : ℕ) → q < from → ¬ P q) → IsFirstFrom Q from None → IsFirstFrom P 0 None
+none_of P Q is from passed none = λ q at might. elim (either q from) [ inl below ↦ passed q below might | inr more ↦ none q more (is q might) ]
 
-abbrev pub occupant_by : Guest → Occupant
-occupant_by g = record {
-  number = g.number;
-  live = g.live;
-  shares = g.shares;
-  min = g.min;
-  max = g.max;
-  stands = g.stands;
-  leaves = g.leaves;
-}
+pub one_of : (P Q : ℕ → Type 0) → ((q : ℕ) → P q → Q q) → (from p : ℕ) → ((q : ℕ) → q < from → ¬ P q) → IsFirstFrom Q from (Some p) → P p → IsFirstFrom P 0 (Some p)
+one_of P Q is from p passed next here = ((here, omega arith), λ q at below might. elim (either q from) [ inl lower ↦ passed q lower might | inr more ↦ next.1 q more below (is q might) ])
 
-pub has_claim : (a : Inside) (i : ℕ) (g : Guest) (row : PageTableState) (x : Option Guest) → IsSound (space_of a) → i < length a.guests.items → x ≡ get_or a.guests.items i x → x ≡ Some g → row ≡ get_or a.tables.items i row
-    → HasClaim (space_of a) i (occupant_by g) row.pages row.touched
-has_claim a i g row x sound less is some found =
-    let s : Space = space_of a in
-    let there : slice_get s.occupants i ≡ Some (occupant_of (Some g)) = occupant_there a.guests.items i x less is ∙ ap (λ (z : Option Guest). Some (occupant_of z)) some in
-    let table = sound.occupants.have i (occupant_of (Some g)) there in
-    let many = sound.occupants.tables in
-    let guests = length-map a.guests.items occupant_of in
-    let tables = length-map a.tables.items (λ (z : PageTableState). z.pages) in
-    let within : i < length a.tables.items = omega arith in
-    let pages : get_or s.tables i [] ≡ row.pages = column_at (λ (z : PageTableState). z.pages) a.tables.items i row [] within found in
-    let marks : get_or s.touched i [] ≡ row.touched = column_at (λ (z : PageTableState). z.touched) a.tables.items i row [] within found in record {
-      there = there;
-      shares = (table.5, table.6);
-      few = (let long = ap length pages in let most = table.2 in let max = table.4 in omega arith);
-      pages = pages;
-      touched = marks;
-    }
+pub passed_of : (P Q : ℕ → Type 0) → ((q : ℕ) → P q → Q q) → (from p : ℕ) → ((q : ℕ) → q < from → ¬ P q) → IsFirstFrom Q from (Some p) → ¬ P p → (q : ℕ) → q < p + 1 → ¬ P q
+passed_of P Q is from p passed next unable = λ q below might. elim (either q from) [
+  | inl lower ↦ passed q lower might
+  | inr more ↦ elim (either q p) [
+    | inl lower ↦ next.1 q more lower (is q might)
+    | inr same ↦ unable (subst P (omega arith) might)
+  ]
+]
+
+-- a touched page stands on a frame that is touched
+touched_there : (s : Space) (i p f : ℕ) (page : Page) → page_at s.tables i p ≡ Some page → frame_of page ≡ Some f → IsTouched s i p → 1 ≤ touchers_in s.tables s.touched f
+touched_there s i p f page there on touched =
+    let change = touchers_with_page s.tables s.touched i p f page Untouched true there touched in
+    let one = frame_stands f page on in
+    omega arith
+
+stays_on : (page : Page) → stays page ≡ 1 → (f : ℕ) × (frame_of page ≡ Some f)
+stays_on Untouched e = absurd (omega (arith, e))
+stays_on (Private f) e = (f, refl)
+stays_on (Shared f) e = (f, refl)
+stays_on (Leaving f) e = absurd (omega (arith, e))
+stays_on (LeavingShared f) e = absurd (omega (arith, e))
+stays_on (Coming k) e = absurd (omega (arith, e))
+stays_on (Swapped k) e = absurd (omega (arith, e))
+
+pub sought_taking : (s : Space) (i : ℕ) (idle : Bool) (q : ℕ) → MightBeTaken s i idle q → IsSoughtAt s.tables s.touched i idle q
+sought_taking s i idle q might = go (page_at s.tables i q) refl might.0.0.0 where
+  go : (o : Option Page) → page_at s.tables i q ≡ o → at stays o ≡ 1 → IsSoughtAt s.tables s.touched i idle q
+  go None e one = absurd (omega (arith, one))
+  go (Some x) e one =
+      let on = stays_on x one in
+      record {
+        page = x;
+        there = e;
+        stands = stays_resident x one;
+        untouched = λ so touched. might.1 so (on.0, rw e (frame_stands on.0 x on.1), touched_there s i q on.0 x e on.1 touched);
+      }
+
+pub taking_within : (s : Space) (i q : ℕ) → CanBeTaken s i q → q < length (get_or s.tables i [])
+taking_within s i q can = leaving_within s i q can.0
+
+pub all_taken : (s : Space) (i : ℕ) (idle : Bool) (from : ℕ) → length (get_or s.tables i []) ≤ from → ((q : ℕ) → q < from → ¬ MightBeTaken s i idle q) → IsFirstFrom (MightBeTaken s i idle) 0 None
+all_taken s i idle from far passed = λ q at might. (let less = taking_within s i q might.0 in passed q (omega arith) might)
+
+-- a frame on which some page was touched or none
+on_touched_or : (s : Space) (i q : ℕ) → CanBeTaken s i q → IsOnTouched s i q ⊎ (¬ IsOnTouched s i q)
+on_touched_or s i q can = go (page_at s.tables i q) refl can.0.0 where
+  go : (o : Option Page) → page_at s.tables i q ≡ o → at stays o ≡ 1 → IsOnTouched s i q ⊎ (¬ IsOnTouched s i q)
+  go None e one = absurd (omega (arith, one))
+  go (Some x) e one =
+      let on = stays_on x one in
+      elim (either 0 (touchers_in s.tables s.touched on.0)) [
+        | inl some ↦ inl (on_touched s i q on.0 x e on.1 some)
+        | inr most ↦ inr (not_on_touched s i q on.0 x e on.1 (omega arith))
+      ]
+
+all_busy : (s : Space) (i q : ℕ) → ¬ MightBeTaken s i true q → CanBeTaken s i q → IsOnTouched s i q
+all_busy s i q none can = elim (on_touched_or s i q can) [ inl touched ↦ touched | inr idle ↦ absurd (none (can, λ so. idle)) ]
+
+pub takes_idle : (s : Space) (i p : ℕ) → IsFirstFrom (MightBeTaken s i true) 0 (Some p) → IsTakenFrom s i p
+takes_idle s i p next = (next.0.0.0, inl (next.0.0.1 refl, λ q below can. all_busy s i q (next.1 q (omega arith) below) can))
+
+pub takes_first : (s : Space) (i : ℕ) (first : Option ℕ) → IsFirstFrom (MightBeTaken s i true) 0 None → IsFirstFrom (MightBeTaken s i false) 0 first → MatchOption first (TakesNoPage s i) (λ p. IsTakenFrom s i p)
+takes_first s i None idle none = λ q can. none q (omega arith) (can, λ so. (let bad : false ≡ true = so in absurd (cc bad)))
+takes_first s i (Some p) idle next =
+    (next.0.0.0, inr (λ q can. (all_busy s i q (idle q (omega arith)) can, least q can))) where
+      least : (q : ℕ) → CanBeTaken s i q → p ≤ q
+      least q can = elim (either q p) [ inl below ↦ absurd (next.1 q (omega arith) below (can, λ so. (let bad : false ≡ true = so in absurd (cc bad)))) | inr most ↦ most ]
+
+pub tells_taking : (s : Space) (i : ℕ) (first : Option ℕ) → IsFirstFrom (MightBeTaken s i false) 0 first → MatchBool (is_some first) ((p : ℕ) × CanBeTaken s i p) (TakesNoPage s i)
+tells_taking s i None none = λ q can. none q (omega arith) (can, λ so. (let bad : false ≡ true = so in absurd (cc bad)))
+tells_taking s i (Some p) next = (p, next.0.0.0)

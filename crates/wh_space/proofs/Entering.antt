@@ -3,8 +3,8 @@ use Rattle.std.proofs.Common.{◌≡◌, ◌≢◌, ◌⊎◌, inl, inr, ℕ, �
 use Rattle.std.proofs.lemmas.Bool.{cases_lt}
 use Rattle.std.proofs.lemmas.Bool.Decides.{nat_tests}
 use Rattle.std.proofs.lemmas.List.{length-map}
-use Rattle.wh_host_model.specs.Frames.{tally}
-use Rattle.wh_pages.specs.Table.{PageTableState}
+use Rattle.wh_host_model.specs.Frames.{Pool, tally}
+use Rattle.wh_tables.specs.Tables.{TablesState}
 use Rattle.wh_host_model.specs.declared.states.Page.{Page}
 use Rattle.wh_host_model.specs.declared.states.Page.TheVariants.{Coming, Untouched}
 use Rattle.wh_host_model.specs.declared.states.Slot.{Slot}
@@ -16,13 +16,12 @@ use Rattle.wh_host_model.proofs.Tally.{one_other}
 use Rattle.wh_host_model.specs.Space.Parts.{Occupant, Slots, Space, occupant_at}
 use Rattle.wh_host_model.specs.Space.Places.{Enters, HasRoomFor, IsFreePlace, newcomer, with_row}
 use Rattle.wh_host_model.proofs.Space.Entered.{enters_soundly, free_within}
-use Rattle.wh_host_model.proofs.Space.Putting.{here_or, there_of}
+use Rattle.wh_host_model.proofs.Space.Putting.{get_or_is, here_or, there_of}
 use Rattle.wh_host_model.proofs.Space.Rows.{past_there, row_other, row_same}
 use Rattle.wh_space.specs.Arrivals.{claimed}
 use Rattle.wh_space.specs.declared.guest.Guest.{Guest}
 use Rattle.wh_space.specs.declared.guest.Promise.{Promise}
 use Rattle.wh_space.specs.declared.memory.Memory.TheInside.{Inside}
-use Rattle.wh_space.specs.Pages.{limits_in, marks_in, pages_in}
 use Rattle.wh_space.specs.Parts.{IsWell, occupant_of, space_of}
 
 map_append : {X Y : Type 0} (f : X → Y) (xs : List X) (x : X) → map f (xs ++ x ∷ []) ≡ map f xs ++ f x ∷ []
@@ -52,8 +51,80 @@ pub record MayEnter (s : Space) (i : ℕ) (p : Promise) (size : ℕ) : Type 0 wh
 abbrev pub guest_of : Promise → Guest
 guest_of p = record { number = p.number; live = true; shares = p.shares; min = p.min; max = p.max; stands = None; leaves = None; tickets = 0 }
 
-abbrev pub table_for : Promise → ℕ → PageTableState
-table_for p size = record { pages = replicate (16 * size) Untouched; touched = replicate (16 * size) false; max = p.max }
+abbrev pub with_table : TablesState → ℕ → Promise → ℕ → TablesState
+with_table tables i p size = record {
+  pages = with_row tables.pages i (replicate (16 * size) Untouched);
+  marks = with_row tables.marks i (replicate (16 * size) false);
+  limits = with_row tables.limits i p.max;
+  numbers = with_row tables.numbers i p.number;
+  frames = tables.frames;
+}
+
+-- whoever else has pages has another number than one that is there
+pub other_guest : (a : Inside) (i j : ℕ) (g : Guest) → IsWell a → slice_get a.guests.items i ≡ Some (Some g) → j ≢ i → 1 ≤ length (get_or a.tables.pages j []) → get_or a.tables.numbers j 0 ≢ get_or a.tables.numbers i 0
+other_guest a i j g was there other some same =
+    let s : Space = space_of a in
+    let within = row_there s.tables j some in
+    let many = was.sound.occupants.tables in
+    let l = length-map a.guests.items occupant_of in
+    let guest = some_guest a.guests.items j (omega arith) in
+    go guest.0 guest.1 where
+      some_guest : (xs : List (Option Guest)) (k : ℕ) → k < length xs → (x : Option Guest) × (slice_get xs k ≡ Some x)
+      some_guest [] k less = absurd (omega arith)
+      some_guest (x ∷ xs) zero less = (x, refl)
+      some_guest (x ∷ xs) (suc k) less = some_guest xs k (omega arith)
+
+      row_there : (xss : List (List Page)) (k : ℕ) → 1 ≤ length (get_or xss k []) → k < length xss
+      row_there [] k some = absurd (omega arith)
+      row_there (xs ∷ xss) zero some = omega arith
+      row_there (xs ∷ xss) (suc k) some = let r = row_there xss k some in omega arith
+
+      seen : (xs : List (Option Guest)) (k : ℕ) (x : Option Guest) → slice_get xs k ≡ Some x → slice_get (map occupant_of xs) k ≡ Some (occupant_of x)
+      seen [] k x is = absurd (cc is)
+      seen (y ∷ xs) zero x is = let e : y ≡ x = cc in rw e refl
+      seen (y ∷ xs) (suc k) x is = seen xs k x is
+
+      go : (x : Option Guest) → slice_get a.guests.items j ≡ Some x → ⊥
+      go None is = (
+          let empty : get_or (space_of a).tables j [] ≡ [] = was.sound.occupants.have j None (seen a.guests.items j None is) in
+          let none = ap length empty in
+          omega arith)
+      go (Some h) is = other (was.sound.occupants.numbers j i _ _ (seen a.guests.items j (Some h) is) (seen a.guests.items i (Some g) there) (sym (was.numbers j h is) ∙ same ∙ was.numbers i g there))
+
+-- no pages are at a free place, and whoever has pages has another number
+pub none_at_free : (s : Space) (i : ℕ) → IsSound s → IsFreePlace s i → get_or s.tables i [] ≡ []
+none_at_free s i sound (inl none) = sound.occupants.have i None none
+none_at_free s i sound (inr past) = past_there s.tables i (let l = sound.occupants.tables in omega arith)
+
+pub other_number : (a : Inside) (j n : ℕ) → IsWell a → ((k : ℕ) (t : Occupant) → occupant_at (space_of a) k t → t.number ≢ n) → 1 ≤ length (get_or a.tables.pages j []) → get_or a.tables.numbers j 0 ≢ n
+other_number a j n was fresh some same =
+    let s : Space = space_of a in
+    let within = row_there s.tables j some in
+    let many = was.sound.occupants.tables in
+    let l = length-map a.guests.items occupant_of in
+    let guest = some_guest a.guests.items j (omega arith) in
+    go guest.0 guest.1 where
+      some_guest : (xs : List (Option Guest)) (k : ℕ) → k < length xs → (x : Option Guest) × (slice_get xs k ≡ Some x)
+      some_guest [] k less = absurd (omega arith)
+      some_guest (x ∷ xs) zero less = (x, refl)
+      some_guest (x ∷ xs) (suc k) less = some_guest xs k (omega arith)
+
+      row_there : (xss : List (List Page)) (k : ℕ) → 1 ≤ length (get_or xss k []) → k < length xss
+      row_there [] k some = absurd (omega arith)
+      row_there (xs ∷ xss) zero some = omega arith
+      row_there (xs ∷ xss) (suc k) some = let r = row_there xss k some in omega arith
+
+      seen : (xs : List (Option Guest)) (k : ℕ) (x : Option Guest) → slice_get xs k ≡ Some x → slice_get (map occupant_of xs) k ≡ Some (occupant_of x)
+      seen [] k x is = absurd (cc is)
+      seen (y ∷ xs) zero x is = let e : y ≡ x = cc in rw e refl
+      seen (y ∷ xs) (suc k) x is = seen xs k x is
+
+      go : (x : Option Guest) → slice_get a.guests.items j ≡ Some x → ⊥
+      go None is = (
+          let empty : get_or (space_of a).tables j [] ≡ [] = was.sound.occupants.have j None (seen a.guests.items j None is) in
+          let none = ap length empty in
+          omega arith)
+      go (Some g) is = fresh j _ (seen a.guests.items j (Some g) is) (sym (was.numbers j g is) ∙ same)
 
 -- ---- nobody's tickets
 
@@ -107,14 +178,26 @@ now_there xs i j p t there is = elim (here_or i j) [
   | inl same ↦ inl (same, (let both : Some (Some (guest_of p)) ≡ Some (Some t) = sym (row_same xs i (Some (guest_of p)) there) ∙ subst (λ (z : ℕ). slice_get (with_row xs i (Some (guest_of p))) z ≡ Some (Some t)) same is in cc))
 ]
 
+-- the same element is got
+got_same : {X : Type 0} (xs ys : List X) (j : ℕ) (none : X) → slice_get xs j ≡ slice_get ys j → get_or xs j none ≡ get_or ys j none
+got_same xs ys j none same = got xs j none ∙ ap (λ o. or_else o none) same ∙ sym (got ys j none) where
+  or_else : {X : Type 0} → Option X → X → X
+  or_else None none = none
+  or_else (Some x) none = x
+
+  got : {X : Type 0} (xs : List X) (j : ℕ) (none : X) → get_or xs j none ≡ or_else (slice_get xs j) none
+  got [] j none = refl
+  got (x ∷ xs) zero none = refl
+  got (x ∷ xs) (suc j) none = got xs j none
+
 pub entered : (a b : Inside) (i : ℕ) (p : Promise) (size : ℕ) → IsWell a → MayEnter (space_of a) i p size → b.guests.items ≡ with_row a.guests.items i (Some (guest_of p))
-    → b.tables.items ≡ with_row a.tables.items i (table_for p size) → b.pool ≡ a.pool → b.content ≡ a.content → b.slots ≡ a.slots → b.pins ≡ a.pins → b.tax ≡ a.tax → i < 2 ^ 32
+    → b.tables ≡ with_table a.tables i p size → length a.tables.limits ≡ length a.tables.pages → length a.tables.numbers ≡ length a.tables.pages → b.pool ≡ a.pool → b.content ≡ a.content → b.slots ≡ a.slots → b.pins ≡ a.pins → b.tax ≡ a.tax → i < 2 ^ 32
     → Enters (space_of a) i (claimed p) size (space_of b) × IsWell b
-entered a b i p size was may guests tables pool content slots pins tax place =
+entered a b i p size was may guests tables limits_long numbers_long pool content slots pins tax place =
     let s : Space = space_of a in
     let occupants : (space_of b).occupants ≡ with_row s.occupants i (Some (newcomer (claimed p))) = ap (map occupant_of) guests ∙ map_row occupant_of a.guests.items i (Some (guest_of p)) in
-    let pages : (space_of b).tables ≡ with_row s.tables i (replicate (16 * size) Untouched) = ap pages_in tables ∙ map_row (λ t. t.pages) a.tables.items i (table_for p size) in
-    let marks : (space_of b).touched ≡ with_row s.touched i (replicate (16 * size) false) = ap marks_in tables ∙ map_row (λ t. t.touched) a.tables.items i (table_for p size) in
+    let pages : (space_of b).tables ≡ with_row s.tables i (replicate (16 * size) Untouched) = ap (λ (z : TablesState). z.pages) tables in
+    let marks : (space_of b).touched ≡ with_row s.touched i (replicate (16 * size) false) = ap (λ (z : TablesState). z.marks) tables in
     let enters : Enters s i (claimed p) size (space_of b) = record {
       free = may.free;
       room = may.room;
@@ -130,18 +213,30 @@ entered a b i p size was may guests tables pool content slots pins tax place =
         limits = λ j t is.
             (let most = free_within s i may.free in
             let l = length-map a.guests.items occupant_of in
-            let m = length-map a.tables.items (λ (t : PageTableState). t.max) in
-            let n = length-map a.tables.items (λ (t : PageTableState). t.pages) in
             let o = was.sound.occupants.tables in
             let there : i ≤ length a.guests.items = omega arith in
-            let within : i ≤ length (limits_in a.tables.items) = omega arith in
-            let now : limits_in b.tables.items ≡ with_row (limits_in a.tables.items) i p.max = ap limits_in tables ∙ map_row (λ t. t.max) a.tables.items i (table_for p size) in
+            let within : i ≤ length a.tables.limits = omega arith in
+            let now = ap (λ (z : TablesState). z.limits) tables in
             let is2 : slice_get (with_row a.guests.items i (Some (guest_of p))) j ≡ Some (Some t) = ap (λ (z : List (Option Guest)). slice_get z j) (sym guests) ∙ is in
             elim (now_there a.guests.items i j p t there is2) [
-              | inr (other, before) ↦ ap (λ (z : List ℕ). slice_get z j) now ∙ (row_other (limits_in a.tables.items) i j p.max within (λ e. other e) ∙ was.limits j t before)
+              | inr (other, before) ↦ ap (λ (z : List ℕ). slice_get z j) now ∙ (row_other a.tables.limits i j p.max within (λ e. other e) ∙ was.limits j t before)
               | inl (same, one) ↦
-                  ap (λ (z : List ℕ). slice_get z j) now ∙ (ap (λ (z : ℕ). slice_get (with_row (limits_in a.tables.items) i p.max) z) same ∙ (row_same (limits_in a.tables.items) i p.max within ∙ ap (λ (g : Guest). Some g.max) one))
+                  ap (λ (z : List ℕ). slice_get z j) now ∙ (ap (λ (z : ℕ). slice_get (with_row a.tables.limits i p.max) z) same ∙ (row_same a.tables.limits i p.max within ∙ ap (λ (g : Guest). Some g.max) one))
             ]);
+        numbers = λ j t is.
+            (let most = free_within s i may.free in
+            let l = length-map a.guests.items occupant_of in
+            let o = was.sound.occupants.tables in
+            let there : i ≤ length a.guests.items = omega arith in
+            let within : i ≤ length a.tables.numbers = omega arith in
+            let now = ap (λ (z : TablesState). z.numbers) tables in
+            let is2 : slice_get (with_row a.guests.items i (Some (guest_of p))) j ≡ Some (Some t) = ap (λ (z : List (Option Guest)). slice_get z j) (sym guests) ∙ is in
+            elim (now_there a.guests.items i j p t there is2) [
+              | inr (other, before) ↦ ap (λ (z : List ℕ). get_or z j 0) now ∙ (got_same _ a.tables.numbers j 0 (row_other a.tables.numbers i j p.number within (λ e. other e)) ∙ was.numbers j t before)
+              | inl (same, one) ↦
+                  ap (λ (z : List ℕ). get_or z j 0) now ∙ (ap (λ (z : ℕ). get_or (with_row a.tables.numbers i p.number) z 0) same ∙ (get_or_is (with_row a.tables.numbers i p.number) i p.number 0 (row_same a.tables.numbers i p.number within) ∙ ap (λ (g : Guest). g.number) one))
+            ]);
+        frames = ap (λ (z : TablesState). z.frames) tables ∙ was.frames ∙ sym (ap (λ (z : Pool). length z.frames) pool);
         counted = λ j t is.
             (let most = free_within s i may.free in
             let l = length-map a.guests.items occupant_of in

@@ -1,5 +1,5 @@
 -- A page that comes in one go; how many pages there are.
-use Rattle.std.proofs.Common.{◌≡◌, ◌∙◌, inl, inr, ℕ, ◌*◌, ◌<◌, ◌≤◌, ◌^◌, ◌++◌, List, [], ◌∷◌, Option, Some, None, length, get_or, slice_get, slice_set, zero, suc, refl, sym, ap, subst, arith}
+use Rattle.std.proofs.Common.{length-set, ◌≡◌, ◌∙◌, inl, inr, ℕ, ◌*◌, ◌<◌, ◌≤◌, ◌^◌, ◌++◌, List, [], ◌∷◌, Option, Some, None, length, get_or, slice_get, slice_set, zero, suc, refl, sym, ap, subst, arith}
 use Rattle.std.proofs.lemmas.Bool.{cases_lt}
 use Rattle.wh_host_model.specs.Frames.{Pool, TakesFrame, one_if, tally}
 use Rattle.wh_host_model.specs.declared.states.Page.{Page}
@@ -14,7 +14,7 @@ use Rattle.wh_host_model.proofs.Space.Putting.{there_of}
 use Rattle.wh_host_model.proofs.Space.Rooms.{get_there}
 use Rattle.wh_host_model.proofs.Space.Slotting.{slot_taken}
 use Rattle.wh_space.specs.declared.memory.Memory.TheInside.{Inside}
-use Rattle.wh_space.specs.Pages.{limits_in, marks_in, pages_in}
+use Rattle.wh_space.specs.Pages.{fixed_in}
 use Rattle.wh_space.specs.Parts.{IsWell, space_of}
 use Rattle.wh_space.specs.Pinning.{pins_of}
 use Rattle.wh_space.proofs.Transiting.{other_tickets}
@@ -84,7 +84,7 @@ lies_there s i p k sound there =
 pub fetched_now : (a b : Inside) (i p k f : ℕ) (bytes : List ℕ) (taken : Pool) → IsWell a → page_at (space_of a).tables i p ≡ Some (Swapped k) → length bytes ≡ 4096 → kept (pins_of a.pins) ≡ []
     → TakesFrame a.pool f taken → b.pool ≡ record taken { frames = slice_set taken.frames f bytes }
     → b.slots ≡ record a.slots { uses = slice_set a.slots.uses k Vacant; vacant = a.slots.vacant ++ k ∷ [] }
-    → pages_in b.tables.items ≡ put (pages_in a.tables.items) i p (Private f) → marks_in b.tables.items ≡ marks_in a.tables.items → limits_in b.tables.items ≡ limits_in a.tables.items
+    → b.tables.pages ≡ put a.tables.pages i p (Private f) → b.tables.marks ≡ a.tables.marks → fixed_in b.tables ≡ fixed_in a.tables
     → pins_of b.pins ≡ Some (record { place = i; pages = p ∷ pinned_by (pins_of a.pins) i; frames = [] })
     → b.guests ≡ a.guests → b.content ≡ a.content → b.tax ≡ a.tax
     → Fetches (space_of a) i p bytes (space_of b) × IsWell b
@@ -95,6 +95,6 @@ fetched_now a b i p k f bytes taken was there whole none takes pool slots pages 
     pool ∙ ap (λ (z : List (List ℕ)). record { frames = slice_set z f bytes; free = taken.free }) takes.frames in
     let now : space_of b ≡ fetched s i p f k taken.free bytes = rw (guests, pages, marks, frames, content, slots, pins, tax, none) refl in (
       record { frame = f; slot = k; others = taken.free; free = takes.free; page = there; whole = whole; leaves = now },
-      well_with a b was guests limits (λ j. rw slots (other_tickets a.slots.uses j k Taken Vacant lies.taken refl))
+      well_with a b was guests limits (ap (λ (z : Pool). length z.frames) frames ∙ length-set a.pool.frames f bytes) (λ j. rw slots (other_tickets a.slots.uses j k Taken Vacant lies.taken refl))
           (subst IsSound (sym now) (is_sound_fetched s i p f k taken.free bytes was.sound there takes.free lies.taken whole)),
     )

@@ -10,7 +10,7 @@ use Rattle.wh_host_model.proofs.Space.Rooms.{get_there}
 use Rattle.wh_host_model.proofs.Space.Rows.{past_there}
 use Rattle.wh_space.specs.declared.memory.Memory.TheInside.{Inside}
 use Rattle.wh_space.specs.declared.guest.Guest.{Guest}
-use Rattle.wh_space.specs.Pages.{limits_in, pages_in}
+use Rattle.wh_space.specs.Pages.{fixed_in}
 use Rattle.wh_space.specs.Parts.{IsWell, occupant_of, space_of}
 use Rattle.wh_space.specs.Steps.{limit_by, page_limit}
 use Rattle.wh_space.proofs.Wellness.{well}
@@ -78,7 +78,7 @@ lives_or false = inr refl
 pub limit_nowhere : (a : Inside) (i : ℕ) → get_or (map occupant_of a.guests.items) i None ≡ None → page_limit (space_of a) i ≡ 0
 limit_nowhere a i none = ap (λ (o : Option Occupant). limit_by (claim_of o)) none
 
-pub size_within : (a : Inside) (i n : ℕ) → IsSound (space_of a) → length (get_or (pages_in a.tables.items) i []) ≡ 16 * n → n ≤ page_limit (space_of a) i
+pub size_within : (a : Inside) (i n : ℕ) → IsSound (space_of a) → length (get_or a.tables.pages i []) ≡ 16 * n → n ≤ page_limit (space_of a) i
 size_within a i n sound long =
     elim (somebody a.guests.items i) [
       | inl here ↦
@@ -103,18 +103,18 @@ grower a i some = elim (somebody a.guests.items i) [
 
 -- ---- what it grew to
 
-pub grew_well : (a b : Inside) (i n : ℕ) (here : IsThere a.guests.items i) → here.guest.live ≡ true → IsWell a → b.guests ≡ a.guests → limits_in b.tables.items ≡ limits_in a.tables.items → b.slots ≡ a.slots → Grew (space_of a) i n (space_of b)
-    → length (get_or (pages_in a.tables.items) i []) + 16 * n ≤ here.guest.max → IsWell b
-grew_well a b i n here live was guests limits slots grew fits = well a b was guests limits slots (grows_soundly (space_of a) i n (occupant here.guest) (space_of b) was.sound here.occupies live fits grew)
+pub grew_well : (a b : Inside) (i n : ℕ) (here : IsThere a.guests.items i) → here.guest.live ≡ true → IsWell a → b.guests ≡ a.guests → fixed_in b.tables ≡ fixed_in a.tables → length b.pool.frames ≡ length a.pool.frames → b.slots ≡ a.slots → Grew (space_of a) i n (space_of b)
+    → length (get_or a.tables.pages i []) + 16 * n ≤ here.guest.max → IsWell b
+grew_well a b i n here live was guests limits frames slots grew fits = well a b was guests limits frames slots (grows_soundly (space_of a) i n (occupant here.guest) (space_of b) was.sound here.occupies live fits grew)
 
 -- there is somebody, and room for so many pages more
 pub record CanGrow (a : Inside) (i n : ℕ) : Type 0 where
   pub here : IsThere a.guests.items i
   pub live : here.guest.live ≡ true
-  pub room : length (get_or (pages_in a.tables.items) i []) + 16 * n ≤ here.guest.max
+  pub room : length (get_or a.tables.pages i []) + 16 * n ≤ here.guest.max
   pub few : 16 * n ≤ 65536
 
-pub can_grow : (a : Inside) (i before n : ℕ) → IsWell a → length (get_or (pages_in a.tables.items) i []) ≡ 16 * before → 1 ≤ n → before + n ≤ page_limit (space_of a) i → CanGrow a i n
+pub can_grow : (a : Inside) (i before n : ℕ) → IsWell a → length (get_or a.tables.pages i []) ≡ 16 * before → 1 ≤ n → before + n ≤ page_limit (space_of a) i → CanGrow a i n
 can_grow a i before n was long some fits =
     let found = grower a i (omega arith) in
     let here = found.0 in

@@ -27,8 +27,8 @@ use Rattle.wh_space.specs.Guests.{guest_gone}
 use Rattle.wh_space.specs.Leaving.{CanAllGo, Holdings, pages_gone}
 use Rattle.wh_space.specs.Pinning.{pins_of}
 use Rattle.wh_space.specs.Slotting.{leaver_of, slots_gone, voids_slot}
-use Rattle.wh_space.specs.Pages.{limits_in, marks_in, pages_in}
-use Rattle.wh_space.specs.Parts.{IsWell, occupant_of, space_of}
+use Rattle.wh_space.specs.Pages.{Fixed, fixed_in}
+use Rattle.wh_space.specs.Parts.{IsWell, Named, named, occupant_of, space_of}
 use Rattle.wh_space.proofs.LeavingPages.{AllGo, all_go, mark_after}
 use Rattle.wh_space.proofs.Owning.{page_there}
 use Rattle.wh_space.proofs.Growing.{occupant}
@@ -114,29 +114,27 @@ pub record IsHere (a : Inside) (i : ℕ) : Type 0 where
   pub there : occupant_at (space_of a) i occupant
   pub live : occupant.live ≡ true
   pub place : i < length a.guests.items
-  pub table : i < length a.tables.items
-  pub row : i < length (pages_in a.tables.items)
+  pub row : i < length a.tables.pages
 
 pub is_here : (a : Inside) (i : ℕ) (s : Space) → space_of a ≡ s → IsSound (space_of a) → (t : Occupant) × occupant_at s i t × (t.live ≡ true) → IsHere a i
 is_here a i s is sound somebody =
     let there : occupant_at (space_of a) i somebody.0 = ap (λ (z : Space). slice_get z.occupants i) is ∙ somebody.1 in
     let within = there_of (map occupant_of a.guests.items) i (Some somebody.0) there in
     let guests = length-map a.guests.items occupant_of in
-    let tables = length-map a.tables.items (λ (z : PageTableState). z.pages) in
     let same = sound.occupants.tables in
-    record { occupant = somebody.0; there = there; live = somebody.2; place = omega arith; table = omega arith; row = omega arith }
+    record { occupant = somebody.0; there = there; live = somebody.2; place = omega arith; row = omega arith }
 
 -- what is asked of the pages, when pins and earmarks have ended
 pub pages_can : (a : Inside) (i : ℕ) (pool : Pool) (pins : Option Pins) → IsSound (space_of a) → IsHere a i → record (space_of a) { pool = pool; pins = pins } ≡ unpinned_of (space_of a) i
-    → CanAllGo (get_or (pages_in a.tables.items) i []) (record { pool = pool; marks = a.content })
+    → CanAllGo (get_or a.tables.pages i []) (record { pool = pool; marks = a.content })
 pages_can a i pool pins sound here is =
     let s : Space = space_of a in
     let u : Space = record s { pool = pool; pins = pins } in
     let ended : IsSound u = subst IsSound (sym is) (ends s i sound).sound in
     (all_can u i ended here.row).can
 
-pub slots_can : (a : Inside) (i : ℕ) → IsSound (space_of a) → IsHere a i → AllLeave (space_of a) (get_or (pages_in a.tables.items) i []) a.slots
-slots_can a i sound here = all_leave (space_of a) (get_or (pages_in a.tables.items) i []) sound.slots (λ w. row_within w (pages_in a.tables.items) i here.row)
+pub slots_can : (a : Inside) (i : ℕ) → IsSound (space_of a) → IsHere a i → AllLeave (space_of a) (get_or a.tables.pages i []) a.slots
+slots_can a i sound here = all_leave (space_of a) (get_or a.tables.pages i []) sound.slots (λ w. row_within w a.tables.pages i here.row)
 
 -- ---- who is there then
 
@@ -153,16 +151,16 @@ guest_here (Some g ∷ guests) zero t is = let e : occupant g ≡ t = cc in (g, 
 guest_here (x ∷ guests) (suc i) t is = guest_here guests i t is
 
 -- who keeps the place had it, with the same maximum and as many tickets
-keeps_place : (x : Option Guest) (t : Guest) → guest_gone x ≡ Some t → (g : Guest) × (x ≡ Some g) × (g.max ≡ t.max) × (g.tickets ≡ t.tickets)
+keeps_place : (x : Option Guest) (t : Guest) → guest_gone x ≡ Some t → (g : Guest) × (x ≡ Some g) × (named g ≡ named t) × (g.tickets ≡ t.tickets)
 keeps_place None t is = absurd (cc is)
 keeps_place (Some g) t is = go (g.tickets == 0) is where
-  go : (b : Bool) → cond b None (Some (record g { live = false; stands = None })) ≡ Some t → (h : Guest) × (Some g ≡ Some h) × (h.max ≡ t.max) × (h.tickets ≡ t.tickets)
+  go : (b : Bool) → cond b None (Some (record g { live = false; stands = None })) ≡ Some t → (h : Guest) × (Some g ≡ Some h) × (named h ≡ named t) × (h.tickets ≡ t.tickets)
   go true is = absurd (cc is)
-  go false is = let e : record g { live = false; stands = None } ≡ t = cc in (g, refl, ap (λ (z : Guest). z.max) e, ap (λ (z : Guest). z.tickets) e)
+  go false is = let e : record g { live = false; stands = None } ≡ t = cc in (g, refl, ap named e, ap (λ (z : Guest). z.tickets) e)
 
 -- who is there now was there
 stays_there : (xs : List (Option Guest)) (i j : ℕ) (t : Guest) → i < length xs → slice_get (slice_set xs i (guest_gone (get_or xs i None))) j ≡ Some (Some t)
-    → (g : Guest) × (slice_get xs j ≡ Some (Some g)) × (g.max ≡ t.max) × (g.tickets ≡ t.tickets)
+    → (g : Guest) × (slice_get xs j ≡ Some (Some g)) × (named g ≡ named t) × (g.tickets ≡ t.tickets)
 stays_there xs i j t less is = elim (here_or i j) [
   | inr other ↦ (t, sym (set_other xs i j _ (λ e. other e)) ∙ is, refl, refl)
   | inl same ↦
@@ -180,10 +178,10 @@ pub record IsGone (a b : Inside) (i : ℕ) : Type 0 where
   pub well : IsWell b
 
 pub is_gone : (a b : Inside) (i : ℕ) (pool : Pool) → IsWell a → IsHere a i → b.guests.items ≡ slice_set a.guests.items i (guest_gone (get_or a.guests.items i None))
-    → pages_in b.tables.items ≡ slice_set (pages_in a.tables.items) i [] → marks_in b.tables.items ≡ slice_set (marks_in a.tables.items) i [] → limits_in b.tables.items ≡ limits_in a.tables.items
+    → b.tables.pages ≡ slice_set a.tables.pages i [] → b.tables.marks ≡ slice_set a.tables.marks i [] → fixed_in b.tables ≡ fixed_in a.tables
     → record (space_of a) { pool = pool; pins = pins_of b.pins } ≡ unpinned_of (space_of a) i
-    → record { pool = b.pool; marks = b.content } ≡ pages_gone (get_or (pages_in a.tables.items) i []) (record { pool = pool; marks = a.content })
-    → b.slots ≡ voids_slot (leaver_of (get_or a.guests.items i None)) (slots_gone (get_or (pages_in a.tables.items) i []) a.slots) → b.tax ≡ a.tax → IsGone a b i
+    → record { pool = b.pool; marks = b.content } ≡ pages_gone (get_or a.tables.pages i []) (record { pool = pool; marks = a.content })
+    → b.slots ≡ voids_slot (leaver_of (get_or a.guests.items i None)) (slots_gone (get_or a.tables.pages i []) a.slots) → b.tax ≡ a.tax → IsGone a b i
 is_gone a b i pool was here guests pages marks limits ended frames slots tax =
     let s : Space = space_of a in
     let u : Space = record s { pool = pool; pins = pins_of b.pins } in
@@ -216,13 +214,15 @@ is_gone a b i pool was here guests pages marks limits ended frames slots tax =
       pins = ap (λ (z : Space). z.pins) ended;
       tax = tax;
     } in
-    let before : (j : ℕ) (g : Guest) → slice_get b.guests.items j ≡ Some (Some g) → (h : Guest) × (slice_get a.guests.items j ≡ Some (Some h)) × (h.max ≡ g.max) × (h.tickets ≡ g.tickets) =
+    let before : (j : ℕ) (g : Guest) → slice_get b.guests.items j ≡ Some (Some g) → (h : Guest) × (slice_get a.guests.items j ≡ Some (Some h)) × (named h ≡ named g) × (h.tickets ≡ g.tickets) =
     λ j g at. stays_there a.guests.items i j g here.place (ap (λ (z : List (Option Guest)). slice_get z j) (sym guests) ∙ at) in
     record {
       exits = exits;
       well = record {
         sound = exits_soundly s i (space_of b) was.sound exits;
-        limits = λ j g at. (let k = before j g at in ap (λ (z : List ℕ). slice_get z j) limits ∙ (was.limits j k.0 k.1 ∙ ap Some k.2));
+        limits = λ j g at. (let k = before j g at in ap (λ (z : Fixed). slice_get z.limits j) limits ∙ (was.limits j k.0 k.1 ∙ ap (λ (z : Named). Some z.max) k.2));
+        numbers = λ j g at. (let k = before j g at in ap (λ (z : Fixed). get_or z.numbers j 0) limits ∙ (was.numbers j k.0 k.1 ∙ ap (λ (z : Named). z.number) k.2));
+        frames = ap (λ (z : Fixed). z.frames) limits ∙ was.frames ∙ sym (ap length exits.bytes);
         counted = λ j g at. (let k = before j g at in sym k.3 ∙ (was.counted j k.0 k.1 ∙ sym (same_tickets s i j b.slots left)));
         places = (let long = ap length guests ∙ length-set a.guests.items i _ in rw long was.places);
       };

@@ -1,4 +1,3 @@
-pub mod Tables
 pub mod Wellness
 pub mod Loading
 pub mod Earmarked
@@ -11,7 +10,6 @@ pub mod Keeping
 pub mod Entering
 pub mod Summing
 pub mod Stood
-pub mod Epochal
 pub mod Merges
 pub mod LeavingPages
 pub mod LeavingSlots
@@ -20,3 +18,7 @@ pub mod Transiting
 pub mod Moving
 pub mod Choosing
 pub mod Fetching
+pub mod Marking
+pub mod Framing
+pub mod Charged
+pub mod Besides

@@ -22,7 +22,6 @@ use Rattle.wh_host_model.proofs.Space.Reading.{owned_taken, shared_taken, taken_
 use Rattle.wh_host_model.proofs.Space.Steady.{untouched_soundly}
 use Rattle.wh_space.specs.declared.memory.Memory.TheInside.{Inside}
 use Rattle.wh_space.specs.Merges.{HasFewPages, emptied}
-use Rattle.wh_space.specs.Pages.{marks_in, pages_in}
 use Rattle.wh_space.specs.Parts.{space_of}
 use Rattle.wh_space.proofs.Owning.{page_there}
 
@@ -109,7 +108,7 @@ few_sharers s i p g f n hash sound few there found =
 -- ---- what the memory is then
 
 pub remade_is : (a b : Inside) (tables : List (List Page)) (touched : List (List Bool)) (pool : Pool) (marks : List Mark) → b.guests ≡ a.guests → b.slots ≡ a.slots → b.pins ≡ a.pins → b.tax ≡ a.tax
-    → pages_in b.tables.items ≡ tables → marks_in b.tables.items ≡ touched → b.pool ≡ pool → b.content ≡ marks
+    → b.tables.pages ≡ tables → b.tables.marks ≡ touched → b.pool ≡ pool → b.content ≡ marks
     → space_of b ≡ record (space_of a) { tables = tables; touched = touched; pool = pool; marks = marks }
 remade_is a b tables touched pool marks guests slots pins tax pages stamps frames entries = rw (guests, slots, pins, tax, pages, stamps, frames, entries) refl
 

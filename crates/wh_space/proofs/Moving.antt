@@ -2,7 +2,7 @@
 use Rattle.std.proofs.Common.{◌≡◌, ◌≢◌, inl, inr, ℕ, ◌+◌, ◌-◌, ◌<◌, ◌≤◌, ◌++◌, cond, nat_lt, Bool, true, false, List, [], ◌∷◌, Option, Some, None, IfSome, length, length-set, get_or, slice_get, slice_set, refl, sym, ◌∙◌, ap, subst, arith}
 use Rattle.std.proofs.lemmas.Bool.{cases_lt}
 use Rattle.std.proofs.lemmas.Bool.Decides.{nat_tests}
-use Rattle.wh_host_model.specs.Frames.{IsTaken, one_if, tally}
+use Rattle.wh_host_model.specs.Frames.{Pool, IsTaken, one_if, tally}
 use Rattle.wh_host_model.specs.declared.states.EvictEnd.TheVariants.{Evicted, Failed, Void}
 use Rattle.wh_host_model.specs.declared.states.Mark.{Mark}
 use Rattle.wh_host_model.specs.declared.states.Mark.TheVariants.{Plain, Sharers}
@@ -26,7 +26,7 @@ use Rattle.wh_host_model.proofs.Space.Putting.{get_or_is, is_page, there_of}
 use Rattle.wh_space.specs.declared.guest.Guest.{Guest}
 use Rattle.wh_space.specs.declared.memory.Memory.TheInside.{Inside}
 use Rattle.wh_space.specs.Guests.{begins_coming, begins_leaving, ends_coming, ends_leaving, settles}
-use Rattle.wh_space.specs.Pages.{limits_in, marks_in, pages_in}
+use Rattle.wh_space.specs.Pages.{fixed_in}
 use Rattle.wh_space.specs.Parts.{IsWell, space_of}
 use Rattle.wh_space.specs.Pinning.{pins_of}
 use Rattle.wh_space.specs.Transits.{back_again}
@@ -93,7 +93,7 @@ ended_void a b mid k j was sound is first second slots tables pool content pins 
     let now : space_of b ≡ settled (with_leaving (without_slot s k) j None) j = rw (after, before, slots, tables, pool, content, pins, tax) refl in (
       now,
       well_by a b j (λ y. settles (ends_leaving y)) (λ n. n - 1) (changes_settled ends_leaving (λ n. n - 1) changes_left) was (subst IsSound (sym now) sound) less
-          (changed_twice ends_leaving settles a.guests.items mid b.guests.items j less first second) (rw tables refl)
+          (changed_twice ends_leaving settles a.guests.items mid b.guests.items j less first second) (rw tables refl) (ap (λ (z : Pool). length z.frames) pool)
           (λ g at_it. rw slots (mine g at_it)) (λ i other. rw slots (other_tickets a.slots.uses i k (EvictVoid j) Vacant is (one_other i j other))),
     )
 
@@ -102,7 +102,7 @@ ended_void a b mid k j was sound is first second slots tables pool content pins 
 pub stayed : (a b : Inside) (k j p : ℕ) (old : Page) → IsWell a → IsSound (not_sent (space_of a) j p k old) → slice_get a.slots.uses k ≡ Some (Evicting j p)
     → b.guests.items ≡ slice_set a.guests.items j (ends_leaving (get_or a.guests.items j None))
     → b.slots ≡ record a.slots { uses = slice_set a.slots.uses k Vacant; vacant = a.slots.vacant ++ k ∷ [] }
-    → pages_in b.tables.items ≡ put (pages_in a.tables.items) j p old → marks_in b.tables.items ≡ marks_in a.tables.items → limits_in b.tables.items ≡ limits_in a.tables.items
+    → b.tables.pages ≡ put a.tables.pages j p old → b.tables.marks ≡ a.tables.marks → fixed_in b.tables ≡ fixed_in a.tables
     → b.pool ≡ a.pool → b.content ≡ a.content → b.pins ≡ a.pins → b.tax ≡ a.tax
     → (space_of b ≡ not_sent (space_of a) j p k old) × IsWell b
 stayed a b k j p old was sound is guests slots pages marks limits pool content pins tax =
@@ -113,7 +113,7 @@ stayed a b k j p old was sound is guests slots pages marks limits pool content p
     let now : space_of b ≡ not_sent s j p k old = rw (occupants, slots, pages, marks, pool, content, pins, tax) refl in
     let fewer = fewer_tickets a.slots.uses j k (Evicting j p) Vacant is (one_same j j refl) refl in (
       now,
-      well_by a b j ends_leaving (λ n. n - 1) changes_left was (subst IsSound (sym now) sound) less guests limits
+      well_by a b j ends_leaving (λ n. n - 1) changes_left was (subst IsSound (sym now) sound) less guests limits (ap (λ (z : Pool). length z.frames) pool)
           (λ g at_it. (let n = was.counted j g at_it in rw slots (omega arith))) (λ i other. rw slots (other_tickets a.slots.uses i k (Evicting j p) Vacant is (one_other i j other))),
     )
 
@@ -122,7 +122,7 @@ stayed a b k j p old was sound is guests slots pages marks limits pool content p
 pub departed_now : (a b : Inside) (j p k : ℕ) (others : List ℕ) (new : Page) (t : Occupant) → IsWell a → IsSound (departing (space_of a) j p k others new) → slice_get a.slots.uses k ≡ Some Vacant → occupant_at (space_of a) j t
     → b.guests.items ≡ slice_set a.guests.items j (begins_leaving k (get_or a.guests.items j None))
     → b.slots ≡ record a.slots { uses = slice_set a.slots.uses k (Evicting j p); vacant = others }
-    → pages_in b.tables.items ≡ put (pages_in a.tables.items) j p new → marks_in b.tables.items ≡ marks_in a.tables.items → limits_in b.tables.items ≡ limits_in a.tables.items
+    → b.tables.pages ≡ put a.tables.pages j p new → b.tables.marks ≡ a.tables.marks → fixed_in b.tables ≡ fixed_in a.tables
     → b.pool ≡ a.pool → b.content ≡ a.content → b.pins ≡ a.pins → b.tax ≡ a.tax
     → (space_of b ≡ departing (space_of a) j p k others new) × IsWell b
 departed_now a b j p k others new t was sound is there guests slots pages marks limits pool content pins tax =
@@ -132,7 +132,7 @@ departed_now a b j p k others new t was sound is there guests slots pages marks 
     let now : space_of b ≡ departing s j p k others new = rw (occupants, slots, pages, marks, pool, content, pins, tax) refl in
     let more = more_tickets a.slots.uses j k Vacant (Evicting j p) is refl (one_same j j refl) in (
       now,
-      well_by a b j (begins_leaving k) (λ n. n + 1) (changes_leaving k) was (subst IsSound (sym now) sound) less guests limits
+      well_by a b j (begins_leaving k) (λ n. n + 1) (changes_leaving k) was (subst IsSound (sym now) sound) less guests limits (ap (λ (z : Pool). length z.frames) pool)
           (λ g at_it. (let n = was.counted j g at_it in rw slots (omega arith))) (λ i other. rw slots (other_tickets a.slots.uses i k Vacant (Evicting j p) is (sym (one_other i j other)))),
     )
 
@@ -185,14 +185,14 @@ ended_void_fetch a b mid k i f was sound is first second slots tables pool conte
     let now : space_of b ≡ settled (with_free (without_slot s k) f) i = rw (after, before, slots, tables, pool, content, pins, tax) refl in (
       now,
       well_by a b i (λ y. settles (ends_coming y)) (λ n. n - 1) (changes_settled ends_coming (λ n. n - 1) changes_came) was (subst IsSound (sym now) sound) less
-          (changed_twice ends_coming settles a.guests.items mid b.guests.items i less first second) (rw tables refl)
+          (changed_twice ends_coming settles a.guests.items mid b.guests.items i less first second) (rw tables refl) (ap (λ (z : Pool). length z.frames) pool)
           (λ g at_it. rw slots (mine g at_it)) (λ j other. rw slots (other_tickets a.slots.uses j k (FetchVoid i f) Vacant is (one_other j i other))),
     )
 
 pub came : (a b : Inside) (k i p f : ℕ) (bytes : List ℕ) → IsWell a → IsSound (has_come (space_of a) i p f k bytes) → slice_get a.slots.uses k ≡ Some (Fetching i p f)
     → b.guests.items ≡ slice_set a.guests.items i (ends_coming (get_or a.guests.items i None))
     → b.slots ≡ record a.slots { uses = slice_set a.slots.uses k Vacant; vacant = a.slots.vacant ++ k ∷ [] }
-    → pages_in b.tables.items ≡ put (pages_in a.tables.items) i p (Private f) → marks_in b.tables.items ≡ marks_in a.tables.items → limits_in b.tables.items ≡ limits_in a.tables.items
+    → b.tables.pages ≡ put a.tables.pages i p (Private f) → b.tables.marks ≡ a.tables.marks → fixed_in b.tables ≡ fixed_in a.tables
     → b.pool ≡ record a.pool { frames = slice_set a.pool.frames f bytes } → b.content ≡ a.content → b.pins ≡ a.pins → b.tax ≡ a.tax
     → (space_of b ≡ has_come (space_of a) i p f k bytes) × IsWell b
 came a b k i p f bytes was sound is guests slots pages marks limits pool content pins tax =
@@ -203,14 +203,14 @@ came a b k i p f bytes was sound is guests slots pages marks limits pool content
     let now : space_of b ≡ has_come s i p f k bytes = rw (occupants, slots, pages, marks, pool, content, pins, tax) refl in
     let fewer = fewer_tickets a.slots.uses i k (Fetching i p f) Vacant is (one_same i i refl) refl in (
       now,
-      well_by a b i ends_coming (λ n. n - 1) changes_came was (subst IsSound (sym now) sound) less guests limits
+      well_by a b i ends_coming (λ n. n - 1) changes_came was (subst IsSound (sym now) sound) less guests limits (ap (λ (z : Pool). length z.frames) pool ∙ length-set a.pool.frames f bytes)
           (λ g at_it. (let n = was.counted i g at_it in rw slots (omega arith))) (λ j other. rw slots (other_tickets a.slots.uses j k (Fetching i p f) Vacant is (one_other j i other))),
     )
 
 pub stayed_away : (a b : Inside) (k i p f : ℕ) → IsWell a → IsSound (not_come (space_of a) i p f k) → slice_get a.slots.uses k ≡ Some (Fetching i p f)
     → b.guests.items ≡ slice_set a.guests.items i (ends_coming (get_or a.guests.items i None))
     → b.slots ≡ record a.slots { uses = slice_set a.slots.uses k Taken }
-    → pages_in b.tables.items ≡ put (pages_in a.tables.items) i p (Swapped k) → marks_in b.tables.items ≡ marks_in a.tables.items → limits_in b.tables.items ≡ limits_in a.tables.items
+    → b.tables.pages ≡ put a.tables.pages i p (Swapped k) → b.tables.marks ≡ a.tables.marks → fixed_in b.tables ≡ fixed_in a.tables
     → b.pool ≡ record a.pool { free = a.pool.free ++ f ∷ [] } → b.content ≡ a.content → b.pins ≡ a.pins → b.tax ≡ a.tax
     → (space_of b ≡ not_come (space_of a) i p f k) × IsWell b
 stayed_away a b k i p f was sound is guests slots pages marks limits pool content pins tax =
@@ -221,7 +221,7 @@ stayed_away a b k i p f was sound is guests slots pages marks limits pool conten
     let now : space_of b ≡ not_come s i p f k = rw (occupants, slots, pages, marks, pool, content, pins, tax) refl in
     let fewer = fewer_tickets a.slots.uses i k (Fetching i p f) Taken is (one_same i i refl) refl in (
       now,
-      well_by a b i ends_coming (λ n. n - 1) changes_came was (subst IsSound (sym now) sound) less guests limits
+      well_by a b i ends_coming (λ n. n - 1) changes_came was (subst IsSound (sym now) sound) less guests limits (ap (λ (z : Pool). length z.frames) pool)
           (λ g at_it. (let n = was.counted i g at_it in rw slots (omega arith))) (λ j other. rw slots (other_tickets a.slots.uses j k (Fetching i p f) Taken is (one_other j i other))),
     )
 
@@ -229,7 +229,7 @@ stayed_away a b k i p f was sound is guests slots pages marks limits pool conten
 pub sent : (a b : Inside) (k i p f : ℕ) (others : List ℕ) → IsWell a → IsSound (sent_for (space_of a) i p f k others) → slice_get a.slots.uses k ≡ Some Taken → i < length a.guests.items
     → b.guests.items ≡ slice_set a.guests.items i (begins_coming (get_or a.guests.items i None))
     → b.slots ≡ record a.slots { uses = slice_set a.slots.uses k (Fetching i p f) }
-    → pages_in b.tables.items ≡ put (pages_in a.tables.items) i p (Coming k) → marks_in b.tables.items ≡ marks_in a.tables.items → limits_in b.tables.items ≡ limits_in a.tables.items
+    → b.tables.pages ≡ put a.tables.pages i p (Coming k) → b.tables.marks ≡ a.tables.marks → fixed_in b.tables ≡ fixed_in a.tables
     → b.pool ≡ a.pool → b.content ≡ a.content → pins_of b.pins ≡ Some (record { place = i; pages = pinned_by (pins_of a.pins) i; frames = others }) → b.tax ≡ a.tax
     → (space_of b ≡ sent_for (space_of a) i p f k others) × IsWell b
 sent a b k i p f others was sound is less guests slots pages marks limits pool content pins tax =
@@ -238,7 +238,7 @@ sent a b k i p f others was sound is less guests slots pages marks limits pool c
     let now : space_of b ≡ sent_for s i p f k others = rw (occupants, slots, pages, marks, pool, content, pins, tax) refl in
     let more = more_tickets a.slots.uses i k Taken (Fetching i p f) is refl (one_same i i refl) in (
       now,
-      well_by a b i begins_coming (λ n. n + 1) changes_coming was (subst IsSound (sym now) sound) less guests limits
+      well_by a b i begins_coming (λ n. n + 1) changes_coming was (subst IsSound (sym now) sound) less guests limits (ap (λ (z : Pool). length z.frames) pool)
           (λ g at_it. (let n = was.counted i g at_it in rw slots (omega arith))) (λ j other. rw slots (other_tickets a.slots.uses j k Taken (Fetching i p f) is (sym (one_other j i other)))),
     )
 
@@ -311,7 +311,7 @@ pub left_now : (a b : Inside) (k j p f : ℕ) (page : Page) → IsWell a → sli
     → get_or a.slots.held k [] ≡ frame_bytes (space_of a) f → f < length a.content
     → b.guests.items ≡ slice_set a.guests.items j (ends_leaving (get_or a.guests.items j None))
     → b.slots ≡ record a.slots { uses = slice_set a.slots.uses k Taken }
-    → pages_in b.tables.items ≡ put (pages_in a.tables.items) j p (Swapped k) → marks_in b.tables.items ≡ put (marks_in a.tables.items) j p false → limits_in b.tables.items ≡ limits_in a.tables.items
+    → b.tables.pages ≡ put a.tables.pages j p (Swapped k) → b.tables.marks ≡ put a.tables.marks j p false → fixed_in b.tables ≡ fixed_in a.tables
     → b.content ≡ slice_set a.content f (cond (nat_lt 1 (sharers (space_of a) f)) (fewer_sharers 1 (get_or a.content f Plain)) Plain)
     → b.pool ≡ record a.pool { free = cond (nat_lt 1 (sharers (space_of a) f)) a.pool.free (a.pool.free ++ f ∷ []) }
     → pins_of b.pins ≡ unpinned_page (pins_of a.pins) j p → b.tax ≡ a.tax
@@ -326,7 +326,7 @@ left_now a b k j p f page was is there on held within guests slots pages marks l
     let sound = is_sound_sent s j p f k page was.sound is there on held in
     let fewer = fewer_tickets a.slots.uses j k (Evicting j p) Taken is (one_same j j refl) refl in (
       now,
-      well_by a b j ends_leaving (λ n. n - 1) changes_left was (subst IsSound (sym now) sound) less guests limits
+      well_by a b j ends_leaving (λ n. n - 1) changes_left was (subst IsSound (sym now) sound) less guests limits (ap (λ (z : Pool). length z.frames) pool)
           (λ g at_it. (let n = was.counted j g at_it in rw slots (omega arith))) (λ i other. rw slots (other_tickets a.slots.uses i k (Evicting j p) Taken is (one_other i j other))),
     )
 

@@ -1,5 +1,6 @@
 -- A page that is broken off from all others.
-use Rattle.std.proofs.Common.{◌≡◌, ℕ, ◌+◌, ◌<◌, ◌≤◌, inl, inr, List, [], ◌∷◌, Option, Some, None, IfSome, IfNone, length, get_or, slice_get, slice_set, zero, suc, true, refl, sym, ◌∙◌, ap, subst, arith}
+use Rattle.wh_host_model.specs.Pages.{zero_page}
+use Rattle.std.proofs.Common.{length-set, ◌≡◌, ℕ, ◌+◌, ◌<◌, ◌≤◌, inl, inr, List, [], ◌∷◌, Option, Some, None, IfSome, IfNone, length, get_or, slice_get, slice_set, zero, suc, true, refl, sym, ◌∙◌, ap, subst, arith}
 use Rattle.std.proofs.lemmas.Bool.Decides.{nat_tests}
 use Rattle.wh_host_model.specs.Frames.{IsTaken, Pool, one_if, tally}
 use Rattle.wh_host_model.specs.declared.states.Mark.{Mark}
@@ -17,7 +18,7 @@ use Rattle.wh_host_model.proofs.Space.Filled.{breaks_soundly}
 use Rattle.wh_host_model.proofs.Space.Putting.{get_pages, is_page, put_this}
 use Rattle.wh_host_model.proofs.Space.Reading.{shared_taken}
 use Rattle.wh_space.specs.declared.memory.Memory.TheInside.{Inside}
-use Rattle.wh_space.specs.Pages.{limits_in, marks_in, pages_in}
+use Rattle.wh_space.specs.Pages.{fixed_in}
 use Rattle.wh_space.specs.Parts.{IsWell, space_of}
 use Rattle.wh_space.specs.Steps.{CanBreak, Owns}
 use Rattle.wh_space.specs.Pinning.{FrameGoes, pins_of}
@@ -131,9 +132,27 @@ pub record IsOwned (a b : Inside) (i p g : ℕ) : Type 0 where
   pub breaks : Breaks (space_of a) i p (space_of b)
   pub page : page_at (space_of b).tables i p ≡ Some (Private g)
 
+-- there are as many frames then
+takes_long : (s : Space) (i g : ℕ) (bytes : List ℕ) (s2 : Space) → TakesFrame s i g bytes s2 → length s2.pool.frames ≡ length s.pool.frames
+takes_long s i g bytes s2 (inl (rest, of, is)) = ap (λ (z : Space). length z.pool.frames) is ∙ length-set s.pool.frames g bytes
+takes_long s i g bytes s2 (inr (rest, of, is)) = ap (λ (z : Space). length z.pool.frames) is ∙ length-set s.pool.frames g bytes
+
+leaves_long : (s : Space) (i f g : ℕ) (s2 : Space) → LeavesSharers s i f g s2 → length s2.pool.frames ≡ length s.pool.frames
+leaves_long s i f g s2 (inl (one, same, is)) = ap (λ (z : Space). length z.pool.frames) is
+leaves_long s i f g s2 (inr (more, takes)) = takes_long (with_fewer s f) i g (frame_bytes s f) s2 takes
+
+gets_long : (s : Space) (i : ℕ) (x : Page) (g : ℕ) (s2 : Space) → GetsFrame s i x g s2 → length s2.pool.frames ≡ length s.pool.frames
+gets_long s i Untouched g s2 gets = takes_long s i g zero_page s2 gets
+gets_long s i (Private f) g s2 (same, is) = ap (λ (z : Space). length z.pool.frames) is
+gets_long s i (Leaving f) g s2 (same, is) = ap (λ (z : Space). length z.pool.frames) is
+gets_long s i (Shared f) g s2 gets = leaves_long s i f g s2 gets
+gets_long s i (LeavingShared f) g s2 gets = leaves_long s i f g s2 gets
+gets_long s i (Coming k) g s2 gets = absurd gets
+gets_long s i (Swapped k) g s2 gets = absurd gets
+
 pub owned_by : (a b : Inside) (i p g : ℕ) (x y : Page) → IsWell a → b.guests ≡ a.guests → b.slots ≡ voids_leaver (leaver_of (get_or a.guests.items i None)) y a.slots → b.tax ≡ a.tax
-    → pages_in b.tables.items ≡ put (pages_in a.tables.items) i p (Private g) → marks_in b.tables.items ≡ put (marks_in a.tables.items) i p true
-    → limits_in b.tables.items ≡ limits_in a.tables.items → page_at (pages_in a.tables.items) i p ≡ Some x → page_at (pages_in a.tables.items) i p ≡ Some y
+    → b.tables.pages ≡ put a.tables.pages i p (Private g) → b.tables.marks ≡ put a.tables.marks i p true
+    → fixed_in b.tables ≡ fixed_in a.tables → page_at a.tables.pages i p ≡ Some x → page_at a.tables.pages i p ≡ Some y
     → GetsFrame (space_of a) i x g (record (space_of a) { pool = b.pool; marks = b.content; pins = pins_of b.pins }) → IsOwned a b i p g
 owned_by a b i p g x y was guests slots tax pages marks limits there also gets =
     let s : Space = space_of a in
@@ -143,9 +162,9 @@ owned_by a b i p g x y was guests slots tax pages marks limits there also gets =
     let breaks : Breaks s i p (space_of b) = record { page = x; was = there; frame = g; mid = mid; gets = gets; after = after } in
     let tickets : (j : ℕ) → tally (ticket_of j) b.slots.uses ≡ tally (ticket_of j) a.slots.uses = λ j. ap (λ (z : Slots). tally (ticket_of j) z.uses) void ∙ void_tickets j i p a.slots.uses in
     record {
-      well = well_with a b was guests limits tickets (breaks_soundly s i p (space_of b) was.sound breaks).0;
+      well = well_with a b was guests limits (gets_long s i x g mid gets) tickets (breaks_soundly s i p (space_of b) was.sound breaks).0;
       breaks = breaks;
-      page = ap (λ (t : List (List Page)). page_at t i p) pages ∙ put_this (pages_in a.tables.items) i p x (Private g) there;
+      page = ap (λ (t : List (List Page)). page_at t i p) pages ∙ put_this a.tables.pages i p x (Private g) there;
     }
 
 -- ---- a page that was alone already, or nothing was done
@@ -168,16 +187,16 @@ one_own : (g : ℕ) → owns g (Private g) ≡ 1
 one_own g = grind (arith, nat_tests)
 
 pub quickly : (a b : Inside) (i p : ℕ) (found : Option ℕ) → IsWell a → b.guests ≡ a.guests → b.pool ≡ a.pool → b.content ≡ a.content → b.slots ≡ a.slots → b.pins ≡ a.pins → b.tax ≡ a.tax
-    → IfSome found (λ frame. page_at (pages_in a.tables.items) i p ≡ Some (Private frame)) → pages_in b.tables.items ≡ pages_in a.tables.items
-    → IfSome found (λ frame. marks_in b.tables.items ≡ put (marks_in a.tables.items) i p true) → limits_in b.tables.items ≡ limits_in a.tables.items
-    → IfNone found (marks_in b.tables.items ≡ marks_in a.tables.items) → IsQuick a b i p found
+    → IfSome found (λ frame. page_at a.tables.pages i p ≡ Some (Private frame)) → b.tables.pages ≡ a.tables.pages
+    → IfSome found (λ frame. b.tables.marks ≡ put a.tables.marks i p true) → fixed_in b.tables ≡ fixed_in a.tables
+    → IfNone found (b.tables.marks ≡ a.tables.marks) → IsQuick a b i p found
 quickly a b i p None was guests pool content slots pins tax there pages marked limits same =
     let is : space_of b ≡ space_of a = rw (guests, pages, same, pool, content, slots, pins, tax) refl in
-    record { well = well a b was guests limits slots (subst IsSound (sym is) was.sound); owns = tt; same = is }
+    record { well = well a b was guests limits (ap (λ (z : Pool). length z.frames) pool) slots (subst IsSound (sym is) was.sound); owns = tt; same = is }
 quickly a b i p (Some g) was guests pool content slots pins tax there pages marked limits same =
     let s : Space = space_of a in
     let gets : GetsFrame s i (Private g) g (record s { pool = b.pool; marks = b.content; pins = pins_of b.pins }) = (refl, rw (pool, content, pins) refl) in
-    let o = owned_by a b i p g (Private g) (Private g) was guests slots tax (pages ∙ sym (put_found (pages_in a.tables.items) i p (Private g) there)) marked limits there there gets in
+    let o = owned_by a b i p g (Private g) (Private g) was guests slots tax (pages ∙ sym (put_found a.tables.pages i p (Private g) there)) marked limits there there gets in
     record {
       well = o.well;
       owns = (can_keep s i p g (Private g) was.sound there (one_own g), o.breaks, o.page);

@@ -4,6 +4,7 @@ use Rattle.wh_model.specs.declared.memory.Need.{Need}
 use Rattle.wh_host_model.specs.Frames.{tally}
 use Rattle.wh_host_model.specs.Space.Errands.{ticket_of}
 use Rattle.wh_host_model.specs.Space.Moves.{has_pins}
+use Rattle.wh_host_model.specs.Frames.{Pool}
 use Rattle.wh_host_model.specs.Space.Parts.{Occupant, Slots, Space, kept_by, occupant_at}
 use Rattle.wh_host_model.specs.Space.Sound.{IsSound}
 use Rattle.wh_host_model.specs.Space.Stores.{ended, standing_for, stood}
@@ -11,7 +12,7 @@ use Rattle.wh_host_model.proofs.Space.Steady.{ends_soundly, stands_soundly}
 use Rattle.wh_space.specs.declared.guest.Guest.{Guest}
 use Rattle.wh_space.specs.declared.memory.Memory.TheInside.{Inside}
 use Rattle.wh_space.specs.Guests.{stands_for}
-use Rattle.wh_space.specs.Parts.{IsWell, occupant_of, space_of}
+use Rattle.wh_space.specs.Parts.{IsWell, Named, named, occupant_of, space_of}
 use Rattle.wh_space.specs.Pinning.{pins_of}
 use Rattle.wh_space.proofs.Earmarked.{ends_pins}
 
@@ -27,12 +28,12 @@ stood_occupants (x ∷ xs) zero need = let e = stands_of x need in cc
 stood_occupants (x ∷ xs) (suc i) need = let e = stood_occupants xs i need in cc
 
 -- who is there now was there, with the same maximum and as many tickets
-same_max : (x : Option Guest) (need : Option Need) (t : Guest) → stands_for x need ≡ Some t → (g : Guest) × (x ≡ Some g) × (g.max ≡ t.max) × (g.tickets ≡ t.tickets)
+same_max : (x : Option Guest) (need : Option Need) (t : Guest) → stands_for x need ≡ Some t → (g : Guest) × (x ≡ Some g) × (named g ≡ named t) × (g.tickets ≡ t.tickets)
 same_max None need t is = absurd (cc is)
-same_max (Some g) need t is = let e : record g { stands = need } ≡ t = cc in (g, refl, ap (λ (z : Guest). z.max) e, ap (λ (z : Guest). z.tickets) e)
+same_max (Some g) need t is = let e : record g { stands = need } ≡ t = cc in (g, refl, ap named e, ap (λ (z : Guest). z.tickets) e)
 
 pub was_there : (xs : List (Option Guest)) (i j : ℕ) (need : Option Need) (t : Guest) → slice_get (slice_set xs i (stands_for (get_or xs i None) need)) j ≡ Some (Some t)
-    → (g : Guest) × (slice_get xs j ≡ Some (Some g)) × (g.max ≡ t.max) × (g.tickets ≡ t.tickets)
+    → (g : Guest) × (slice_get xs j ≡ Some (Some g)) × (named g ≡ named t) × (g.tickets ≡ t.tickets)
 was_there [] i j need t is = absurd (cc is)
 was_there (x ∷ xs) zero zero need t is =
     let e : stands_for x need ≡ Some t = cc in
@@ -43,14 +44,16 @@ was_there (x ∷ xs) (suc i) zero need t is = (t, is, refl, refl)
 was_there (x ∷ xs) (suc i) (suc j) need t is = was_there xs i j need t is
 
 -- who stands now, or doesn't
-stands_well : (a b : Inside) (i : ℕ) (need : Option Need) → IsWell a → b.guests.items ≡ slice_set a.guests.items i (stands_for (get_or a.guests.items i None) need) → b.tables ≡ a.tables → b.slots ≡ a.slots
+stands_well : (a b : Inside) (i : ℕ) (need : Option Need) → IsWell a → b.guests.items ≡ slice_set a.guests.items i (stands_for (get_or a.guests.items i None) need) → b.tables ≡ a.tables → length b.pool.frames ≡ length a.pool.frames → b.slots ≡ a.slots
     → IsSound (space_of b) → IsWell b
-stands_well a b i need was guests tables slots sound =
-    let before : (j : ℕ) (g : Guest) → slice_get b.guests.items j ≡ Some (Some g) → (h : Guest) × (slice_get a.guests.items j ≡ Some (Some h)) × (h.max ≡ g.max) × (h.tickets ≡ g.tickets) =
+stands_well a b i need was guests tables frames slots sound =
+    let before : (j : ℕ) (g : Guest) → slice_get b.guests.items j ≡ Some (Some g) → (h : Guest) × (slice_get a.guests.items j ≡ Some (Some h)) × (named h ≡ named g) × (h.tickets ≡ g.tickets) =
     λ j g is. was_there a.guests.items i j need g (ap (λ (z : List (Option Guest)). slice_get z j) (sym guests) ∙ is) in
     record {
       sound = sound;
-      limits = λ j g is. (let k = before j g is in rw tables (was.limits j k.0 k.1 ∙ ap Some k.2));
+      limits = λ j g is. (let k = before j g is in rw tables (was.limits j k.0 k.1 ∙ ap (λ (z : Named). Some z.max) k.2));
+      numbers = λ j g is. (let k = before j g is in rw tables (was.numbers j k.0 k.1 ∙ ap (λ (z : Named). z.number) k.2));
+      frames = rw tables was.frames ∙ sym frames;
       counted = λ j g is. (let k = before j g is in sym k.3 ∙ (was.counted j k.0 k.1 ∙ ap (λ (z : Slots). tally (ticket_of j) z.uses) (sym slots)));
       places = (let long = ap length guests ∙ length-set a.guests.items i _ in rw long was.places);
     }
@@ -64,7 +67,7 @@ stood_well a b i need t was there may guests tables pool content slots pins tax 
     let occupants = ap (map occupant_of) guests ∙ stood_occupants a.guests.items i need in
     let is : space_of b ≡ stood s i need = rw (occupants, tables, pool, content, slots, pins, tax) refl in
     let sound = stands_soundly s i t need was.sound there may in
-    (stands_well a b i need was guests tables slots (subst IsSound (sym is) sound), is)
+    (stands_well a b i need was guests tables (ap (λ (z : Pool). length z.frames) pool) slots (subst IsSound (sym is) sound), is)
 
 -- it doesn't stand for a frame any more, and its pins and earmarks have ended
 pub ended_well : (a b : Inside) (i : ℕ) (t : Occupant) → IsWell a → occupant_at (space_of a) i t
@@ -77,4 +80,4 @@ ended_well a b i t was there guests tables content slots tax pins pool =
     let now : space_of b ≡ record (stood s i None) { pool = b.pool; pins = pins_of b.pins } = rw (occupants, tables, content, slots, tax) refl in
     let is : space_of b ≡ ended s i = now ∙ ends_pins (stood s i None) i b.pool (pins_of b.pins) pins pool in
     let sound = ends_soundly s i t was.sound there in
-    (stands_well a b i None was guests tables slots (subst IsSound (sym is) sound), is)
+    (stands_well a b i None was guests tables (ap (λ (z : Pool). length z.frames) pool) slots (subst IsSound (sym is) sound), is)

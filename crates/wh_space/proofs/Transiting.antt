@@ -17,16 +17,16 @@ use Rattle.wh_host_model.proofs.Space.Sums.{set_tally}
 use Rattle.wh_space.specs.declared.guest.Guest.{Guest}
 use Rattle.wh_space.specs.declared.memory.Memory.TheInside.{Inside}
 use Rattle.wh_space.specs.Guests.{begins_coming, begins_leaving, ends_coming, ends_leaving, settles}
-use Rattle.wh_space.specs.Pages.{limits_in}
-use Rattle.wh_space.specs.Parts.{IsWell, occupant_of, space_of}
+use Rattle.wh_space.specs.Pages.{Fixed, fixed_in}
+use Rattle.wh_space.specs.Parts.{IsWell, Named, named, occupant_of, space_of}
 
 -- ---- how who is there changes: with so many tickets
 
 abbrev pub Changes : (Option Guest → Option Guest) → (ℕ → ℕ) → Type 0
-Changes change count = (y : Option Guest) (t : Guest) → change y ≡ Some t → (g : Guest) × (y ≡ Some g) × (g.max ≡ t.max) × (t.tickets ≡ count g.tickets)
+Changes change count = (y : Option Guest) (t : Guest) → change y ≡ Some t → (g : Guest) × (y ≡ Some g) × (named g ≡ named t) × (t.tickets ≡ count g.tickets)
 
-both_of : {g t : Guest} → Some g ≡ Some t → (g.max ≡ t.max) × (t.tickets ≡ g.tickets)
-both_of {g} {t} e = let k : g ≡ t = cc in (ap (λ (z : Guest). z.max) k, ap (λ (z : Guest). z.tickets) (sym k))
+both_of : {g t : Guest} → Some g ≡ Some t → (named g ≡ named t) × (t.tickets ≡ g.tickets)
+both_of {g} {t} e = let k : g ≡ t = cc in (ap named k, ap (λ (z : Guest). z.tickets) (sym k))
 
 pub changes_leaving : (k : ℕ) → Changes (begins_leaving k) (λ n. n + 1)
 changes_leaving k None t is = absurd (cc is)
@@ -44,30 +44,30 @@ pub changes_came : Changes ends_coming (λ n. n - 1)
 changes_came None t is = absurd (cc is)
 changes_came (Some g) t is = let e = both_of is in (g, refl, e.0, e.1)
 
-settled_same : (g t : Guest) → settles (Some g) ≡ Some t → (g.max ≡ t.max) × (t.tickets ≡ g.tickets)
+settled_same : (g t : Guest) → settles (Some g) ≡ Some t → (named g ≡ named t) × (t.tickets ≡ g.tickets)
 settled_same g t is = go g.live (g.tickets == 0) is where
-  go : (a b : Bool) → cond a (Some g) (cond b None (Some g)) ≡ Some t → (g.max ≡ t.max) × (t.tickets ≡ g.tickets)
+  go : (a b : Bool) → cond a (Some g) (cond b None (Some g)) ≡ Some t → (named g ≡ named t) × (t.tickets ≡ g.tickets)
   go true b is = both_of is
   go false true is = absurd (cc is)
   go false false is = both_of is
 
 pub changes_settled : (change : Option Guest → Option Guest) (count : ℕ → ℕ) → Changes change count → Changes (λ y. settles (change y)) count
 changes_settled change count so y t is = go (change y) refl is where
-  go : (z : Option Guest) → change y ≡ z → settles z ≡ Some t → (g : Guest) × (y ≡ Some g) × (g.max ≡ t.max) × (t.tickets ≡ count g.tickets)
+  go : (z : Option Guest) → change y ≡ z → settles z ≡ Some t → (g : Guest) × (y ≡ Some g) × (named g ≡ named t) × (t.tickets ≡ count g.tickets)
   go None e is = absurd (cc is)
   go (Some h) e is = let same = settled_same h t is in let k = so y h e in (k.0, k.1, k.2 ∙ same.0, same.1 ∙ k.3)
 
 -- ---- the memory is well then
 
 pub well_by : (a b : Inside) (i : ℕ) (change : Option Guest → Option Guest) (count : ℕ → ℕ) → Changes change count → IsWell a → IsSound (space_of b) → i < length a.guests.items
-    → b.guests.items ≡ slice_set a.guests.items i (change (get_or a.guests.items i None)) → limits_in b.tables.items ≡ limits_in a.tables.items
+    → b.guests.items ≡ slice_set a.guests.items i (change (get_or a.guests.items i None)) → fixed_in b.tables ≡ fixed_in a.tables → length b.pool.frames ≡ length a.pool.frames
     → ((g : Guest) → slice_get a.guests.items i ≡ Some (Some g) → count g.tickets ≡ tally (ticket_of i) b.slots.uses)
     → ((j : ℕ) → j ≢ i → tally (ticket_of j) b.slots.uses ≡ tally (ticket_of j) a.slots.uses) → IsWell b
-well_by a b i change count so was sound less guests limits mine others =
+well_by a b i change count so was sound less guests fixed frames mine others =
     let xs : List (Option Guest) = a.guests.items in
     let there = get_there xs i less in
     let row : get_or xs i None ≡ there.0 = get_or_is xs i there.0 None there.1 in
-    let here : (t : Guest) → slice_get b.guests.items i ≡ Some (Some t) → (g : Guest) × (slice_get xs i ≡ Some (Some g)) × (g.max ≡ t.max) × (t.tickets ≡ count g.tickets) = λ t is.
+    let here : (t : Guest) → slice_get b.guests.items i ≡ Some (Some t) → (g : Guest) × (slice_get xs i ≡ Some (Some g)) × (named g ≡ named t) × (t.tickets ≡ count g.tickets) = λ t is.
     (let both : Some (change (get_or xs i None)) ≡ Some (Some t) = sym (set_same xs i (change (get_or xs i None)) less) ∙ (sym (ap (λ (z : List (Option Guest)). slice_get z i) guests) ∙ is) in
     let one : change (get_or xs i None) ≡ Some t = cc in
     let k = so (get_or xs i None) t one in
@@ -76,12 +76,19 @@ well_by a b i change count so was sound less guests limits mine others =
     λ j t other is. sym (ap (λ (z : List (Option Guest)). slice_get z j) guests ∙ set_other xs i j (change (get_or xs i None)) other) ∙ is in
     record {
       sound = sound;
-      limits = λ j t is. ap (λ (z : List ℕ). slice_get z j) limits ∙ elim (here_or i j) [
+      limits = λ j t is. ap (λ (z : Fixed). slice_get z.limits j) fixed ∙ elim (here_or i j) [
         | inr other ↦ was.limits j t (away j t (λ e. other e) is)
         | inl same ↦
             (let k = here t (subst (λ z. slice_get b.guests.items z ≡ Some (Some t)) same is) in
-            subst (λ z. slice_get (limits_in a.tables.items) z ≡ Some t.max) (sym same) (was.limits i k.0 k.1 ∙ ap Some k.2))
+            subst (λ z. slice_get a.tables.limits z ≡ Some t.max) (sym same) (was.limits i k.0 k.1 ∙ ap (λ (z : Named). Some z.max) k.2))
       ];
+      numbers = λ j t is. ap (λ (z : Fixed). get_or z.numbers j 0) fixed ∙ elim (here_or i j) [
+        | inr other ↦ was.numbers j t (away j t (λ e. other e) is)
+        | inl same ↦
+            (let k = here t (subst (λ z. slice_get b.guests.items z ≡ Some (Some t)) same is) in
+            subst (λ z. get_or a.tables.numbers z 0 ≡ t.number) (sym same) (was.numbers i k.0 k.1 ∙ ap (λ (z : Named). z.number) k.2))
+      ];
+      frames = ap (λ (z : Fixed). z.frames) fixed ∙ was.frames ∙ sym frames;
       counted = λ j t is. elim (here_or i j) [
         | inr other ↦ was.counted j t (away j t (λ e. other e) is) ∙ sym (others j (λ e. other e))
         | inl same ↦

@@ -14,7 +14,6 @@ use Rattle.wh_host_model.proofs.Space.Breaking.{void_case, void_same}
 use Rattle.wh_host_model.proofs.Space.Putting.{get_or_is, there_of}
 use Rattle.wh_space.specs.declared.guest.Guest.{Guest}
 use Rattle.wh_space.specs.declared.memory.Memory.TheInside.{Inside}
-use Rattle.wh_space.specs.Pages.{pages_in}
 use Rattle.wh_space.specs.Parts.{occupant_of, space_of}
 use Rattle.wh_space.specs.Slotting.{leaver_of, void_use, voids_leaver, voids_slot}
 
@@ -92,7 +91,7 @@ stays_so s i p y sound there none =
     omega arith) in
     ap (λ (u : List Slot). record s.slots { uses = u }) (sym (void_none s.slots.uses i p never))
 
-is_void : (a : Inside) (i p : ℕ) (y : Page) → SlotsAreSound (space_of a) → page_at (pages_in a.tables.items) i p ≡ Some y → leaving y ≡ 1
+is_void : (a : Inside) (i p : ℕ) (y : Page) → SlotsAreSound (space_of a) → page_at a.tables.pages i p ≡ Some y → leaving y ≡ 1
     → voids_slot (leaver_of (get_or a.guests.items i None)) a.slots ≡ record a.slots { uses = map (voided i (p ∷ [])) a.slots.uses }
 is_void a i p y sound there one =
     let found = sound.leaving i p (rw there one) in
@@ -104,7 +103,7 @@ is_void a i p y sound there one =
     ap (λ (o : Option ℕ). voids_slot o a.slots) (by k found.1)
     ∙ ap (λ (u : List Slot). record a.slots { uses = u }) (ap (slice_set a.slots.uses k) now ∙ void_at a.slots.uses k i p found.1 only)
 
-pub voided_is : (a : Inside) (i p : ℕ) (y : Page) → SlotsAreSound (space_of a) → page_at (pages_in a.tables.items) i p ≡ Some y
+pub voided_is : (a : Inside) (i p : ℕ) (y : Page) → SlotsAreSound (space_of a) → page_at a.tables.pages i p ≡ Some y
     → voids_leaver (leaver_of (get_or a.guests.items i None)) y a.slots ≡ record a.slots { uses = map (voided i (p ∷ [])) a.slots.uses }
 voided_is a i p Untouched sound there = stays_so (space_of a) i p Untouched sound there refl
 voided_is a i p (Private f) sound there = stays_so (space_of a) i p (Private f) sound there refl

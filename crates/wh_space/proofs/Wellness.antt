@@ -1,25 +1,28 @@
 -- What keeps the memory well.
-use Rattle.std.proofs.Common.{◌≡◌, ◌∙◌, ℕ, Some, sym, ap, slice_get}
+use Rattle.std.proofs.Common.{◌≡◌, ◌∙◌, ℕ, List, Some, length, sym, ap, slice_get, get_or}
 use Rattle.wh_host_model.specs.Frames.{tally}
 use Rattle.wh_host_model.specs.Space.Errands.{ticket_of}
 use Rattle.wh_host_model.specs.Space.Parts.{Slots}
 use Rattle.wh_host_model.specs.Space.Sound.{IsSound}
 use Rattle.wh_space.specs.declared.guest.Guest.{Guest}
 use Rattle.wh_space.specs.declared.memory.Memory.TheInside.{Inside}
-use Rattle.wh_space.specs.Pages.{limits_in}
+use Rattle.wh_space.specs.Pages.{Fixed, fixed_in}
 use Rattle.wh_space.specs.Parts.{IsWell, space_of}
 
--- the same guests, tables with the same limits, and as many tickets of each
-pub well_with : (a b : Inside) → IsWell a → b.guests ≡ a.guests → limits_in b.tables.items ≡ limits_in a.tables.items → ((i : ℕ) → tally (ticket_of i) b.slots.uses ≡ tally (ticket_of i) a.slots.uses) → IsSound (space_of b) → IsWell b
-well_with a b was same limits tickets sound =
+-- the same guests, tables with the same limits, numbers and frames, as many frames, and as many tickets of each
+pub well_with : (a b : Inside) → IsWell a → b.guests ≡ a.guests → fixed_in b.tables ≡ fixed_in a.tables → length b.pool.frames ≡ length a.pool.frames
+    → ((i : ℕ) → tally (ticket_of i) b.slots.uses ≡ tally (ticket_of i) a.slots.uses) → IsSound (space_of b) → IsWell b
+well_with a b was same fixed frames tickets sound =
     let here : (i : ℕ) (t : Guest) → slice_get b.guests.items i ≡ Some (Some t) → slice_get a.guests.items i ≡ Some (Some t) = λ i t is. sym (ap (λ (z : _). slice_get z.items i) same) ∙ is in
     record {
       sound = sound;
-      limits = λ i t is. ap (λ l. slice_get l i) limits ∙ was.limits i t (here i t is);
+      limits = λ i t is. ap (λ (z : Fixed). slice_get z.limits i) fixed ∙ was.limits i t (here i t is);
+      numbers = λ i t is. ap (λ (z : Fixed). get_or z.numbers i 0) fixed ∙ was.numbers i t (here i t is);
+      frames = ap (λ (z : Fixed). z.frames) fixed ∙ was.frames ∙ sym frames;
       counted = λ i t is. was.counted i t (here i t is) ∙ sym (tickets i);
       places = rw same was.places;
     }
 
 -- and the same slots
-pub well : (a b : Inside) → IsWell a → b.guests ≡ a.guests → limits_in b.tables.items ≡ limits_in a.tables.items → b.slots ≡ a.slots → IsSound (space_of b) → IsWell b
-well a b was same limits slots sound = well_with a b was same limits (λ i. ap (λ (z : Slots). tally (ticket_of i) z.uses) slots) sound
+pub well : (a b : Inside) → IsWell a → b.guests ≡ a.guests → fixed_in b.tables ≡ fixed_in a.tables → length b.pool.frames ≡ length a.pool.frames → b.slots ≡ a.slots → IsSound (space_of b) → IsWell b
+well a b was same fixed frames slots sound = well_with a b was same fixed frames (λ i. ap (λ (z : Slots). tally (ticket_of i) z.uses) slots) sound

@@ -13,3 +13,4 @@ pub mod Slotting
 pub mod Steps
 pub mod Transits
 pub mod Views
+pub mod Shedding

@@ -1,12 +1,11 @@
 -- What the parts of the memory stand for.
-use Rattle.std.specs.Prelude.{ℕ, ◌≡◌, ◌^◌, ◌≤◌, Option, Some, None, length, map, slice_get}
+use Rattle.std.specs.Prelude.{ℕ, ◌≡◌, ◌^◌, ◌≤◌, Option, Some, None, length, map, get_or, slice_get}
 use Rattle.wh_host_model.specs.Frames.{tally}
 use Rattle.wh_host_model.specs.Space.Errands.{ticket_of}
 use Rattle.wh_host_model.specs.Space.Parts.{Occupant, Space}
 use Rattle.wh_host_model.specs.Space.Sound.{IsSound}
 use Rattle.wh_space.specs.declared.guest.Guest.{Guest}
 use Rattle.wh_space.specs.declared.memory.Memory.TheInside.{Inside}
-use Rattle.wh_space.specs.Pages.{limits_in, marks_in, pages_in}
 use Rattle.wh_space.specs.Pinning.{pins_of}
 
 -- who has a place
@@ -26,8 +25,8 @@ occupant_of (Some t) =
 abbrev pub space_of : Inside → Space
 space_of a = record {
   occupants = map occupant_of a.guests.items;
-  tables = pages_in a.tables.items;
-  touched = marks_in a.tables.items;
+  tables = a.tables.pages;
+  touched = a.tables.marks;
   pool = a.pool;
   marks = a.content;
   slots = a.slots;
@@ -35,12 +34,23 @@ space_of a = record {
   tax = a.tax;
 }
 
--- The memory is sound, each instance's table has room for its maximum, and its tickets are counted. Places are numbers
--- of 32 bits.
+-- what of an instance stays as long as it has a place
+pub record Named : Type 0 where
+  pub max : ℕ
+  pub number : ℕ
+
+abbrev pub named : Guest → Named
+named t = record { max = t.max; number = t.number }
+
+-- The memory is sound, each instance's table has room for its maximum and knows its number, and its tickets are counted.
+-- The tables know of all frames. Places are numbers of 32 bits.
 pub record IsWell (a : Inside) : Type 0 where
   pub sound : IsSound (space_of a)
   pub limits : (i : ℕ) (t : Guest) → slice_get a.guests.items i ≡ Some (Some t)
-      → slice_get (limits_in a.tables.items) i ≡ Some t.max
+      → slice_get a.tables.limits i ≡ Some t.max
+  pub numbers : (i : ℕ) (t : Guest) → slice_get a.guests.items i ≡ Some (Some t)
+      → get_or a.tables.numbers i 0 ≡ t.number
+  pub frames : a.tables.frames ≡ length a.pool.frames
   pub counted : (i : ℕ) (t : Guest) → slice_get a.guests.items i ≡ Some (Some t)
       → t.tickets ≡ tally (ticket_of i) a.slots.uses
   pub places : length a.guests.items ≤ 2 ^ 32

@@ -12,8 +12,8 @@ use std::alloc::{AllocError, Global};
 use wh_content::Table;
 use wh_frames::{FrameError, FramePool};
 use wh_host_model::Tax;
-use wh_pages::PageTable;
 use wh_swap::Slots;
+use wh_tables::Tables;
 
 // Puts a row at a place, which may be the next one.
 fn put_guest(guests: &mut Vec<Option<Guest>>, place: usize, guest: Guest)
@@ -26,33 +26,6 @@ fn put_guest(guests: &mut Vec<Option<Guest>>, place: usize, guest: Guest)
     } else {
         guests.push_reserved(Some(guest));
     }
-}
-
-fn put_table(tables: &mut Vec<PageTable>, place: usize, table: PageTable)
-    requires place { place ≤ length tables.old.items }
-    requires room { vec_len tables.old < vec_capacity tables.old }
-    ensures { tables.new.items ≡ with_row tables.old.items place table }
-{
-    if place < tables.len() {
-        tables[place] = table;
-    } else {
-        tables.push_reserved(table);
-    }
-}
-
-// A table with so many untouched pages.
-fn table_of(alloc: Global, pages: u32, max: u32) -> Result<PageTable, AllocError>
-    requires within { pages ≤ max }
-    requires most { max ≤ 65536 }
-    ensures { IfOk result (λ table. table ≡ record {
-      pages = replicate pages Untouched;
-      touched = replicate pages false;
-      max = max;
-    }) }
-{
-    let mut table = PageTable::new(alloc, max)?;
-    let _ = table.grow(pages);
-    Ok(table)
 }
 
 impl Memory {
@@ -74,9 +47,12 @@ impl Memory {
         let Ok(slots) = Slots::new(alloc, slots) else {
             return Err(FrameError::Memory);
         };
+        let Ok(tables) = Tables::new(alloc, frames) else {
+            return Err(FrameError::Memory);
+        };
         Ok(Memory {
             guests: Vec::new(alloc),
-            tables: Vec::new(alloc),
+            tables,
             pool,
             content,
             slots,
@@ -110,11 +86,12 @@ impl Memory {
         if place > u32::MAX as usize {
             return Err(AllocError);
         }
+        // Its contract says that there are as many limits and numbers.
+        let _ = self.tables.places();
         self.guests.reserve(1)?;
-        self.tables.reserve(1)?;
-        let table = table_of(alloc, 16 * size, promise.max)?;
+        self.tables
+            .enter(alloc, place, promise.number, 16 * size, promise.max)?;
         put_guest(&mut self.guests, place, Guest::new(promise));
-        put_table(&mut self.tables, place, table);
         Ok(())
     }
 }

@@ -8,7 +8,7 @@ ghost use Rattle.wh_space.specs.Steps.{Owns};
 
 use crate::frames::clear_frame;
 use crate::memory::Memory;
-use crate::pages::{page_of, stand_alone, touch_private};
+use crate::pages::{stand_alone, touch_private};
 use crate::pins::take_frame;
 use crate::slotting::{leaver_at, void_written};
 use wh_host_model::{Mark, Page};
@@ -31,7 +31,7 @@ impl Memory {
         requires { at (owns frame) (page_at self.old.tables place number) ≡ 1 }
         ensures { Owns self.old place number (Some frame) self.new }
     {
-        let page = page_of(&self.tables, place, number);
+        let page = self.tables.page(place, number);
         void_written(&mut self.slots, leaver_at(&self.guests, place), page);
         stand_alone(&mut self.tables, place, number, frame);
     }
@@ -54,7 +54,7 @@ impl Memory {
         ensures { Owns self.old place number (Some frame) self.new }
     {
         self.content.drop_sharer(frame);
-        let page = page_of(&self.tables, place, number);
+        let page = self.tables.page(place, number);
         void_written(&mut self.slots, leaver_at(&self.guests, place), page);
         stand_alone(&mut self.tables, place, number, frame);
     }
@@ -68,7 +68,7 @@ impl Memory {
         let fresh = take_frame(&mut self.pool, &mut self.pins, place)?;
         self.pool.copy(frame, fresh);
         self.content.drop_sharer(frame);
-        let page = page_of(&self.tables, place, number);
+        let page = self.tables.page(place, number);
         void_written(&mut self.slots, leaver_at(&self.guests, place), page);
         stand_alone(&mut self.tables, place, number, fresh);
         Some(fresh)
@@ -94,7 +94,7 @@ impl Memory {
         requires { number < length (get_or self.old.tables place []) }
         ensures { Owns self.old place number result self.new }
     {
-        match page_of(&self.tables, place, number) {
+        match self.tables.page(place, number) {
             Page::Private(frame) => {
                 self.keep_own(place, number, frame);
                 Some(frame)

@@ -1,56 +1,18 @@
 // What each instance brings to the choice of the page that leaves.
 
 ghost use Rattle.std.specs.Prelude.{◌≡◌, ◌<◌, ◌≤◌, ℕ, [], None, true, MatchBool, MatchOption, IfSome, IfNone, length, get_or};
-ghost use Rattle.wh_host_model.specs.Frames.{tally};
-ghost use Rattle.wh_host_model.specs.Space.Claims.{CanLeave, IsGiven, active, stays};
-ghost use Rattle.wh_host_model.specs.Space.Parts.{Occupant, occupant_at, pages_of};
-ghost use Rattle.wh_host_model.specs.Space.States.{resident};
+ghost use Rattle.wh_host_model.specs.Space.Charges.{IsChargedPage, IsOnTouched, active_of, charged_of};
+ghost use Rattle.wh_host_model.specs.Space.Claims.{CanBeTaken, CanLeave, IsGiven, IsTakenFrom, stays};
+ghost use Rattle.wh_host_model.specs.Space.Parts.{Occupant, occupant_at};
 ghost use Rattle.wh_pages.specs.Seeking.{IsFirstFrom};
-ghost use Rattle.wh_space.specs.Claiming.{GivesNone, IsClaimOf, IsSoughtAt, MightLeave};
-ghost use Rattle.wh_space.specs.Pages.{marks_in, pages_in};
+ghost use Rattle.wh_space.specs.Claiming.{GivesNone, IsClaimOf, MightBeTaken, MightLeave, TakesNoPage};
 
+use crate::frames::frame_under;
 use crate::guest::Guest;
 use crate::memory::Memory;
-use crate::pages::{len_at, page_of};
 use crate::pins::has_page_pinned;
 use wh_host_model::{Claim, Page, Tax};
-use wh_pages::PageTable;
-
-// How many pages of a table stand on frames, and how many of these were touched in this epoch.
-fn resident_in(table: &PageTable) -> (u32, u32)
-    ensures pages { result.0 ≡ tally resident table.now.pages }
-    ensures touched { result.1 ≡ active table.now.pages table.now.touched }
-    ensures within { result.1 ≤ result.0 }
-    ensures most { result.0 ≤ length table.now.pages }
-{
-    (table.residents(), table.actives())
-}
-
-// The same of the instance at a place; none where nobody is there.
-pub fn resident_of(tables: &Vec<PageTable>, place: usize) -> (u32, u32)
-    ensures pages { result.0 ≡ tally resident (get_or (pages_in tables.now.items) place []) }
-    ensures touched { result.1 ≡ active (get_or (pages_in tables.now.items) place [])
-        (get_or (marks_in tables.now.items) place []) }
-    ensures within { result.1 ≤ result.0 }
-{
-    if place >= tables.len() {
-        return (0, 0);
-    }
-    resident_in(&tables[place])
-}
-
-// The first page of the instance at a place, from this one on, that stands on a frame; with `idle`, of those alone that weren't
-// touched in this epoch.
-fn next_resident(tables: &Vec<PageTable>, place: usize, from: u32, idle: bool) -> Option<u32>
-    ensures { IsFirstFrom (IsSoughtAt (pages_in tables.now.items)
-        (marks_in tables.now.items) place idle)
-        from result }
-{
-    if place >= tables.len() {
-        return None;
-    }
-    tables[place].next_resident(from, idle)
-}
+use wh_tables::PageId;
 
 // Whether a page stands on a frame and isn't leaving.
 fn is_staying(page: Page) -> bool
@@ -59,7 +21,8 @@ fn is_staying(page: Page) -> bool
     matches!(page, Page::Private(_) | Page::Shared(_))
 }
 
-// What an instance claims that has so many pages on frames, of which so many were touched, if one can leave.
+// What an instance claims to which so many frames are charged, on so many of which a touched page stands, if one of their
+// pages can leave.
 fn claim_by(guest: Guest, pages: u32, active: u32) -> Claim
     requires shares { (1 ≤ guest.shares) × (guest.shares ≤ 1000000) }
     requires pages { pages ≤ 65536 }
@@ -109,15 +72,56 @@ impl Memory {
     }
 
     // Whether a page of the instance at a place can leave, where none is leaving.
-    fn can_leave(&self, place: usize, number: u32) -> bool
+    pub(crate) fn can_leave(&self, place: usize, number: u32) -> bool
         requires { number < length (get_or self.now.tables place []) }
         ensures { MatchBool result (CanLeave self.now place number)
             (¬ CanLeave self.now place number) }
     {
         let _ = &self.tax;
-        is_staying(page_of(&self.tables, place, number))
+        is_staying(self.tables.page(place, number))
             && !has_page_pinned(self.pins, place, number)
             && self.has_no_leaver(place)
+    }
+
+    // Whether a frame is charged to the instance at a place for this page of it.
+    fn is_charged(&self, place: usize, number: u32) -> bool
+        requires { number < length (get_or self.now.tables place []) }
+        ensures { MatchBool result (IsChargedPage self.now place number)
+            (¬ IsChargedPage self.now place number) }
+    {
+        let _ = &self.tax;
+        let Some(frame) = frame_under(self.tables.page(place, number)) else {
+            return false;
+        };
+        match self.tables.first_on(frame) {
+            Some(first) => first.place as usize == place && first.page == number,
+            None => false,
+        }
+    }
+
+    // Whether a touched page stands on the frame of this page, of whichever instance.
+    fn is_on_touched(&self, place: usize, number: u32) -> bool
+        requires { number < length (get_or self.now.tables place []) }
+        ensures { MatchBool result (IsOnTouched self.now place number)
+            (¬ IsOnTouched self.now place number) }
+    {
+        let _ = &self.tax;
+        match frame_under(self.tables.page(place, number)) {
+            Some(frame) => self.tables.has_touched(frame),
+            None => false,
+        }
+    }
+
+    // Whether the page is charged and can leave, and with `idle` no page on its frame was touched.
+    fn might_be_taken(&self, place: usize, number: u32, idle: bool) -> bool
+        requires { number < length (get_or self.now.tables place []) }
+        ensures { MatchBool result (MightBeTaken self.now place idle number)
+            (¬ MightBeTaken self.now place idle number) }
+    {
+        let _ = &self.tax;
+        self.can_leave(place, number)
+            && self.is_charged(place, number)
+            && !(idle && self.is_on_touched(place, number))
     }
 
     // The first page of the instance at this place that can leave; with `idle`, of those alone that weren't touched in this
@@ -126,8 +130,8 @@ impl Memory {
         ensures { IsFirstFrom (MightLeave self.now place idle) 0 result }
     {
         let mut from = 0;
-        for _ in 0..len_at(&self.tables, place) {
-            let Some(page) = next_resident(&self.tables, place, from, idle) else {
+        for _ in 0..self.tables.len_at(place) {
+            let Some(page) = self.tables.next_resident(place, from, idle) else {
                 return None;
             };
             if self.can_leave(place, page) {
@@ -138,8 +142,26 @@ impl Memory {
         None
     }
 
-    /// The page that the instance at this place gives where it has to: of those that can leave the first that wasn't touched
-    /// in this epoch, or else the first.
+    // The first charged page of it that can leave; with `idle`, of those alone on whose frames no page was touched. A touched
+    // page lies on no such frame, so here too leaves are passed over that have none.
+    fn first_to_take(&self, place: usize, idle: bool) -> Option<u32>
+        ensures { IsFirstFrom (MightBeTaken self.now place idle) 0 result }
+    {
+        let mut from = 0;
+        for _ in 0..self.tables.len_at(place) {
+            let Some(page) = self.tables.next_resident(place, from, idle) else {
+                return None;
+            };
+            if self.might_be_taken(place, page, idle) {
+                return Some(page);
+            }
+            from = page + 1;
+        }
+        None
+    }
+
+    /// The page that the instance at this place gives of its own where nobody pays: of those that can leave the first that
+    /// wasn't touched in this epoch, or else the first.
     pub fn given_page(&self, place: usize) -> Option<u32>
         ensures { MatchOption result (GivesNone self.now place)
             (λ page. IsGiven self.now place page) }
@@ -150,16 +172,28 @@ impl Memory {
         }
     }
 
-    /// Whether some page of the instance at this place can leave.
-    pub fn has_page_to_give(&self, place: usize) -> bool
-        ensures { MatchBool result ((page : ℕ) × CanLeave self.now place page)
-            (GivesNone self.now place) }
+    /// The page that is taken from the instance at this place where it pays: of its charged pages that can leave the first on
+    /// whose frame no page was touched in this epoch, or else the first.
+    pub fn taken_page(&self, place: usize) -> Option<u32>
+        ensures { MatchOption result (TakesNoPage self.now place)
+            (λ page. IsTakenFrom self.now place page) }
     {
-        self.first_to_leave(place, false).is_some()
+        match self.first_to_take(place, true) {
+            Some(page) => Some(page),
+            None => self.first_to_take(place, false),
+        }
     }
 
-    /// How many instances came before the one at this place, and what it claims if a page of it can leave, which
-    /// `has_page_to_give` tells; none where nobody is there. It looks at none of its pages.
+    /// Whether some charged page of the instance at this place can leave.
+    pub fn has_page_to_take(&self, place: usize) -> bool
+        ensures { MatchBool result ((page : ℕ) × CanBeTaken self.now place page)
+            (TakesNoPage self.now place) }
+    {
+        self.first_to_take(place, false).is_some()
+    }
+
+    /// How many instances came before the one at this place, and what it claims if a charged page of it can leave, which
+    /// `has_page_to_take` tells; none where nobody is there. It looks at none of its pages.
     pub fn claim_at(&self, place: usize) -> Option<(u64, Claim)>
         ensures some { IfSome result (λ it. (t : Occupant) × occupant_at self.now place t
             × (it.0 ≡ t.number) × IsClaimOf self.now place t it.1) }
@@ -171,7 +205,7 @@ impl Memory {
         let Some(guest) = self.guests[place] else {
             return None;
         };
-        let (pages, active) = resident_in(&self.tables[place]);
+        let (pages, active) = self.charged_at(place);
         Some((guest.number, claim_by(guest, pages, active)))
     }
 }

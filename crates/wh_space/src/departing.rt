@@ -10,8 +10,7 @@ ghost use Rattle.wh_space.specs.Transits.{IsDeparting, IsLeavingAs, IsSentFor};
 
 use crate::guests::{begin_coming, begin_leaving};
 use crate::memory::Memory;
-use crate::merging::put_page;
-use crate::pages::page_of;
+use crate::pages::put_page;
 use crate::pins::take_earmark;
 use wh_host_model::{Page, Slot};
 
@@ -36,7 +35,7 @@ impl Memory {
     {
         let _ = &self.tax;
         let slots = self.slots.len();
-        let Some((frame, now)) = as_it_leaves(page_of(&self.tables, place, page)) else {
+        let Some((frame, now)) = as_it_leaves(self.tables.page(place, page)) else {
             unreachable!()
         };
         let ticket = Slot::Evicting {

@@ -10,19 +10,18 @@ ghost use Rattle.wh_host_model.specs.Space.Moves.{frame_of};
 ghost use Rattle.wh_host_model.specs.Space.Parts.{frame_bytes};
 ghost use Rattle.wh_host_model.specs.Space.States.{page_at, put};
 ghost use Rattle.wh_host_model.specs.Space.Tickets.{CommitsEvict, CommitsFetch, IsEvicting, IsWritten, has_come, not_come, not_sent, sent_off, settled, with_free, with_leaving, without_slot};
-ghost use Rattle.wh_space.specs.Pages.{limits_in, marks_in, pages_in};
+ghost use Rattle.wh_space.specs.Pages.{fixed_in};
 ghost use Rattle.wh_space.specs.Transits.{IsFetching, back_again};
 
 use crate::frames::{frame_under, set_frame};
 use crate::guests::{end_coming, end_leaving, settle};
 use crate::memory::Memory;
-use crate::merging::put_page;
-use crate::pages::page_of;
+use crate::pages::{put_page, swap_page};
 use crate::pins::unpin_page;
 use wh_content::Table;
 use wh_frames::FramePool;
 use wh_host_model::{EvictEnd, FetchEnd, Page, Slot};
-use wh_pages::PageTable;
+use wh_tables::Tables;
 
 // A page as it was before it began to leave.
 fn as_it_was(page: Page) -> Page
@@ -33,20 +32,6 @@ fn as_it_was(page: Page) -> Page
         Page::LeavingShared(frame) => Page::Shared(frame),
         other => other,
     }
-}
-
-// A page is in this slot, and isn't touched any more.
-fn swap_page(tables: &mut Vec<PageTable>, place: usize, number: u32, slot: u32)
-    requires { number < length (get_or (pages_in tables.old.items) place []) }
-    ensures pages { pages_in tables.new.items
-        ≡ put (pages_in tables.old.items) place number (Swapped slot) }
-    ensures marks { marks_in tables.new.items
-        ≡ put (marks_in tables.old.items) place number false }
-    ensures limits { limits_in tables.new.items ≡ limits_in tables.old.items }
-{
-    let table = &mut tables[place];
-    table.set(number, Page::Swapped(slot));
-    table.untouch(number);
 }
 
 // A page has left a frame that so many pages shared. If others do they are one fewer, and else the frame is free.
@@ -94,7 +79,7 @@ impl Memory {
         ensures { IfSome (page_at self.old.tables place page) (λ was.
             self.new ≡ not_sent self.old place page slot (back_again was)) }
     {
-        let was = page_of(&self.tables, place as usize, page);
+        let was = self.tables.page(place as usize, page);
         self.slots.give(slot);
         end_leaving(&mut self.guests, place as usize);
         put_page(&mut self.tables, place as usize, page, as_it_was(was));
@@ -169,7 +154,7 @@ impl Memory {
             self.stay(slot, place, page);
             return EvictEnd::Failed;
         }
-        let Some(frame) = frame_under(page_of(&self.tables, place as usize, page)) else {
+        let Some(frame) = frame_under(self.tables.page(place as usize, page)) else {
             unreachable!()
         };
         if self.pool.bytes(frame) != bytes {

@@ -3,13 +3,12 @@
 ghost use Rattle.wh_host_model.specs.Space.Stores.{Epochs};
 
 use crate::memory::Memory;
-use crate::pages::clear_marks;
 
 impl Memory {
     /// Begins a new epoch: no page is marked as touched. It goes over all pages.
     pub fn new_epoch(&mut self)
         ensures { Epochs self.old self.new }
     {
-        clear_marks(&mut self.tables);
+        self.tables.clear_marks();
     }
 }

@@ -6,7 +6,6 @@ ghost use Rattle.wh_model.specs.Execution.Memory.{Grows};
 ghost use Rattle.wh_space.specs.Steps.{LeavesGrowth, page_limit};
 
 use crate::memory::Memory;
-use crate::pages::{grow_at, len_at};
 use wh_model::Grown;
 
 impl Memory {
@@ -15,7 +14,7 @@ impl Memory {
         ensures pages { length (get_or self.now.tables place []) ≡ 16 * result }
         ensures bytes { length (view self.now place) ≡ result * 65536 }
     {
-        len_at(&self.tables, place) / 16
+        self.tables.len_at(place) / 16
     }
 
     /// To how many pages of 65536 bytes the instance at this place may grow, 0 where nobody is.
@@ -45,7 +44,7 @@ impl Memory {
         if u64::from(before) + u64::from(pages) > u64::from(self.limit(place)) {
             return Grown::Refused;
         }
-        grow_at(&mut self.tables, place, 16 * pages);
+        self.tables.grow(place, 16 * pages);
         Grown::Done(before)
     }
 }

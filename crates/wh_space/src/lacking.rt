@@ -9,7 +9,6 @@ ghost use Rattle.wh_host_model.specs.declared.states.Page.TheVariants.{Swapped};
 ghost use Rattle.wh_space.specs.Lacking.{slot_under};
 
 use crate::memory::Memory;
-use crate::pages::page_of;
 use wh_host_model::Page;
 use wh_model::Need;
 
@@ -64,9 +63,9 @@ impl Memory {
         }
         let _ = self.fits(place, need.at, need.length);
         let first = (need.at / 4096) as u32;
-        let here = one_if_swapped(page_of(&self.tables, place, first));
+        let here = one_if_swapped(self.tables.page(place, first));
         if need.length > 4096 - (need.at % 4096) as usize {
-            let there = one_if_swapped(page_of(&self.tables, place, first + 1));
+            let there = one_if_swapped(self.tables.page(place, first + 1));
             return here + there;
         }
         here
@@ -122,7 +121,7 @@ impl Memory {
             (λ it. (it.0 ≡ page)
             × (page_at self.now.tables place page ≡ Some (Swapped it.1))) }
     {
-        let slot = slot_of(page_of(&self.tables, place, page))?;
+        let slot = slot_of(self.tables.page(place, page))?;
         Some((page, slot))
     }
 

@@ -7,18 +7,17 @@ ghost use Rattle.wh_host_model.specs.Space.Places.{Exits};
 ghost use Rattle.wh_space.specs.Guests.{guest_gone};
 ghost use Rattle.wh_space.specs.Slotting.{CanLeaveSlots, slots_gone};
 ghost use Rattle.wh_space.specs.Leaving.{CanAllGo, CanGo, owner_gone, page_gone, pages_gone, sharer_gone};
-ghost use Rattle.wh_space.specs.Pages.{limits_in, marks_in, pages_in};
+ghost use Rattle.wh_space.specs.Pages.{fixed_in};
 
 use crate::guest::Guest;
 use crate::memory::Memory;
-use crate::pages::{len_at, page_of};
 use crate::pins::end_pins;
 use crate::slotting::{leave_slot, leaver_at, void_slot};
 use wh_content::Table;
 use wh_frames::FramePool;
 use wh_host_model::{Mark, Page};
-use wh_pages::PageTable;
 use wh_swap::Slots;
+use wh_tables::Tables;
 
 // A page goes that was alone on a frame. The frame is free then.
 fn let_owner_go(frame: u32, content: &mut Table, pool: &mut FramePool)
@@ -63,37 +62,26 @@ fn let_page_go(page: Page, content: &mut Table, pool: &mut FramePool)
 
 // All pages of the instance at a place go, one after the other.
 fn let_pages_go(
-    tables: &Vec<PageTable>,
+    tables: &Tables,
     place: usize,
     content: &mut Table,
     pool: &mut FramePool,
     slots: &mut Slots,
 )
-    requires frames { CanAllGo (get_or (pages_in tables.now.items) place [])
+    requires frames { CanAllGo (get_or tables.now.pages place [])
         (record { pool = pool.old; marks = content.old }) }
-    requires slots { CanLeaveSlots (get_or (pages_in tables.now.items) place []) slots.old }
+    requires slots { CanLeaveSlots (get_or tables.now.pages place []) slots.old }
     ensures frames { record { pool = pool.new; marks = content.new }
-        ≡ pages_gone (get_or (pages_in tables.now.items) place [])
+        ≡ pages_gone (get_or tables.now.pages place [])
         (record { pool = pool.old; marks = content.old }) }
     ensures slots { slots.new
-        ≡ slots_gone (get_or (pages_in tables.now.items) place []) slots.old }
+        ≡ slots_gone (get_or tables.now.pages place []) slots.old }
 {
-    for number in 0..len_at(tables, place) {
-        let page = page_of(tables, place, number);
+    for number in 0..tables.len_at(place) {
+        let page = tables.page(place, number);
         let_page_go(page, content, pool);
         leave_slot(page, slots);
     }
-}
-
-// The table at a place has no pages any more. Its room stays.
-fn clear_at(tables: &mut Vec<PageTable>, place: usize)
-    requires { place < length tables.old.items }
-    ensures pages { pages_in tables.new.items ≡ slice_set (pages_in tables.old.items) place [] }
-    ensures marks { marks_in tables.new.items ≡ slice_set (marks_in tables.old.items) place [] }
-    ensures limits { limits_in tables.new.items ≡ limits_in tables.old.items }
-{
-    let table = &mut tables[place];
-    table.clear();
 }
 
 // The instance at a place goes. It keeps the place while a ticket of it is out.
@@ -139,7 +127,7 @@ impl Memory {
             &mut self.slots,
         );
         void_slot(&mut self.slots, leaver_at(&self.guests, place));
-        clear_at(&mut self.tables, place);
+        self.tables.clear(place);
         let_guest_go(&mut self.guests, place);
     }
 }

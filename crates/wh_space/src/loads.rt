@@ -14,7 +14,7 @@ ghost use Rattle.wh_space.specs.Steps.{LeavesLoad};
 
 use crate::frames::{frame_under, read_frame};
 use crate::memory::Memory;
-use crate::pages::{is_near, len_at, page_of, touch, touch_resident};
+use crate::pages::{is_near, touch_resident};
 use wh_frames::FramePool;
 use wh_host_model::Page;
 use wh_model::{Got, Need};
@@ -53,7 +53,7 @@ impl Memory {
             ↔ (at + count ≤ 4096 * length (get_or self.now.tables place [])) }
         ensures few { length (get_or self.now.tables place []) < 2 ^ 32 }
     {
-        let pages = len_at(&self.tables, place);
+        let pages = self.tables.len_at(place);
         at.saturating_add(count as u64) <= 4096 * u64::from(pages)
     }
 
@@ -71,11 +71,11 @@ impl Memory {
         ensures unchanged { IsFalse result → self.new ≡ self.old }
         ensures left { IsFalse result → into.new ≡ into.old }
     {
-        let page = page_of(&self.tables, place, number);
+        let page = self.tables.page(place, number);
         if !read_page(&self.pool, page, offset, into) {
             return false;
         }
-        touch(&mut self.tables, place, number);
+        self.tables.touch(place, number);
         true
     }
 
@@ -85,7 +85,7 @@ impl Memory {
         ensures { MatchBool result (IsAtHand (page_at self.now.tables place number))
             (¬ IsAtHand (page_at self.now.tables place number)) }
     {
-        is_near(page_of(&self.tables, place, number))
+        is_near(self.tables.page(place, number))
     }
 
     // Reads bytes of a page and the next.
@@ -170,7 +170,7 @@ impl Memory {
         ensures has { IsTrue result ↔ (number < length (get_or self.now.tables place [])) }
         ensures few { length (get_or self.now.tables place []) < 2 ^ 32 }
     {
-        number < u64::from(len_at(&self.tables, place))
+        number < u64::from(self.tables.len_at(place))
     }
 
     // Reads bytes of a page that stands on a frame, and marks it as touched. Where it stands on none nothing is done, and

@@ -8,13 +8,13 @@ use std::marker::Model;
 use wh_content::Table;
 use wh_frames::FramePool;
 use wh_host_model::Tax;
-use wh_pages::PageTable;
 use wh_swap::Slots;
+use wh_tables::Tables;
 
 /// The memory of all instances, by their places, on one pool of frames.
 pub struct Memory {
     pub(crate) guests: Vec<Option<Guest>>,
-    pub(crate) tables: Vec<PageTable>,
+    pub(crate) tables: Tables,
     pub(crate) pool: FramePool,
     pub(crate) content: Table,
     pub(crate) slots: Slots,

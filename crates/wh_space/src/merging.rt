@@ -10,39 +10,14 @@ ghost use Rattle.wh_host_model.specs.Space.Parts.{frame_bytes, has_number};
 ghost use Rattle.wh_host_model.specs.Space.States.{page_at, put};
 ghost use Rattle.wh_host_model.specs.declared.states.Page.TheVariants.{Private, Untouched};
 ghost use Rattle.wh_space.specs.Merges.{HasFewPages, IsNotPrivate, emptied, rehinted};
-ghost use Rattle.wh_space.specs.Pages.{limits_in, marks_in, pages_in};
+ghost use Rattle.wh_space.specs.Pages.{fixed_in};
 
 use crate::memory::Memory;
-use crate::pages::{len_at, page_of};
+use crate::pages::{empty_page, put_page};
 use crate::pins::has_page_pinned;
 use wh_content::Entry;
 use wh_host_model::Page;
-use wh_pages::PageTable;
-
-// Puts a page there.
-pub fn put_page(tables: &mut Vec<PageTable>, place: usize, number: u32, page: Page)
-    requires { number < length (get_or (pages_in tables.old.items) place []) }
-    ensures pages { pages_in tables.new.items ≡ put (pages_in tables.old.items) place number page }
-    ensures marks { marks_in tables.new.items ≡ marks_in tables.old.items }
-    ensures limits { limits_in tables.new.items ≡ limits_in tables.old.items }
-{
-    let table = &mut tables[place];
-    table.set(number, page);
-}
-
-// Makes a page untouched, and takes its mark.
-fn empty_page(tables: &mut Vec<PageTable>, place: usize, number: u32)
-    requires { number < length (get_or (pages_in tables.old.items) place []) }
-    ensures pages { pages_in tables.new.items
-        ≡ put (pages_in tables.old.items) place number Untouched }
-    ensures marks { marks_in tables.new.items
-        ≡ put (marks_in tables.old.items) place number false }
-    ensures limits { limits_in tables.new.items ≡ limits_in tables.old.items }
-{
-    let table = &mut tables[place];
-    table.set(number, Page::Untouched);
-    table.untouch(number);
-}
+use wh_tables::Tables;
 
 impl Memory {
     /// Whether so few frames and slots are there that the sharers of a frame can be counted in 32 bits.
@@ -57,7 +32,7 @@ impl Memory {
     pub fn has_places_below(&self, places: u32) -> bool
         ensures { IsTrue result ↔ (length self.now.tables ≤ places) }
     {
-        self.tables.len() <= places as usize
+        self.tables.places() <= places as usize
     }
 
     /// Whether the instance of this number is at this place.
@@ -83,10 +58,10 @@ impl Memory {
         ensures none { IfNone result (IsNotPrivate self.now place page) }
     {
         let place = place as usize;
-        if page >= len_at(&self.tables, place) {
+        if page >= self.tables.len_at(place) {
             return None;
         }
-        match page_of(&self.tables, place, page) {
+        match self.tables.page(place, page) {
             Page::Private(frame) => Some(frame),
             _ => None,
         }

@@ -1,35 +1,14 @@
-// The page tables of all instances.
+// Pages in the tables of all instances.
 
-ghost use Rattle.std.specs.Prelude.{◌≡◌, ◌+◌, ◌<◌, ◌≤◌, ◌++◌, [], Some, MatchBool, true, false, IfSome, IfNone, length, get_or, map, replicate, slice_set};
+ghost use Rattle.std.specs.Prelude.{◌≡◌, ◌<◌, [], Some, MatchBool, true, false, IfSome, IfNone, length, get_or};
 ghost use Rattle.wh_host_model.specs.Space.Moves.{frame_of};
 ghost use Rattle.wh_host_model.specs.Space.Ready.{IsAtHand};
 ghost use Rattle.wh_host_model.specs.Space.States.{page_at, put};
-ghost use Rattle.wh_host_model.specs.declared.states.Page.TheVariants.{Private, Untouched};
-ghost use Rattle.wh_space.specs.Pages.{limits_in, marks_in, pages_in, unmarked};
+ghost use Rattle.wh_host_model.specs.declared.states.Page.TheVariants.{Private, Swapped, Untouched};
+ghost use Rattle.wh_space.specs.Pages.{fixed_in};
 
 use wh_host_model::Page;
-use wh_pages::PageTable;
-
-// How many pages the instance at a place has.
-#[inline(always)]
-pub fn len_at(tables: &Vec<PageTable>, place: usize) -> u32
-    ensures { result ≡ length (get_or (pages_in tables.now.items) place []) }
-{
-    if place < tables.len() {
-        tables[place].len()
-    } else {
-        0
-    }
-}
-
-// The page of this number of the instance at a place.
-#[inline(always)]
-pub fn page_of(tables: &Vec<PageTable>, place: usize, number: u32) -> Page
-    requires { number < length (get_or (pages_in tables.now.items) place []) }
-    ensures { page_at (pages_in tables.now.items) place number ≡ Some result }
-{
-    tables[place].page(number)
-}
+use wh_tables::Tables;
 
 // Whether the page is untouched or resident.
 pub fn is_near(page: Page) -> bool
@@ -38,85 +17,75 @@ pub fn is_near(page: Page) -> bool
     !matches!(page, Page::Coming(_) | Page::Swapped(_))
 }
 
-// Marks a page as touched.
-#[inline(always)]
-pub fn touch(tables: &mut Vec<PageTable>, place: usize, number: u32)
-    requires { number < length (get_or (pages_in tables.old.items) place []) }
-    ensures pages { pages_in tables.new.items ≡ pages_in tables.old.items }
-    ensures marks { marks_in tables.new.items ≡ put (marks_in tables.old.items) place number true }
-    ensures limits { limits_in tables.new.items ≡ limits_in tables.old.items }
+// Puts a page there.
+pub fn put_page(tables: &mut Tables, place: usize, number: u32, page: Page)
+    requires there { number < length (get_or tables.old.pages place []) }
+    requires frame { IfSome (frame_of page) (λ frame. frame < tables.old.frames) }
+    ensures pages { tables.new.pages ≡ put tables.old.pages place number page }
+    ensures marks { tables.new.marks ≡ tables.old.marks }
+    ensures limits { fixed_in tables.new ≡ fixed_in tables.old }
 {
-    let table = &mut tables[place];
-    table.touch(number);
+    tables.set(place, number, page);
 }
 
 // The frame on which a page stands, which is marked as touched then; or none, and nothing is done.
 #[inline(always)]
-pub fn touch_resident(tables: &mut Vec<PageTable>, place: usize, number: u32) -> Option<u32>
-    requires { number < length (get_or (pages_in tables.old.items) place []) }
+pub fn touch_resident(tables: &mut Tables, place: usize, number: u32) -> Option<u32>
+    requires { number < length (get_or tables.old.pages place []) }
     ensures some { IfSome result (λ frame. (page : Page)
-        × (page_at (pages_in tables.old.items) place number ≡ Some page)
-        × (frame_of page ≡ Some frame)) }
-    ensures pages { pages_in tables.new.items ≡ pages_in tables.old.items }
-    ensures marks { IfSome result (λ frame.
-        marks_in tables.new.items ≡ put (marks_in tables.old.items) place number true) }
-    ensures limits { limits_in tables.new.items ≡ limits_in tables.old.items }
-    ensures none { IfNone result (marks_in tables.new.items ≡ marks_in tables.old.items) }
+        × (page_at tables.old.pages place number ≡ Some page) × (frame_of page ≡ Some frame)) }
+    ensures pages { tables.new.pages ≡ tables.old.pages }
+    ensures marks { IfSome result (λ frame. tables.new.marks ≡ put tables.old.marks place number true) }
+    ensures limits { fixed_in tables.new ≡ fixed_in tables.old }
+    ensures none { IfNone result (tables.new.marks ≡ tables.old.marks) }
 {
-    let table = &mut tables[place];
-    table.touch_resident(number)
+    tables.touch_resident(place, number)
 }
 
 // The frame on which a page stands alone, if it is `Private`; it is marked as touched then. Else nothing is done.
 #[inline(always)]
-pub fn touch_private(tables: &mut Vec<PageTable>, place: usize, number: u32) -> Option<u32>
-    requires { number < length (get_or (pages_in tables.old.items) place []) }
+pub fn touch_private(tables: &mut Tables, place: usize, number: u32) -> Option<u32>
+    requires { number < length (get_or tables.old.pages place []) }
     ensures some { IfSome result (λ frame.
-        page_at (pages_in tables.old.items) place number ≡ Some (Private frame)) }
-    ensures pages { pages_in tables.new.items ≡ pages_in tables.old.items }
-    ensures marks { IfSome result (λ frame.
-        marks_in tables.new.items ≡ put (marks_in tables.old.items) place number true) }
-    ensures limits { limits_in tables.new.items ≡ limits_in tables.old.items }
-    ensures none { IfNone result (marks_in tables.new.items ≡ marks_in tables.old.items) }
+        page_at tables.old.pages place number ≡ Some (Private frame)) }
+    ensures pages { tables.new.pages ≡ tables.old.pages }
+    ensures marks { IfSome result (λ frame. tables.new.marks ≡ put tables.old.marks place number true) }
+    ensures limits { fixed_in tables.new ≡ fixed_in tables.old }
+    ensures none { IfNone result (tables.new.marks ≡ tables.old.marks) }
 {
-    let table = &mut tables[place];
-    table.touch_private(number)
+    tables.touch_private(place, number)
 }
 
 // Points a page to a frame of its own, and marks it as touched.
-pub fn stand_alone(tables: &mut Vec<PageTable>, place: usize, number: u32, frame: u32)
-    requires { number < length (get_or (pages_in tables.old.items) place []) }
-    ensures pages { pages_in tables.new.items
-        ≡ put (pages_in tables.old.items) place number (Private frame) }
-    ensures marks { marks_in tables.new.items ≡ put (marks_in tables.old.items) place number true }
-    ensures limits { limits_in tables.new.items ≡ limits_in tables.old.items }
+pub fn stand_alone(tables: &mut Tables, place: usize, number: u32, frame: u32)
+    requires there { number < length (get_or tables.old.pages place []) }
+    requires frame { frame < tables.old.frames }
+    ensures pages { tables.new.pages ≡ put tables.old.pages place number (Private frame) }
+    ensures marks { tables.new.marks ≡ put tables.old.marks place number true }
+    ensures limits { fixed_in tables.new ≡ fixed_in tables.old }
 {
-    let table = &mut tables[place];
-    table.set(number, Page::Private(frame));
-    table.touch(number);
+    tables.set(place, number, Page::Private(frame));
+    tables.touch(place, number);
 }
 
-// Adds untouched pages, for which there is room.
-pub fn grow_at(tables: &mut Vec<PageTable>, place: usize, count: u32)
-    requires there { place < length tables.old.items }
-    requires room { length (get_or (pages_in tables.old.items) place []) + count
-        ≤ get_or (limits_in tables.old.items) place 0 }
-    ensures pages { pages_in tables.new.items ≡ slice_set (pages_in tables.old.items) place
-        (get_or (pages_in tables.old.items) place [] ++ replicate count Untouched) }
-    ensures marks { marks_in tables.new.items ≡ slice_set (marks_in tables.old.items) place
-        (get_or (marks_in tables.old.items) place [] ++ replicate count false) }
-    ensures limits { limits_in tables.new.items ≡ limits_in tables.old.items }
+// Makes a page untouched, and takes its mark.
+pub fn empty_page(tables: &mut Tables, place: usize, number: u32)
+    requires { number < length (get_or tables.old.pages place []) }
+    ensures pages { tables.new.pages ≡ put tables.old.pages place number Untouched }
+    ensures marks { tables.new.marks ≡ put tables.old.marks place number false }
+    ensures limits { fixed_in tables.new ≡ fixed_in tables.old }
 {
-    let table = &mut tables[place];
-    let _ = table.grow(count);
+    tables.set(place, number, Page::Untouched);
+    tables.untouch(place, number);
 }
 
-// Takes the marks of all pages away.
-pub fn clear_marks(tables: &mut Vec<PageTable>)
-    ensures { tables.new.items ≡ map unmarked tables.old.items }
+// A page is in this slot, and isn't touched any more.
+pub fn swap_page(tables: &mut Tables, place: usize, number: u32, slot: u32)
+    requires { number < length (get_or tables.old.pages place []) }
+    ensures pages { tables.new.pages ≡ put tables.old.pages place number (Swapped slot) }
+    ensures marks { tables.new.marks ≡ put tables.old.marks place number false }
+    ensures limits { fixed_in tables.new ≡ fixed_in tables.old }
 {
-    for place in 0..tables.len() {
-        let table = &mut tables[place];
-        table.clear_touched();
-    }
+    tables.set(place, number, Page::Swapped(slot));
+    tables.untouch(place, number);
 }

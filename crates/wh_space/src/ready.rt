@@ -5,13 +5,12 @@ ghost use Rattle.wh_host_model.specs.Space.Ready.{Ready, frames_for, may_take};
 ghost use Rattle.wh_space.specs.Steps.{CanStep, SharesAlone, frame_shared};
 
 use crate::memory::Memory;
-use crate::pages::{len_at, page_of};
 use crate::pins::frames_kept;
 use wh_host_model::Page;
 use wh_model::Need;
 
 // The frame that a page shares, if it shares one.
-fn shared_under(page: Page) -> Option<u32>
+pub fn shared_under(page: Page) -> Option<u32>
     ensures { result ≡ frame_shared page }
 {
     match page {
@@ -32,7 +31,7 @@ impl Memory {
         ensures count { result ≡ frames_for self.now place (number ∷ []) }
         ensures few { result ≤ 1 }
     {
-        let page = page_of(&self.tables, place, number);
+        let page = self.tables.page(place, number);
         if let Some(frame) = shared_under(page) {
             if self.sharers_of(frame) > 1 {
                 return 1;
@@ -51,10 +50,10 @@ impl Memory {
         requires few { number + 1 < 2 ^ 32 }
         ensures { IsTrue result ↔ SharesAlone self.now place number (number + 1) }
     {
-        let Some(frame) = shared_under(page_of(&self.tables, place, number)) else {
+        let Some(frame) = shared_under(self.tables.page(place, number)) else {
             return false;
         };
-        let Some(other) = shared_under(page_of(&self.tables, place, number + 1)) else {
+        let Some(other) = shared_under(self.tables.page(place, number + 1)) else {
             return false;
         };
         if frame != other {
@@ -118,7 +117,7 @@ impl Memory {
         if need.length == 0 {
             return true;
         }
-        let pages = u64::from(len_at(&self.tables, place));
+        let pages = u64::from(self.tables.len_at(place));
         let first = need.at / 4096;
         if need.length > 4096 - (need.at % 4096) as usize {
             if first + 1 >= pages {

@@ -2,16 +2,14 @@
 
 ghost use Rattle.std.specs.Prelude.{◌≡◌, ◌+◌, ◌≤◌, length};
 ghost use Rattle.wh_host_model.specs.Frames.{tally};
-ghost use Rattle.wh_host_model.specs.Space.Claims.{active_of};
+ghost use Rattle.wh_host_model.specs.Space.Charges.{active_of, charged_of};
 ghost use Rattle.wh_host_model.specs.Space.Errands.{is_ticket, tickets};
-ghost use Rattle.wh_host_model.specs.Space.Parts.{pages_of};
 ghost use Rattle.wh_host_model.specs.Space.States.{count_of, swapped};
 
-use crate::claims::resident_of;
 use crate::memory::Memory;
 use wh_host_model::{Page, Slot};
-use wh_pages::PageTable;
 use wh_swap::Slots;
+use wh_tables::Tables;
 
 // 1 where the page lies in a slot, and is neither on its way there nor back.
 fn one_if_swapped(page: Page) -> u32
@@ -25,13 +23,13 @@ fn one_if_swapped(page: Page) -> u32
     }
 }
 
-// How many pages of a table lie in slots.
-fn swapped_in(table: &PageTable) -> u32
-    ensures { result ≡ tally swapped table.now.pages }
+// How many pages of the instance at a place lie in slots.
+fn swapped_in(tables: &Tables, place: usize) -> u32
+    ensures { result ≡ count_of swapped tables.now.pages place }
 {
     let mut pages: u32 = 0;
-    for at in 0..table.len() {
-        pages += one_if_swapped(table.page(at));
+    for at in 0..tables.len_at(place) {
+        pages += one_if_swapped(tables.page(place, at));
     }
     pages
 }
@@ -85,21 +83,19 @@ impl Memory {
     pub fn swapped_at(&self, place: usize) -> u32
         ensures { result ≡ count_of swapped self.now.tables place }
     {
-        if place >= self.tables.len() {
-            return 0;
-        }
-        swapped_in(&self.tables[place])
+        swapped_in(&self.tables, place)
     }
 
-    /// How many pages of the instance at a place stand on frames, and how many of these were touched in this epoch; 0 where
-    /// nobody is there. It looks at its pages.
-    pub fn resident_at(&self, place: usize) -> (u32, u32)
-        ensures pages { result.0 ≡ pages_of self.now place }
+    /// How many frames are charged to the instance at a place, and on how many of these a page was touched in this epoch, of
+    /// whichever instance; 0 where nobody is there. The numbers are kept.
+    pub fn charged_at(&self, place: usize) -> (u32, u32)
+        ensures charged { result.0 ≡ charged_of self.now place }
         ensures touched { result.1 ≡ active_of self.now place }
         ensures within { result.1 ≤ result.0 }
         ensures few { result.0 ≤ 65536 }
     {
-        resident_of(&self.tables, place)
+        let _ = &self.tax;
+        (self.tables.charged(place), self.tables.active(place))
     }
 
     /// How many tickets are out, void ones included. It goes over all slots.

@@ -9,7 +9,7 @@ ghost use Rattle.wh_space.specs.Pinning.{numbers_in, pins_of};
 
 use crate::frames::set_frame;
 use crate::memory::Memory;
-use crate::merging::put_page;
+use crate::pages::put_page;
 use crate::pins::{Few, Pinned, pages_pinned};
 use wh_host_model::Page;
 

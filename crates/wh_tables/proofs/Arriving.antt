@@ -11,7 +11,7 @@ use Rattle.wh_pages.specs.Table.{PageTableState}
 use Rattle.wh_tables.specs.declared.page_id.PageId.{PageId}
 use Rattle.wh_tables.specs.declared.order.Link.{Link}
 use Rattle.wh_tables.specs.declared.index.Counts.{Counts}
-use Rattle.wh_tables.specs.Charges.{before_in, charge_in, standing_at, stands_on, touchers_in}
+use Rattle.wh_host_model.specs.Space.Charges.{before_in, charge_in, standing_at, stands_on, touchers_in}
 use Rattle.wh_tables.specs.Order.{StandsOn}
 use Rattle.wh_tables.specs.Index.{HaveOwnNumbers, Counted, IsIndexOf, Marked, activity_in, counts_at, number_in, with_newcomer}
 use Rattle.wh_tables.specs.Tables.{AreIndexed, limits_by_place, marked_of, marks_by_place, new_table, pages_by_place, tables_with}

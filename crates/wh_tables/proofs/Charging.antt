@@ -11,7 +11,7 @@ use Rattle.wh_host_model.specs.Space.Ready.{below}
 use Rattle.wh_host_model.proofs.Space.Sums.{below_le, below_count}
 use Rattle.wh_host_model.proofs.Space.Putting.{here_or, is_page}
 use Rattle.wh_tables.specs.declared.page_id.PageId.{PageId}
-use Rattle.wh_tables.specs.Charges.{IsFirstOn, active_in, before_in, charge_in, charged_in, standing_at, stands_on, touchers_in}
+use Rattle.wh_host_model.specs.Space.Charges.{IsFirstOn, active_in, before_in, charge_in, charged_in, standing_at, stands_on, touchers_in}
 use Rattle.wh_tables.specs.Order.{Chains, ComesBefore, IsInOrder, StandsOn, next_in}
 use Rattle.wh_tables.specs.Index.{HaveOwnNumbers, Marked, activity_in, number_in, one_first}
 use Rattle.wh_tables.proofs.Stops.{lead_nearest, lead_there}

@@ -5,12 +5,12 @@ use Rattle.wh_host_model.proofs.Tally.{one_same}
 use Rattle.wh_host_model.proofs.Space.Putting.{here_or}
 use Rattle.wh_tables.specs.declared.page_id.PageId.{PageId}
 use Rattle.wh_tables.specs.declared.index.Counts.{Counts}
-use Rattle.wh_tables.specs.Charges.{charge_in, touchers_in}
+use Rattle.wh_host_model.specs.Space.Charges.{charge_in, touchers_in}
 use Rattle.wh_tables.specs.Order.{IsInOrder, StandsOn, next_in}
 use Rattle.wh_tables.specs.Index.{HaveOwnNumbers, Counted, CountsOneMore, HasCountsBut, IsIndexBut, IsIndexOf, IsMeasured, Marked, activity_in, counts_at, number_in, one_first}
 use Rattle.wh_tables.proofs.Chaining.{next_stop}
 use Rattle.wh_tables.proofs.Charging.{active_few, active_some, charge_is_first, charged_few, charged_some}
-use Rattle.wh_tables.proofs.Changing.{below_change}
+use Rattle.wh_host_model.proofs.Space.Changing.{below_change}
 
 -- where a touched page stands on the frame
 some_touched : (touchers charge : ℕ) → cond (nat_lt 0 touchers) charge 0 ≡ cond (touchers == 0) 0 charge

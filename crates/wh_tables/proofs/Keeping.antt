@@ -9,12 +9,12 @@ use Rattle.wh_host_model.proofs.Tally.{one_same}
 use Rattle.wh_host_model.proofs.Space.Putting.{is_page}
 use Rattle.wh_pages.specs.Table.{PageTableState}
 use Rattle.wh_tables.specs.declared.page_id.PageId.{PageId}
-use Rattle.wh_tables.specs.Charges.{IsOnFrame, stands_on}
+use Rattle.wh_host_model.specs.Space.Charges.{IsOnFrame, stands_on}
 use Rattle.wh_tables.specs.Order.{Chains, IsAsLarge, IsInRange, StandsNowhere, StandsOn}
 use Rattle.wh_tables.specs.Index.{Counted, IsIndexOf, Marked, with_mark, with_page}
 use Rattle.wh_tables.specs.Tables.{AreIndexed, marked_of, marks_by_place, pages_by_place, tables_with}
 use Rattle.wh_tables.proofs.Alike.{index_alike}
-use Rattle.wh_tables.proofs.Changing.{standing_same}
+use Rattle.wh_host_model.proofs.Space.Changing.{standing_same}
 use Rattle.wh_tables.proofs.InOrder.{same_id}
 use Rattle.wh_tables.proofs.Rows.{column_put}
 use Rattle.wh_tables.proofs.Settling.{apart_page, measured_page}

@@ -8,7 +8,6 @@ pub mod Walks
 pub mod Chaining
 pub mod Keys
 pub mod Seeking
-pub mod Changing
 pub mod Charging
 pub mod Touching
 pub mod Counting
@@ -19,3 +18,4 @@ pub mod Keeping
 pub mod Newcomers
 pub mod Arriving
 pub mod Answering
+pub mod Finding

@@ -7,7 +7,7 @@ use Rattle.wh_host_model.specs.declared.states.Page.TheVariants.{Untouched, Priv
 use Rattle.wh_host_model.specs.Space.States.{at, page_at, put}
 use Rattle.wh_host_model.proofs.Space.Putting.{here_or, put_this}
 use Rattle.wh_tables.specs.declared.page_id.PageId.{PageId}
-use Rattle.wh_tables.specs.Charges.{stands_on}
+use Rattle.wh_host_model.specs.Space.Charges.{stands_on}
 use Rattle.wh_tables.specs.Order.{StandsOn}
 use Rattle.wh_tables.proofs.Relinking.{put_elsewhere}
 

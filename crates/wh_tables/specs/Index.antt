@@ -8,7 +8,7 @@ use Rattle.wh_host_model.specs.Space.States.{page_at, put}
 use Rattle.wh_tables.specs.declared.page_id.PageId.{PageId}
 use Rattle.wh_tables.specs.declared.index.Counts.{Counts}
 use Rattle.wh_tables.specs.declared.index.Index.TheInside.{Inside}
-use Rattle.wh_tables.specs.Charges.{active_in, charge_in, charged_in, touchers_in}
+use Rattle.wh_host_model.specs.Space.Charges.{active_in, charge_in, charged_in, touchers_in}
 use Rattle.wh_tables.specs.Order.{Chains, IsInOrder, StandsNowhere, StandsOn}
 
 pub record Counted : Type 0 where

@@ -1,4 +1,3 @@
-pub mod Charges
 pub mod Linking
 pub mod Order
 pub mod Index

@@ -3,7 +3,7 @@
 ghost use Rattle.std.specs.Prelude.{ℕ, ◌≡◌, ◌+◌, ◌-◌, ◌<◌, ◌≤◌, ◌^◌, true, false, Some, None, IfOk, IfSome, IsTrue, OnErr, OnOk, length, map, replicate, get_or, slice_set};
 ghost use Rattle.wh_host_model.specs.declared.states.Page.{Page};
 ghost use Rattle.wh_host_model.specs.declared.states.Page.TheVariants.{Untouched};
-ghost use Rattle.wh_tables.specs.Charges.{stands_on};
+ghost use Rattle.wh_host_model.specs.Space.Charges.{stands_on};
 ghost use Rattle.wh_tables.specs.Index.{CountsOneMore, HoldsOff, HoldsOn, IsIndexBut, IsIndexOf, Marked, counts_at, empty_index, one_if_touched, with_newcomer, without_active, with_mark, with_page};
 ghost use Rattle.wh_tables.specs.Order.{HasLinks, IsAsLarge, IsInRange, next_in, prior_in};
 
@@ -231,7 +231,8 @@ impl Index {
     // The page on a frame that is the last one before a stop there, or the last of all.
     pub fn prior(&self, frame: u32, at: Option<PageId>) -> Option<PageId>
         requires { HasLinks self.now.chains frame at }
-        ensures { result ≡ prior_in self.now.chains frame at }
+        ensures page { result ≡ prior_in self.now.chains frame at }
+        ensures small { IfSome result (λ id. (id.place < 2 ^ 32) × (id.page < 2 ^ 32)) }
     {
         self.order.prior(frame, at)
     }

@@ -5,7 +5,7 @@ ghost use Rattle.wh_host_model.specs.Space.Places.{with_row};
 ghost use Rattle.wh_host_model.specs.Space.States.{page_at, put};
 ghost use Rattle.wh_host_model.specs.declared.states.Page.{Page};
 ghost use Rattle.wh_host_model.specs.declared.states.Page.TheVariants.{Untouched};
-ghost use Rattle.wh_tables.specs.Charges.{stands_on};
+ghost use Rattle.wh_host_model.specs.Space.Charges.{stands_on};
 ghost use Rattle.wh_tables.specs.Order.{ComesBefore, ComesBehind, HasLinks, HasNext, HasPrior, IsAsLarge, IsInOrder, IsInRange, StandsNowhere, StandsOn, next_in, prior_in};
 
 use crate::page_id::PageId;

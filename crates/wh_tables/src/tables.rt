@@ -5,11 +5,12 @@ ghost use Rattle.wh_host_model.specs.Space.Places.{with_row};
 ghost use Rattle.wh_host_model.specs.Space.Moves.{frame_of};
 ghost use Rattle.wh_host_model.specs.Space.States.{page_at, put};
 ghost use Rattle.wh_host_model.specs.declared.states.Page.{Page};
-ghost use Rattle.wh_host_model.specs.declared.states.Page.TheVariants.{Private, Untouched};
-ghost use Rattle.wh_tables.specs.Charges.{IsFirstOn, IsOnFrame, active_in, charged_in, touchers_in};
+ghost use Rattle.wh_host_model.specs.declared.states.Page.TheVariants.{Untouched};
+ghost use Rattle.wh_host_model.specs.Space.Charges.{IsFirstOn, IsOnFrame, active_in, charged_in, touchers_in};
 ghost use Rattle.wh_tables.specs.Index.{number_in};
 ghost use Rattle.wh_tables.specs.Order.{ComesBefore, StandsOn};
-ghost use Rattle.wh_tables.specs.Tables.{marked_if, new_table, without_marks, without_touched};
+ghost use Rattle.wh_pages.specs.Seeking.{IsFirstFrom};
+ghost use Rattle.wh_tables.specs.Tables.{IsSoughtAt, marked_if, new_table, own_frame_of, without_marks, without_touched};
 
 use crate::index::Index;
 use crate::order::put_row;
@@ -37,6 +38,7 @@ impl Model for Tables {
 }
 
 // The frame on which a page stands, if it stands on one.
+#[inline(always)]
 fn frame_under(page: Page) -> Option<u32>
     ensures { result ≡ frame_of page }
 {
@@ -48,6 +50,17 @@ fn frame_under(page: Page) -> Option<u32>
         Page::LeavingShared(frame) => Some(frame),
         Page::Coming(_) => None,
         Page::Swapped(_) => None,
+    }
+}
+
+// The frame on which a page stands alone, where it is `Private`.
+#[inline(always)]
+fn own_frame(page: Page) -> Option<u32>
+    ensures { result ≡ own_frame_of page }
+{
+    match page {
+        Page::Private(frame) => Some(frame),
+        _ => None,
     }
 }
 
@@ -95,7 +108,9 @@ impl Tables {
 
     /// How many places there are.
     pub fn places(&self) -> usize
-        ensures { result ≡ length self.now.pages }
+        ensures pages { result ≡ length self.now.pages }
+        ensures limits { result ≡ length self.now.limits }
+        ensures numbers { result ≡ length self.now.numbers }
     {
         self.tables.len()
     }
@@ -119,6 +134,27 @@ impl Tables {
         ensures { page_at self.now.pages place number ≡ Some result }
     {
         self.tables[place].page(number)
+    }
+
+    // The page of this number of the instance at a place, and whether it was touched in this epoch, by one look.
+    #[inline(always)]
+    fn page_and_mark(&self, place: usize, number: u32) -> (Page, bool)
+        requires { number < length (get_or self.now.pages place []) }
+        ensures page { page_at self.now.pages place number ≡ Some result.0 }
+        ensures mark { page_at self.now.marks place number ≡ Some result.1 }
+    {
+        self.tables[place].page_and_mark(number)
+    }
+
+    /// The first page of the instance at a place, from this one on, that stands on a frame; with `idle`, of those alone that
+    /// weren't touched in this epoch. It passes over leaves of its page table that have none.
+    pub fn next_resident(&self, place: usize, from: u32, idle: bool) -> Option<u32>
+        ensures { IsFirstFrom (IsSoughtAt self.now.pages self.now.marks place idle) from result }
+    {
+        if place >= self.tables.len() {
+            return None;
+        }
+        self.tables[place].next_resident(from, idle)
     }
 
     /// Puts a page there. The mark stays.
@@ -325,33 +361,33 @@ impl Tables {
     #[inline(always)]
     pub fn touch_resident(&mut self, place: usize, number: u32) -> Option<u32>
         requires { number < length (get_or self.old.pages place []) }
-        ensures frame { (page : Page) → page_at self.old.pages place number ≡ Some page
-            → result ≡ frame_of page }
+        ensures frame { (page : Page) × (page_at self.old.pages place number ≡ Some page)
+            × (result ≡ frame_of page) }
         ensures marks { self.new ≡ record self.old {
           marks = marked_if result self.old.marks place number;
         } }
     {
-        let frame = frame_under(self.page(place, number))?;
-        if !self.is_touched(place, number) {
+        let (page, touched) = self.page_and_mark(place, number);
+        let frame = frame_under(page)?;
+        if !touched {
             self.mark_on(place, number, frame);
         }
         Some(frame)
     }
 
-    /// The frame on which a page stands alone, if it is `Private`; it is marked as touched then. Else nothing is done.
+    /// The frame on which a page stands alone, where it is `Private`; it is marked as touched then. Else nothing is done.
     #[inline(always)]
     pub fn touch_private(&mut self, place: usize, number: u32) -> Option<u32>
         requires { number < length (get_or self.old.pages place []) }
-        ensures frame { IfSome result (λ frame.
-            page_at self.old.pages place number ≡ Some (Private frame)) }
+        ensures frame { (page : Page) × (page_at self.old.pages place number ≡ Some page)
+            × (result ≡ own_frame_of page) }
         ensures marks { self.new ≡ record self.old {
           marks = marked_if result self.old.marks place number;
         } }
     {
-        let Page::Private(frame) = self.page(place, number) else {
-            return None;
-        };
-        if !self.is_touched(place, number) {
+        let (page, touched) = self.page_and_mark(place, number);
+        let frame = own_frame(page)?;
+        if !touched {
             self.mark_on(place, number, frame);
         }
         Some(frame)
@@ -414,6 +450,7 @@ impl Tables {
             → ¬ ComesBefore self.now.numbers prior z)) }
         ensures none { IfNone result ((z : PageId) → StandsOn self.now.pages frame z
             → ¬ ComesBefore self.now.numbers z id) }
+        ensures small { IfSome result (λ prior. (prior.place < 2 ^ 32) × (prior.page < 2 ^ 32)) }
     {
         self.index.prior(frame, Some(id))
     }
@@ -424,6 +461,7 @@ impl Tables {
         requires mark { page_at self.old.marks place number ≡ Some false }
         ensures { self.new ≡ record self.old { marks = put self.old.marks place number true } }
     {
+        // What holds of the tables has to be known where the place is narrowed.
         let _ = self.tables.len();
         let id = PageId {
             place: place as u32,
@@ -439,6 +477,7 @@ impl Tables {
         requires mark { page_at self.old.marks place number ≡ Some true }
         ensures { self.new ≡ record self.old { marks = put self.old.marks place number false } }
     {
+        // What holds of the tables has to be known where the place is narrowed.
         let _ = self.tables.len();
         let id = PageId {
             place: place as u32,

@@ -1,7 +1,7 @@
 //! Who gives up a page when a frame is wanted: shares of memory under a tax on idle pages.
 //!
-//! An instance with `S` shares, of whose `P` resident pages `A` were touched, weighs `w = A * (den - num) +
-//! (P - A) * den`, and its fraction is `S * (den - num) / w`. The instance with the least fraction pays.
+//! An instance with `S` shares, to which `P` frames are charged, on `A` of which a page was touched, weighs
+//! `w = A * (den - num) + (P - A) * den`, and its fraction is `S * (den - num) / w`. The instance with the least fraction pays.
 #![tactic(auto)]
 
 ghost use Rattle.std.specs.Prelude.{◌≡◌, ◌↔◌, ◌≤◌, ◌<◌, ◌+◌, ℕ, IsTrue, Option, length, take};
@@ -10,7 +10,7 @@ ghost use Rattle.wh_host_model.specs.Tax.{weight, RhoLess, RhoEqual, CanPay, IsC
 use std::cmp::Ordering;
 pub use wh_host_model::{Claim, Tax};
 
-/// What the claim's pages weigh: `den - num` for each that was touched, and `den` for each other one.
+/// What the claim's frames weigh: `den - num` for each active one, and `den` for each other one.
 pub fn weight(tax: Tax, claim: &Claim) -> u64
     ensures exact { result ≡ weight tax claim.now }
     ensures within { result ≤ 65536000 }

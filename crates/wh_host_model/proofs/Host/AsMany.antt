@@ -1,15 +1,14 @@
 -- Pages that come with whatever bytes the device gives: all see as many bytes as before.
-use Rattle.std.proofs.Common.{◌≡◌, ℕ, ◌*◌, inl, inr, Bool, List, [], ◌∷◌, Option, Some, None, length, get_or, refl, ap, sym, ◌∙◌}
+use Rattle.std.proofs.Common.{◌≡◌, ℕ, ◌*◌, inl, inr, Bool, List, [], ◌∷◌, length, get_or, ap, sym, ◌∙◌}
 use Rattle.wh_model.specs.declared.memory.Need.{Need}
 use Rattle.wh_host_model.specs.declared.states.FetchEnd.{FetchEnd}
 use Rattle.wh_host_model.specs.declared.states.Page.{Page}
 use Rattle.wh_host_model.specs.declared.states.Page.TheVariants.{Private, Swapped}
-use Rattle.wh_host_model.specs.Space.Errands.{tickets}
-use Rattle.wh_host_model.specs.Space.Parts.{Space, Occupant, claim_of, need_of, view}
+use Rattle.wh_host_model.specs.Space.Parts.{Space}
 use Rattle.wh_host_model.specs.Space.Provide.{Move, Serves, comes, goes}
 use Rattle.wh_host_model.specs.Space.Sound.{IsSound}
 use Rattle.wh_host_model.specs.Space.States.{put}
-use Rattle.wh_host_model.specs.Space.Tickets.{CommitsFetch, StandsForFrame}
+use Rattle.wh_host_model.specs.Space.Tickets.{CommitsFetch}
 use Rattle.wh_host_model.specs.Host.Bridges.{FailuresSeeAsMany, FetchesSeeAsMany, ProvisionsSeeAsMany}
 use Rattle.wh_host_model.specs.Host.Misreading.{AllSeeAsMany}
 use Rattle.wh_host_model.proofs.Space.Chained.{fails_soundly}

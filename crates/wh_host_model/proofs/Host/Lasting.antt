@@ -1,28 +1,28 @@
 -- What holds of every host, whatever bytes its swap device gives.
-use Rattle.std.proofs.Common.{◌≡◌, ◌≢◌, ℕ, zero, suc, ◌+◌, ◌-◌, ◌<◌, ◌≤◌, ◌⊎◌, inl, inr, Bool, min, Option, Some, None, List, [], ◌∷◌, ◌++◌, length, map, refl, sym, ap, subst, ◌∙◌, arith, length-append, ℤ}
+use Rattle.std.proofs.Common.{◌≡◌, ◌≢◌, ℕ, zero, suc, ◌+◌, ◌≤◌, inl, inr, Bool, Option, Some, None, List, [], ◌∷◌, length, map, refl, sym, ap, subst, ◌∙◌, arith, length-append, ℤ}
 use Rattle.std.proofs.lemmas.List.{length-map}
 use Rattle.wh_model.specs.declared.memory.Need.{Need}
 use Rattle.wh_model.specs.Format.Syntax.{Module}
-use Rattle.wh_model.specs.Execution.Store.{Value, Instance, Store}
+use Rattle.wh_model.specs.Execution.Store.{Instance, Store}
 use Rattle.wh_model.specs.Execution.Configuration.{Config, store_of}
 use Rattle.wh_model.specs.Execution.Instance.{Piece, Parameters, AreGiven, IsInitial, begins}
-use Rattle.wh_model.specs.Execution.Replay.{Outcome, returned, stopped, cancelled, dead, pending, Call}
+use Rattle.wh_model.specs.Execution.Replay.{Outcome, returned, cancelled, dead, pending, Call}
 use Rattle.wh_model.specs.Execution.Taking.{Takes, took_all, took}
 use Rattle.wh_host_model.specs.declared.Tax.{Tax}
 use Rattle.wh_host_model.specs.declared.plain.TurnEnd.{TurnEnd}
 use Rattle.wh_host_model.specs.Space.Parts.{Space, view, wants}
 use Rattle.wh_host_model.specs.Host.Worlds.{Params, Rest, Doing, Suspension, for_fuel, for_frame, for_device, Tenant, Entry, World, empty_world}
-use Rattle.wh_host_model.specs.Host.Turns.{HaveTypes, Opens, by_invocation, as_it_was, Computes, Upshot, to_end, Proceeds, returns, traps, writes_all, uses_fuel, waits, waits_to_write, has_had_its_turn}
+use Rattle.wh_host_model.specs.Host.Turns.{Opens, by_invocation, as_it_was, Computes, Upshot, to_end, Proceeds, returns, traps, writes_all, uses_fuel, waits, waits_to_write, has_had_its_turn}
 use Rattle.wh_host_model.specs.Host.Answers.{gone_further, ended_by, Closes, faces_next, is_dead, at_frame, Turn, is_idle, has_ended, has_no_fuel, has_no_frame, can_go_on, keeps_its_fault}
 use Rattle.wh_host_model.specs.Host.Calls as requests
 use Rattle.wh_host_model.specs.Host.Calls.{most_fuel, most_calls, most_open, open_count, new_entry, TakesCall, more_fuel, StandsAfter, Refuels, has_more, Cancels, Retries, may_try}
-use Rattle.wh_host_model.specs.Host.Admission.{start_entry, StartsAs, writes, runs, ends}
+use Rattle.wh_host_model.specs.Host.Admission.{StartsAs, writes, runs, ends}
 use Rattle.wh_host_model.specs.Host.Journals.{IsOpenCall, ReturnsTyped, HasEnded, InOrder, is_starting, has_started}
 use Rattle.wh_host_model.specs.Host.Misreading.{AllSeeAsMany, Step, by_event, by_misreading, Befalls, AllBefall, ComesAbout, MemoryStaysSound, PlacesStayRight, ModulesStayAccepted, JournalsStayInOrder, InputsStay, FramesAreAwaited}
 use Rattle.wh_host_model.proofs.Space.Chained.{empty_sound}
 use Rattle.wh_host_model.proofs.Host.Inputs.{leads_inputs, initial_inputs}
 use Rattle.wh_host_model.proofs.Host.Keeping.{beginner, some_func, types_alike}
-use Rattle.wh_host_model.proofs.Host.Ordered.{SameCall, order_on, order_ends, order_dies, order_comes, order_fuel}
+use Rattle.wh_host_model.proofs.Host.Ordered.{SameCall, order_on, order_ends, order_dies, order_comes}
 use Rattle.wh_host_model.proofs.Host.Running.{IsKeptUp, IsGoodBy, events_keep}
 
 -- ---- what is kept of an instance

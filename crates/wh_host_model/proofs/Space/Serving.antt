@@ -1,5 +1,5 @@
 -- What each move leaves of the way to a ready step.
-use Rattle.std.proofs.Common.{◌≡◌, ◌≢◌, ℕ, ◌+◌, ◌<◌, ◌≤◌, ◌==◌, ◌++◌, ◌⊎◌, inl, inr, cond, nat_eq, true, false, Bool, List, [], ◌∷◌, Option, Some, None, length, slice_get, slice_set, refl, sym, ap, ◌∙◌, arith, length-append}
+use Rattle.std.proofs.Common.{◌≡◌, ◌≢◌, ℕ, ◌+◌, ◌<◌, ◌≤◌, ◌==◌, ◌++◌, ◌⊎◌, inl, inr, cond, nat_eq, true, false, Bool, List, [], ◌∷◌, Option, Some, None, length, slice_get, slice_set, refl, sym, ap, ◌∙◌, subst, arith, length-append, min}
 use Rattle.std.specs.List.{All}
 use Rattle.std.proofs.lemmas.List.Elements.{All-nil, All-cons}
 use Rattle.wh_model.specs.declared.memory.Need.{Need}
@@ -8,18 +8,21 @@ use Rattle.wh_host_model.proofs.Tally.{one_same, one_other}
 use Rattle.wh_host_model.specs.declared.states.Page.{Page}
 use Rattle.wh_host_model.specs.declared.states.Page.TheVariants.{Untouched, Private, Shared, Leaving, LeavingShared, Coming, Swapped}
 use Rattle.wh_host_model.specs.declared.states.Slot.TheVariants.{Vacant, Taken}
-use Rattle.wh_host_model.specs.Space.Claims.{stays, CanLeave, IsPayer, MustLeave, NoneMustLeave}
+use Rattle.wh_host_model.specs.Space.Charges.{frame_charge, charged_of, stands_on}
+use Rattle.wh_host_model.specs.Space.Claims.{stays, CanLeave, IsShed, MustLeave, NoneMustLeave}
+use Rattle.wh_host_model.proofs.Space.Charging.{charge_few, charged_once, come_charged, occupied, others_charged, own_charged, relieved, stood_there}
+use Rattle.std.proofs.lemmas.Bool.{cases_lt}
 use Rattle.wh_host_model.specs.Space.Errands.{is_ticket, tickets}
 use Rattle.wh_host_model.specs.Space.Moves.{Evicts, Fetches, residents, pinned, Earmarks}
-use Rattle.wh_host_model.specs.Space.Parts.{Space, Occupant, Pins, occupant_at, kept, kept_by, pinned_by, pages_of}
+use Rattle.wh_host_model.specs.Space.Parts.{Space, Occupant, Pins, occupant_at, kept, kept_by, pinned_by}
 use Rattle.wh_host_model.specs.Space.Provide.{IsServing, HasPages, IsOnTheWay, LacksFree, far}
 use Rattle.wh_host_model.specs.Space.Ready.{Ready, IsAtHand, among, pages_of_need, frames_to_write}
-use Rattle.wh_host_model.specs.Space.Sound.{IsSound, SlotsAreSound}
-use Rattle.wh_host_model.specs.Space.States.{at, page_at, put, resident, swapped, untouched, count, count_of}
+use Rattle.wh_host_model.specs.Space.Sound.{FramesAreSound, IsSound}
+use Rattle.wh_host_model.specs.Space.States.{at, page_at, put, resident, swapped, untouched, count}
 use Rattle.wh_host_model.proofs.Space.Sums.{set_tally, put_tally}
 use Rattle.wh_host_model.proofs.Space.Taking.{frame_there, slot_there}
 use Rattle.wh_host_model.proofs.Space.Wanting.{few_pages, kinds_of}
-use Rattle.wh_host_model.proofs.Space.Putting.{cond_here, here_or, pinned_here, pinned_other, put_other, put_other_row, put_this, row_put}
+use Rattle.wh_host_model.proofs.Space.Putting.{cond_here, here_or, pinned_here, pinned_other, put_other, put_other_row, put_this}
 use Rattle.wh_host_model.proofs.Space.Slotting.{vacant_there}
 
 -- the pages that are pinned are the resident ones of the step
@@ -105,24 +108,75 @@ stood : (s : Space) (j p : ℕ) (f : ℕ) → ((page_at s.tables j p ≡ Some (P
 stood s j p f (inl e) = (Private f, e, refl, refl)
 stood s j p f (inr e) = (Shared f, e, refl, refl)
 
-same_occupant : (s s0 : Space) (j : ℕ) (t u : Occupant) → s.occupants ≡ s0.occupants → occupant_at s0 j t → occupant_at s j u → u ≡ t
-same_occupant s s0 j t u same is also = let e : slice_get s0.occupants j ≡ Some (Some u) = rw (← same) also in cc
+-- whatever leaves can leave
+pub can_leave : (s : Space) (i : ℕ) (need : Need) (j p : ℕ) → MustLeave s i need j p → CanLeave s j p
+can_leave s i need j p (inl (payer, taken)) = taken.0.0
+can_leave s i need j p (inr (inl (nobody, shed))) = shed.beside.can
+can_leave s i need j p (inr (inr (nobody, own, given))) = rw own given.0
 
-pays : (s : Space) (j : ℕ) → IsPayer s j → (t : Occupant) × occupant_at s j t × (t.min < pages_of s j)
-pays s j payer = payer.may_pay.0
+-- of whom a sharer is shed isn't charged for the frame, unless it asks
+shed_charged : (s : Space) (i : ℕ) (need : Need) (j p : ℕ) → IsSound s → (shed : IsShed s i need j p) → j ≢ i → frame_charge s j shed.frame ≡ 0
+shed_charged s i need j p sound shed other =
+    elim (cases_lt 0 (frame_charge s j shed.frame)) [
+      | inr zeros ↦ omega arith
+      | inl some ↦
+          (let mine = shed.sheds.charged in
+          let few = charge_few s i shed.frame in let a = few.1 in
+          let few2 = charge_few s j shed.frame in let b = few2.1 in
+          let t = occupied (stands_on shed.frame) s i sound.occupants (omega arith) in
+          let u = occupied (stands_on shed.frame) s j sound.occupants (omega arith) in
+          absurd (other (sym (charged_once s i j shed.frame t.0 u.0 sound.occupants t.1 u.1 (omega arith) some))))
+    ]
+
+min_on : (m a b c : ℕ) → min m a ≤ b → min m b ≤ c → min m a ≤ c
+min_on m a b c first second = omega arith
+
+min_kept : (m a b : ℕ) → a ≤ b → min m a ≤ b
+min_kept m a b le = omega arith
+
+min_none : (m a b c : ℕ) → a ≤ b + c → c ≡ 0 → min m a ≤ b
+min_none m a b c falls none = omega arith
+
+min_one : (m a b c : ℕ) → a ≤ b + c → c ≤ 1 → m < a → min m a ≤ b
+min_one m a b c falls one over = omega arith
+
+-- whatever leaves, what is charged to another instance is no less, or its minimum still
+keeps_minimum : (s : Space) (i : ℕ) (need : Need) (j p : ℕ) (s2 : Space) (k : ℕ) (t : Occupant) → IsSound s → MustLeave s i need j p → Evicts s j p s2 → k ≢ i → occupant_at s k t
+    → min t.min (charged_of s k) ≤ charged_of s2 k
+keeps_minimum s i need j p s2 k t sound taken moves other is =
+    elim (here_or j k) [
+      | inr away ↦ min_kept t.min (charged_of s k) (charged_of s2 k) (others_charged s s2 j moves.frame k (relieved s j p s2 moves) away)
+      | inl same ↦ at_that same taken
+    ] where
+      falls : k ≡ j → charged_of s k ≤ charged_of s2 k + frame_charge s k moves.frame
+      falls same = rw same (own_charged s s2 j moves.frame (relieved s j p s2 moves))
+
+      at_that : k ≡ j → MustLeave s i need j p → min t.min (charged_of s k) ≤ charged_of s2 k
+      at_that same (inr (inr (nobody, own, given))) = absurd (other (same ∙ own))
+      at_that same (inr (inl (nobody, shed))) =
+          let here : moves.frame ≡ shed.frame = stood_there s j p s2 moves shed.frame shed.beside.shares in
+          let none : frame_charge s j shed.frame ≡ 0 = shed_charged s i need j p sound shed (λ e. other (same ∙ e)) in
+          min_none t.min (charged_of s k) (charged_of s2 k) (frame_charge s k moves.frame) (falls same) (rw (same, here) none)
+      at_that same (inl (payer, from)) =
+          let least = payer.may_pay.0 in
+          let both : Some (Some least.0) ≡ Some (Some t) = sym least.1 ∙ subst (λ z. occupant_at s z t) same is in
+          let one : least.0 ≡ t = cc in
+          let over : t.min < charged_of s k = subst (λ z. t.min < charged_of s z) (sym same) (subst (λ (u : Occupant). u.min < charged_of s j) one least.2) in
+          let few = charge_few s k moves.frame in
+          min_one t.min (charged_of s k) (charged_of s2 k) (frame_charge s k moves.frame) (falls same) few.0 over
 
 -- one more page has left
 pub evict_on : (s0 : Space) (i : ℕ) (need : Need) (n : ℕ) (s : Space) (j p : ℕ) (s2 : Space)
-    → SlotsAreSound s → IsOnTheWay s0 i need n s → MustLeave s i need j p → Evicts s j p s2 → IsOnTheWay s0 i need (n + 1) s2 × (far s2 i need < far s i need)
+    → IsSound s → IsOnTheWay s0 i need n s → MustLeave s i need j p → Evicts s j p s2 → IsOnTheWay s0 i need (n + 1) s2 × (far s2 i need < far s i need)
 evict_on s0 i need n s j p s2 sound way taken moves =
-    let vacant = vacant_there s moves.slot moves.others sound moves.vacant in
+    let vacant = vacant_there s moves.slot moves.others sound.slots moves.vacant in
     let x = stood s j p moves.frame moves.page in
     let y : Page = Swapped moves.slot in
     let tables : s2.tables ≡ put s.tables j p y = ap (λ a. a.tables) moves.leaves in
     let pins : s2.pins ≡ s.pins = ap (λ a. a.pins) moves.leaves in
     let occupants : s2.occupants ≡ s.occupants = ap (λ a. a.occupants) moves.leaves in
     let uses : s2.slots.uses ≡ slice_set s.slots.uses moves.slot Taken = ap (λ a. a.slots.uses) moves.leaves in
-    let leaves : CanLeave s j p = taken.0.0 in
+    let leaves : CanLeave s j p = can_leave s i need j p taken in
     let page : (q : ℕ) → 1 ≤ tally (one_if q) (pages_of_need need) → page_at s2.tables i q ≡ page_at s.tables i q = λ q some. rw tables (kept_page s i j p q need y way.serving leaves some) in
     let fewer : count resident s2.tables + 1 ≡ count resident s.tables = rw tables (let k = put_tally resident s.tables j p x.0 y x.1 in let r = x.2 in omega arith) in
     let steps : among swapped s2 i (pages_of_need need) ≡ among swapped s i (pages_of_need need) = among_same swapped s.tables s2.tables i (pages_of_need need) page in
@@ -141,22 +195,8 @@ evict_on s0 i need n s j p s2 sound way taken moves =
         occupants = occupants ∙ way.occupants;
         revoked = omega arith;
         others = λ k t other is.
-            (let past = way.others k t other is in
-            elim (here_or j k) [
-              | inr away ↦ (let row : pages_of s2 k ≡ pages_of s k = rw tables (ap (tally resident) (put_other_row s.tables j p k y away)) in omega arith)
-              | inl same ↦
-                  elim taken.1 [
-                    | inr own ↦ absurd (other (same ∙ own.0))
-                    | inl payer ↦
-                        (let least = pays s j payer in
-                        let u : least.0 ≡ t = same_occupant s s0 j t least.0 way.occupants (rw same at is) least.1 in
-                        let over : t.min < pages_of s j = rw (← u) least.2 in
-                        let row : count_of resident (put s.tables j p y) j + resident x.0 ≡ pages_of s j + 0 = row_put resident s.tables j p x.0 y x.1 in
-                        let r = x.2 in
-                        let now : pages_of s2 j ≡ count_of resident (put s.tables j p y) j = rw tables refl in
-                        rw same (omega arith))
-                  ]
-            ]);
+            (let now : occupant_at s k t = rw way.occupants is in
+            min_on t.min (charged_of s0 k) (charged_of s k) (charged_of s2 k) (way.others k t other is) (keeps_minimum s i need j p s2 k t sound taken moves other now));
       },
       omega arith,
     )
@@ -184,10 +224,10 @@ kept_none (Some pins) i none = go (pins.place == i) none where
 
 -- one more page has come
 pub fetch_on : (s0 : Space) (i : ℕ) (need : Need) (n : ℕ) (s : Space) (p : ℕ) (bytes : List ℕ) (s2 : Space)
-    → IsOnTheWay s0 i need n s → 1 ≤ tally (one_if p) (pages_of_need need) → Fetches s i p bytes s2
+    → FramesAreSound s → IsOnTheWay s0 i need n s → 1 ≤ tally (one_if p) (pages_of_need need) → Fetches s i p bytes s2
     → ((k : ℕ) → page_at s.tables i p ≡ Some (Swapped k) → slice_get s.slots.uses k ≡ Some Taken)
     → IsOnTheWay s0 i need n s2 × (far s2 i need < far s i need)
-fetch_on s0 i need n s p bytes s2 way member moves taken =
+fetch_on s0 i need n s p bytes s2 sound way member moves taken =
     let y : Page = Private moves.frame in
     let tables : s2.tables ≡ put s.tables i p y = ap (λ a. a.tables) moves.leaves in
     let pins : s2.pins ≡ Some (record { place = i; pages = p ∷ pinned_by s.pins i; frames = kept s.pins }) = ap (λ a. a.pins) moves.leaves in
@@ -225,7 +265,7 @@ fetch_on s0 i need n s p bytes s2 way member moves taken =
         revoked = omega arith;
         others = λ k t other is.
             (let past = way.others k t other is in
-            let row : pages_of s2 k ≡ pages_of s k = rw tables (ap (tally resident) (put_other_row s.tables i p k y other)) in omega arith);
+            let least = come_charged s i p bytes s2 sound moves k other in omega arith);
       },
       omega arith,
     )

@@ -1,24 +1,27 @@
 -- Where a step lacks a frame, there is a page to take, and a slot for it.
-use Rattle.std.proofs.Common.{◌≡◌, ◌≢◌, ℕ, ◌+◌, ◌-◌, ◌<◌, ◌≤◌, ◌==◌, ◌⊎◌, inl, inr, cond, List, [], ◌∷◌, Option, Some, None, length, slice_get, get_or, zero, suc, refl, arith}
+use Rattle.std.proofs.Common.{◌≡◌, ◌≢◌, ℕ, ◌+◌, ◌-◌, ◌<◌, ◌≤◌, ◌==◌, ◌⊎◌, inl, inr, cond, true, false, Bool, List, [], ◌∷◌, Option, Some, None, length, slice_get, get_or, zero, suc, refl, ap, arith}
 use Rattle.std.proofs.lemmas.Bool.Decides.{nat_tests}
 use Rattle.std.proofs.lemmas.Bool.{cases_lt}
 use Rattle.wh_model.specs.declared.memory.Need.{Need}
 use Rattle.wh_host_model.specs.Frames.{tally, one_if}
-use Rattle.wh_host_model.proofs.Tally.{one_other}
+use Rattle.wh_host_model.proofs.Tally.{one_same, one_other}
 use Rattle.wh_host_model.specs.declared.states.Page.{Page}
 use Rattle.wh_host_model.specs.declared.states.Page.TheVariants.{Untouched, Private, Shared, Leaving, LeavingShared, Coming, Swapped}
 use Rattle.wh_host_model.specs.declared.states.Slot.{Slot}
 use Rattle.wh_host_model.specs.declared.states.Slot.TheVariants.{Vacant, Taken, Evicting, EvictVoid, Fetching, FetchVoid}
-use Rattle.wh_host_model.specs.Space.Claims.{stays, CanLeave, NoneMustLeave}
+use Rattle.wh_host_model.specs.Space.Charges.{stands_on, standing, frame_charge, charged_of}
+use Rattle.wh_host_model.specs.Space.Claims.{stays, CanLeave, IsBeside, NoneMustLeave}
+use Rattle.wh_host_model.proofs.Space.Charging.{below_but, charge_few, charged_page, first_of, frames_charged, occupied, on_once}
+use Rattle.wh_host_model.proofs.Space.Putting.{get_or_is, there_of}
 use Rattle.wh_host_model.specs.Space.Errands.{is_ticket, tickets}
-use Rattle.wh_host_model.specs.Space.Parts.{Space, Occupant, occupant_at, kept, pinned_by, pages_of, of_occupant}
+use Rattle.wh_host_model.specs.Space.Parts.{Space, Occupant, occupant_at, kept, pinned_by, sharers, of_occupant}
 use Rattle.wh_host_model.specs.Space.Provide.{IsServing}
-use Rattle.wh_host_model.specs.Space.Ready.{below, among, pages_of_need, frames_to_write, frames_in_all, may_take}
+use Rattle.wh_host_model.specs.Space.Ready.{below, among, copies, frames_for, pages_of_need, frames_to_write, frames_in_all, may_take}
 use Rattle.wh_host_model.specs.Space.Sound.{IsSound, SlotsAreSound, OccupantsAreSound, HasTable, LeavesBy}
-use Rattle.wh_host_model.specs.Space.States.{at, page_at, resident, swapped, untouched, leaving, count}
-use Rattle.wh_host_model.proofs.Space.Rooms.{frames_room, slots_room}
-use Rattle.wh_host_model.proofs.Space.Sums.{below_le, below_tally, tally_le, tally_plus, get_tally, beside, beside_but}
-use Rattle.wh_host_model.proofs.Space.Wanting.{few_pages, among_all, frames_in_all_room, frames_to_write_room}
+use Rattle.wh_host_model.specs.Space.States.{at, page_at, resident, swapped, untouched, leaving, shares, count, count_of}
+use Rattle.wh_host_model.proofs.Space.Rooms.{frames_room, page_frames, slots_room}
+use Rattle.wh_host_model.proofs.Space.Sums.{below_le, below_plus, below_tally, below_zero, tally_le, tally_plus, get_tally, beside}
+use Rattle.wh_host_model.proofs.Space.Wanting.{few_pages, among_all, frames_to_write_room, kinds_of}
 
 below_shift : (n : ℕ) (v : ℕ → ℕ) → below (suc n) v ≡ v 0 + below n (λ k. v (suc k))
 below_shift zero v = omega arith
@@ -139,25 +142,44 @@ pub leaver : (s : Space) (i p : ℕ) (t : Occupant) → SlotsAreSound s → tick
 leaver s i p t sound none is there free =
     (stays_there s i p sound none there, free, (t, is, leaves_none s i t t.leaves sound none is refl))
 
--- where there is no page to take, no instance has more pages than its minimum ...
-others_low : (s : Space) (i : ℕ) (need : Need) → IsSound s → tickets s ≡ 0 → IsServing s i need → NoneMustLeave s i need
-    → (j : ℕ) (t : Occupant) → j ≢ i → occupant_at s j t → pages_of s j ≤ t.min
-others_low s i need sound none serving lacks j t other is =
-    elim (cases_lt t.min (pages_of s j)) [
-      | inr most ↦ most
-      | inl less ↦
-          elim (beyond resident (get_or s.tables j []) []) [
-            | inl few ↦ absurd (omega arith)
-            | inr found ↦
-                let leaves = leaver s j found.0 t sound.slots none is found.1 (serving.others j found.0 other) in
-                absurd (lacks.0 j ((t, is, less), (found.0, leaves)))
-          ]
+-- where there is no page to take, to no instance more frames are charged than its minimum ...
+charged_some : (n : ℕ) (v : ℕ → ℕ) → 1 ≤ below n v → (k : ℕ) × (1 ≤ v k)
+charged_some zero v some = absurd (omega arith)
+charged_some (suc n) v some =
+    elim (cases_lt 0 (v n)) [
+      | inl here ↦ (n, here)
+      | inr zeros ↦ charged_some n v (omega arith)
     ]
 
+others_low : (s : Space) (i : ℕ) (need : Need) → IsSound s → tickets s ≡ 0 → IsServing s i need → NoneMustLeave s i need
+    → (j : ℕ) (t : Occupant) → j ≢ i → occupant_at s j t → charged_of s j ≤ t.min
+others_low s i need sound none serving lacks j t other is =
+    elim (cases_lt t.min (charged_of s j)) [
+      | inr most ↦ most
+      | inl less ↦
+          (let found = charged_some (length s.pool.frames) (λ f. frame_charge s j f) (omega arith) in
+          let page = charged_page s j found.0 found.1 in
+          let on = page.1.on in
+          let k = on_once found.0 (page_at s.tables j page.0) in let here = k.1 in
+          let leaves = leaver s j page.0 t sound.slots none is (omega arith) (serving.others j page.0 other) in
+          absurd (lacks.0.0 j ((t, is, less), (page.0, (leaves, (found.0, page.1))))))
+    ]
+
+up_to : (a b c : ℕ) → a ≤ b → c ≡ b → a ≤ c
+up_to a b c le same = omega arith
+
 others_min : (s : Space) (i : ℕ) (need : Need) → IsSound s → tickets s ≡ 0 → IsServing s i need → NoneMustLeave s i need
-    → (j : ℕ) (t : Option Occupant) → j ≢ i → slice_get s.occupants j ≡ Some t → pages_of s j ≤ of_occupant (λ t. t.min) t
-others_min s i need sound none serving lacks j (Some t) other is = others_low s i need sound none serving lacks j t other is
-others_min s i need sound none serving lacks j None other is = let e : get_or s.tables j [] ≡ [] = sound.occupants.have j None is in rw e (omega arith)
+    → (j : ℕ) → j < length s.tables → j ≢ i → charged_of s j ≤ of_occupant (λ t. t.min) (get_or s.occupants j None)
+others_min s i need sound none serving lacks j within other =
+    elim (cases_lt 0 (charged_of s j)) [
+      | inr zeros ↦ omega arith
+      | inl some ↦
+          (let found = charged_some (length s.pool.frames) (λ f. frame_charge s j f) some in
+          let few = charge_few s j found.0 in let a = few.1 in let b = found.1 in
+          let who = occupied (stands_on found.0) s j sound.occupants (omega arith) in
+          let low = others_low s i need sound none serving lacks j who.0 other who.1 in
+          up_to (charged_of s j) who.0.min (of_occupant (λ t. t.min) (get_or s.occupants j None)) low (ap (of_occupant (λ t. t.min)) (get_or_is s.occupants j (Some who.0) None who.1)))
+    ]
 
 not_pinned : (s : Space) (i : ℕ) (need : Need) (p : ℕ) → IsServing s i need → tally (one_if p) (pages_of_need need) ≡ 0 → tally (one_if p) (pinned_by s.pins i) ≡ 0
 not_pinned s i need p serving out =
@@ -166,23 +188,189 @@ not_pinned s i need p serving out =
       | inr zeros ↦ omega arith
     ]
 
--- ... and that which asks has no other resident pages than its step's
-own_low : (s : Space) (i : ℕ) (need : Need) (t : Occupant) → IsSound s → tickets s ≡ 0 → IsServing s i need → NoneMustLeave s i need → occupant_at s i t
-    → pages_of s i ≤ among resident s i (pages_of_need need)
-own_low s i need t sound none serving lacks is =
-    elim (beyond resident (get_or s.tables i []) (pages_of_need need)) [
+-- ... and that which asks has no other resident pages than its step's. Of a frame of its own it writes no copy, or
+-- all sharers are the step's.
+own_on : (s : Space) (i f : ℕ) (need : Need) (t : Occupant) → IsSound s → tickets s ≡ 0 → IsServing s i need → NoneMustLeave s i need → occupant_at s i t
+    → standing s i f ≤ among (stands_on f) s i (pages_of_need need)
+own_on s i f need t sound none serving lacks is =
+    elim (beyond (stands_on f) (get_or s.tables i []) (pages_of_need need)) [
       | inl few ↦ few
-      | inr found ↦ absurd (lacks.1 found.0 (leaver s i found.0 t sound.slots none is found.1 (not_pinned s i need found.0 serving found.2)))
+      | inr found ↦ absurd (let k = on_once f (page_at s.tables i found.0) in let a = k.1 in let b = found.1 in
+          lacks.1 found.0 (leaver s i found.0 t sound.slots none is (omega arith) (not_pinned s i need found.0 serving found.2)))
     ]
+
+-- all pages of a kind are in one table, or one is in another
+elsewhere : (w : Page → ℕ) (tables : List (List Page)) (i : ℕ) → (count w tables ≤ count_of w tables i) ⊎ ((j : ℕ) × (j ≢ i) × (1 ≤ count_of w tables j))
+elsewhere w [] i = inl (omega arith)
+elsewhere w (xs ∷ tables) zero =
+    elim (cases_lt 0 (count w tables)) [
+      | inr zeros ↦ inl (omega arith)
+      | inl some ↦ (let found = some_row tables some in inr (suc found.0, λ e. omega arith, found.1))
+    ] where
+      some_row : (tables : List (List Page)) → 1 ≤ count w tables → (j : ℕ) × (1 ≤ count_of w tables j)
+      some_row [] some = absurd (omega arith)
+      some_row (ys ∷ tables) some =
+          elim (cases_lt 0 (tally w ys)) [
+            | inl here ↦ (0, here)
+            | inr zeros ↦ (let rest = some_row tables (omega arith) in (suc rest.0, rest.1))
+          ]
+elsewhere w (xs ∷ tables) (suc i) =
+    elim (cases_lt 0 (tally w xs)) [
+      | inl here ↦ inr (0, λ e. omega arith, here)
+      | inr zeros ↦
+          elim (elsewhere w tables i) [
+            | inl all ↦ inl (omega arith)
+            | inr found ↦ inr (suc found.0, λ e. found.1 (omega arith), found.2)
+          ]
+    ]
+
+shares_one : (f : ℕ) (x : Option Page) → 1 ≤ at (shares f) x → (at (shares f) x ≡ 1) × (1 ≤ at resident x)
+shares_one f x some = (shares_few f x some, let k = on_once f x in let a = k.1 in let b = shares_on f x in omega arith) where
+  shares_on : (f : ℕ) (x : Option Page) → at (shares f) x ≤ at (stands_on f) x
+  shares_on f None = omega arith
+  shares_on f (Some x) = omega arith
+
+  shares_few : (f : ℕ) (x : Option Page) → 1 ≤ at (shares f) x → at (shares f) x ≡ 1
+  shares_few f x some = let k = on_once f x in let a = k.0 in let b = shares_on f x in omega arith
+
+-- more share a frame than the step writes of it: one of them is beside the step, and can leave
+some_beside : (s : Space) (i : ℕ) (need : Need) (f : ℕ) (t : Occupant) → IsSound s → tickets s ≡ 0 → IsServing s i need → occupant_at s i t
+    → among (shares f) s i (pages_of_need need) < sharers s f → (j p : ℕ) × IsBeside s i need f j p
+some_beside s i need f t sound none serving is more =
+    elim (elsewhere (shares f) s.tables i) [
+      | inl all ↦
+          elim (beyond (shares f) (get_or s.tables i []) (pages_of_need need)) [
+            | inl few ↦ absurd (omega arith)
+            | inr found ↦
+                (let one = shares_one f (page_at s.tables i found.0) found.1 in (
+                  i,
+                  found.0,
+                  record {
+                    shares = one.0;
+                    apart = λ e. found.2;
+                    can = leaver s i found.0 t sound.slots none is one.1 (not_pinned s i need found.0 serving found.2);
+                  },
+                ))
+          ]
+      | inr found ↦
+          (let page = first_of (shares f) (get_or s.tables found.0 []) found.2 in
+          let one = shares_one f (page_at s.tables found.0 page.0) page.1 in
+          let who = occupied (shares f) s found.0 sound.occupants found.2 in (
+            found.0,
+            page.0,
+            record {
+              shares = one.0;
+              apart = λ e. absurd (found.1 e);
+              can = leaver s found.0 page.0 who.0 sound.slots none who.1 one.1 (serving.others found.0 page.0 found.1);
+            },
+          ))
+    ]
+
+some_of : (w : ℕ → ℕ) (ps : List ℕ) → 1 ≤ tally w ps → (q : ℕ) × (1 ≤ w q) × (1 ≤ tally (one_if q) ps)
+some_of w [] some = absurd (omega arith)
+some_of w (p ∷ ps) some =
+    elim (cases_lt 0 (w p)) [
+      | inl here ↦ (p, here, let o = one_same p p refl in omega arith)
+      | inr zeros ↦ (let rest = some_of w ps (omega arith) in (rest.0, rest.1, let k = rest.2 in omega arith))
+    ]
+
+-- of a frame of which copies are wanted though others share it none is charged to the one that asks
+not_charged : (s : Space) (i : ℕ) (need : Need) (f : ℕ) (t : Occupant) → IsSound s → tickets s ≡ 0 → IsServing s i need → NoneMustLeave s i need → occupant_at s i t
+    → need.writes ≡ true → 1 ≤ among (shares f) s i (pages_of_need need) → among (shares f) s i (pages_of_need need) < sharers s f → frame_charge s i f ≡ 0
+not_charged s i need f t sound none serving lacks is writes some more =
+    elim (cases_lt 0 (frame_charge s i f)) [
+      | inr zeros ↦ omega arith
+      | inl charged ↦
+          (let q = some_of (λ p. at (shares f) (page_at s.tables i p)) (pages_of_need need) some in
+          let few = charge_few s i f in let one = few.0 in
+          absurd (lacks.0.1 q.0 f (record {
+            writes = writes;
+            page = q.2;
+            on = (shares_one f (page_at s.tables i q.0) q.1).0;
+            charged = omega arith;
+            more = more;
+            beside = some_beside s i need f t sound none serving is more;
+          })))
+    ]
+
+copies_all : (t sh : ℕ) → t < sh → copies t sh ≡ t
+copies_all t sh less = grind (arith, nat_tests)
+
+copies_less : (t sh : ℕ) → sh ≤ t → copies t sh ≡ t - 1
+copies_less t sh most = grind (arith, nat_tests)
+
+charge_room : (c a t sh : ℕ) → c ≤ 1 → c ≤ a → t ≤ a → (1 ≤ t → t < sh → c ≡ 0) → c + copies t sh ≤ a
+charge_room c a t sh one own some shed =
+    elim (cases_lt t sh) [
+      | inr most ↦ (let e = copies_less t sh most in omega arith)
+      | inl less ↦
+          (let e = copies_all t sh less in
+          elim (cases_lt 0 t) [
+            | inr zeros ↦ omega arith
+            | inl more ↦ (let z = shed more less in omega arith)
+          ])
+    ]
+
+among_on : (s : Space) (i f : ℕ) (ps : List ℕ) → among (shares f) s i ps ≤ among (stands_on f) s i ps
+among_on s i f [] = omega arith
+among_on s i f (p ∷ ps) = (let rest = among_on s i f ps in let one = each (page_at s.tables i p) in omega arith) where
+  each : (x : Option Page) → at (shares f) x ≤ at (stands_on f) x
+  each None = omega arith
+  each (Some x) = omega arith
+
+-- the pages of a step stand on one frame each
+among_frames : (n : ℕ) (s : Space) (i : ℕ) (ps : List ℕ) → below n (λ f. among (stands_on f) s i ps) ≤ among resident s i ps
+among_frames n s i ps =
+    let swap = below_tally n (λ f p. at (stands_on f) (page_at s.tables i p)) ps in
+    let each = tally_le (λ p. below n (λ f. at (stands_on f) (page_at s.tables i p))) (λ p. at resident (page_at s.tables i p)) ps (λ p. one_frame (page_at s.tables i p)) in
+    omega arith where
+      one_frame : (x : Option Page) → below n (λ f. at (stands_on f) x) ≤ at resident x
+      one_frame None = let z = below_zero n in omega arith
+      one_frame (Some x) = page_frames n x
+
+-- What is charged to the one that asks and what its step wants are no more than the step's pages.
+own_room : (s : Space) (i : ℕ) (need : Need) (t : Occupant) → IsSound s → tickets s ≡ 0 → IsServing s i need → NoneMustLeave s i need → occupant_at s i t
+    → charged_of s i + frames_in_all s i need ≤ 2
+own_room s i need t sound none serving lacks is =
+    go need.writes refl where
+      own : (f : ℕ) → frame_charge s i f ≤ among (stands_on f) s i (pages_of_need need)
+      own f = let few = charge_few s i f in let a = few.1 in let b = own_on s i f need t sound none serving lacks is in omega arith
+
+      go : (b : Bool) → need.writes ≡ b → charged_of s i + (among swapped s i (pages_of_need need) + cond b (frames_for s i (pages_of_need need)) 0) ≤ 2
+      go false e =
+          let n = length s.pool.frames in
+          let ps : List ℕ = pages_of_need need in
+          let kinds = kinds_of s i ps (few_pages need) in
+          let frames = among_frames n s i ps in
+          let reads = below_le n (λ f. frame_charge s i f) (λ f. among (stands_on f) s i ps) (λ f less. own f) in
+          omega arith
+      go true e =
+          let n = length s.pool.frames in
+          let ps : List ℕ = pages_of_need need in
+          let kinds = kinds_of s i ps (few_pages need) in
+          let frames = among_frames n s i ps in
+          let each = below_le n (λ f. frame_charge s i f + copies (among (shares f) s i ps) (sharers s f)) (λ f. among (stands_on f) s i ps)
+          (λ f less. (let few = charge_few s i f in charge_room (frame_charge s i f) (among (stands_on f) s i ps) (among (shares f) s i ps) (sharers s f) few.0 (own f) (among_on s i f ps)
+          (λ some more. not_charged s i need f t sound none serving lacks is e some more))) in
+          let parts = below_plus n (λ f. frame_charge s i f) (λ f. copies (among (shares f) s i ps) (sharers s f)) in
+          omega arith
+
+mins_below : (w : Option Occupant → ℕ) (xs : List (Option Occupant)) → tally w xs ≡ below (length xs) (λ n. w (get_or xs n None))
+mins_below w [] = refl
+mins_below w (x ∷ xs) = let rest = mins_below w xs in let shift = below_shift (length xs) (λ n. w (get_or (x ∷ xs) n None)) in omega arith
 
 -- Where a step lacks a frame, there is a page to take.
 pub frame_there : (s : Space) (i : ℕ) (need : Need) (t : Occupant) → IsSound s → tickets s ≡ 0 → IsServing s i need → occupant_at s i t → NoneMustLeave s i need
     → frames_in_all s i need ≤ may_take s i
 frame_there s i need t sound none serving is lacks =
-    let room = frames_room s sound.frames in
-    let low = beside_but [] (tally resident) (of_occupant (λ t. t.min)) s.tables s.occupants i (Some t) sound.occupants.tables is (others_min s i need sound none serving lacks) in
-    let own = own_low s i need t sound none serving lacks is in
-    let wants = frames_in_all_room s i need in
+    let room = frames_charged s sound.frames in
+    let same = sound.occupants.tables in
+    let there : i < length s.tables = (let k = there_of s.occupants i (Some t) is in omega arith) in
+    let low = below_but (length s.tables) i (λ j. charged_of s j) (λ j. of_occupant (λ t. t.min) (get_or s.occupants j None)) there (others_min s i need sound none serving lacks) in
+    let sum = mins_below (of_occupant (λ t. t.min)) s.occupants in
+    let sum2 : tally (of_occupant (λ t. t.min)) s.occupants ≡ below (length s.tables) (λ j. of_occupant (λ t. t.min) (get_or s.occupants j None)) = rw same sum in
+    let mine : of_occupant (λ t. t.min) (get_or s.occupants i None) ≡ t.min = rw (get_or_is s.occupants i (Some t) None is) refl in
+    let own = own_room s i need t sound none serving lacks is in
     let least = (sound.occupants.have i (Some t) is).0 in
     let minima = sound.admissible.0 in
     let kept = serving.kept in
@@ -236,3 +424,12 @@ slot_there s i need t sound none kept is lacking =
           let own = among_all untouched s i (pages_of_need need) (few_pages need) in
           omega arith
     ]
+
+-- All tables together have no more pages than there are frames and slots: so much room is enough for whatever is kept of
+-- each page that may ever be there.
+pub pages_fit : (s : Space) → IsSound s → tally (of_occupant (λ t. t.max)) s.occupants ≤ length s.pool.frames + length s.slots.uses
+pages_fit s sound =
+    let all = spare s.occupants (λ j u at. (sound.occupants.have j (Some u) at).1) in
+    let minima = sound.admissible.0 in
+    let maxima = sound.admissible.1 in
+    omega arith

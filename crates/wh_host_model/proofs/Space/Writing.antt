@@ -1,5 +1,5 @@
 -- Bytes that are written into pages that stand alone on their frames.
-use Rattle.std.proofs.Common.{◌≡◌, ℕ, ◌+◌, ◌*◌, ◌/◌, ◌%◌, ◌<◌, ◌≤◌, ◌++◌, List, [], ◌∷◌, Some, length, get_or, slice_set, refl, sym, ◌∙◌, ap, subst, arith}
+use Rattle.std.proofs.Common.{◌≡◌, ℕ, ◌+◌, ◌*◌, ◌/◌, ◌≤◌, ◌++◌, List, [], ◌∷◌, Some, length, slice_set, refl, sym, ◌∙◌, ap, subst, arith}
 use Rattle.wh_model.specs.Execution.Store.{written}
 use Rattle.wh_model.specs.Execution.Memory.{writing}
 use Rattle.wh_host_model.specs.Frames.{tally, one_if}
@@ -12,7 +12,7 @@ use Rattle.wh_host_model.specs.Space.Stores.{Fills}
 use Rattle.wh_host_model.proofs.Tally.{one_same}
 use Rattle.wh_host_model.proofs.Space.Blocks.{written_parts}
 use Rattle.wh_host_model.proofs.Space.Filled.{refilled}
-use Rattle.wh_host_model.proofs.Space.Filling.{apart_of, fillable, one_filled, write_none}
+use Rattle.wh_host_model.proofs.Space.Filling.{apart_of, fillable, one_filled}
 use Rattle.wh_host_model.proofs.Space.Reading.{on_one_page}
 
 -- into one page

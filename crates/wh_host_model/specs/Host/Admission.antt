@@ -9,7 +9,7 @@ use Rattle.wh_model.specs.Execution.Store.{Instance, Store}
 use Rattle.wh_model.specs.Execution.Instance.{AreGiven, Piece, IsInitial, memory_min, segment_bounds, begins}
 use Rattle.wh_model.specs.Execution.Replay.{Outcome, returned, pending}
 use Rattle.wh_model.specs.declared.faults.ImportFault.{ImportFault}
-use Rattle.wh_model.specs.Linking.Imports.{Links, IsFirstFault}
+use Rattle.wh_model.specs.Linking.Imports.{IsFirstFault}
 use Rattle.wh_model.specs.Linking.Accepting.{IsModule, IsAccepted}
 use Rattle.wh_host_model.specs.Space.Parts.{Space, minima, spreads}
 use Rattle.wh_host_model.specs.Host.Spaces.{Arrives, Departs}

@@ -151,15 +151,15 @@ abbrev pub shared_text : (frames sharers : ℕ) → List ℕ
 shared_text frames sharers =
     codes "# shared frames " ++ decimal frames ++ codes " sharers " ++ decimal sharers ++ codes "\n"
 
--- an instance of the report: its number, shares, least and greatest number of frames, and how many of its pages are
--- resident, touched and swapped; the tax is num / den
+-- an instance of the report: its number, shares, least and greatest number of frames, how many frames are charged to it,
+-- how many of these are active, and how many of its pages are swapped; the tax is num / den
 pub record Row : Type 0 where
   pub number : ℕ
   pub shares : ℕ
   pub min : ℕ
   pub max : ℕ
-  pub resident : ℕ
-  pub touched : ℕ
+  pub charged : ℕ
+  pub active : ℕ
   pub swapped : ℕ
   pub num : ℕ
   pub den : ℕ
@@ -168,9 +168,9 @@ pub record Row : Type 0 where
 abbrev pub column : (width n : ℕ) → List ℕ
 column width n = replicate (width - length (decimal n)) 32 ++ decimal n
 
--- what the pages weigh: den for each idle one, and den - num for each that was touched
+-- what the frames weigh: den for each idle one, and den - num for each active one
 abbrev pub row_weight : Row → ℕ
-row_weight r = r.touched * (r.den - r.num) + (r.resident - r.touched) * r.den
+row_weight r = r.active * (r.den - r.num) + (r.charged - r.active) * r.den
 
 -- the fraction of shares to weight, not reduced: `100/4`, or `-` where there is no weight
 abbrev pub rho_text : Row → List ℕ
@@ -181,5 +181,5 @@ rho_text r =
 -- `#     1     100     2    16     1     0     0 100/4`
 abbrev pub row_text : Row → List ℕ
 row_text r =
-    codes "#" ++ column 6 r.number ++ column 8 r.shares ++ column 6 r.min ++ column 6 r.max ++ column 6 r.resident
-    ++ column 6 r.touched ++ column 6 r.swapped ++ codes " " ++ rho_text r ++ codes "\n"
+    codes "#" ++ column 6 r.number ++ column 8 r.shares ++ column 6 r.min ++ column 6 r.max ++ column 6 r.charged
+    ++ column 6 r.active ++ column 6 r.swapped ++ codes " " ++ rho_text r ++ codes "\n"

@@ -1,5 +1,5 @@
 -- What holds of the memory on which all instances lie.
-use Rattle.std.specs.Prelude.{ℕ, ◌≡◌, ◌+◌, ◌<◌, ◌≤◌, ◌⊎◌, Bool, true, List, [], Option, Some, length, get_or}
+use Rattle.std.specs.Prelude.{ℕ, ◌≡◌, ◌+◌, ◌<◌, ◌≤◌, ◌⊎◌, Bool, true, min, List, [], Option, Some, length, get_or}
 use Rattle.wh_host_model.specs.declared.states.EvictEnd.{EvictEnd}
 use Rattle.wh_host_model.specs.declared.states.FetchEnd.{FetchEnd}
 use Rattle.wh_model.specs.declared.memory.Need.{Need}
@@ -9,8 +9,9 @@ use Rattle.wh_host_model.specs.Space.States.{page_at, count, owns, resident}
 use Rattle.wh_host_model.specs.Space.Parts.{Space, Occupant, occupant_at, all_bytes, sharers, kept}
 use Rattle.wh_host_model.specs.Space.Errands.{fetches_into, tickets}
 use Rattle.wh_host_model.specs.Space.Sound.{IsSound}
-use Rattle.wh_host_model.specs.Space.Ready.{Ready}
-use Rattle.wh_host_model.specs.Space.Claims.{CanLeave, NoneMustLeave}
+use Rattle.wh_host_model.specs.Space.Ready.{Ready, below}
+use Rattle.wh_host_model.specs.Space.Charges.{IsChargedFor, frame_charge, charged_of, stands_on}
+use Rattle.wh_host_model.specs.Space.Claims.{CanLeave, MustLeave, NoneMustLeave}
 use Rattle.wh_host_model.specs.Space.Moves.{Evicts, Fetches}
 use Rattle.wh_host_model.specs.Space.Provide.{IsServing, LacksFree, HasPinned, Move, OthersKeepMinimum, Provides, Serves, leaves}
 use Rattle.wh_host_model.specs.Space.Tickets.{BeginsEvict, BeginsFetch, CommitsEvict, CommitsFetch, StandsForFrame}
@@ -121,3 +122,23 @@ CommitsFetchQuietly =
     (s s2 : Space) (k : ℕ) (read : Bool) (bytes : List ℕ) (end : FetchEnd) → IsSound s
     → (read ≡ true → get_or s.slots.held k [] ≡ bytes)
     → CommitsFetch s k read bytes end s2 → all_bytes s2 ≡ all_bytes s
+
+-- the page that must leave for a step is one page
+abbrev pub OnePageMustLeave : Type 0
+OnePageMustLeave =
+    (s : Space) (i j p k q : ℕ) (need : Need) → IsSound s → MustLeave s i need j p → MustLeave s i need k q
+    → (j ≡ k) × (p ≡ q)
+
+-- a frame on which pages stand has exactly one charged page, and is charged to its instance
+abbrev pub OneChargedPage : Type 0
+OneChargedPage =
+    (s : Space) (f : ℕ) → IsSound s → 1 ≤ count (stands_on f) s.tables
+    → (i p : ℕ) × IsChargedFor s i p f × (frame_charge s i f ≡ 1)
+    × ((j q : ℕ) → IsChargedFor s j q f → (i ≡ j) × (p ≡ q))
+
+-- to all instances together as many frames are charged as pages stand on
+abbrev pub ChargesAddUp : Type 0
+ChargesAddUp =
+    (s : Space) → IsSound s
+    → below (length s.tables) (λ i. charged_of s i)
+    ≡ below (length s.pool.frames) (λ f. min 1 (count (stands_on f) s.tables))

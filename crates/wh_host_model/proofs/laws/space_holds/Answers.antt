@@ -16,6 +16,8 @@ use Rattle.wh_host_model.proofs.Space.Chained.{empty_sound, fails_soundly, stays
 use Rattle.wh_host_model.proofs.Space.Filled.{breaks_soundly, stores_soundly, stores_are_right}
 use Rattle.wh_host_model.proofs.Space.Filling.{some_store}
 use Rattle.wh_host_model.proofs.Space.Passed.{contents_are_listed, passes_fully}
+use Rattle.wh_host_model.proofs.Space.Charging.{charges_add_up, one_charged_page}
+use Rattle.wh_host_model.proofs.Space.OnePage.{one_page_must_leave}
 use Rattle.wh_host_model.proofs.laws.space_holds.Goals as goal
 
 pub returns-clause-ready_is_decided : goal.returns-clause-ready_is_decided
@@ -167,3 +169,12 @@ returns-clause-passes_fully c = passes_fully
 
 pub returns-clause-contents_are_listed : goal.returns-clause-contents_are_listed
 returns-clause-contents_are_listed c = contents_are_listed
+
+pub returns-clause-one_charged_page : goal.returns-clause-one_charged_page
+returns-clause-one_charged_page c = one_charged_page
+
+pub returns-clause-charges_add_up : goal.returns-clause-charges_add_up
+returns-clause-charges_add_up c = charges_add_up
+
+pub returns-clause-one_page_must_leave : goal.returns-clause-one_page_must_leave
+returns-clause-one_page_must_leave c = one_page_must_leave

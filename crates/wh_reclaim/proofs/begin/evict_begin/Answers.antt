@@ -1,5 +1,6 @@
 use Rattle.std.proofs.Common.{◌<◌, ◌∙◌, sym, arith}
 use Rattle.wh_host_model.specs.Space.Ready.{frames_in_all, may_take}
+use Rattle.wh_host_model.proofs.Space.Serving.{can_leave}
 use Rattle.wh_reclaim.proofs.Beginning.{begins_evict, wants_stands}
 use Rattle.wh_reclaim.proofs.Sending.{evicting_now}
 use Rattle.wh_reclaim.proofs.begin.evict_begin.Goals as goal
@@ -19,3 +20,6 @@ returns-clause-begins c =
 pub returns-clause-out : goal.returns-clause-out
 returns-clause-out c =
     evicting_now c.reserve.new.memory c.in-Some-page_to_take.taken.place c.in-Some-page_to_take.taken.page c.depart-slot.result c.depart-slot.new.into c.depart-slot.new.self c.known.ensures.sound c.depart-slot.ensures
+
+pub depart-slot-requires-clause-can : goal.depart-slot-requires-clause-can
+depart-slot-requires-clause-can c = can_leave c.reserve.new.memory c.args.place c.in-Some.need c.in-Some-page_to_take.taken.place c.in-Some-page_to_take.taken.page c.in-Some-page_to_take.ensures

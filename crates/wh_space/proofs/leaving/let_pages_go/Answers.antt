@@ -1,21 +1,20 @@
 use Rattle.std.proofs.Common.{[], get_or}
-use Rattle.wh_space.specs.Pages.{pages_in}
 use Rattle.wh_space.proofs.LeavingPages.{next_page}
 use Rattle.wh_space.proofs.leaving.let_pages_go.Goals as goal
 
 pub let_page_go-requires : goal.let_page_go-requires
 let_page_go-requires c =
-    let e = next_page (get_or (pages_in c.args.tables.now.items) c.args.place []) c.loop-number.number c.page_of-page.result c.page_of-page.ensures in
+    let e = next_page (get_or c.args.tables.now.pages c.args.place []) c.loop-number.number c.page-page.result c.page-page.ensures in
     (rw e at c.loop-number.invariant.can).0
 
 pub leave_slot-requires : goal.leave_slot-requires
 leave_slot-requires c =
-    let e = next_page (get_or (pages_in c.args.tables.now.items) c.args.place []) c.loop-number.number c.page_of-page.result c.page_of-page.ensures in
+    let e = next_page (get_or c.args.tables.now.pages c.args.place []) c.loop-number.number c.page-page.result c.page-page.ensures in
     (rw e at c.loop-number.invariant.can_slots).0
 
 pub loop-number-preserved : goal.loop-number-preserved
 loop-number-preserved c =
-    let e = next_page (get_or (pages_in c.args.tables.now.items) c.args.place []) c.loop-number.number c.page_of-page.result c.page_of-page.ensures in
+    let e = next_page (get_or c.args.tables.now.pages c.args.place []) c.loop-number.number c.page-page.result c.page-page.ensures in
     let can = rw e at c.loop-number.invariant.can in
     let can_slots = rw e at c.loop-number.invariant.can_slots in
     let leaves = rw e at c.loop-number.invariant.leaves in

@@ -1,16 +1,22 @@
 use Rattle.std.proofs.Common.{ap}
-use Rattle.wh_pages.specs.Table.{PageTableState}
-use Rattle.wh_space.proofs.Tables.{column_marked, column_stays, column_unmarked}
+use Rattle.wh_tables.specs.Tables.{TablesState}
+use Rattle.wh_space.specs.Pages.{fixed_in}
+use Rattle.wh_space.proofs.Marking.{marked_none, marked_some, private_found}
 use Rattle.wh_space.proofs.pages.touch_private.Goals as goal
 
 pub returns-clause-pages : goal.returns-clause-pages
-returns-clause-pages c = column_stays (λ t. t.pages) _ _ _ _ c.index_mut-table.ensures.value (ap (λ (t : PageTableState). t.pages) c.touch_private.ensures.touched)
+returns-clause-pages c = ap (λ (z : TablesState). z.pages) c.touch_private.ensures.marks
 
 pub returns-clause-marks : goal.returns-clause-marks
-returns-clause-marks c = column_marked _ _ _ _ _ c.touch_private.result c.index_mut-table.ensures.value (ap (λ (t : PageTableState). t.touched) c.touch_private.ensures.touched)
-
-pub returns-clause-none : goal.returns-clause-none
-returns-clause-none c = column_unmarked _ _ _ _ _ c.touch_private.result c.index_mut-table.ensures.value (ap (λ (t : PageTableState). t.touched) c.touch_private.ensures.touched)
+returns-clause-marks c = marked_some c.args.tables.now c.touch_private.new.self c.args.place c.args.number c.touch_private.result c.touch_private.ensures.marks
 
 pub returns-clause-limits : goal.returns-clause-limits
-returns-clause-limits c = column_stays (λ t. t.max) _ _ _ _ c.index_mut-table.ensures.value (ap (λ (t : PageTableState). t.max) c.touch_private.ensures.touched)
+returns-clause-limits c = ap fixed_in c.touch_private.ensures.marks
+
+pub returns-clause-none : goal.returns-clause-none
+returns-clause-none c = marked_none c.args.tables.now c.touch_private.new.self c.args.place c.args.number c.touch_private.result c.touch_private.ensures.marks
+
+pub returns-clause-some : goal.returns-clause-some
+returns-clause-some c =
+    let found = c.touch_private.ensures.frame in
+    private_found c.args.tables.now.pages c.args.place c.args.number found.0 c.touch_private.result found.1 found.2

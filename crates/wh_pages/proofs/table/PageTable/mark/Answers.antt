@@ -1,4 +1,4 @@
-use Rattle.std.proofs.Common.{◌≡◌, ◌<◌, refl, length, ap, ◌∙◌, sym, arith}
+use Rattle.std.proofs.Common.{◌<◌, refl, length, ap, ◌∙◌, arith}
 use Rattle.wh_pages.specs.Parts.{page_of}
 use Rattle.wh_pages.specs.Table.{PageTableState}
 use Rattle.wh_pages.proofs.Columns.{length-column, same_table}

@@ -1,4 +1,4 @@
-use Rattle.std.proofs.Common.{◌≡◌, ◌∙◌, ℕ, ◌+◌, ◌*◌, ◌<◌, inl, inr, Some, subst, sym, arith}
+use Rattle.std.proofs.Common.{◌∙◌, ◌*◌, inl, inr, subst, sym, arith}
 use Rattle.wh_pages.specs.Seeking.{IsSought}
 use Rattle.wh_pages.specs.Table.{PageTableState}
 use Rattle.wh_pages.proofs.Seeking.{either, entry_of_sought, next_here, none_here}

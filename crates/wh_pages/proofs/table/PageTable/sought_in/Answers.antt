@@ -1,6 +1,4 @@
-use Rattle.std.proofs.Common.{◌≡◌, ◌<◌, ◌≤◌, inl, inr, Some, slice_get, subst, sym, ap, ◌∙◌, arith}
-use Rattle.wh_pages.specs.declared.entry.Entry.{Entry}
-use Rattle.wh_pages.specs.Parts.{page_table_of}
+use Rattle.std.proofs.Common.{◌≡◌, ◌<◌, inl, inr, Some, subst, sym, ◌∙◌, arith}
 use Rattle.wh_pages.specs.Seeking.{IsSought}
 use Rattle.wh_pages.specs.Table.{PageTableState}
 use Rattle.wh_pages.proofs.Seeking.{entry_of_sought, next_or, sought_of_entry}

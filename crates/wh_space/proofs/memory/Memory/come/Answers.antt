@@ -9,6 +9,7 @@ use Rattle.wh_space.specs.Parts.{IsWell, space_of}
 use Rattle.wh_space.proofs.Transiting.{table_within}
 use Rattle.wh_host_model.proofs.Space.Come.{is_sound_come}
 use Rattle.wh_space.proofs.Moving.{came, fetched_into, given, is_awaited}
+use Rattle.wh_space.proofs.Framing.{known}
 use Rattle.wh_space.proofs.memory.Memory.come.Goals as goal
 
 pub set_frame-requires : goal.set_frame-requires
@@ -25,8 +26,11 @@ end_coming-requires c =
     let out = is_awaited (space_of c.self.inside) c.args.slot c.args.place c.args.page c.args.frame c.self.invariant.sound (rw (← c.self.view_is) at c.requires) in
     table_within c.self.inside c.args.place c.self.invariant.sound out.row
 
-pub put_page-requires : goal.put_page-requires
-put_page-requires c =
+pub put_page-requires-clause-frame : goal.put_page-requires-clause-frame
+put_page-requires-clause-frame c = known c.self.inside c.args.frame c.self.invariant (fetched_into (space_of c.self.inside) c.args.slot c.args.frame (Fetching c.args.place c.args.page c.args.frame) c.self.invariant.sound (rw (← c.self.view_is) at c.requires) (one_same c.args.frame c.args.frame refl)).0
+
+pub put_page-requires-clause-there : goal.put_page-requires-clause-there
+put_page-requires-clause-there c =
     let out = is_awaited (space_of c.self.inside) c.args.slot c.args.place c.args.page c.args.frame c.self.invariant.sound (rw (← c.self.view_is) at c.requires) in
     (is_page (space_of c.self.inside).tables c.args.place c.args.page (Coming c.args.slot) out.page).1
 

@@ -11,19 +11,23 @@ use Rattle.wh_space.specs.declared.memory.Memory.TheInside.{Inside}
 use Rattle.wh_space.specs.Parts.{IsWell, space_of}
 use Rattle.wh_space.proofs.Moving.{can_depart, departed_now, may_depart, page_stays, taken_slot}
 use Rattle.wh_space.proofs.Transiting.{tickets_few}
+use Rattle.wh_space.proofs.Framing.{known_under, leaving_frame}
 use Rattle.wh_space.proofs.memory.Memory.depart.Goals as goal
 
 pub unreachable-requires : goal.unreachable-requires
 unreachable-requires c =
     let can : CanLeave (space_of c.self.inside) c.args.place c.args.page = rw (← c.self.view_is) at c.requires.can in
-    let new = can_depart c.page_of.result (page_stays (space_of c.self.inside).tables c.args.place c.args.page c.page_of.result c.page_of.ensures can.0) in
+    let new = can_depart c.page.result (page_stays (space_of c.self.inside).tables c.args.place c.args.page c.page.result c.page.ensures can.0) in
     c.in_default.ensures new.0 new.1
 
 pub bytes-requires : goal.bytes-requires
-bytes-requires c = taken_under (space_of c.self.inside) c.args.place c.args.page c.page_of.result c.in-Some.frame c.self.invariant.sound.frames c.page_of.ensures c.in-Some.ensures.0
+bytes-requires c = taken_under (space_of c.self.inside) c.args.place c.args.page c.page.result c.in-Some.frame c.self.invariant.sound.frames c.page.ensures c.in-Some.ensures.0
 
-pub put_page-requires : goal.put_page-requires
-put_page-requires c = (is_page (space_of c.self.inside).tables c.args.place c.args.page c.page_of.result c.page_of.ensures).1
+pub put_page-requires-clause-frame : goal.put_page-requires-clause-frame
+put_page-requires-clause-frame c = rw (leaving_frame c.page.result c.in-Some.now c.in-Some.ensures.1, c.in-Some.ensures.0) (known_under c.self.inside c.args.place c.args.page c.in-Some.frame c.page.result c.self.invariant c.page.ensures c.in-Some.ensures.0)
+
+pub put_page-requires-clause-there : goal.put_page-requires-clause-there
+put_page-requires-clause-there c = (is_page (space_of c.self.inside).tables c.args.place c.args.page c.page.result c.page.ensures).1
 
 pub begin_leaving-requires-clause-there : goal.begin_leaving-requires-clause-there
 begin_leaving-requires-clause-there c = (may_depart c.self.inside c.args.place c.args.page (rw (← c.self.view_is) at c.requires.can)).less
@@ -42,7 +46,7 @@ ended c =
     let list = c.in-Some-take.ensures.vacant in
     let vacant = vacant_there s c.in-Some-take.slot c.take.new.self.vacant c.self.invariant.sound.slots list in
     departed_now a (record a { guests = c.begin_leaving.new.guests; slots = c.take.new.self; tables = c.put_page.new.tables }) c.args.place c.args.page c.in-Some-take.slot c.take.new.self.vacant c.in-Some.now may.occupant c.self.invariant
-    (is_sound_begun s c.args.place c.args.page c.in-Some-take.slot c.take.new.self.vacant c.page_of.result c.in-Some.now c.self.invariant.sound can c.page_of.ensures c.in-Some.ensures.1 list) vacant may.there c.begin_leaving.ensures
+    (is_sound_begun s c.args.place c.args.page c.in-Some-take.slot c.take.new.self.vacant c.page.result c.in-Some.now c.self.invariant.sound can c.page.ensures c.in-Some.ensures.1 list) vacant may.there c.begin_leaving.ensures
     (taken_slot a.slots c.take.new.self c.in-Some-take.slot (Evicting c.args.place c.args.page) c.in-Some-take.ensures.uses c.in-Some-take.ensures.held)
     c.put_page.ensures.pages c.put_page.ensures.marks c.put_page.ensures.limits refl refl refl refl
 
@@ -53,4 +57,4 @@ pub returns : goal.returns
 returns c =
     let s : Space = space_of c.self.inside in
     let bytes : c.bytes.result.now ≡ frame_bytes s c.in-Some.frame = sym (get_or_is s.pool.frames c.in-Some.frame c.bytes.result.now [] c.bytes.ensures) in
-    rw (← c.self.view_is) (c.in-Some.frame, c.page_of.result, c.in-Some.now, c.page_of.ensures, c.in-Some.ensures.0, c.in-Some.ensures.1, bytes, c.take.new.self.vacant, c.in-Some-take.ensures.vacant, (ended c).0)
+    rw (← c.self.view_is) (c.in-Some.frame, c.page.result, c.in-Some.now, c.page.ensures, c.in-Some.ensures.0, c.in-Some.ensures.1, bytes, c.take.new.self.vacant, c.in-Some-take.ensures.vacant, (ended c).0)

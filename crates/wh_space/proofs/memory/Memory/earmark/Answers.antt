@@ -16,7 +16,7 @@ invariant_of-self c =
     let there : (t : Occupant) × occupant_at s c.args.place t × (t.live ≡ true) = rw (← c.self.view_is) at c.requires.there in
     let few : length (kept s.pins) + c.args.count ≤ 2 = (let zero_kept = ap length none in let most = c.requires.few in omega arith) in
     let e = c.take_frames-frames.ensures in
-    well a b c.self.invariant refl refl refl (is_sound_earmarked s c.args.place c.args.count (space_of b) c.self.invariant.sound there few
+    well a b c.self.invariant refl refl (ap length e.frames) refl (is_sound_earmarked s c.args.place c.args.count (space_of b) c.self.invariant.sound there few
     (earmarks s c.args.place c.args.count b.pool c.pages_pinned-pages.result c.take_frames-frames.result none c.pages_pinned-pages.ensures e.many e.frames e.free))
 
 pub returns : goal.returns

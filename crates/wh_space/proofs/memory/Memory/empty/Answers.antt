@@ -1,4 +1,5 @@
-use Rattle.std.proofs.Common.{refl, subst, sym}
+use Rattle.wh_host_model.specs.Frames.{Pool}
+use Rattle.std.proofs.Common.{length, ap, refl, subst, sym}
 use Rattle.wh_host_model.specs.Space.Sound.{IsSound}
 use Rattle.wh_space.specs.Parts.{space_of}
 use Rattle.wh_space.specs.declared.memory.Memory.TheInside.{Inside}
@@ -17,5 +18,5 @@ invariant_of-self c =
     let a = c.self.inside in
     let b : Inside = record a { tables = c.empty_page.new.tables; pool = c.give.new.self; content = c.forget_frame.new.self } in
     let is = remade_is a b _ _ _ _ refl refl refl refl c.empty_page.ensures.pages c.empty_page.ensures.marks c.give.ensures.gives c.forget_frame.ensures in
-    well a b c.self.invariant refl c.empty_page.ensures.limits refl
+    well a b c.self.invariant refl c.empty_page.ensures.limits (ap (λ (z : Pool). length z.frames) c.give.ensures.gives) refl
     (subst IsSound (sym is) (emptied_sound (space_of a) c.args.place c.args.page c.args.frame c.self.invariant.sound (rw (← c.self.view_is) at c.requires)))

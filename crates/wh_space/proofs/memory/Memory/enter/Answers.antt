@@ -1,31 +1,57 @@
-use Rattle.std.proofs.Common.{◌≡◌, ◌<◌, ◌^◌, Some, refl, subst, sym, arith}
-use Rattle.wh_host_model.specs.Space.Parts.{Space}
-use Rattle.wh_host_model.specs.Space.Places.{with_row}
+use Rattle.std.proofs.Common.{◌≡◌, ◌≢◌, ◌<◌, ◌≤◌, ◌^◌, ℕ, [], Some, length, get_or, refl, subst, sym, ◌∙◌, arith}
+use Rattle.std.proofs.lemmas.List.{length-map}
+use Rattle.wh_host_model.specs.Space.Parts.{Occupant, Space, occupant_at}
+use Rattle.wh_host_model.specs.Space.Places.{IsFreePlace, with_row}
+use Rattle.wh_host_model.proofs.Space.Entered.{free_within}
+use Rattle.wh_tables.specs.Tables.{TablesState}
 use Rattle.wh_space.specs.declared.memory.Memory.TheInside.{Inside}
-use Rattle.wh_space.specs.Parts.{space_of}
-use Rattle.wh_space.proofs.Entering.{MayEnter, entered, guest_of, table_for}
+use Rattle.wh_space.specs.Parts.{occupant_of, space_of}
+use Rattle.wh_space.proofs.Entering.{MayEnter, entered, guest_of, none_at_free, other_number, with_table}
 use Rattle.wh_space.proofs.memory.Memory.enter.Goals as goal
+
+pub enter-requires-clause-place : goal.enter-requires-clause-place
+enter-requires-clause-place c =
+    let a : Inside = c.self.inside in
+    let s : Space = space_of a in
+    let free = subst (λ (z : Space). IsFreePlace z c.args.place) (sym c.self.view_is) c.requires.free in
+    let most = free_within s c.args.place free in
+    let many = c.self.invariant.sound.occupants.tables in
+    (omega (arith, c.if-place.false), omega arith)
+
+pub enter-requires-clause-empty : goal.enter-requires-clause-empty
+enter-requires-clause-empty c =
+    let free = subst (λ (z : Space). IsFreePlace z c.args.place) (sym c.self.view_is) c.requires.free in
+    none_at_free (space_of c.self.inside) c.args.place c.self.invariant.sound free
+
+pub enter-requires-clause-fresh : goal.enter-requires-clause-fresh
+enter-requires-clause-fresh c j some =
+    let fresh = subst (λ (z : Space). (k : ℕ) (t : Occupant) → occupant_at z k t → t.number ≢ c.args.promise.number) (sym c.self.view_is) c.requires.fresh in
+    other_number c.self.inside j c.args.promise.number c.self.invariant fresh some
 
 pub invariant_of-self-2 : goal.invariant_of-self-2
 invariant_of-self-2 c =
     let a : Inside = c.self.inside in
-    let b : Inside = record a { guests = c.put_guest.new.guests; tables = c.put_table.new.tables } in
+    let b : Inside = record a { guests = c.put_guest.new.guests; tables = c.enter.new.self } in
     let may : MayEnter (space_of a) c.args.place c.args.promise c.args.size =
     subst (λ (s : Space). MayEnter s c.args.place c.args.promise c.args.size) (sym c.self.view_is)
     (record { free = c.requires.free; room = c.requires.room; shares = c.requires.shares; bounds = c.requires.bounds; fits = c.requires.fits; fresh = c.requires.fresh }) in
     let guests : b.guests.items ≡ with_row a.guests.items c.args.place (Some (guest_of c.args.promise)) = rw (c.put_guest.ensures, c.in_ok-reserve.ensures.items, c.new.ensures) refl in
-    let tables : b.tables.items ≡ with_row a.tables.items c.args.place (table_for c.args.promise c.args.size) = rw (c.put_table.ensures, c.in_ok-reserve-2.ensures.items, c.in_ok-table.ensures) refl in
+    let tables : b.tables ≡ with_table a.tables c.args.place c.args.promise c.args.size = c.in_ok-enter.ensures.ok in
     let place : c.args.place < 2 ^ 32 = omega (arith, c.if-place.false) in
-    (entered a b c.args.place c.args.promise c.args.size c.self.invariant may guests tables refl refl refl refl refl place).1
+    let limits = sym c.places.ensures.limits ∙ c.places.ensures.pages in
+    let numbers = sym c.places.ensures.numbers ∙ c.places.ensures.pages in
+    (entered a b c.args.place c.args.promise c.args.size c.self.invariant may guests tables limits numbers refl refl refl refl refl place).1
 
 pub returns-clause-ok : goal.returns-clause-ok
 returns-clause-ok c =
     let a : Inside = c.self.inside in
-    let b : Inside = record a { guests = c.put_guest.new.guests; tables = c.put_table.new.tables } in
+    let b : Inside = record a { guests = c.put_guest.new.guests; tables = c.enter.new.self } in
     let may : MayEnter (space_of a) c.args.place c.args.promise c.args.size =
     subst (λ (s : Space). MayEnter s c.args.place c.args.promise c.args.size) (sym c.self.view_is)
     (record { free = c.requires.free; room = c.requires.room; shares = c.requires.shares; bounds = c.requires.bounds; fits = c.requires.fits; fresh = c.requires.fresh }) in
     let guests : b.guests.items ≡ with_row a.guests.items c.args.place (Some (guest_of c.args.promise)) = rw (c.put_guest.ensures, c.in_ok-reserve.ensures.items, c.new.ensures) refl in
-    let tables : b.tables.items ≡ with_row a.tables.items c.args.place (table_for c.args.promise c.args.size) = rw (c.put_table.ensures, c.in_ok-reserve-2.ensures.items, c.in_ok-table.ensures) refl in
+    let tables : b.tables ≡ with_table a.tables c.args.place c.args.promise c.args.size = c.in_ok-enter.ensures.ok in
     let place : c.args.place < 2 ^ 32 = omega (arith, c.if-place.false) in
-    rw (← c.self.view_is) (entered a b c.args.place c.args.promise c.args.size c.self.invariant may guests tables refl refl refl refl refl place).0
+    let limits = sym c.places.ensures.limits ∙ c.places.ensures.pages in
+    let numbers = sym c.places.ensures.numbers ∙ c.places.ensures.pages in
+    rw (← c.self.view_is) (entered a b c.args.place c.args.promise c.args.size c.self.invariant may guests tables limits numbers refl refl refl refl refl place).0

@@ -1,4 +1,4 @@
-use Rattle.std.proofs.Common.{◌≡◌, Some, [], length, rules, refl}
+use Rattle.std.proofs.Common.{arith, ap, ◌≡◌, Some, [], length, rules, refl}
 use Rattle.wh_host_model.specs.declared.states.Page.TheVariants.{Swapped}
 use Rattle.wh_host_model.specs.Space.Moves.{Fetches}
 use Rattle.wh_host_model.specs.Space.Parts.{kept}
@@ -9,6 +9,7 @@ use Rattle.wh_space.specs.Parts.{IsWell, space_of}
 use Rattle.wh_space.specs.Pinning.{pins_of}
 use Rattle.wh_space.proofs.Fetching.{fetched_now, lies_there}
 use Rattle.wh_space.proofs.Moving.{given}
+use Rattle.wh_space.proofs.Framing.{known}
 use Rattle.wh_space.proofs.memory.Memory.fetch.Goals as goal
 
 pub give-requires-clause-there : goal.give-requires-clause-there
@@ -17,8 +18,14 @@ give-requires-clause-there c = (lies_there (space_of c.self.inside) c.args.place
 pub give-requires-clause-taken : goal.give-requires-clause-taken
 give-requires-clause-taken c = (lies_there (space_of c.self.inside) c.args.place c.args.page c.args.slot c.self.invariant.sound (rw (← c.self.view_is) at c.requires.page)).away
 
-pub put_page-requires : goal.put_page-requires
-put_page-requires c = (is_page (space_of c.self.inside).tables c.args.place c.args.page (Swapped c.args.slot) (rw (← c.self.view_is) at c.requires.page)).1
+pub put_page-requires-clause-frame : goal.put_page-requires-clause-frame
+put_page-requires-clause-frame c =
+    let long = ap length c.in-Ok.ensures.takes.frames in
+    let within = c.in-Ok.ensures.taken.0 in
+    known c.self.inside c.in-Ok.frame c.self.invariant (omega arith)
+
+pub put_page-requires-clause-there : goal.put_page-requires-clause-there
+put_page-requires-clause-there c = (is_page (space_of c.self.inside).tables c.args.place c.args.page (Swapped c.args.slot) (rw (← c.self.view_is) at c.requires.page)).1
 
 ended : (c : goal.After-pin_beside)
     → Fetches (space_of c.self.inside) c.args.place c.args.page c.args.bytes.now (space_of (record c.self.inside { tables = c.put_page.new.tables; pool = c.set_frame.new.pool; slots = c.give.new.self; pins = c.pin_beside.new.pins }))

@@ -1,34 +1,34 @@
 use Rattle.std.proofs.Common.{[], length, get_or, ap, subst, arith}
 use Rattle.wh_host_model.specs.Space.Parts.{Space}
 use Rattle.wh_pages.specs.Seeking.{IsFirstFrom}
-use Rattle.wh_space.specs.Claiming.{IsSoughtAt}
-use Rattle.wh_space.proofs.Choosing.{all_passed, next_in, next_leaves, next_passed, none_left, sought_there}
+use Rattle.wh_tables.specs.Tables.{IsSoughtAt}
+use Rattle.wh_space.proofs.Choosing.{all_passed, next_leaves, next_passed, none_left, sought_there}
 use Rattle.wh_space.proofs.memory.Memory.first_to_leave.Goals as goal
 
 pub returns-in_default : goal.returns-in_default
 returns-in_default c =
     let s = c.args.self.now in
-    let next = next_in s c.self.inside.tables.items c.args.place c.args.idle c.loop.from c.next_resident.result (ap (λ (z : Space). z.tables) c.self.view_is) (ap (λ (z : Space). z.touched) c.self.view_is) c.next_resident.ensures in
+    let next = subst (λ (z : Space). IsFirstFrom (IsSoughtAt z.tables z.touched c.args.place c.args.idle) c.loop.from c.next_resident.result) c.self.view_is c.next_resident.ensures in
     none_left s c.args.place c.args.idle c.loop.from c.loop.invariant.passed (subst (IsFirstFrom (IsSoughtAt s.tables s.touched c.args.place c.args.idle) c.loop.from) c.in_default.is next)
 
 pub can_leave-requires : goal.can_leave-requires
 can_leave-requires c =
     let s = c.args.self.now in
-    let next = next_in s c.self.inside.tables.items c.args.place c.args.idle c.loop.from c.next_resident.result (ap (λ (z : Space). z.tables) c.self.view_is) (ap (λ (z : Space). z.touched) c.self.view_is) c.next_resident.ensures in
+    let next = subst (λ (z : Space). IsFirstFrom (IsSoughtAt z.tables z.touched c.args.place c.args.idle) c.loop.from c.next_resident.result) c.self.view_is c.next_resident.ensures in
     let here = subst (IsFirstFrom (IsSoughtAt s.tables s.touched c.args.place c.args.idle) c.loop.from) c.in-Some.is next in
     sought_there s c.args.place c.args.idle c.in-Some.page here.0.0
 
 pub returns-then-can_leave : goal.returns-then-can_leave
 returns-then-can_leave c =
     let s = c.args.self.now in
-    let next = next_in s c.self.inside.tables.items c.args.place c.args.idle c.loop.from c.next_resident.result (ap (λ (z : Space). z.tables) c.self.view_is) (ap (λ (z : Space). z.touched) c.self.view_is) c.next_resident.ensures in
+    let next = subst (λ (z : Space). IsFirstFrom (IsSoughtAt z.tables z.touched c.args.place c.args.idle) c.loop.from c.next_resident.result) c.self.view_is c.next_resident.ensures in
     next_leaves s c.args.place c.args.idle c.loop.from c.in-Some.page c.loop.invariant.passed
     (subst (IsFirstFrom (IsSoughtAt s.tables s.touched c.args.place c.args.idle) c.loop.from) c.in-Some.is next) c.if-can_leave.ensures
 
 pub overflow_add-from : goal.overflow_add-from
 overflow_add-from c =
     let s = c.args.self.now in
-    let next = next_in s c.self.inside.tables.items c.args.place c.args.idle c.loop.from c.next_resident.result (ap (λ (z : Space). z.tables) c.self.view_is) (ap (λ (z : Space). z.touched) c.self.view_is) c.next_resident.ensures in
+    let next = subst (λ (z : Space). IsFirstFrom (IsSoughtAt z.tables z.touched c.args.place c.args.idle) c.loop.from c.next_resident.result) c.self.view_is c.next_resident.ensures in
     let here = subst (IsFirstFrom (IsSoughtAt s.tables s.touched c.args.place c.args.idle) c.loop.from) c.in-Some.is next in
     let less = sought_there s c.args.place c.args.idle c.in-Some.page here.0.0 in
     let same = ap (λ (z : Space). length (get_or z.tables c.args.place [])) c.self.view_is in
@@ -37,7 +37,7 @@ overflow_add-from c =
 pub loop-preserved : goal.loop-preserved
 loop-preserved c =
     let s = c.args.self.now in
-    let next = next_in s c.self.inside.tables.items c.args.place c.args.idle c.loop.from c.next_resident.result (ap (λ (z : Space). z.tables) c.self.view_is) (ap (λ (z : Space). z.touched) c.self.view_is) c.next_resident.ensures in
+    let next = subst (λ (z : Space). IsFirstFrom (IsSoughtAt z.tables z.touched c.args.place c.args.idle) c.loop.from c.next_resident.result) c.self.view_is c.next_resident.ensures in
     let here = subst (IsFirstFrom (IsSoughtAt s.tables s.touched c.args.place c.args.idle) c.loop.from) c.in-Some.is next in
     record {
       passed = next_passed s c.args.place c.args.idle c.loop.from c.in-Some.page c.loop.invariant.passed here c.if-can_leave.ensures;

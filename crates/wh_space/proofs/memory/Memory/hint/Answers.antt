@@ -18,5 +18,5 @@ invariant_of-self c =
     let s = space_of a in
     let b : Inside = record a { content = c.set_hint.new.self } in
     let is = remade_is a b s.tables s.touched s.pool _ refl refl refl refl refl refl refl c.set_hint.ensures in
-    well a b c.self.invariant refl refl refl
+    well a b c.self.invariant refl refl refl refl
     (subst IsSound (sym is) (hinted_sound s c.args.place c.args.page c.args.frame c.args.hash c.self.invariant.sound (rw (← c.self.view_is) at c.requires.offered) (rw (← c.self.view_is) at c.requires.none)))

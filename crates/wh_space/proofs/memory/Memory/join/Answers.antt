@@ -1,3 +1,4 @@
+use Rattle.wh_host_model.specs.Frames.{Pool}
 use Rattle.std.proofs.Common.{refl, subst, sym, ap, ◌∙◌, ◌+◌, length, length-set, slice_get, slice_set, List, arith}
 use Rattle.wh_host_model.specs.declared.states.Mark.{Mark}
 use Rattle.wh_host_model.specs.declared.states.Mark.TheVariants.{Plain, Sharers}
@@ -42,7 +43,7 @@ invariant_of-self c =
     let b : Inside = record a { tables = c.put_page.new.tables; pool = c.give.new.self; content = c.share.new.self } in
     let marks = c.share.ensures ∙ ap (λ (m : List Mark). slice_set m c.args.shared (Sharers c.args.hash (c.args.sharers + 1))) c.forget_frame.ensures in
     let is = remade_is a b _ _ _ _ refl refl refl refl c.put_page.ensures.pages c.put_page.ensures.marks c.give.ensures.gives marks in
-    well a b c.self.invariant refl c.put_page.ensures.limits refl
+    well a b c.self.invariant refl c.put_page.ensures.limits (ap (λ (z : Pool). length z.frames) c.give.ensures.gives) refl
     (subst IsSound (sym is)
     (joined_sound (space_of a) c.args.place c.args.page c.args.frame c.args.shared c.args.hash c.args.sharers c.self.invariant.sound
     (rw (← c.self.view_is) at c.requires.offered) (rw (← c.self.view_is) at c.requires.some) (rw (← c.self.view_is) at c.requires.same) (rw (← c.self.view_is) at c.requires.found)))

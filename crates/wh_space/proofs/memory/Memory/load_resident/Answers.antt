@@ -22,7 +22,7 @@ invariant_of-self-2 c =
     let b : Inside = record a { tables = c.touch_resident.new.tables } in
     let s : Space = space_of a in
     let is : space_of b ≡ record s { touched = put s.touched c.args.place c.args.number true } = rw (c.touch_resident.ensures.pages, c.in-Some.ensures.marks) refl in
-    well a b c.self.invariant refl c.touch_resident.ensures.limits refl (subst IsSound (sym is) (touched_soundly s c.args.place c.args.number c.self.invariant.sound))
+    well a b c.self.invariant refl c.touch_resident.ensures.limits refl refl (subst IsSound (sym is) (touched_soundly s c.args.place c.args.number c.self.invariant.sound))
 
 pub returns-clause-read : goal.returns-clause-read
 returns-clause-read c =

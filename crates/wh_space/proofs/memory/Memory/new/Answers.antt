@@ -12,7 +12,7 @@ use Rattle.wh_space.proofs.memory.Memory.new.Goals as goal
 
 pub invariant_of-result : goal.invariant_of-result
 invariant_of-result c =
-    let a : Inside = record { guests = c.new-4.result; tables = c.new-5.result; pool = c.in_ok-pool.pool; content = c.in-Ok.content; slots = c.in-Ok-new.slots; pins = None; tax = c.args.tax } in
+    let a : Inside = record { guests = c.new-5.result; tables = c.in-Ok-new-2.tables; pool = c.in_ok-pool.pool; content = c.in-Ok.content; slots = c.in-Ok-new.slots; pins = None; tax = c.args.tax } in
     let pool : Pool = c.in_ok-pool.pool in
     let many : length pool.frames ≡ c.args.frames = ap length c.in_ok-pool.ensures.frames ∙ length-replicate c.args.frames zero_page in
     let never : (f : ℕ) → c.args.frames ≤ f → tally (one_if f) pool.free ≡ 0 = λ f past. c.free.ensures.distinct.there f (omega arith) in
@@ -21,10 +21,12 @@ invariant_of-result c =
     let slots_are : made ≡ record { uses = replicate c.args.slots Vacant; vacant = numbers_below c.args.slots; held = replicate c.args.slots [] } =
     rw (← c.in-Ok-new.ensures.uses, ← c.in-Ok-new.ensures.vacant, ← c.in-Ok-new.ensures.held) refl in
     let is : space_of a ≡ record (empty_space c.args.frames c.args.slots c.args.tax) { pool = record { frames = replicate c.args.frames zero_page; free = pool.free } } =
-    rw (c.new-4.ensures.items, c.new-5.ensures.items, c.in-Ok.ensures, slots_are, ← c.in_ok-pool.ensures.frames) refl in
+    rw (c.new-5.ensures.items, c.in-Ok-new-2.ensures, c.in-Ok.ensures, slots_are, ← c.in_ok-pool.ensures.frames) refl in
     record {
       sound = subst IsSound (sym is) empty;
-      limits = λ i t here. absurd (let bad : None ≡ Some (Some t) = rw c.new-4.ensures.items at here in cc);
-      counted = λ i t here. absurd (let bad : None ≡ Some (Some t) = rw c.new-4.ensures.items at here in cc);
-      places = rw c.new-4.ensures.items (omega arith);
+      limits = λ i t here. absurd (let bad : None ≡ Some (Some t) = rw c.new-5.ensures.items at here in cc);
+      numbers = λ i t here. absurd (let bad : None ≡ Some (Some t) = rw c.new-5.ensures.items at here in cc);
+      frames = rw (c.in-Ok-new-2.ensures, many) refl;
+      counted = λ i t here. absurd (let bad : None ≡ Some (Some t) = rw c.new-5.ensures.items at here in cc);
+      places = rw c.new-5.ensures.items (omega arith);
     }

@@ -5,4 +5,4 @@ use Rattle.wh_space.proofs.memory.Memory.private_frame.Goals as goal
 
 pub returns-in-Private-clause-taken : goal.returns-in-Private-clause-taken
 returns-in-Private-clause-taken c =
-    rw (← c.self.view_is) ((is_alone (space_of c.self.inside) c.args.place c.args.page c.in-Private.frame c.self.invariant.sound (c.page_of.ensures ∙ ap Some c.in-Private.is)).taken)
+    rw (← c.self.view_is) ((is_alone (space_of c.self.inside) c.args.place c.args.page c.in-Private.frame c.self.invariant.sound (c.page.ensures ∙ ap Some c.in-Private.is)).taken)

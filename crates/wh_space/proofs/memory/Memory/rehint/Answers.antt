@@ -29,6 +29,6 @@ invariant_of-self c =
     let found : FindsHint s c.args.hash c.args.stale c.requires.found.0 c.requires.found.1 = rw (← c.self.view_is) at c.requires.found.2 in
     let marks = c.set_hint.ensures ∙ ap (λ (m : List Mark). slice_set m c.args.frame (Hint c.args.hash c.args.place c.args.page)) c.forget_frame.ensures in
     let is = remade_is a b s.tables s.touched s.pool _ refl refl refl refl refl refl refl marks in
-    well a b c.self.invariant refl refl refl
+    well a b c.self.invariant refl refl refl refl
     (subst IsSound (sym is)
     (stale_sound s c.args.place c.args.page c.args.frame c.args.stale c.requires.found.0 c.requires.found.1 c.args.hash c.self.invariant.sound (rw (← c.self.view_is) at c.requires.offered) found))

@@ -16,8 +16,8 @@ use Rattle.wh_space.proofs.memory.Memory.send_for.Goals as goal
 pub set-requires : goal.set-requires
 set-requires c = there_of c.self.inside.slots.uses c.args.slot Taken (slot_taken (space_of c.self.inside) c.args.place c.args.page c.args.slot c.self.invariant.sound.slots (rw (← c.self.view_is) at c.requires.page))
 
-pub put_page-requires : goal.put_page-requires
-put_page-requires c = (is_page (space_of c.self.inside).tables c.args.place c.args.page (Swapped c.args.slot) (rw (← c.self.view_is) at c.requires.page)).1
+pub put_page-requires-clause-there : goal.put_page-requires-clause-there
+put_page-requires-clause-there c = (is_page (space_of c.self.inside).tables c.args.place c.args.page (Swapped c.args.slot) (rw (← c.self.view_is) at c.requires.page)).1
 
 pub begin_coming-requires-clause-there : goal.begin_coming-requires-clause-there
 begin_coming-requires-clause-there c = table_within c.self.inside c.args.place c.self.invariant.sound (is_page (space_of c.self.inside).tables c.args.place c.args.page (Swapped c.args.slot) (rw (← c.self.view_is) at c.requires.page)).0

@@ -22,8 +22,8 @@ end_coming-requires c =
     let out = is_awaited (space_of c.self.inside) c.args.slot c.args.place c.args.page c.args.frame c.self.invariant.sound (rw (← c.self.view_is) at c.requires) in
     table_within c.self.inside c.args.place c.self.invariant.sound out.row
 
-pub put_page-requires : goal.put_page-requires
-put_page-requires c =
+pub put_page-requires-clause-there : goal.put_page-requires-clause-there
+put_page-requires-clause-there c =
     let out = is_awaited (space_of c.self.inside) c.args.slot c.args.place c.args.page c.args.frame c.self.invariant.sound (rw (← c.self.view_is) at c.requires) in
     (is_page (space_of c.self.inside).tables c.args.place c.args.page (Coming c.args.slot) out.page).1
 

@@ -1,4 +1,4 @@
-use Rattle.std.proofs.Common.{refl, ◌≡◌, Some}
+use Rattle.std.proofs.Common.{arith, length, ap, refl, ◌≡◌, Some}
 use Rattle.wh_host_model.specs.declared.states.Page.TheVariants.{Untouched}
 use Rattle.wh_host_model.specs.Pages.{zero_page}
 use Rattle.wh_host_model.specs.Space.Parts.{Space}
@@ -6,15 +6,24 @@ use Rattle.wh_host_model.specs.Space.States.{page_at}
 use Rattle.wh_host_model.proofs.Space.Putting.{is_page}
 use Rattle.wh_space.specs.Parts.{space_of}
 use Rattle.wh_space.specs.Pinning.{pins_of}
-use Rattle.wh_space.proofs.Earmarked.{goes_some, goes_taken, takes_frame}
+use Rattle.wh_space.proofs.Earmarked.{goes_frames, goes_some, goes_taken, takes_frame}
 use Rattle.wh_space.proofs.Owning.{IsOwned, can_take, owned_by}
+use Rattle.wh_space.proofs.Framing.{known}
 use Rattle.wh_space.proofs.memory.Memory.take_zeros.Goals as goal
 
 pub clear_frame-requires : goal.clear_frame-requires
 clear_frame-requires c = goes_taken (space_of c.self.inside) c.args.place c.in_ok-frame.frame c.take_frame.new.pool (pins_of c.take_frame.new.pins) c.self.invariant.sound.frames c.in_ok-frame.ensures.some
 
-pub stand_alone-requires : goal.stand_alone-requires
-stand_alone-requires c = (is_page (space_of c.self.inside).tables c.args.place c.args.number Untouched (rw (← c.self.view_is) at c.requires)).1
+pub stand_alone-requires-clause-frame : goal.stand_alone-requires-clause-frame
+stand_alone-requires-clause-frame c =
+    let goes = c.in_ok-frame.ensures.some in
+    let taken = goes_taken (space_of c.self.inside) c.args.place c.in_ok-frame.frame c.take_frame.new.pool (pins_of c.take_frame.new.pins) c.self.invariant.sound.frames goes in
+    let long = ap length (goes_frames c.args.place c.in_ok-frame.frame c.self.inside.pool (pins_of c.self.inside.pins) c.take_frame.new.pool (pins_of c.take_frame.new.pins) goes) in
+    let within = taken.0 in
+    known c.self.inside c.in_ok-frame.frame c.self.invariant (omega arith)
+
+pub stand_alone-requires-clause-there : goal.stand_alone-requires-clause-there
+stand_alone-requires-clause-there c = (is_page (space_of c.self.inside).tables c.args.place c.args.number Untouched (rw (← c.self.view_is) at c.requires)).1
 
 there : (c : goal.After-stand_alone) → page_at (space_of c.self.inside).tables c.args.place c.args.number ≡ Some Untouched
 there c = rw (← c.self.view_is) at c.requires

@@ -1,4 +1,5 @@
-use Rattle.std.proofs.Common.{◌≡◌, refl, sym, subst}
+use Rattle.wh_host_model.specs.Frames.{Pool}
+use Rattle.std.proofs.Common.{length, ap, ◌≡◌, refl, sym, subst}
 use Rattle.wh_host_model.specs.Space.Sound.{IsSound}
 use Rattle.wh_host_model.specs.Space.Moves.{unpinned}
 use Rattle.wh_host_model.proofs.Space.Reserved.{is_sound_unpinned}
@@ -21,7 +22,7 @@ pub invariant_of-self : goal.invariant_of-self
 invariant_of-self c =
     let a : Inside = c.self.inside in
     let b : Inside = record a { pool = c.end_all_pins.new.pool; pins = c.end_all_pins.new.pins } in
-    well a b c.self.invariant refl refl refl (subst IsSound (sym (is_unpinned c)) (is_sound_unpinned (space_of a) c.self.invariant.sound))
+    well a b c.self.invariant refl refl (ap (λ (z : Pool). length z.frames) c.end_all_pins.ensures.pool) refl (subst IsSound (sym (is_unpinned c)) (is_sound_unpinned (space_of a) c.self.invariant.sound))
 
 pub returns : goal.returns
 returns c = rw (← c.self.view_is) (is_unpinned c)

@@ -1,4 +1,5 @@
-use Rattle.std.proofs.Common.{refl, ◌*◌, ◌+◌}
+use Rattle.wh_host_model.specs.Frames.{Pool}
+use Rattle.std.proofs.Common.{◌∙◌, length-set, length, ap, refl, ◌*◌, ◌+◌}
 use Rattle.wh_host_model.specs.declared.states.Page.TheVariants.{Private}
 use Rattle.wh_host_model.specs.Space.Stores.{Fills}
 use Rattle.wh_host_model.proofs.Space.Filled.{filled_sound}
@@ -19,7 +20,7 @@ fills c = rw c.write_frame.ensures (fills_page (space_of c.self.inside) c.args.p
 pub invariant_of-self : goal.invariant_of-self
 invariant_of-self c =
     let a : Inside = c.self.inside in
-    well a (record a { pool = c.write_frame.new.pool }) c.self.invariant refl refl refl
+    well a (record a { pool = c.write_frame.new.pool }) c.self.invariant refl refl (ap (λ (z : Pool). length z.frames) c.write_frame.ensures ∙ length-set a.pool.frames c.args.frame _) refl
     (filled_sound (space_of a) c.args.place (4096 * c.args.number + c.args.offset) c.args.given.now (space_of (record a { pool = c.write_frame.new.pool })) c.self.invariant.sound (fills c))
 
 pub returns-clause-fills : goal.returns-clause-fills

@@ -14,4 +14,4 @@ invariant_of-self c =
     let b : Inside = record a { slots = c.write.new.self } in
     let is : space_of b ≡ with_held s c.args.slot (cond c.args.wrote c.args.bytes.now []) = rw c.write.ensures refl in
     let evicting : IsEvicting s c.args.slot = rw (← c.self.view_is) at c.requires in
-    well_with a b c.self.invariant refl refl (λ i. rw c.write.ensures refl) (writes_soundly s c.args.slot c.args.bytes.now c.args.wrote (space_of b) c.self.invariant.sound (evicting, is))
+    well_with a b c.self.invariant refl refl refl (λ i. rw c.write.ensures refl) (writes_soundly s c.args.slot c.args.bytes.now c.args.wrote (space_of b) c.self.invariant.sound (evicting, is))

@@ -1,0 +1,20 @@
+use Rattle.std.proofs.Common.{◌≡◌, ◌≢◌, ◌<◌, ◌≤◌, ℕ, [], Some, None, inl, inr, length, get_or, refl, sym, ap, ◌∙◌, subst, arith}
+use Rattle.wh_host_model.specs.Space.Parts.{Space}
+use Rattle.wh_host_model.specs.Space.States.{page_at}
+use Rattle.wh_host_model.specs.Space.Charges.{active_of, charged_of}
+use Rattle.wh_space.specs.declared.memory.Memory.TheInside.{Inside}
+use Rattle.wh_space.specs.Parts.{space_of}
+use Rattle.wh_space.proofs.Charged.{active_now, charged_now, row_few}
+use Rattle.wh_space.proofs.memory.Memory.charged_at.Goals as goal
+
+pub returns-clause-charged : goal.returns-clause-charged
+returns-clause-charged c = c.charged.ensures.is ∙ (charged_now c.self.inside c.args.place c.self.invariant ∙ ap (λ (z : Space). charged_of z c.args.place) c.self.view_is)
+
+pub returns-clause-touched : goal.returns-clause-touched
+returns-clause-touched c = c.active.ensures.is ∙ (active_now c.self.inside c.args.place c.self.invariant ∙ ap (λ (z : Space). active_of z c.args.place) c.self.view_is)
+
+pub returns-clause-few : goal.returns-clause-few
+returns-clause-few c =
+    let most = c.charged.ensures.most in
+    let few = row_few c.self.inside c.args.place c.self.invariant in
+    omega arith
