@@ -5,7 +5,7 @@ use std::rt::Files;
 use std::sync::Wait;
 use std::test::Fail;
 use std::thread::Threads;
-use wasmhost_program::{Lockable, answer};
+use wasmhost_program::{Lockable, SystemFiles, answer};
 
 /// What a command line got.
 #[derive(Drop)]
@@ -27,23 +27,38 @@ pub fn words(rt: &impl AllocGlobal, line: &[&str]) -> Result<Vec<String>, Fail> 
     Ok(words)
 }
 
-/// The status of a command line. The device to which pages were swapped is let go.
-pub fn status_of<E: Files + Input + AllocGlobal + Threads + Wait + Copy + Send + 'static>(
+/// The status of a command line, for which the input gives these bytes. The device to which pages were swapped is let go.
+pub fn status_of<E: Files + AllocGlobal + Threads + Wait + Copy + Send + 'static>(
     rt: &E,
     words: &[String],
+    input: &str,
     output: &mut impl Write,
     errors: &mut impl Write,
 ) -> u8
 where
     E::File: Lockable + Send + 'static,
 {
-    answer(rt, words, output, errors).status
+    let folder = SystemFiles { rt };
+    let mut input = input.as_bytes();
+    answer(rt, &folder, words, &mut input, output, errors).status
 }
 
-/// What a command line gets.
-pub fn ask<E: Files + Input + AllocGlobal + Threads + Wait + Copy + Send + 'static>(
+/// What a command line gets, for which the input gives nothing.
+pub fn ask<E: Files + AllocGlobal + Threads + Wait + Copy + Send + 'static>(
     rt: &E,
     line: &[&str],
+) -> Result<Got, Fail>
+where
+    E::File: Lockable + Send + 'static,
+{
+    ask_with(rt, line, "")
+}
+
+/// What a command line gets, for which the input gives these bytes.
+pub fn ask_with<E: Files + AllocGlobal + Threads + Wait + Copy + Send + 'static>(
+    rt: &E,
+    line: &[&str],
+    input: &str,
 ) -> Result<Got, Fail>
 where
     E::File: Lockable + Send + 'static,
@@ -51,7 +66,7 @@ where
     let words = words(rt, line)?;
     let mut output = Vec::new(rt.alloc());
     let mut errors = Vec::new(rt.alloc());
-    let status = status_of(rt, &words, &mut output, &mut errors);
+    let status = status_of(rt, &words, input, &mut output, &mut errors);
     Ok(Got {
         status,
         output,

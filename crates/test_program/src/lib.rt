@@ -7,6 +7,8 @@ mod asking;
 #[cfg(test)]
 mod files;
 #[cfg(test)]
+mod folders;
+#[cfg(test)]
 mod lines;
 #[cfg(test)]
 mod swapping;

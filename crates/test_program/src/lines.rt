@@ -1,4 +1,4 @@
-use crate::asking::{Got, ask, status_of, words};
+use crate::asking::{Got, ask, ask_with, status_of, words};
 use std::fs;
 use std::io::{Error, ErrorKind, Result as IoResult, Write};
 use std::process::Abort;
@@ -82,9 +82,9 @@ fn what_has_no_script_ends_without_a_reply(rt: HostRuntime) -> Result<(), Fail> 
     Ok(())
 }
 
-/// The statuses of a script whose output is kept, then can't be written, and then can't be written while nothing can be said
+/// The statuses of a script from the input, whose output is kept, then can't be written, and then can't be written while nothing can be said
 /// of that either.
-fn statuses<E: Files + Input + AllocGlobal + Threads + Wait + Copy + Send + 'static>(
+fn statuses<E: Files + AllocGlobal + Threads + Wait + Copy + Send + 'static>(
     rt: &E,
     words: &[String],
     output: &mut Vec<u8>,
@@ -93,21 +93,19 @@ fn statuses<E: Files + Input + AllocGlobal + Threads + Wait + Copy + Send + 'sta
 where
     E::File: Lockable + Send + 'static,
 {
-    let kept = status_of(rt, words, output, errors);
-    let stopped = status_of(rt, words, &mut Full, errors);
-    let unheard = status_of(rt, words, &mut Full, &mut Full);
+    let input = "no command\n";
+    let kept = status_of(rt, words, input, output, errors);
+    let stopped = status_of(rt, words, input, &mut Full, errors);
+    let unheard = status_of(rt, words, input, &mut Full, &mut Full);
     [kept, stopped, unheard]
 }
 
 #[test]
 fn a_failed_write_stops_the_program(rt: HostRuntime) -> Result<(), Fail> {
-    let path = "wasmhost_program_tests.script";
-    fs::write(&rt, path, "no command\n")?;
-    let words = words(&rt, &["wasmhost", path])?;
+    let words = words(&rt, &["wasmhost"])?;
     let mut output = Vec::new(rt.alloc());
     let mut errors = Vec::new(rt.alloc());
     let statuses = statuses(&rt, &words, &mut output, &mut errors);
-    fs::remove_file(&rt, path)?;
     assert_eq!(rt; statuses, [ANSWERED, STOPPED, STOPPED]);
     assert_eq!(rt; str::from_utf8(output.as_slice()), Ok("error C1 line 1\n"));
     assert_eq!(rt; str::from_utf8(errors.as_slice()), Ok("wasmhost: output\n"));
@@ -158,12 +156,9 @@ fn expect_seven(rt: &impl Abort, got: &Got, number: &str) {
 
 #[test]
 fn a_script_has_1_to_64_workers(rt: HostRuntime) -> Result<(), Fail> {
-    let path = "wasmhost_program_workers.script";
-    fs::write(&rt, path, SEVEN)?;
     for number in ["1", "2", "64"] {
-        let got = ask(&rt, &["wasmhost", "--workers", number, path])?;
+        let got = ask_with(&rt, &["wasmhost", "--workers", number], SEVEN)?;
         expect_seven(&rt, &got, number);
     }
-    fs::remove_file(&rt, path)?;
     Ok(())
 }

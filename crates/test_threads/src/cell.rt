@@ -1,6 +1,6 @@
 //! A cell with a swap device in memory: what is asked of it, what is counted, and calls that threads run.
 
-ghost use Rattle.std.specs.Prelude.{◌≡◌, ◌<◌, [], replicate};
+ghost use Rattle.std.specs.Prelude.{◌≡◌, ◌-◌, ◌^◌, ◌<◌, [], replicate};
 ghost use Rattle.wh_swap.specs.Memory.{memory_held};
 
 use std::alloc::Global;
@@ -10,16 +10,17 @@ use std::sync::Wait;
 use std::sync::ledger::Ledger;
 use std::test::Fail;
 use std::thread::Threads;
-use wh_cell::{Fittings, HostCell, Locked, Manner, OwnedHost, Owner, Ties, run_calls};
+use wh_cell::{Fittings, HostCell, Locked, Owner, Ties};
 use wh_host::{CallStatus, CallValue, Host, ModuleId, Params};
 use wh_host_model::{InstId, Tax, TurnEnd};
 use wh_kernels::FnvHash;
 use wh_model::ValType;
+use wh_scheduler::{Manner, OwnedHost, run_calls};
 use wh_swap::MemSwap;
-use wh_workers::{Shares, Worker};
+use wh_threads::{Message, Order, Shares, Worker, hand_out, open_channel, pass_for, receive_turn};
 
 /// `s` stores a byte, and `l` loads one.
-const BYTES: [u8; 63] = [
+pub const BYTES: [u8; 63] = [
     0x00, 0x61, 0x73, 0x6d, 0x01, 0x00, 0x00, 0x00, 0x01, 0x0b, 0x02, 0x60, 0x02, 0x7f, 0x7f, 0x00,
     0x60, 0x01, 0x7f, 0x01, 0x7f, 0x03, 0x03, 0x02, 0x00, 0x01, 0x05, 0x03, 0x01, 0x00, 0x01, 0x07,
     0x09, 0x02, 0x01, 0x73, 0x00, 0x00, 0x01, 0x6c, 0x00, 0x01, 0x0a, 0x13, 0x02, 0x09, 0x00, 0x20,
@@ -35,7 +36,7 @@ struct Begun<T: Ledger, C: Ledger, O: Ledger, E: Ledger, B: Ties> {
 }
 
 // An owner gives two frames at least.
-fn given(alloc: Global) -> Params {
+pub fn given(alloc: Global) -> Params {
     Params {
         shares: 100,
         min: 2,
@@ -117,17 +118,17 @@ fn status<T: Ledger, C: Ledger, O: Ledger, E: Ledger, B: Ties, R: Wait>(
 // How a turn ended, what the worker and the books have then, and how far the first call is.
 type Turned = (TurnEnd, u128, u64, Option<CallStatus>);
 
-// One turn of this worker, where it can count one more.
+// One turn of this worker, which can count one more.
 fn turn_locked<T: Ledger, C: Ledger, O: Ledger, E: Ledger, B: Ties>(
     locked: &mut Locked<MemSwap, T, C, O, E, B>,
     owner: &mut Owner<MemSwap, B>,
     worker: &mut Worker<T, C>,
-    id: InstId,
-) -> Turned {
-    if worker.is_full() {
-        return (TurnEnd::Idle, 0, 0, None);
-    }
-    let end = locked.turn(id, 1000, worker);
+    order: Order,
+) -> Turned
+    requires room { worker.old.tally.turns < 2 ^ 64 - 1 }
+{
+    let id = order.instance();
+    let end = locked.turn(order, worker);
     locked.meet(owner);
     let charged = locked.books().charges.low();
     let status = locked.host().call_status(id, 1);
@@ -140,18 +141,21 @@ fn turn_by<T: Ledger, C: Ledger, O: Ledger, E: Ledger, B: Ties, R: Wait>(
     cell: &HostCell<MemSwap, T, C, O, E, B>,
     owner: &mut Owner<MemSwap, B>,
     worker: &mut Worker<T, C>,
-    id: InstId,
-) -> Turned {
+    order: Order,
+) -> Turned
+    requires room { worker.old.tally.turns < 2 ^ 64 - 1 }
+{
     let mut locked = cell.lock(rt);
-    turn_locked(&mut locked, owner, worker, id)
+    turn_locked(&mut locked, owner, worker, order)
 }
 
-// One turn of the first worker, to which its share is lent.
+// One turn of 1000 charges of the first worker, to which its share is lent: it is handed out, received and run.
 fn turn_of<T: Ledger, C: Ledger, O: Ledger, E: Ledger, B: Ties, R: Wait>(
     rt: &R,
+    alloc: Global,
     begun: Begun<T, C, O, E, B>,
     id: InstId,
-) -> Turned {
+) -> Result<Turned, Fail> {
     let Begun {
         cell,
         mut owner,
@@ -160,7 +164,21 @@ fn turn_of<T: Ledger, C: Ledger, O: Ledger, E: Ledger, B: Ties, R: Wait>(
     let Shares { all } = shares;
     let mut lender = all;
     let mut worker = lender.lend_worker(0);
-    turn_by(rt, &cell, &mut owner, &mut worker, id)
+    let (outlet, inlet, first) = open_channel(alloc, 1)?;
+    let mut slip = first;
+    let mut theirs = pass_for(&outlet, &mut slip);
+    let message = Message::Turn {
+        number: 0,
+        instance: id,
+        quantum: 1000,
+    };
+    if worker.is_full() || !hand_out(rt, &outlet, &mut slip, message) {
+        return Ok((TurnEnd::Idle, 0, 0, None));
+    }
+    match receive_turn(rt, &inlet, &mut theirs) {
+        Some(order) => Ok(turn_by(rt, &cell, &mut owner, &mut worker, order)),
+        None => Ok((TurnEnd::Idle, 0, 0, None)),
+    }
 }
 
 // One turn of one worker on a new cell that was asked.
@@ -183,7 +201,7 @@ fn one_turn<T: Ledger, C: Ledger, O: Ledger, E: Ledger, B: Ties, R: Wait>(
 {
     let mut begun = begin_cell::<T, C, O, E, B>(alloc, fittings)?;
     let [a, _] = asked(rt, alloc, &mut begun)?;
-    Ok(turn_of(rt, begun, a))
+    turn_of(rt, alloc, begun, a)
 }
 
 #[test]
@@ -220,8 +238,8 @@ fn run_turns<
         workers: 2,
     };
     match run_calls(rt, alloc, &begun.cell, &mut begun.shares, ids, manner) {
-        Ok(served) => served.turns,
-        Err(_) => 0,
+        Ok(served) if served.end.is_ok() => served.turns,
+        Ok(_) | Err(_) => 0,
     }
 }
 
@@ -333,7 +351,7 @@ fn workers_run_all_calls(rt: HostRuntime) -> Result<(), Fail> {
 }
 
 // A new host with 64 frames and 256 slots, in its owner's hand.
-fn begin_owned<T: Ledger, C: Ledger, O: Ledger, E: Ledger, B: Ties>(
+pub fn begin_owned<T: Ledger, C: Ledger, O: Ledger, E: Ledger, B: Ties>(
     alloc: Global,
     fittings: Fittings<MemSwap>,
 ) -> Result<OwnedHost<MemSwap, T, C, O, E, B>, Fail>
@@ -408,10 +426,12 @@ fn run_rounds<
     };
     for _ in 0..1000 {
         let last = ask_each(alloc, owned, ids)?;
-        if owned.run(rt, alloc, ids, manner).is_err() {
-            return Ok(None);
+        match owned.run(rt, alloc, ids, manner) {
+            Ok(served) if served.end.is_ok() => {}
+            Ok(_) | Err(_) => return Ok(None),
         }
-        if each_has_worked(owned.shares(), 4) {
+        let (_, shares) = owned.counts();
+        if each_has_worked(shares, 4) {
             return Ok(last);
         }
     }

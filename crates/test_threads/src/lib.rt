@@ -1,10 +1,12 @@
-//! Tests of threads: what they count, hand out and agree on, whatever they work on; a host that several of them share; and
-//! turns that go on while its swap device is called.
+//! Tests of threads: what they count, hand out and agree on, whatever they work on; a host that several of them share, and
+//! what it shows; and turns that go on while its swap device is called.
 #![tactic(auto)]
 
 #[cfg(test)]
 mod cell;
 #[cfg(test)]
 mod overlap;
+#[cfg(test)]
+mod showing;
 #[cfg(test)]
 mod workers;

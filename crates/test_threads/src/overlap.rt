@@ -11,12 +11,13 @@ use std::sync::{Arc, Wait};
 use std::test::Fail;
 use std::thread;
 use std::thread::Threads;
-use wh_cell::{Fittings, HostCell, Locked, Manner, OwnedHost, Owner, Ties, run_calls};
+use wh_cell::{Fittings, HostCell, Locked, Owner, Ties};
 use wh_host::{CallStatus, Host, Params};
 use wh_host_model::{InstId, SwapError, Tax};
 use wh_kernels::FnvHash;
+use wh_scheduler::{Manner, OwnedHost, run_calls};
 use wh_swap::{MemSwap, SwapDev};
-use wh_workers::Shares;
+use wh_threads::Shares;
 
 /// `s` stores a byte.
 const STORES: [u8; 45] = [
@@ -222,7 +223,10 @@ fn run_all<
         quantum: 10,
         workers: 2,
     };
-    run_calls(rt, alloc, &cell, &mut shares, &ids, manner).is_ok()
+    match run_calls(rt, alloc, &cell, &mut shares, &ids, manner) {
+        Ok(served) => served.end.is_ok(),
+        Err(_) => false,
+    }
 }
 
 // Looks whether charges and offers grow, cancels the call that goes on forever, and lets the device go on.
@@ -357,10 +361,12 @@ fn run_loops<
         quantum: 1,
         workers: 2,
     };
-    if owned.run(rt, alloc, &[a, b], manner).is_err() {
-        return Ok((0, 0));
+    match owned.run(rt, alloc, &[a, b], manner) {
+        Ok(served) if served.end.is_ok() => {}
+        Ok(_) | Err(_) => return Ok((0, 0)),
     }
-    Ok((owned.shares().tally(0).turns, owned.shares().tally(1).turns))
+    let (_, shares) = owned.counts();
+    Ok((shares.tally(0).turns, shares.tally(1).turns))
 }
 
 // The same on a new host.

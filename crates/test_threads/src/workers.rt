@@ -1,6 +1,9 @@
 // Each part once, at concrete types; and threads that run to their end.
 
-ghost use Rattle.std.specs.Prelude.{◌≡◌, ◌<◌, IfOk};
+ghost use Rattle.std.specs.Prelude.{◌≡◌, ◌<◌, [], IfOk};
+ghost use Rattle.crossbeam_channel.specs.Claims.{view, IsSeatAt};
+ghost use Rattle.crossbeam_channel.specs.Ends.{receives_on};
+ghost use Rattle.wh_threads.specs.Handover.{traffic};
 
 use std::alloc::{AllocError, Global};
 use std::marker::{Brand, Model, PhantomData};
@@ -10,19 +13,63 @@ use std::test::Fail;
 use std::thread;
 use std::thread::Threads;
 use wh_host_model::InstId;
-use wh_workers::{
-    BlankPact, Bond, Books, Change, Half, Help, Helper, Jobs, Matter, Message, Progress, Shares,
-    Supply, Tally, Turns, Worker, hand_out, left_over, open_channel, pass_for, put_back, receive,
-    serve,
+use wh_threads::{
+    BlankPact, Bond, Books, Change, Half, Help, Helper, Inlet, Matter, Message, Order, Progress,
+    Shares, Slip, Tally, Turns, Worker, hand_out, left_over, open_channel, pass_for, put_back,
+    receive, receive_turn,
 };
+use wh_workers::{Crew, Jobs, Supply, serve};
 
 // An instance by its number.
 fn instance(number: u64) -> InstId {
     InstId { place: 0, number }
 }
 
+// The turn that comes next is counted, which took so many charges.
+fn count_next<T: Ledger, C: Ledger, O: Ledger, E: Ledger, R: Wait>(
+    rt: &R,
+    inlet: &Inlet,
+    slip: &mut Slip,
+    books: &mut Books<T, C, O, E>,
+    worker: &mut Worker<T, C>,
+    taken: u32,
+)
+    requires channel { IsSeatAt (receives_on inlet.now) slip.old }
+    requires hand { view slip.old ≡ traffic 1 [] (view slip.old).received }
+    ensures channel { IsSeatAt (receives_on inlet.now) slip.new }
+    ensures hand { view slip.new ≡ traffic 1 [] (view slip.new).received }
+{
+    if worker.is_full() {
+        return;
+    }
+    match receive_turn(rt, inlet, slip) {
+        Some(order) => books.turn(worker, order, taken),
+        None => {}
+    }
+}
+
+// Two turns are handed out, and counted.
+fn count_two<T: Ledger, C: Ledger, O: Ledger, E: Ledger, R: Wait>(
+    rt: &R,
+    alloc: Global,
+    books: &mut Books<T, C, O, E>,
+    worker: &mut Worker<T, C>,
+) -> Result<bool, AllocError> {
+    let (outlet, inlet, first) = open_channel(alloc, 4)?;
+    let mut slip = first;
+    let mut theirs = pass_for(&outlet, &mut slip);
+    let is_first_out = hand_out(rt, &outlet, &mut slip, turn(0));
+    let is_second_out = hand_out(rt, &outlet, &mut slip, turn(1));
+    if is_first_out && is_second_out {
+        count_next(rt, &inlet, &mut theirs, books, worker, 7);
+        count_next(rt, &inlet, &mut theirs, books, worker, 4_000_000_000);
+    }
+    Ok(is_first_out && is_second_out)
+}
+
 // Two turns of a worker, an offer and five evictions are counted; what is shown is seat 3, and what the books have.
-fn counts<T: Ledger, C: Ledger, O: Ledger, E: Ledger>(
+fn counts<T: Ledger, C: Ledger, O: Ledger, E: Ledger, R: Wait>(
+    rt: &R,
     alloc: Global,
     turns: Blank,
     charges: Blank,
@@ -38,12 +85,7 @@ fn counts<T: Ledger, C: Ledger, O: Ledger, E: Ledger>(
     let Shares { all } = shares;
     let mut lender = all;
     let mut worker = lender.lend_worker(3);
-    if !worker.is_full() {
-        books.turn(&mut worker, 7);
-    }
-    if !worker.is_full() {
-        books.turn(&mut worker, 4_000_000_000);
-    }
+    let _ = count_two(rt, alloc, &mut books, &mut worker)?;
     let mut scanner = lender.lend_scanner();
     if scanner.count() < 1000 {
         books.offer(&mut scanner);
@@ -66,7 +108,8 @@ fn counts<T: Ledger, C: Ledger, O: Ledger, E: Ledger>(
 fn counts_are_kept(rt: HostRuntime) -> Result<(), Fail> {
     let blanks = (Blank::new(65), Blank::new(65), Blank::new(2), Blank::new(2));
     let (turns, charges, offers, evictions) = blanks;
-    let (tally, offered, evicted, low) = counts::<Brand, Brand, Brand, Brand>(
+    let (tally, offered, evicted, low) = counts::<Brand, Brand, Brand, Brand, HostRuntime>(
+        &rt,
         rt.alloc(),
         turns,
         charges,
@@ -84,6 +127,7 @@ fn turn(number: u64) -> Message {
     Message::Turn {
         number,
         instance: instance(number),
+        quantum: 9,
     }
 }
 
@@ -189,10 +233,11 @@ impl<T: Ledger, C: Ledger, O: Ledger, E: Ledger> Turns<T, C> for Desk<T, C, O, E
 
     fn leave_place(&self) {}
 
-    fn run<R: Wait>(&self, rt: &R, _instance: InstId, worker: &mut Worker<T, C>) {
+    fn run<R: Wait>(&self, rt: &R, order: Order, worker: &mut Worker<T, C>) {
         self.both.wait(rt);
         let mut books = self.books.lock(rt);
-        books.turn(worker, 5);
+        let taken = order.quantum();
+        books.turn(worker, order, taken);
     }
 
     fn share(&self) -> Result<Self, AllocError> {
@@ -321,11 +366,18 @@ fn serve_at<
 ) -> Result<Option<Ran>, AllocError> {
     let jobs = jobs_at(desk)?;
     let mut supply = Several { left: 128 };
-    let served = serve(rt, alloc, jobs, &mut supply, shares, 2);
+    let crew = Crew {
+        workers: 2,
+        quantum: 5,
+    };
+    let served = serve(rt, alloc, jobs, &mut supply, shares, crew);
     settle(&rt, desk, shares);
     let Ok(served) = served else {
         return Ok(None);
     };
+    if served.end.is_err() {
+        return Ok(None);
+    }
     let helped = (shares.offers(), shares.evictions());
     Ok(Some((served.turns, shares.tally(0), shares.tally(1), helped)))
 }

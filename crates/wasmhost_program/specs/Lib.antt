@@ -1,1 +1,4 @@
+pub mod Accepted
+pub mod Found
+pub mod Laws
 pub mod Written

@@ -1,5 +1,10 @@
 //! The command line.
 
+ghost use Rattle.std.specs.Prelude.{◌≡◌, IfErr, IfOk, List, OnOk, [], codes, false, map, string_bytes};
+ghost use Rattle.clap.specs.Words.{FailsBy, Text, app_of, found_of, one_text, rule_of};
+ghost use Rattle.wasmhost_program.specs.Accepted.{MeansArguments, CountsWorkers, IsRefusedBy, RefusesBy, command_line, line_faults, script_rule, settings_rule, workers_rule};
+ghost use Rattle.wasmhost_program.specs.Found.{FindsIn};
+
 use clap::builder::ValueParser;
 use clap::error::ErrorKind;
 use clap::{Arg, ArgMatches, Command, Error};
@@ -16,6 +21,8 @@ pub enum Refused {
 }
 
 impl From<Error> for Refused {
+    ghost from_gives = { RefusesBy };
+
     fn from(error: Error) -> Refused {
         if error.kind() == ErrorKind::OutOfMemory {
             return Refused::Memory;
@@ -36,13 +43,19 @@ pub struct Arguments<'a> {
 }
 
 /// How many threads run calls by these matches; 4 where they don't say it. The parser let no number but 1 to 64 through.
-fn workers_of(matches: &ArgMatches<'_>) -> Workers {
+fn workers_of(matches: &ArgMatches<'_>) -> Workers
+    ensures { (words : List Text) → FindsIn words matches.now
+        → CountsWorkers (one_text (found_of matches.now) (codes "workers")) result.number }
+{
     let number = matches.get_one::<u8>("workers");
     number.and_then(Workers::new).unwrap_or(Workers::default())
 }
 
 /// The option that names a file of settings.
-fn settings_option<'a>(alloc: Global) -> Arg<'a> {
+fn settings_option<'a>(alloc: Global) -> Arg<'a>
+    ensures rule { rule_of result ≡ settings_rule }
+    ensures local { result.global ≡ false }
+{
     Arg::new(alloc, "settings")
         .long("settings")
         .value_name("FILE")
@@ -50,7 +63,10 @@ fn settings_option<'a>(alloc: Global) -> Arg<'a> {
 }
 
 /// The option that says how many threads run calls.
-fn workers_option<'a>(alloc: Global) -> Arg<'a> {
+fn workers_option<'a>(alloc: Global) -> Arg<'a>
+    ensures rule { rule_of result ≡ workers_rule }
+    ensures local { result.global ≡ false }
+{
     Arg::new(alloc, "workers")
         .long("workers")
         .value_name("N")
@@ -59,12 +75,17 @@ fn workers_option<'a>(alloc: Global) -> Arg<'a> {
 }
 
 /// The word that names a script.
-fn script_word<'a>(alloc: Global) -> Arg<'a> {
+fn script_word<'a>(alloc: Global) -> Arg<'a>
+    ensures rule { rule_of result ≡ script_rule }
+    ensures local { result.global ≡ false }
+{
     Arg::new(alloc, "SCRIPT").help("A file of requests; standard input without it")
 }
 
 /// What the program accepts.
-fn accepted<'a>(alloc: Global) -> Result<Command<'a>, AllocError> {
+fn accepted<'a>(alloc: Global) -> Result<Command<'a>, AllocError>
+    ensures { IfOk result (λ command. app_of command ≡ command_line) }
+{
     Command::new(alloc, "wasmhost")
         .about("Runs WebAssembly modules as a script of requests asks for it")
         .arg(settings_option(alloc))?
@@ -73,12 +94,17 @@ fn accepted<'a>(alloc: Global) -> Result<Command<'a>, AllocError> {
 }
 
 /// What these words match of what the program accepts.
-fn matches_of<'a>(alloc: Global, words: &'a [String]) -> Result<ArgMatches<'a>, Error> {
+fn matches_of<'a>(alloc: Global, words: &'a [String]) -> Result<ArgMatches<'a>, Error>
+    ensures finds { IfOk result (FindsIn (map string_bytes words.entry.now)) }
+    ensures fails { FailsBy (line_faults (map string_bytes words.entry.now)) result }
+{
     accepted(alloc)?.try_get_matches_from(words)
 }
 
 /// What these matches ask for.
-fn arguments_of<'a>(matches: &ArgMatches<'a>) -> Arguments<'a> {
+fn arguments_of<'a>(matches: &ArgMatches<'a>) -> Arguments<'a>
+    ensures { (words : List Text) → FindsIn words matches.now → MeansArguments words result }
+{
     Arguments {
         settings: matches.get_str("settings"),
         workers: workers_of(matches),
@@ -90,7 +116,11 @@ fn arguments_of<'a>(matches: &ArgMatches<'a>) -> Arguments<'a> {
 ///
 /// # Errors
 /// `Line` for words that the program doesn't accept, `--help` among them; `Memory` where there is none to read them.
-pub fn read_args<'a>(alloc: Global, words: &'a [String]) -> Result<Arguments<'a>, Refused> {
+pub fn read_args<'a>(alloc: Global, words: &'a [String]) -> Result<Arguments<'a>, Refused>
+    ensures accepts { OnOk result (line_faults (map string_bytes words.entry.now) ≡ []) }
+    ensures asks { IfOk result (MeansArguments (map string_bytes words.entry.now)) }
+    ensures refuses { IfErr result (IsRefusedBy (line_faults (map string_bytes words.entry.now))) }
+{
     let matches = matches_of(alloc, words)?;
     Ok(arguments_of(&matches))
 }

@@ -1,4 +1,7 @@
-// The files of the system.
+//! Files by their paths.
+
+ghost use Rattle.std.specs.Io.KnownBytes.{Keeps};
+ghost use Rattle.std.specs.Prelude.{IfOk, IfSome, List, None, Option, option_map, take, true, unwrap_or, ◌≡◌, ℕ};
 
 use std::alloc::Global;
 use std::fs::File;
@@ -10,29 +13,62 @@ use wh_script::{FileError, Source};
 /// length.
 const MOST_MODULE_BYTES: u64 = 1_048_577;
 
+/// Files by their paths, as a command line names them.
+pub trait Folder {
+    /// A file that is open.
+    type Opened: Read + Drop;
+
+    /// The bytes that the file of a path gives, as far as they are known.
+    ghost known: { Self → List ℕ → Option (List ℕ) };
+
+    /// Opens the file of a path, to be read from its first byte.
+    ///
+    /// # Errors
+    /// Where it can't be opened.
+    fn open(&self, path: &str) -> IoResult<Self::Opened>
+        ensures { IfOk result (λ file. Keeps (known self.now path.now) (Self.Opened.remaining file)) };
+}
+
 /// Reads the file at this path, and of a longer one, a pipe or a device its first `most` bytes alone.
 ///
 /// # Errors
 /// Where it can't be opened or read, and `OutOfMemory` where there is no room for its bytes.
-pub fn read_at_most(rt: &(impl Files + AllocGlobal), path: &str, most: u64) -> IoResult<Vec<u8>> {
-    let mut bytes = Vec::new(rt.alloc());
-    File::open(rt, path)?.take(most).read_to_end(&mut bytes)?;
+pub fn read_at_most<S: Folder>(
+    alloc: Global,
+    folder: &S,
+    path: &str,
+    most: u64,
+) -> IoResult<Vec<u8>>
+    ensures { IfOk result (λ bytes. IfSome (S.known folder.now path.now)
+        (λ whole. bytes.items ≡ take most whole)) }
+{
+    let mut bytes = Vec::new(alloc);
+    folder.open(path)?.take(most).read_to_end(&mut bytes)?;
     Ok(bytes)
 }
 
-/// Files by their paths. What they hold isn't known.
+/// The files of the system. What they hold isn't known.
 #[derive(Drop)]
 pub struct SystemFiles<'a, F> {
+    /// The runtime by which they are opened.
     pub rt: &'a F,
 }
 
-impl<F: Files + AllocGlobal> Source for SystemFiles<'_, F> {
-    ghost use Rattle.std.specs.Prelude.{true};
+impl<F: Files> Folder for SystemFiles<'_, F> {
+    type Opened = F::File;
 
+    ghost known = { λ system path. None };
+
+    fn open(&self, path: &str) -> IoResult<F::File> {
+        File::open(self.rt, path)
+    }
+}
+
+impl<F: Files> Source for SystemFiles<'_, F> {
     ghost files = { λ system path bytes. true };
 
-    fn read(&self, _alloc: Global, path: &str) -> Result<Vec<u8>, FileError> {
-        match read_at_most(self.rt, path, MOST_MODULE_BYTES) {
+    fn read(&self, alloc: Global, path: &str) -> Result<Vec<u8>, FileError> {
+        match read_at_most(alloc, self, path, MOST_MODULE_BYTES) {
             Ok(bytes) => Ok(bytes),
             Err(error) if error.kind() == ErrorKind::OutOfMemory => Err(FileError::Memory),
             Err(_) => Err(FileError::Unreadable),
@@ -42,18 +78,21 @@ impl<F: Files + AllocGlobal> Source for SystemFiles<'_, F> {
 
 /// A file that is opened once it is read.
 #[derive(Drop)]
-pub struct LateFile<'a, F: Files> {
-    pub rt: &'a F,
+pub struct LateFile<'a, S: Folder> {
+    pub folder: &'a S,
     pub path: &'a str,
-    pub file: Option<F::File>,
+    pub file: Option<S::Opened>,
 }
 
-impl<F: Files> Read for LateFile<'_, F> {
+impl<S: Folder> Read for LateFile<'_, S> {
+    ghost remaining = { λ late. unwrap_or (option_map S.Opened.remaining late.file)
+        (S.known late.folder.now late.path.now) };
+
     fn read(&mut self, buf: &mut [u8]) -> IoResult<usize> {
         if let Some(file) = &mut self.file {
             return file.read(buf);
         }
-        let mut file = File::open(self.rt, self.path)?;
+        let mut file = self.folder.open(self.path)?;
         let count = file.read(buf)?;
         self.file = Some(file);
         Ok(count)

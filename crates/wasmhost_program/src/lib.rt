@@ -10,8 +10,13 @@
 mod arguments;
 mod errors;
 mod files;
+mod laws;
 mod program;
 mod swap_file;
 
+pub use arguments::{Arguments, Refused, read_args};
+pub use files::{Folder, SystemFiles};
+pub use laws::lines_are_read;
 pub use program::{ANSWERED, NOT_ACCEPTED, Outcome, STOPPED, answer, run};
 pub use swap_file::Lockable;
+pub use wh_script::{FileError, Source};

@@ -1,14 +1,17 @@
 //! The program: words, settings, a script, replies and a status.
 
-ghost use Rattle.std.specs.Prelude.{◌≡◌, ◌≤◌, replicate, [], IfOk, IfSome, MatchOption};
+ghost use Rattle.std.specs.Io.KnownBytes.{Keeps};
+ghost use Rattle.std.specs.Prelude.{◌≡◌, ◌≤◌, replicate, [], true, is_some, map, option_map, string_bytes, IfErr, IfOk, IfSome, MatchOption};
 ghost use Rattle.wh_engine.specs.Draining.{HasServed};
+ghost use Rattle.wh_engine.specs.declared.fault.ScriptFault.TheVariants.{Memory, Settings as NoSettings, Swap};
 ghost use Rattle.wh_script.specs.Starting.{IsEmptyDevice};
+ghost use Rattle.wh_settings.specs.View.{settings_of};
 ghost use Rattle.wh_swap.specs.Written.{HasReadRight, page_faults, page_held};
-ghost use Rattle.wasmhost_program.specs.Written.{HasServedSo, WritesByStatus, WritesByEnd};
+ghost use Rattle.wasmhost_program.specs.Written.{EndsWith, HasServedSo, IsFaultOfDevice, IsFaultOfSettings, ReadsSettings, RunsAsked, RunsScript, RunsWith};
 
 use crate::arguments::{Arguments, Refused, read_args};
 use crate::errors::Errors;
-use crate::files::{LateFile, SystemFiles, read_at_most};
+use crate::files::{Folder, LateFile, SystemFiles, read_at_most};
 use crate::swap_file::{Lockable, SwapFile, open_swap_file};
 use std::alloc::Global;
 use std::fs::OpenFile;
@@ -18,7 +21,7 @@ use std::rt::{Env, Files};
 use std::sync::Wait;
 use std::thread::Threads;
 use std::{env, io};
-use wh_script::{ScriptFault, run_script};
+use wh_script::{ScriptFault, Source, run_script};
 use wh_settings::{Settings, SettingsError, Workers, read_settings};
 use wh_swap::{MemSwap, StreamSwap, SwapDev};
 
@@ -39,20 +42,40 @@ fn words(rt: &(impl Env + AllocGlobal)) -> io::Result<Vec<String>> {
     Ok(env::args(rt)?.collect(rt.alloc())?)
 }
 
+/// The bytes of a file of settings.
+///
+/// # Errors
+/// `Settings` where it can't be opened or read, or has too many; `Memory` where there is none for them.
+fn settings_bytes<S: Folder>(alloc: Global, folder: &S, path: &str) -> Result<Vec<u8>, ScriptFault>
+    ensures bytes { IfOk result (λ bytes. Keeps (S.known folder.now path.now) (Some bytes.items)) }
+    ensures err { IfErr result IsFaultOfSettings }
+{
+    match read_at_most(alloc, folder, path, u64::from(MOST_SETTINGS_BYTES) + 1) {
+        Ok(bytes) if bytes.len() <= MOST_SETTINGS_BYTES as usize => Ok(bytes),
+        Err(error) if error.kind() == ErrorKind::OutOfMemory => Err(ScriptFault::Memory),
+        Ok(_) | Err(_) => Err(ScriptFault::Settings),
+    }
+}
+
 /// The settings of this file, or those by default.
-fn settings_of_file(
-    rt: &(impl Files + AllocGlobal),
+///
+/// # Errors
+/// `Settings` where the file can't be read or spells none; `Memory` where there is none for them.
+fn settings_of_file<S: Folder>(
+    alloc: Global,
+    folder: &S,
     path: Option<&str>,
-) -> Result<Settings, ScriptFault> {
+) -> Result<Settings, ScriptFault>
+    ensures settings { IfOk result (λ settings. ReadsSettings (S.known folder.now)
+        (option_map (λ p. p.now) path.entry) (settings_of settings)) }
+    ensures err { IfErr result IsFaultOfSettings }
+    ensures named { IfErr result (λ fault. is_some (option_map (λ p. p.now) path.entry) ≡ true) }
+{
     let Some(path) = path else {
         return Ok(Settings::default());
     };
-    let bytes = match read_at_most(rt, path, u64::from(MOST_SETTINGS_BYTES) + 1) {
-        Ok(bytes) if bytes.len() <= MOST_SETTINGS_BYTES as usize => bytes,
-        Err(error) if error.kind() == ErrorKind::OutOfMemory => return Err(ScriptFault::Memory),
-        Ok(_) | Err(_) => return Err(ScriptFault::Settings),
-    };
-    match read_settings(rt.alloc(), &bytes) {
+    let bytes = settings_bytes(alloc, folder, path)?;
+    match read_settings(alloc, &bytes) {
         Ok(settings) => Ok(settings),
         Err(SettingsError::Memory) => Err(ScriptFault::Memory),
         Err(SettingsError::Invalid) => Err(ScriptFault::Settings),
@@ -76,6 +99,7 @@ fn device_over<F: OpenFile + Read + Write + Seek + Drop>(
 ) -> Result<StreamSwap<F>, ScriptFault>
     ensures held { IfOk result (λ device. page_held device ≡ replicate slots []) }
     ensures faults { IfOk result (λ device. page_faults device ≡ []) }
+    ensures err { IfErr result IsFaultOfDevice }
 {
     let Ok(file) = own.handle() else {
         return Err(ScriptFault::Swap);
@@ -86,114 +110,127 @@ fn device_over<F: OpenFile + Read + Write + Seek + Drop>(
     Ok(device)
 }
 
-/// Runs a script with these settings and so many workers, from standard input where it has no path. Pages are swapped to the
+/// Runs a script with these settings and so many workers, from the input where it has no path. Pages are swapped to the
 /// device, which comes back.
 fn run_over<
-    E: Files + Input + AllocGlobal + Threads + Wait + Copy + Send + 'static,
+    E: AllocGlobal + Threads + Wait + Copy + Send + 'static,
+    S: Folder + Source,
     D: SwapDev + Drop + Send + 'static,
+    R: Read,
     W: Write,
 >(
     rt: &E,
+    folder: &S,
     settings: &Settings,
-    workers: Workers,
+    given: Arguments<'_>,
     device: D,
-    script: Option<&str>,
+    input: &mut R,
     output: &mut W,
 ) -> (Result<(), ScriptFault>, Option<D>)
     requires { IsEmptyDevice settings.now.slots (D.held device) }
     ensures { IfSome result.1 (λ after. HasServed (D.honest after) (D.faults device)
-        (D.faults after)) → WritesByEnd result.0 (W.contents output.old) (W.contents output.new) }
+        (D.faults after)) → RunsScript (S.known folder.now) (S.files folder.now)
+        (settings_of settings.now) (option_map (λ p. p.now) given.entry.script) (R.remaining input.old)
+        (R.remaining input.new) (W.contents output.old) (W.contents output.new) result.0 }
 {
     let alloc = rt.alloc();
-    let source = SystemFiles { rt };
-    let Some(path) = script else {
-        let mut reader = rt.reader();
-        return run_script(
-            *rt,
-            alloc,
-            settings,
-            workers,
-            &source,
-            device,
-            &mut reader,
-            output,
-        );
+    let workers = given.workers;
+    let Some(path) = given.script else {
+        return run_script(*rt, alloc, settings, workers, folder, device, input, output);
     };
-    let mut reader = LateFile {
-        rt,
+    let mut file = LateFile {
+        folder,
         path,
         file: None,
     };
     run_script(
-        *rt,
-        alloc,
-        settings,
-        workers,
-        &source,
-        device,
-        &mut reader,
-        output,
+        *rt, alloc, settings, workers, folder, device, &mut file, output,
     )
 }
 
 /// Runs a script with these settings, in which no file for swap is named. Pages are swapped to memory.
-fn run_in_memory<E: Files + Input + AllocGlobal + Threads + Wait + Copy + Send + 'static, W: Write>(
+fn run_in_memory<
+    E: AllocGlobal + Threads + Wait + Copy + Send + 'static,
+    S: Folder + Source,
+    R: Read,
+    W: Write,
+>(
     rt: &E,
+    folder: &S,
     settings: &Settings,
-    workers: Workers,
-    script: Option<&str>,
+    given: Arguments<'_>,
+    input: &mut R,
     output: &mut W,
 ) -> Result<(), ScriptFault>
-    ensures { WritesByEnd result (W.contents output.old) (W.contents output.new) }
+    ensures { RunsScript (S.known folder.now) (S.files folder.now) (settings_of settings.now)
+        (option_map (λ p. p.now) given.entry.script) (R.remaining input.old) (R.remaining input.new)
+        (W.contents output.old) (W.contents output.new) result }
 {
     let Ok(device) = MemSwap::new(rt.alloc(), settings.slots) else {
         return Err(ScriptFault::Memory);
     };
-    let (outcome, _) = run_over(rt, settings, workers, device, script, output);
+    let (outcome, _) = run_over(rt, folder, settings, given, device, input, output);
     outcome
 }
 
 /// Runs the script of a command line with these settings and its workers. Pages are swapped to this file, over which the
 /// device comes back.
-fn run_on_file<E: Files + Input + AllocGlobal + Threads + Wait + Copy + Send + 'static, W: Write>(
+fn run_on_file<
+    E: Files + AllocGlobal + Threads + Wait + Copy + Send + 'static,
+    S: Folder + Source,
+    R: Read,
+    W: Write,
+>(
     rt: &E,
+    folder: &S,
     settings: &Settings,
     given: Arguments<'_>,
     own: &SwapFile<E::File>,
+    input: &mut R,
     output: &mut W,
 ) -> (Result<(), ScriptFault>, Option<StreamSwap<E::File>>)
 where
     E::File: Send + 'static,
-    ensures { HasServedSo result.1
-        → WritesByEnd result.0 (W.contents output.old) (W.contents output.new) }
+    requires { is_some (settings_of settings.now).swap ≡ true }
+    ensures { HasServedSo result.1 → RunsWith (S.known folder.now) (S.files folder.now)
+        (settings_of settings.now) (option_map (λ p. p.now) given.entry.script) (R.remaining input.old)
+        (R.remaining input.new) (W.contents output.old) (W.contents output.new) result.0 }
 {
     match device_over(rt.alloc(), own, settings.slots) {
-        Ok(device) => run_over(rt, settings, given.workers, device, given.script, output),
+        Ok(device) => run_over(rt, folder, settings, given, device, input, output),
         Err(fault) => (Err(fault), None),
     }
 }
 
 /// Runs the script of a command line with these settings and its workers. The device comes back, where the settings name a
 /// file for it.
-fn run_with<E: Files + Input + AllocGlobal + Threads + Wait + Copy + Send + 'static, W: Write>(
+fn run_with<
+    E: Files + AllocGlobal + Threads + Wait + Copy + Send + 'static,
+    S: Folder + Source,
+    R: Read,
+    W: Write,
+>(
     rt: &E,
+    folder: &S,
     settings: &Settings,
     given: Arguments<'_>,
+    input: &mut R,
     output: &mut W,
 ) -> (Result<(), ScriptFault>, Option<StreamSwap<E::File>>)
 where
     E::File: Lockable + Send + 'static,
-    ensures { HasServedSo result.1
-        → WritesByEnd result.0 (W.contents output.old) (W.contents output.new) }
+    ensures { HasServedSo result.1 → RunsWith (S.known folder.now) (S.files folder.now)
+        (settings_of settings.now) (option_map (λ p. p.now) given.entry.script) (R.remaining input.old)
+        (R.remaining input.new) (W.contents output.old) (W.contents output.new) result.0 }
 {
     let Some(path) = &settings.swap else {
-        let outcome = run_in_memory(rt, settings, given.workers, given.script, output);
+        let outcome = run_in_memory(rt, folder, settings, given, input, output);
         return (outcome, None);
     };
     let Ok(own) = open_swap_file(rt, path) else {
         return (Err(ScriptFault::Swap), None);
     };
-    let ended = run_on_file(rt, settings, given, &own, output);
+    let ended = run_on_file(rt, folder, settings, given, &own, input, output);
     // That nothing could be taken out of the file has nobody to be told: what was answered stays so.
     let _ = own.empty();
     ended
@@ -201,18 +238,27 @@ where
 
 /// Runs the script of a command line with its settings and workers. The device comes back, where the settings name a file
 /// for it.
-fn run_given<E: Files + Input + AllocGlobal + Threads + Wait + Copy + Send + 'static, W: Write>(
+fn run_given<
+    E: Files + AllocGlobal + Threads + Wait + Copy + Send + 'static,
+    S: Folder + Source,
+    R: Read,
+    W: Write,
+>(
     rt: &E,
+    folder: &S,
     given: Arguments<'_>,
+    input: &mut R,
     output: &mut W,
 ) -> (Result<(), ScriptFault>, Option<StreamSwap<E::File>>)
 where
     E::File: Lockable + Send + 'static,
-    ensures { HasServedSo result.1
-        → WritesByEnd result.0 (W.contents output.old) (W.contents output.new) }
+    ensures { HasServedSo result.1 → RunsAsked (S.known folder.now) (S.files folder.now)
+        (option_map (λ p. p.now) given.entry.settings) (option_map (λ p. p.now) given.entry.script)
+        (R.remaining input.old) (R.remaining input.new) (W.contents output.old)
+        (W.contents output.new) result.0 }
 {
-    match settings_of_file(rt, given.settings) {
-        Ok(settings) => run_with(rt, &settings, given, output),
+    match settings_of_file(rt.alloc(), folder, given.settings) {
+        Ok(settings) => run_with(rt, folder, &settings, given, input, output),
         Err(fault) => (Err(fault), None),
     }
 }
@@ -225,24 +271,33 @@ fn stop(errors: &mut impl Write, fault: ScriptFault) -> u8
     STOPPED
 }
 
-/// Answers the script that the words of a command line name, the first of them being the program's: the replies go to
-/// `output`, and why it stops or isn't begun to `errors`.
-pub fn answer<E: Files + Input + AllocGlobal + Threads + Wait + Copy + Send + 'static, W: Write>(
+/// Answers the script that the words of a command line name, the first of them being the program's. The script comes from
+/// the input, or from the file of the folder that the words name, where modules come from too. The replies go to `output`,
+/// and why it stops or isn't begun to `errors`.
+pub fn answer<
+    E: Files + AllocGlobal + Threads + Wait + Copy + Send + 'static,
+    S: Folder + Source,
+    R: Read,
+    W: Write,
+>(
     rt: &E,
+    folder: &S,
     words: &[String],
+    input: &mut R,
     output: &mut W,
     errors: &mut impl Write,
 ) -> Outcome<E::File>
 where
     E::File: Lockable + Send + 'static,
     ensures status { result.status ≤ 2 }
-    // Nothing but what answers a script is written to the output, and at status 0 all of it: so it is where pages are swapped
-    // to memory, and over a file where that has given what was written to it, and no call of it failed.
-    ensures replies { HasServedSo result.swap
-        → WritesByStatus result.status (W.contents output.old) (W.contents output.new) }
+    // Which script was answered, with which settings, and how much of it, by the status: so it is where pages are swapped to
+    // memory, and over a file where that has given what was written to it, and no call of it failed.
+    ensures ends { HasServedSo result.swap → EndsWith (S.known folder.now) (S.files folder.now)
+        (map string_bytes words.now) (R.remaining input.old) (R.remaining input.new)
+        (W.contents output.old) (W.contents output.new) result.status }
 {
     let (outcome, swap) = match read_args(rt.alloc(), words) {
-        Ok(given) => run_given(rt, given, output),
+        Ok(given) => run_given(rt, folder, given, input, output),
         Err(Refused::Memory) => (Err(ScriptFault::Memory), None),
         Err(Refused::Line(error)) => {
             let _ = write!(errors, "{error}");
@@ -277,6 +332,15 @@ where
             return ExitCode::from(NOT_ACCEPTED);
         }
     };
-    let outcome = answer(&rt, &words, &mut io::writer(&rt), &mut errors);
+    let folder = SystemFiles { rt: &rt };
+    let mut input = rt.reader();
+    let outcome = answer(
+        &rt,
+        &folder,
+        &words,
+        &mut input,
+        &mut io::writer(&rt),
+        &mut errors,
+    );
     ExitCode::from(outcome.status)
 }

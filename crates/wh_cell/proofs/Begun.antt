@@ -9,6 +9,7 @@ use Rattle.wh_host_model.specs.Space.Parts.{Space}
 use Rattle.wh_reclaim.specs.Together.{AreTogether}
 use Rattle.wh_reclaim.proofs.Together.{new_together}
 use Rattle.wh_host.specs.Hosting.{HostState, IsNewHost}
+use Rattle.wh_host.specs.Showing.{StandsByEvents}
 use Rattle.wh_cell.specs.Charging.{charges_by}
 use Rattle.wh_cell.specs.Knowing.{KnownState, NoneOut, backs, known_of}
 use Rattle.wh_cell.specs.Leaving.{ComesFrom, FitsHost, HasNoCharge, LeftState, left_as}
@@ -29,8 +30,8 @@ begun_kept {D} device page keeper s held together is =
     }
 
 pub begun_in_step : {D : Type 0} (held : D → List (List ℕ)) (keeps honest : D → Type 0) (faults : D → List SwapError) (l : LockedState D) (device : D) → HasNoCharge l.host → AreTogether l.host.space (held device)
-    → l.books.charges ≡ 0 → l.known ≡ known_of (backs l.host.space device) → l.left ≡ record { host = l.host; device = l.known.device } → IsInStep held keeps honest faults l
-begun_in_step {D} held keeps honest faults l device none together zero known is =
+    → (honest device → StandsByEvents l.host) → l.books.charges ≡ 0 → l.known ≡ known_of (backs l.host.space device) → l.left ≡ record { host = l.host; device = l.known.device } → IsInStep held keeps honest faults l
+begun_in_step {D} held keeps honest faults l device none together led zero known is =
     let has : l.known.device ≡ Some device = ap (λ (k : KnownState D). k.device) known in
     let left : l.left ≡ left_as l.host device = is ∙ ap (λ (x : Option D). (let z : LeftState D = record { host = l.host; device = x } in z)) has in
     record {
@@ -42,6 +43,7 @@ begun_in_step {D} held keeps honest faults l device none together zero known is 
         pass = ap (λ (z : List (List ℕ)). (let p : Pass = record { held = z; out = (pass_of l.host.space).out } in p)) together.agrees
             ∙ ap (λ (k : KnownState D). (let p : Pass = record { held = held device; out = k.out } in p)) (sym known);
       };
+      led = led;
       came = subst (λ z. ComesFrom keeps honest faults z device l.host) (sym left) (left_now keeps honest faults l.host device);
     }
 
@@ -62,3 +64,6 @@ new_uncharged h frames slots tax new = (new.0, new.1, ap (λ (ts : List (Option 
 
 pub new_agrees : (h : HostState) (frames slots : ℕ) (tax : Tax) → IsNewHost h frames slots tax → AreTogether h.space (replicate slots [])
 new_agrees h frames slots tax new = subst (λ s. AreTogether s (replicate slots [])) (sym new.1.space) (new_together new.0.space frames slots tax new.5)
+
+pub new_led : (h : HostState) (frames slots : ℕ) (tax : Tax) → IsNewHost h frames slots tax → StandsByEvents h
+new_led h frames slots tax new = (new.0, new.1, new.2)

@@ -1,10 +1,9 @@
 -- A host goes on from how its owner left it, and the book still fits it.
-use Rattle.std.proofs.Common.{◌≡◌, ℕ, List, [], ◌∷◌, ◌++◌, Option, length, map, refl, sym, ap, ◌∙◌, arith, append_assoc}
+use Rattle.std.proofs.Common.{◌≡◌, ℕ, List, [], ◌∷◌, ◌++◌, Option, refl, sym, ap, ◌∙◌, append_assoc}
 use Rattle.std.specs.Prelude.{Result, Ok, Err, IfErr, OnOk}
 use Rattle.wh_host_model.specs.declared.plain.InstId.{InstId}
 use Rattle.wh_host_model.specs.declared.plain.SwapError.{SwapError}
 use Rattle.wh_host_model.specs.declared.plain.TurnEnd.{TurnEnd}
-use Rattle.wh_host_model.specs.Space.Errands.{Pass}
 use Rattle.wh_host_model.specs.Space.Parts.{Space}
 use Rattle.wh_host_model.specs.Host.Worlds.{Tenant, World}
 use Rattle.wh_host_model.specs.Host.Events.{epoch, evict_commit, fetch_commit, provide, turn}
@@ -18,7 +17,6 @@ use Rattle.wh_cell.specs.Going.{IsPartOf, fault_or_none}
 use Rattle.wh_cell.specs.Leaving.{ComesFrom, FitsHost, LeftState, ServesOn, WorksOn, WorksAnyhowOn, left_as}
 use Rattle.wh_cell.proofs.Alike.{fits_on}
 use Rattle.wh_cell.proofs.Going.{anyhow_where_right, works_anyhow_by, works_anyhow_on, works_anyhow_to_itself, works_by, works_on, works_to_itself, works_within}
-use Rattle.wh_cell.proofs.Passing.{as_many}
 use Rattle.wh_cell.proofs.Requested.{misread_fits, moves_fit, pages_fit}
 
 -- ---- work
@@ -91,7 +89,7 @@ whole_then s s2 s3 a b = record { frames = b.frames ∙ a.frames; slots = b.slot
 pub keeps_whole : (s s2 : Space) → KeepsBacking s s2 → IsAsWhole s s2
 keeps_whole s s2 k = record {
   frames = k.frames;
-  slots = sym (as_many s2.slots.uses) ∙ ap (λ (z : Pass). length z.out) k.pass ∙ as_many s.slots.uses;
+  slots = k.slots;
   tax = k.tax;
 }
 

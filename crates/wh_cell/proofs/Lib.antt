@@ -5,10 +5,9 @@ pub mod Begun
 pub mod Counted
 pub mod Followed
 pub mod Going
-pub mod InHand
+pub mod Led
 pub mod Passing
 pub mod Requested
-pub mod Rosters
 pub mod Shown
 pub mod Steps
 pub mod Turned

@@ -1,11 +1,15 @@
--- A roll is that of a host to which events lead.
+-- A roll is that of a host that lies under the lock.
+use Rattle.std.proofs.Common.{◌≡◌, ℕ, List, subst}
 use Rattle.std.specs.Prelude.{Result, Ok, Err, IfOk}
-use Rattle.wh_host_model.specs.Host.Worlds.{World}
-use Rattle.wh_host.specs.declared.error.HostError.{HostError}
-use Rattle.wh_host.specs.Hosting.{HostState, IsHost}
+use Rattle.wh_host_model.specs.declared.plain.SwapError.{SwapError}
 use Rattle.wh_host.specs.Rolls.{IsRollOf, RollState}
+use Rattle.wh_host.specs.declared.error.HostError.{HostError}
+use Rattle.wh_cell.specs.Locking.{IsInStep, LockedState}
 
-pub some_roll : (h : HostState) (result : Result RollState HostError) → (w : World) × IsHost h w → IfOk result (λ roll. IsRollOf h roll)
-    → IfOk result (λ roll. (h : HostState) × ((w : World) × IsHost h w) × IsRollOf h roll)
-some_roll h (Ok roll) some is = (h, some, is)
-some_roll h (Err error) some is = tt
+pub in_step_roll : {D : Type 0} (held : D → List (List ℕ)) (keeps honest : D → Type 0) (faults : D → List SwapError)
+    (l seen : LockedState D) (result : Result RollState HostError) → IsInStep held keeps honest faults l → seen ≡ l
+    → IfOk result (IsRollOf seen.host)
+    → IfOk result (λ roll. (x : LockedState D) × IsInStep held keeps honest faults x × IsRollOf x.host roll)
+in_step_roll held keeps honest faults l seen (Ok roll) s same is =
+    (l, s, subst (λ z. IsRollOf z.host roll) same is)
+in_step_roll held keeps honest faults l seen (Err e) s same is = tt

@@ -1,7 +1,7 @@
 -- What the lock lends stays in step.
-use Rattle.std.proofs.Common.{◌≡◌, ◌∙◌, ◌⊎◌, inl, ℕ, ◌+◌, ◌∷◌, [], cond, get_or, length, slice_set, List, Option, Some, None, refl, sym, ap, subst}
+use Rattle.std.proofs.Common.{◌≡◌, ◌∙◌, inl, ℕ, ◌+◌, ◌∷◌, [], cond, get_or, length, slice_set, List, Option, Some, None, refl, sym, ap, subst}
 use Rattle.std.proofs.lemmas.Option.{same_Some}
-use Rattle.std.specs.Prelude.{Result, Ok, Err, IfErr, IfSome, OnOk, is_ok}
+use Rattle.std.specs.Prelude.{Result, Ok, Err, IfErr, OnOk, is_ok}
 use Rattle.wh_host_model.specs.declared.plain.InstId.{InstId}
 use Rattle.wh_host_model.specs.declared.plain.SwapError.{SwapError}
 use Rattle.wh_host_model.specs.declared.plain.TurnEnd.{TurnEnd}
@@ -9,26 +9,25 @@ use Rattle.wh_host_model.specs.declared.states.EvictEnd.{EvictEnd}
 use Rattle.wh_host_model.specs.declared.states.EvictEnd.TheVariants.{Evicted, Void, Failed}
 use Rattle.wh_host_model.specs.declared.states.FetchEnd.{FetchEnd}
 use Rattle.wh_host_model.specs.declared.states.FetchEnd.TheVariants.{Fetched, Void as FetchIsVoid, Failed as FetchHasFailed}
-use Rattle.wh_host_model.specs.Host.Events.{Event}
-use Rattle.wh_host_model.specs.Host.Happens.{AllHappen, AwaitsFrame, AwaitsFrameFor, IsTurn}
-use Rattle.wh_host_model.specs.Host.Worlds.{World, empty_world}
+use Rattle.wh_host_model.specs.Host.Happens.{AwaitsFrame, AwaitsFrameFor, IsTurn}
+use Rattle.wh_host_model.specs.Host.Worlds.{World}
 use Rattle.wh_host_model.specs.Space.Errands.{Errand, Pass, pass_of, tickets}
 use Rattle.wh_host_model.specs.Space.Parts.{Space}
 use Rattle.wh_host_model.specs.Space.Tickets.{CommitsFetch}
 use Rattle.wh_reclaim.specs.Whole.{IsAsWhole}
 use Rattle.wh_host.specs.Backing.{KeepsBacking}
 use Rattle.wh_host.specs.Carried.{EndsEvict, evict_fault, fetch_fault}
-use Rattle.wh_host.specs.Hosting.{HostState, IsHost, IsReached}
+use Rattle.wh_host.specs.Hosting.{HostState, IsHost}
 use Rattle.wh_host.specs.Paging.{MovesAnyhow, MovesOnly, MovesWith, provide_fault}
 use Rattle.wh_host.specs.Showing.{StandsByEvents}
 use Rattle.wh_cell.specs.Calling.{HasRead, HasWritten}
 use Rattle.wh_cell.specs.Going.{IsPartOf, call_faults, fault_or_none}
 use Rattle.wh_cell.specs.Knowing.{AgreesWith, KnownState, NoneOut, with_ticket, without_ticket}
-use Rattle.wh_cell.specs.Leaving.{ComesFrom, FitsHost, HasTakenOn, LeftState, left_as}
+use Rattle.wh_cell.specs.Leaving.{ComesFrom, FitsHost, HasTakenOn, LeftState, WorksOn, left_as}
 use Rattle.wh_cell.specs.Locking.{BooksState, IsInStep, LockedState}
 use Rattle.wh_cell.proofs.Asked.{fits_turned}
-use Rattle.wh_cell.proofs.Followed.{comes_on_alone, comes_on_by, comes_on_provided, comes_on_still, fits_anyhow, fits_carried, fits_moved, left_now, works_anyhow_by_eviction, works_anyhow_by_fetch, works_by_eviction, works_by_fetch, works_by_moves, works_by_turn}
-use Rattle.wh_cell.proofs.Going.{happen_both}
+use Rattle.wh_cell.proofs.Followed.{comes_on_alone, comes_on_by, comes_on_provided, comes_on_still, fits_anyhow, fits_carried, fits_moved, left_now, works_anyhow_by_eviction, works_anyhow_by_fetch, works_by_eviction, works_by_fetch, works_by_moves, works_by_provision, works_by_turn}
+use Rattle.wh_cell.proofs.Led.{led_by_work}
 use Rattle.wh_cell.proofs.Passing.{Passes, as_many, commits_fetch, ends_evict, held_is, none_there, out_is, out_with, same_none}
 
 -- memory and device agree still
@@ -71,6 +70,7 @@ module _ {D : Type 0} (held : D → List (List ℕ)) (keeps honest : D → Type 
         fits = subst (FitsHost h2) (sym counted) (fits_turned l.host h2 l.books.charges taken s.some (x.0, x.2) s.fits took);
         device = s.device;
         agrees = agrees_still held l.host.space h2.space l.known s.device backing.pass s.agrees;
+        led = λ is. led_by_work l.host h2 [] (works_by_turn l.host h2 id q answer turns) (s.led is);
         came = comes_on_still keeps honest faults l.left s.device l.host h2 s.came (works_by_turn l.host h2 id q answer turns) backing;
       }
 
@@ -83,19 +83,21 @@ module _ {D : Type 0} (held : D → List (List ℕ)) (keeps honest : D → Type 
         fits = subst (FitsHost h2) (sym same) (fits_moved l.host h2 l.books.charges s.some s.fits moves);
         device = s.device;
         agrees = agrees_still held l.host.space h2.space l.known s.device backing.pass s.agrees;
+        led = λ is. led_by_work l.host h2 [] (works_by_moves l.host h2 moves) (s.led is);
         came = comes_on_still keeps honest faults l.left s.device l.host h2 s.came (works_by_moves l.host h2 moves) backing;
       }
 
   -- what was asked of it, and who asked leaves it
-  pub asked_in_step : (l : LockedState D) (h2 : HostState) (left2 : LeftState D) → IsInStep held keeps honest faults l → (w : World) × IsHost h2 w → FitsHost h2 l.books.charges → KeepsBacking l.host.space h2.space
+  pub asked_in_step : (l : LockedState D) (h2 : HostState) (left2 : LeftState D) → IsInStep held keeps honest faults l → (w : World) × IsHost h2 w → FitsHost h2 l.books.charges → (StandsByEvents l.host → StandsByEvents h2) → KeepsBacking l.host.space h2.space
       → left2 ≡ record { host = h2; device = l.known.device } → IsInStep held keeps honest faults (record l { host = h2; left = left2 })
-  asked_in_step l h2 left2 s some fits backing is =
+  asked_in_step l h2 left2 s some fits led backing is =
       let now : left2 ≡ left_as h2 s.device = is ∙ ap (λ (x : Option D). (let z : LeftState D = record { host = h2; device = x } in z)) s.agrees.has in
       record {
         some = some;
         fits = fits;
         device = s.device;
         agrees = agrees_still held l.host.space h2.space l.known s.device backing.pass s.agrees;
+        led = λ right. led (s.led right);
         came = subst (λ z. ComesFrom keeps honest faults z s.device h2) (sym now) (left_now keeps honest faults h2 s.device);
       }
 
@@ -123,6 +125,7 @@ module _ {D : Type 0} (held : D → List (List ℕ)) (keeps honest : D → Type 
           has = ap (λ (k : KnownState D). k.device) is;
           pass = pass ∙ ap (λ (k : KnownState D). (let p : Pass = record { held = held device2; out = k.out } in p)) (sym is);
         };
+        led = λ right. led_by_work l.host h2 (fault_or_none (provide_fault result)) (works_by_provision l.host h2 id (provide_fault result) (moves right)) (s.led (subst honest (sym one) (was right)));
         came = comes_on_provided keeps honest faults l.left device device2 l.host h2 id result (subst (λ z. ComesFrom keeps honest faults l.left z l.host) one s.came) was goes stays ok err moves anyhow whole;
       }
 
@@ -141,6 +144,7 @@ module _ {D : Type 0} (held : D → List (List ℕ)) (keeps honest : D → Type 
           pass = passes.pass ∙ ap (λ (p : Pass). (let q : Pass = record { held = p.held; out = slice_set p.out slot (Some errand) } in q)) s.agrees.pass
               ∙ ap (λ (k : KnownState D). (let p : Pass = record { held = held s.device; out = k.out } in p)) (sym is);
         };
+        led = λ is. led_by_work l.host h2 [] (works_by_moves l.host h2 moves) (s.led is);
         came = comes_on_alone keeps honest faults l.left s.device l.host h2 s.came (works_by_moves l.host h2 moves) passes.whole;
       }
 
@@ -154,6 +158,7 @@ module _ {D : Type 0} (held : D → List (List ℕ)) (keeps honest : D → Type 
         fits = fits_moved l.host h2 l.books.charges s.some s.fits moves;
         device = s.device;
         agrees = agrees_still held l.host.space h2.space l.known s.device passes.pass s.agrees;
+        led = λ is. led_by_work l.host h2 [] (works_by_moves l.host h2 moves) (s.led is);
         came = comes_on_alone keeps honest faults l.left s.device l.host h2 s.came (works_by_moves l.host h2 moves) passes.whole;
       }
 
@@ -180,6 +185,7 @@ module _ {D : Type 0} (held : D → List (List ℕ)) (keeps honest : D → Type 
         fits = subst (FitsHost h2) (sym same) (fits_carried l.host h2 l.books.charges id (AwaitsFrameFor call) fault s.some s.fits moves);
         device = device2;
         agrees = back_agrees l.host.space h2.space l.known known2 s.device device2 slot (λ z. slice_set z slot (cond (is_ok answer) bytes [])) s.agrees passes wrote.holds is;
+        led = λ right. led_by_work l.host h2 (call_faults answer) (works_by_eviction l.host h2 id call fault (call_faults answer) (eviction_part end answer) moves) (s.led (wrote.serves.was_honest right));
         came = comes_on_by keeps honest faults l.left s.device device2 (call_faults answer) l.host h2 s.came wrote.serves
             (λ right. works_by_eviction l.host h2 id call fault (call_faults answer) (eviction_part end answer) moves)
             (works_anyhow_by_eviction l.host h2 id call fault moves) passes.whole;
@@ -195,32 +201,17 @@ module _ {D : Type 0} (held : D → List (List ℕ)) (keeps honest : D → Type 
       let passes = commits_fetch l.host.space slot (is_ok answer) bytes end h2.space commits in
       let fault = fetch_fault end answer in
       let there : get_or l.host.space.slots.held slot [] ≡ get_or (held s.device) slot [] = ap (λ (z : List (List ℕ)). get_or z slot []) (held_is held l.host.space l.known s.device s.agrees) in
+      let works : honest device2 → WorksOn l.host (call_faults answer) h2 =
+      (λ right. works_by_fetch l.host h2 id call fault (call_faults answer) (fetch_part end answer)
+      (moves (on_ok (get_or (held s.device) slot [] ≡ bytes) (get_or l.host.space.slots.held slot [] ≡ bytes) answer (λ e. there ∙ e)
+      (on_ok_always (honest device2) (get_or (held s.device) slot [] ≡ bytes) answer read.right right)))) in
       record {
         some = (x.1, x.4);
         fits = fits_anyhow l.host h2 l.books.charges id (AwaitsFrameFor call) fault s.some s.fits anyhow;
         device = device2;
+        led = λ right. led_by_work l.host h2 (call_faults answer) (works right) (s.led (read.serves.was_honest right));
         agrees = back_agrees l.host.space h2.space l.known known2 s.device device2 slot (λ z. z) s.agrees passes read.holds is;
         came = comes_on_by keeps honest faults l.left s.device device2 (call_faults answer) l.host h2 s.came read.serves
-            (λ right. works_by_fetch l.host h2 id call fault (call_faults answer) (fetch_part end answer)
-            (moves (on_ok (get_or (held s.device) slot [] ≡ bytes) (get_or l.host.space.slots.held slot [] ≡ bytes) answer (λ e. there ∙ e)
-            (on_ok_always (honest device2) (get_or (held s.device) slot [] ≡ bytes) answer read.right right))))
+            works
             (works_anyhow_by_fetch l.host h2 id call fault anyhow) passes.whole;
       }
-
--- ---- where events alone lead
-
-reached_by : (w w2 : World) (events : List Event) → IsReached w → AllHappen w events w2 → IsReached w2
-reached_by w w2 events r happen = record {
-  frames = r.frames;
-  slots = r.slots;
-  tax = r.tax;
-  events = _;
-  happen = happen_both (empty_world r.frames r.slots r.tax) w w2 r.events events r.happen happen;
-}
-
--- they lead on where the device has read right
-pub led_on : {D : Type 0} (keeps honest : D → Type 0) (faults : D → List SwapError) (left : LeftState D) (d : D) (h : HostState)
-    → ComesFrom keeps honest faults left d h → StandsByEvents left.host → honest d → StandsByEvents h
-led_on keeps honest faults left d h c led is =
-    let x = c.right is led.0 led.1 in
-    (x.0, x.2, reached_by led.0 x.0 x.1.events led.2 x.1.happen)

@@ -1,7 +1,12 @@
 -- What a call of the swap device makes of it, and what is begun before one.
-use Rattle.std.specs.Prelude.{◌≡◌, ◌≢◌, ◌<◌, ℕ, Bool, cond, List, [], length, get_or, slice_get, slice_set, Option, Some, Result, OnOk, is_ok}
+use Rattle.std.specs.Prelude.{◌≡◌, ◌≢◌, ◌<◌, ℕ, cond, List, [], length, get_or, slice_get, slice_set, Some, Result, OnOk, is_ok}
+use Rattle.wh_model.specs.declared.memory.Need.{Need}
+use Rattle.wh_host_model.specs.declared.plain.InstId.{InstId}
 use Rattle.wh_host_model.specs.declared.plain.SwapError.{SwapError}
 use Rattle.wh_host_model.specs.Space.Errands.{Errand, to_read, to_write}
+use Rattle.wh_host_model.specs.Space.Laws.{IsProvided}
+use Rattle.wh_host.specs.Hosting.{HostState}
+use Rattle.wh_host.specs.Paging.{WaitsFor}
 use Rattle.wh_cell.specs.declared.moving.Begun.{Begun}
 use Rattle.wh_cell.specs.declared.moving.Begun.TheVariants.{Coming, Leaving, Neither}
 use Rattle.wh_cell.specs.Going.{call_faults}
@@ -43,3 +48,8 @@ module _ {D : Type 0} (held : D → List (List ℕ)) where
       GoesOut known fetched.ticket.slot to_read known2 × HasContent known fetched.ticket.slot
   HasBegun known (Leaving eviction) known2 = GoesOut known eviction.ticket.slot to_write known2
   HasBegun known (Neither buf) known2 = known2 ≡ known
+
+-- Where the present call of the instance stood for a frame, a provision has made its next step ready.
+abbrev pub IsMadeReady : InstId → HostState → HostState → Type 0
+IsMadeReady id h h2 =
+    (need : Need) → WaitsFor h id need → (gone : ℕ) × IsProvided h.space id.place need gone h2.space

@@ -3,7 +3,7 @@ use Rattle.std.specs.Prelude.{◌≡◌, ℕ, ◌+◌, ◌-◌, ◌^◌, min, Op
 use Rattle.wh_host_model.specs.declared.plain.SwapError.{SwapError}
 use Rattle.wh_host_model.specs.declared.states.EvictEnd.{EvictEnd}
 use Rattle.wh_host_model.specs.declared.states.EvictEnd.TheVariants.{Evicted}
-use Rattle.wh_workers.specs.Counting.{HelperState}
+use Rattle.wh_threads.specs.Counting.{HelperState}
 
 -- the charges of a turn by those of its call before and after, if it has one: fewer than 2^32
 abbrev pub charges_between : Option ℕ → Option ℕ → ℕ

@@ -1,7 +1,7 @@
 -- What the lock of a host and that of its swap device agree on.
 use Rattle.std.specs.Prelude.{◌≡◌, ℕ, List, [], slice_set, Option, Some, None}
 use Rattle.std.specs.List.{AllByRecursion}
-use Rattle.wh_host_model.specs.Space.Errands.{Errand, Pass, pass_of}
+use Rattle.wh_host_model.specs.Space.Errands.{Errand, pass_of}
 use Rattle.wh_host_model.specs.Space.Parts.{Space}
 
 -- the device as it was when its last call was settled, and by slot the ticket that is out

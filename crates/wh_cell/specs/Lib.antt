@@ -6,5 +6,5 @@ pub mod Knowing
 pub mod Leaving
 pub mod Locking
 pub mod Owning
-pub mod Rostered
+pub mod Scanned
 pub mod Stored

@@ -3,6 +3,7 @@ use Rattle.std.specs.Prelude.{◌≡◌, ℕ, List, Option, Some}
 use Rattle.wh_host_model.specs.declared.plain.SwapError.{SwapError}
 use Rattle.wh_host_model.specs.Host.Worlds.{World}
 use Rattle.wh_host.specs.Hosting.{HostState, IsHost}
+use Rattle.wh_host.specs.Showing.{StandsByEvents}
 use Rattle.wh_cell.specs.Knowing.{AgreesWith, KnownState, NoneOut, known_of}
 use Rattle.wh_cell.specs.Leaving.{ComesFrom, FitsHost, LeftState}
 
@@ -24,15 +25,16 @@ pub record LockedState (D : Type 0) : Type 0 where
 abbrev pub now_of : {D : Type 0} → LockedState D → LeftState D
 now_of l = record { host = l.host; device = l.known.device }
 
--- Events lead to the host, and reads of a swap device that gave other bytes, if there were any. The charges in the
--- books fit its journals. It agrees with its device as that was when its last call was settled. And it came by work
--- from the host that its owner left.
+-- Events lead to the host, and reads of a swap device that gave other bytes, if there were any; where the device has
+-- read right, events alone do. The charges in the books fit its journals. It agrees with its device as that was when its
+-- last call was settled. And it came by work from the host that its owner left.
 pub record IsInStep {D : Type 0} (held : D → List (List ℕ)) (keeps honest : D → Type 0) (faults : D → List SwapError)
     (l : LockedState D) : Type 0 where
   pub some : (w : World) × IsHost l.host w
   pub fits : FitsHost l.host l.books.charges
   pub device : D
   pub agrees : AgreesWith held l.host.space l.known device
+  pub led : honest device → StandsByEvents l.host
   pub came : ComesFrom keeps honest faults l.left device l.host
 
 -- what whoever has the lock of the device finds, who keeps it: it is as the host knows it, and no ticket is out

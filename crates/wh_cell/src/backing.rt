@@ -61,9 +61,9 @@ impl<D: SwapDev + Drop, B: Ties> Backing<D, B> {
 }
 
 impl<D: SwapDev, B: Ties> Backing<D, B> {
-    // What always holds.
+    /// What always holds where nobody has the device's lock: no ticket is out.
     #[inline(always)]
-    pub(crate) fn known(&self)
+    pub fn known(&self)
         ensures { NoneOut self.now.out }
     {
         let _ = &self.buf;

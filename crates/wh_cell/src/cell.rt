@@ -2,13 +2,14 @@
 
 ghost use Rattle.std.specs.Prelude.{◌≡◌, ◌<◌, ◌≤◌, IfOk};
 ghost use Rattle.std.specs.Sync.Mutex.{mutex_guard_value};
-ghost use Rattle.wh_host_model.specs.Host.Worlds.{World};
 ghost use Rattle.wh_reclaim.specs.Together.{AreTogether};
-ghost use Rattle.wh_host.specs.Hosting.{HostState, IsHost};
 ghost use Rattle.wh_host.specs.Rolls.{IsRollOf};
-ghost use Rattle.wh_workers.specs.Counting.{IsZero};
+ghost use Rattle.wh_host.specs.Showing.{StandsByEvents};
+ghost use Rattle.wh_threads.specs.Counting.{IsZero};
+ghost use Rattle.wh_cell.specs.Calling.{IsMadeReady};
 ghost use Rattle.wh_cell.specs.Leaving.{HasNoCharge, left_as};
 ghost use Rattle.wh_cell.specs.Locking.{IsInStep};
+ghost use Rattle.wh_cell.specs.declared.moving.Moved.TheVariants.{Ready};
 
 use crate::backing::Backing;
 use crate::keeper::DeviceMatter;
@@ -24,7 +25,7 @@ use wh_host::{Host, HostError, Roll};
 use wh_host_model::InstId;
 use wh_reclaim::Buf;
 use wh_swap::SwapDev;
-use wh_workers::{BlankPact, Helper, Shares};
+use wh_threads::{BlankPact, Helper, Shares};
 
 // What the handles of a cell share. Whoever takes both locks takes the device's first.
 #[derive(Drop)]
@@ -112,6 +113,7 @@ impl<D: SwapDev + Drop, T: Ledger, C: Ledger, O: Ledger, E: Ledger, B: Ties> Hos
     ) -> Result<(HostCell<D, T, C, O, E, B>, Owner<D, B>, Shares<T, C, O, E>), AllocError>
         requires uncharged { HasNoCharge host }
         requires together { AreTogether host.space (D.held fittings.device) }
+        requires led { D.honest fittings.device → StandsByEvents host }
         requires owned { fittings.to_owner ≡ B.to_owner }
         requires backed { fittings.to_device ≡ B.to_device }
         requires turns { (fittings.turns.name ≡ T.name) × (fittings.turns.parts ≡ T.parts)
@@ -202,7 +204,8 @@ impl<D: SwapDev, T: Ledger, C: Ledger, O: Ledger, E: Ledger, B: Ties> HostCell<D
 
     /// Brings the next step of an instance nearer that waits for a frame: a page comes from the device or leaves for it, and
     /// while the device is called for that the host's lock is free. Where none has to, or where it is to be done at once, the step
-    /// is made ready under both locks. The reclaimer counts the pages that left.
+    /// is made ready under both locks. The reclaimer counts the pages that left. The answer is `Ready` only where a provision
+    /// has made it so.
     pub fn bring_nearer<R: Wait>(
         &self,
         rt: &R,
@@ -212,6 +215,8 @@ impl<D: SwapDev, T: Ledger, C: Ledger, O: Ledger, E: Ledger, B: Ties> HostCell<D
     ) -> Moved
         ensures from { reclaimer.new.from ≡ reclaimer.old.from }
         ensures grown { reclaimer.old.count ≤ reclaimer.new.count }
+        ensures ready { result ≡ Ready → (l l2 : _) × IsInStep D.held D.keeps D.honest D.faults l
+            × IsInStep D.held D.keeps D.honest D.faults l2 × IsMadeReady id l.host l2.host }
     {
         let mut backing = self.both.backing.lock(rt);
         if !at_once {
@@ -219,22 +224,24 @@ impl<D: SwapDev, T: Ledger, C: Ledger, O: Ledger, E: Ledger, B: Ties> HostCell<D
                 return moved;
             }
         }
-        let mut locked = self.both.locked.lock(rt);
-        match locked.provide(&mut backing, id, reclaimer) {
+        let mut locked = self.lock(rt);
+        let provided = locked.provide(&mut backing, id, reclaimer);
+        locked.known();
+        match provided {
             Ok(_) => Moved::Ready,
             Err(_) => Moved::Failed,
         }
     }
 
-    /// The roll of the host: what is there at one moment.
+    /// The roll of the host that lies under the lock: what is there at one moment.
     ///
     /// # Errors
     /// Where memory was refused.
     pub fn roll<R: Wait>(&self, rt: &R, alloc: Global) -> Result<Roll, HostError>
-        ensures { IfOk result (λ roll. (h : HostState)
-            × ((w : World) × IsHost h w) × IsRollOf h roll) }
+        ensures { IfOk result (λ roll. (l : _) × IsInStep D.held D.keeps D.honest D.faults l
+            × IsRollOf l.host roll) }
     {
-        let guard = self.both.locked.lock(rt);
+        let guard = self.lock(rt);
         guard.roll(alloc)
     }
 }

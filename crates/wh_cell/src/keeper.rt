@@ -9,7 +9,7 @@ use std::marker::{Model, PhantomData};
 use std::snapshot::Snapshot;
 use wh_host::Host;
 use wh_swap::SwapDev;
-use wh_workers::{Change, Half, Matter, Pact};
+use wh_threads::{Change, Half, Matter, Pact};
 
 /// What the locks of host and device agree on: the device as it was when its last call was settled, and the tickets that are
 /// out. It is a value of contracts alone: none is made.

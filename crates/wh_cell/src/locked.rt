@@ -6,20 +6,22 @@ ghost use Rattle.wh_host_model.specs.Host.Happens.{AwaitsFrame, IsTurn};
 ghost use Rattle.wh_host_model.specs.Host.Worlds.{World};
 ghost use Rattle.wh_host_model.specs.Space.Laws.{IsProvided};
 ghost use Rattle.wh_host_model.specs.Space.Offers.{OffersOf};
-ghost use Rattle.wh_host_model.specs.Space.Provide.{FailsTruly, OthersKeepMinimum, ProvidesTruly};
+ghost use Rattle.wh_host_model.specs.Space.Provide.{FailsToProvide, FailsTruly, OthersKeepMinimum, Provides, ProvidesTruly};
 ghost use Rattle.wh_host_model.specs.Space.Stores.{Epochs};
 ghost use Rattle.wh_host.specs.Backing.{KeepsBacking};
 ghost use Rattle.wh_host.specs.Hosting.{IsHost};
+ghost use Rattle.wh_host.specs.Left.{LeavesTurned};
 ghost use Rattle.wh_host.specs.Paging.{MovesAnyhow, MovesOnly, MovesWith, WaitsFor, provide_fault};
 ghost use Rattle.wh_host.specs.Sharing.{CanOffer};
 ghost use Rattle.wh_host.specs.Showing.{StandsByEvents};
 ghost use Rattle.wh_reclaim.specs.Together.{AreTogether};
-ghost use Rattle.wh_workers.specs.Counting.{IsZero, RanTurn, turns_of, charges_of};
+ghost use Rattle.wh_threads.specs.Counting.{IsZero, RanTurn, turns_of, charges_of};
 ghost use Rattle.wh_cell.specs.Counted.{CountsEvictions, evictions_of};
 ghost use Rattle.wh_cell.specs.Knowing.{known_of};
 ghost use Rattle.wh_cell.specs.Leaving.{HasNoCharge, HasTakenOn, left_as};
 ghost use Rattle.wh_cell.specs.Locking.{IsInStep, now_of};
 ghost use Rattle.wh_cell.specs.Owning.{ComesOn};
+ghost use Rattle.wh_cell.specs.Scanned.{IsScanned};
 
 use crate::backing::Backing;
 use crate::cell::Fittings;
@@ -35,7 +37,7 @@ use wh_host::Host;
 use wh_host_model::{InstId, Offer, SwapError, TurnEnd};
 use wh_kernels::PageHash;
 use wh_swap::SwapDev;
-use wh_workers::{Books, Half, Helper, Shares, Worker};
+use wh_threads::{Books, Half, Helper, Order, Shares, Worker};
 
 // So many pages left, by what a provision has answered.
 pub fn count_evictions<T: Ledger, C: Ledger, O: Ledger, E: Ledger>(
@@ -148,6 +150,7 @@ impl<D: SwapDev + Drop, T: Ledger, C: Ledger, O: Ledger, E: Ledger, B: Ties> Loc
     ) -> Result<Parts<D, T, C, O, E, B>, AllocError>
         requires uncharged { HasNoCharge host }
         requires together { AreTogether host.space (D.held fittings.device) }
+        requires led { D.honest fittings.device → StandsByEvents host }
         requires owned { fittings.to_owner ≡ B.to_owner }
         requires backed { fittings.to_device ≡ B.to_device }
         requires turns { (fittings.turns.name ≡ T.name) × (fittings.turns.parts ≡ T.parts)
@@ -161,6 +164,8 @@ impl<D: SwapDev + Drop, T: Ledger, C: Ledger, O: Ledger, E: Ledger, B: Ties> Loc
         ensures host { IfOk result (λ parts. parts.locked.host ≡ host) }
         ensures device { IfOk result (λ parts. parts.backing.device ≡ fittings.device) }
         ensures agree { IfOk result (λ parts. parts.locked.known ≡ known_of parts.backing) }
+        ensures books { IfOk result (λ parts. parts.locked.books
+            ≡ record { turns = 0; charges = 0; offers = 0; evictions = 0 }) }
         ensures owner { IfOk result (λ parts. parts.owner ≡ left_as host fittings.device) }
         ensures shares { IfOk result (λ parts. IsZero parts.shares) }
     {
@@ -232,12 +237,13 @@ impl<D: SwapDev, T: Ledger, C: Ledger, O: Ledger, E: Ledger, B: Ties> Locked<D, 
         &self.books
     }
 
-    /// Gives an instance a turn of so many charges. The worker counts it, and so do the books: one turn, and the charges by
-    /// which the journal grew.
-    pub fn turn(&mut self, id: InstId, quantum: u32, worker: &mut Worker<T, C>) -> TurnEnd
+    /// Runs a turn that was handed out: of its instance, and of as many charges at most as it says. The worker counts it, and so
+    /// do the books: one turn, and the charges by which the journal grew.
+    pub fn turn(&mut self, order: Order, worker: &mut Worker<T, C>) -> TurnEnd
         requires room { worker.old.tally.turns < 2 ^ 64 - 1 }
         ensures turns { (w : World) → IsHost self.old.host w
-            → (w2 : World) × IsTurn w id quantum result w2 × IsHost self.new.host w2 }
+            → (w2 : World) × IsTurn w order.instance order.quantum result w2
+            × IsHost self.new.host w2 }
         ensures counted { (taken : ℕ) × HasTakenOn self.old.host taken self.new.host
             × RanTurn worker.old taken worker.new
             × (self.new.books ≡ record self.old.books {
@@ -245,11 +251,14 @@ impl<D: SwapDev, T: Ledger, C: Ledger, O: Ledger, E: Ledger, B: Ties> Locked<D, 
               charges = self.old.books.charges + taken;
             }) }
         ensures backing { KeepsBacking self.old.host.space self.new.host.space }
+        ensures memory { LeavesTurned order.instance.place result self.old.host.space
+            self.new.host.space }
         ensures known { self.new.known ≡ self.old.known }
         ensures left { self.new.left ≡ self.old.left }
     {
-        let (end, taken) = counted_turn(&mut self.host, id, quantum);
-        self.books.turn(worker, taken);
+        let (instance, quantum) = (order.instance(), order.quantum());
+        let (end, taken) = counted_turn(&mut self.host, instance, quantum);
+        self.books.turn(worker, order, taken);
         end
     }
 
@@ -299,16 +308,20 @@ impl<D: SwapDev, T: Ledger, C: Ledger, O: Ledger, E: Ledger, B: Ties> Locked<D, 
         self.host.epoch();
     }
 
-    /// Offers all pages of all instances for sharing, each under the hash of its bytes as they are. It is done where frames
-    /// and slots are fewer than 2^32 together, and so are the places.
-    pub fn scan<H: PageHash>(&mut self, hasher: &H)
+    /// Offers all pages of all instances for sharing, by place and number, each under the hash of its bytes as they are. Then
+    /// as many frames are in use as there are distinct contents that aren't all zero, if the hash tells contents apart and
+    /// was the hash before. No byte of any page changes.
+    ///
+    /// Whether it was done: it is where frames and slots are fewer than 2^32 together, and so are the places.
+    pub fn scan<H: PageHash>(&mut self, hasher: &H) -> bool
         ensures moves { MovesOnly self.old.host self.new.host }
+        ensures scans { IsScanned (H.hashes hasher.now) self.old.host result self.new.host }
         ensures backing { KeepsBacking self.old.host.space self.new.host.space }
         ensures books { self.new.books ≡ self.old.books }
         ensures known { self.new.known ≡ self.old.known }
         ensures left { self.new.left ≡ self.old.left }
     {
-        let _ = self.host.scan(hasher);
+        self.host.scan(hasher)
     }
 
     /// Makes the next step of an instance ready where its present call stands for a frame, with calls of the swap device: how
@@ -343,6 +356,10 @@ impl<D: SwapDev, T: Ledger, C: Ledger, O: Ledger, E: Ledger, B: Ties> Locked<D, 
         ensures fails { (need : Need) → WaitsFor self.old.host id need
             → D.honest backing.new.device → OnErr result
             (FailsTruly self.old.host.space id.place need self.new.host.space) }
+        ensures provides_anyhow { (need : Need) → WaitsFor self.old.host id need → IfOk result
+            (λ gone. Provides self.old.host.space id.place need gone self.new.host.space) }
+        ensures fails_anyhow { (need : Need) → WaitsFor self.old.host id need → OnErr result
+            (FailsToProvide self.old.host.space id.place need self.new.host.space) }
         ensures others { OthersKeepMinimum self.old.host.space id.place self.new.host.space }
         ensures writes { IfOk result (λ gone.
             D.writes backing.new.device ≡ D.writes backing.old.device + gone) }
@@ -387,14 +404,10 @@ impl<D: SwapDev, T: Ledger, C: Ledger, O: Ledger, E: Ledger, B: Ties> Locked<D, 
         self.books.agree(shares);
     }
 
-    /// The owner learns that the host came from the one that it left, and then knows it as it is. Where events alone led to the
-    /// one, and the device has read right, they lead to the other.
+    /// The owner learns that the host came from the one that it left, and then knows it as it is.
     pub fn meet(&mut self, owner: &mut Owner<D, B>)
         ensures came { ComesOn D.keeps D.honest D.faults owner.old (now_of self.old) }
         ensures knows { owner.new ≡ now_of self.new }
-        ensures led { StandsByEvents owner.old.host
-            → IfSome self.old.known.device (λ device. D.honest device)
-            → StandsByEvents self.new.host }
         ensures host { self.new.host ≡ self.old.host }
         ensures known { self.new.known ≡ self.old.known }
         ensures books { self.new.books ≡ self.old.books }

@@ -6,6 +6,7 @@ ghost use Rattle.wh_host_model.specs.Space.Errands.{to_read, to_write};
 ghost use Rattle.wh_cell.specs.Calling.{GoesOut, HasBegun, HasContent, HasRead, HasWritten};
 ghost use Rattle.wh_cell.specs.Counted.{CountsEvictions, evictions_at};
 ghost use Rattle.wh_cell.specs.Knowing.{NoneOut, known_of, without_ticket};
+ghost use Rattle.wh_cell.specs.declared.moving.Moved.TheVariants.{Ready};
 
 use crate::backing::Backing;
 use crate::keeper::Keeper;
@@ -17,7 +18,7 @@ use wh_host::{Eviction, Fetch};
 use wh_host_model::{EvictEnd, FetchEnd, InstId, SwapError};
 use wh_reclaim::{Buf, EvictTicket, FetchTicket};
 use wh_swap::SwapDev;
-use wh_workers::Helper;
+use wh_threads::Helper;
 
 /// What came of a move for the next step of an instance.
 #[derive(Clone, Copy, Debug, PartialEq, Eq)]
@@ -43,7 +44,9 @@ enum Begun {
 }
 
 // What an eviction came to.
-fn moved_by_eviction(end: EvictEnd) -> Moved {
+fn moved_by_eviction(end: EvictEnd) -> Moved
+    ensures { result ≢ Ready }
+{
     match end {
         EvictEnd::Evicted => Moved::Made,
         EvictEnd::Void => Moved::Void,
@@ -52,7 +55,9 @@ fn moved_by_eviction(end: EvictEnd) -> Moved {
 }
 
 // What a fetch came to.
-fn moved_by_fetch(end: FetchEnd) -> Moved {
+fn moved_by_fetch(end: FetchEnd) -> Moved
+    ensures { result ≢ Ready }
+{
     match end {
         FetchEnd::Fetched => Moved::Made,
         FetchEnd::Void => Moved::Void,
@@ -218,7 +223,8 @@ fn fetch<D: SwapDev, T: Ledger, C: Ledger, O: Ledger, E: Ledger, B: Ties, R: Wai
     requires out { slice_get keeper.old.out fetched.ticket.slot ≡ Some (Some to_read) }
     requires there { fetched.ticket.slot < length (D.held device.old) }
     requires content { get_or (D.held device.old) fetched.ticket.slot [] ≢ [] }
-    ensures { keeper.new ≡ without_ticket keeper.old fetched.ticket.slot device.new }
+    ensures keeper { keeper.new ≡ without_ticket keeper.old fetched.ticket.slot device.new }
+    ensures moved { result.0 ≢ Ready }
 {
     let mut fetched = fetched;
     let answer = read(device, &mut fetched.ticket);
@@ -242,6 +248,7 @@ fn evict<D: SwapDev, T: Ledger, C: Ledger, O: Ledger, E: Ledger, B: Ties, R: Wai
     ensures keeper { keeper.new ≡ without_ticket keeper.old eviction.ticket.slot device.new }
     ensures from { reclaimer.new.from ≡ reclaimer.old.from }
     ensures grown { reclaimer.old.count ≤ reclaimer.new.count }
+    ensures moved { result.0 ≢ Ready }
 {
     let answer = write(device, &eviction.ticket);
     let mut host = locked.lock(rt);
@@ -265,6 +272,7 @@ fn move_page<D: SwapDev, T: Ledger, C: Ledger, O: Ledger, E: Ledger, B: Ties, R:
     ensures none { NoneOut keeper.new.out }
     ensures from { reclaimer.new.from ≡ reclaimer.old.from }
     ensures grown { reclaimer.old.count ≤ reclaimer.new.count }
+    ensures moved { result.0 ≢ Some Ready }
 {
     match begin_under(rt, locked, keeper, id, buf) {
         Begun::Coming(fetched) => {
@@ -291,6 +299,7 @@ impl<D: SwapDev, B: Ties> Backing<D, B> {
     ) -> Option<Moved>
         ensures from { reclaimer.new.from ≡ reclaimer.old.from }
         ensures grown { reclaimer.old.count ≤ reclaimer.new.count }
+        ensures moved { result ≢ Some Ready }
     {
         let Some(buf) = self.buf.take() else {
             unreachable!();

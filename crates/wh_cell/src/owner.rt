@@ -8,7 +8,7 @@ use crate::ties::{Ties, ToOwner};
 use std::marker::{Model, PhantomData};
 use std::snapshot::Snapshot;
 use wh_host::Host;
-use wh_workers::{Change, Half, Matter, Pact};
+use wh_threads::{Change, Half, Matter, Pact};
 
 /// What an owner and the lock agree on: how the owner left the host. It is a value of contracts alone: none is made.
 pub struct HostMatter<D> {

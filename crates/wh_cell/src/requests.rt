@@ -1,9 +1,12 @@
 //! What the owner asks of a host that lies under a lock. Whoever asks has the owner's right, and learns by it that the host
 //! came from the one that it left.
 
-ghost use Rattle.std.specs.Prelude.{◌≡◌, OnErr};
+ghost use Rattle.std.specs.Prelude.{◌≡◌, ℕ, IfOk, OnErr, OnOk};
 ghost use Rattle.wh_admit.specs.Views.{view_params};
 ghost use Rattle.wh_host_model.specs.Host.Happens.{IsCancel, IsRefuel, IsRetry};
+ghost use Rattle.wh_host_model.specs.Host.Worlds.{promised};
+ghost use Rattle.wh_host_model.specs.Space.Places.{Enters, Exits};
+ghost use Rattle.wh_host_model.specs.Space.Stores.{ended};
 ghost use Rattle.wh_host.specs.Admitting.{AnswersAdmit};
 ghost use Rattle.wh_host.specs.Asking.{AnswersCall, AnswersInvoke};
 ghost use Rattle.wh_host.specs.Backing.{KeepsBacking};
@@ -62,6 +65,8 @@ impl<D: SwapDev, T: Ledger, C: Ledger, O: Ledger, E: Ledger, B: Ties> Locked<D, 
         ensures err { OnErr result (self.new.host ≡ self.old.host) }
         ensures knows { owner.new ≡ now_of self.new }
         ensures backing { KeepsBacking self.old.host.space self.new.host.space }
+        ensures memory { IfOk result (λ id. (size : ℕ) × Enters self.old.host.space id.place
+            (promised id.number (view_params params)) size self.new.host.space) }
         ensures books { self.new.books ≡ self.old.books }
         ensures known { self.new.known ≡ self.old.known }
     {
@@ -114,6 +119,7 @@ impl<D: SwapDev, T: Ledger, C: Ledger, O: Ledger, E: Ledger, B: Ties> Locked<D, 
         ensures err { OnErr result (self.new.host ≡ self.old.host) }
         ensures knows { owner.new ≡ now_of self.new }
         ensures backing { KeepsBacking self.old.host.space self.new.host.space }
+        ensures memory { self.new.host.space ≡ self.old.host.space }
         ensures books { self.new.books ≡ self.old.books }
         ensures known { self.new.known ≡ self.old.known }
     {
@@ -133,6 +139,8 @@ impl<D: SwapDev, T: Ledger, C: Ledger, O: Ledger, E: Ledger, B: Ties> Locked<D, 
         ensures err { OnErr result (self.new.host ≡ self.old.host) }
         ensures knows { owner.new ≡ now_of self.new }
         ensures backing { KeepsBacking self.old.host.space self.new.host.space }
+        ensures memory { OnOk result (self.new.host.space
+            ≡ ended self.old.host.space id.place) }
         ensures books { self.new.books ≡ self.old.books }
         ensures known { self.new.known ≡ self.old.known }
     {
@@ -152,6 +160,7 @@ impl<D: SwapDev, T: Ledger, C: Ledger, O: Ledger, E: Ledger, B: Ties> Locked<D, 
         ensures err { OnErr result (self.new.host ≡ self.old.host) }
         ensures knows { owner.new ≡ now_of self.new }
         ensures backing { KeepsBacking self.old.host.space self.new.host.space }
+        ensures memory { self.new.host.space ≡ self.old.host.space }
         ensures books { self.new.books ≡ self.old.books }
         ensures known { self.new.known ≡ self.old.known }
     {
@@ -175,6 +184,7 @@ impl<D: SwapDev, T: Ledger, C: Ledger, O: Ledger, E: Ledger, B: Ties> Locked<D, 
         ensures err { OnErr result (self.new.host ≡ self.old.host) }
         ensures knows { owner.new ≡ now_of self.new }
         ensures backing { KeepsBacking self.old.host.space self.new.host.space }
+        ensures memory { OnOk result (Exits self.old.host.space id.place self.new.host.space) }
         ensures books { self.new.books ≡ self.old.books }
         ensures known { self.new.known ≡ self.old.known }
     {

@@ -1,15 +1,11 @@
 //! What is shown of a host that lies under a lock.
 
 ghost use Rattle.std.specs.Prelude.{◌≡◌, IfOk, IfSome};
-ghost use Rattle.wh_host_model.specs.Host.Worlds.{World};
-ghost use Rattle.wh_host.specs.Hosting.{HostState, IsHost};
 ghost use Rattle.wh_host.specs.Rolls.{IsRollOf};
-ghost use Rattle.wh_host.specs.Showing.{StandsByEvents, ShowsInstance};
-ghost use Rattle.wh_cell.specs.Locking.{now_of};
-ghost use Rattle.wh_cell.specs.Owning.{ComesOn};
+ghost use Rattle.wh_host.specs.Showing.{ShowsInstance};
+ghost use Rattle.wh_transcript.specs.Transcripts.{IsReplayable};
 
 use crate::locked::Locked;
-use crate::owner::Owner;
 use crate::ties::Ties;
 use std::alloc::Global;
 use std::sync::ledger::Ledger;
@@ -18,37 +14,26 @@ use wh_host_model::InstId;
 use wh_swap::SwapDev;
 
 impl<D: SwapDev, T: Ledger, C: Ledger, O: Ledger, E: Ledger, B: Ties> Locked<D, T, C, O, E, B> {
-    // The roll of a host to which events lead.
-    pub(crate) fn roll(&self, alloc: Global) -> Result<Roll, HostError>
-        ensures { IfOk result (λ roll. (h : HostState)
-            × ((w : World) × IsHost h w) × IsRollOf h roll) }
+    /// The roll of the host: its modules, and each live instance with its calls.
+    ///
+    /// # Errors
+    /// `Memory` where room was refused.
+    pub fn roll(&self, alloc: Global) -> Result<Roll, HostError>
+        ensures { IfOk result (IsRollOf self.now.host) }
     {
-        self.known();
         self.host().roll(alloc)
     }
 
-    /// What the host shows of an instance: the transcript carries out that its calls replay. Events alone led to the host that
-    /// the owner left, and the device has read right; so events alone lead to this one, which the owner knows then.
+    /// What the host shows of an instance. Its calls replay where the device has read right.
     ///
     /// # Errors
     /// `NoInstance`; `Memory` where room was refused.
-    pub fn transcript(
-        &mut self,
-        alloc: Global,
-        owner: &mut Owner<D, B>,
-        id: InstId,
-    ) -> Result<Transcript, HostError>
-        requires led { StandsByEvents owner.old.host }
-        requires honest { IfSome self.old.known.device (λ device. D.honest device) }
-        ensures came { ComesOn D.keeps D.honest D.faults owner.old (now_of self.old) }
-        ensures knows { owner.new ≡ now_of self.new }
-        ensures led { StandsByEvents owner.new.host }
-        ensures shows { ShowsInstance owner.new.host id result }
-        ensures host { self.new.host ≡ self.old.host }
-        ensures known { self.new.known ≡ self.old.known }
-        ensures books { self.new.books ≡ self.old.books }
+    pub fn transcript(&self, alloc: Global, id: InstId) -> Result<Transcript, HostError>
+        ensures shows { ShowsInstance self.now.host id result }
+        ensures replays { IfSome self.now.known.device (λ device. D.honest device)
+            → IfOk result (λ shown. IsReplayable shown) }
     {
-        self.meet(owner);
+        self.known();
         self.host().transcript(alloc, id)
     }
 }

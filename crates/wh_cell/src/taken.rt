@@ -7,6 +7,7 @@ ghost use Rattle.wh_cell.specs.Counted.{charges_between};
 ghost use Rattle.wh_cell.specs.Leaving.{HasTakenOn};
 ghost use Rattle.wh_host.specs.Backing.{KeepsBacking};
 ghost use Rattle.wh_host.specs.Hosting.{IsHost};
+ghost use Rattle.wh_host.specs.Left.{LeavesTurned};
 
 use wh_host::Host;
 use wh_host_model::{InstId, TurnEnd};
@@ -34,6 +35,7 @@ pub fn counted_turn(host: &mut Host, id: InstId, quantum: u32) -> (TurnEnd, u32)
         → (w2 : World) × IsTurn w id quantum result.0 w2 × IsHost host.new w2 }
     ensures taken { HasTakenOn host.old result.1 host.new }
     ensures backing { KeepsBacking host.old.space host.new.space }
+    ensures memory { LeavesTurned id.place result.0 host.old.space host.new.space }
 {
     host.known();
     let call = host.present_call(id);

@@ -1,7 +1,7 @@
 //! Which pacts a cell has.
 
 use std::marker::{Brand, PhantomData};
-use wh_workers::Bond;
+use wh_threads::Bond;
 
 /// Names both pacts of a cell: that of the host with its owner, and that with its device. A proof picks which at a call, as
 /// those of ledgers.
@@ -14,7 +14,7 @@ pub trait Ties {
 }
 
 impl Ties for Brand {
-    ghost use Rattle.wh_workers.specs.Agreement.{no_table};
+    ghost use Rattle.wh_threads.specs.Agreement.{no_table};
 
     ghost to_owner = { no_table };
 

@@ -31,10 +31,12 @@ no_names f none = record {
   only = λ name k e. absurd (cc e);
 }
 
-knows_none : (settings : Settings) (w : World) (tax : Tax) → w.modules ≡ [] → w.tenants ≡ [] → IsNew w.space settings.frames settings.slots tax → Knows settings w nothing_made []
-knows_none settings w tax modules tenants new = record {
+knows_none : (settings : Settings) (w : World) (tax : Tax) → tax.num ≡ settings.num → tax.den ≡ settings.den → w.modules ≡ [] → w.tenants ≡ [] → IsNew w.space settings.frames settings.slots tax → Knows settings w nothing_made []
+knows_none settings w tax num den modules tenants new = record {
   frames = ap (λ (s : Space). length s.pool.frames) new.is ∙ many settings.frames zero_page;
   slots = ap (λ (s : Space). length s.slots.uses) new.is ∙ many settings.slots Vacant;
+  tax_num = ap (λ (s : Space). s.tax.num) new.is ∙ num;
+  tax_den = ap (λ (s : Space). s.tax.den) new.is ∙ den;
   none_out = ap (λ (s : Space). tickets s) new.is ∙ none_vacant settings.slots;
   minima = ap (λ (s : Space). minima s) new.is;
   spreads = ap (λ (s : Space). spreads s) new.is;
@@ -43,13 +45,13 @@ knows_none settings w tax modules tenants new = record {
   placed = subst (λ ts. AllZip IsPlaced [] ts) (sym tenants) tt;
 }
 
-pub fresh : (settings : Settings) (tax : Tax) (e : EngineState) → IsNewHost e.host settings.frames settings.slots tax → ((name : List ℕ) → number_of e.module_names name ≡ None)
+pub fresh : (settings : Settings) (tax : Tax) (e : EngineState) → tax.num ≡ settings.num → tax.den ≡ settings.den → IsNewHost e.host settings.frames settings.slots tax → ((name : List ℕ) → number_of e.module_names name ≡ None)
     → ((name : List ℕ) → number_of e.guest_names name ≡ None) → e.guests.items ≡ [] → e.invoked.items ≡ [] → e.modules ≡ 0 → StandsForScript settings e nothing_made
-fresh settings tax e new modules guests none no_call zero_many = record {
+fresh settings tax e num den new modules guests none no_call zero_many = record {
   world = new.0;
   is = (new.1, new.2);
   modules = zero_many;
-  knows = subst (λ xs. Knows settings new.0 nothing_made (map (λ (x : Guest). x.id.place) xs)) (sym none) (knows_none settings new.0 tax new.3 new.4 new.5);
+  knows = subst (λ xs. Knows settings new.0 nothing_made (map (λ (x : Guest). x.id.place) xs)) (sym none) (knows_none settings new.0 tax num den new.3 new.4 new.5);
   module_names = no_names (number_of e.module_names) modules;
   guest_names = no_names (number_of e.guest_names) guests;
   guests = subst (λ xs. AreGuests 0 xs []) (sym none) tt;

@@ -6,6 +6,7 @@ pub mod Instances
 pub mod Kept
 pub mod LookedUp
 pub mod Named
+pub mod Opened
 pub mod Refitted
 pub mod Released
 pub mod Resting

@@ -204,7 +204,7 @@ ran_at_once e h rest settings m s =
     ran_so settings m (engine_on h e) h s.world s s.is (drains_begin settings s.world m (places_of (engine_on h e)) s.knows) rest
 
 whole_moves : (s s2 : Space) → IsAsWhole s s2 → tickets s ≡ 0 → tickets s2 ≡ 0 → StaysWhole s s2
-whole_moves s s2 whole none none2 = record { frames = whole.frames; slots = whole.slots; none_out = none2 ∙ sym none }
+whole_moves s s2 whole none none2 = record { frames = whole.frames; slots = whole.slots; tax = whole.tax; none_out = none2 ∙ sym none }
 
 -- work has brought all so far that none can go on
 pub ran_each : {D : Type 0} (keeps honest : D → Type 0) (faults : D → List SwapError) (e : Engine) (left now : LeftState D) → ComesOn keeps honest faults left now

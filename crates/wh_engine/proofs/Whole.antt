@@ -32,5 +32,6 @@ pub keeps_whole : (s s2 : Space) → KeepsBacking s s2 → StaysWhole s s2
 keeps_whole s s2 k = record {
   frames = k.frames;
   slots = sym (as_many s2.slots.uses) ∙ ap (λ (z : Pass). length z.out) k.pass ∙ as_many s.slots.uses;
+  tax = k.tax;
   none_out = errands s2.slots.uses ∙ ap (λ (z : Pass). tally is_errand z.out) k.pass ∙ sym (errands s.slots.uses);
 }

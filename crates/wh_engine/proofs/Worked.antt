@@ -1,6 +1,7 @@
 -- Work brings the calls of a script's instances further.
-use Rattle.std.proofs.Common.{◌≡◌, ℕ, List, [], ◌∷◌, ◌++◌, Option, Some, None, refl, sym, subst, ◌∙◌}
+use Rattle.std.proofs.Common.{◌≡◌, ℕ, List, [], ◌∷◌, ◌++◌, Option, Some, None, ap, refl, sym, subst, ◌∙◌}
 use Rattle.std.specs.List.{AllByRecursion}
+use Rattle.wh_host_model.specs.declared.Tax.{Tax}
 use Rattle.wh_host_model.specs.declared.plain.InstId.{InstId}
 use Rattle.wh_host_model.specs.declared.plain.SwapError.{SwapError}
 use Rattle.wh_host_model.specs.Space.Parts.{claim}
@@ -102,6 +103,8 @@ works_known settings w w2 m places r works whole h =
       record {
         frames = whole.frames ∙ h.frames;
         slots = whole.slots ∙ h.slots;
+        tax_num = ap (λ (tax : Tax). tax.num) whole.tax ∙ h.tax_num;
+        tax_den = ap (λ (tax : Tax). tax.den) whole.tax ∙ h.tax_den;
         none_out = whole.none_out ∙ h.none_out;
         minima = sums.0 ∙ h.minima;
         spreads = sums.1 ∙ h.spreads;

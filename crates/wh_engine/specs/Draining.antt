@@ -11,6 +11,7 @@ use Rattle.wh_host.specs.Paging.{IsGoing, Tells}
 use Rattle.wh_engine.specs.declared.fault.ScriptFault.{ScriptFault}
 use Rattle.wh_engine.specs.declared.fault.ScriptFault.TheVariants.{Memory, Threads, Transcript}
 use Rattle.wh_engine.specs.declared.parts.Guest.{Guest}
+use Rattle.wh_script_model.specs.Following.{SomeCallIsOpen}
 use Rattle.wh_engine.specs.Standing.{EngineState, StandsForScript}
 
 -- ---- the device: none where there is none
@@ -69,6 +70,16 @@ RunsEach e e2 =
     (settings : Settings) (m : Made) → StandsForScript settings e m
     → (run : List made.Guest) × AllZip RunsAlone m.guests run
     × StandsForScript settings e2 (record m { guests = run })
+
+-- whatever script the engine stands for, an instance of it has an open call
+abbrev pub WasOpen : EngineState → Type 0
+WasOpen e = (settings : Settings) (m : Made) → StandsForScript settings e m → SomeCallIsOpen m
+
+-- why something stops: where threads can't run the calls, one was open before
+abbrev pub StopsOnlyOpen : EngineState → ScriptFault → Type 0
+StopsOnlyOpen e Threads = WasOpen e
+StopsOnlyOpen e Transcript = WasOpen e
+StopsOnlyOpen e other = Unit {0}
 
 -- pages alone have moved: whatever script the engine stood for, it stands for it still
 abbrev pub StaysSo : EngineState → EngineState → Type 0

@@ -11,8 +11,9 @@ ghost use Rattle.wh_engine.specs.Obeying.{IsNamed, ObeysCommand};
 
 use crate::engine::Engine;
 use std::sync::ledger::Ledger;
-use wh_cell::{OwnedHost, Ties};
+use wh_cell::Ties;
 use wh_replies::Reply;
+use wh_scheduler::OwnedHost;
 use wh_swap::SwapDev;
 
 impl Engine {

@@ -1,5 +1,6 @@
 // The engine: what a script has made on a host.
 
+ghost use Rattle.std.specs.Prelude.{◌≡◌};
 ghost use Rattle.wh_host_model.specs.declared.Tax.{Tax};
 ghost use Rattle.wh_host_model.specs.Lines.Made.{nothing_made};
 ghost use Rattle.wh_host_model.specs.Lines.Settings.{Settings};
@@ -34,9 +35,10 @@ impl Drop for Engine {
 }
 
 impl Engine {
-    /// Nothing was made yet, on any new host.
+    /// Nothing was made yet, on any new host with the frames, the slots and the tax of the settings.
     pub fn new(alloc: Global) -> Engine
         ensures { (settings : Settings) (tax : Tax) (h : HostState)
+            → tax.num ≡ settings.num → tax.den ≡ settings.den
             → IsNewHost h settings.frames settings.slots tax
             → StandsForScript settings (engine_on h result) nothing_made }
     {

@@ -13,10 +13,11 @@ use crate::engine::Engine;
 use crate::parts::{Guest, Invoked, Reception};
 use std::alloc::{AllocError, Global};
 use std::sync::ledger::Ledger;
-use wh_cell::{OwnedHost, Ties};
+use wh_cell::Ties;
 use wh_commands::Given;
 use wh_host::{ModuleId, Params};
 use wh_replies::Reply;
+use wh_scheduler::OwnedHost;
 use wh_swap::SwapDev;
 
 impl Engine {

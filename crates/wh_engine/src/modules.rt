@@ -15,11 +15,12 @@ ghost use Rattle.wh_engine.specs.Obeying.{TakesModule};
 use crate::engine::Engine;
 use std::alloc::{AllocError, Global};
 use std::sync::ledger::Ledger;
-use wh_cell::{OwnedHost, Ties};
+use wh_cell::Ties;
 use wh_host::ModuleError;
 use wh_imports::LinkError;
 use wh_load::LoadError;
 use wh_replies::{Place, Refusal, Reply};
+use wh_scheduler::OwnedHost;
 use wh_swap::SwapDev;
 
 // Why bytes aren't kept, as replies say it.

@@ -11,8 +11,9 @@ ghost use Rattle.wh_engine.specs.Obeying.{IsNamed, ObeysCommand, reply_to_releas
 use crate::engine::Engine;
 use std::alloc::Global;
 use std::sync::ledger::Ledger;
-use wh_cell::{OwnedHost, Ties};
+use wh_cell::Ties;
 use wh_host::HostError;
+use wh_scheduler::OwnedHost;
 use wh_swap::SwapDev;
 
 impl Engine {

@@ -3,7 +3,7 @@
 ghost use Rattle.std.specs.Bool.{MatchBool};
 ghost use Rattle.std.specs.Prelude.{◌≡◌, ◌≢◌, ◌≤◌, IfErr, OnOk};
 ghost use Rattle.wh_engine.specs.declared.fault.ScriptFault.TheVariants.{Transcript};
-ghost use Rattle.wh_engine.specs.Draining.{AllRest, DeviceMayFail, DeviceServesWell, DeviceStaysTrue, RunsEach, SomeGoes, StopsRun};
+ghost use Rattle.wh_engine.specs.Draining.{AllRest, DeviceMayFail, DeviceServesWell, DeviceStaysTrue, RunsEach, SomeGoes, StopsOnlyOpen, StopsRun};
 ghost use Rattle.wh_engine.specs.Standing.{engine_on};
 
 use crate::engine::Engine;
@@ -12,12 +12,13 @@ use std::alloc::{AllocError, Global};
 use std::sync::Wait;
 use std::sync::ledger::Ledger;
 use std::thread::Threads;
-use wh_cell::{Manner, OwnedHost, Ties};
+use wh_cell::Ties;
 use wh_host::Host;
 use wh_host_model::InstId;
 use wh_kernels::PageHash;
+use wh_scheduler::{Manner, OwnedHost};
 use wh_swap::SwapDev;
-use wh_workers::ServeError;
+use wh_workers::{ServeError, Served};
 
 // Why calls weren't run, as a script says it.
 fn stops_by(error: ServeError) -> ScriptFault
@@ -28,6 +29,11 @@ fn stops_by(error: ServeError) -> ScriptFault
         ServeError::Memory => ScriptFault::Memory,
         ServeError::NoThread => ScriptFault::Threads,
     }
+}
+
+// How a run of calls ended.
+fn end_of(served: Result<Served, ServeError>) -> Result<(), ServeError> {
+    served?.end
 }
 
 impl Engine {
@@ -70,7 +76,7 @@ impl Engine {
     ///
     /// # Errors
     /// `Memory` where room was refused, and `Threads` where a thread couldn't be started; some calls may have run then.
-    /// `Transcript` where a call can go on that should have run.
+    /// `Transcript` where a call can go on that should have run. None of them where no call is open.
     pub fn run<
         D: SwapDev + Drop + Send + 'static,
         T: Ledger + Send + 'static,
@@ -94,6 +100,7 @@ impl Engine {
             (DeviceServesWell D.honest D.faults host.old.device host.new.device
             → RunsEach (engine_on host.old.host self.now) (engine_on host.new.host self.now)) }
         ensures err { IfErr result StopsRun }
+        ensures open { IfErr result (StopsOnlyOpen (engine_on host.old.host self.now)) }
         ensures transcript { IfErr result (λ fault. fault ≡ Transcript
             → SomeGoes host.new.host self.now.guests.items) }
     {
@@ -106,11 +113,11 @@ impl Engine {
         let manner = Manner {
             hasher: manner.hasher,
             quantum: manner.quantum,
-            workers: manner.workers.min(self.count_going(host.host())),
+            workers: manner.workers.min(self.count_going(host.host())).max(1),
         };
         let served = host.run(rt, alloc, &ids, manner);
         host.known();
-        if let Err(error) = served {
+        if let Err(error) = end_of(served) {
             return Err(stops_by(error));
         }
         if self.can_go_on(host.host()) {

@@ -5,7 +5,7 @@ use Rattle.wh_host_model.specs.declared.states.Offer.{Offer}
 use Rattle.wh_host_model.specs.declared.states.Offer.TheVariants.{Skipped, Zeroed, Hinted, Stale, Merged, FalseMatch}
 use Rattle.wh_host_model.specs.declared.states.Slot.{Slot}
 use Rattle.wh_host_model.specs.declared.states.Slot.TheVariants.{Vacant, Taken, Evicting, EvictVoid, Fetching, FetchVoid}
-use Rattle.wh_host_model.specs.Space.Errands.{errand_for, pass_of}
+use Rattle.wh_host_model.specs.Space.Errands.{Pass, errand_for, pass_of}
 use Rattle.wh_host_model.specs.Space.Moves.{has_pins, unpinned}
 use Rattle.wh_host_model.specs.Space.Offers.{Offers}
 use Rattle.wh_host_model.specs.Space.Parts.{Claimed, Space}
@@ -19,13 +19,23 @@ use Rattle.wh_host.specs.Backing.{KeepsBacking}
 use Rattle.wh_host.specs.Hosting.{HostState}
 use Rattle.wh_host.specs.Lent.{settled_in}
 
+-- there are as many slots where the same tickets are out
+many_out : (xs ys : List Slot) → map errand_for ys ≡ map errand_for xs → length ys ≡ length xs
+many_out [] [] same = refl
+many_out [] (y ∷ ys) same = absurd (cc same)
+many_out (x ∷ xs) [] same = absurd (cc same)
+many_out (x ∷ xs) (y ∷ ys) same = ap suc (many_out xs ys (cc same))
+
+backs : (s s2 : Space) → pass_of s2 ≡ pass_of s → length s2.pool.frames ≡ length s.pool.frames → s2.tax ≡ s.tax → KeepsBacking s s2
+backs s s2 pass frames tax = record { pass = pass; frames = frames; slots = many_out s.slots.uses s2.slots.uses (ap (λ (p : Pass). p.out) pass); tax = tax }
+
 -- ---- nothing, and one thing after the other
 
 pub same_backing : (s s2 : Space) → s2 ≡ s → KeepsBacking s s2
-same_backing s s2 e = record { pass = ap pass_of e; frames = ap (λ (a : Space). length a.pool.frames) e; tax = ap (λ (a : Space). a.tax) e }
+same_backing s s2 e = backs _ _ (ap pass_of e) (ap (λ (a : Space). length a.pool.frames) e) (ap (λ (a : Space). a.tax) e)
 
 pub then_backing : (a b c : Space) → KeepsBacking a b → KeepsBacking b c → KeepsBacking a c
-then_backing a b c first second = record { pass = second.pass ∙ first.pass; frames = second.frames ∙ first.frames; tax = second.tax ∙ first.tax }
+then_backing a b c first second = backs _ _ (second.pass ∙ first.pass) (second.frames ∙ first.frames) (second.tax ∙ first.tax)
 
 -- of hosts that are the same
 pub same_host_backing : (h h2 : HostState) → h2 ≡ h → KeepsBacking h.space h2.space
@@ -34,10 +44,10 @@ same_host_backing h h2 e = same_backing h.space h2.space (ap (λ (z : HostState)
 -- ---- standing
 
 pub stood_backing : (s : Space) (i : ℕ) (need : Option Need) → KeepsBacking s (stood s i need)
-stood_backing s i need = record { pass = refl; frames = refl; tax = refl }
+stood_backing s i need = backs _ _ (refl) (refl) (refl)
 
 unpinned_backing : (s : Space) (b : Bool) → KeepsBacking s (cond b (unpinned s) s)
-unpinned_backing s true = record { pass = refl; frames = refl; tax = refl }
+unpinned_backing s true = backs _ _ (refl) (refl) (refl)
 unpinned_backing s false = same_backing s s refl
 
 pub ended_backing : (s : Space) (i : ℕ) → KeepsBacking s (ended s i)
@@ -55,15 +65,15 @@ settled_backing s i (turned.Again false) = ended_backing s i
 -- ---- steps
 
 pub rest_backing : (i : ℕ) (s s2 : Space) → KeepsRest i s s2 → KeepsBacking s s2
-rest_backing i s s2 keeps = record { pass = keeps.pass; frames = keeps.frames; tax = keeps.tax }
+rest_backing i s s2 keeps = backs _ _ (keeps.pass) (keeps.frames) (keeps.tax)
 
 pub epochs_backing : (s s2 : Space) → Epochs s s2 → KeepsBacking s s2
-epochs_backing s s2 is = record { pass = ap pass_of is; frames = ap (λ (a : Space). length a.pool.frames) is; tax = ap (λ (a : Space). a.tax) is }
+epochs_backing s s2 is = backs _ _ (ap pass_of is) (ap (λ (a : Space). length a.pool.frames) is) (ap (λ (a : Space). a.tax) is)
 
 -- ---- who comes and goes
 
 pub enters_backing : (s : Space) (i : ℕ) (c : Claimed) (size : ℕ) (s2 : Space) → Enters s i c size s2 → KeepsBacking s s2
-enters_backing s i c size s2 enters = let is = enters.leaves in record { pass = ap pass_of is; frames = ap (λ (a : Space). length a.pool.frames) is; tax = ap (λ (a : Space). a.tax) is }
+enters_backing s i c size s2 enters = let is = enters.leaves in backs _ _ (ap pass_of is) (ap (λ (a : Space). length a.pool.frames) is) (ap (λ (a : Space). a.tax) is)
 
 errand_released : (i n : ℕ) (x : Slot) → errand_for (released_use i n x) ≡ errand_for x
 errand_released i n Vacant = refl
@@ -102,18 +112,18 @@ pub exits_backing : (s : Space) (i : ℕ) (s2 : Space) → Exits s i s2 → Keep
 exits_backing s i s2 exits =
     let out = same_errands s.slots.uses s2.slots.uses exits.slots (λ k x at. (_, exits.uses k x at, errand_released i _ x)) in
     let held = exits.held in
-    record { pass = cc (out, held); frames = ap (λ (zs : List (List ℕ)). length zs) exits.bytes; tax = exits.tax }
+    backs _ _ (cc (out, held)) (ap (λ (zs : List (List ℕ)). length zs) exits.bytes) (exits.tax)
 
 -- ---- offers
 
 pub offers_backing : (hashes : List ℕ → ℕ) (s : Space) (i p hash : ℕ) (answer : Offer) (s2 : Space) → Offers hashes s i p hash answer s2 → KeepsBacking s s2
 offers_backing hashes s i p hash Skipped s2 (is, why) = same_backing s s2 is
 offers_backing hashes s i p hash FalseMatch s2 (is, why) = same_backing s s2 is
-offers_backing hashes s i p hash Hinted s2 (g, offered, some, none, is) = record { pass = ap pass_of is; frames = ap (λ (a : Space). length a.pool.frames) is; tax = ap (λ (a : Space). a.tax) is }
-offers_backing hashes s i p hash Stale s2 (g, f, j, q, offered, some, found, apart, other, changed, is) = record { pass = ap pass_of is; frames = ap (λ (a : Space). length a.pool.frames) is; tax = ap (λ (a : Space). a.tax) is }
-offers_backing hashes s i p hash Zeroed s2 (g, offered, zeros, is) = record { pass = ap pass_of is; frames = ap (λ (a : Space). length a.pool.frames) is; tax = ap (λ (a : Space). a.tax) is }
-offers_backing hashes s i p hash Merged s2 (g, f, offered, some, same, inl (n, found, is)) = record { pass = ap pass_of is; frames = ap (λ (a : Space). length a.pool.frames) is; tax = ap (λ (a : Space). a.tax) is }
-offers_backing hashes s i p hash Merged s2 (g, f, offered, some, same, inr (j, q, apart, hint, is)) = record { pass = ap pass_of is; frames = ap (λ (a : Space). length a.pool.frames) is; tax = ap (λ (a : Space). a.tax) is }
+offers_backing hashes s i p hash Hinted s2 (g, offered, some, none, is) = backs _ _ (ap pass_of is) (ap (λ (a : Space). length a.pool.frames) is) (ap (λ (a : Space). a.tax) is)
+offers_backing hashes s i p hash Stale s2 (g, f, j, q, offered, some, found, apart, other, changed, is) = backs _ _ (ap pass_of is) (ap (λ (a : Space). length a.pool.frames) is) (ap (λ (a : Space). a.tax) is)
+offers_backing hashes s i p hash Zeroed s2 (g, offered, zeros, is) = backs _ _ (ap pass_of is) (ap (λ (a : Space). length a.pool.frames) is) (ap (λ (a : Space). a.tax) is)
+offers_backing hashes s i p hash Merged s2 (g, f, offered, some, same, inl (n, found, is)) = backs _ _ (ap pass_of is) (ap (λ (a : Space). length a.pool.frames) is) (ap (λ (a : Space). a.tax) is)
+offers_backing hashes s i p hash Merged s2 (g, f, offered, some, same, inr (j, q, apart, hint, is)) = backs _ _ (ap pass_of is) (ap (λ (a : Space). length a.pool.frames) is) (ap (λ (a : Space). a.tax) is)
 
 pub scans_backing : (hashes : List ℕ → ℕ) (s : Space) (pages : List (ℕ × ℕ)) (s2 : Space) → Scans hashes s pages s2 → KeepsBacking s s2
 scans_backing hashes s [] s2 is = same_backing s s2 is

@@ -142,7 +142,7 @@ within_limit (l ∷ ls) limit = omega arith
 size_is : (m n : ℕ) → m ≡ n → 65536 * m ≡ n * 65536
 size_is m n e = omega (arith, e)
 
-claim_is : (number : ℕ) (a : Admitted) (p : Params) → a.shares ≡ p.shares → a.min ≡ p.min → a.max ≡ p.max → claimed (promise_of number a) ≡ promised number p
+pub claim_is : (number : ℕ) (a : Admitted) (p : Params) → a.shares ≡ p.shares → a.min ≡ p.min → a.max ≡ p.max → claimed (promise_of number a) ≡ promised number p
 claim_is number a p part least most = rw (part, least, most) refl
 
 pub admitted_here : (h : HostState) (w : World) (k : ℕ) (p : Params) (m : LoadedModule) (a : Admitted) (x : Resident) (place : ℕ) (rs rs1 rs2 : Slab Resident) (s2 : Space) → (st : IsHost h w) → slice_get h.modules k ≡ Some m

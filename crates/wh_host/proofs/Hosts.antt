@@ -353,7 +353,7 @@ of_who_is_there h w id x P st at number asked =
 pub new_host : (h : HostState) (frames slots : ℕ) (tax : Tax) → h.modules ≡ [] → h.residents ≡ [] → h.live ≡ 0 → h.next ≡ 0 → IsSound h.space → IsNew h.space frames slots tax → IsNewHost h frames slots tax
 new_host h frames slots tax modules residents live next sound is =
     let w : World = record { modules = []; tenants = []; space = h.space } in
-    let same : (j : ℕ) → LeftAlone j (empty_space frames slots tax) h.space = λ j. rw is.is (record { view = refl; wants = refl; claim = refl }) in
+    let same : (j : ℕ) → LeftAlone j (empty_space frames slots tax) h.space = λ j. rw is.is (record { view = refl; wants = refl; claim = refl; promise = inl refl }) in
     let reached : IsReached w = record { frames = frames; slots = slots; tax = tax; events = epoch ∷ []; happen = (w, (h.space, (same, sound), refl), refl) } in
     let st : IsHost h w = record {
       comes = record { frames = frames; slots = slots; tax = tax; steps = by_event epoch ∷ []; befall = (w, (h.space, (same, sound), refl), refl) };

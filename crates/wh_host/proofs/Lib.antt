@@ -1,4 +1,5 @@
 mod Backed
+pub mod Leavings
 mod Lending
 mod Viewing
 mod Turns

@@ -1,5 +1,5 @@
 -- What offers leave of the host for which the code's host stands.
-use Rattle.std.proofs.Common.{ℕ, List, [], ◌∷◌, refl, sym, subst}
+use Rattle.std.proofs.Common.{ℕ, inl, List, [], ◌∷◌, refl, sym, subst}
 use Rattle.wh_host_model.specs.declared.states.Offer.{Offer}
 use Rattle.wh_host_model.specs.declared.plain.InstId.{InstId}
 use Rattle.wh_host_model.specs.Space.Offers.{OffersOf}
@@ -15,7 +15,7 @@ use Rattle.wh_host.specs.Hosting.{HostState, IsHost}
 use Rattle.wh_host.proofs.Paged.{alone_in, alone_on, only_moved, sound_in}
 
 pub scans_alone : (hashes : List ℕ → ℕ) (s : Space) (pages : List (ℕ × ℕ)) (s2 : Space) → IsSound s → Scans hashes s pages s2 → AllLeftAlone s s2
-scans_alone hashes s [] s2 sound is = subst (AllLeftAlone s) (sym is) (λ j. record { view = refl; wants = refl; claim = refl }, sound)
+scans_alone hashes s [] s2 sound is = subst (AllLeftAlone s) (sym is) (λ j. record { view = refl; wants = refl; claim = refl; promise = inl refl }, sound)
 scans_alone hashes s (page ∷ pages) s2 sound (hash, answer, mid, its, offered, rest) =
     let first = offers_leave_all hashes s page.0 page.1 hash answer mid sound offered in
     alone_on s mid s2 first (scans_alone hashes mid pages s2 first.1 rest)

@@ -17,6 +17,7 @@ use Rattle.wh_host_model.specs.Host.Standing.{FirstStandsDuly, StandsDuly}
 use Rattle.wh_host_model.specs.Host.Worlds.{Doing, Entry, Suspension, Tenant, World, for_device, for_frame, store_in, with_tenant}
 use Rattle.wh_host_model.proofs.Host.Bridges.{failures_leave_all, provisions_leave_all}
 use Rattle.wh_host_model.proofs.Host.Lasting.{frames_are_awaited}
+use Rattle.wh_host_model.proofs.Host.Leaving.{left_then}
 use Rattle.wh_host_model.specs.Host.Misreading.{AllSeeAsMany, IsMisread, SeesAsMany}
 use Rattle.wh_host_model.proofs.Host.AsMany.{failures_see_as_many, provisions_see_as_many}
 use Rattle.wh_machine.specs.Runs.{linked_parts}
@@ -86,7 +87,7 @@ told_of h w id x false P st at number asked =
 
 pub alone_on : (a b c : Space) → AllLeftAlone a b → AllLeftAlone b c → AllLeftAlone a c
 alone_on a b c first second = (
-  λ j. let x = first.0 j in let y = second.0 j in record { view = y.view ∙ x.view; wants = y.wants ∙ x.wants; claim = y.claim ∙ x.claim },
+  λ j. left_then (first.0 j) (second.0 j),
   second.1,
 )
 
@@ -146,7 +147,7 @@ misread_host h w s2 st same = record {
 }
 
 pub all_stay : (s : Space) → IsSound s → AllLeftAlone s s
-all_stay s sound = (λ j. record { view = refl; wants = refl; claim = refl }, sound)
+all_stay s sound = (λ j. record { view = refl; wants = refl; claim = refl; promise = inl refl }, sound)
 
 -- ---- a provision
 
@@ -181,7 +182,7 @@ as_many_in h w s2 st same = subst (λ s. AllSeeAsMany s s2) st.space same
 pub nothing_anyhow : (h : HostState) (w : World) (id : InstId) (awaits : Tenant → Type 0) → (st : IsHost h w) → (mid w2 : World) × IsMisread w mid × MovesPages mid id awaits None w2 × IsHost h w2
 nothing_anyhow h w id awaits st =
     let sound = sound_here h w st in
-    (w, w, (w.space, (λ j. record { many = refl; wants = refl; claim = refl }, sound), refl), moved (all_stay w.space sound) (inl refl), st)
+    (w, w, (w.space, (λ j. record { many = refl; wants = refl; claim = refl; promise = inl refl }, sound), refl), moved (all_stay w.space sound) (inl refl), st)
 
 pub provided_anyhow : (h : HostState) (w : World) (id : InstId) (x : Resident) (left : ℕ) (s2 : Space) → (st : IsHost h w) → resident_at h.residents id.place ≡ Some x → x.number ≡ Some id.number → OfAnyTenant x.tenant (λ l limit bytes t. AwaitsFrame t) → tickets h.space ≡ 0
     → ((need : Need) → StandsForFrame h.space id.place need → Provides h.space id.place need left s2) → (mid w2 : World) × IsMisread w mid × MovesPages mid id AwaitsFrame None w2 × IsHost (record h { space = s2 }) w2
@@ -207,7 +208,7 @@ failed_anyhow h w id x z fault s2 st at number waits none made keeps =
 
 -- nothing is done
 pub nothing_moves : (h : HostState) (w : World) (id : InstId) (awaits : Tenant → Type 0) → (st : IsHost h w) → (w2 : World) × MovesPages w id awaits None w2 × IsHost h w2
-nothing_moves h w id awaits st = (w, moved (λ j. record { view = refl; wants = refl; claim = refl }, sound_here h w st) (inl refl), st)
+nothing_moves h w id awaits st = (w, moved (λ j. record { view = refl; wants = refl; claim = refl; promise = inl refl }, sound_here h w st) (inl refl), st)
 
 pub only_moved : (h : HostState) (w : World) (e : Event) (s2 : Space) → (st : IsHost h w) → AllLeftAlone w.space s2 → ((w2 : World) → OnlyMoves w w2 → Happens w e w2) → (w2 : World) × OnlyMoves w w2 × IsHost (record h { space = s2 }) w2
 only_moved h w e s2 st same happens =
@@ -216,4 +217,4 @@ only_moved h w e s2 st same happens =
     (w2, moves, moved_host h w s2 st same (comes_on w w2 e st.comes (happens w2 moves)))
 
 pub only_nothing : (h : HostState) (w : World) → (st : IsHost h w) → (w2 : World) × OnlyMoves w w2 × IsHost h w2
-only_nothing h w st = (w, (w.space, (λ j. record { view = refl; wants = refl; claim = refl }, sound_here h w st), refl), st)
+only_nothing h w st = (w, (w.space, (λ j. record { view = refl; wants = refl; claim = refl; promise = inl refl }, sound_here h w st), refl), st)

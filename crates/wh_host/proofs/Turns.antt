@@ -14,6 +14,7 @@ use Rattle.wh_model.specs.Execution.Asking.{Asks}
 use Rattle.wh_model.specs.Execution.Configuration.{config}
 use Rattle.wh_model.specs.Execution.Reduction.{IsNext}
 use Rattle.wh_host_model.specs.Host.Worlds.{Entry, Rest, Doing, Tenant, store_with}
+use Rattle.wh_host_model.proofs.Host.Leaving.{left_then}
 use Rattle.wh_host_model.specs.Host.Turns.{Proceeds, Upshot, to_end, out_of_fuel, to_wait, to_go_on}
 use Rattle.wh_host_model.specs.Host.Answers.{gone_further, ended_by, Closes, faces_next, is_dead, ProceedsIn, Turn, is_idle, has_ended, has_no_fuel, has_no_frame, can_go_on, keeps_its_fault}
 use Rattle.wh_host_model.proofs.Host.Bridges.{ends_well, stands_well}
@@ -63,7 +64,8 @@ lies_still l limit x s s2 place t lies sees claims = record {
 stands_on : (i : ℕ) (first second : Option Need) (a b c : Space) → StandsAlone i first a b → StandsAlone i second b c → StandsAlone i second a c
 stands_on i first second a b c ab bc = record {
   steps = record {
-    others = λ j other. let k = ab.steps.others j other in let h = bc.steps.others j other in record { view = h.view ∙ k.view; wants = h.wants ∙ k.wants; claim = h.claim ∙ k.claim };
+    others = λ j other. left_then (ab.steps.others j other) (bc.steps.others j other);
+    places = λ j other. bc.steps.places j other ∙ ab.steps.places j other;
     claim = bc.steps.claim ∙ ab.steps.claim;
     sound = bc.steps.sound;
   };

@@ -1,5 +1,5 @@
 -- The memory of one instance, lent from that of all, and an instance over either.
-use Rattle.std.proofs.Common.{◌≡◌, ℕ, List, [], Option, None, length, get_or, refl, sym, ap, subst, ◌∙◌}
+use Rattle.std.proofs.Common.{◌≡◌, ℕ, inl, List, [], Option, None, length, get_or, refl, sym, ap, subst, ◌∙◌}
 use Rattle.wh_model.specs.declared.memory.Need.{Need}
 use Rattle.wh_model.specs.Validity.Typing.{Context}
 use Rattle.wh_model.specs.declared.ValType.{ValType}
@@ -9,7 +9,7 @@ use Rattle.wh_model.specs.Focus.Focused.{Focused, running, finished, stopped, pl
 use Rattle.wh_model.specs.Execution.Instance.{Piece, Within}
 use Rattle.wh_model.specs.Execution.Replay.{Call, Invocation}
 use Rattle.wh_model.specs.Execution.Reduction.{IsSettled}
-use Rattle.wh_host_model.specs.Space.Parts.{Space, Occupant, view, claim_of, need_of}
+use Rattle.wh_host_model.specs.Space.Parts.{Space, Occupant, view, claim_of, need_of, promised_to}
 use Rattle.wh_host_model.specs.Space.Ready.{Ready}
 use Rattle.wh_host_model.specs.Space.Sound.{IsSound}
 use Rattle.wh_host_model.specs.Host.Spaces.{StepsAlone}
@@ -35,7 +35,9 @@ steps_alone i s s2 sound keeps = record {
     view = keeps.views j other;
     wants = ap (λ (xs : List (Option Occupant)). need_of (get_or xs j None)) keeps.occupants;
     claim = ap (λ (xs : List (Option Occupant)). claim_of (get_or xs j None)) keeps.occupants;
+    promise = inl (ap (λ (xs : List (Option Occupant)). promised_to (get_or xs j None)) keeps.occupants);
   };
+  places = λ j other. ap (λ (xs : List (Option Occupant)). promised_to (get_or xs j None)) keeps.occupants;
   claim = ap (λ (xs : List (Option Occupant)). claim_of (get_or xs i None)) keeps.occupants;
   sound = keeps.sound sound;
 }

@@ -3,8 +3,9 @@ use Rattle.std.specs.Prelude.{◌≡◌, length}
 use Rattle.wh_host_model.specs.Space.Errands.{pass_of}
 use Rattle.wh_host_model.specs.Space.Parts.{Space}
 
--- No ticket comes or goes, and slots hold what they held. There are as many frames, and the same tax.
+-- No ticket comes or goes, and slots hold what they held. There are as many frames and slots, and the same tax.
 pub record KeepsBacking (s s2 : Space) : Type 0 where
   pub pass : pass_of s2 ≡ pass_of s
   pub frames : length s2.pool.frames ≡ length s.pool.frames
+  pub slots : length s2.slots.uses ≡ length s.slots.uses
   pub tax : s2.tax ≡ s.tax

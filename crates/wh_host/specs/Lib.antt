@@ -1,6 +1,7 @@
 pub mod Backing
 pub mod Carried
 pub mod Lying
+pub mod Left
 pub mod Lent
 pub mod Hosting
 pub mod Stored

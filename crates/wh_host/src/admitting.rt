@@ -1,10 +1,11 @@
 //! How instances come to a host.
 
-ghost use Rattle.std.specs.Prelude.{◌≡◌, ◌≤◌, ◌*◌, IfOk, OnErr, length};
+ghost use Rattle.std.specs.Prelude.{◌≡◌, ◌≤◌, ◌*◌, ℕ, IfOk, OnErr, length};
 ghost use Rattle.wh_model.specs.Format.Limits.{most_segments};
 ghost use Rattle.wh_admit.specs.Views.{view_params};
 ghost use Rattle.wh_space.specs.Arrivals.{claimed};
-ghost use Rattle.wh_host_model.specs.Space.Places.{HasRoomFor as HasMemoryFor};
+ghost use Rattle.wh_host_model.specs.Host.Worlds.{promised};
+ghost use Rattle.wh_host_model.specs.Space.Places.{Enters, HasRoomFor as HasMemoryFor};
 ghost use Rattle.wh_host.specs.Backing.{KeepsBacking};
 ghost use Rattle.wh_host.specs.Admitting.{AnswersAdmit, BeginsResident, EntersNext};
 
@@ -101,6 +102,8 @@ impl Host {
         ensures admits { AnswersAdmit self.old of.number (view_params params) result self.new }
         ensures err { OnErr result (self.new ≡ self.old) }
         ensures backing { KeepsBacking self.old.space self.new.space }
+        ensures memory { IfOk result (λ id. (size : ℕ) × Enters self.old.space id.place
+            (promised id.number (view_params params)) size self.new.space) }
     {
         let Some(module) = module_at(&self.modules, of.number) else {
             return Err(AdmitError::NoModule);

@@ -1,7 +1,8 @@
 //! What owners ask of the present calls of their instances.
 
-ghost use Rattle.std.specs.Prelude.{◌≡◌, OnErr};
+ghost use Rattle.std.specs.Prelude.{◌≡◌, OnErr, OnOk};
 ghost use Rattle.wh_host_model.specs.Host.Happens.{IsCancel, IsRefuel, IsRetry};
+ghost use Rattle.wh_host_model.specs.Space.Stores.{ended};
 ghost use Rattle.wh_host.specs.Backing.{KeepsBacking};
 ghost use Rattle.wh_host.specs.Asking.{AnswersCall};
 
@@ -20,6 +21,7 @@ impl Host {
             result self.new }
         ensures err { OnErr result (self.new ≡ self.old) }
         ensures backing { KeepsBacking self.old.space self.new.space }
+        ensures memory { self.new.space ≡ self.old.space }
     {
         let Some(resident) = self.residents.get_mut(id.place) else {
             return Err(HostError::NoInstance);
@@ -42,6 +44,7 @@ impl Host {
             result self.new }
         ensures err { OnErr result (self.new ≡ self.old) }
         ensures backing { KeepsBacking self.old.space self.new.space }
+        ensures memory { self.new.space ≡ self.old.space }
     {
         let Some(resident) = self.residents.get_mut(id.place) else {
             return Err(HostError::NoInstance);
@@ -65,6 +68,7 @@ impl Host {
             result self.new }
         ensures err { OnErr result (self.new ≡ self.old) }
         ensures backing { KeepsBacking self.old.space self.new.space }
+        ensures memory { OnOk result (self.new.space ≡ ended self.old.space id.place) }
     {
         let Some(resident) = self.residents.get_mut(id.place) else {
             return Err(HostError::NoInstance);

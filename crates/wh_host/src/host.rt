@@ -6,6 +6,7 @@ ghost use Rattle.wh_host_model.specs.Host.Worlds.{World};
 ghost use Rattle.wh_host_model.specs.Host.Happens.{IsTurn};
 ghost use Rattle.wh_host.specs.Backing.{KeepsBacking};
 ghost use Rattle.wh_host.specs.Hosting.{IsHost, IsNewHost};
+ghost use Rattle.wh_host.specs.Left.{LeavesTurned};
 
 use crate::parts::{LoadedModule, Resident};
 use crate::turning::turn_at;
@@ -106,11 +107,13 @@ impl Host {
         let _ = &self.live;
     }
 
-    /// Gives an instance a turn of q charges.
+    /// Gives an instance a turn of q charges. The memory of all changes by its own loads, stores and growth alone, and by what
+    /// it stands for then.
     pub fn turn(&mut self, id: InstId, q: u64) -> TurnEnd
         ensures turns { (w : World) → IsHost self.old w
             → (w2 : World) × IsTurn w id q result w2 × IsHost self.new w2 }
         ensures backing { KeepsBacking self.old.space self.new.space }
+        ensures memory { LeavesTurned id.place result self.old.space self.new.space }
     {
         let Some(resident) = self.residents.get_mut(id.place) else {
             return TurnEnd::Idle;

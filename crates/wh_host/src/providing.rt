@@ -4,7 +4,7 @@ ghost use Rattle.std.specs.Prelude.{◌≡◌, ◌+◌, ◌∷◌, Ok, IfErr, If
 ghost use Rattle.wh_host_model.specs.Host.Happens.{AwaitsFrame};
 ghost use Rattle.wh_host_model.specs.Space.Errands.{tickets};
 ghost use Rattle.wh_host_model.specs.Space.Laws.{IsProvided};
-ghost use Rattle.wh_host_model.specs.Space.Provide.{FailsTruly, OthersKeepMinimum, ProvidesTruly};
+ghost use Rattle.wh_host_model.specs.Space.Provide.{FailsToProvide, FailsTruly, OthersKeepMinimum, Provides, ProvidesTruly};
 ghost use Rattle.wh_model.specs.declared.memory.Need.{Need};
 ghost use Rattle.wh_reclaim.specs.Whole.{IsAsWhole};
 ghost use Rattle.wh_host.specs.Paging.{IsAwaiting, IsGoing, MovesAnyhow, MovesWith, Tells, WaitsFor, provide_fault};
@@ -77,6 +77,10 @@ impl Host {
             IsProvided self.old.space id.place need left self.new.space) }
         ensures fails { (need : Need) → WaitsFor self.old id need → D.honest device.new
             → OnErr result (FailsTruly self.old.space id.place need self.new.space) }
+        ensures provides_anyhow { (need : Need) → WaitsFor self.old id need
+            → IfOk result (λ left. Provides self.old.space id.place need left self.new.space) }
+        ensures fails_anyhow { (need : Need) → WaitsFor self.old id need
+            → OnErr result (FailsToProvide self.old.space id.place need self.new.space) }
         ensures others { OthersKeepMinimum self.old.space id.place self.new.space }
         ensures whole { IsAsWhole self.old.space self.new.space }
         ensures writes { IfOk result (λ left. D.writes device.new ≡ D.writes device.old + left) }

@@ -1,6 +1,7 @@
 //! How instances go.
 
-ghost use Rattle.std.specs.Prelude.{◌≡◌, OnErr};
+ghost use Rattle.std.specs.Prelude.{◌≡◌, OnErr, OnOk};
+ghost use Rattle.wh_host_model.specs.Space.Places.{Exits};
 ghost use Rattle.wh_host.specs.Backing.{KeepsBacking};
 ghost use Rattle.wh_host.specs.Releasing.{AnswersRelease};
 ghost use Rattle.wh_host.specs.Seats.{PlaceIsLeft};
@@ -31,6 +32,7 @@ impl Host {
         ensures goes { AnswersRelease self.old id result self.new }
         ensures err { OnErr result (self.new ≡ self.old) }
         ensures backing { KeepsBacking self.old.space self.new.space }
+        ensures memory { OnOk result (Exits self.old.space id.place self.new.space) }
     {
         let Some(resident) = self.residents.get_mut(id.place) else {
             return Err(HostError::NoInstance);

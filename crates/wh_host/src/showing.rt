@@ -36,7 +36,6 @@ fn transcript_of(
     resident: &Resident,
     bytes: &Arc<Vec<u8>>,
 ) -> Result<Transcript, AllocError>
-    requires { IsReplayable (shown_of resident.now bytes.now.value.items) }
     ensures { IfOk result (λ transcript.
         transcript ≡ shown_of resident.now bytes.now.value.items) }
 {
@@ -49,13 +48,14 @@ fn transcript_of(
 
 impl Host {
     /// The transcript of an instance: the bytes of its module, what its owner gave it, its calls, and for what the first
-    /// open one stands. Events alone have led to this host: no swap device gave other bytes than were written to it.
+    /// open one stands. Its calls replay where events alone have led to this host: no swap device gave other bytes than were
+    /// written to it.
     ///
     /// # Errors
     /// `NoInstance`; `Memory` where room is refused.
     pub fn transcript(&self, alloc: Global, id: InstId) -> Result<Transcript, HostError>
-        requires { StandsByEvents self.now }
-        ensures { ShowsInstance self.now id result }
+        ensures shows { ShowsInstance self.now id result }
+        ensures replays { StandsByEvents self.now → IfOk result (λ shown. IsReplayable shown) }
     {
         let Some(resident) = self.residents.get(id.place) else {
             return Err(HostError::NoInstance);

@@ -3,7 +3,9 @@
 ghost use Rattle.std.specs.Prelude.{◌≡◌, ◌≢◌, []};
 ghost use Rattle.wh_host_model.specs.Host.Worlds.{Tenant as OneTenant};
 ghost use Rattle.wh_host.specs.Backing.{KeepsBacking};
+ghost use Rattle.wh_host.specs.Left.{LeavesTurned};
 ghost use Rattle.wh_host.specs.Lying.{LiesAt};
+ghost use Rattle.wh_space.specs.Stepping.{TakesSteps};
 ghost use Rattle.wh_host.specs.Lent.{CanSettle, TurnsLent, TurnsTo, turn_end_of, settled_in};
 
 use wh_host_model::TurnEnd;
@@ -27,6 +29,7 @@ fn turn_lent(
         → LiesAt linked.now page_limit tenant.old memory.old place t
         → TurnsLent linked.now page_limit q memory.old t place tenant.new memory.new result }
     ensures backing { KeepsBacking memory.old memory.new }
+    ensures steps { TakesSteps place memory.old memory.new }
 {
     memory.known();
     let mut view = View {
@@ -92,6 +95,7 @@ pub fn turn_at(
     ensures turns { (t : OneTenant) → LiesAt linked.now page_limit tenant.old memory.old place t
         → TurnsTo linked.now page_limit q memory.old t result place tenant.new memory.new }
     ensures backing { KeepsBacking memory.old memory.new }
+    ensures memory { LeavesTurned place result memory.old memory.new }
 {
     if tenant.is_idle() {
         return TurnEnd::Idle;

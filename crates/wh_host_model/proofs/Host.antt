@@ -17,4 +17,10 @@ pub mod AsMany
 pub mod Apart
 pub mod Bridges
 pub mod Deciding
+pub mod Numbering
+pub mod Promising
+pub mod Reducing
+pub mod Admitting
 pub mod Progress
+pub mod Stepping
+pub mod Starting

@@ -1,10 +1,10 @@
 //! The law over every run.
 
-ghost use Rattle.wh_host_model.specs.Host.Laws.{MemoryIsSound, PlacesAreRight, InstancesReplay, ChargesAreWithin, JournalsAreInOrder, SuspensionsAreRight, FrameIsLacking, AgainIsReady, OneTurn};
+ghost use Rattle.wh_host_model.specs.Host.Laws.{MemoryIsSound, PlacesAreRight, PromisesAreKept, InstancesReplay, ChargesAreWithin, JournalsAreInOrder, SuspensionsAreRight, FrameIsLacking, AgainIsReady, OneTurn};
 ghost use Rattle.wh_host_model.specs.Host.Stuck.{NoCallIsStuck};
 ghost use Rattle.wh_host_model.specs.Host.Taking.{ReadyStepsAreTaken};
 ghost use Rattle.wh_host_model.specs.Host.Apart.{NoBytesReachAnother};
-ghost use Rattle.wh_host_model.specs.Host.Progress.{EventsHappen, LoadsAreTaken, CallsAreTaken, IdleTurnsHappen, FuelTurnsHappen};
+ghost use Rattle.wh_host_model.specs.Host.Progress.{EventsHappen, LoadsAreTaken, AdmissionsAreTaken, CallsAreTaken, IdleTurnsHappen, FuelTurnsHappen, ReadyTurnsHappen};
 ghost use Rattle.wh_host_model.specs.Host.Misreading.{MemoryStaysSound, PlacesStayRight, ModulesStayAccepted, JournalsStayInOrder, InputsStay, FramesAreAwaited};
 
 /// What holds of a host after every list of events from an empty one, and of what a turn answers. The function does
@@ -12,6 +12,7 @@ ghost use Rattle.wh_host_model.specs.Host.Misreading.{MemoryStaysSound, PlacesSt
 pub fn every_run()
     ensures memory_is_sound { MemoryIsSound }
     ensures places_are_right { PlacesAreRight }
+    ensures promises_are_kept { PromisesAreKept }
     ensures instances_replay { InstancesReplay }
     ensures no_call_is_stuck { NoCallIsStuck }
     ensures charges_are_within { ChargesAreWithin }
@@ -24,9 +25,11 @@ pub fn every_run()
     ensures no_bytes_reach_another { NoBytesReachAnother }
     ensures events_happen { EventsHappen }
     ensures loads_are_taken { LoadsAreTaken }
+    ensures admissions_are_taken { AdmissionsAreTaken }
     ensures calls_are_taken { CallsAreTaken }
     ensures idle_turns_happen { IdleTurnsHappen }
     ensures fuel_turns_happen { FuelTurnsHappen }
+    ensures ready_turns_happen { ReadyTurnsHappen }
 {}
 
 /// What holds of a host whatever bytes its swap device gives: after every list of events and of reads that gave other bytes

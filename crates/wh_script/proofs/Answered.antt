@@ -1,14 +1,14 @@
 -- What lines get.
 use Rattle.std.proofs.lemmas.Option.{same_Some}
-use Rattle.std.proofs.Common.{◌≡◌, ◌∙◌, ℕ, ℤ, ◌<◌, ◌≤◌, ◌⊎◌, inl, inr, Bool, true, false, List, [], ◌∷◌, ◌++◌, length, slice_get, Option, Some, None, MatchOption, Result, Ok, Err, OnOk, OnErr, is_err, refl, sym, ap, subst}
+use Rattle.std.proofs.Common.{◌≡◌, ◌∙◌, ℕ, ℤ, ◌<◌, ◌⊎◌, inl, inr, true, false, List, [], ◌∷◌, ◌++◌, length, Result, Ok, Err, OnOk, OnErr, is_err, refl, sym, ap, subst, append_assoc, true≢false, slice_index, ◌≢◌, arith}
 use Rattle.wh_host_model.specs.Script.{is_skipped, longest_line}
 use Rattle.wh_host_model.specs.Lines.Settings.{Settings}
-use Rattle.wh_host_model.specs.Lines.Commands.{Command, keep, load, admit, invoke, drain, refuel, cancel, retry, scan, report, release, AsksCommand}
+use Rattle.wh_host_model.specs.Lines.Commands.{Command, keep, load, admit, invoke, drain, refuel, cancel, retry, scan, report, release, AsksCommand, verb}
 use Rattle.wh_host_model.specs.Lines.Texts.{Reply, error}
-use Rattle.wh_host_model.specs.Lines.Made.{Guest, Made, HasGuest, NoGuest}
+use Rattle.wh_host_model.specs.Lines.Made.{Made, NoGuest}
 use Rattle.wh_host_model.specs.Lines.Drains.{Drains}
 use Rattle.wh_host_model.specs.Lines.Receiving.{ReceivesCall}
-use Rattle.wh_host_model.specs.Lines.Answers.{Files, IsRead, IsObeyed, no_such_guest, AnswersLine, skipped, invoked, obeyed, too_long, no_command, line_wants}
+use Rattle.wh_host_model.specs.Lines.Answers.{Files, IsRead, no_such_guest, AnswersLine, skipped, invoked, obeyed, too_long, no_command, line_wants}
 use Rattle.wh_commands.specs.declared.error.LineError.{LineError}
 use Rattle.wh_commands.specs.declared.error.LineError.TheVariants.{Syntax, NoName, NameTaken, File, Memory}
 use Rattle.wh_commands.specs.declared.command.Command.{Command as Code}
@@ -19,32 +19,65 @@ use Rattle.wh_script_model.proofs.SaidObeyed.{call_well, obeys_well}
 use Rattle.wh_engine.specs.Obeying.{TakesInvoke, IsNamed}
 use Rattle.wh_engine.specs.Standing.{EngineState, StandsForScript}
 use Rattle.wh_script.specs.declared.lines.Line.{Line}
-use Rattle.wh_script.specs.declared.lines.Line.TheVariants.{Kept, TooLong, Skipped, End}
+use Rattle.wh_script.specs.declared.lines.Line.TheVariants.{Skipped, End}
 use Rattle.wh_script.specs.Coming.{IsKind}
-use Rattle.wh_script.specs.Answering.{ServesScript, HasDrained, Complains, GetsReplies, is_obeyed, is_wanting, Obeys, Answers, AnswersCommand}
+use Rattle.wh_script.specs.Answering.{HasDrained, Complains, GetsReplies, is_obeyed, is_wanting, Obeys, Answers, AnswersCommand}
 use Rattle.wh_script.proofs.Speaking.{adds_none, adds_more}
+use Rattle.wh_script.specs.Reports.{EndsInReport}
 use Rattle.wh_script.proofs.Drained.{no_guest_then}
 
+-- ---- which lines ask for a report
+
+others_apart : (x y : List ℕ) → slice_index x 2 ≢ slice_index y 2 → x ≡ y → ⊥
+others_apart x y apart same = apart (ap (λ t. slice_index t 2) same)
+
+by_verb : (command : Command) → verb command ≡ verb report → command ≡ report
+by_verb (keep name bytes) e = absurd (others_apart _ _ (λ same. omega (arith, same)) e)
+by_verb (load name path) e = absurd (others_apart _ _ (λ same. omega (arith, same)) e)
+by_verb (admit inst of params) e = absurd (others_apart _ _ (λ same. omega (arith, same)) e)
+by_verb (invoke inst export fuel args) e = absurd (others_apart _ _ (λ same. omega (arith, same)) e)
+by_verb drain e = absurd (others_apart _ _ (λ same. omega (arith, same)) e)
+by_verb (refuel inst fuel) e = absurd (others_apart _ _ (λ same. omega (arith, same)) e)
+by_verb (cancel inst) e = absurd (others_apart _ _ (λ same. omega (arith, same)) e)
+by_verb (retry inst) e = absurd (others_apart _ _ (λ same. omega (arith, same)) e)
+by_verb scan e = absurd (others_apart _ _ (λ same. omega (arith, same)) e)
+by_verb report e = refl
+by_verb (release inst) e = absurd (others_apart _ _ (λ same. omega (arith, same)) e)
+
+heads : (x y : List ℕ) (xs ys : List (List ℕ)) → x ∷ xs ≡ y ∷ ys → x ≡ y
+heads x y xs ys e = cc
+
+one_command : (line : List ℕ) (command : Command) → AsksCommand line command → AsksCommand line report → command ≡ report
+one_command line command asks other = by_verb command (heads (verb command) (verb report) asks.0 other.0 (sym asks.1 ∙ other.1))
+
+invoke_apart : (inst export : List ℕ) (fuel : ℕ) (args : List ℤ) → invoke inst export fuel args ≡ report → ⊥
+invoke_apart inst export fuel args e = absurd (cc e)
+
+ends_behind : (settings : Settings) (number : ℕ) (m : Made) (lines replies : List Reply) (text : List ℕ) → EndsInReport settings number m replies text
+    → EndsInReport settings number m (lines ++ replies) text
+ends_behind settings number m lines replies text (inl shown) = inl shown
+ends_behind settings number m lines replies text (inr (front, is)) = inr (lines ++ front, ap (λ xs. lines ++ xs) is ∙ sym (append_assoc lines front (error 5 number ∷ [])))
+
 pub is_skipped_line : (files : Files) (number : ℕ) (line : List ℕ) (e : EngineState) (text : List ℕ) → is_skipped line ≡ true → Answers files number line e text e text
-is_skipped_line files number line e text is settings m s = ([], m, skipped is, adds_none text, s)
+is_skipped_line files number line e text is settings m s = ([], m, skipped is, adds_none settings text, s, λ read asks. absurd (true≢false (sym is ∙ read.0)))
 
 pub is_too_long : (files : Files) (number : ℕ) (line text text2 : List ℕ) (e e2 : EngineState) → is_skipped line ≡ false → longest_line < length line
     → Complains (error 1 number) e text e2 text2 → Answers files number line e text e2 text2
 is_too_long files number line text text2 e e2 read long complains settings m s =
     let c = complains settings m s in
-    (c.0 ++ error 1 number ∷ [], c.1, too_long read long c.2, c.3, c.4)
+    (c.0 ++ error 1 number ∷ [], c.1, too_long read long c.2, c.3, c.4, λ is asks. absurd (omega (arith, long, is.1)))
 
 pub is_no_command : (files : Files) (number : ℕ) (line text text2 : List ℕ) (e e2 : EngineState) → IsRead line → ((command : Command) → ¬ (AsksCommand line command))
     → Complains (error 1 number) e text e2 text2 → Answers files number line e text e2 text2
 is_no_command files number line text text2 e e2 read none complains settings m s =
     let c = complains settings m s in
-    (c.0 ++ error 1 number ∷ [], c.1, no_command read none c.2, c.3, c.4)
+    (c.0 ++ error 1 number ∷ [], c.1, no_command read none c.2, c.3, c.4, λ is asks. absurd (none report asks))
 
 pub wants_memory : (files : Files) (number : ℕ) (line text text2 : List ℕ) (e e2 : EngineState) → IsRead line
     → Complains (error 5 number) e text e2 text2 → Answers files number line e text e2 text2
 wants_memory files number line text text2 e e2 read complains settings m s =
     let c = complains settings m s in
-    (c.0 ++ error 5 number ∷ [], c.1, line_wants refl read c.2, c.3, c.4)
+    (c.0 ++ error 5 number ∷ [], c.1, line_wants refl read c.2, c.3, c.4, λ is asks. inr (c.0, refl))
 
 -- a line whose command isn't found
 pub isnt_found : (files : Files) (number : ℕ) (line text text2 : List ℕ) (e e2 : EngineState) (r : Result Code LineError) (cause : LineError) → r ≡ Err cause
@@ -79,15 +112,27 @@ is_received files number i inst export fuel args e e2 text named takes line read
     let has = named settings m s.0 in
     let took = takes settings m s.0 in
     let same : took.0 ≡ has.0 = same_Some took.0 has.0 (sym took.1 ∙ has.1.0) in
-    let received : ReceivesCall true m i has.0 export fuel args took.2 = subst (λ g. ReceivesCall true m i g export fuel args took.2) same took.3 in
-    ([], took.2, invoked i read asks has.1 received, adds_none text, (took.4, call_well true m took.2 i has.0 export fuel args has.1.0 received s.1))
+    let received : ReceivesCall true m i has.0 export fuel args took.2 = subst (λ g. ReceivesCall true m i g export fuel args took.2) same took.3 in (
+      [],
+      took.2,
+      invoked i read asks has.1 received,
+      adds_none settings text,
+      (took.4, call_well true m took.2 i has.0 export fuel args has.1.0 received s.1),
+      λ is other. absurd (invoke_apart inst export fuel args (one_command line (invoke inst export fuel args) asks other)),
+    )
 
 pub has_no_guest : (files : Files) (number : ℕ) (inst export : List ℕ) (fuel : ℕ) (args : List ℤ) (e e2 : EngineState) (text text2 : List ℕ)
     → ((settings : Settings) (m : Made) → StandsForScript settings e m → NoGuest m inst)
     → Complains (error 2 number) e text e2 text2 → AnswersCommand files number (invoke inst export fuel args) e text e2 text2
 has_no_guest files number inst export fuel args e e2 text text2 none complains line read asks settings m s =
-    let c = complains settings m s in
-    (c.0 ++ error 2 number ∷ [], c.1, obeyed {command = invoke inst export fuel args} read asks c.2 (no_such_guest refl (no_guest_then m c.1 c.0 inst c.2 (none settings m s.0))), c.3, c.4)
+    let c = complains settings m s in (
+      c.0 ++ error 2 number ∷ [],
+      c.1,
+      obeyed {command = invoke inst export fuel args} read asks c.2 (no_such_guest refl (no_guest_then m c.1 c.0 inst c.2 (none settings m s.0))),
+      c.3,
+      c.4,
+      λ is other. absurd (invoke_apart inst export fuel args (one_command line (invoke inst export fuel args) asks other)),
+    )
 
 pub invoke_wants : (files : Files) (number : ℕ) (command : Command) (e e1 e2 : EngineState) (text text2 : List ℕ)
     → ((settings : Settings) (m : Made) → StandsForScript settings e m → StandsForScript settings e1 m)
@@ -113,8 +158,9 @@ drained_obeyed files number command e e1 e2 text mid text2 drained obeys line re
       d.0 ++ o.0,
       o.1,
       gets_line settings files m d.1 o.1 number command line d.0 o.0 read asks d.2 o.2,
-      adds_more d.0 o.0 text mid text2 d.3 o.3,
+      adds_more settings d.0 o.0 text mid text2 d.3 o.3,
       (o.4, gets_well settings files d.1 o.1 number command o.0 o.2 d.4.1 d.5),
+      λ is other. ends_behind settings number o.1 d.0 o.0 text2 (o.5 (one_command line command asks other)),
     )
 
 -- ---- kinds of lines

@@ -1,5 +1,5 @@
 -- Which command of the definitions a command of the code is.
-use Rattle.std.proofs.Common.{◌≡◌, ◌≢◌, ◌∙◌, ℕ, ℤ, ◌⊎◌, inl, inr, List, Bor, refl, sym, ap, subst}
+use Rattle.std.proofs.Common.{◌≡◌, ◌∙◌, ℕ, ℤ, ◌⊎◌, inl, inr, List, Bor, refl, sym, ap, subst}
 use Rattle.std.specs.Global.{Vec}
 use Rattle.wh_host_model.specs.Requests.{IsHex}
 use Rattle.wh_host_model.specs.Lines.Commands.{Command, keep, load, admit, invoke, drain, refuel, cancel, retry, scan, report, release}

@@ -1,7 +1,7 @@
 -- What is known of a device, and how its calls failed, over several stretches of a script.
-use Rattle.std.proofs.Common.{arith, ◌≡◌, ℕ, ◌+◌, List, [], ◌∷◌, ◌++◌, length, Option, Some, None, refl, sym, ap, subst, ◌∙◌, append_assoc, length-append}
+use Rattle.std.proofs.Common.{arith, ◌≡◌, ◌+◌, List, [], ◌∷◌, ◌++◌, length, Option, Some, None, refl, sym, ap, ◌∙◌, append_assoc, length-append}
 use Rattle.wh_host_model.specs.declared.plain.SwapError.{SwapError}
-use Rattle.wh_engine.specs.Draining.{StaysTrue, DeviceStaysTrue, HasAdded, DeviceMayFail, HasServed, DeviceServesWell}
+use Rattle.wh_engine.specs.Draining.{DeviceStaysTrue, HasAdded, DeviceMayFail, DeviceServesWell}
 
 -- ---- faults
 

@@ -1,17 +1,13 @@
 -- Drains, and what stands behind them.
-use Rattle.std.proofs.Common.{◌≡◌, ◌∙◌, ℕ, true, List, [], ◌∷◌, ◌++◌, slice_get, Option, Some, None, MatchOption, refl, sym, ap, subst, append_assoc}
-use Rattle.std.specs.List.{AllZip}
-use Rattle.wh_host_model.specs.Lines.Settings.{Settings}
+use Rattle.std.proofs.Common.{◌≡◌, ◌∙◌, ℕ, List, [], ◌∷◌, ◌++◌, refl, sym}
 use Rattle.wh_host_model.specs.Lines.Texts.{Reply, reply_text}
-use Rattle.wh_host_model.specs.Lines.Made.{Guest, Made, HasGuest, NoGuest}
-use Rattle.wh_host_model.specs.Lines.Drains.{RunsAlone, Drains}
-use Rattle.wh_script_model.specs.Said.{AllAreSaid, IsWellMade}
+use Rattle.wh_host_model.specs.Lines.Made.{Made, NoGuest}
+use Rattle.wh_host_model.specs.Lines.Drains.{Drains}
 use Rattle.wh_script_model.proofs.Said.{runs_well, says_well, all_said, drained_guest}
 use Rattle.wh_engine.specs.Draining.{RunsEach, StaysSo}
 use Rattle.wh_engine.specs.Saying.{SaysAll}
-use Rattle.wh_engine.specs.Standing.{EngineState, StandsForScript}
-use Rattle.wh_script.specs.Speaking.{AddsSpeech}
-use Rattle.wh_script.specs.Answering.{ServesScript, HasDrained, Complains}
+use Rattle.wh_engine.specs.Standing.{EngineState}
+use Rattle.wh_script.specs.Answering.{HasDrained, Complains}
 use Rattle.wh_script.proofs.Speaking.{adds_lines, adds_one, adds_more}
 
 pub stays_so : (e : EngineState) → StaysSo e e
@@ -43,12 +39,12 @@ has_drained e e1 e2 e3 text text2 stays runs says settings m s =
     } in
     let well2 = says_well m1 starts calls guests invoked well said.4 said.5 in
     let all = all_said m1 starts calls guests invoked said.4 said.5 in
-    (starts ++ calls, m2, drains, adds_lines (starts ++ calls) text text2 said.6, (said.7, well2), all)
+    (starts ++ calls, m2, drains, adds_lines settings (starts ++ calls) text text2 said.6, (said.7, well2), all)
 
 pub complains : (e e2 : EngineState) (text mid text2 : List ℕ) (reply : Reply) → HasDrained e text e2 mid → text2 ≡ mid ++ reply_text reply → Complains reply e text e2 text2
 complains e e2 text mid text2 reply drained is settings m s =
     let d = drained settings m s in
-    (d.0, d.1, d.2, adds_more d.0 (reply ∷ []) text mid text2 d.3 (adds_one reply mid text2 is), d.4)
+    (d.0, d.1, d.2, adds_more settings d.0 (reply ∷ []) text mid text2 d.3 (adds_one settings reply mid text2 is), d.4)
 
 -- who isn't there isn't there behind a drain
 pub no_guest_then : (m m2 : Made) (lines : List Reply) (name : List ℕ) → Drains m lines m2 → NoGuest m name → NoGuest m2 name

@@ -3,6 +3,7 @@ pub mod Coming
 pub mod Hex
 pub mod Written
 pub mod Speaking
+pub mod Rows
 pub mod Reported
 pub mod Drained
 pub mod Asked

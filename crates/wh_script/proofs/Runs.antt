@@ -8,15 +8,17 @@ use Rattle.wh_host_model.specs.Lines.Made.{Made, nothing_made}
 use Rattle.wh_host_model.specs.Lines.Answers.{Files, AnswersLine, AnswersLines, AnswersScript}
 use Rattle.wh_engine.specs.declared.fault.ScriptFault.{ScriptFault}
 use Rattle.wh_engine.specs.declared.fault.ScriptFault.TheVariants.{Settings as SettingsFault, Script, Output, Swap, Memory, Threads, Transcript}
-use Rattle.wh_engine.specs.Draining.{StopsRun}
+use Rattle.wh_script_model.specs.Following.{SomeCallIsOpen}
+use Rattle.wh_engine.specs.Draining.{StopsOnlyOpen, StopsRun}
 use Rattle.wh_engine.specs.Standing.{EngineState, StandsForScript}
 use Rattle.wh_script_model.proofs.SaidObeyed.{nothing_well}
 use Rattle.wh_script.specs.declared.lines.Line.{Line}
 use Rattle.wh_script.specs.declared.lines.Line.TheVariants.{Kept, TooLong, Skipped, End}
 use Rattle.wh_script.specs.Coming.{TakesLines, IsKind, ReadsLine, FailsAt}
+use Rattle.wh_script.specs.Reports.{ReportsIfAsked}
 use Rattle.wh_script.specs.Speaking.{Speaks, says_nothing}
 use Rattle.wh_script.specs.Answering.{ServesScript, HasDrained, Answers}
-use Rattle.wh_script.specs.Runs.{AreLines, AreFirstLines, GaveLines, AppendsFront, Sent, StopsBetween, Runs}
+use Rattle.wh_script.specs.Runs.{AreLines, AreFirstLines, GaveLines, AppendsFront, LinesSay, Sent, StopsAtCalls, StopsBetween, Runs}
 use Rattle.wh_script.proofs.Coming.{takes_more}
 use Rattle.wh_script.proofs.Speaking.{speaks_on}
 use Rattle.wh_script.proofs.Written.{appends_nothing, appends_more}
@@ -24,8 +26,8 @@ use Rattle.wh_script.proofs.Written.{appends_nothing, appends_more}
 -- lines were taken up to this number, and what answers them was written
 abbrev pub SoFar : Settings → Files → Option (List ℕ) → Option (List ℕ) → Option (List ℕ) → Option (List ℕ) → ℕ → EngineState → Type 0
 SoFar settings files script coming before after number e = (lines : List (List ℕ)) × (replies : List Reply) × (m : Made) × (text : List ℕ)
-    × TakesLines script coming lines × (length lines + 1 ≡ number) × AnswersLines true settings files nothing_made 1 lines replies m × Speaks replies text
-    × Appends before after text × ServesScript settings e m
+    × TakesLines script coming lines × (length lines + 1 ≡ number) × AnswersLines true settings files nothing_made 1 lines replies m × Speaks settings replies text
+    × Appends before after text × ServesScript settings e m × LinesSay settings files nothing_made 1 lines text m
 
 -- one more line gets its replies
 answers_more : (settings : Settings) (files : Files) (before mid after : Made) (number : ℕ) (lines : List (List ℕ)) (line : List ℕ) (replies reply : List Reply)
@@ -37,6 +39,28 @@ answers_more settings files before mid after number [] line replies reply p r =
 answers_more settings files before mid after number (l ∷ lines) line replies reply p r =
     let later : AnswersLine true settings files mid (number + 1 + length lines) line reply after = subst (λ n. AnswersLine true settings files mid n line reply after) (omega arith) r in
     (p.0, p.1 ++ reply, p.2, ap (λ xs. xs ++ reply) p.3 ∙ append_assoc p.0 p.1 reply, p.4, answers_more settings files p.2 mid after (number + 1) lines line p.1 reply p.5 later)
+
+-- and the text goes on
+says_more : (settings : Settings) (files : Files) (before mid after : Made) (number : ℕ) (lines : List (List ℕ)) (line text now : List ℕ) (reply : List Reply)
+    → LinesSay settings files before number lines text mid → AnswersLine true settings files mid (number + length lines) line reply after → Speaks settings reply now
+    → ReportsIfAsked settings (number + length lines) line after reply now → LinesSay settings files before number (lines ++ line ∷ []) (text ++ now) after
+says_more settings files before mid after number [] line text now reply p r says_it shows =
+    let n : number + 0 ≡ number = omega arith in
+    let here : AnswersLine true settings files before number line reply after = subst₂ (λ m k. AnswersLine true settings files m k line reply after) p.1 n r in
+    (reply, now, [], after, ap (λ xs. xs ++ now) p.0 ∙ sym (append-nil now), here, says_it, subst (λ k. ReportsIfAsked settings k line after reply now) n shows, (refl, refl))
+says_more settings files before mid after number (l ∷ lines) line text now reply p r says_it shows =
+    let later : AnswersLine true settings files mid (number + 1 + length lines) line reply after = subst (λ k. AnswersLine true settings files mid k line reply after) (omega arith) r in
+    let shown : ReportsIfAsked settings (number + 1 + length lines) line after reply now = subst (λ k. ReportsIfAsked settings k line after reply now) (omega arith) shows in (
+      p.0,
+      p.1,
+      p.2 ++ now,
+      p.3,
+      ap (λ xs. xs ++ now) p.4 ∙ append_assoc p.1 p.2 now,
+      p.5,
+      p.6,
+      p.7,
+      says_more settings files p.3 mid after (number + 1) lines line p.2 now reply p.8 later says_it shown,
+    )
 
 first_lines : (a b : Option (List ℕ)) (lines : List (List ℕ)) → TakesLines a b lines → AreFirstLines a lines
 first_lines None b lines p = tt
@@ -66,32 +90,35 @@ line_of End a b held more reads = absurd (more refl)
 
 pub starts : (settings : Settings) (files : Files) (a w : Option (List ℕ)) (left : List ℕ) (e : EngineState) → left ≡ [] → StandsForScript settings e nothing_made
     → SoFar settings files a (prepend_known left a) w w 1 e
-starts settings files None w left e none stands = ([], [], nothing_made, [], tt, refl, (refl, refl), says_nothing, appends_nothing w, (stands, nothing_well))
+starts settings files None w left e none stands = ([], [], nothing_made, [], tt, refl, (refl, refl), says_nothing, appends_nothing w, (stands, nothing_well), (refl, refl))
 starts settings files (Some xs) w left e none stands =
-    ([], [], nothing_made, [], rw none ([], refl, refl), refl, (refl, refl), says_nothing, appends_nothing w, (stands, nothing_well))
+    ([], [], nothing_made, [], rw none ([], refl, refl), refl, (refl, refl), says_nothing, appends_nothing w, (stands, nothing_well), (refl, refl))
 
 nothing_first : (a : Option (List ℕ)) → AreFirstLines a []
 nothing_first None = tt
 nothing_first (Some xs) = (lines_of xs, refl)
 
 pub begins_nothing : (settings : Settings) (files : Files) (a left w : Option (List ℕ)) → Runs settings files a left w w (Err Memory)
-begins_nothing settings files a left w = ([], [], nothing_first a, ([], nothing_made, (refl, refl), says_nothing), appends_nothing w)
+begins_nothing settings files a left w = ([], [], nothing_first a, ([], nothing_made, (refl, refl), says_nothing, (refl, refl)), appends_nothing w)
 
 module _ (settings : Settings) (files : Files) (a b before mid : Option (List ℕ)) (number : ℕ) (e : EngineState) (so_far : SoFar settings files a b before mid number e) where
   stops_here : StopsBetween settings files a before mid
-  stops_here = (so_far.0, so_far.3, first_lines a b so_far.0 so_far.4, (so_far.1, so_far.2, so_far.6, so_far.7), so_far.8)
+  stops_here = (so_far.0, so_far.3, first_lines a b so_far.0 so_far.4, (so_far.1, so_far.2, so_far.6, so_far.7, so_far.10), so_far.8)
 
-  pub stops : (left : Option (List ℕ)) (fault : ScriptFault) → StopsRun fault → Runs settings files a left before mid (Err fault)
-  stops left Memory is = stops_here
-  stops left Threads is = stops_here
-  stops left Transcript is = stops_here
-  stops left SettingsFault is = elim is [ ]
-  stops left Script is = elim is [ ]
-  stops left Output is = elim is [ ]
-  stops left Swap is = elim is [ ]
+  stops_open : SomeCallIsOpen so_far.2 → StopsAtCalls settings files a before mid
+  stops_open open_call = (so_far.0, so_far.3, first_lines a b so_far.0 so_far.4, (so_far.1, so_far.2, so_far.6, so_far.7, so_far.10, open_call), so_far.8)
+
+  pub stops : (left : Option (List ℕ)) (fault : ScriptFault) → StopsRun fault → StopsOnlyOpen e fault → Runs settings files a left before mid (Err fault)
+  stops left Memory is only = stops_here
+  stops left Threads is only = stops_open (only settings so_far.2 so_far.9.0)
+  stops left Transcript is only = stops_open (only settings so_far.2 so_far.9.0)
+  stops left SettingsFault is only = elim is [ ]
+  stops left Script is only = elim is [ ]
+  stops left Output is only = elim is [ ]
+  stops left Swap is only = elim is [ ]
 
   pub read_fails : (left : Option (List ℕ)) (fault : ScriptFault) → (fault ≡ Script) ⊎ (fault ≡ Memory) → FailsAt b left (Err fault) → Runs settings files a left before mid (Err fault)
-  read_fails left Script which at = (so_far.0, so_far.3, gave_lines a b left so_far.0 at.0 so_far.4 at.1 at.2, (so_far.1, so_far.2, so_far.6, so_far.7), so_far.8)
+  read_fails left Script which at = (so_far.0, so_far.3, gave_lines a b left so_far.0 at.0 so_far.4 at.1 at.2, (so_far.1, so_far.2, so_far.6, so_far.7, so_far.10), so_far.8)
   read_fails left Memory which at = stops_here
   read_fails left Output which at = neither which
     where
@@ -124,17 +151,17 @@ module _ (settings : Settings) (files : Files) (a b before mid : Option (List �
     pub ends : HasDrained e [] e2 text → IsAtEnd b → (r : Result Unit ScriptFault) → Sent mid after r text → Runs settings files a left before after r
     ends drained end (Ok x) sent =
         let d = drained settings so_far.2 so_far.9 in
-        let said = subst (λ xs. Speaks d.0 xs) (sym d.3.2) d.3.1 in
+        let said = subst (λ xs. Speaks settings d.0 xs) (sym d.3.2) d.3.1 in
         let whole : AnswersScript true settings files so_far.0 (so_far.1 ++ d.0) = record { before = so_far.2; after = d.1; to_lines = so_far.1; last = d.0; answers = so_far.6; drains = d.2; replies_are = refl } in
-        (so_far.0, so_far.3 ++ text, all_lines a b so_far.0 so_far.4 end, (so_far.1 ++ d.0, whole, speaks_on so_far.1 d.0 so_far.3 text so_far.7 said), appends_more before mid after so_far.3 text so_far.8 sent)
+        (so_far.0, so_far.3 ++ text, all_lines a b so_far.0 so_far.4 end, (so_far.1 ++ d.0, whole, speaks_on settings so_far.1 d.0 so_far.3 text so_far.7 said, (so_far.3, text, so_far.2, refl, so_far.10)), appends_more before mid after so_far.3 text so_far.8 sent)
     ends drained end (Err Output) sent =
         let d = drained settings so_far.2 so_far.9 in
-        let said = subst (λ xs. Speaks d.0 xs) (sym d.3.2) d.3.1 in
+        let said = subst (λ xs. Speaks settings d.0 xs) (sym d.3.2) d.3.1 in
         let whole : AnswersScript true settings files so_far.0 (so_far.1 ++ d.0) = record { before = so_far.2; after = d.1; to_lines = so_far.1; last = d.0; answers = so_far.6; drains = d.2; replies_are = refl } in (
           so_far.0,
           so_far.3 ++ text,
           first_lines a b so_far.0 so_far.4,
-          inr (so_far.1 ++ d.0, whole, speaks_on so_far.1 d.0 so_far.3 text so_far.7 said),
+          inr (so_far.1 ++ d.0, whole, speaks_on settings so_far.1 d.0 so_far.3 text so_far.7 said, (so_far.3, text, so_far.2, refl, so_far.10)),
           front_of before mid after so_far.3 text so_far.8 sent,
         )
     ends drained end (Err SettingsFault) sent = elim sent [ ]
@@ -151,7 +178,7 @@ module _ (settings : Settings) (files : Files) (a b before mid : Option (List �
           let line = line_of kind b c held more reads in
           let answer = answers line.0 line.2 settings so_far.2 so_far.9 in
           let n : number ≡ 1 + length so_far.0 = omega (arith, so_far.5) in
-          let said = subst (λ xs. Speaks answer.0 xs) (sym answer.3.2) answer.3.1 in (
+          let said = subst (λ xs. Speaks settings answer.0 xs) (sym answer.3.2) answer.3.1 in (
             so_far.0 ++ line.0 ∷ [],
             so_far.1 ++ answer.0,
             answer.1,
@@ -160,9 +187,11 @@ module _ (settings : Settings) (files : Files) (a b before mid : Option (List �
             omega (arith, so_far.5, length-append so_far.0 (line.0 ∷ [])),
             answers_more settings files nothing_made so_far.2 answer.1 1 so_far.0 line.0 so_far.1 answer.0 so_far.6
                 (subst (λ k. AnswersLine true settings files so_far.2 k line.0 answer.0 answer.1) n answer.2),
-            speaks_on so_far.1 answer.0 so_far.3 text so_far.7 said,
+            speaks_on settings so_far.1 answer.0 so_far.3 text so_far.7 said,
             appends_more before mid after so_far.3 text so_far.8 sent,
             answer.4,
+            says_more settings files nothing_made so_far.2 answer.1 1 so_far.0 line.0 so_far.3 text answer.0 so_far.10
+                (subst (λ k. AnswersLine true settings files so_far.2 k line.0 answer.0 answer.1) n answer.2) said (subst (λ k. ReportsIfAsked settings k line.0 answer.1 answer.0 text) n answer.5),
           )
 
       pub write_fails : (fault : ScriptFault) → Sent mid after (Err fault) text → Runs settings files a left before after (Err fault)
@@ -170,13 +199,20 @@ module _ (settings : Settings) (files : Files) (a b before mid : Option (List �
           let line = line_of kind b c held more reads in
           let answer = answers line.0 line.2 settings so_far.2 so_far.9 in
           let n : number ≡ 1 + length so_far.0 = omega (arith, so_far.5) in
-          let said = subst (λ xs. Speaks answer.0 xs) (sym answer.3.2) answer.3.1 in
+          let said = subst (λ xs. Speaks settings answer.0 xs) (sym answer.3.2) answer.3.1 in
           let all = answers_more settings files nothing_made so_far.2 answer.1 1 so_far.0 line.0 so_far.1 answer.0 so_far.6
           (subst (λ k. AnswersLine true settings files so_far.2 k line.0 answer.0 answer.1) n answer.2) in (
             so_far.0 ++ line.0 ∷ [],
             so_far.3 ++ text,
             first_lines a c (so_far.0 ++ line.0 ∷ []) (takes_more a b c so_far.0 (line.0 ∷ []) so_far.4 line.1),
-            inl (so_far.1 ++ answer.0, answer.1, all, speaks_on so_far.1 answer.0 so_far.3 text so_far.7 said),
+            inl (
+              so_far.1 ++ answer.0,
+              answer.1,
+              all,
+              speaks_on settings so_far.1 answer.0 so_far.3 text so_far.7 said,
+              says_more settings files nothing_made so_far.2 answer.1 1 so_far.0 line.0 so_far.3 text answer.0 so_far.10
+                  (subst (λ k. AnswersLine true settings files so_far.2 k line.0 answer.0 answer.1) n answer.2) said (subst (λ k. ReportsIfAsked settings k line.0 answer.1 answer.0 text) n answer.5),
+            ),
             front_of before mid after so_far.3 text so_far.8 sent,
           )
       write_fails SettingsFault sent = elim sent [ ]

@@ -1,13 +1,14 @@
 -- What a line gets, and for which script the engine stands then.
-use Rattle.std.specs.Prelude.{ℕ, true, List, [], ◌∷◌, ◌++◌, ⊤}
+use Rattle.std.specs.Prelude.{◌≡◌, ℕ, true, List, [], ◌∷◌, ◌++◌, ⊤}
 use Rattle.wh_host_model.specs.Lines.Settings.{Settings}
-use Rattle.wh_host_model.specs.Lines.Commands.{Command, invoke, AsksCommand}
+use Rattle.wh_host_model.specs.Lines.Commands.{Command, invoke, report, AsksCommand}
 use Rattle.wh_host_model.specs.Lines.Texts.{Reply, error}
 use Rattle.wh_host_model.specs.Lines.Made.{Made}
 use Rattle.wh_host_model.specs.Lines.Drains.{Drains}
 use Rattle.wh_host_model.specs.Lines.Answers.{Files, IsObeyed, IsRead, AnswersLine}
 use Rattle.wh_script_model.specs.Said.{AllAreSaid, IsWellMade}
 use Rattle.wh_engine.specs.Standing.{EngineState, StandsForScript}
+use Rattle.wh_script.specs.Reports.{EndsInReport, IsReportOf, ReportsIfAsked}
 use Rattle.wh_script.specs.Speaking.{AddsSpeech}
 
 -- the engine stands for what the script has made, and that is well made
@@ -20,14 +21,14 @@ ServesScript settings e m = StandsForScript settings e m × IsWellMade m
 abbrev pub HasDrained : EngineState → List ℕ → EngineState → List ℕ → Type 0
 HasDrained e text e2 text2 =
     (settings : Settings) (m : Made) → ServesScript settings e m
-    → (lines : List Reply) × (m2 : Made) × Drains m lines m2 × AddsSpeech lines text text2 × ServesScript settings e2 m2
+    → (lines : List Reply) × (m2 : Made) × Drains m lines m2 × AddsSpeech settings lines text text2 × ServesScript settings e2 m2
     × AllAreSaid m2
 
 -- and the reply behind them
 abbrev pub Complains : Reply → EngineState → List ℕ → EngineState → List ℕ → Type 0
 Complains reply e text e2 text2 =
     (settings : Settings) (m : Made) → ServesScript settings e m
-    → (lines : List Reply) × (m2 : Made) × Drains m lines m2 × AddsSpeech (lines ++ reply ∷ []) text text2
+    → (lines : List Reply) × (m2 : Made) × Drains m lines m2 × AddsSpeech settings (lines ++ reply ∷ []) text text2
     × ServesScript settings e2 m2
 
 -- ---- commands
@@ -49,7 +50,14 @@ abbrev pub Obeys : Files → ℕ → Command → EngineState → List ℕ → En
 Obeys files number command e text e2 text2 =
     (settings : Settings) (m : Made) → StandsForScript settings e m
     → (replies : List Reply) × (m2 : Made) × GetsReplies settings files m number command replies m2
-    × AddsSpeech replies text text2 × StandsForScript settings e2 m2
+    × AddsSpeech settings replies text text2 × StandsForScript settings e2 m2
+    × (command ≡ report → EndsInReport settings number m2 replies text2)
+
+-- the report stands behind the text, whatever script the engine stands for
+abbrev pub AddsReport : EngineState → List ℕ → List ℕ → Type 0
+AddsReport e text text2 =
+    (settings : Settings) (m : Made) → StandsForScript settings e m
+    → (shown : List ℕ) × IsReportOf settings m shown × (text2 ≡ text ++ shown)
 
 -- ---- lines
 
@@ -58,7 +66,8 @@ abbrev pub Answers : Files → ℕ → List ℕ → EngineState → List ℕ →
 Answers files number line e text e2 text2 =
     (settings : Settings) (m : Made) → ServesScript settings e m
     → (replies : List Reply) × (m2 : Made) × AnswersLine true settings files m number line replies m2
-    × AddsSpeech replies text text2 × ServesScript settings e2 m2
+    × AddsSpeech settings replies text text2 × ServesScript settings e2 m2
+    × ReportsIfAsked settings number line m2 replies text2
 
 -- a line of this number that asks for the command
 abbrev pub AnswersCommand : Files → ℕ → Command → EngineState → List ℕ → EngineState → List ℕ → Type 0

@@ -1,4 +1,5 @@
 pub mod Coming
+pub mod Reports
 pub mod Speaking
 pub mod Starting
 pub mod Answering

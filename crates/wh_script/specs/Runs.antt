@@ -1,13 +1,15 @@
 -- What a run of a script reads and writes.
-use Rattle.std.specs.Prelude.{◌≡◌, ◌≢◌, ℕ, true, List, ◌++◌, All, Result, Ok, Err, Option, None, Some, ⊤, ◌⊎◌}
-use Rattle.std.specs.Io.KnownBytes.{Appends, Keeps}
+use Rattle.std.specs.Prelude.{◌≡◌, ◌≢◌, ℕ, ◌+◌, true, List, [], ◌∷◌, ◌++◌, All, Result, Ok, Err, Option, None, Some, ⊤, ◌⊎◌}
+use Rattle.std.specs.Io.KnownBytes.{Appends}
 use Rattle.wh_host_model.specs.Script.{lines_of}
 use Rattle.wh_host_model.specs.Lines.Settings.{Settings}
 use Rattle.wh_host_model.specs.Lines.Texts.{Reply}
 use Rattle.wh_host_model.specs.Lines.Made.{Made, nothing_made}
-use Rattle.wh_host_model.specs.Lines.Answers.{Files, AnswersLines, AnswersScript}
+use Rattle.wh_host_model.specs.Lines.Answers.{Files, AnswersLine, AnswersLines, AnswersScript}
 use Rattle.wh_engine.specs.declared.fault.ScriptFault.{ScriptFault}
 use Rattle.wh_engine.specs.declared.fault.ScriptFault.TheVariants.{Script, Output, Memory, Threads, Transcript}
+use Rattle.wh_script_model.specs.Following.{SomeCallIsOpen}
+use Rattle.wh_script.specs.Reports.{ReportsIfAsked}
 use Rattle.wh_script.specs.Speaking.{Speaks}
 
 -- ---- lines
@@ -43,16 +45,34 @@ Sent old new (Ok _) text = Appends old new text
 Sent old new (Err Output) text = AppendsFront old new text
 Sent old new (Err fault) text = ⊥
 
+-- The text is made of those of the lines, one behind the other, the first line having this number. Each says what the
+-- line gets; and that of a line that asks for a report ends in one.
+abbrev pub LinesSay : Settings → Files → Made → ℕ → List (List ℕ) → List ℕ → Made → Type 0
+LinesSay settings files w number [] text w2 = (text ≡ []) × (w2 ≡ w)
+LinesSay settings files w number (line ∷ lines) text w2 =
+    (here : List Reply) × (now later : List ℕ) × (between : Made) × (text ≡ now ++ later)
+    × AnswersLine true settings files w number line here between × Speaks settings here now
+    × ReportsIfAsked settings number line between here now
+    × LinesSay settings files between (number + 1) lines later w2
+
 -- the text answers the whole script
 abbrev pub IsWhole : Settings → Files → List (List ℕ) → List ℕ → Type 0
 IsWhole settings files lines text =
-    (replies : List Reply) × AnswersScript true settings files lines replies × Speaks replies text
+    (replies : List Reply) × AnswersScript true settings files lines replies × Speaks settings replies text
+    × ((front back : List ℕ) × (m : Made) × (text ≡ front ++ back)
+    × LinesSay settings files nothing_made 1 lines front m)
 
 -- or these lines, with no drain behind them
 abbrev pub IsPartial : Settings → Files → List (List ℕ) → List ℕ → Type 0
 IsPartial settings files lines text =
     (replies : List Reply) × (m : Made) × AnswersLines true settings files nothing_made 1 lines replies m
-    × Speaks replies text
+    × Speaks settings replies text × LinesSay settings files nothing_made 1 lines text m
+
+-- and behind them an instance has an open call
+abbrev pub IsPartialAtCall : Settings → Files → List (List ℕ) → List ℕ → Type 0
+IsPartialAtCall settings files lines text =
+    (replies : List Reply) × (m : Made) × AnswersLines true settings files nothing_made 1 lines replies m
+    × Speaks settings replies text × LinesSay settings files nothing_made 1 lines text m × SomeCallIsOpen m
 
 -- ---- runs
 
@@ -62,10 +82,17 @@ StopsBetween settings files script before after =
     (lines : List (List ℕ)) × (text : List ℕ) × AreFirstLines script lines × IsPartial settings files lines text
     × Appends before after text
 
+-- and an instance that these have made has an open call
+abbrev pub StopsAtCalls : Settings → Files → Option (List ℕ) → Option (List ℕ) → Option (List ℕ) → Type 0
+StopsAtCalls settings files script before after =
+    (lines : List (List ℕ)) × (text : List ℕ) × AreFirstLines script lines × IsPartialAtCall settings files lines text
+    × Appends before after text
+
 -- What a run did, from the script to what the reader has left, and from the writer's bytes before to those after, by
 -- how it ended. To the end: what answers the script was written. Where the writer failed: a beginning of what answers
--- the first lines. Where the reader failed: what answers the lines that it gave. Where memory or a thread was wanted,
--- or calls didn't run to their ends: what answers the first lines. It ends in no other way.
+-- the first lines. Where the reader failed: what answers the lines that it gave. Where memory was wanted: what answers
+-- the first lines. Where a thread was wanted, or calls didn't run to their ends: what answers the first lines, behind
+-- which a call is open. It ends in no other way.
 abbrev pub Runs : Settings → Files → Option (List ℕ) → Option (List ℕ) → Option (List ℕ) → Option (List ℕ)
     → Result Unit ScriptFault → Type 0
 Runs settings files script left before after (Ok _) =
@@ -78,6 +105,6 @@ Runs settings files script left before after (Err Script) =
     (lines : List (List ℕ)) × (text : List ℕ) × GaveLines script left lines × IsPartial settings files lines text
     × Appends before after text
 Runs settings files script left before after (Err Memory) = StopsBetween settings files script before after
-Runs settings files script left before after (Err Threads) = StopsBetween settings files script before after
-Runs settings files script left before after (Err Transcript) = StopsBetween settings files script before after
+Runs settings files script left before after (Err Threads) = StopsAtCalls settings files script before after
+Runs settings files script left before after (Err Transcript) = StopsAtCalls settings files script before after
 Runs settings files script left before after (Err fault) = ⊥

@@ -4,7 +4,7 @@ ghost use Rattle.std.specs.Prelude.{◌≡◌, ℕ, List, [], OnOk, IfErr, strin
 ghost use Rattle.wh_host_model.specs.Lines.Answers.{Files};
 ghost use Rattle.wh_host_model.specs.Lines.Commands as asked_of;
 ghost use Rattle.wh_commands.specs.Found.{Says};
-ghost use Rattle.wh_engine.specs.Draining.{DeviceMayFail, DeviceServesWell, DeviceStaysTrue, StopsRun};
+ghost use Rattle.wh_engine.specs.Draining.{DeviceMayFail, DeviceServesWell, DeviceStaysTrue, StopsOnlyOpen, StopsRun};
 ghost use Rattle.wh_engine.specs.Standing.{engine_on};
 ghost use Rattle.wh_script.specs.Answering.{Answers, AnswersCommand};
 ghost use Rattle.wh_script.specs.Coming.{IsKind};
@@ -48,6 +48,8 @@ impl<
             (S.files source.now) number line (engine_on self.old.host.host self.old.engine) []
             (engine_on self.new.host.host self.new.engine) (string_bytes self.new.text)) }
         ensures err { IfErr result StopsRun }
+        ensures open { IfErr result
+            (StopsOnlyOpen (engine_on self.old.host.host self.old.engine)) }
     {
         self.text.clear();
         match kind {
@@ -80,6 +82,8 @@ impl<
             (engine_on self.old.host.host self.old.engine) (string_bytes self.old.text)
             (engine_on self.new.host.host self.new.engine) (string_bytes self.new.text)) }
         ensures err { IfErr result StopsRun }
+        ensures open { IfErr result
+            (StopsOnlyOpen (engine_on self.old.host.host self.old.engine)) }
     {
         match command {
             Command::Invoke {
@@ -117,6 +121,8 @@ impl<
             (engine_on self.old.host.host self.old.engine) (string_bytes self.old.text)
             (engine_on self.new.host.host self.new.engine) (string_bytes self.new.text)) }
         ensures err { IfErr result StopsRun }
+        ensures open { IfErr result
+            (StopsOnlyOpen (engine_on self.old.host.host self.old.engine)) }
     {
         let Some(guest) = self.guest_named(inst) else {
             return self.complain_drained(rt, LineError::NoName, number);

@@ -9,7 +9,7 @@ ghost use Rattle.wh_commands.specs.Found.{Says, params_of};
 ghost use Rattle.wh_engine.specs.Draining.{StaysSo};
 ghost use Rattle.wh_engine.specs.Names.{number_of};
 ghost use Rattle.wh_engine.specs.Standing.{engine_on};
-ghost use Rattle.wh_script.specs.Answering.{IsNoInvoke, Obeys};
+ghost use Rattle.wh_script.specs.Answering.{AddsReport, IsNoInvoke, Obeys};
 
 use crate::files::{FileError, Source};
 use crate::session::Session;
@@ -224,6 +224,8 @@ impl<D: SwapDev, T: Ledger, C: Ledger, O: Ledger, E: Ledger, B: Ties> Session<D,
             asked_of.report (engine_on self.old.host.host self.old.engine)
             (string_bytes self.old.text) (engine_on self.new.host.host self.new.engine)
             (string_bytes self.new.text)) }
+        ensures shows { OnOk result (AddsReport (engine_on self.old.host.host self.old.engine)
+            (string_bytes self.old.text) (string_bytes self.new.text)) }
         ensures device { self.new.host.device ≡ self.old.host.device }
         ensures err { IfErr result (λ e. e ≡ ScriptFault.Memory) }
     {

@@ -32,7 +32,8 @@ use wh_swap::SwapDev;
 /// `Script` where the reader fails, after the replies to the lines that it gave; `Output` where the writer fails, after a
 /// beginning of the replies; `Memory` where there is none for the host, for threads, for a reply or for a report, or where
 /// lines can't be counted, `Threads` where a thread can't be started, and `Transcript` where calls don't run to their ends,
-/// after the replies to the first lines. Want of memory for a command is answered in its reply.
+/// after the replies to the first lines; these two only where a call is open. Want of memory for a command is answered in its
+/// reply.
 pub fn run_script<
     R: Read,
     W: Write,
@@ -51,7 +52,7 @@ pub fn run_script<
 ) -> (Result<(), ScriptFault>, Option<D>)
     requires { IsEmptyDevice settings.now.slots (D.held device) }
     // Where the device that came back has read right and no call of it failed, or none came back: what answers the script was
-    // written, and lines that begin with `#`, and nothing else; where it stopped, what answers lines before.
+    // written, and reports, and nothing else; where it stopped, what answers lines before.
     ensures runs { IfSome result.1 (λ after. HasServed (D.honest after) (D.faults device)
         (D.faults after)) → Runs (settings_of settings.now) (S.files source.now)
         (R.remaining reader.old) (R.remaining reader.new) (W.contents writer.old)

@@ -1,13 +1,13 @@
 // What a script runs on, and the text of the replies to one line.
 
-ghost use Rattle.std.specs.Prelude.{◌≡◌, ◌<◌, ◌++◌, ◌∷◌, [], IfOk, IfErr, IfSome, OnOk, MatchOption, Some, length, string_bytes};
+ghost use Rattle.std.specs.Prelude.{◌≡◌, ◌<◌, ◌≤◌, ◌++◌, ◌∷◌, [], IfOk, IfErr, IfSome, OnOk, MatchOption, Some, length, string_bytes};
 ghost use Rattle.wh_commands.specs.Causes.{cause_number};
 ghost use Rattle.wh_host_model.specs.Lines.Made.{Made, NoGuest, NoModule, nothing_made};
 ghost use Rattle.wh_host_model.specs.Lines.Settings as lines;
 ghost use Rattle.wh_host_model.specs.Lines.Texts.{error, reply_text};
 ghost use Rattle.wh_replies.specs.View.{reply_of};
 ghost use Rattle.wh_settings.specs.View.{settings_of};
-ghost use Rattle.wh_engine.specs.Draining.{DeviceMayFail, DeviceServesWell, DeviceStaysTrue, RunsEach, StaysSo, StopsRun};
+ghost use Rattle.wh_engine.specs.Draining.{DeviceMayFail, DeviceServesWell, DeviceStaysTrue, RunsEach, StaysSo, StopsOnlyOpen, StopsRun};
 ghost use Rattle.wh_engine.specs.Obeying.{IsModuleNamed, IsNamed};
 ghost use Rattle.wh_engine.specs.Standing.{StandsForScript, engine_on};
 ghost use Rattle.wh_script.specs.Answering.{HasDrained, Complains};
@@ -17,12 +17,13 @@ use std::alloc::Global;
 use std::sync::Wait;
 use std::sync::ledger::Ledger;
 use std::thread::Threads;
-use wh_cell::{Fittings, Manner, OwnedHost, Ties};
+use wh_cell::{Fittings, Ties};
 use wh_commands::LineError;
 use wh_engine::{Engine, ScriptFault};
 use wh_host::Host;
 use wh_kernels::{ConstantHash, FnvHash};
 use wh_replies::{Reply, write_reply};
+use wh_scheduler::{Manner, OwnedHost};
 use wh_settings::{HashKind, Settings, Workers};
 use wh_swap::SwapDev;
 
@@ -90,6 +91,8 @@ impl<D: SwapDev + Drop, T: Ledger, C: Ledger, O: Ledger, E: Ledger, B: Ties> Ses
         ensures stands { IfOk result (λ session. StandsForScript (settings_of settings.now)
             (engine_on session.host.host session.engine) nothing_made) }
         ensures device { IfOk result (λ session. session.host.device ≡ Some fittings.device) }
+        ensures manner { IfOk result (λ session. (session.quantum ≡ settings.now.quantum)
+            × (session.hash ≡ settings.now.hash) × (session.workers ≡ workers)) }
         ensures err { IfErr result (λ e. e ≡ ScriptFault.Memory) }
     {
         let Ok(host) = Host::new(alloc, settings.frames, settings.slots, settings.tax) else {
@@ -158,6 +161,20 @@ impl<D: SwapDev, T: Ledger, C: Ledger, O: Ledger, E: Ledger, B: Ties> Session<D,
         None
     }
 
+    // How calls are run: in turns of the session's quantum, by its workers, with this hash.
+    fn manner<H>(&self, hasher: H) -> Manner<H>
+        ensures quantum { result.quantum ≡ self.now.quantum }
+        ensures workers { result.workers ≡ self.now.workers.number }
+        ensures hasher { result.hasher ≡ hasher }
+        ensures few { result.workers ≤ 64 }
+    {
+        Manner {
+            hasher,
+            quantum: self.quantum,
+            workers: self.workers.count(),
+        }
+    }
+
     /// Puts a reply behind the text.
     ///
     /// # Errors
@@ -218,6 +235,8 @@ impl<
             (string_bytes self.old.text) (engine_on self.new.host.host self.new.engine)
             (string_bytes self.new.text)) }
         ensures err { IfErr result StopsRun }
+        ensures open { IfErr result
+            (StopsOnlyOpen (engine_on self.old.host.host self.old.engine)) }
     {
         self.begin_epoch();
         self.run(rt)?;
@@ -249,24 +268,16 @@ impl<
             (engine_on self.new.host.host self.new.engine)) }
         ensures text { self.new.text ≡ self.old.text }
         ensures err { IfErr result StopsRun }
+        ensures open { IfErr result
+            (StopsOnlyOpen (engine_on self.old.host.host self.old.engine)) }
     {
-        let quantum = self.quantum;
-        let workers = self.workers.count();
         match self.hash {
             HashKind::Fnv64 => {
-                let manner = Manner {
-                    hasher: FnvHash,
-                    quantum,
-                    workers,
-                };
+                let manner = self.manner(FnvHash);
                 self.engine.run(rt, self.alloc, &mut self.host, manner)
             }
             HashKind::Constant => {
-                let manner = Manner {
-                    hasher: ConstantHash,
-                    quantum,
-                    workers,
-                };
+                let manner = self.manner(ConstantHash);
                 self.engine.run(rt, self.alloc, &mut self.host, manner)
             }
         }
@@ -290,6 +301,8 @@ impl<
             (engine_on self.old.host.host self.old.engine) (string_bytes self.old.text)
             (engine_on self.new.host.host self.new.engine) (string_bytes self.new.text)) }
         ensures err { IfErr result StopsRun }
+        ensures open { IfErr result
+            (StopsOnlyOpen (engine_on self.old.host.host self.old.engine)) }
     {
         self.drain(rt)?;
         self.complain(cause, number)

@@ -24,6 +24,8 @@ module_came {w = w} {m = m} named loaded same known =
     record {
       frames = known.frames;
       slots = known.slots;
+      tax_num = known.tax_num;
+      tax_den = known.tax_den;
       none_out = known.none_out;
       minima = known.minima;
       spreads = known.spreads;

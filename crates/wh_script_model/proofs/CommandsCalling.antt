@@ -100,6 +100,8 @@ still_known : {settings : Settings} {w : World} {m : Made} {places : List ℕ} (
 still_known came known = record {
   frames = known.frames;
   slots = known.slots;
+  tax_num = known.tax_num;
+  tax_den = known.tax_den;
   none_out = known.none_out;
   minima = known.minima;
   spreads = known.spreads;

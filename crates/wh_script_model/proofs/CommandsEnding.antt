@@ -3,6 +3,7 @@ use Rattle.std.proofs.Common.{◌≡◌, ℕ, ◌+◌, ◌-◌, true, false, Lis
 use Rattle.std.proofs.lemmas.Option.{same_Some}
 use Rattle.wh_model.specs.Format.Syntax.{Module}
 use Rattle.wh_model.specs.Execution.Replay.{cancelled, store_at, Replay}
+use Rattle.wh_host_model.specs.declared.Tax.{Tax}
 use Rattle.wh_host_model.specs.Space.Parts.{Space, minima, spreads}
 use Rattle.wh_host_model.specs.Space.Sound.{IsSound}
 use Rattle.wh_host_model.specs.Host.Worlds.{Params, Entry, Rest, Doing, resting, has_left, computing, Tenant, World, given_of, promised, journal, journal_calls, tenant, with_tenant, standing_with, standing_in}
@@ -140,6 +141,8 @@ released_known {w = w} {m = m} {places = places} i place g t s2 known has lies l
     record {
       frames = whole.frames ∙ known.frames;
       slots = whole.slots ∙ known.slots;
+      tax_num = ap (λ (tax : Tax). tax.num) whole.tax ∙ known.tax_num;
+      tax_den = ap (λ (tax : Tax). tax.den) whole.tax ∙ known.tax_den;
       none_out = whole.none_out ∙ known.none_out;
       minima =
           let sum = sum_goes (λ p. p.min) m.guests i g has live in

@@ -6,6 +6,7 @@ use Rattle.wh_model.specs.Format.Syntax.{Module}
 use Rattle.wh_model.specs.Execution.Store.{Instance, Store}
 use Rattle.wh_model.specs.Execution.Instance.{Piece, IsInitial, memory_min, segment_bounds, begins}
 use Rattle.wh_model.specs.Execution.Replay.{pending}
+use Rattle.wh_host_model.specs.declared.Tax.{Tax}
 use Rattle.wh_host_model.specs.Space.Sound.{IsSound}
 use Rattle.wh_host_model.specs.Host.Worlds.{Params, Entry, Doing, Tenant, Loaded, World, given_of, promised, journal_calls}
 use Rattle.wh_host_model.specs.Host.Admission.{live_count, AdmitFault, no_module, shares, min_max, frames, swap, instances, memory, segments, MeetsFault, IsFirstMet, start_entry, StartsAs, writes, runs, ends, rest_of, LetsIn}
@@ -171,6 +172,8 @@ comer_known {w = w} {m = m} {places = places} k named name p place number lets s
     record {
       frames = whole.frames ∙ known.frames;
       slots = whole.slots ∙ known.slots;
+      tax_num = ap (λ (tax : Tax). tax.num) whole.tax ∙ known.tax_num;
+      tax_den = ap (λ (tax : Tax). tax.den) whole.tax ∙ known.tax_den;
       none_out = whole.none_out ∙ known.none_out;
       minima =
           least ∙ ap (λ n. n + p.min) known.minima ∙ sym (sum_last (λ q. q.min) m.guests g refl);

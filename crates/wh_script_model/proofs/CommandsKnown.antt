@@ -3,6 +3,7 @@ use Rattle.std.proofs.Common.{◌≡◌, ◌≢◌, ℕ, ◌+◌, ◌-◌, Bool,
 use Rattle.std.specs.List.{AllZip}
 use Rattle.std.proofs.lemmas.Option.{none-some, same_Some}
 use Rattle.wh_model.specs.Execution.Replay.{Outcome, returned, stopped, cancelled, dead, pending, Call}
+use Rattle.wh_host_model.specs.declared.Tax.{Tax}
 use Rattle.wh_host_model.specs.declared.plain.SwapError.{SwapError}
 use Rattle.wh_host_model.specs.Space.Parts.{Space, minima, spreads}
 use Rattle.wh_host_model.specs.Space.Sound.{IsSound}
@@ -222,6 +223,8 @@ changed {w = w} {m = m} {places = places} i place g g2 t2 s2 known has lies whol
     record {
       frames = whole.frames ∙ known.frames;
       slots = whole.slots ∙ known.slots;
+      tax_num = ap (λ (tax : Tax). tax.num) whole.tax ∙ known.tax_num;
+      tax_den = ap (λ (tax : Tax). tax.den) whole.tax ∙ known.tax_den;
       none_out = whole.none_out ∙ known.none_out;
       minima = least ∙ known.minima ∙ sym (sum_set (λ p. p.min) m.guests i g g2 has new.params new.gone);
       spreads = most ∙ known.spreads

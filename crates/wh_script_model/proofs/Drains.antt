@@ -2,6 +2,7 @@
 use Rattle.std.proofs.Common.{◌≡◌, ℕ, suc, ◌+◌, ◌-◌, ◌⊎◌, ⊎_elim, inl, inr, Bool, true, false, List, [], ◌∷◌, Option, Some, None, get_or, refl, sym, ap, subst, ◌∙◌}
 use Rattle.std.specs.List.{AllZip}
 use Rattle.wh_model.specs.Execution.Replay.{Outcome, cancelled, Call}
+use Rattle.wh_host_model.specs.declared.Tax.{Tax}
 use Rattle.wh_host_model.specs.Space.Parts.{Space, minima, spreads}
 use Rattle.wh_host_model.specs.Host.Worlds.{Params, Tenant, World, journal, journal_calls}
 use Rattle.wh_host_model.specs.Lines.Settings.{Settings}
@@ -35,6 +36,8 @@ pub drains_begin : DrainsBegin
 drains_begin settings w m places h = record {
   frames = h.frames;
   slots = h.slots;
+  tax_num = h.tax_num;
+  tax_den = h.tax_den;
   none_out = h.none_out;
   minima = h.minima;
   spreads = h.spreads;
@@ -70,6 +73,8 @@ moved_so come settings w s2 m places whole sums h =
     record {
       frames = whole.frames ∙ h.frames;
       slots = whole.slots ∙ h.slots;
+      tax_num = ap (λ (tax : Tax). tax.num) whole.tax ∙ h.tax_num;
+      tax_den = ap (λ (tax : Tax). tax.den) whole.tax ∙ h.tax_den;
       none_out = whole.none_out ∙ h.none_out;
       minima = sums.0 ∙ h.minima;
       spreads = sums.1 ∙ h.spreads;
@@ -148,6 +153,8 @@ saying_follows settings w m places lines said invoked h says =
     record {
       frames = h.frames;
       slots = h.slots;
+      tax_num = h.tax_num;
+      tax_den = h.tax_den;
       none_out = h.none_out;
       minima = h.minima ∙ sym (same_live_sum (λ p. p.min) m.guests said each.1);
       spreads = h.spreads ∙ sym (same_live_sum (λ p. (p.max - p.min) + 1) m.guests said each.1);
@@ -240,6 +247,8 @@ drains_end frames slots tax events w happens settings m places h served =
       record {
         frames = h.frames;
         slots = h.slots;
+        tax_num = h.tax_num;
+        tax_den = h.tax_den;
         none_out = h.none_out;
         minima = h.minima ∙ sym (same_live_sum (λ p. p.min) m.guests run have.same);
         spreads = h.spreads ∙ sym (same_live_sum (λ p. (p.max - p.min) + 1) m.guests run have.same);

@@ -11,3 +11,5 @@ pub mod CommandsCalling
 pub mod CommandsGuests
 pub mod Said
 pub mod SaidObeyed
+pub mod Scarce
+pub mod Opening

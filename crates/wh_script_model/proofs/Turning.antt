@@ -5,6 +5,7 @@ use Rattle.wh_model.specs.declared.memory.Need.{Need}
 use Rattle.wh_model.specs.Format.Syntax.{Module}
 use Rattle.wh_model.specs.Execution.Store.{Instance}
 use Rattle.wh_model.specs.Execution.Replay.{Outcome, cancelled, dead, Call}
+use Rattle.wh_host_model.specs.declared.Tax.{Tax}
 use Rattle.wh_host_model.specs.declared.plain.InstId.{InstId}
 use Rattle.wh_host_model.specs.declared.plain.SwapError.{SwapError}
 use Rattle.wh_host_model.specs.declared.plain.TurnEnd.{TurnEnd}
@@ -267,6 +268,8 @@ turns_follow frames slots tax events w happens settings m places id q answer w2 
     record {
       frames = whole.frames ∙ h.frames;
       slots = whole.slots ∙ h.slots;
+      tax_num = ap (λ (tax : Tax). tax.num) whole.tax ∙ h.tax_num;
+      tax_den = ap (λ (tax : Tax). tax.den) whole.tax ∙ h.tax_den;
       none_out = whole.none_out ∙ h.none_out;
       minima = sums.0 ∙ h.minima;
       spreads = sums.1 ∙ h.spreads;

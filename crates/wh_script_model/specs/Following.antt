@@ -1,5 +1,5 @@
 -- What a script knows of the host that runs its calls.
-use Rattle.std.specs.Prelude.{◌≡◌, ◌≢◌, ℕ, ◌+◌, ◌-◌, true, List, length, Option, Some, None}
+use Rattle.std.specs.Prelude.{◌≡◌, ◌≢◌, ℕ, ◌+◌, ◌-◌, true, false, List, length, slice_get, Option, Some, None}
 use Rattle.std.specs.List.{AllZip}
 use Rattle.wh_model.specs.Execution.Replay.{Call}
 use Rattle.wh_host_model.specs.declared.plain.SwapError.{SwapError}
@@ -7,7 +7,7 @@ use Rattle.wh_host_model.specs.Space.Errands.{tickets}
 use Rattle.wh_host_model.specs.Space.Parts.{Space, minima, spreads}
 use Rattle.wh_host_model.specs.Host.Worlds.{for_device, Tenant, Loaded, World, journal, journal_calls}
 use Rattle.wh_host_model.specs.Lines.Settings.{Settings}
-use Rattle.wh_host_model.specs.Lines.Made.{NamedModule, Guest, Made, live_sum}
+use Rattle.wh_host_model.specs.Lines.Made.{NamedModule, Guest, Made, live_sum, first_open}
 use Rattle.wh_host_model.specs.Lines.Drains.{ComesTo}
 use Rattle.wh_host_model.specs.Lines.Served.{IsTenantOf}
 
@@ -31,11 +31,14 @@ IsPlaced place None = Unit {0}
 IsPlaced place (Some t) = t.place ≡ place
 
 -- The host has the modules of the script and its instances, each by its number, at these places; it has as many frames
--- and slots as the settings say, and promised what the instances were given; and no page is on its way.
+-- and slots as the settings say, and their tax on idle pages, and promised what the instances were given; and no page is
+-- on its way.
 pub record FollowsScript (come : List Call → List Call → Type 0) (settings : Settings) (w : World) (m : Made)
     (places : List ℕ) : Type 0 where
   pub frames : length w.space.pool.frames ≡ settings.frames
   pub slots : length w.space.slots.uses ≡ settings.slots
+  pub tax_num : w.space.tax.num ≡ settings.num
+  pub tax_den : w.space.tax.den ≡ settings.den
   pub none_out : tickets w.space ≡ 0
   pub minima : minima w.space ≡ live_sum (λ p. p.min) m.guests
   pub spreads : spreads w.space ≡ live_sum (λ p. (p.max - p.min) + 1) m.guests
@@ -51,8 +54,15 @@ Knows = FollowsScript AreSame
 abbrev pub RunsKnown : Settings → World → Made → List ℕ → Type 0
 RunsKnown = FollowsScript ComeFurther
 
--- no page begins or ends its way, and there are as many frames and slots as before
+-- no page begins or ends its way, there are as many frames and slots as before, and the tax is what it was
 pub record StaysWhole (s s2 : Space) : Type 0 where
   pub frames : length s2.pool.frames ≡ length s.pool.frames
   pub slots : length s2.slots.uses ≡ length s.slots.uses
+  pub tax : s2.tax ≡ s.tax
   pub none_out : tickets s2 ≡ tickets s
+
+-- an instance that isn't released has an open call
+abbrev pub SomeCallIsOpen : Made → Type 0
+SomeCallIsOpen m =
+    (i : ℕ) × (g : Guest) × (c : Call) × (slice_get m.guests i ≡ Some g) × (g.is_released ≡ false)
+    × (first_open g.calls ≡ Some c)

@@ -1,5 +1,5 @@
 -- How what a script has made follows what happens on the host.
-use Rattle.std.specs.Prelude.{◌≡◌, ℕ, Bool, true, List, [], ◌∷◌, ◌++◌, slice_get, Option, Some, None, ℤ}
+use Rattle.std.specs.Prelude.{◌≡◌, ◌≢◌, ℕ, Bool, true, false, List, [], ◌∷◌, ◌++◌, slice_get, Option, Some, None, ℤ}
 use Rattle.std.specs.List.{AllZip}
 use Rattle.wh_host_model.specs.declared.plain.InstId.{InstId}
 use Rattle.wh_host_model.specs.declared.plain.TurnEnd.{TurnEnd}
@@ -13,9 +13,10 @@ use Rattle.wh_host_model.specs.Lines.Made.{NamedModule, Guest, Invoked, Made, no
 use Rattle.wh_host_model.specs.Lines.Drains.{RunsAlone, SayStarts, SayCalls}
 use Rattle.wh_host_model.specs.Lines.Served.{IsServed}
 use Rattle.wh_host_model.specs.Lines.Receiving.{ReceivesModule, ReceivesGuest, ReceivesCall}
-use Rattle.wh_host_model.specs.Lines.Answers.{Files, IsObeyed}
-use Rattle.wh_script_model.specs.Following.{Knows, RunsKnown, StaysWhole}
+use Rattle.wh_host_model.specs.Lines.Answers.{Files, IsObeyed, AnswersScript}
+use Rattle.wh_script_model.specs.Following.{SomeCallIsOpen, Knows, RunsKnown, StaysWhole}
 use Rattle.wh_script_model.specs.Said.{AllAreSaid, IsWellMade}
+use Rattle.wh_script_model.specs.Scarce.{NameNoWant}
 use Rattle.wh_script_model.specs.Replies.{SaysModule, admit_reply, reception, refuel_reply, cancel_reply, retry_reply, release_reply}
 
 -- ---- commands
@@ -124,6 +125,12 @@ DrainsEnd =
     → (run : List Guest) × AllZip RunsAlone m.guests run
     × Knows settings w (record m { guests = run }) places)
 
+-- and where somebody has an open call, the script knows one
+abbrev pub OpenIsKnown : Type 0
+OpenIsKnown =
+    AfterEvents (λ w. (settings : Settings) (m : Made) (places : List ℕ) (i : ℕ) (t : Tenant)
+    → Knows settings w m places → tenant w i ≡ Some t → t.open_calls ≢ [] → SomeCallIsOpen m)
+
 -- to say how calls are changes nothing of that
 abbrev pub SayingFollows : Type 0
 SayingFollows =
@@ -163,3 +170,12 @@ ObeysWell =
     (scarce : Bool) (settings : Settings) (files : Files) (m m2 : Made) (number : ℕ) (command : Command)
     (replies : List Reply) → IsObeyed scarce settings files m number command replies m2
     → IsWellMade m → AllAreSaid m → IsWellMade m2
+
+-- ---- want of memory
+
+-- the answers to a script in which no reply names want of memory are those that it gets where memory isn't scarce
+abbrev pub WantsAreNamed : Type 0
+WantsAreNamed =
+    (settings : Settings) (files : Files) (lines : List (List ℕ)) (replies : List Reply)
+    → AnswersScript true settings files lines replies → NameNoWant replies
+    → AnswersScript false settings files lines replies

@@ -1,4 +1,5 @@
 pub mod Following
 pub mod Replies
 pub mod Said
+pub mod Scarce
 pub mod Laws

@@ -19,6 +19,7 @@ use Rattle.wh_host_model.proofs.Space.Filled.{stores_are_right, stores_soundly}
 use Rattle.wh_host_model.proofs.Space.Quiet.{grew_own, steps_quiet}
 use Rattle.wh_host_model.proofs.Space.Steady.{touches_soundly}
 use Rattle.wh_space.specs.Steps.{LeavesGrowth, LeavesLoad, LeavesStore}
+use Rattle.wh_space.specs.Stepping.{takes_none, loads_first, stores_first, grows_first}
 use Rattle.wh_space.specs.Views.{KeepsRest, keeps_all}
 
 -- ---- nothing is done
@@ -41,6 +42,7 @@ keeps_load s i at n Value s2 is = record {
   frames = ap (λ (a : Space). length a.pool.frames) is;
   tax = ap (λ (a : Space). a.tax) is;
   sound = λ sound. touches_soundly s i at n s2 sound is;
+  steps = loads_first at n is takes_none;
 }
 keeps_load s i at n Trap s2 is = keeps_nothing i s s2 is
 keeps_load s i at n (NotReady need) s2 is = keeps_nothing i s s2 is
@@ -86,6 +88,7 @@ keeps_over s i at given s2 sound over =
       frames = right.frames;
       tax = right.tax;
       sound = λ also. stores_soundly s i at given s2 sound over;
+      steps = stores_first at given over takes_none;
     }
 
 pub keeps_store : (s : Space) (i at : ℕ) (given : List ℕ) (got : Got) (s2 : Space) → IsSound s → LeavesStore s i at given got s2 → KeepsRest i s s2
@@ -110,6 +113,7 @@ keeps_growth s i n (Done pages) s2 sound is = record {
   frames = ap (λ (a : Space). length a.pool.frames) is;
   tax = ap (λ (a : Space). a.tax) is;
   sound = λ also. sound;
+  steps = grows_first n is takes_none;
 }
 keeps_growth s i n Refused s2 sound is = keeps_nothing i s s2 is
 

@@ -10,6 +10,7 @@ pub mod Pages
 pub mod Parts
 pub mod Pinning
 pub mod Slotting
+pub mod Stepping
 pub mod Steps
 pub mod Transits
 pub mod Views

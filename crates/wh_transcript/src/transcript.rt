@@ -2,7 +2,6 @@
 
 ghost use Rattle.std.specs.Prelude.{◌≡◌};
 ghost use Rattle.wh_admit.specs.Views.{view_params};
-ghost use Rattle.wh_transcript.specs.Transcripts.{IsReplayable};
 
 use std::marker::Model;
 use std::sync::Arc;
@@ -12,10 +11,6 @@ use wh_journal::JournalCall;
 
 /// An instance of a host as it was when it was asked for: the bytes of its module, what its owner gave it, its calls in
 /// the order of their coming, the first of which is its start, and for what the first open one stands.
-///
-/// Its type keeps that the bytes spell a module that is accepted, and that these calls, with this fuel, these charges and
-/// these ends, are those of an instance of it which was given that; and that the first open call stands rightly for what
-/// it stands.
 #[derive(Drop)]
 pub struct Transcript {
     bytes: Arc<Vec<u8>>,
@@ -26,7 +21,7 @@ pub struct Transcript {
 
 impl Model for Transcript {
     ghost use Rattle.wh_admit.specs.Views.{view_params as params_of};
-    ghost use Rattle.wh_transcript.specs.Transcripts.{TranscriptState, IsReplayable as CanBeReplayed};
+    ghost use Rattle.wh_transcript.specs.Transcripts.{TranscriptState};
 
     ghost Value = { TranscriptState };
 
@@ -40,13 +35,6 @@ impl Model for Transcript {
       calls = t.calls.items;
       stands_for = t.stands_for;
     } };
-
-    ghost invariant = { λ t. CanBeReplayed (record {
-      bytes = t.bytes.value.items;
-      params = params_of t.params;
-      calls = t.calls.items;
-      stands_for = t.stands_for;
-    }) };
 }
 
 impl Transcript {
@@ -57,12 +45,6 @@ impl Transcript {
         calls: Vec<JournalCall>,
         stands_for: Option<Suspension>,
     ) -> Transcript
-        requires { IsReplayable (record {
-          bytes = bytes.value.items;
-          params = view_params params;
-          calls = calls.items;
-          stands_for = stands_for;
-        }) }
         ensures { result ≡ record {
           bytes = bytes.value.items;
           params = view_params params;
@@ -76,13 +58,6 @@ impl Transcript {
             calls,
             stands_for,
         }
-    }
-
-    /// What always holds of a transcript. It does nothing.
-    pub fn known(&self)
-        ensures { IsReplayable self.now }
-    {
-        let _ = &self.stands_for;
     }
 
     /// The bytes of its module.

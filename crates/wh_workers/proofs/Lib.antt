@@ -1,7 +1,2 @@
-mod Agreeing
-mod Grown
-mod Handing
 mod Places
-mod Runs
-mod Tallies
-mod Views
+mod Turns

@@ -1,6 +1,2 @@
-pub mod Agreement
-pub mod Counting
 pub mod EachAt
-pub mod Handover
-pub mod Lending
-pub mod Working
+pub mod Serving

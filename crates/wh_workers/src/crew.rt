@@ -1,22 +1,23 @@
 // Workers that run turns: started, fed, and joined.
 
-ghost use Rattle.std.specs.Prelude.{◌≡◌, ℕ, ◌+◌, ◌<◌, ◌≤◌, [], IfOk, IfErr, Some, slice_get, vec_len, vec_capacity};
+ghost use Rattle.std.specs.Prelude.{◌≡◌, ℕ, ◌+◌, ◌<◌, ◌≤◌, [], IfOk, IfErr, OnErr, OnOk, Some, slice_get, vec_len, vec_capacity};
 ghost use Rattle.crossbeam_channel.specs.Claims.{view, IsSeatAt};
 ghost use Rattle.crossbeam_channel.specs.Ends.{sends_on, receives_on};
-ghost use Rattle.wh_workers.specs.Counting.{LenderState, turns_of};
+ghost use Rattle.wh_threads.specs.Counting.{LenderState, turns_of};
 ghost use Rattle.wh_workers.specs.EachAt.{EachAt};
-ghost use Rattle.wh_workers.specs.Handover.{TakesBack, HandsOut, AreNumbered, SameMessages, turns_in, traffic, all_parts};
-ghost use Rattle.wh_workers.specs.Working.{HasWorked};
+ghost use Rattle.wh_threads.specs.Handover.{TakesBack, HandsOut, SameMessages, turns_in, traffic, all_parts};
+ghost use Rattle.wh_workers.specs.Serving.{AreRun, AreTurns};
+ghost use Rattle.wh_threads.specs.Working.{HasWorked};
 
-use crate::channel::{Inlet, Outlet, Slip, left_over, open_channel, pass_for};
-use crate::feed::{Supply, feed, stop};
-use crate::lender::Lender;
-use crate::start::{Equipment, start_worker};
-use crate::work::{Reply, Turns, Works};
+use crate::feed::{Supply, feed};
 use std::alloc::{AllocError, Global};
 use std::sync::Wait;
 use std::sync::ledger::Ledger;
 use std::thread::{PromisedHandle, Threads};
+use wh_threads::{
+    Equipment, Inlet, Lender, Outlet, Reply, Slip, Turns, Works, left_over, open_channel, pass_for,
+    start_worker, stop,
+};
 
 // How many messages the channel holds: room for all last signs.
 const CAPACITY: usize = 128;
@@ -30,13 +31,15 @@ pub enum ServeError {
     NoThread,
 }
 
-/// Turns that were run.
+/// Turns that were handed out and run.
 #[derive(Drop)]
 pub struct Served {
-    /// How many.
+    /// How many were handed out.
     pub turns: u64,
     /// What was handed out and received.
     pub slip: Slip,
+    /// Whether all of it was done: each turn that was handed out was run.
+    pub end: Result<(), ServeError>,
 }
 
 // What all workers of a call have of.
@@ -78,7 +81,7 @@ fn take_refused<T: Ledger, C: Ledger, O: Ledger, E: Ledger, R: Wait>(
     ensures same { lender.new ≡ record lender.old { workers_out = lender.new.workers_out } }
     ensures turns { turns_in (view slip.new).received ≡ turns_in (view slip.old).received }
 {
-    if !reply.worker.is_idle() {
+    if !reply.is_idle() {
         for _ in rt.forever() {}
         unreachable!()
     }
@@ -86,6 +89,7 @@ fn take_refused<T: Ledger, C: Ledger, O: Ledger, E: Ledger, R: Wait>(
 }
 
 // Starts the workers. Where one can't be started all others have their last signs.
+#[tactic(auto, using(crate::proofs::Turns::turns_none))]
 fn start_all<
     T: Ledger + Send + 'static,
     C: Ledger + Send + 'static,
@@ -113,7 +117,7 @@ fn start_all<
     ensures parts { ((view slip.new).parts + vec_len result.0 ≡ all_parts)
         × (vec_len result.0 ≤ 64) }
     ensures fresh { IfOk result.1 (λ _. (view slip.new).sent ≡ []) }
-    ensures none { AreNumbered (view slip.new).sent × (turns_in (view slip.new).sent ≡ 0)
+    ensures none { ((q : ℕ) → AreTurns 0 q (view slip.new).sent)
         × (turns_in (view slip.new).received ≡ 0) }
     ensures running { EachAt result.0.items (λ i h.
         (slice_get lender.new.tallies i ≡ Some h.promise.from)
@@ -173,25 +177,29 @@ fn join_all<T: Ledger, C: Ledger, O: Ledger, E: Ledger, R: Threads>(
     }
 }
 
-// Hands out all turns, and then the last signs. It gives how many turns.
+// Hands out all turns, of so many charges each, and then the last signs. It gives how many turns.
+#[tactic(auto, using(crate::proofs::Turns::handed_with_last))]
 fn hand_out_all<S: Supply, R: Wait>(
     rt: &R,
     supply: &mut S,
     outlet: &Outlet,
     slip: &mut Slip,
     workers: usize,
+    quantum: u32,
 ) -> u64
     requires channel { IsSeatAt (sends_on outlet.now) slip.old }
     requires fresh { ((view slip.old).sent ≡ []) × (0 < (view slip.old).parts) }
     ensures channel { IsSeatAt (sends_on outlet.now) slip.new }
-    ensures out { HandsOut (view slip.old) result (view slip.new) }
+    ensures out { HandsOut (view slip.old) result quantum (view slip.new) }
 {
-    let turns = feed(rt, supply, outlet, slip);
+    let turns = feed(rt, supply, outlet, slip, quantum);
     stop(rt, outlet, slip, workers);
     turns
 }
 
-// Starts the workers, hands out all turns, and joins the workers.
+// Starts the workers, hands out all turns, and joins the workers. It gives how many turns, and whether all workers were
+// started.
+#[tactic(auto, using(crate::proofs::Turns::turns_handed, crate::proofs::Turns::turns_none_still))]
 fn run_crew<
     T: Ledger + Send + 'static,
     C: Ledger + Send + 'static,
@@ -208,38 +216,40 @@ fn run_crew<
     lender: &mut Lender<T, C, O, E>,
     slip: &mut Slip,
     workers: usize,
-) -> Result<u64, ServeError>
+    quantum: u32,
+) -> (u64, Result<(), ServeError>)
     requires channel { IsSeatAt (sends_on team.now.outlet) slip.old }
     requires fresh { view slip.old ≡ traffic all_parts [] [] }
     requires few { workers ≤ 64 }
     requires lender { lender.old.workers_out ≡ 0 }
     ensures channel { IsSeatAt (sends_on team.now.outlet) slip.new }
     ensures whole { (view slip.new).parts ≡ all_parts }
-    ensures numbered { AreNumbered (view slip.new).sent }
-    ensures turns { IfOk result (λ n. turns_in (view slip.new).sent ≡ n) }
+    ensures handed { AreTurns result.0 quantum (view slip.new).sent }
     ensures grown { turns_of lender.new.tallies
         ≡ turns_of lender.old.tallies + turns_in (view slip.new).received }
     ensures only { lender.new ≡ record lender.old { tallies = lender.new.tallies } }
 {
     let Ok(running) = Vec::with_capacity(alloc, workers) else {
-        return Err(ServeError::Memory);
+        return (0, Err(ServeError::Memory));
     };
     let (running, started) = start_all(rt, team, lender, slip, workers, running);
-    let end = match started {
-        Ok(()) => Ok(hand_out_all(&rt, supply, &team.outlet, slip, workers)),
-        Err(error) => Err(error),
+    let turns = match started {
+        Ok(()) => hand_out_all(&rt, supply, &team.outlet, slip, workers, quantum),
+        Err(_) => 0,
     };
     join_all(&rt, &team.outlet, lender, slip, running);
-    end
+    (turns, started)
 }
 
-/// Runs all turns that come, by so many workers, each in a thread of its own. The calling thread hands them out.
+/// Runs all turns that come, of so many charges each, by so many workers, each in a thread of its own. The calling thread
+/// hands them out.
 ///
-/// With Ok each turn that was handed out was received once, and the workers' counts have grown by so many. All parts
-/// are back, whatever it answers.
+/// Turns are numbered in the order in which they are handed out; the workers' counts grow by those that they received. Where
+/// it ends well each turn that was handed out was received once. All parts are back, whatever it answers.
 ///
 /// # Errors
-/// `Memory` and `NoThread` where no worker ran a turn; `NoThread` too where a turn was left that no worker received.
+/// `Memory` where room for the channel was refused: nothing is done then. `Served::end` says `Memory` or `NoThread` where
+/// not all workers could be started: none ran a turn then; and `NoThread` where a turn was left that no worker received.
 pub fn serve_turns<
     T: Ledger + Send + 'static,
     C: Ledger + Send + 'static,
@@ -255,15 +265,19 @@ pub fn serve_turns<
     supply: &mut S,
     lender: &mut Lender<T, C, O, E>,
     workers: usize,
+    quantum: u32,
 ) -> Result<Served, ServeError>
+    requires some { 0 < workers }
     requires few { workers ≤ 64 }
     requires whole { lender.old.workers_out ≡ 0 }
-    ensures numbered { IfOk result (λ s. AreNumbered (view s.slip).sent) }
-    ensures once { IfOk result (λ s. SameMessages (view s.slip).sent (view s.slip).received) }
-    ensures turns { IfOk result (λ s. turns_in (view s.slip).received ≡ s.turns) }
-    ensures grown { IfOk result (λ s. turns_of lender.new.tallies
-        ≡ turns_of lender.old.tallies + s.turns) }
-    ensures kept { turns_of lender.old.tallies ≤ turns_of lender.new.tallies }
+    ensures handed { IfOk result (λ s. AreTurns s.turns quantum (view s.slip).sent) }
+    ensures grown { IfOk result (λ s. AreRun (turns_of lender.old.tallies) (view s.slip).received
+        (turns_of lender.new.tallies)) }
+    ensures once { IfOk result (λ s. OnOk s.end
+        (SameMessages (view s.slip).sent (view s.slip).received)) }
+    ensures turns { IfOk result (λ s. OnOk s.end
+        (turns_of lender.new.tallies ≡ turns_of lender.old.tallies + s.turns)) }
+    ensures err { OnErr result (lender.new ≡ lender.old) }
     ensures only { lender.new ≡ record lender.old { tallies = lender.new.tallies } }
 {
     let Ok((outlet, inlet, first)) = open_channel(alloc, CAPACITY) else {
@@ -271,12 +285,12 @@ pub fn serve_turns<
     };
     let mut slip = first;
     let team = Team { job, inlet, outlet };
-    let end = run_crew(rt, alloc, &team, supply, lender, &mut slip, workers);
-    match left_over(&rt, &team.inlet, &mut slip) {
-        None => {
-            let turns = end?;
-            Ok(Served { turns, slip })
-        }
+    let (turns, started) = run_crew(
+        rt, alloc, &team, supply, lender, &mut slip, workers, quantum,
+    );
+    let end = match left_over(&rt, &team.inlet, &mut slip) {
+        None => started,
         Some(_) => Err(ServeError::NoThread),
-    }
+    };
+    Ok(Served { turns, slip, end })
 }

@@ -4,11 +4,11 @@ ghost use Rattle.std.specs.Prelude.{◌≡◌, ◌+◌, ◌<◌, ◌∷◌, ◌+
 ghost use Rattle.std.specs.Bool.{MatchBool};
 ghost use Rattle.crossbeam_channel.specs.Claims.{view, IsSeatAt};
 ghost use Rattle.crossbeam_channel.specs.Ends.{sends_on};
-ghost use Rattle.wh_workers.specs.Handover.{HandsOut, HandsOutLast};
+ghost use Rattle.wh_threads.specs.Handover.{HandsOut};
 
-use crate::channel::{Message, Outlet, Slip, hand_out};
 use std::sync::Wait;
 use wh_host_model::InstId;
+use wh_threads::{Message, Outlet, Slip, hand_out};
 
 /// Which turns are handed out.
 pub trait Supply {
@@ -16,12 +16,18 @@ pub trait Supply {
     fn next<R: Wait>(&mut self, rt: &R) -> Option<InstId>;
 }
 
-// Hands out turns as they come, until no further one comes, or no worker is left. It gives how many.
-pub fn feed<S: Supply, R: Wait>(rt: &R, supply: &mut S, outlet: &Outlet, slip: &mut Slip) -> u64
+// Hands out turns of so many charges as they come, until no further one comes, or no worker is left. It gives how many.
+pub fn feed<S: Supply, R: Wait>(
+    rt: &R,
+    supply: &mut S,
+    outlet: &Outlet,
+    slip: &mut Slip,
+    quantum: u32,
+) -> u64
     requires channel { IsSeatAt (sends_on outlet.now) slip.old }
     requires fresh { ((view slip.old).sent ≡ []) × (0 < (view slip.old).parts) }
     ensures channel { IsSeatAt (sends_on outlet.now) slip.new }
-    ensures out { HandsOut (view slip.old) result (view slip.new) }
+    ensures out { HandsOut (view slip.old) result quantum (view slip.new) }
 {
     let mut count = 0;
     for _ in rt.forever() {
@@ -34,6 +40,7 @@ pub fn feed<S: Supply, R: Wait>(rt: &R, supply: &mut S, outlet: &Outlet, slip: &
         let message = Message::Turn {
             number: count,
             instance,
+            quantum,
         };
         if !hand_out(rt, outlet, slip, message) {
             return count;
@@ -41,18 +48,4 @@ pub fn feed<S: Supply, R: Wait>(rt: &R, supply: &mut S, outlet: &Outlet, slip: &
         count += 1;
     }
     unreachable!()
-}
-
-// Hands out last signs, one for each of so many workers.
-pub fn stop<R: Wait>(rt: &R, outlet: &Outlet, slip: &mut Slip, workers: usize)
-    requires channel { IsSeatAt (sends_on outlet.now) slip.old }
-    requires part { 0 < (view slip.old).parts }
-    ensures channel { IsSeatAt (sends_on outlet.now) slip.new }
-    ensures last { HandsOutLast (view slip.old) (view slip.new) }
-{
-    for _ in 0..workers {
-        if !hand_out(rt, outlet, slip, Message::Last) {
-            return;
-        }
-    }
 }

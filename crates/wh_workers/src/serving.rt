@@ -1,29 +1,26 @@
 // A call of `serve`: workers, and beside them a scanner and a reclaimer.
 
-ghost use Rattle.std.specs.Prelude.{◌≡◌, ◌+◌, ◌/◌, ◌≤◌, IfOk, OnOk, OnErr};
+ghost use Rattle.std.specs.Prelude.{◌≡◌, ◌+◌, ◌/◌, ◌<◌, ◌≤◌, IfOk, OnOk, OnErr};
 ghost use Rattle.crossbeam_channel.specs.Claims.{view};
-ghost use Rattle.wh_workers.specs.Counting.{LenderState, turns_of};
-ghost use Rattle.wh_workers.specs.Handover.{AreNumbered, SameMessages, turns_in};
+ghost use Rattle.wh_threads.specs.Counting.{LenderState, turns_of};
+ghost use Rattle.wh_threads.specs.Handover.{SameMessages};
+ghost use Rattle.wh_workers.specs.Serving.{AreRun, AreTurns};
 
 use crate::crew::{ServeError, Served, serve_turns};
 use crate::feed::Supply;
-use crate::help::{Help, Helps, start_helper};
-use crate::helper::Helper;
-use crate::lender::Lender;
-use crate::shares::Shares;
-use crate::work::Turns;
 use std::alloc::{AllocError, Global};
 use std::sync::atomic::{AtomicU64, Ordering};
 use std::sync::ledger::Ledger;
 use std::sync::{Arc, Wait};
 use std::thread::{PromisedHandle, Threads};
+use wh_threads::{Help, Helped, Helps, Lender, Shares, Turns, start_helper};
 
 // For how many turns a page is to be offered.
 const TURNS_FOR_AN_OFFER: u64 = 64;
 
 // A helper that was started, and the flag that tells it to stop.
 struct Started<K: Ledger> {
-    handle: PromisedHandle<Helper<K>, Helps>,
+    handle: PromisedHandle<Helped<K>, Helps>,
     flag: Arc<AtomicU64, Global>,
 }
 
@@ -44,11 +41,11 @@ fn means_of<K: Ledger, H: Help<K> + Drop>(alloc: Global, job: &H) -> Result<Mean
 
 // A helper that found no thread was told to stop before it began. One that did something all the same is never met,
 // and never taken.
-fn idle_helper<K: Ledger, R: Wait>(rt: &R, helper: Helper<K>) -> Helper<K>
+fn idle_helper<K: Ledger, R: Wait>(rt: &R, helper: Helped<K>) -> Helped<K>
     ensures same { result ≡ helper }
     ensures idle { result.count ≡ result.from }
 {
-    if helper.count() != helper.from() {
+    if !helper.is_idle() {
         for _ in rt.forever() {}
         unreachable!()
     }
@@ -152,6 +149,15 @@ fn join_reclaimer<T: Ledger, C: Ledger, O: Ledger, E: Ledger, P: Help<E>, R: Thr
     lender.join_reclaimer(rt, handle);
 }
 
+/// Who runs the turns of a call of `serve`.
+#[derive(Clone, Copy, Debug, PartialEq, Eq)]
+pub struct Crew {
+    /// How many workers there are, 1 to 64.
+    pub workers: usize,
+    /// How many charges a turn has at most.
+    pub quantum: u32,
+}
+
 /// What the threads of a call of `serve` do.
 #[derive(Drop)]
 pub struct Jobs<J, H, P> {
@@ -180,16 +186,18 @@ fn turns_beside_scanner<
     supply: &mut S,
     scans: &H,
     lender: &mut Lender<T, C, O, E>,
-    workers: usize,
+    manner: Crew,
 ) -> Result<Served, ServeError>
-    requires few { workers ≤ 64 }
+    requires crew { (0 < manner.workers) × (manner.workers ≤ 64) }
     requires whole { (lender.old.workers_out ≡ 0) × (lender.old.scanners_out ≡ 0) }
-    ensures numbered { IfOk result (λ s. AreNumbered (view s.slip).sent) }
-    ensures once { IfOk result (λ s. SameMessages (view s.slip).sent (view s.slip).received) }
-    ensures turns { IfOk result (λ s. turns_in (view s.slip).received ≡ s.turns) }
-    ensures grown { IfOk result (λ s. turns_of lender.new.tallies
-        ≡ turns_of lender.old.tallies + s.turns) }
-    ensures kept { turns_of lender.old.tallies ≤ turns_of lender.new.tallies }
+    ensures handed { IfOk result (λ s. AreTurns s.turns manner.quantum (view s.slip).sent) }
+    ensures grown { IfOk result (λ s. AreRun (turns_of lender.old.tallies) (view s.slip).received
+        (turns_of lender.new.tallies)) }
+    ensures once { IfOk result (λ s. OnOk s.end
+        (SameMessages (view s.slip).sent (view s.slip).received)) }
+    ensures turns { IfOk result (λ s. OnOk s.end
+        (turns_of lender.new.tallies ≡ turns_of lender.old.tallies + s.turns)) }
+    ensures err { OnErr result (lender.new.tallies ≡ lender.old.tallies) }
     ensures offers { lender.old.offers ≤ lender.new.offers }
     ensures only { lender.new ≡ record lender.old {
       tallies = lender.new.tallies;
@@ -197,7 +205,8 @@ fn turns_beside_scanner<
     } }
 {
     let started = start_scanner(rt, alloc, scans, lender, u64::MAX)?;
-    let served = serve_turns(rt, alloc, job, supply, lender, workers);
+    let Crew { workers, quantum } = manner;
+    let served = serve_turns(rt, alloc, job, supply, lender, workers, quantum);
     started.flag.store(1, Ordering::SeqCst);
     scans.bell().notify_all();
     join_scanner(&rt, lender, started);
@@ -234,6 +243,33 @@ fn settle_offers<
     Ok(())
 }
 
+// As many pages are offered, since there were so many, as are owed for these turns.
+fn pay_offers<
+    T: Ledger,
+    C: Ledger,
+    O: Ledger + Send + 'static,
+    E: Ledger,
+    H: Help<O> + Drop + Send + 'static,
+    R: Threads + Wait + Copy + Send + 'static,
+>(
+    rt: R,
+    alloc: Global,
+    scans: &H,
+    lender: &mut Lender<T, C, O, E>,
+    before: u64,
+    turns: u64,
+) -> Result<(), ServeError>
+    requires { lender.old.scanners_out ≡ 0 }
+    ensures owed { OnOk result (before + turns / 64 ≤ lender.new.offers) }
+    ensures kept { lender.old.offers ≤ lender.new.offers }
+    ensures only { lender.new ≡ record lender.old { offers = lender.new.offers } }
+{
+    let Some(wanted) = before.checked_add(turns / TURNS_FOR_AN_OFFER) else {
+        return Err(ServeError::NoThread);
+    };
+    settle_offers(rt, alloc, scans, lender, wanted)
+}
+
 // The workers' turns and the offers that are owed for them.
 fn turns_and_offers<
     T: Ledger + Send + 'static,
@@ -251,17 +287,20 @@ fn turns_and_offers<
     supply: &mut S,
     scans: &H,
     lender: &mut Lender<T, C, O, E>,
-    workers: usize,
+    manner: Crew,
 ) -> Result<Served, ServeError>
-    requires few { workers ≤ 64 }
+    requires crew { (0 < manner.workers) × (manner.workers ≤ 64) }
     requires whole { (lender.old.workers_out ≡ 0) × (lender.old.scanners_out ≡ 0) }
-    ensures numbered { IfOk result (λ s. AreNumbered (view s.slip).sent) }
-    ensures once { IfOk result (λ s. SameMessages (view s.slip).sent (view s.slip).received) }
-    ensures turns { IfOk result (λ s. turns_in (view s.slip).received ≡ s.turns) }
-    ensures grown { IfOk result (λ s. turns_of lender.new.tallies
-        ≡ turns_of lender.old.tallies + s.turns) }
-    ensures owed { IfOk result (λ s. lender.old.offers + s.turns / 64 ≤ lender.new.offers) }
-    ensures kept { turns_of lender.old.tallies ≤ turns_of lender.new.tallies }
+    ensures handed { IfOk result (λ s. AreTurns s.turns manner.quantum (view s.slip).sent) }
+    ensures grown { IfOk result (λ s. AreRun (turns_of lender.old.tallies) (view s.slip).received
+        (turns_of lender.new.tallies)) }
+    ensures once { IfOk result (λ s. OnOk s.end
+        (SameMessages (view s.slip).sent (view s.slip).received)) }
+    ensures turns { IfOk result (λ s. OnOk s.end
+        (turns_of lender.new.tallies ≡ turns_of lender.old.tallies + s.turns)) }
+    ensures owed { IfOk result (λ s. OnOk s.end
+        (lender.old.offers + s.turns / 64 ≤ lender.new.offers)) }
+    ensures err { OnErr result (lender.new.tallies ≡ lender.old.tallies) }
     ensures offers { lender.old.offers ≤ lender.new.offers }
     ensures only { lender.new ≡ record lender.old {
       tallies = lender.new.tallies;
@@ -269,23 +308,26 @@ fn turns_and_offers<
     } }
 {
     let before = lender.offers();
-    let served = turns_beside_scanner(rt, alloc, job, supply, scans, lender, workers)?;
-    let Some(wanted) = before.checked_add(served.turns / TURNS_FOR_AN_OFFER) else {
-        return Err(ServeError::NoThread);
+    let served = turns_beside_scanner(rt, alloc, job, supply, scans, lender, manner)?;
+    let Served { turns, slip, end } = served;
+    let end = match end {
+        Ok(()) => pay_offers(rt, alloc, scans, lender, before, turns),
+        Err(error) => Err(error),
     };
-    settle_offers(rt, alloc, scans, lender, wanted)?;
-    Ok(served)
+    Ok(Served { turns, slip, end })
 }
 
-/// Runs all turns that come, by so many workers; beside them a scanner offers pages and a reclaimer evicts them. Each
-/// has a thread of its own; the calling thread hands the turns out.
+/// Runs all turns that come, by a crew; beside it a scanner offers pages and a reclaimer evicts them. Each has a thread of
+/// its own; the calling thread hands the turns out.
 ///
-/// With Ok each turn that was handed out was received once, the workers' counts have grown by so many, and for each 64
-/// turns a page was offered. No count gets smaller, whatever it answers.
+/// Turns are numbered in the order in which they are handed out, and the workers' counts grow by those that they received.
+/// Where it ends well each turn that was handed out was received once, and for each 64 turns a page was offered. What was
+/// done before it ended otherwise is told too (`Served`), and no count gets smaller.
 ///
 /// # Errors
-/// `Memory` and `NoThread`, as `serve_turns`; `NoThread` too where the scanner came to its end before all pages were
-/// offered that are owed.
+/// `Memory` where room was refused, and `NoThread` where the scanner or the reclaimer couldn't be started: no turn was run
+/// then. `Served::end` says so where not all workers or a further scanner could be started, and is `NoThread` too where a
+/// turn was left that no worker received, and where the scanner came to its end before all pages were offered that are owed.
 pub fn serve<
     T: Ledger + Send + 'static,
     C: Ledger + Send + 'static,
@@ -302,16 +344,19 @@ pub fn serve<
     jobs: Jobs<J, H, P>,
     supply: &mut S,
     shares: &mut Shares<T, C, O, E>,
-    workers: usize,
+    manner: Crew,
 ) -> Result<Served, ServeError>
-    requires { workers ≤ 64 }
-    ensures numbered { IfOk result (λ s. AreNumbered (view s.slip).sent) }
-    ensures once { IfOk result (λ s. SameMessages (view s.slip).sent (view s.slip).received) }
-    ensures turns { IfOk result (λ s. turns_in (view s.slip).received ≡ s.turns) }
-    ensures grown { IfOk result (λ s. turns_of shares.new.tallies
-        ≡ turns_of shares.old.tallies + s.turns) }
-    ensures owed { IfOk result (λ s. shares.old.offers + s.turns / 64 ≤ shares.new.offers) }
-    ensures kept { turns_of shares.old.tallies ≤ turns_of shares.new.tallies }
+    requires crew { (0 < manner.workers) × (manner.workers ≤ 64) }
+    ensures handed { IfOk result (λ s. AreTurns s.turns manner.quantum (view s.slip).sent) }
+    ensures grown { IfOk result (λ s. AreRun (turns_of shares.old.tallies) (view s.slip).received
+        (turns_of shares.new.tallies)) }
+    ensures once { IfOk result (λ s. OnOk s.end
+        (SameMessages (view s.slip).sent (view s.slip).received)) }
+    ensures turns { IfOk result (λ s. OnOk s.end
+        (turns_of shares.new.tallies ≡ turns_of shares.old.tallies + s.turns)) }
+    ensures owed { IfOk result (λ s. OnOk s.end
+        (shares.old.offers + s.turns / 64 ≤ shares.new.offers)) }
+    ensures err { OnErr result (shares.new.tallies ≡ shares.old.tallies) }
     ensures offers { shares.old.offers ≤ shares.new.offers }
     ensures evictions { shares.old.evictions ≤ shares.new.evictions }
 {
@@ -322,7 +367,7 @@ pub fn serve<
     } = jobs;
     let lender = &mut shares.all;
     let started = start_reclaimer(rt, alloc, &reclaims, lender)?;
-    let served = turns_and_offers(rt, alloc, turns, supply, &scans, lender, workers);
+    let served = turns_and_offers(rt, alloc, turns, supply, &scans, lender, manner);
     join_reclaimer(&rt, &reclaims, lender, started);
     served
 }

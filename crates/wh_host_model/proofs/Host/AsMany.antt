@@ -33,7 +33,7 @@ long_put a b j p x e = record { rows = λ i. ap (λ (t : List (List Page)). leng
 
 as_many : (s s2 : Space) → IsSound s → IsSound s2 → AreAsLong s.tables s2.tables → Claims s2.occupants s.occupants → AllSeeAsMany s s2
 as_many s s2 sound sound2 long same = (
-  λ j. (let x = same.each j in record { many = view_length s2 j sound2 ∙ ap (λ n. 4096 * n) (long.rows j) ∙ sym (view_length s j sound); wants = x.0; claim = x.1 }),
+  λ j. (let x = same.each j in record { many = view_length s2 j sound2 ∙ ap (λ n. 4096 * n) (long.rows j) ∙ sym (view_length s j sound); wants = x.0; claim = x.1; promise = x.2 }),
   sound2,
 )
 

@@ -35,7 +35,7 @@ kept_replays : {m : Module} {p : Parameters} {t : Tenant} {bytes : List ℕ} {wa
 kept_replays {t = t} {bytes = bytes} k =
     subst (λ cs. Replays t.inst k.s0 k.ps0 cs (standing_with bytes t.rest t.doing)) (sym (calls_join t.ended t.open_calls)) (replays_then k.past (now_replays (journal_calls t.open_calls) k.now))
 
-kept_replay : {m : Module} {p : Parameters} {t : Tenant} {bytes : List ℕ} {want : Option Need} → Kept m p t bytes want → Replay m p (journal_calls (journal t)) (standing_with bytes t.rest t.doing)
+pub kept_replay : {m : Module} {p : Parameters} {t : Tenant} {bytes : List ℕ} {want : Option Need} → Kept m p t bytes want → Replay m p (journal_calls (journal t)) (standing_with bytes t.rest t.doing)
 kept_replay {m = m} {p = p} {t = t} {bytes = bytes} k =
     let z = standing_with bytes t.rest t.doing in
     let parted = order_journal k.order in

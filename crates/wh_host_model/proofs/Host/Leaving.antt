@@ -1,9 +1,9 @@
 -- The memory's own relations lead to those that the host's definitions use.
-use Rattle.std.proofs.Common.{◌≡◌, ℕ, ◌+◌, ◌*◌, ◌<◌, ◌≤◌, inl, inr, ◌==◌, cond, Bool, true, false, List, [], ◌∷◌, Option, Some, None, zero, suc, length, get_or, slice_get, refl, sym, ap, subst, ◌∙◌, arith, length-append}
+use Rattle.std.proofs.Common.{◌≡◌, ℕ, ◌+◌, ◌*◌, ◌<◌, ◌≤◌, ◌⊎◌, inl, inr, ◌==◌, cond, Bool, true, false, List, [], ◌∷◌, Option, Some, None, zero, suc, length, get_or, slice_get, refl, sym, ap, subst, ◌∙◌, arith, length-append}
 use Rattle.std.proofs.lemmas.List.{get_or-set_same, get_or-set_other}
 use Rattle.wh_model.specs.declared.memory.Need.{Need}
 use Rattle.wh_host_model.specs.Space.States.{joined}
-use Rattle.wh_host_model.specs.Space.Parts.{Space, Occupant, Pins, Claimed, occupant_at, all_bytes, claim_of, need_of, kept, kept_by, pinned_by}
+use Rattle.wh_host_model.specs.Space.Parts.{Space, Occupant, Pins, Claimed, occupant_at, all_bytes, claim_of, need_of, promised_to, kept, kept_by, pinned_by}
 use Rattle.wh_host_model.specs.Space.Sound.{IsSound}
 use Rattle.wh_host_model.specs.Space.Ready.{Ready, may_take}
 use Rattle.wh_host_model.specs.Space.Moves.{has_pins, unpinned}
@@ -19,12 +19,22 @@ use Rattle.wh_host_model.specs.Space.Stores.{Epochs, Touches, standing_for, stoo
 use Rattle.wh_host_model.specs.Space.Sight.{HasNoPins}
 use Rattle.wh_host_model.proofs.Space.Quiet.{steps_quiet, enters_own, exits_own, pins_end}
 use Rattle.wh_host_model.proofs.Space.Steady.{touches_soundly, epochs_soundly, stands_soundly, ends_soundly}
-use Rattle.wh_host_model.specs.Host.Spaces.{AllLeftAlone, StepsAlone, StandsAlone, Arrives, Departs}
+use Rattle.wh_host_model.specs.Host.Spaces.{AllLeftAlone, KeepsPromise, LeftAlone, StepsAlone, StandsAlone, Arrives, Departs}
+
+-- ---- one after the other
+
+pub promise_then : (i : ℕ) (a b c : Space) → KeepsPromise i a b → KeepsPromise i b c → KeepsPromise i a c
+promise_then i a b c (inl same) (inl same2) = inl (same2 ∙ same)
+promise_then i a b c (inr none) (inl same2) = inr (same2 ∙ none)
+promise_then i a b c _ (inr none) = inr none
+
+pub left_then : {i : ℕ} {a b c : Space} → LeftAlone i a b → LeftAlone i b c → LeftAlone i a c
+left_then {i} {a} {b} {c} x y = record { view = y.view ∙ x.view; wants = y.wants ∙ x.wants; claim = y.claim ∙ x.claim; promise = promise_then i a b c x.promise y.promise }
 
 -- ---- nothing, and what changes nobody's bytes
 
 pub alone_self : (s : Space) → IsSound s → AllLeftAlone s s
-alone_self s sound = (λ j. record { view = refl; wants = refl; claim = refl }, sound)
+alone_self s sound = (λ j. record { view = refl; wants = refl; claim = refl; promise = inl refl }, sound)
 
 pub alone_bytes : (s s2 : Space) → all_bytes s2 ≡ all_bytes s → s2.occupants ≡ s.occupants → IsSound s2 → AllLeftAlone s s2
 alone_bytes s s2 bytes same sound = (
@@ -32,6 +42,7 @@ alone_bytes s s2 bytes same sound = (
     view = ap (λ (b : List (List (List ℕ))). joined (get_or b j [])) bytes;
     wants = ap (λ (xs : List (Option Occupant)). need_of (get_or xs j None)) same;
     claim = ap (λ (xs : List (Option Occupant)). claim_of (get_or xs j None)) same;
+    promise = inl (ap (λ (xs : List (Option Occupant)). promised_to (get_or xs j None)) same);
   },
   sound,
 )
@@ -44,7 +55,7 @@ touches_alone s i first n s2 sound e =
     let quiet = steps_quiet s i in
     let all = alone_bytes s s2 (quiet.touches first n s2 e) (ap (λ (z : Space). z.occupants) e) (touches_soundly s i first n s2 sound e) in
     let mine = all.0 i in
-    record { others = λ j other. all.0 j; claim = mine.claim; sound = all.1 }
+    record { others = λ j other. all.0 j; places = λ j other. ap (λ (xs : List (Option Occupant)). promised_to (get_or xs j None)) (ap (λ (z : Space). z.occupants) e); claim = mine.claim; sound = all.1 }
 
 -- ---- to stand for bytes, or for none
 
@@ -68,7 +79,8 @@ stood_alone s i t need sound is live fits =
       steps = record {
         others = λ j other.
             let same = get_or-set_other s.occupants i j (standing_for (get_or s.occupants i None) need) None other in
-            record { view = ap (λ (b : List (List (List ℕ))). joined (get_or b j [])) bytes; wants = ap need_of same; claim = ap claim_of same };
+            record { view = ap (λ (b : List (List (List ℕ))). joined (get_or b j [])) bytes; wants = ap need_of same; claim = ap claim_of same; promise = inl (ap promised_to same) };
+        places = λ j other. ap promised_to (get_or-set_other s.occupants i j (standing_for (get_or s.occupants i None) need) None other);
         claim = ap claim_of now ∙ sym (ap claim_of there.1);
         sound = stands_soundly s i t need sound is (λ want e. let f = fits want e in (live, f.0, f.1));
       };
@@ -116,7 +128,8 @@ ended_alone s i t sound is live =
     let both = pins_end s i in (
       record {
         steps = record {
-          others = λ j other. let x = steps.others j other in let y = off.0 j in record { view = y.view ∙ x.view; wants = y.wants ∙ x.wants; claim = y.claim ∙ x.claim };
+          others = λ j other. left_then (steps.others j other) (off.0 j);
+          places = λ j other. ap (λ (xs : List (Option Occupant)). promised_to (get_or xs j None)) (unpinned_there mid b) ∙ steps.places j other;
           claim = mine.claim ∙ steps.claim;
           sound = off.1;
         };
@@ -163,13 +176,21 @@ enters_alone s i c size s2 sound e =
       others = λ j other.
           let same : get_or s2.occupants j None ≡ get_or s.occupants j None =
           ap (λ (xs : List (Option Occupant)). get_or xs j None) rows ∙ same_there (with_row s.occupants i (Some (newcomer c))) s.occupants j None (row_other s.occupants i j (Some (newcomer c)) low other) in
-          record { view = enters_own s i c size s2 sound e j other; wants = ap need_of same; claim = ap claim_of same };
+          record { view = enters_own s i c size s2 sound e j other; wants = ap need_of same; claim = ap claim_of same; promise = inl (ap promised_to same) };
+      places = λ j other. ap promised_to (ap (λ (xs : List (Option Occupant)). get_or xs j None) rows ∙ same_there (with_row s.occupants i (Some (newcomer c))) s.occupants j None (row_other s.occupants i j (Some (newcomer c)) low other));
       view = enters_at_zeros s i c size s2 sound e;
       wants = ap need_of now;
       claim = ap claim_of now;
       unpinned = (ap (λ p. kept_by p i) pins ∙ none.0, ap (λ p. pinned_by p i) pins ∙ none.1);
       sound = enters_soundly s i c size s2 sound e;
     }
+
+gone_promise : (t : Occupant) (n : ℕ)
+    → (promised_to (stays_occupant (Some (record t { live = false; stands = None })) n) ≡ promised_to (Some t)) ⊎ (promised_to (stays_occupant (Some (record t { live = false; stands = None })) n) ≡ None)
+gone_promise t n = go (n == 0) where
+  go : (b : Bool) → (promised_to (cond b None (Some (record t { live = false; stands = None }))) ≡ promised_to (Some t)) ⊎ (promised_to (cond b None (Some (record t { live = false; stands = None }))) ≡ None)
+  go true = inr refl
+  go false = inl refl
 
 gone_claims : (t : Occupant) (n : ℕ) → (claim_of (stays_occupant (Some (record t { live = false; stands = None })) n) ≡ None) × (need_of (stays_occupant (Some (record t { live = false; stands = None })) n) ≡ None)
 gone_claims t n = go (n == 0) refl where
@@ -190,9 +211,14 @@ exits_alone s i s2 sound e =
     record {
       others = λ j other.
           let same : get_or s2.occupants j None ≡ get_or s.occupants j None = ap (λ (xs : List (Option Occupant)). get_or xs j None) e.occupants ∙ get_or-set_other s.occupants i j new None other in
-          record { view = views.1 j other; wants = ap need_of same; claim = ap claim_of same };
+          record { view = views.1 j other; wants = ap need_of same; claim = ap claim_of same; promise = inl (ap promised_to same) };
+      places = λ j other. ap promised_to (ap (λ (xs : List (Option Occupant)). get_or xs j None) e.occupants ∙ get_or-set_other s.occupants i j new None other);
       claim = ap claim_of now ∙ gone.0;
       wants = ap need_of now ∙ gone.1;
+      promise = elim (gone_promise t n) [
+        | inl same ↦ inl (ap promised_to now ∙ same ∙ sym (ap promised_to there.1))
+        | inr none ↦ inr (ap promised_to now ∙ none)
+      ];
       unpinned = ends.1 s2 e;
       sound = exits_soundly s i s2 sound e;
     }

@@ -1,5 +1,5 @@
 -- Offers, and pages in transit, leave all instances alone.
-use Rattle.std.proofs.Common.{◌≡◌, ℕ, zero, suc, inl, inr, ◌==◌, cond, Bool, true, false, List, [], ◌∷◌, Option, Some, None, get_or, slice_set, refl, ap, ◌∙◌}
+use Rattle.std.proofs.Common.{◌≡◌, ◌⊎◌, ℕ, zero, suc, inl, inr, ◌==◌, cond, Bool, true, false, List, [], ◌∷◌, Option, Some, None, get_or, slice_set, refl, ap, ◌∙◌}
 use Rattle.wh_model.specs.declared.memory.Need.{Need}
 use Rattle.wh_host_model.specs.declared.states.Offer.{Offer}
 use Rattle.wh_host_model.specs.declared.states.Offer.TheVariants.{Skipped, Zeroed, Hinted, Stale, Merged, FalseMatch}
@@ -8,7 +8,7 @@ use Rattle.wh_host_model.specs.declared.states.FetchEnd.{FetchEnd}
 use Rattle.wh_host_model.specs.declared.states.Slot.TheVariants.{Vacant}
 use Rattle.wh_host_model.specs.Frames.{tally}
 use Rattle.wh_host_model.specs.Space.States.{joined}
-use Rattle.wh_host_model.specs.Space.Parts.{Space, Occupant, all_bytes, claim_of, need_of}
+use Rattle.wh_host_model.specs.Space.Parts.{Space, Occupant, Promised, all_bytes, claim_of, need_of, promised_to}
 use Rattle.wh_host_model.specs.Space.Errands.{ticket_of}
 use Rattle.wh_host_model.specs.Space.Sound.{IsSound}
 use Rattle.wh_host_model.specs.Space.Offers.{Offers}
@@ -40,41 +40,56 @@ offers_alone hashes s i p hash answer s2 sound o =
 
 -- ---- who has a place stands and claims as before
 
+-- a promise is kept, or nobody has the place any more
+abbrev Stays : Option Promised → Option Promised → Type 0
+Stays x y = (x ≡ y) ⊎ (x ≡ None)
+
+stays_then : (x y z : Option Promised) → Stays x y → Stays y z → Stays x z
+stays_then x y z (inr none) kept = inr none
+stays_then x y z (inl same) (inl same2) = inl (same ∙ same2)
+stays_then x y z (inl same) (inr none) = inr (same ∙ none)
+
+abbrev Alike : Option Occupant → Option Occupant → Type 0
+Alike x y = (need_of x ≡ need_of y) × (claim_of x ≡ claim_of y) × Stays (promised_to x) (promised_to y)
+
+alike_self : (x : Option Occupant) → Alike x x
+alike_self x = (refl, refl, inl refl)
+
 pub record Claims (xs ys : List (Option Occupant)) : Type 0 where
-  pub each : (m : ℕ) → (need_of (get_or xs m None) ≡ need_of (get_or ys m None)) × (claim_of (get_or xs m None) ≡ claim_of (get_or ys m None))
+  pub each : (m : ℕ) → Alike (get_or xs m None) (get_or ys m None)
 
 claims_then : {xs ys zs : List (Option Occupant)} → Claims xs ys → Claims ys zs → Claims xs zs
-claims_then f g = record { each = λ m. (let x = f.each m in let y = g.each m in (x.0 ∙ y.0, x.1 ∙ y.1)) }
+claims_then {xs} {ys} {zs} f g = record { each = λ m. (let x = f.each m in let y = g.each m in (x.0 ∙ y.0, x.1 ∙ y.1, stays_then (promised_to (get_or xs m None)) (promised_to (get_or ys m None)) (promised_to (get_or zs m None)) x.2 y.2)) }
 
 pub claims_of : {xs ys : List (Option Occupant)} → xs ≡ ys → Claims xs ys
-claims_of e = record { each = λ m. (ap (λ (zs : List (Option Occupant)). need_of (get_or zs m None)) e, ap (λ (zs : List (Option Occupant)). claim_of (get_or zs m None)) e) }
+claims_of e = record { each = λ m. (ap (λ (zs : List (Option Occupant)). need_of (get_or zs m None)) e, ap (λ (zs : List (Option Occupant)). claim_of (get_or zs m None)) e, inl (ap (λ (zs : List (Option Occupant)). promised_to (get_or zs m None)) e)) }
 
 pub alone_claims : (s s2 : Space) → all_bytes s2 ≡ all_bytes s → Claims s2.occupants s.occupants → IsSound s2 → AllLeftAlone s s2
 alone_claims s s2 bytes same sound = (
-  λ j. (let x = same.each j in record { view = ap (λ (b : List (List (List ℕ))). joined (get_or b j [])) bytes; wants = x.0; claim = x.1 }),
+  λ j. (let x = same.each j in record { view = ap (λ (b : List (List (List ℕ))). joined (get_or b j [])) bytes; wants = x.0; claim = x.1; promise = x.2 }),
   sound,
 )
 
-leaving_at : (xs : List (Option Occupant)) (j : ℕ) (slot : Option ℕ) (m : ℕ) → (need_of (get_or (slice_set xs j (leaving_by (get_or xs j None) slot)) m None) ≡ need_of (get_or xs m None)) × (claim_of (get_or (slice_set xs j (leaving_by (get_or xs j None) slot)) m None) ≡ claim_of (get_or xs m None))
-leaving_at [] j slot m = (refl, refl)
-leaving_at (None ∷ xs) zero slot zero = (refl, refl)
-leaving_at (Some t ∷ xs) zero slot zero = (refl, refl)
-leaving_at (x ∷ xs) zero slot (suc m) = (refl, refl)
-leaving_at (x ∷ xs) (suc j) slot zero = (refl, refl)
+leaving_at : (xs : List (Option Occupant)) (j : ℕ) (slot : Option ℕ) (m : ℕ) → Alike (get_or (slice_set xs j (leaving_by (get_or xs j None) slot)) m None) (get_or xs m None)
+leaving_at [] j slot m = alike_self None
+leaving_at (None ∷ xs) zero slot zero = alike_self None
+leaving_at (Some t ∷ xs) zero slot zero = (refl, refl, inl refl)
+leaving_at (x ∷ xs) zero slot (suc m) = alike_self (get_or xs m None)
+leaving_at (x ∷ xs) (suc j) slot zero = alike_self x
 leaving_at (x ∷ xs) (suc j) slot (suc m) = leaving_at xs j slot m
 
 stays_claims : (t : Occupant) (n : ℕ) (live gone : Bool) → t.live ≡ live → (n == 0) ≡ gone
-    → (need_of (cond live (Some t) (cond gone None (Some t))) ≡ need_of (Some t)) × (claim_of (cond live (Some t) (cond gone None (Some t))) ≡ claim_of (Some t))
-stays_claims t n true gone e h = (refl, refl)
-stays_claims t n false true e h = (rw e refl, rw e refl)
-stays_claims t n false false e h = (refl, refl)
+    → Alike (cond live (Some t) (cond gone None (Some t))) (Some t)
+stays_claims t n true gone e h = alike_self (Some t)
+stays_claims t n false true e h = (rw e refl, rw e refl, inr refl)
+stays_claims t n false false e h = alike_self (Some t)
 
-settled_at : (xs : List (Option Occupant)) (j n m : ℕ) → (need_of (get_or (slice_set xs j (stays_occupant (get_or xs j None) n)) m None) ≡ need_of (get_or xs m None)) × (claim_of (get_or (slice_set xs j (stays_occupant (get_or xs j None) n)) m None) ≡ claim_of (get_or xs m None))
-settled_at [] j n m = (refl, refl)
-settled_at (None ∷ xs) zero n zero = (refl, refl)
+settled_at : (xs : List (Option Occupant)) (j n m : ℕ) → Alike (get_or (slice_set xs j (stays_occupant (get_or xs j None) n)) m None) (get_or xs m None)
+settled_at [] j n m = alike_self None
+settled_at (None ∷ xs) zero n zero = alike_self None
 settled_at (Some t ∷ xs) zero n zero = stays_claims t n t.live (n == 0) refl refl
-settled_at (x ∷ xs) zero n (suc m) = (refl, refl)
-settled_at (x ∷ xs) (suc j) n zero = (refl, refl)
+settled_at (x ∷ xs) zero n (suc m) = alike_self (get_or xs m None)
+settled_at (x ∷ xs) (suc j) n zero = alike_self x
 settled_at (x ∷ xs) (suc j) n (suc m) = settled_at xs j n m
 
 leaving_claims : (xs : List (Option Occupant)) (j : ℕ) (slot : Option ℕ) → Claims (slice_set xs j (leaving_by (get_or xs j None) slot)) xs

@@ -1,5 +1,5 @@
 -- What the steps of a turn make of a call.
-use Rattle.std.proofs.Common.{◌≡◌, ℕ, ◌+◌, ◌<◌, List, length, take, drop, refl, sym, ap, subst, ◌∙◌, arith}
+use Rattle.std.proofs.Common.{◌≡◌, ℕ, ◌+◌, ◌<◌, inl, List, length, take, drop, refl, sym, ap, subst, ◌∙◌, arith}
 use Rattle.std.proofs.lemmas.List.{take-append-drop, length-drop}
 use Rattle.wh_model.specs.declared.memory.Need.{Need}
 use Rattle.wh_model.specs.Execution.Store.{Instance, Store}
@@ -13,6 +13,7 @@ use Rattle.wh_model.proofs.Journals.{pieces_then}
 use Rattle.wh_model.proofs.Taken.{takes_after}
 use Rattle.wh_host_model.specs.Space.Parts.{Space, claim}
 use Rattle.wh_host_model.specs.Host.Spaces.{OthersLeftAlone, StepsAlone}
+use Rattle.wh_host_model.proofs.Host.Leaving.{left_then}
 use Rattle.wh_host_model.specs.Host.Worlds.{Rest, Doing, Tenant, Entry, store_with, standing_with}
 use Rattle.wh_host_model.specs.Host.Turns.{Opens, by_invocation, as_it_was, Computes, Upshot, Proceeds, returns, traps, writes_all, uses_fuel, waits, waits_to_write, has_had_its_turn}
 use Rattle.wh_host_model.specs.Host.Answers.{ProceedsIn}
@@ -89,7 +90,7 @@ computes_call {call = call} {n = n} st x =
 -- ---- what the others see
 
 steps_then : {i : ℕ} {a b c : Space} → OthersLeftAlone i a b → OthersLeftAlone i b c → OthersLeftAlone i a c
-steps_then f g j n = let x = f j n in let y = g j n in record { view = y.view ∙ x.view; wants = y.wants ∙ x.wants; claim = y.claim ∙ x.claim }
+steps_then f g j n = left_then (f j n) (g j n)
 
 -- whatever a turn does: all but what its instance sees and where it stands is as it was
 pub record Apart (i : ℕ) (s s2 : Space) : Type 0 where
@@ -97,7 +98,7 @@ pub record Apart (i : ℕ) (s s2 : Space) : Type 0 where
   pub claim : claim s2 i ≡ claim s i
 
 pub apart_none : (i : ℕ) (s : Space) → Apart i s s
-apart_none i s = record { others = λ j n. record { view = refl; wants = refl; claim = refl }; claim = refl }
+apart_none i s = record { others = λ j n. record { view = refl; wants = refl; claim = refl; promise = inl refl }; claim = refl }
 
 pub apart_then : {i : ℕ} {a b c : Space} → Apart i a b → Apart i b c → Apart i a c
 apart_then x y = record { others = steps_then x.others y.others; claim = y.claim ∙ x.claim }

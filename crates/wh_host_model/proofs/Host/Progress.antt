@@ -18,16 +18,16 @@ use Rattle.wh_host_model.specs.Space.Parts.{Claimed, Occupant, Space, claim, cla
 use Rattle.wh_host_model.specs.Space.Sound.{IsSound}
 use Rattle.wh_host_model.specs.Space.Stores.{ended}
 use Rattle.wh_host_model.specs.Host.Spaces.{StandsAlone}
-use Rattle.wh_host_model.specs.Host.Worlds.{Doing, Entry, Params, Suspension, Tenant, World, computing, journal, empty_world, for_device, for_frame, for_fuel, resting, store_in, store_with, tenant, with_tenant}
+use Rattle.wh_host_model.specs.Host.Worlds.{Doing, Entry, Params, Rest, Suspension, Tenant, World, computing, journal, empty_world, for_device, for_frame, for_fuel, resting, store_in, store_with, tenant, with_tenant}
 use Rattle.wh_host_model.specs.Host.Turns.{as_it_was, uses_fuel}
 use Rattle.wh_host_model.specs.Host.Answers.{Closes, Faces, dies, ended_by, faces_next, has_no_fuel, is_dead, is_idle}
-use Rattle.wh_host_model.specs.Host.Calls.{AreArguments, Cancels, ExportsOwn, IsArgument, Meets, Retries, StandsAfter, arguments, has_more, instance_dead, journal_full, may_try, more_fuel, most_calls, most_open, new_entry, open_count, queue_full}
+use Rattle.wh_host_model.specs.Host.Calls.{AreArguments, ExportsOwn, IsArgument, Meets, Retries, StandsAfter, arguments, has_more, instance_dead, journal_full, may_try, more_fuel, most_calls, most_open, new_entry, open_count, queue_full}
 use Rattle.wh_host_model.specs.Host.Calls as requests
 use Rattle.wh_host_model.specs.Host.Admission.{decoder_wants}
 use Rattle.wh_host_model.specs.Host.Events.{Event, turn, load, admit, invoke, refuel, cancel, retry, release, offer, evict_begin, evict_commit, fetch_begin, fetch_commit, provide, epoch}
 use Rattle.wh_host_model.specs.Host.Happens.{AwaitsFrame, AwaitsFrameFor, Happens, IsLive, IsTurn, MovesPages, NoInstance, OnlyMoves, admit_refused, admit_wants_memory, has_no_instance, invoke_no_instance, invoke_refused, invoke_wants_memory, isnt_admitted, isnt_invoked, no_memory_to_admit, no_memory_to_invoke, call_no_call, call_no_instance, call_ok, has_failed, is_cancelled, is_invoked, is_loaded, is_refueled, is_released, is_retried, load_wants_memory, moved, no_call_to_cancel, no_call_to_refuel, no_fault_to_retry, no_memory_to_load, no_one_to_cancel, no_one_to_refuel, no_one_to_release, no_one_to_retry, of_none, of_one}
 use Rattle.wh_host_model.specs.Host.Journals.{InOrder, IsAsked, IsOpenCall, is_starting, has_started}
-use Rattle.wh_host_model.specs.Host.Progress.{CallsAreTaken, EventsHappen, FuelTurnsHappen, IdleTurnsHappen, IsNoTurn, LoadsAreTaken}
+use Rattle.wh_host_model.specs.Host.Progress.{CallsAreTaken, FuelTurnsHappen, IdleTurnsHappen, LoadsAreTaken}
 use Rattle.wh_host_model.specs.Host.Standing.{FirstStandsDuly}
 use Rattle.wh_host_model.proofs.Host.Deciding.{arguments_or_not, exported_or_not, first_to_admit, first_to_invoke}
 use Rattle.wh_host_model.proofs.Host.Empty.{good_empty}
@@ -42,7 +42,7 @@ use Rattle.wh_host_model.proofs.Space.Putting.{here_or}
 one_tenant : (a b : Tenant) → Some a ≡ Some b → a ≡ b
 one_tenant a b e = cc e
 
-live_or_not : (w : World) (id : InstId) → ((t : Tenant) × IsLive w id t) ⊎ NoInstance w id
+pub live_or_not : (w : World) (id : InstId) → ((t : Tenant) × IsLive w id t) ⊎ NoInstance w id
 live_or_not w id = go (tenant w id.number) refl where
   go : (o : Option Tenant) → tenant w id.number ≡ o → ((t : Tenant) × IsLive w id t) ⊎ NoInstance w id
   go None e = inr (λ t live. (let bad : None ≡ Some t = sym e ∙ live.0 in cc bad))
@@ -116,7 +116,7 @@ arguments_fit (t ∷ ts) (n ∷ ns) vs (v, rest, one, is, more) =
     let others = arguments_fit ts ns rest more in
     (ap (map type_of) is ∙ (let a = first.0 in let b = others.0 in cc), subst (AllByRecursion InRange) (sym is) (first.1, others.1))
 
-asked_faces : (inst : Instance) (s : Store) (e : Entry) → IsAsked inst e → (t : Term) × Invocation inst s e.call (config s [] t)
+pub asked_faces : (inst : Instance) (s : Store) (e : Entry) → IsAsked inst e → (t : Term) × Invocation inst s e.call (config s [] t)
 asked_faces inst s e a =
     let fits = arguments_fit a.type.params e.given e.call.args a.arguments in
     (called a.type a.body (reverse e.call.args) [] nothing, record { index = a.index; type = a.type; body = a.body; calls = a.func; is_own = a.is_own; types = fits.0; fit = fits.1; begins = refl })
@@ -129,13 +129,13 @@ behind_open : {m : Module} {inst : Instance} {b : Bool} {ended es : List Entry} 
 behind_open (is_starting st p rest) = rest
 behind_open (has_started st h f r es os) = os.1
 
-some_closing : (s : Space) (t : Tenant) (m : Module) (e : Entry) (es : List Entry) → InOrder m t.inst t.dead t.ended (e ∷ es) → (t2 : Tenant) × Closes s t (ended_by e cancelled) es t.rest t2
-some_closing s t m e es order = go (dies t.ended cancelled) refl where
-  go : (b : Bool) → dies t.ended cancelled ≡ b → (t2 : Tenant) × Closes s t (ended_by e cancelled) es t.rest t2
+pub some_closing : (s : Space) (t : Tenant) (m : Module) (e e2 : Entry) (es : List Entry) (r : Rest) → InOrder m t.inst t.dead t.ended (e ∷ es) → (t2 : Tenant) × Closes s t e2 es r t2
+some_closing s t m e e2 es r order = go (dies t.ended e2.call.outcome) refl where
+  go : (b : Bool) → dies t.ended e2.call.outcome ≡ b → (t2 : Tenant) × Closes s t e2 es r t2
   go true died = (_, is_dead died)
-  go false alive = (let f = some_faced t.inst (store_with (view s t.place) t.rest) es (behind_open order) in (_, faces_next alive f.1))
+  go false alive = (let f = some_faced t.inst (store_with (view s t.place) r) es (behind_open order) in (_, faces_next alive f.1))
 
-claimed_there : (s : Space) (i : ℕ) (c : Claimed) → claim s i ≡ Some c → (t : Occupant) × occupant_at s i t × (t.live ≡ true)
+pub claimed_there : (s : Space) (i : ℕ) (c : Claimed) → claim s i ≡ Some c → (t : Occupant) × occupant_at s i t × (t.live ≡ true)
 claimed_there s i c e = rows s.occupants i e where
   live : (t : Occupant) (b : Bool) → t.live ≡ b → claim_of (Some t) ≡ Some c → t.live ≡ true
   live t true is e = is
@@ -157,7 +157,7 @@ cancels w id good = elim (live_or_not w id) [
         let who = claimed_there w.space t.place _ fine.claimed in
         let ends = ended_alone w.space t.place who.0 good.sound who.1 who.2 in
         let order = subst (λ xs. InOrder fine.loaded.m t.inst t.dead t.ended xs) there fine.kept.order in
-        let closed = some_closing (ended w.space t.place) t fine.loaded.m e es order in
+        let closed = some_closing (ended w.space t.place) t fine.loaded.m e (ended_by e cancelled) es t.rest order in
         (with_tenant w id.number (Some closed.0) (ended w.space t.place), (call_ok, is_cancelled live (requests.ends there ends.0 ends.1 closed.1))))
   ]
 ]
@@ -291,7 +291,12 @@ moves_happen w id awaits decide (Some x) good = elim (live_or_not w id) [
 
 -- ---- all of these
 
-happens : (w : World) (e : Event) → IsGood w → IsNoTurn e → (w2 : World) × Happens w e w2
+-- it is no turn
+abbrev pub IsNoTurn : Event → Type 0
+IsNoTurn (turn id q) = ⊥
+IsNoTurn other = Unit {0}
+
+pub happens : (w : World) (e : Event) → IsGood w → IsNoTurn e → (w2 : World) × Happens w e w2
 happens w (turn id q) good none = absurd none
 happens w (load bytes) good some = (w, (load_wants_memory decoder_wants, no_memory_to_load tt))
 happens w (admit k p) good some = admits w k p good
@@ -308,9 +313,6 @@ happens w (fetch_commit id call fault) good some = moves_happen w id (AwaitsFram
 happens w (provide id fault) good some = moves_happen w id AwaitsFrame awaits_or_not fault good
 happens w epoch good some = (w, only_moves_self w good)
 
-pub events_happen : EventsHappen
-events_happen frames slots tax events w r e some = happens w e (good_run events (empty_world frames slots tax) w (good_empty frames slots tax) r) some
-
 pub idle_turns_happen : IdleTurnsHappen
 idle_turns_happen frames slots tax events w r id q empty = elim (live_or_not w id) [
   | inr none ↦ (w, of_none none)
@@ -321,7 +323,7 @@ idle_turns_happen frames slots tax events w r id q empty = elim (live_or_not w i
 
 stands_alone : (s : Space) (i : ℕ) → IsSound s → wants s i ≡ None → StandsAlone i None s s
 stands_alone s i sound none = record {
-  steps = record { others = λ j other. record { view = refl; wants = refl; claim = refl }; claim = refl; sound = sound };
+  steps = record { others = λ j other. record { view = refl; wants = refl; claim = refl; promise = inl refl }; places = λ j other. refl; claim = refl; sound = sound };
   view = refl;
   wants = none;
   ready = λ need. (λ h. h, λ h. h);

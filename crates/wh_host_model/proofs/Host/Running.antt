@@ -115,7 +115,7 @@ turn_owner (has_no_frame a g l p) = record { place = refl; of = refl; params = r
 turn_owner (can_go_on a g l p f) = record { place = refl; of = refl; params = refl }
 turn_owner {t = t} (keeps_its_fault a b c d e f g) = owner_same t
 
-turn_apart : {q : ℕ} {s s2 : Space} {t t2 : Tenant} {answer : TurnEnd} → IsSound s → Turn q s t answer s2 t2 → Apart t.place s s2 × IsSound s2
+pub turn_apart : {q : ℕ} {s s2 : Space} {t t2 : Tenant} {answer : TurnEnd} → IsSound s → Turn q s t answer s2 t2 → Apart t.place s s2 × IsSound s2
 turn_apart {s = s} {t = t} sound (is_idle none) = (apart_none t.place s, sound)
 turn_apart {t = t} sound (has_ended {e = e} a g l p c) = let steps = l.steps in (apart_then (proceeds_apart t e g) (apart_steps steps), steps.sound)
 turn_apart {t = t} sound (has_no_fuel {e = e} a g l p) = let steps = l.steps in (apart_then (proceeds_apart t e g) (apart_steps steps), steps.sound)

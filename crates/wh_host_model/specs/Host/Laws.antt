@@ -1,5 +1,5 @@
 -- What holds of a host after every list of events, and of the answers of a turn.
-use Rattle.std.specs.Prelude.{◌≡◌, ◌≢◌, ℕ, ◌≤◌, List, [], length, slice_get, Some}
+use Rattle.std.specs.Prelude.{◌≡◌, ◌≢◌, ◌⊎◌, ℕ, ◌≤◌, List, [], length, slice_get, Some, None}
 use Rattle.std.specs.List.{AllByRecursion}
 use Rattle.wh_model.specs.declared.memory.Need.{Need}
 use Rattle.wh_model.specs.Execution.Store.{Store}
@@ -10,7 +10,7 @@ use Rattle.wh_model.specs.Execution.Asking.{Asks}
 use Rattle.wh_host_model.specs.declared.Tax.{Tax}
 use Rattle.wh_host_model.specs.declared.plain.TurnEnd.{TurnEnd}
 use Rattle.wh_host_model.specs.declared.plain.TurnEnd.TheVariants.{Again, Frame}
-use Rattle.wh_host_model.specs.Space.Parts.{Space, Claimed, view, claim, wants}
+use Rattle.wh_host_model.specs.Space.Parts.{Space, Claimed, Promised, view, claim, promise_at, wants}
 use Rattle.wh_host_model.specs.Space.Sound.{IsSound}
 use Rattle.wh_host_model.specs.Space.Ready.{Ready}
 use Rattle.wh_host_model.specs.Host.Worlds.{computing, Tenant, Loaded, World, given_of, promised, journal, journal_calls, store_in, standing_in, tenant, empty_world}
@@ -18,7 +18,7 @@ use Rattle.wh_host_model.specs.Host.Answers.{Turn}
 use Rattle.wh_host_model.specs.Host.Calls.{most_calls, most_open, open_count}
 use Rattle.wh_model.specs.Linking.Accepting.{IsAccepted}
 use Rattle.wh_host_model.specs.Host.Events.{Event}
-use Rattle.wh_host_model.specs.Host.Happens.{AllHappen}
+use Rattle.wh_host_model.specs.Host.Happens.{Happens, AllHappen}
 use Rattle.wh_host_model.specs.Host.Journals.{InOrder}
 use Rattle.wh_host_model.specs.Host.Standing.{StandsRightly}
 
@@ -42,6 +42,15 @@ pub record PlacesAreTenants (w : World) : Type 0 where
 
 abbrev pub PlacesAreRight : Type 0
 PlacesAreRight = AfterEvents PlacesAreTenants
+
+-- Whoever has a place, live or released, keeps number, minimum and maximum, or has the place no more.
+abbrev pub KeepsPromises : Space → Space → Type 0
+KeepsPromises s s2 = (place : ℕ) (x : Promised) → promise_at s place ≡ Some x
+    → (promise_at s2 place ≡ Some x) ⊎ (promise_at s2 place ≡ None)
+
+-- whatever happens
+abbrev pub PromisesAreKept : Type 0
+PromisesAreKept = AfterEvents (λ w. (e : Event) (w2 : World) → Happens w e w2 → KeepsPromises w.space w2.space)
 
 -- ---- instances
 

@@ -6,17 +6,19 @@ use Rattle.wh_model.specs.Linking.Accepting.{IsAccepted}
 use Rattle.wh_host_model.specs.declared.Tax.{Tax}
 use Rattle.wh_host_model.specs.Space.Parts.{Space, view, claim, wants}
 use Rattle.wh_host_model.specs.Space.Sound.{IsSound}
+use Rattle.wh_host_model.specs.Host.Spaces.{KeepsPromise}
 use Rattle.wh_host_model.specs.Host.Worlds.{for_frame, Loaded, World, empty_world}
 use Rattle.wh_host_model.specs.Host.Events.{Event}
 use Rattle.wh_host_model.specs.Host.Happens.{Happens}
 use Rattle.wh_host_model.specs.Host.Laws.{EachHas, HasJournal, PlacesAreTenants}
 
 -- The instance at a place sees as many bytes as it saw, which may be others; it stands where it stood, and has what it
--- was promised.
+-- was promised. One that was released keeps its promise.
 pub record SeesAsMany (i : ℕ) (s s2 : Space) : Type 0 where
   pub many : length (view s2 i) ≡ length (view s i)
   pub wants : wants s2 i ≡ wants s i
   pub claim : claim s2 i ≡ claim s i
+  pub promise : KeepsPromise i s s2
 
 -- all of them do, and the memory is sound
 abbrev pub AllSeeAsMany : Space → Space → Type 0

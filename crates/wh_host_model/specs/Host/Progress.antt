@@ -1,30 +1,36 @@
 -- Which events can happen to any host that is reached.
-use Rattle.std.specs.Prelude.{◌≡◌, ℕ, ◌<◌, ◌≤◌, List, [], length, slice_get, Some, ℤ}
+use Rattle.std.specs.Prelude.{◌≡◌, ℕ, ◌<◌, ◌≤◌, List, [], ◌∷◌, length, slice_get, Some, ℤ}
 use Rattle.wh_model.specs.Format.Syntax.{Module}
 use Rattle.wh_host_model.specs.declared.plain.InstId.{InstId}
+use Rattle.wh_host_model.specs.declared.plain.TurnEnd.{TurnEnd}
 use Rattle.wh_host_model.specs.declared.plain.TurnEnd.TheVariants.{Idle, Fuel}
-use Rattle.wh_host_model.specs.Host.Worlds.{Tenant, Loaded, World, for_fuel}
+use Rattle.wh_host_model.specs.Host.Worlds.{Params, Entry, Tenant, Loaded, World, for_fuel, given_of, with_tenant}
 use Rattle.wh_host_model.specs.Host.Calls.{InvokeFault, Meets, most_fuel}
+use Rattle.wh_model.specs.Execution.Instance.{AreGiven}
+use Rattle.wh_host_model.specs.Space.Parts.{Space}
 use Rattle.wh_model.specs.Linking.Accepting.{IsAccepted}
-use Rattle.wh_host_model.specs.Host.Admission.{most_modules}
-use Rattle.wh_host_model.specs.Host.Events.{Event, turn}
-use Rattle.wh_host_model.specs.Host.Happens.{Happens, IsLive, IsTurn, IsLoad, load_ok, IsInvoke, invoke_ok}
+use Rattle.wh_host_model.specs.Host.Admission.{AdmitFault, MeetsFault, most_modules}
+use Rattle.wh_host_model.specs.Host.Events.{Event}
+use Rattle.wh_host_model.specs.Host.Happens.{Happens, IsLive, IsTurn, IsLoad, load_ok, IsAdmit, admit_ok, IsInvoke, invoke_ok}
 use Rattle.wh_host_model.specs.Host.Laws.{AfterEvents}
+use Rattle.wh_host_model.specs.Host.Taking.{IsStepReady, HasGoneOn}
 
--- it is no turn
-abbrev pub IsNoTurn : Event → Type 0
-IsNoTurn (turn id q) = ⊥
-IsNoTurn other = Unit {0}
-
--- whatever is asked for but a turn can happen, with some answer
+-- whatever is asked for can happen, with some answer
 abbrev pub EventsHappen : Type 0
-EventsHappen = AfterEvents (λ w. (e : Event) → IsNoTurn e → (w2 : World) × Happens w e w2)
+EventsHappen = AfterEvents (λ w. (e : Event) → (w2 : World) × Happens w e w2)
 
 -- a module that is right can be loaded, while there is room for one more
 abbrev pub LoadsAreTaken : Type 0
 LoadsAreTaken =
     AfterEvents (λ w. (bytes : List ℕ) (m : Module) → IsAccepted bytes m → length w.modules < most_modules
     → (number : ℕ) × (w2 : World) × IsLoad w bytes (load_ok number) w2)
+
+-- an instance of a module that was loaded can be admitted where no fault is met, with any parameters that are in range
+abbrev pub AdmissionsAreTaken : Type 0
+AdmissionsAreTaken =
+    AfterEvents (λ w. (k : ℕ) (p : Params) → AreGiven (given_of p) → p.fuel ≤ most_fuel
+    → ((fault : AdmitFault) → ¬ (MeetsFault w k p fault))
+    → (id : InstId) × (w2 : World) × IsAdmit w k p (admit_ok id) w2)
 
 -- and a new call that meets no fault can be accepted
 abbrev pub CallsAreTaken : Type 0
@@ -45,3 +51,11 @@ abbrev pub FuelTurnsHappen : Type 0
 FuelTurnsHappen =
     AfterEvents (λ w. (id : InstId) (q : ℕ) (t : Tenant) → IsLive w id t → t.stands_for ≡ Some for_fuel
     → (w2 : World) × IsTurn w id q Fuel w2)
+
+-- and where the next step is ready, a piece or a charge, a turn can happen that takes it
+abbrev pub ReadyTurnsHappen : Type 0
+ReadyTurnsHappen =
+    AfterEvents (λ w. (id : InstId) (q : ℕ) (t : Tenant) (e : Entry) (es : List Entry)
+    → IsLive w id t → t.open_calls ≡ e ∷ es → IsStepReady q w.space t e
+    → (answer : TurnEnd) × (s2 : Space) × (t2 : Tenant)
+    × IsTurn w id q answer (with_tenant w id.number (Some t2) s2) × HasGoneOn t t2 e)

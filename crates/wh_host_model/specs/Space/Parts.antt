@@ -84,6 +84,20 @@ claim_of (Some t) = cond t.live (Some (record { number = t.number; shares = t.sh
 abbrev pub claim : Space → ℕ → Option Claimed
 claim s i = claim_of (get_or s.occupants i None)
 
+-- what stays promised to an instance that is released, while a ticket of it is out
+pub record Promised : Type 0 where
+  pub number : ℕ
+  pub min : ℕ
+  pub max : ℕ
+
+abbrev pub promised_to : Option Occupant → Option Promised
+promised_to None = None
+promised_to (Some t) = Some (record { number = t.number; min = t.min; max = t.max })
+
+-- number, minimum and maximum of who has a place, live or released
+abbrev pub promise_at : Space → ℕ → Option Promised
+promise_at s i = promised_to (get_or s.occupants i None)
+
 abbrev pub need_of : Option Occupant → Option Need
 need_of None = None
 need_of (Some t) = cond t.live t.stands None

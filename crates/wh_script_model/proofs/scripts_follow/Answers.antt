@@ -4,9 +4,11 @@ use Rattle.wh_script_model.proofs.CommandsEnding.{cancels_follow, releases_follo
 use Rattle.wh_script_model.proofs.CommandsCalling.{calls_follow}
 use Rattle.wh_script_model.proofs.CommandsGuests.{guests_follow}
 use Rattle.wh_script_model.proofs.Drains.{drains_begin, moves_follow, drains_end, saying_follows}
+use Rattle.wh_script_model.proofs.Opening.{open_is_known}
 use Rattle.wh_script_model.proofs.Turning.{turns_follow}
 use Rattle.wh_script_model.proofs.Said.{runs_well, says_well, all_said}
 use Rattle.wh_script_model.proofs.SaidObeyed.{nothing_well, call_well, obeys_well}
+use Rattle.wh_script_model.proofs.Scarce.{wants_are_named}
 use Rattle.wh_script_model.proofs.scripts_follow.Goals as goal
 
 pub returns-clause-modules : goal.returns-clause-modules
@@ -60,3 +62,9 @@ returns-clause-asks_well c = call_well
 
 pub returns-clause-obeys_well : goal.returns-clause-obeys_well
 returns-clause-obeys_well c = obeys_well
+
+pub returns-clause-wants : goal.returns-clause-wants
+returns-clause-wants c = wants_are_named
+
+pub returns-clause-open : goal.returns-clause-open
+returns-clause-open c = open_is_known

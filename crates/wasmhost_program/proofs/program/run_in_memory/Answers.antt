@@ -1,8 +1,12 @@
-use Rattle.wasmhost_program.proofs.Runs.{memory_serves, writes_nothing}
+use Rattle.std.proofs.Common.{option_map}
+use Rattle.wh_settings.specs.View.{settings_of}
+use Rattle.wasmhost_program.proofs.Runs.{memory_serves, no_memory}
 use Rattle.wasmhost_program.proofs.program.run_in_memory.Goals as goal
 
 pub returns-in_default : goal.returns-in_default
-returns-in_default g c = writes_nothing (g.W.Write.contents c.args.output.now)
+returns-in_default g c =
+    no_memory (g.S.Folder.known c.args.folder.now) (g.S.Source.files c.args.folder.now) (settings_of c.args.settings.now) (option_map (λ p. p.now) c.args.given.script) (g.R.Read.remaining c.args.input.now)
+    (g.W.Write.contents c.args.output.now)
 
 pub returns : goal.returns
 returns g c = c.run_over-outcome.ensures (memory_serves c.run_over-outcome.result.1)

@@ -3,6 +3,7 @@ use Rattle.wh_host_model.specs.declared.plain.TurnEnd.{TurnEnd}
 use Rattle.wh_host_model.specs.Space.Parts.{Space, view}
 use Rattle.wh_host.specs.Lent.{TurnsTo, settled_in}
 use Rattle.wh_host.proofs.Backed.{settled_backing, same_backing, then_backing}
+use Rattle.wh_host.proofs.Leavings.{turned_memory}
 use Rattle.wh_host.proofs.Turns.{idle_turn}
 use Rattle.wh_host.proofs.turning.turn_at.Goals as goal
 
@@ -39,3 +40,11 @@ returns-clause-backing c =
 
 pub returns-then-is_idle-clause-backing : goal.returns-then-is_idle-clause-backing
 returns-then-is_idle-clause-backing c = same_backing c.args.memory.now c.args.memory.now refl
+
+pub returns-clause-memory : goal.returns-clause-memory
+returns-clause-memory c =
+    turned_memory c.args.place c.turn_lent-turned.result c.settle_at.result c.args.memory.now c.turn_lent-turned.new.memory c.settle_at.new.memory
+    c.turn_lent-turned.ensures.steps c.settle_at.ensures.answer c.settle_at.ensures.leaves
+
+pub returns-then-is_idle-clause-memory : goal.returns-then-is_idle-clause-memory
+returns-then-is_idle-clause-memory c = refl

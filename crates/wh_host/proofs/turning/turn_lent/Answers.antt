@@ -1,6 +1,7 @@
 use Rattle.std.proofs.Common.{rules, ◌≡◌, refl, subst}
 use Rattle.wh_host.specs.Lent.{TurnsLent}
 use Rattle.wh_host.specs.Backing.{KeepsBacking}
+use Rattle.wh_space.specs.Stepping.{TakesSteps}
 use Rattle.wh_host.proofs.Backed.{rest_backing}
 use Rattle.wh_host.proofs.Turns.{lent_turn, lent_open}
 use Rattle.wh_host.proofs.turning.turn_lent.Goals as goal
@@ -22,3 +23,9 @@ returns-clause-backing c =
     let keeps = c.turn.ensures.keeps in
     let back : c.turn.new.memory.memory.now ≡ _ = search rules in
     subst (KeepsBacking c.args.memory.now) back (rest_backing c.args.place c.args.memory.now c.turn.new.memory.memory.now keeps.3)
+
+pub returns-clause-steps : goal.returns-clause-steps
+returns-clause-steps c =
+    let keeps = c.turn.ensures.keeps in
+    let back : c.turn.new.memory.memory.now ≡ _ = search rules in
+    subst (TakesSteps c.args.place c.args.memory.now) back keeps.3.steps

@@ -2,7 +2,10 @@ use Rattle.wh_host_model.proofs.Host.StuckLemmas.{no_call_is_stuck}
 use Rattle.wh_host_model.proofs.Host.Holding.{memory_is_sound, places_are_right, instances_replay, charges_are_within, journals_are_in_order, suspensions_are_right, frame_is_lacking, again_is_ready}
 use Rattle.wh_host_model.proofs.Host.Agreeing.{one_turn}
 use Rattle.wh_host_model.proofs.Host.Apart.{no_bytes_reach_another}
-use Rattle.wh_host_model.proofs.Host.Progress.{events_happen, loads_are_taken, calls_are_taken, idle_turns_happen, fuel_turns_happen}
+use Rattle.wh_host_model.proofs.Host.Admitting.{admissions_are_taken}
+use Rattle.wh_host_model.proofs.Host.Progress.{loads_are_taken, calls_are_taken, idle_turns_happen, fuel_turns_happen}
+use Rattle.wh_host_model.proofs.Host.Promising.{promises_are_kept}
+use Rattle.wh_host_model.proofs.Host.Starting.{events_happen, ready_turns_happen}
 use Rattle.wh_host_model.proofs.Host.Taken.{ready_steps_are_taken}
 use Rattle.wh_host_model.proofs.runs.every_run.Goals as goal
 
@@ -11,6 +14,9 @@ returns-clause-memory_is_sound c = memory_is_sound
 
 pub returns-clause-places_are_right : goal.returns-clause-places_are_right
 returns-clause-places_are_right c = places_are_right
+
+pub returns-clause-promises_are_kept : goal.returns-clause-promises_are_kept
+returns-clause-promises_are_kept c = promises_are_kept
 
 pub returns-clause-instances_replay : goal.returns-clause-instances_replay
 returns-clause-instances_replay c = instances_replay
@@ -45,6 +51,9 @@ returns-clause-events_happen c = events_happen
 pub returns-clause-loads_are_taken : goal.returns-clause-loads_are_taken
 returns-clause-loads_are_taken c = loads_are_taken
 
+pub returns-clause-admissions_are_taken : goal.returns-clause-admissions_are_taken
+returns-clause-admissions_are_taken c = admissions_are_taken
+
 pub returns-clause-calls_are_taken : goal.returns-clause-calls_are_taken
 returns-clause-calls_are_taken c = calls_are_taken
 
@@ -53,6 +62,9 @@ returns-clause-idle_turns_happen c = idle_turns_happen
 
 pub returns-clause-fuel_turns_happen : goal.returns-clause-fuel_turns_happen
 returns-clause-fuel_turns_happen c = fuel_turns_happen
+
+pub returns-clause-ready_turns_happen : goal.returns-clause-ready_turns_happen
+returns-clause-ready_turns_happen c = ready_turns_happen
 
 pub returns-clause-ready_steps_are_taken : goal.returns-clause-ready_steps_are_taken
 returns-clause-ready_steps_are_taken c = ready_steps_are_taken

@@ -1,9 +1,9 @@
 use Rattle.std.proofs.Common.{◌≡◌, ◌+◌, ◌<◌, Some, slice_get, vec_len}
 use Rattle.crossbeam_channel.specs.Claims.{view, IsSeatAt}
 use Rattle.crossbeam_channel.specs.Ends.{sends_on, receives_on}
-use Rattle.wh_workers.specs.Counting.{turns_of}
+use Rattle.wh_threads.specs.Counting.{turns_of}
 use Rattle.wh_workers.specs.EachAt.{EachAt}
-use Rattle.wh_workers.specs.Handover.{turns_in}
+use Rattle.wh_threads.specs.Handover.{turns_in}
 use Rattle.wh_workers.proofs.crew.join_all.Given as goal
 
 abbrev pub decreases-loop-handle : goal.decreases-loop-handle

@@ -1,8 +1,9 @@
 use Rattle.std.proofs.Common.{arith, ap, sym, ◌∙◌, ◌≡◌, length, slice_get, Some}
 use Rattle.crossbeam_channel.specs.Claims.{view}
-use Rattle.wh_workers.proofs.Grown.{one_more_out}
+use Rattle.wh_threads.proofs.Grown.{one_more_out}
 use Rattle.wh_workers.proofs.Places.{Each-new}
-use Rattle.wh_workers.proofs.Runs.{one_part_less}
+use Rattle.wh_threads.specs.Handover.{turns_in}
+use Rattle.wh_workers.proofs.Turns.{one_part_less, turns_none, turns_none_still}
 use Rattle.wh_workers.proofs.crew.start_all.Goals as goal
 
 pub loop-seat-preserved : goal.loop-seat-preserved
@@ -27,4 +28,20 @@ loop-seat-preserved g c =
             started.1 ∙ c.in-Ok.ensures,
           ),
       one_more_out c.args.lender.now c.loop-seat.lender c.lend_worker.new.self c.loop-seat.seat was.7 lent.out,
+    )
+
+pub returns-in_default-clause-none : goal.returns-in_default-clause-none
+returns-in_default-clause-none g c = (
+  turns_none _ _ c.loop-seat.invariant.1 c.stop.ensures.last,
+  ap turns_in (c.stop.ensures.last.received ∙ c.loop-seat.invariant.2),
+)
+
+pub returns-in-Err-clause-none : goal.returns-in-Err-clause-none
+returns-in-Err-clause-none g c =
+    let cut = c.pass_for.ensures.left in
+    let last = c.start_worker.ensures.last in (
+      turns_none_still _ _ (turns_none _ _ ((λ i. (cut i).sent) ∙ c.loop-seat.invariant.1) last)
+          c.take_refused.ensures.back.sent,
+      c.take_refused.ensures.turns
+          ∙ ap turns_in (last.received ∙ (λ i. (cut i).received) ∙ c.loop-seat.invariant.2),
     )

@@ -1,5 +1,6 @@
 use Rattle.std.proofs.Common.{◌∙◌}
 use Rattle.wh_cell.proofs.Asked.{fits_admitted}
+use Rattle.wh_cell.proofs.Led.{led_by_admission}
 use Rattle.wh_cell.proofs.Steps.{asked_in_step}
 use Rattle.wh_cell.proofs.locked.Locked.admit.Goals as goal
 
@@ -9,4 +10,4 @@ invariant_of-self g c =
     let s = c.self.invariant in
     let x = a.ensures.admits s.some.0 s.some.1 in
     asked_in_step g.D.SwapDev.held g.D.SwapDev.keeps g.D.SwapDev.honest g.D.SwapDev.faults _ a.new.self c.leave.new.left s (x.1, x.4)
-    (fits_admitted c.self.inside.host a.new.self c.self.inside.books.charges c.args.of.number _ a.result s.some s.fits a.ensures.admits) a.ensures.backing (c.leave.ensures.left ∙ c.leave.ensures.owner)
+    (fits_admitted c.self.inside.host a.new.self c.self.inside.books.charges c.args.of.number _ a.result s.some s.fits a.ensures.admits) (led_by_admission c.self.inside.host a.new.self c.args.of.number _ a.result a.ensures.admits) a.ensures.backing (c.leave.ensures.left ∙ c.leave.ensures.owner)

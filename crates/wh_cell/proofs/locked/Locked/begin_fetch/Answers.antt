@@ -1,4 +1,4 @@
-use Rattle.std.proofs.Common.{◌≡◌, ◌∙◌, Some, sym, ap, subst}
+use Rattle.std.proofs.Common.{◌∙◌, Some, sym, ap, subst}
 use Rattle.wh_host_model.specs.Space.Errands.{pass_of, to_read}
 use Rattle.wh_host.specs.Carried.{slot_to_read}
 use Rattle.wh_cell.specs.Knowing.{AgreesWith, with_ticket}

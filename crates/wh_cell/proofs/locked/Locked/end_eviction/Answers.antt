@@ -1,4 +1,4 @@
-use Rattle.std.proofs.Common.{◌≡◌, ◌∙◌, refl, sym, ap}
+use Rattle.std.proofs.Common.{◌∙◌, refl, sym, ap}
 use Rattle.wh_cell.specs.Knowing.{without_ticket}
 use Rattle.wh_cell.proofs.Steps.{evicted_in_step}
 use Rattle.wh_cell.proofs.locked.Locked.end_eviction.Goals as goal

@@ -7,7 +7,7 @@ invariant_of-locked g c =
     let made = begins_as c.of.result.value c.args.host c.of-2.result.value c.args.fittings.device c.of.ensures c.of-2.ensures in
     let known = c.open-pact.ensures.second ∙ (c.open-pact.ensures.first ∙ made) in
     let left = c.open-pact-2.ensures.second ∙ leaves_as c.of-3.result.value c.args.host c.of-4.result.value c.open-pact.result.2 c.open-pact-2.result.1 c.open-pact-2.ensures.first c.of-3.ensures c.of-4.ensures in
-    begun_in_step g.D.SwapDev.held g.D.SwapDev.keeps g.D.SwapDev.honest g.D.SwapDev.faults _ c.args.fittings.device c.requires.uncharged c.requires.together
+    begun_in_step g.D.SwapDev.held g.D.SwapDev.keeps g.D.SwapDev.honest g.D.SwapDev.faults _ c.args.fittings.device c.requires.uncharged c.requires.together c.requires.led
     (ap (λ b. b.charges) c.in_ok-books.ensures.books) known left
 
 pub invariant_of-backing : goal.invariant_of-backing

@@ -3,7 +3,7 @@ use Rattle.std.specs.Prelude.{Ok, IfOk, OnErr}
 use Rattle.wh_model.specs.declared.memory.Need.{Need}
 use Rattle.wh_host_model.specs.Host.Happens.{AwaitsFrame}
 use Rattle.wh_host_model.specs.Space.Laws.{IsProvided}
-use Rattle.wh_host_model.specs.Space.Provide.{FailsTruly, ProvidesTruly}
+use Rattle.wh_host_model.specs.Space.Provide.{FailsToProvide, FailsTruly, Provides, ProvidesTruly}
 use Rattle.wh_host.specs.Paging.{MovesAnyhow, MovesWith, WaitsFor, provide_fault}
 use Rattle.wh_cell.specs.Knowing.{BackingState, KnownState, NoneOut}
 use Rattle.wh_cell.specs.Locking.{LockedState}
@@ -59,3 +59,13 @@ pub returns-clause-fails : goal.returns-clause-fails
 returns-clause-fails g c =
     let p = c.provide-provided in
     subst (λ (l : LockedState g.row.D.Denot). ((need : Need) → WaitsFor l.host c.args.id need → g.D.SwapDev.honest p.new.device → OnErr p.result (FailsTruly l.host.space c.args.id.place need p.new.self.space))) c.self.view_is p.ensures.fails
+
+pub returns-clause-provides_anyhow : goal.returns-clause-provides_anyhow
+returns-clause-provides_anyhow g c =
+    let p = c.provide-provided in
+    subst (λ (l : LockedState g.row.D.Denot). ((need : Need) → WaitsFor l.host c.args.id need → IfOk p.result (λ gone. Provides l.host.space c.args.id.place need gone p.new.self.space))) c.self.view_is p.ensures.provides_anyhow
+
+pub returns-clause-fails_anyhow : goal.returns-clause-fails_anyhow
+returns-clause-fails_anyhow g c =
+    let p = c.provide-provided in
+    subst (λ (l : LockedState g.row.D.Denot). ((need : Need) → WaitsFor l.host c.args.id need → OnErr p.result (FailsToProvide l.host.space c.args.id.place need p.new.self.space))) c.self.view_is p.ensures.fails_anyhow

@@ -1,7 +1,8 @@
-use Rattle.std.proofs.Common.{◌≡◌, ◌+◌, ap, subst}
+use Rattle.std.proofs.Common.{◌≡◌, ◌+◌, ℕ, ap, subst}
+use Rattle.wh_host_model.specs.declared.plain.InstId.{InstId}
 use Rattle.wh_host_model.specs.Host.Happens.{IsTurn}
 use Rattle.wh_host_model.specs.Host.Worlds.{World}
-use Rattle.wh_host.specs.Hosting.{IsHost}
+use Rattle.wh_host.specs.Hosting.{HostState, IsHost}
 use Rattle.wh_cell.specs.Leaving.{HasTakenOn}
 use Rattle.wh_cell.specs.Locking.{BooksState, LockedState}
 use Rattle.wh_cell.proofs.Steps.{turned_in_step}
@@ -10,12 +11,16 @@ use Rattle.wh_cell.proofs.locked.Locked.turn.Goals as goal
 pub invariant_of-self : goal.invariant_of-self
 invariant_of-self g c =
     let t = c.counted_turn-end in
-    turned_in_step g.D.SwapDev.held g.D.SwapDev.keeps g.D.SwapDev.honest g.D.SwapDev.faults _ t.new.host _ c.args.id c.args.quantum t.result.1 t.result.0 c.self.invariant t.ensures.turns t.ensures.taken t.ensures.backing (ap (λ b. b.charges) c.turn.ensures.books)
+    turned_in_step g.D.SwapDev.held g.D.SwapDev.keeps g.D.SwapDev.honest g.D.SwapDev.faults _ t.new.host _ c.instance-instance.result c.quantum-quantum.result t.result.1 t.result.0 c.self.invariant t.ensures.turns t.ensures.taken t.ensures.backing (ap (λ b. b.charges) c.turn.ensures.books)
 
 pub returns-clause-turns : goal.returns-clause-turns
 returns-clause-turns g c =
     let t = c.counted_turn-end in
-    subst (λ (l : LockedState g.row.D.Denot). ((w : World) → IsHost l.host w → (w2 : World) × IsTurn w c.args.id c.args.quantum t.result.0 w2 × IsHost t.new.host w2)) c.self.view_is t.ensures.turns
+    let of : HostState → InstId → ℕ → Type 0 = λ h id q. ((w : World) → IsHost h w → (w2 : World) × IsTurn w id q t.result.0 w2 × IsHost t.new.host w2) in
+    let here : of c.args.self.now.host c.instance-instance.result c.quantum-quantum.result =
+    subst (λ (l : LockedState g.row.D.Denot). of l.host c.instance-instance.result c.quantum-quantum.result) c.self.view_is t.ensures.turns in
+    subst (λ q. of c.args.self.now.host c.args.order.instance q) c.quantum-quantum.ensures
+    (subst (λ id. of c.args.self.now.host id c.quantum-quantum.result) c.instance-instance.ensures here)
 
 pub returns-clause-counted : goal.returns-clause-counted
 returns-clause-counted g c =

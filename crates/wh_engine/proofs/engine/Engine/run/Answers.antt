@@ -1,5 +1,8 @@
 use Rattle.std.proofs.Common.{subst}
+use Rattle.wh_scheduler.specs.InHand.{left_of}
 use Rattle.wh_engine.specs.Draining.{AllRest, SomeGoes}
+use Rattle.wh_engine.specs.Standing.{engine_on}
+use Rattle.wh_engine.proofs.Opened.{goes_open, only_open}
 use Rattle.wh_engine.proofs.Runs.{ran_at_once, ran_each}
 use Rattle.wh_engine.proofs.engine.Engine.run.Goals as goal
 
@@ -10,7 +13,7 @@ returns-then-not-can_go_on-clause-runs g c well =
 
 pub returns-clause-runs : goal.returns-clause-runs
 returns-clause-runs g c =
-    ran_each g.D.SwapDev.keeps g.D.SwapDev.honest g.D.SwapDev.faults c.args.self.now c.args.host.now c.run-served.new.self
+    ran_each g.D.SwapDev.keeps g.D.SwapDev.honest g.D.SwapDev.faults c.args.self.now (left_of c.args.host.now) (left_of c.run-served.new.self)
     c.run-served.ensures.came c.known.ensures.together.none_out
     (subst (λ h. AllRest h c.args.self.now.guests.items) c.host-3.ensures c.if-can_go_on.ensures)
 
@@ -20,3 +23,14 @@ returns-in-Err-clause-transcript g c same = absurd (c.stops_by.ensures.others sa
 pub returns-then-can_go_on-clause-transcript : goal.returns-then-can_go_on-clause-transcript
 returns-then-can_go_on-clause-transcript g c same =
     subst (λ h. SomeGoes h c.args.self.now.guests.items) c.host-3.ensures c.if-can_go_on.ensures
+
+-- whichever way it stops, a call could go on when it began
+pub returns-in-Err-clause-open : goal.returns-in-Err-clause-open
+returns-in-Err-clause-open g c =
+    let before = c.args.host.now.host in
+    only_open (engine_on before c.args.self.now) c.stops_by.result (goes_open c.args.self.now before (subst (λ h. SomeGoes h c.args.self.now.guests.items) c.host.ensures c.if-not-can_go_on.ensures))
+
+pub returns-then-can_go_on-clause-open : goal.returns-then-can_go_on-clause-open
+returns-then-can_go_on-clause-open g c =
+    let before = c.args.host.now.host in
+    goes_open c.args.self.now before (subst (λ h. SomeGoes h c.args.self.now.guests.items) c.host.ensures c.if-not-can_go_on.ensures)

@@ -1,7 +1,9 @@
-use Rattle.std.proofs.Common.{◌≡◌, Some, slice_get, refl, sym, subst, ◌∙◌, ◌+◌, arith, Option, List}
+use Rattle.std.proofs.Common.{◌≡◌, Some, slice_get, refl, sym, ap, subst, ◌∙◌, ◌+◌, arith, Option, List}
 use Rattle.slab.specs.Slab.{Updates}
 use Rattle.wh_host_model.specs.Host.Admission.{no_module}
 use Rattle.wh_host_model.specs.Host.Happens.{admit_ok, admit_refused, admit_wants_memory, no_memory_to_admit}
+use Rattle.wh_host_model.specs.Host.Worlds.{promised}
+use Rattle.wh_host_model.specs.Space.Places.{Enters}
 use Rattle.wh_load.specs.Refusing.{view_linked}
 use Rattle.wh_admit.specs.declared.room.Room.{Room}
 use Rattle.wh_admit.specs.Faults.{fault_of}
@@ -9,7 +11,7 @@ use Rattle.wh_admit.specs.Views.{view_params}
 use Rattle.wh_host.specs.declared.parts.Resident.{Resident}
 use Rattle.wh_host.specs.Admitting.{fault_answer}
 use Rattle.wh_host.specs.Hosting.{HostState, IsHost}
-use Rattle.wh_host.proofs.Comers.{admitted_here, begins_as, few_live, module_is_small, no_module_is_there, refused_as, room_for, stands}
+use Rattle.wh_host.proofs.Comers.{admitted_here, begins_as, claim_is, few_live, module_is_small, no_module_is_there, refused_as, room_for, stands}
 use Rattle.wh_host.proofs.host.Host.admit.Goals as goal
 
 pub returns-in_default-clause-admits : goal.returns-in_default-clause-admits
@@ -133,3 +135,16 @@ returns-clause-admits c w st =
     let begins = begins_as (view_linked c.in-Some.module.now.linked) p c.in-Ok.admitted c.in-Ok.ensures.begins in
     let made = admitted_here h w c.args.of.number p c.in-Some.module.now c.in-Ok.admitted c.in-Ok-made.resident c.in-Ok-entered.place i.residents c.enter_next-entered.new.residents c.insert_reserved.new.self c.enter_next-entered.new.memory here is none begins c.in-Ok-made.ensures refl c.in-Ok-entered.ensures.ok (subst (λ n. Updates c.enter_next-entered.new.residents c.insert_reserved.new.self n (Some c.in-Ok-made.resident)) (c.insert_reserved.ensures.key ∙ c.in-Ok-entered.ensures.ok.next) c.insert_reserved.ensures.updates) in
     (admit_ok _, made.0, refl, made.1, subst (λ n. IsHost (record h { residents = c.insert_reserved.new.self.slots; live = i.live + 1; space = c.enter_next-entered.new.memory; next = n }) made.0) (sym c.in-Some-checked_add.ensures.1) made.2)
+
+pub returns-clause-memory : goal.returns-clause-memory
+returns-clause-memory c =
+    let i = c.self.inside in
+    let p = view_params c.args.params in
+    let begins = begins_as (view_linked c.in-Some.module.now.linked) p c.in-Ok.admitted c.in-Ok.ensures.begins in
+    let next = c.in-Ok-entered.ensures.ok in
+    let same_claim = claim_is i.next c.in-Ok.admitted p begins.shares begins.min begins.max in
+    let space = ap (λ (z : HostState). z.space) c.self.view_is in (
+      c.in-Ok.admitted.begun.pages,
+      subst (λ s. Enters s c.in-Ok-entered.place (promised i.next p) c.in-Ok.admitted.begun.pages c.enter_next-entered.new.memory) space
+          (subst (λ z. Enters i.memory c.in-Ok-entered.place z c.in-Ok.admitted.begun.pages c.enter_next-entered.new.memory) same_claim next.enters),
+    )

@@ -1,5 +1,6 @@
-use Rattle.std.proofs.Common.{◌≡◌, Some, slice_set, refl, sym, subst, ◌∙◌}
+use Rattle.std.proofs.Common.{◌≡◌, Some, slice_set, refl, sym, ap, subst, ◌∙◌}
 use Rattle.wh_host_model.specs.Host.Happens.{call_ok, call_no_instance, call_no_call, no_one_to_cancel, no_call_to_cancel}
+use Rattle.wh_host_model.specs.Space.Stores.{ended}
 use Rattle.wh_host.specs.Hosting.{HostState, IsHost, resident_at}
 use Rattle.wh_host.proofs.Hosts.{kept_back, nobody, of_who_is_there, put_back, somebody_else}
 use Rattle.wh_host.proofs.Requests.{cancelled_here, lives_there}
@@ -85,3 +86,6 @@ returns-clause-asks c w st =
     let here = subst (λ z. IsHost z w) (sym c.self.view_is) st in
     let made = cancelled_here h w c.args.id c.in-Some.resident.now c.cancel.new.self here (sym c.in-Some.ensures.value) c.if-not-has_number.ensures (c.if-not-cancel.ensures.some refl) in
     (call_ok, made.0, refl, made.1, subst (λ s. IsHost (record h { residents = slice_set h.residents c.args.id.place (Some (record c.in-Some.resident.now { tenant = c.cancel.new.self })); space = s }) made.0) (sym c.end.ensures) made.2)
+
+pub returns-clause-memory : goal.returns-clause-memory
+returns-clause-memory c = c.end.ensures ∙ ap (λ (z : HostState). ended z.space c.args.id.place) c.self.view_is

@@ -2,7 +2,7 @@ use Rattle.std.proofs.Common.{◌≡◌, Some, refl, sym, ap, subst, ◌∙◌}
 use Rattle.wh_host_model.specs.Host.Happens.{AwaitsFrame}
 use Rattle.wh_host_model.specs.Space.Errands.{tickets}
 use Rattle.wh_host_model.specs.Space.Laws.{IsProvided}
-use Rattle.wh_host_model.specs.Space.Provide.{FailsTruly, ProvidesTruly}
+use Rattle.wh_host_model.specs.Space.Provide.{FailsToProvide, FailsTruly, Provides, ProvidesTruly}
 use Rattle.wh_reclaim.specs.Whole.{IsAsWhole}
 use Rattle.wh_host.specs.Hosting.{HostState, IsHost, resident_at}
 use Rattle.wh_host.specs.Paging.{WaitsFor}
@@ -266,3 +266,40 @@ returns-clause-anyhow g c w st =
     let waits = c.if-not-awaits_frame.ensures in
     let keeps = keeps_fault x.tenant c.fail.new.self c.in-Err.fault c.fail.result c.fail.ensures.some c.fail.ensures.none waits in
     failed_anyhow h w c.args.id x c.fail.new.self c.in-Err.fault c.provide.new.memory here at c.if-not-has_number.ensures waits none (λ need stands. c.in-Err.ensures.fails need stands) keeps
+
+pub returns-in_default-clause-provides_anyhow : goal.returns-in_default-clause-provides_anyhow
+returns-in_default-clause-provides_anyhow g c need waits =
+    let i = c.self.inside in
+    let h : HostState = record { modules = i.modules.items; residents = i.residents.slots; live = i.live; space = i.memory; next = i.next } in
+    let mine = subst (λ z. WaitsFor z c.args.id need) (sym c.self.view_is) waits in
+    absurd (no_one_waits h c.args.id need (sym c.in_default.ensures.value) mine)
+
+pub returns-then-not-has_number-clause-provides_anyhow : goal.returns-then-not-has_number-clause-provides_anyhow
+returns-then-not-has_number-clause-provides_anyhow g c need waits =
+    let i = c.self.inside in
+    let h : HostState = record { modules = i.modules.items; residents = i.residents.slots; live = i.live; space = i.memory; next = i.next } in
+    let mine = subst (λ z. WaitsFor z c.args.id need) (sym c.self.view_is) waits in
+    absurd (another_waits h c.args.id need c.in-Some.resident.now (sym c.in-Some.ensures.value) c.if-not-has_number.ensures mine)
+
+pub returns-then-not-awaits_frame-clause-provides_anyhow : goal.returns-then-not-awaits_frame-clause-provides_anyhow
+returns-then-not-awaits_frame-clause-provides_anyhow g c need waits =
+    let i = c.self.inside in
+    let h : HostState = record { modules = i.modules.items; residents = i.residents.slots; live = i.live; space = i.memory; next = i.next } in
+    let mine = subst (λ z. WaitsFor z c.args.id need) (sym c.self.view_is) waits in
+    absurd (nothing_waits h c.args.id need c.in-Some.resident.now (sym c.in-Some.ensures.value) c.if-not-has_number.ensures c.if-not-awaits_frame.ensures mine)
+
+pub returns-in-Ok-clause-provides_anyhow : goal.returns-in-Ok-clause-provides_anyhow
+returns-in-Ok-clause-provides_anyhow g c need waits =
+    let i = c.self.inside in
+    let h : HostState = record { modules = i.modules.items; residents = i.residents.slots; live = i.live; space = i.memory; next = i.next } in
+    let space : h.space ≡ c.args.self.now.space = ap (λ (z : HostState). z.space) c.self.view_is in
+    let mine = subst (λ z. WaitsFor z c.args.id need) (sym c.self.view_is) waits in
+    subst (λ s. Provides s c.args.id.place need c.in-Ok.left c.provide.new.memory) space (c.in-Ok.ensures.provides need (waits_stands h c.args.id need mine))
+
+pub returns-clause-fails_anyhow : goal.returns-clause-fails_anyhow
+returns-clause-fails_anyhow g c need waits =
+    let i = c.self.inside in
+    let h : HostState = record { modules = i.modules.items; residents = i.residents.slots; live = i.live; space = i.memory; next = i.next } in
+    let space : h.space ≡ c.args.self.now.space = ap (λ (z : HostState). z.space) c.self.view_is in
+    let mine = subst (λ z. WaitsFor z c.args.id need) (sym c.self.view_is) waits in
+    subst (λ s. FailsToProvide s c.args.id.place need c.provide.new.memory) space (c.in-Err.ensures.fails need (waits_stands h c.args.id need mine))

@@ -1,5 +1,6 @@
 use Rattle.std.proofs.Common.{ap, ◌≡◌, ◌+◌, ◌-◌, Some, None, refl, sym, subst, ◌∙◌, arith}
 use Rattle.wh_host_model.specs.Host.Happens.{no_one_to_release}
+use Rattle.wh_host_model.specs.Space.Places.{Exits}
 use Rattle.wh_host.specs.Hosting.{HostState, IsHost, resident_at}
 use Rattle.wh_host.proofs.Backed.{exits_backing, same_backing, then_backing}
 use Rattle.wh_host.proofs.Hosts.{nobody, one_there, put_back, somebody_else}
@@ -76,3 +77,6 @@ returns-clause-backing c =
     let s = c.self.inside.memory in
     let here = same_backing c.args.self.now.space s (ap (λ (z : HostState). z.space) c.self.view_is) in
     then_backing c.args.self.now.space s c.exit.new.self here (exits_backing s c.args.id.place c.exit.new.self c.exit.ensures)
+
+pub returns-clause-memory : goal.returns-clause-memory
+returns-clause-memory c = subst (λ s. Exits s c.args.id.place c.exit.new.self) (ap (λ (z : HostState). z.space) c.self.view_is) c.exit.ensures

@@ -1,4 +1,4 @@
-use Rattle.std.proofs.Common.{◌≡◌, ◌∙◌, refl, ap, subst, sym, string_bytes}
+use Rattle.std.proofs.Common.{subst, sym, string_bytes}
 use Rattle.wh_engine.proofs.Sayings.{on_ok_then}
 use Rattle.wh_host_model.specs.Lines.Commands as asked_of
 use Rattle.wh_script.specs.Answering.{Obeys}

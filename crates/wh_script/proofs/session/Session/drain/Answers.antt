@@ -1,9 +1,20 @@
-use Rattle.std.proofs.Common.{subst, sym, ap, string_bytes}
-use Rattle.wh_engine.specs.Draining.{DeviceServesWell}
+use Rattle.std.proofs.Common.{◌∙◌, Err, IfErr, subst, sym, ap, string_bytes}
+use Rattle.std.proofs.lemmas.Result.{err_from_is_err_and}
+use Rattle.wh_engine.specs.Draining.{DeviceServesWell, StopsOnlyOpen}
 use Rattle.wh_engine.specs.Saying.{SaysAll}
 use Rattle.wh_engine.specs.Standing.{engine_on}
+use Rattle.wh_engine.proofs.Opened.{only_open_before}
 use Rattle.wh_script.proofs.Drained.{has_drained}
 use Rattle.wh_script.proofs.session.Session.drain.Goals as goal
+
+pub returns-in_err-run-clause-open : goal.returns-in_err-run-clause-open
+returns-in_err-run-clause-open g c =
+    let before = c.args.self.now in
+    let epoch = c.begin_epoch.new.self in
+    let e = engine_on before.host.host before.engine in
+    let p = err_from_is_err_and c.from_residual.result c.from_residual.ensures.1 in
+    subst (λ r. IfErr r (StopsOnlyOpen e)) (sym (p.1 ∙ ap Err p.2))
+    (only_open_before e (engine_on epoch.host.host epoch.engine) c.in_err-run.field-0.0 c.begin_epoch.ensures.stands c.in_err-run.ensures.open)
 
 pub returns-clause-drains : goal.returns-clause-drains
 returns-clause-drains g c same =

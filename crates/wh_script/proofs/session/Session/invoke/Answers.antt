@@ -3,6 +3,7 @@ use Rattle.wh_host_model.specs.Lines.Commands as asked_of
 use Rattle.wh_engine.proofs.Sayings.{on_ok_then}
 use Rattle.wh_engine.specs.Draining.{DeviceMayFail, DeviceServesWell, DeviceStaysTrue}
 use Rattle.wh_engine.specs.Standing.{engine_on}
+use Rattle.wh_engine.proofs.Opened.{err_before}
 use Rattle.wh_script.proofs.Answered.{is_received, has_no_guest, invoke_wants, where_ok, where_err}
 use Rattle.wh_script.proofs.Devices.{true_same, fails_same}
 use Rattle.wh_script.proofs.session.Session.invoke.Goals as goal
@@ -25,6 +26,13 @@ returns-then-is_err-clause-answers g c =
     (engine_on after.host.host after.engine) (string_bytes before.text) (string_bytes after.text)
     (where_err c.invoke-asked.result c.if-is_err.ensures.value c.invoke-asked.ensures.err)
     (complains (subst (λ o. DeviceServesWell g.D.SwapDev.honest g.D.SwapDev.faults o after.host.device) (sym c.invoke-asked.ensures.device) same)))
+
+pub returns-then-is_err-clause-open : goal.returns-then-is_err-clause-open
+returns-then-is_err-clause-open g c =
+    let before = c.args.self.now in
+    let mid = c.invoke-asked.new in
+    err_before (engine_on before.host.host before.engine) (engine_on mid.host.host mid.self) c.complain_drained-then-is_err.result
+    (where_err c.invoke-asked.result c.if-is_err.ensures.value c.invoke-asked.ensures.err) c.complain_drained-then-is_err.ensures.open
 
 pub returns-clause-answers : goal.returns-clause-answers
 returns-clause-answers g c same files =

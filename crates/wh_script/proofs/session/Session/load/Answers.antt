@@ -1,8 +1,7 @@
-use Rattle.std.proofs.Common.{◌≡◌, ◌∙◌, refl, ap, subst, sym, string_bytes}
+use Rattle.std.proofs.Common.{refl, subst, sym, string_bytes}
 use Rattle.wh_engine.proofs.Sayings.{on_ok_then}
 use Rattle.wh_host_model.specs.Lines.Commands as asked_of
 use Rattle.wh_script.specs.Answering.{Obeys}
-use Rattle.std.proofs.Common.{Some, true}
 use Rattle.wh_script.proofs.Within.{some_number, no_number}
 use Rattle.wh_script.proofs.Obeyed.{module_is_taken, no_such_file, is_wanted, some_module, none_module}
 use Rattle.wh_engine.specs.Standing.{engine_on}

@@ -1,7 +1,7 @@
-use Rattle.std.proofs.Common.{[], replicate, ap, subst, sym}
+use Rattle.std.proofs.Common.{ap, refl, subst, sym}
 use Rattle.wh_reclaim.specs.Together.{AreTogether}
 use Rattle.wh_cell.specs.Leaving.{LeftState}
-use Rattle.wh_cell.proofs.Begun.{new_uncharged, new_agrees}
+use Rattle.wh_cell.proofs.Begun.{new_agrees, new_led, new_uncharged}
 use Rattle.wh_host_model.specs.Lines.Made.{nothing_made}
 use Rattle.wh_settings.specs.View.{settings_of}
 use Rattle.wh_engine.specs.Standing.{StandsForScript, engine_on}
@@ -10,6 +10,9 @@ use Rattle.wh_script.proofs.session.Session.new.Goals as goal
 pub new-requires-2-clause-uncharged : goal.new-requires-2-clause-uncharged
 new-requires-2-clause-uncharged g c = new_uncharged c.in-Ok.host c.args.settings.now.frames c.args.settings.now.slots _ c.in-Ok.ensures.ok
 
+pub new-requires-2-clause-led : goal.new-requires-2-clause-led
+new-requires-2-clause-led g c honest = new_led c.in-Ok.host c.args.settings.now.frames c.args.settings.now.slots _ c.in-Ok.ensures.ok
+
 pub new-requires-2-clause-together : goal.new-requires-2-clause-together
 new-requires-2-clause-together g c =
     subst (λ held. AreTogether c.in-Ok.host.space held) (sym c.requires.empty) (new_agrees c.in-Ok.host c.args.settings.now.frames c.args.settings.now.slots _ c.in-Ok.ensures.ok)
@@ -17,5 +20,5 @@ new-requires-2-clause-together g c =
 pub returns-clause-stands : goal.returns-clause-stands
 returns-clause-stands g c =
     let settings = settings_of c.args.settings.now in
-    let same = ap (λ (o : LeftState g.row.D.Denot). o.host) c.in-Ok-new.ensures in
-    subst (λ h. StandsForScript settings (engine_on h c.new-3.result) nothing_made) (sym same) (c.new-3.ensures settings _ c.in-Ok.host c.in-Ok.ensures.ok)
+    let same = ap (λ (o : LeftState g.row.D.Denot). o.host) c.in-Ok-new.ensures.host in
+    subst (λ h. StandsForScript settings (engine_on h c.new-3.result) nothing_made) (sym same) (c.new-3.ensures settings c.args.settings.now.tax c.in-Ok.host refl refl c.in-Ok.ensures.ok)

@@ -1,8 +1,7 @@
-use Rattle.std.proofs.Common.{◌≡◌, ◌∙◌, ◌++◌, refl, ap, subst, sym, string_bytes}
+use Rattle.std.proofs.Common.{subst, sym, string_bytes}
 use Rattle.wh_engine.proofs.Sayings.{on_ok_then}
-use Rattle.wh_host_model.specs.Lines.Commands as asked_of
 use Rattle.wh_script.specs.Answering.{Obeys}
-use Rattle.wh_commands.specs.declared.command.Command.TheVariants.{Module, Load, Admit, Invoke, Drain, Refuel, Cancel, Retry, Scan, Report, Release}
+use Rattle.wh_commands.specs.declared.command.Command.TheVariants.{Module, Load, Admit, Refuel, Cancel, Retry, Scan, Report, Release}
 use Rattle.wh_commands.specs.Found.{Says}
 use Rattle.wh_script.proofs.Asked.{asked_as, is_drain}
 use Rattle.wh_script.proofs.Obeyed.{only_drained}

@@ -1,4 +1,4 @@
-use Rattle.std.proofs.Common.{rules, Err, [], sym, ap, subst, ◌∙◌, string_bytes}
+use Rattle.std.proofs.Common.{rules, Err, sym, ap, subst, ◌∙◌, string_bytes}
 use Rattle.std.proofs.lemmas.Result.{err_from_is_err_and}
 use Rattle.std.specs.Io.KnownBytes.{Appends}
 use Rattle.wh_engine.specs.declared.fault.ScriptFault.TheVariants.{Memory}
@@ -73,7 +73,7 @@ returns-in_err-drain-in-End g c =
       runs = λ settings stands served.
           let well = served_first keeps honest faults first before after c.drain.ensures.device l.invariant.faults c.drain.ensures.faults served in
           subst (Runs settings files script (left c.read.new.reader) (contents c.args.writer.now) (contents l.writer)) (sym (p.1 ∙ ap Err p.2))
-          (stops settings files script old (contents c.args.writer.now) (contents l.writer) l.number (engine_on l.self.host.host l.self.engine) (l.invariant.so_far settings stands well) (left c.read.new.reader) fault c.in_err-drain-in-End.ensures.err);
+          (stops settings files script old (contents c.args.writer.now) (contents l.writer) l.number (engine_on l.self.host.host l.self.engine) (l.invariant.so_far settings stands well) (left c.read.new.reader) fault c.in_err-drain-in-End.ensures.err c.in_err-drain-in-End.ensures.open);
       faults = fails_then keeps honest faults first before after l.invariant.faults c.drain.ensures.faults;
       device = true_then keeps honest faults first before after l.invariant.device c.drain.ensures.device;
     }
@@ -130,7 +130,7 @@ returns-in_err-answer-in_default g c =
       runs = λ settings stands served.
           let well = served_first keeps honest faults first before after c.answer.ensures.device l.invariant.faults c.answer.ensures.faults served in
           subst (Runs settings files script (left c.read.new.reader) (contents c.args.writer.now) (contents l.writer)) (sym (p.1 ∙ ap Err p.2))
-          (stops settings files script old (contents c.args.writer.now) (contents l.writer) l.number (engine_on l.self.host.host l.self.engine) (l.invariant.so_far settings stands well) (left c.read.new.reader) fault c.in_err-answer-in_default.ensures.err);
+          (stops settings files script old (contents c.args.writer.now) (contents l.writer) l.number (engine_on l.self.host.host l.self.engine) (l.invariant.so_far settings stands well) (left c.read.new.reader) fault c.in_err-answer-in_default.ensures.err c.in_err-answer-in_default.ensures.open);
       faults = fails_then keeps honest faults first before after l.invariant.faults c.answer.ensures.faults;
       device = true_then keeps honest faults first before after l.invariant.device c.answer.ensures.device;
     }
@@ -209,4 +209,4 @@ returns-clause-runs g c settings stands served =
     let l = c.loop-number in
     let script = left c.args.reader.now in
     let old = coming l.lines (left l.reader) in
-    stops settings files script old (contents c.args.writer.now) (contents l.writer) l.number (engine_on l.self.host.host l.self.engine) (l.invariant.so_far settings stands served) (left l.reader) Memory tt
+    stops settings files script old (contents c.args.writer.now) (contents l.writer) l.number (engine_on l.self.host.host l.self.engine) (l.invariant.so_far settings stands served) (left l.reader) Memory tt tt

@@ -1,0 +1,2 @@
+mod InHand
+mod Rosters

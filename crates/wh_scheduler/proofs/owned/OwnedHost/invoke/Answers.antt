@@ -1,0 +1,18 @@
+use Rattle.std.proofs.Common.{ap, sym}
+use Rattle.wh_host.specs.Asking.{AnswersInvoke}
+use Rattle.wh_cell.specs.Leaving.{LeftState}
+use Rattle.wh_scheduler.proofs.InHand.{books_on, in_hand_on, on_owned}
+use Rattle.wh_scheduler.proofs.owned.OwnedHost.invoke.Goals as goal
+
+pub invariant_of-self : goal.invariant_of-self
+invariant_of-self g c =
+    in_hand_on c.self.inside.locked c.self.inside.backing c.self.inside.owner c.invoke.new.owner c.self.inside.shares c.in-Some.locked c.invoke.new.self c.self.invariant c.in-Some.is c.invoke.ensures.known c.invoke.ensures.books c.invoke.ensures.knows
+
+pub returns-clause-asks : goal.returns-clause-asks
+returns-clause-asks g c =
+    on_owned (λ h h2. AnswersInvoke h c.args.id c.args.name.now c.args.given.now c.args.fuel c.invoke.result h2) c.self.inside.locked c.self.inside.backing c.self.inside.owner c.self.inside.shares c.args.self.now c.in-Some.locked c.invoke.new.self.host c.invoke.new.owner.host
+    c.self.invariant c.self.view_is c.in-Some.is (sym (ap (λ (z : LeftState g.row.D.Denot). z.host) c.invoke.ensures.knows)) c.invoke.ensures.asks
+
+pub returns-clause-books : goal.returns-clause-books
+returns-clause-books g c =
+    books_on c.self.inside.locked c.self.inside.owner c.invoke.new.owner c.args.self.now c.in-Some.locked c.invoke.new.self c.self.view_is c.in-Some.is c.invoke.ensures.books

@@ -1,0 +1,3 @@
+pub mod InHand
+pub mod Rostered
+pub mod Stored

@@ -1,0 +1,505 @@
+//! A host in the hand of its owner: what is asked of it between two runs of its calls, and the runs.
+
+ghost use Rattle.std.specs.Prelude.{◌≡◌, ℕ, ◌+◌, ◌/◌, ◌≤◌, ◌<◌, Some, IfOk, IfSome, OnErr, OnOk};
+ghost use Rattle.crossbeam_channel.specs.Claims.{view};
+ghost use Rattle.wh_admit.specs.Views.{view_params};
+ghost use Rattle.wh_host_model.specs.Host.Happens.{IsCancel, IsRefuel, IsRetry};
+ghost use Rattle.wh_host_model.specs.Host.Worlds.{promised};
+ghost use Rattle.wh_host_model.specs.Space.Places.{Enters, Exits};
+ghost use Rattle.wh_host_model.specs.Space.Stores.{Epochs, ended};
+ghost use Rattle.wh_reclaim.specs.Together.{AreTogether};
+ghost use Rattle.wh_host.specs.Admitting.{AnswersAdmit};
+ghost use Rattle.wh_host.specs.Asking.{AnswersCall, AnswersInvoke};
+ghost use Rattle.wh_host.specs.Backing.{KeepsBacking};
+ghost use Rattle.wh_host.specs.Loading.{AnswersLoad};
+ghost use Rattle.wh_host.specs.Paging.{MovesOnly};
+ghost use Rattle.wh_host.specs.Releasing.{AnswersRelease};
+ghost use Rattle.wh_host.specs.Rolls.{IsRollOf};
+ghost use Rattle.wh_host.specs.Showing.{ShowsInstance, StandsByEvents};
+ghost use Rattle.wh_transcript.specs.Transcripts.{IsReplayable};
+ghost use Rattle.wh_threads.specs.Counting.{turns_of};
+ghost use Rattle.wh_threads.specs.Handover.{SameMessages};
+ghost use Rattle.wh_workers.specs.Serving.{AreRun, AreTurns};
+ghost use Rattle.wh_cell.specs.Knowing.{known_of};
+ghost use Rattle.wh_cell.specs.Leaving.{HasNoCharge, left_as};
+ghost use Rattle.wh_cell.specs.Locking.{now_of};
+ghost use Rattle.wh_cell.specs.Owning.{ComesOn};
+ghost use Rattle.wh_cell.specs.Scanned.{IsScanned};
+ghost use Rattle.wh_scheduler.specs.InHand.{AreSums, IsSoundInHand, left_of};
+
+use crate::serving::{Manner, run_calls};
+use std::alloc::{AllocError, Global};
+use std::marker::Model;
+use std::sync::Wait;
+use std::sync::ledger::Ledger;
+use std::thread::Threads;
+use wh_cell::{Backing, Fittings, HostCell, Locked, Owner, Parts, Ties};
+use wh_host::{AdmitError, Host, HostError, ModuleError, ModuleId, Params, Roll, Transcript};
+use wh_host_model::InstId;
+use wh_kernels::PageHash;
+use wh_swap::SwapDev;
+use wh_threads::{Books, Shares};
+use wh_workers::{ServeError, Served};
+
+/// A host with its device, its books and all shares of them, in the hand of its owner. Contracts see the host, the device and
+/// the books.
+///
+/// It lies under no lock, so that requests wait for nobody. While calls run it lies under one, and threads share it; then the
+/// owner has it again, and knows by its right that nothing but work has befallen it.
+pub struct OwnedHost<D: SwapDev, T: Ledger, C: Ledger, O: Ledger, E: Ledger, B: Ties> {
+    // There is always one of each, but while calls run.
+    locked: Option<Locked<D, T, C, O, E, B>>,
+    backing: Option<Backing<D, B>>,
+    owner: Owner<D, B>,
+    shares: Shares<T, C, O, E>,
+}
+
+// Written out, so that letting one go is one call, and not one for each part of its parts.
+impl<D: SwapDev + Drop, T: Ledger, C: Ledger, O: Ledger, E: Ledger, B: Ties> Drop
+    for OwnedHost<D, T, C, O, E, B> {
+    fn drop(self) {
+        let OwnedHost {
+            locked: _,
+            backing: _,
+            owner: _,
+            shares: _,
+        } = self;
+    }
+}
+
+impl<D: SwapDev, T: Ledger, C: Ledger, O: Ledger, E: Ledger, B: Ties> Model
+    for OwnedHost<D, T, C, O, E, B> {
+    ghost use Rattle.wh_scheduler.specs.InHand.{IsInHand, OwnedState, owned_of};
+
+    ghost Value = { OwnedState D };
+
+    ghost use Rattle.wh_scheduler.specs.Stored.{stored_owned};
+
+    ghost coded = { stored_owned D.code };
+
+    ghost view = { λ o. owned_of o.locked o.owner };
+
+    ghost invariant = { λ o. IsInHand o.locked o.backing o.owner o.shares };
+}
+
+impl<D: SwapDev + Drop, T: Ledger, C: Ledger, O: Ledger, E: Ledger, B: Ties> OwnedHost<
+    D,
+    T,
+    C,
+    O,
+    E,
+    B,
+> {
+    /// A host with what it needs, none of whose calls took a charge yet. All memory for the counts is taken here.
+    ///
+    /// # Errors
+    /// Where room was refused.
+    pub fn new(
+        alloc: Global,
+        host: Host,
+        fittings: Fittings<D>,
+    ) -> Result<OwnedHost<D, T, C, O, E, B>, AllocError>
+        requires uncharged { HasNoCharge host }
+        requires together { AreTogether host.space (D.held fittings.device) }
+        requires led { D.honest fittings.device → StandsByEvents host }
+        requires owned { fittings.to_owner ≡ B.to_owner }
+        requires backed { fittings.to_device ≡ B.to_device }
+        requires turns { (fittings.turns.name ≡ T.name) × (fittings.turns.parts ≡ T.parts)
+            × (64 < T.parts) }
+        requires charges { (fittings.charges.name ≡ C.name) × (fittings.charges.parts ≡ C.parts)
+            × (64 < C.parts) }
+        requires offers { (fittings.offers.name ≡ O.name) × (fittings.offers.parts ≡ O.parts)
+            × (1 < O.parts) }
+        requires evictions { (fittings.evictions.name ≡ E.name)
+            × (fittings.evictions.parts ≡ E.parts) × (1 < E.parts) }
+        ensures host { IfOk result (λ owned. left_of owned ≡ left_as host fittings.device) }
+        ensures books { IfOk result (λ owned. owned.books
+            ≡ record { turns = 0; charges = 0; offers = 0; evictions = 0 }) }
+    {
+        let Parts {
+            locked,
+            backing,
+            owner,
+            shares,
+        } = Locked::new(alloc, host, fittings)?;
+        Ok(OwnedHost {
+            locked: Some(locked),
+            backing: Some(backing),
+            owner,
+            shares,
+        })
+    }
+
+    /// The device, when the host is done with.
+    pub fn into_device(self) -> D
+        ensures { self.device ≡ Some result }
+    {
+        let OwnedHost {
+            locked: _,
+            backing,
+            owner: _,
+            shares: _,
+        } = self;
+        let Some(backing) = backing else {
+            unreachable!();
+        };
+        backing.into_device()
+    }
+}
+
+impl<D: SwapDev, T: Ledger, C: Ledger, O: Ledger, E: Ledger, B: Ties> OwnedHost<D, T, C, O, E, B> {
+    /// What always holds: events lead to the host, and reads of a swap device that gave other bytes, if there were any; no
+    /// ticket is out, device and slots agree, and the charges in the books fit the journals.
+    #[inline(always)]
+    pub fn known(&self)
+        ensures { IsSoundInHand D.held D.honest self.now }
+    {
+        let (locked, backing) = self.both();
+        locked.known();
+        backing.known();
+    }
+
+    // What lies in the owner's hand.
+    #[inline(always)]
+    fn both(&self) -> (&Locked<D, T, C, O, E, B>, &Backing<D, B>)
+        ensures now { left_of self.now ≡ now_of result.0.now }
+        ensures books { self.now.books ≡ result.0.now.books }
+        ensures agree { result.0.now.known ≡ known_of result.1.now }
+    {
+        let Some(locked) = &self.locked else {
+            unreachable!();
+        };
+        let Some(backing) = &self.backing else {
+            unreachable!();
+        };
+        (locked, backing)
+    }
+
+    /// The host, to look at.
+    #[inline(always)]
+    pub fn host(&self) -> &Host
+        ensures { result.now ≡ self.now.host }
+    {
+        let (locked, _) = self.both();
+        locked.host()
+    }
+
+    /// The books, and what each thread has counted so far: the books are the sums of that, by kind.
+    pub fn counts(&self) -> (&Books<T, C, O, E>, &Shares<T, C, O, E>)
+        ensures books { (result.0.now.turns ≡ self.now.books.turns)
+            × (result.0.now.charges ≡ self.now.books.charges)
+            × (result.0.now.offers ≡ self.now.books.offers)
+            × (result.0.now.evictions ≡ self.now.books.evictions) }
+        ensures sums { AreSums self.now.books result.1.now }
+    {
+        let (locked, _) = self.both();
+        (locked.books(), &self.shares)
+    }
+
+    /// The roll of the host: its modules, and each live instance with its calls.
+    ///
+    /// # Errors
+    /// `Memory` where room was refused.
+    pub fn roll(&self, alloc: Global) -> Result<Roll, HostError>
+        ensures { IfOk result (IsRollOf self.now.host) }
+    {
+        self.host().roll(alloc)
+    }
+
+    /// What the host shows of an instance. Its calls replay where the device has read right.
+    ///
+    /// # Errors
+    /// `NoInstance`; `Memory` where room was refused.
+    pub fn transcript(&self, alloc: Global, id: InstId) -> Result<Transcript, HostError>
+        ensures shows { ShowsInstance self.now.host id result }
+        ensures replays { IfSome self.now.device (λ device. D.honest device)
+            → IfOk result (λ shown. IsReplayable shown) }
+    {
+        self.known();
+        self.host().transcript(alloc, id)
+    }
+
+    /// Keeps the module that these bytes spell, and the bytes: its number, counted from 0.
+    ///
+    /// # Errors
+    /// That of `Host::load`. The host is as it was then.
+    pub fn load(&mut self, alloc: Global, bytes: &[u8]) -> Result<ModuleId, ModuleError>
+        ensures loads { AnswersLoad self.old.host bytes.now result self.new.host }
+        ensures err { OnErr result (self.new.host ≡ self.old.host) }
+        ensures backing { KeepsBacking self.old.host.space self.new.host.space }
+        ensures device { self.new.device ≡ self.old.device }
+        ensures books { self.new.books ≡ self.old.books }
+    {
+        let Some(locked) = &mut self.locked else {
+            unreachable!();
+        };
+        locked.load(&mut self.owner, alloc, bytes)
+    }
+
+    /// Admits an instance of a module, with what its owner gives it. All that it will ever need is reserved now.
+    ///
+    /// # Errors
+    /// That of `Host::admit`. The host is as it was then.
+    pub fn admit(
+        &mut self,
+        alloc: Global,
+        of: ModuleId,
+        params: Params,
+    ) -> Result<InstId, AdmitError>
+        ensures admits { AnswersAdmit self.old.host of.number (view_params params) result
+            self.new.host }
+        ensures err { OnErr result (self.new.host ≡ self.old.host) }
+        ensures backing { KeepsBacking self.old.host.space self.new.host.space }
+        ensures memory { IfOk result (λ id. (size : ℕ) × Enters self.old.host.space id.place
+            (promised id.number (view_params params)) size self.new.host.space) }
+        ensures device { self.new.device ≡ self.old.device }
+        ensures books { self.new.books ≡ self.old.books }
+    {
+        let Some(locked) = &mut self.locked else {
+            unreachable!();
+        };
+        locked.admit(&mut self.owner, alloc, of, params)
+    }
+
+    /// Takes a call of the function that an instance's module exports by this name, with these arguments and so much fuel: its
+    /// place in the journal of the instance, where the start is 0. It is run by turns, behind the calls that are open.
+    ///
+    /// # Errors
+    /// That of `Host::invoke`. The host is as it was then.
+    pub fn invoke(
+        &mut self,
+        alloc: Global,
+        id: InstId,
+        name: &str,
+        given: &[i128],
+        fuel: u64,
+    ) -> Result<u32, HostError>
+        ensures asks { AnswersInvoke self.old.host id name.now given.now fuel result
+            self.new.host }
+        ensures err { OnErr result (self.new.host ≡ self.old.host) }
+        ensures backing { KeepsBacking self.old.host.space self.new.host.space }
+        ensures device { self.new.device ≡ self.old.device }
+        ensures books { self.new.books ≡ self.old.books }
+    {
+        let Some(locked) = &mut self.locked else {
+            unreachable!();
+        };
+        locked.invoke(&mut self.owner, alloc, id, name, given, fuel)
+    }
+
+    /// Gives the present call of an instance so much more fuel; what passes 2^64 - 1 is lost.
+    ///
+    /// # Errors
+    /// `NoInstance`; `NoCall` where no call is open. Nothing is done then.
+    pub fn refuel(&mut self, id: InstId, fuel: u64) -> Result<(), HostError>
+        ensures asks { AnswersCall self.old.host (λ w answer w2.
+            IsRefuel w id fuel answer w2) result
+            self.new.host }
+        ensures err { OnErr result (self.new.host ≡ self.old.host) }
+        ensures backing { KeepsBacking self.old.host.space self.new.host.space }
+        ensures memory { self.new.host.space ≡ self.old.host.space }
+        ensures device { self.new.device ≡ self.old.device }
+        ensures books { self.new.books ≡ self.old.books }
+    {
+        let Some(locked) = &mut self.locked else {
+            unreachable!();
+        };
+        locked.refuel(&mut self.owner, id, fuel)
+    }
+
+    /// Ends the present call of an instance where it is; what it has written stays.
+    ///
+    /// # Errors
+    /// `NoInstance`; `NoCall` where no call is open. Nothing is done then.
+    pub fn cancel(&mut self, id: InstId) -> Result<(), HostError>
+        ensures asks { AnswersCall self.old.host (λ w answer w2. IsCancel w id answer w2) result
+            self.new.host }
+        ensures err { OnErr result (self.new.host ≡ self.old.host) }
+        ensures backing { KeepsBacking self.old.host.space self.new.host.space }
+        ensures memory { OnOk result (self.new.host.space
+            ≡ ended self.old.host.space id.place) }
+        ensures device { self.new.device ≡ self.old.device }
+        ensures books { self.new.books ≡ self.old.books }
+    {
+        let Some(locked) = &mut self.locked else {
+            unreachable!();
+        };
+        locked.cancel(&mut self.owner, id)
+    }
+
+    /// Lets the present call of an instance be tried again, if it stands for a device fault: it stands for a frame then.
+    ///
+    /// # Errors
+    /// `NoInstance`; `NoCall` where it doesn't stand for one. Nothing is done then.
+    pub fn retry(&mut self, id: InstId) -> Result<(), HostError>
+        ensures asks { AnswersCall self.old.host (λ w answer w2. IsRetry w id answer w2) result
+            self.new.host }
+        ensures err { OnErr result (self.new.host ≡ self.old.host) }
+        ensures backing { KeepsBacking self.old.host.space self.new.host.space }
+        ensures memory { self.new.host.space ≡ self.old.host.space }
+        ensures device { self.new.device ≡ self.old.device }
+        ensures books { self.new.books ≡ self.old.books }
+    {
+        let Some(locked) = &mut self.locked else {
+            unreachable!();
+        };
+        locked.retry(&mut self.owner, id)
+    }
+
+    /// Lets an instance go, whatever its calls are: its output.
+    ///
+    /// # Errors
+    /// `NoInstance`. Nothing is done then.
+    pub fn release(&mut self, alloc: Global, id: InstId) -> Result<Vec<u8>, HostError>
+        ensures goes { AnswersRelease self.old.host id result self.new.host }
+        ensures err { OnErr result (self.new.host ≡ self.old.host) }
+        ensures backing { KeepsBacking self.old.host.space self.new.host.space }
+        ensures memory { OnOk result (Exits self.old.host.space id.place self.new.host.space) }
+        ensures device { self.new.device ≡ self.old.device }
+        ensures books { self.new.books ≡ self.old.books }
+    {
+        let Some(locked) = &mut self.locked else {
+            unreachable!();
+        };
+        locked.release(&mut self.owner, alloc, id)
+    }
+
+    /// Begins a new epoch: no page is marked as touched. It goes over all pages.
+    pub fn epoch(&mut self)
+        ensures moves { MovesOnly self.old.host self.new.host }
+        ensures clears { Epochs self.old.host.space self.new.host.space }
+        ensures backing { KeepsBacking self.old.host.space self.new.host.space }
+        ensures device { self.new.device ≡ self.old.device }
+        ensures books { self.new.books ≡ self.old.books }
+    {
+        let Some(locked) = &mut self.locked else {
+            unreachable!();
+        };
+        locked.epoch();
+        locked.meet(&mut self.owner);
+    }
+
+    /// Offers all pages of all instances for sharing, by place and number, each under the hash of its bytes as they are. Then
+    /// as many frames are in use as there are distinct contents that aren't all zero, if the hash tells contents apart and
+    /// was the hash before. No byte of any page changes.
+    ///
+    /// Whether it was done: it is where frames and slots are fewer than 2^32 together, and so are the places.
+    pub fn scan<H: PageHash>(&mut self, hasher: &H) -> bool
+        ensures moves { MovesOnly self.old.host self.new.host }
+        ensures scans { IsScanned (H.hashes hasher.now) self.old.host result self.new.host }
+        ensures backing { KeepsBacking self.old.host.space self.new.host.space }
+        ensures device { self.new.device ≡ self.old.device }
+        ensures books { self.new.books ≡ self.old.books }
+    {
+        let Some(locked) = &mut self.locked else {
+            unreachable!();
+        };
+        let is_done = locked.scan(hasher);
+        locked.meet(&mut self.owner);
+        is_done
+    }
+}
+
+impl<
+    D: SwapDev + Drop + Send + 'static,
+    T: Ledger + Send + 'static,
+    C: Ledger + Send + 'static,
+    O: Ledger + Send + 'static,
+    E: Ledger + Send + 'static,
+    B: Ties + Send + 'static,
+> OwnedHost<D, T, C, O, E, B> {
+    /// Runs the calls of these instances until none can go on, as `run_calls` does, on a cell that the host lies in meanwhile.
+    /// Whatever it answers, the host came by work from the one before.
+    ///
+    /// # Errors
+    /// Those of `run_calls`.
+    pub fn run<H: PageHash + Copy + Send + 'static, R: Threads + Wait + Copy + Send + 'static>(
+        &mut self,
+        rt: R,
+        alloc: Global,
+        ids: &[InstId],
+        manner: Manner<H>,
+    ) -> Result<Served, ServeError>
+        requires { (0 < manner.workers) × (manner.workers ≤ 64) }
+        ensures came { ComesOn D.keeps D.honest D.faults (left_of self.old) (left_of self.new) }
+        ensures handed { IfOk result (λ s. AreTurns s.turns manner.quantum (view s.slip).sent) }
+        ensures once { IfOk result (λ s. OnOk s.end
+            (SameMessages (view s.slip).sent (view s.slip).received)) }
+        ensures grown { IfOk result (λ s. AreRun self.old.books.turns (view s.slip).received
+            self.new.books.turns) }
+        ensures turns { IfOk result (λ s. OnOk s.end
+            (self.new.books.turns ≡ self.old.books.turns + s.turns)) }
+        ensures owed { IfOk result (λ s. OnOk s.end
+            (self.old.books.offers + s.turns / 64 ≤ self.new.books.offers)) }
+        ensures err { OnErr result (self.new.books.turns ≡ self.old.books.turns) }
+        ensures offers { self.old.books.offers ≤ self.new.books.offers }
+        ensures evictions { self.old.books.evictions ≤ self.new.books.evictions }
+    {
+        let Some(locked) = self.locked.take() else {
+            unreachable!();
+        };
+        let Some(backing) = self.backing.take() else {
+            unreachable!();
+        };
+        let (served, parts) = run_between(
+            rt,
+            alloc,
+            (locked, backing),
+            &mut self.shares,
+            ids,
+            manner,
+        );
+        let (mut locked, mut backing) = parts;
+        locked.face(&mut backing);
+        locked.agree(&mut self.shares);
+        locked.meet(&mut self.owner);
+        self.locked = Some(locked);
+        self.backing = Some(backing);
+        served
+    }
+}
+
+// Runs the calls on a cell that these parts lie in meanwhile, and gives them back.
+fn run_between<
+    D: SwapDev + Drop + Send + 'static,
+    T: Ledger + Send + 'static,
+    C: Ledger + Send + 'static,
+    O: Ledger + Send + 'static,
+    E: Ledger + Send + 'static,
+    B: Ties + Send + 'static,
+    H: PageHash + Copy + Send + 'static,
+    R: Threads + Wait + Copy + Send + 'static,
+>(
+    rt: R,
+    alloc: Global,
+    parts: (Locked<D, T, C, O, E, B>, Backing<D, B>),
+    shares: &mut Shares<T, C, O, E>,
+    ids: &[InstId],
+    manner: Manner<H>,
+) -> (
+    Result<Served, ServeError>,
+    (Locked<D, T, C, O, E, B>, Backing<D, B>),
+)
+    requires { (0 < manner.workers) × (manner.workers ≤ 64) }
+    ensures handed { IfOk result.0 (λ s. AreTurns s.turns manner.quantum (view s.slip).sent) }
+    ensures once { IfOk result.0 (λ s. OnOk s.end
+        (SameMessages (view s.slip).sent (view s.slip).received)) }
+    ensures grown { IfOk result.0 (λ s. AreRun (turns_of shares.old.tallies)
+        (view s.slip).received (turns_of shares.new.tallies)) }
+    ensures turns { IfOk result.0 (λ s. OnOk s.end
+        (turns_of shares.new.tallies ≡ turns_of shares.old.tallies + s.turns)) }
+    ensures owed { IfOk result.0 (λ s. OnOk s.end
+        (shares.old.offers + s.turns / 64 ≤ shares.new.offers)) }
+    ensures err { OnErr result.0 (shares.new.tallies ≡ shares.old.tallies) }
+    ensures offers { shares.old.offers ≤ shares.new.offers }
+    ensures evictions { shares.old.evictions ≤ shares.new.evictions }
+{
+    let (locked, backing) = parts;
+    match HostCell::around(alloc, locked, backing) {
+        Ok(cell) => {
+            let served = run_calls(rt, alloc, &cell, shares, ids, manner);
+            (served, cell.into_parts(&rt))
+        }
+        Err(parts) => (Err(ServeError::Memory), parts),
+    }
+}

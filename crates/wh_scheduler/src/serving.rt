@@ -1,0 +1,147 @@
+//! A call of `run_calls`: workers that run turns on a cell, a scanner and a reclaimer.
+
+ghost use Rattle.std.specs.Prelude.{◌≡◌, ◌+◌, ◌/◌, ◌<◌, ◌≤◌, IfOk, OnErr, OnOk};
+ghost use Rattle.crossbeam_channel.specs.Claims.{view};
+ghost use Rattle.wh_threads.specs.Counting.{turns_of};
+ghost use Rattle.wh_threads.specs.Handover.{SameMessages};
+ghost use Rattle.wh_workers.specs.Serving.{AreRun, AreTurns};
+
+use crate::jobs::{Desk, ReclaimJob, ScanJob, TurnJob, TurnSupply};
+use crate::patience::Patience;
+use crate::roster::Roster;
+use std::alloc::{AllocError, Global};
+use std::sync::atomic::AtomicU64;
+use std::sync::ledger::Ledger;
+use std::sync::{Arc, Wait};
+use std::thread::Threads;
+use wh_cell::{HostCell, Ties};
+use wh_host_model::InstId;
+use wh_kernels::PageHash;
+use wh_swap::SwapDev;
+use wh_threads::Shares;
+use wh_workers::{Crew, Jobs, ServeError, Served, serve};
+
+/// How calls are run.
+#[derive(Clone, Copy, Debug)]
+pub struct Manner<H> {
+    /// How pages are hashed.
+    pub hasher: H,
+    /// How many charges a turn has.
+    pub quantum: u32,
+    /// How many workers there are, 1 to 64.
+    pub workers: usize,
+}
+
+// What the threads of a run do, and who hands the turns out.
+struct Staff<D: SwapDev, T: Ledger, C: Ledger, O: Ledger, E: Ledger, B: Ties, H> {
+    jobs: Jobs<
+        TurnJob<D, T, C, O, E, B>,
+        ScanJob<D, T, C, O, E, B, H>,
+        ReclaimJob<D, T, C, O, E, B>,
+    >,
+    supply: TurnSupply<D, T, C, O, E, B>,
+}
+
+// All memory for what the threads share.
+fn staff_of<
+    D: SwapDev + Drop,
+    T: Ledger,
+    C: Ledger,
+    O: Ledger,
+    E: Ledger,
+    B: Ties,
+    H: PageHash + Copy,
+>(
+    alloc: Global,
+    cell: &HostCell<D, T, C, O, E, B>,
+    ids: &[InstId],
+    manner: Manner<H>,
+) -> Result<Staff<D, T, C, O, E, B, H>, AllocError> {
+    let roster = Roster::new(alloc, ids)?;
+    let Ok(desk) = Arc::new(alloc, Desk::new(alloc, roster, manner.workers)?) else {
+        return Err(AllocError);
+    };
+    let copies = Vec::from_slice(alloc, ids)?;
+    let Ok(all) = Arc::new(alloc, copies) else {
+        return Err(AllocError);
+    };
+    let turns = TurnJob {
+        cell: cell.share()?,
+        desk: Arc::try_clone(&desk)?,
+        stint: AtomicU64::new(0),
+    };
+    let scans = ScanJob {
+        cell: cell.share()?,
+        desk: Arc::try_clone(&desk)?,
+        ids: all,
+        hasher: manner.hasher,
+    };
+    let reclaims = ReclaimJob {
+        cell: cell.share()?,
+        desk: Arc::try_clone(&desk)?,
+    };
+    let supply = TurnSupply {
+        cell: cell.share()?,
+        desk,
+        due: Vec::with_capacity(alloc, ids.len())?,
+        given: 0,
+        patience: Patience::new(),
+    };
+    let jobs = Jobs {
+        turns,
+        scans,
+        reclaims,
+    };
+    Ok(Staff { jobs, supply })
+}
+
+/// Runs the calls of these instances until none can go on: turns by so many workers, each in a thread of its own; beside them
+/// a scanner offers pages, and a reclaimer makes steps ready that wait for frames. The calling thread hands the turns out.
+///
+/// What was handed out and run is told, however it ended. Where it ended well each turn that was handed out was received once,
+/// the workers' counts have grown by so many, and for each 64 turns a page was offered. No count gets smaller.
+///
+/// # Errors
+/// `Memory` where room was refused, and `NoThread` where the scanner or the reclaimer couldn't be started: no turn was run
+/// then. `Served::end` says so where that came later, or pages couldn't be offered that are owed.
+pub fn run_calls<
+    D: SwapDev + Drop + Send + 'static,
+    T: Ledger + Send + 'static,
+    C: Ledger + Send + 'static,
+    O: Ledger + Send + 'static,
+    E: Ledger + Send + 'static,
+    B: Ties + Send + 'static,
+    H: PageHash + Copy + Send + 'static,
+    R: Threads + Wait + Copy + Send + 'static,
+>(
+    rt: R,
+    alloc: Global,
+    cell: &HostCell<D, T, C, O, E, B>,
+    shares: &mut Shares<T, C, O, E>,
+    ids: &[InstId],
+    manner: Manner<H>,
+) -> Result<Served, ServeError>
+    requires { (0 < manner.workers) × (manner.workers ≤ 64) }
+    ensures handed { IfOk result (λ s. AreTurns s.turns manner.quantum (view s.slip).sent) }
+    ensures grown { IfOk result (λ s. AreRun (turns_of shares.old.tallies) (view s.slip).received
+        (turns_of shares.new.tallies)) }
+    ensures once { IfOk result (λ s. OnOk s.end
+        (SameMessages (view s.slip).sent (view s.slip).received)) }
+    ensures turns { IfOk result (λ s. OnOk s.end
+        (turns_of shares.new.tallies ≡ turns_of shares.old.tallies + s.turns)) }
+    ensures owed { IfOk result (λ s. OnOk s.end
+        (shares.old.offers + s.turns / 64 ≤ shares.new.offers)) }
+    ensures err { OnErr result (shares.new.tallies ≡ shares.old.tallies) }
+    ensures offers { shares.old.offers ≤ shares.new.offers }
+    ensures evictions { shares.old.evictions ≤ shares.new.evictions }
+{
+    let Ok(staff) = staff_of(alloc, cell, ids, manner) else {
+        return Err(ServeError::Memory);
+    };
+    let Staff { jobs, mut supply } = staff;
+    let crew = Crew {
+        workers: manner.workers,
+        quantum: manner.quantum,
+    };
+    serve(rt, alloc, jobs, &mut supply, shares, crew)
+}

@@ -1,0 +1,58 @@
+-- What contracts see of the counts of threads.
+use Rattle.std.specs.Prelude.{◌≡◌, ℕ, ◌+◌, List, length, sum_by}
+use Rattle.wh_threads.specs.declared.tally.Tally.{Tally}
+
+-- a worker's counts: with which it began, and which it has now
+pub record WorkerState : Type 0 where
+  pub from : Tally
+  pub tally : Tally
+
+-- it has run one turn more, which took so many charges
+pub record RanTurn (old : WorkerState) (taken : ℕ) (new : WorkerState) : Type 0 where
+  pub from : new.from ≡ old.from
+  pub turns : new.tally.turns ≡ old.tally.turns + 1
+  pub charges : new.tally.charges ≡ old.tally.charges + taken
+
+-- the count of a scanner or of a reclaimer: with which it began, and which it has now
+pub record HelperState : Type 0 where
+  pub from : ℕ
+  pub count : ℕ
+
+-- the counts of all threads: by worker, and how many offers and evictions there were
+pub record SharesState : Type 0 where
+  pub tallies : List Tally
+  pub offers : ℕ
+  pub evictions : ℕ
+
+-- The same, and how many workers, scanners and reclaimers have parts of the ledgers now.
+pub record LenderState : Type 0 where
+  pub tallies : List Tally
+  pub offers : ℕ
+  pub evictions : ℕ
+  pub workers_out : ℕ
+  pub scanners_out : ℕ
+  pub reclaimers_out : ℕ
+
+-- all parts of the ledgers are there
+pub record HasAllParts (l : LenderState) : Type 0 where
+  pub workers : l.workers_out ≡ 0
+  pub scanners : l.scanners_out ≡ 0
+  pub reclaimers : l.reclaimers_out ≡ 0
+
+abbrev pub counts_of : LenderState → SharesState
+counts_of l = record { tallies = l.tallies; offers = l.offers; evictions = l.evictions }
+
+-- the turns and the charges of all workers
+abbrev pub turns_of : List Tally → ℕ
+turns_of tallies = sum_by (λ t. t.turns) tallies
+
+abbrev pub charges_of : List Tally → ℕ
+charges_of tallies = sum_by (λ t. t.charges) tallies
+
+-- nobody has counted anything
+pub record IsZero (s : SharesState) : Type 0 where
+  pub seats : length s.tallies ≡ 64
+  pub turns : turns_of s.tallies ≡ 0
+  pub charges : charges_of s.tallies ≡ 0
+  pub offers : s.offers ≡ 0
+  pub evictions : s.evictions ≡ 0

@@ -1,0 +1,83 @@
+-- What was handed out is what was received and what the channel holds.
+use Rattle.std.specs.Prelude.{◌≡◌, ℕ, ◌+◌, List, [], sum_by, ⊤}
+use Rattle.std.specs.List.{AllByRecursion, filter_map, range_with_len}
+use Rattle.std.specs.Prelude.{Option, Some, None}
+use mathlib.Core.Option.{some}
+use lib.ListN.{get_elem?}
+use Rattle.wh_threads.specs.declared.channel.Message.{Message}
+use Rattle.wh_threads.specs.declared.channel.Message.TheVariants.{Turn, Last}
+use Rattle.wh_threads.specs.declared.channel.Traffic.{Traffic}
+
+abbrev pub traffic : ℕ → List Message → List Message → Traffic
+traffic parts sent received = record { parts = parts; sent = sent; received = received }
+
+-- into so many parts the right to know the whole is cut
+abbrev pub all_parts : ℕ
+all_parts = 128
+
+-- a pass without a part has handed out and received nothing
+abbrev pub IdleIsEmpty : List Traffic → Type 0
+IdleIsEmpty views =
+    (pass : ℕ) (v : Traffic) → get_elem? views pass ≡ some v → v.parts ≡ 0 → (v.sent ≡ []) × (v.received ≡ [])
+
+-- The rule: what all passes handed out is what they received and what the channel holds, whatever weight each message
+-- is given.
+abbrev pub Balanced : List Message → List Traffic → Type 0
+Balanced held views =
+    (sum_by (λ v. v.parts) views ≡ 128)
+    × ((weight : Message → ℕ) → sum_by (λ v. sum_by weight v.sent) views
+    ≡ sum_by (λ v. sum_by weight v.received) views + sum_by weight held)
+    × IdleIsEmpty views
+
+-- the same messages, each as often, in some order: with any weights of messages they weigh the same
+abbrev pub SameMessages : List Message → List Message → Type 0
+SameMessages sent received = (weight : Message → ℕ) → sum_by weight sent ≡ sum_by weight received
+
+-- the number of a turn
+abbrev pub turn_number : Message → Option ℕ
+turn_number (Turn number instance quantum) = Some number
+turn_number Last = None
+
+-- 1 for a turn
+abbrev pub is_turn : Message → ℕ
+is_turn (Turn number instance quantum) = 1
+is_turn Last = 0
+
+-- how many of the messages are turns
+abbrev pub turns_in : List Message → ℕ
+turns_in messages = sum_by is_turn messages
+
+-- the turns are numbered from 0 on, in order
+abbrev pub AreNumbered : List Message → Type 0
+AreNumbered messages = filter_map turn_number messages ≡ range_with_len 0 (turns_in messages)
+
+-- a turn has so many charges at most
+abbrev pub HasQuantum : ℕ → Message → Type 0
+HasQuantum q (Turn number instance quantum) = quantum ≡ q
+HasQuantum q Last = ⊤
+
+-- each turn among them has
+abbrev pub HaveQuantum : ℕ → List Message → Type 0
+HaveQuantum q messages = AllByRecursion (HasQuantum q) messages
+
+-- last signs were handed out, and nothing else has changed
+pub record HandsOutLast (old new : Traffic) : Type 0 where
+  pub parts : new.parts ≡ old.parts
+  pub received : new.received ≡ old.received
+  pub turns : turns_in new.sent ≡ turns_in old.sent
+  pub numbers : filter_map turn_number new.sent ≡ filter_map turn_number old.sent
+  pub quanta : (q : ℕ) → HaveQuantum q old.sent → HaveQuantum q new.sent
+
+-- through a slip that had handed out nothing, turns of q charges were handed out, so many and numbered, and nothing was
+-- received
+pub record HandsOut (old : Traffic) (count q : ℕ) (new : Traffic) : Type 0 where
+  pub parts : new.parts ≡ old.parts
+  pub received : new.received ≡ old.received
+  pub turns : turns_in new.sent ≡ count
+  pub numbered : AreNumbered new.sent
+  pub quanta : HaveQuantum q new.sent
+
+-- a slip with one part came back, through which nothing was handed out
+pub record TakesBack (old new : Traffic) : Type 0 where
+  pub parts : new.parts ≡ old.parts + 1
+  pub sent : new.sent ≡ old.sent

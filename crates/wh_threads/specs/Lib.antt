@@ -1,0 +1,5 @@
+pub mod Agreement
+pub mod Counting
+pub mod Handover
+pub mod Lending
+pub mod Working

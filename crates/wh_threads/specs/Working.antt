@@ -1,0 +1,31 @@
+-- What a worker's thread has done.
+use Rattle.std.specs.Prelude.{◌≡◌, ◌+◌, ℕ, []}
+use Rattle.atomic_table.specs.declared.badge.Badge.{Badge}
+use Rattle.crossbeam_channel.specs.declared.flavors.array.Key.{Key}
+use Rattle.crossbeam_channel.specs.declared.flavors.array.Doing.{Doing}
+use Rattle.crossbeam_channel.specs.declared.flavors.array.Rows.{Rows}
+use Rattle.crossbeam_channel.specs.Claims.{Pass, view, IsSeatAt}
+use Rattle.wh_host_model.specs.declared.plain.InstId.{InstId}
+use Rattle.wh_threads.specs.declared.channel.Message.{Message}
+use Rattle.wh_threads.specs.declared.channel.Traffic.{Traffic}
+use Rattle.wh_threads.specs.declared.tally.Tally.{Tally}
+use Rattle.wh_threads.specs.Counting.{WorkerState}
+use Rattle.wh_threads.specs.Handover.{traffic, turns_in}
+
+-- a turn that was received: whose it is, and how many charges it has at most
+pub record OrderState : Type 0 where
+  pub instance : InstId
+  pub quantum : ℕ
+
+-- what a worker's thread returns
+pub record ReplyState : Type 0 where
+  pub worker : WorkerState
+  pub slip : Pass Message Traffic
+
+module _ {Q M L A : Type 0} (ring : Rows (Badge (Key Message)) (Doing Message Traffic) Q M (Key Message) L A) where
+  -- through its slip of the channel it received messages alone, and it ran a turn for each that is one
+  pub record HasWorked (begun : Tally) (worker : WorkerState) (slip : Pass Message Traffic) : Type 0 where
+    pub channel : IsSeatAt ring slip
+    pub received : view slip ≡ traffic 1 [] (view slip).received
+    pub from : worker.from ≡ begun
+    pub turns : worker.tally.turns ≡ begun.turns + turns_in (view slip).received

@@ -1,0 +1,131 @@
+// How much was counted of each kind.
+
+ghost use Rattle.std.specs.Prelude.{◌≡◌, ◌+◌, ◌-◌, ◌^◌, ◌<◌, IfOk};
+ghost use Rattle.wh_threads.specs.Counting.{RanTurn, IsZero, turns_of, charges_of};
+
+use crate::count::Count;
+use crate::helper::Helper;
+use crate::lender::Lender;
+use crate::order::Order;
+use crate::shares::Shares;
+use crate::tally::Tally;
+use crate::worker::Worker;
+use std::alloc::{AllocError, Global};
+use std::sync::ledger::{Blank, Ledger};
+
+/// How much was counted of each kind, by all threads: turns, charges, offers, evictions. It is to lie under the lock of
+/// what is counted.
+pub struct Books<T: Ledger, C: Ledger, O: Ledger, E: Ledger> {
+    /// Turns of workers.
+    pub turns: Count<T>,
+    /// Charges that these took.
+    pub charges: Count<C>,
+    /// Pages that a scanner offered.
+    pub offers: Count<O>,
+    /// Pages that a reclaimer took.
+    pub evictions: Count<E>,
+}
+
+// Written out, so that letting one go is one call, and not one for each part of its parts.
+impl<T: Ledger, C: Ledger, O: Ledger, E: Ledger> Drop for Books<T, C, O, E> {
+    fn drop(self) {
+        let Books {
+            turns: _,
+            charges: _,
+            offers: _,
+            evictions: _,
+        } = self;
+    }
+}
+
+impl<T: Ledger, C: Ledger, O: Ledger, E: Ledger> Books<T, C, O, E> {
+    /// Books in which nothing is counted, and the shares that belong to them. All memory is taken here.
+    ///
+    /// # Errors
+    /// Where room for the counts of 64 workers was refused.
+    pub fn open(
+        alloc: Global,
+        turns: Blank,
+        charges: Blank,
+        offers: Blank,
+        evictions: Blank,
+    ) -> Result<(Books<T, C, O, E>, Shares<T, C, O, E>), AllocError>
+        requires turns { (turns.name ≡ T.name) × (turns.parts ≡ T.parts) × (64 < T.parts) }
+        requires charges { (charges.name ≡ C.name) × (charges.parts ≡ C.parts) × (64 < C.parts) }
+        requires offers { (offers.name ≡ O.name) × (offers.parts ≡ O.parts) × (1 < O.parts) }
+        requires evictions { (evictions.name ≡ E.name) × (evictions.parts ≡ E.parts)
+            × (1 < E.parts) }
+        ensures books { IfOk result (λ r. r.0
+            ≡ record { turns = 0; charges = 0; offers = 0; evictions = 0 }) }
+        ensures shares { IfOk result (λ r. IsZero r.1) }
+    {
+        let tallies = vec![in alloc; Tally::none(); 64]?;
+        let (turns, turn_share) = Count::open(turns);
+        let (charges, charge_share) = Count::open(charges);
+        let (offers, offer_share) = Count::open(offers);
+        let (evictions, eviction_share) = Count::open(evictions);
+        let all = Lender::whole(
+            tallies,
+            turn_share,
+            charge_share,
+            offer_share,
+            eviction_share,
+        );
+        let books = Books {
+            turns,
+            charges,
+            offers,
+            evictions,
+        };
+        Ok((books, Shares { all }))
+    }
+
+    /// The turn of this order is counted, which took so many charges: the order is spent.
+    pub fn turn(&mut self, worker: &mut Worker<T, C>, order: Order, taken: u32)
+        requires room { worker.old.tally.turns < 2 ^ 64 - 1 }
+        ensures books { self.new ≡ record self.old {
+          turns = self.old.turns + 1;
+          charges = self.old.charges + taken;
+        } }
+        ensures worker { RanTurn worker.old taken worker.new }
+    {
+        order.spend();
+        worker.count(&mut self.turns, &mut self.charges, taken);
+    }
+
+    /// One offer of the scanner is counted.
+    pub fn offer(&mut self, scanner: &mut Helper<O>)
+        requires room { scanner.old.count < 2 ^ 64 - 1 }
+        ensures books { self.new ≡ record self.old { offers = self.old.offers + 1 } }
+        ensures scanner { scanner.new ≡ record scanner.old { count = scanner.old.count + 1 } }
+    {
+        scanner.add(&mut self.offers, 1);
+    }
+
+    /// So many evictions of the reclaimer are counted.
+    pub fn evict(&mut self, reclaimer: &mut Helper<E>, count: u64)
+        requires room { reclaimer.old.count + count < 2 ^ 64 }
+        ensures books { self.new ≡ record self.old { evictions = self.old.evictions + count } }
+        ensures reclaimer { reclaimer.new
+            ≡ record reclaimer.old { count = reclaimer.old.count + count } }
+    {
+        reclaimer.add(&mut self.evictions, count);
+    }
+
+    /// Whoever has the shares learns that the books are the sums of their counts. It changes nothing.
+    pub fn agree(&mut self, shares: &mut Shares<T, C, O, E>)
+        ensures turns { self.old.turns ≡ turns_of shares.old.tallies }
+        ensures charges { self.old.charges ≡ charges_of shares.old.tallies }
+        ensures offers { self.old.offers ≡ shares.old.offers }
+        ensures evictions { self.old.evictions ≡ shares.old.evictions }
+        ensures same { (self.new ≡ self.old) × (shares.new ≡ shares.old) }
+    {
+        let Books {
+            turns,
+            charges,
+            offers,
+            evictions,
+        } = self;
+        shares.all.audit(turns, charges, offers, evictions);
+    }
+}

@@ -1,0 +1,118 @@
+// Threads that have returned give back what they had.
+
+ghost use Rattle.std.specs.Prelude.{◌≡◌, ◌+◌, ◌<◌, ◌≤◌, slice_get, slice_set, Some};
+ghost use Rattle.crossbeam_channel.specs.Claims.{view, IsSeatAt};
+ghost use Rattle.crossbeam_channel.specs.Ends.{sends_on, receives_on};
+ghost use Rattle.wh_threads.specs.Counting.{LenderState, turns_of};
+ghost use Rattle.wh_threads.specs.Handover.{TakesBack, turns_in};
+ghost use Rattle.wh_threads.specs.Working.{HasWorked};
+ghost use Rattle.wh_threads.specs.declared.tally.Tally.{Tally};
+
+use crate::channel::{Outlet, Slip, put_back};
+use crate::help::{Helped, Helps};
+use crate::lender::Lender;
+use crate::work::{Reply, Works};
+use std::sync::ledger::Ledger;
+use std::thread::{PromisedHandle, Threads};
+
+impl<T: Ledger, C: Ledger, O: Ledger, E: Ledger> Lender<T, C, O, E> {
+    /// Waits for a worker's thread. What it has counted takes the place of that with which it began, and its slip comes
+    /// back: it grew by one turn for each that it received.
+    pub fn join_worker<R: Threads>(
+        &mut self,
+        rt: &R,
+        seat: usize,
+        handle: PromisedHandle<Reply<T, C>, Works>,
+        outlet: &Outlet,
+        slip: &mut Slip,
+    )
+        requires channel { IsSeatAt (sends_on outlet.now) slip.old }
+        requires part { 0 < (view slip.old).parts }
+        requires seat { slice_get self.old.tallies seat ≡ Some handle.promise.from }
+        requires inlet { receives_on handle.promise.inlet.value ≡ sends_on outlet.now }
+        ensures channel { IsSeatAt (sends_on outlet.now) slip.new }
+        ensures back { TakesBack (view slip.old) (view slip.new) }
+        ensures out { self.new.workers_out + 1 ≡ self.old.workers_out }
+        ensures only { (t : Tally) × (self.new ≡ record self.old {
+          tallies = slice_set self.old.tallies seat t;
+          workers_out = self.new.workers_out;
+        }) }
+        ensures grown { turns_of self.new.tallies + turns_in (view slip.old).received
+            ≡ turns_of self.old.tallies + turns_in (view slip.new).received }
+    {
+        let (worker, other) = handle.join(rt).into_parts();
+        put_back(outlet, slip, other);
+        self.take_worker(seat, worker);
+    }
+
+    /// A worker for which no thread could be made, and which ran no turn.
+    pub fn take_refused_worker(
+        &mut self,
+        seat: usize,
+        reply: Reply<T, C>,
+        outlet: &Outlet,
+        slip: &mut Slip,
+    )
+        requires channel { IsSeatAt (sends_on outlet.now) slip.old }
+        requires part { 0 < (view slip.old).parts }
+        requires seat { slice_get self.old.tallies seat ≡ Some reply.worker.from }
+        requires worked { HasWorked (sends_on outlet.now) reply.worker.from reply.worker
+            reply.slip }
+        requires idle { reply.worker.tally ≡ reply.worker.from }
+        ensures channel { IsSeatAt (sends_on outlet.now) slip.new }
+        ensures back { TakesBack (view slip.old) (view slip.new) }
+        ensures out { self.new.workers_out + 1 ≡ self.old.workers_out }
+        ensures same { self.new ≡ record self.old { workers_out = self.new.workers_out } }
+        ensures turns { turns_in (view slip.new).received ≡ turns_in (view slip.old).received }
+    {
+        let (worker, other) = reply.into_parts();
+        put_back(outlet, slip, other);
+        self.take_worker(seat, worker);
+    }
+
+    /// Waits for the scanner's thread. What it has counted takes the place of that with which it began.
+    pub fn join_scanner<R: Threads>(&mut self, rt: &R, handle: PromisedHandle<Helped<O>, Helps>)
+        requires { handle.promise.from ≡ self.old.offers }
+        ensures out { self.new.scanners_out + 1 ≡ self.old.scanners_out }
+        ensures grown { self.old.offers ≤ self.new.offers }
+        ensures only { self.new ≡ record self.old {
+          offers = self.new.offers;
+          scanners_out = self.new.scanners_out;
+        } }
+    {
+        self.take_scanner(handle.join(rt).into_helper());
+    }
+
+    /// A scanner for which no thread could be made, and which offered nothing.
+    pub fn take_refused_scanner(&mut self, scanner: Helped<O>)
+        requires from { scanner.from ≡ self.old.offers }
+        requires idle { scanner.count ≡ scanner.from }
+        ensures out { self.new.scanners_out + 1 ≡ self.old.scanners_out }
+        ensures same { self.new ≡ record self.old { scanners_out = self.new.scanners_out } }
+    {
+        self.take_scanner(scanner.into_helper());
+    }
+
+    /// Waits for the reclaimer's thread. What it has counted takes the place of that with which it began.
+    pub fn join_reclaimer<R: Threads>(&mut self, rt: &R, handle: PromisedHandle<Helped<E>, Helps>)
+        requires { handle.promise.from ≡ self.old.evictions }
+        ensures out { self.new.reclaimers_out + 1 ≡ self.old.reclaimers_out }
+        ensures grown { self.old.evictions ≤ self.new.evictions }
+        ensures only { self.new ≡ record self.old {
+          evictions = self.new.evictions;
+          reclaimers_out = self.new.reclaimers_out;
+        } }
+    {
+        self.take_reclaimer(handle.join(rt).into_helper());
+    }
+
+    /// A reclaimer for which no thread could be made, and which took nothing.
+    pub fn take_refused_reclaimer(&mut self, reclaimer: Helped<E>)
+        requires from { reclaimer.from ≡ self.old.evictions }
+        requires idle { reclaimer.count ≡ reclaimer.from }
+        ensures out { self.new.reclaimers_out + 1 ≡ self.old.reclaimers_out }
+        ensures same { self.new ≡ record self.old { reclaimers_out = self.new.reclaimers_out } }
+    {
+        self.take_reclaimer(reclaimer.into_helper());
+    }
+}

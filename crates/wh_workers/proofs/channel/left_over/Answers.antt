@@ -1,7 +1,0 @@
-use Rattle.std.proofs.Common.{arith}
-use Rattle.wh_workers.proofs.Handing.{receives, learns}
-use Rattle.wh_workers.proofs.channel.left_over.Goals as goal
-
-pub try_recv_as-requires-clause-rule : goal.try_recv_as-requires-clause-rule
-try_recv_as-requires-clause-rule g c =
-    let all = c.requires.all in (receives _ _ (omega arith), learns _ _ all)

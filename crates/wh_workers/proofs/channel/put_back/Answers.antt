@@ -1,5 +1,0 @@
-use Rattle.wh_workers.proofs.Handing.{merges}
-use Rattle.wh_workers.proofs.channel.put_back.Goals as goal
-
-pub absorb-requires-clause-rule : goal.absorb-requires-clause-rule
-absorb-requires-clause-rule c = merges _ _ _ _ c.requires.part

@@ -1,8 +1,0 @@
-use Rattle.wh_workers.proofs.Runs.{last_more}
-use Rattle.wh_workers.proofs.feed.stop.Goals as goal
-
-pub loop-preserved : goal.loop-preserved
-loop-preserved g c = (
-  c.hand_out.ensures.channel,
-  last_more _ _ _ c.loop.invariant.1 c.if-not-hand_out.ensures.sent,
-)

@@ -1,7 +1,0 @@
-use Rattle.crossbeam_channel.specs.Claims.{view, IsSeatAt}
-use Rattle.crossbeam_channel.specs.Ends.{sends_on}
-use Rattle.wh_workers.specs.Handover.{HandsOutLast}
-use Rattle.wh_workers.proofs.feed.stop.Given as goal
-
-abbrev pub invariant-loop : goal.invariant-loop
-invariant-loop g l = IsSeatAt (sends_on l.outlet) l.slip × HandsOutLast (view l.fn.slip) (view l.slip)
