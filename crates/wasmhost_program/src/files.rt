@@ -98,3 +98,24 @@ impl<S: Folder> Read for LateFile<'_, S> {
         Ok(count)
     }
 }
+
+/// Standard input, which isn't touched before it is read. What it gives isn't known.
+#[derive(Drop)]
+pub struct LateInput<'a, E: Input> {
+    pub rt: &'a E,
+    pub reader: Option<E::Reader>,
+}
+
+impl<E: Input> Read for LateInput<'_, E> {
+    ghost remaining = { λ _. None };
+
+    fn read(&mut self, buf: &mut [u8]) -> IoResult<usize> {
+        if let Some(reader) = &mut self.reader {
+            return reader.read(buf);
+        }
+        let mut reader = self.rt.reader();
+        let count = reader.read(buf)?;
+        self.reader = Some(reader);
+        Ok(count)
+    }
+}

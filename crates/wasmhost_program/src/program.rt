@@ -11,7 +11,7 @@ ghost use Rattle.wasmhost_program.specs.Written.{EndsWith, HasServedSo, IsFaultO
 
 use crate::arguments::{Arguments, Refused, read_args};
 use crate::errors::Errors;
-use crate::files::{Folder, LateFile, SystemFiles, read_at_most};
+use crate::files::{Folder, LateFile, LateInput, SystemFiles, read_at_most};
 use crate::swap_file::{Lockable, SwapFile, open_swap_file};
 use std::alloc::Global;
 use std::fs::OpenFile;
@@ -333,7 +333,10 @@ where
         }
     };
     let folder = SystemFiles { rt: &rt };
-    let mut input = rt.reader();
+    let mut input = LateInput {
+        rt: &rt,
+        reader: None,
+    };
     let outcome = answer(
         &rt,
         &folder,
