@@ -44,9 +44,8 @@ fn fill(alloc: Global, memory: &mut Memory) -> Result<()> {
 // Times a full pass.
 fn time_pass(rt: &impl CpuClock, memory: &mut Memory) -> Result<Duration> {
     ensure!(memory.has_few_pages(), "there are too many pages");
-    ensure!(memory.has_places_below(1), "there are too many places");
     let before = rt.thread_cpu_time()?;
-    scan_all(memory, &FnvHash, 1);
+    scan_all(memory, &FnvHash);
     since(rt, before)
 }
 

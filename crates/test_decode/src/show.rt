@@ -2,7 +2,9 @@
 
 use anyhow::Result;
 use std::alloc::Global;
-use wh_syntax::{Body, Expr, FuncType, ImportDesc, Instr, Module};
+use wh_syntax::{
+    Body, Data, Element, Export, Expr, FuncType, Import, ImportDesc, Instr, Limits, Module,
+};
 
 fn show_expr(alloc: Global, expr: &Expr) -> Result<String> {
     let flat = expr.flat();
@@ -45,65 +47,115 @@ fn show_body(alloc: Global, body: &Body) -> Result<String> {
     Ok(text)
 }
 
-fn show_declared(rt: &impl Print, alloc: Global, module: &Module) -> Result<()> {
+fn show_types(rt: &impl Print, alloc: Global, module: &Module) -> Result<()> {
     for func_type in module.types.iter() {
         println!(rt; "  type{}", show_type(alloc, func_type)?)?;
     }
-    for import in module.imports.iter() {
-        let from = import.from.as_str();
-        let name = import.name.as_str();
-        match import.desc {
-            ImportDesc::Func(index) => println!(rt; "  import {from} {name} func {index}")?,
-            ImportDesc::Global(t) => println!(rt; "  import {from} {name} global {t:?}")?,
-        }
+    Ok(())
+}
+
+fn show_import(rt: &impl Print, import: &Import) -> Result<()> {
+    let from = import.from.as_str();
+    let name = import.name.as_str();
+    match import.desc {
+        ImportDesc::Func(index) => println!(rt; "  import {from} {name} func {index}")?,
+        ImportDesc::Global(t) => println!(rt; "  import {from} {name} global {t:?}")?,
     }
+    Ok(())
+}
+
+fn show_funcs(rt: &impl Print, module: &Module) -> Result<()> {
     for index in module.funcs.iter() {
         println!(rt; "  func {index}")?;
     }
+    Ok(())
+}
+
+fn show_limits(rt: &impl Print, what: &str, limits: Limits) -> Result<()> {
+    println!(rt; "  {what} {} {:?}", limits.min, limits.max)?;
+    Ok(())
+}
+
+fn show_declared(rt: &impl Print, alloc: Global, module: &Module) -> Result<()> {
+    show_types(rt, alloc, module)?;
+    for import in module.imports.iter() {
+        show_import(rt, import)?;
+    }
+    show_funcs(rt, module)?;
     for table in module.tables.iter() {
-        println!(rt; "  table {} {:?}", table.limits.min, table.limits.max)?;
+        show_limits(rt, "table", table.limits)?;
     }
     for limits in module.memories.iter() {
-        println!(rt; "  memory {} {:?}", limits.min, limits.max)?;
+        show_limits(rt, "memory", *limits)?;
+    }
+    Ok(())
+}
+
+fn show_global(rt: &impl Print, alloc: Global, global: &wh_syntax::Global) -> Result<()> {
+    let init = show_expr(alloc, &global.init)?;
+    let global_type = global.global_type;
+    println!(rt;
+        "  global {:?} {:?} :{init}",
+        global_type.value, global_type.mutability
+    )?;
+    Ok(())
+}
+
+fn show_export(rt: &impl Print, export: &Export) -> Result<()> {
+    println!(rt;
+        "  export {} {:?} {}",
+        export.name, export.kind, export.index
+    )?;
+    Ok(())
+}
+
+fn show_element(rt: &impl Print, alloc: Global, element: &Element) -> Result<()> {
+    let offset = show_expr(alloc, &element.offset)?;
+    println!(rt;
+        "  element {} :{offset} : {:?}",
+        element.table, element.init
+    )?;
+    Ok(())
+}
+
+fn show_segment(rt: &impl Print, alloc: Global, segment: &Data) -> Result<()> {
+    let offset = show_expr(alloc, &segment.offset)?;
+    println!(rt;
+        "  data {} :{offset} : {}",
+        segment.memory,
+        hex::encode(alloc, &segment.init)?
+    )?;
+    Ok(())
+}
+
+fn show_bodies(rt: &impl Print, alloc: Global, module: &Module) -> Result<()> {
+    for body in module.bodies.iter() {
+        println!(rt; "  body{}", show_body(alloc, body)?)?;
+    }
+    Ok(())
+}
+
+fn show_start(rt: &impl Print, start: Option<u32>) -> Result<()> {
+    if let Some(start) = start {
+        println!(rt; "  start {start}")?;
     }
     Ok(())
 }
 
 fn show_defined(rt: &impl Print, alloc: Global, module: &Module) -> Result<()> {
     for global in module.globals.iter() {
-        let init = show_expr(alloc, &global.init)?;
-        let global_type = global.global_type;
-        println!(rt;
-            "  global {:?} {:?} :{init}",
-            global_type.value, global_type.mutability
-        )?;
+        show_global(rt, alloc, global)?;
     }
     for export in module.exports.iter() {
-        println!(rt;
-            "  export {} {:?} {}",
-            export.name, export.kind, export.index
-        )?;
+        show_export(rt, export)?;
     }
-    if let Some(start) = module.start {
-        println!(rt; "  start {start}")?;
-    }
+    show_start(rt, module.start)?;
     for element in module.elements.iter() {
-        let offset = show_expr(alloc, &element.offset)?;
-        println!(rt;
-            "  element {} :{offset} : {:?}",
-            element.table, element.init
-        )?;
+        show_element(rt, alloc, element)?;
     }
-    for body in module.bodies.iter() {
-        println!(rt; "  body{}", show_body(alloc, body)?)?;
-    }
+    show_bodies(rt, alloc, module)?;
     for segment in module.segments.iter() {
-        let offset = show_expr(alloc, &segment.offset)?;
-        println!(rt;
-            "  data {} :{offset} : {}",
-            segment.memory,
-            hex::encode(alloc, &segment.init)?
-        )?;
+        show_segment(rt, alloc, segment)?;
     }
     Ok(())
 }

@@ -1,7 +1,8 @@
-// Worked by hand: to whom a frame is charged that several share, and who gives a page then.
+// Worked by hand: to whom a frame is charged that several share, who gives a page then, and in which order pages are looked
+// at.
 
 use crate::life::{Life, Step};
-use Step::{Admit, Emit, Epoch, Invoke, Provide, Release, ReportIs, Scan, Store, Turn};
+use Step::{Admit, Emit, Epoch, Invoke, Provide, Release, ReportIs, Scan, ScanAlike, Store, Turn};
 use wh_host_model::{Tax, TurnEnd};
 
 const UNTAXED: Tax = Tax { num: 0, den: 1 };
@@ -136,8 +137,31 @@ const CHARGED_BY_NUMBER: &[Step] = &[
     Emit(D, &[(0, 1)]),
 ];
 
+/// Of two instances the later one came to the first place. Pages are looked at by number: where all have one hash, the page
+/// of the earlier one is the first, and the two equal pages of the later one are held against it and against no other.
+const SCANNED_BY_NUMBER: &[Step] = &[
+    Admit(0, (2, 16), 0, Ok((0, 0))),
+    Admit(0, (2, 16), 0, Ok((1, 1))),
+    Release(A, Ok(&[])),
+    Admit(0, (2, 16), 0, Ok((0, 2))),
+    Store(B, 0, 1, TurnEnd::Ended),
+    Store(C, 0, 2, TurnEnd::Ended),
+    Store(C, 4096, 2, TurnEnd::Ended),
+    ScanAlike,
+    ReportIs(
+        "# frames 8 used 3 free 5\n# slots 64 used 0 free 64\n# shared frames 0 sharers 0\n#     1     100     2    16     1     1     0 100/1\n#     2     100     2    16     2     2     0 100/2\n",
+    ),
+    // By a hash that tells contents apart they are merged.
+    Scan,
+    ReportIs(
+        "# frames 8 used 2 free 6\n# slots 64 used 0 free 64\n# shared frames 1 sharers 2\n#     1     100     2    16     1     1     0 100/1\n#     2     100     2    16     1     1     0 100/1\n",
+    ),
+    Emit(B, &[(0, 1)]),
+    Emit(C, &[(0, 2), (4096, 2)]),
+];
+
 /// All of them.
-pub const CHARGING: [Life; 3] = [
+pub const CHARGING: [Life; 4] = [
     Life(
         "a shared frame is charged on",
         (7, 64, UNTAXED),
@@ -150,5 +174,11 @@ pub const CHARGING: [Life; 3] = [
         (8, 64, TAXED),
         &[],
         CHARGED_BY_NUMBER,
+    ),
+    Life(
+        "pages are looked at by number",
+        (8, 64, TAXED),
+        &[],
+        SCANNED_BY_NUMBER,
     ),
 ];

@@ -50,6 +50,8 @@ pub enum Step {
     OfferAlike(usize, u32, u64, Option<Offer>),
     /// All pages are offered.
     Scan,
+    /// The same where all pages have one hash.
+    ScanAlike,
     /// An epoch begins.
     Epoch,
     /// The next step is made ready, while the device's call of this number fails: how many pages left for it.
@@ -258,6 +260,7 @@ impl Step {
                 is_admitted(answer, want, admitted)?
             }
             Step::Scan => rig.scan(&FnvHash),
+            Step::ScanAlike => rig.scan(&ConstantHash),
             Step::Epoch => {
                 rig.epoch();
                 true

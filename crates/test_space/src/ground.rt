@@ -262,11 +262,11 @@ impl Ground {
             && offer(&mut self.memory, &FnvHash, place, number, page, hash) == answer
     }
 
-    fn pass(&mut self, places: u32) -> bool {
-        if !self.memory.has_few_pages() || !self.memory.has_places_below(places) {
+    fn pass(&mut self) -> bool {
+        if !self.memory.has_few_pages() {
             return false;
         }
-        scan_all(&mut self.memory, &FnvHash, places);
+        scan_all(&mut self.memory, &FnvHash);
         true
     }
 
@@ -299,7 +299,7 @@ impl Ground {
             Step::OfferOf(place, number, page, key, answer) => {
                 self.offer_of(place, number, page, key, answer)
             }
-            Step::Pass(places) => self.pass(places),
+            Step::Pass => self.pass(),
             Step::Hint(place, page, hash) => hinted(&mut self.memory, place, page, hash),
             Step::Pair(place, page, hash) => paired(&mut self.memory, place, page, hash),
             Step::Fill(place, pages) => filled(&mut self.memory, place, pages),

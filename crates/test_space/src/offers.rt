@@ -69,7 +69,7 @@ const A_PASS: &[Step] = &[
     Step::Store(0, 4096, &[2], End::Done),
     Step::Store(1, 4096, &[1], End::Done),
     Step::Store(1, 61440, &[0], End::Done),
-    Step::Pass(2),
+    Step::Pass,
     Step::Alone(0, 0, false),
     Step::Alone(0, 1, true),
     Step::Alone(1, 1, false),

@@ -53,7 +53,7 @@ const THREE_EQUAL_PAGES: &[Step] = &[
     Step::Store(2, 0, &[1], End::Done),
     Step::Used(3),
     Step::Sharing(0, 0),
-    Step::Pass(3),
+    Step::Pass,
     Step::Used(1),
     Step::Free(1023),
     Step::Sharing(1, 3),
@@ -65,7 +65,7 @@ const THREE_EQUAL_PAGES: &[Step] = &[
     Step::Load(1, 0, FIRST_1, End::Done),
     // The frame that two share still has its entry: a page that is equal again joins it.
     Step::Store(0, 0, &[1], End::Done),
-    Step::Pass(3),
+    Step::Pass,
     Step::Used(1),
     Step::Sharing(1, 3),
 ];
@@ -86,7 +86,7 @@ const A_STORE_OVER_BOTH_SHARERS: &[Step] = &[
     Step::Store(0, 0, &[5; 4096], End::Done),
     Step::Store(0, 4096, &[5; 4096], End::Done),
     Step::Note(0, 0),
-    Step::Pass(2),
+    Step::Pass,
     Step::Used(1),
     Step::Sharing(1, 2),
     Step::Entry(Key::Noted, Found::Something),
@@ -135,7 +135,7 @@ const A_STORE_OF_ZERO: &[Step] = &[
     Step::Used(0),
     Step::Store(0, 0, &[0], End::Done),
     Step::Used(1),
-    Step::Pass(1),
+    Step::Pass,
     Step::Used(0),
 ];
 

@@ -52,8 +52,8 @@ pub enum Step {
     Offer(u32, u32, Key, Offer),
     /// A page of the instance of this number is.
     OfferOf(u32, u64, u32, Key, Offer),
-    /// All pages of so many places are offered.
-    Pass(u32),
+    /// All pages are offered.
+    Pass,
     /// A page becomes the hint of a hash, under which nothing was found.
     Hint(u32, u32, u64),
     /// A page goes to the frame of a hint, with equal bytes, of which the first isn't 0.

@@ -257,11 +257,8 @@ impl Trial {
     // Offers all pages, and looks how many frames that leaves in use: as many as there are different pages, where the hash
     // tells them apart and none was ever offered under another's; else no fewer.
     pub fn scan<H: PageHash>(&mut self, alloc: Global, hasher: &H, exactly: bool) -> Result<()> {
-        ensure!(
-            self.memory.has_few_pages() && self.memory.has_places_below(PLACES),
-            "there are too many pages"
-        );
-        scan_all(&mut self.memory, hasher, PLACES);
+        ensure!(self.memory.has_few_pages(), "there are too many pages");
+        scan_all(&mut self.memory, hasher);
         let distinct = self.distinct(alloc)?;
         let used = self.memory.used();
         ensure!(

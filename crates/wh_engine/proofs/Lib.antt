@@ -12,5 +12,6 @@ pub mod Released
 pub mod Resting
 pub mod Runs
 pub mod Sayings
+pub mod Turned
 pub mod Whole
 pub mod Worked

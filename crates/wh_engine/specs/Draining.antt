@@ -1,5 +1,5 @@
 -- Drains: the device behind a host, and what calls come to.
-use Rattle.std.specs.Prelude.{◌≡◌, ℕ, List, ◌++◌, slice_get, Option, Some, None, false, true}
+use Rattle.std.specs.Prelude.{◌≡◌, ℕ, ◌+◌, List, ◌++◌, IsOk, Result, Ok, slice_get, Option, Some, None, false, true}
 use Rattle.std.specs.List.{AllZip}
 use Rattle.wh_host_model.specs.declared.plain.SwapError.{SwapError}
 use Rattle.wh_host_model.specs.Lines.Settings.{Settings}
@@ -8,6 +8,11 @@ use Rattle.wh_host_model.specs.Lines.Made.{Made}
 use Rattle.wh_host_model.specs.Lines.Drains.{RunsAlone}
 use Rattle.wh_host.specs.Hosting.{HostState}
 use Rattle.wh_host.specs.Paging.{IsGoing, Tells}
+use Rattle.wh_threads.specs.declared.channel.Message.{Message}
+use Rattle.wh_threads.specs.Handover.{SameMessages}
+use Rattle.wh_workers.specs.Serving.{AreRun, AreTurns}
+use Rattle.wh_workers.specs.declared.crew.Served.{Served}
+use Rattle.wh_workers.specs.declared.crew.ServeError.{ServeError}
 use Rattle.wh_engine.specs.declared.fault.ScriptFault.{ScriptFault}
 use Rattle.wh_engine.specs.declared.fault.ScriptFault.TheVariants.{Memory, Threads, Transcript}
 use Rattle.wh_engine.specs.declared.parts.Guest.{Guest}
@@ -70,6 +75,20 @@ RunsEach e e2 =
     (settings : Settings) (m : Made) → StandsForScript settings e m
     → (run : List made.Guest) × AllZip RunsAlone m.guests run
     × StandsForScript settings e2 (record m { guests = run })
+
+-- it was served to its end
+abbrev pub IsServedWhole : Result Served ServeError → Type 0
+IsServedWhole served = (s : Served) × (served ≡ Ok s) × IsOk s.end
+
+-- Turns of q charges were handed out, and workers have run those, each once; by so many the book has grown.
+pub record RunsTurns (q : ℕ) (before after : ℕ) : Type 0 where
+  pub turns : ℕ
+  pub sent : List Message
+  pub received : List Message
+  pub handed : AreTurns turns q sent
+  pub once : SameMessages sent received
+  pub ran : AreRun before received after
+  pub grown : after ≡ before + turns
 
 -- whatever script the engine stands for, an instance of it has an open call
 abbrev pub WasOpen : EngineState → Type 0

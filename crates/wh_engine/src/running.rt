@@ -3,7 +3,7 @@
 ghost use Rattle.std.specs.Bool.{MatchBool};
 ghost use Rattle.std.specs.Prelude.{◌≡◌, ◌≢◌, ◌≤◌, IfErr, OnOk};
 ghost use Rattle.wh_engine.specs.declared.fault.ScriptFault.TheVariants.{Transcript};
-ghost use Rattle.wh_engine.specs.Draining.{AllRest, DeviceMayFail, DeviceServesWell, DeviceStaysTrue, RunsEach, SomeGoes, StopsOnlyOpen, StopsRun};
+ghost use Rattle.wh_engine.specs.Draining.{AllRest, DeviceMayFail, DeviceServesWell, DeviceStaysTrue, IsServedWhole, RunsEach, RunsTurns, SomeGoes, StopsOnlyOpen, StopsRun};
 ghost use Rattle.wh_engine.specs.Standing.{engine_on};
 
 use crate::engine::Engine;
@@ -32,7 +32,9 @@ fn stops_by(error: ServeError) -> ScriptFault
 }
 
 // How a run of calls ended.
-fn end_of(served: Result<Served, ServeError>) -> Result<(), ServeError> {
+fn end_of(served: Result<Served, ServeError>) -> Result<(), ServeError>
+    ensures { OnOk result (IsServedWhole served) }
+{
     served?.end
 }
 
@@ -99,6 +101,7 @@ impl Engine {
         ensures runs { OnOk result
             (DeviceServesWell D.honest D.faults host.old.device host.new.device
             → RunsEach (engine_on host.old.host self.now) (engine_on host.new.host self.now)) }
+        ensures turns { OnOk result (RunsTurns manner.quantum host.old.books.turns host.new.books.turns) }
         ensures err { IfErr result StopsRun }
         ensures open { IfErr result (StopsOnlyOpen (engine_on host.old.host self.now)) }
         ensures transcript { IfErr result (λ fault. fault ≡ Transcript

@@ -21,6 +21,7 @@ impl Engine {
         ensures stands { StaysSo (engine_on host.old.host self.now)
             (engine_on host.new.host self.now) }
         ensures device { host.new.device ≡ host.old.device }
+        ensures books { host.new.books ≡ host.old.books }
     {
         host.epoch();
     }

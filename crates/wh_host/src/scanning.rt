@@ -2,11 +2,11 @@
 
 ghost use Rattle.std.specs.Prelude.{◌≡◌, ◌+◌, ℕ, List, true, false, IfSome, IfNone, length};
 ghost use Rattle.wh_host_model.specs.Space.Offers.{OffersOf};
-ghost use Rattle.wh_host_model.specs.Space.Scanning.{IsDistinct, IsFullPass, Scans};
-ghost use Rattle.wh_scan.specs.Pass.{MayPass};
+ghost use Rattle.wh_host_model.specs.Space.Scanning.{IsDistinct};
+ghost use Rattle.wh_scan.specs.Pass.{MayPass, PassesOverAll, ScansAll};
 ghost use Rattle.wh_host.specs.Backing.{KeepsBacking};
 ghost use Rattle.wh_host.specs.Paging.{MovesOnly};
-ghost use Rattle.wh_host.specs.Sharing.{CanOffer, CanScan, all_pages};
+ghost use Rattle.wh_host.specs.Sharing.{CanOffer, CanScan};
 
 use crate::host::Host;
 use wh_host_model::{InstId, Offer};
@@ -14,20 +14,20 @@ use wh_kernels::PageHash;
 use wh_scan::{offer, scan_all};
 
 impl Host {
-    /// Offers all pages of all instances for sharing, by place and number, each under the hash of its bytes as they are.
-    /// Then as many frames are in use as there are distinct contents that aren't all zero, if the hash tells contents apart
-    /// and was the hash before. No byte of any page changes, and it takes no memory.
+    /// Offers all pages of all instances for sharing, in the order of the instances' numbers, and those of each in order, each
+    /// under the hash of its bytes as they are. Then as many frames are in use as there are distinct contents that aren't all
+    /// zero, if the hash tells contents apart and was the hash before. No byte of any page changes, and it takes no memory.
     ///
-    /// Whether it was done: it is where frames and slots are fewer than 2^32 together, and so are the places.
+    /// Whether it was done: it is where frames and slots are fewer than 2^32 together.
     pub fn scan<H: PageHash>(&mut self, hasher: &H) -> bool
         ensures moves { MovesOnly self.old self.new }
         ensures backing { KeepsBacking self.old.space self.new.space }
         ensures done { CanScan self.old.space → result ≡ true }
         ensures none { result ≡ false → self.new ≡ self.old }
-        ensures scans { result ≡ true → Scans (H.hashes hasher.now) self.old.space
-            (all_pages self.old.space) self.new.space }
-        ensures full { result ≡ true → MayPass (H.hashes hasher.now) self.old.space → IsFullPass
-            (H.hashes hasher.now) self.old.space (all_pages self.old.space) self.new.space }
+        ensures scans { result ≡ true
+            → ScansAll (H.hashes hasher.now) self.old.space self.new.space }
+        ensures full { result ≡ true → MayPass (H.hashes hasher.now) self.old.space
+            → PassesOverAll (H.hashes hasher.now) self.old.space self.new.space }
         ensures counts { result ≡ true → MayPass (H.hashes hasher.now) self.old.space
             → (all : List (List ℕ)) → IsDistinct self.new.space all
             → length all + length self.new.space.pool.free ≡ length self.new.space.pool.frames }
@@ -35,12 +35,7 @@ impl Host {
         if !self.memory.has_few_pages() {
             return false;
         }
-        let places = self.memory.places();
-        if places > u32::MAX as usize {
-            return false;
-        }
-        self.memory.known();
-        scan_all(&mut self.memory, hasher, places as u32);
+        scan_all(&mut self.memory, hasher);
         true
     }
 

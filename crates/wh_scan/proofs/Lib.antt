@@ -1,2 +1,4 @@
 pub mod Gone
 pub mod Passing
+pub mod ByNumber
+pub mod OneOrder

@@ -1,19 +1,32 @@
 -- A pass over all pages.
-use Rattle.std.specs.Prelude.{ℕ, ◌≡◌, ◌++◌, List, [], ◌∷◌, length, get_or, zero, suc}
-use Rattle.wh_host_model.specs.declared.states.Page.{Page}
+use Rattle.std.specs.Prelude.{ℕ, ◌≡◌, ◌<◌, ◌⊎◌, ◌↔◌, ◌++◌, List, [], ◌∷◌, Some, length, get_or, slice_get, zero, suc}
+use Rattle.wh_host_model.specs.Space.Charges.{occupant_number}
 use Rattle.wh_host_model.specs.Space.Errands.{tickets}
 use Rattle.wh_host_model.specs.Space.Parts.{Space, kept, pinned_by}
-use Rattle.wh_host_model.specs.Space.Scanning.{IsContent, MadeUnder}
+use Rattle.wh_host_model.specs.Space.Scanning.{IsContent, IsFullPass, MadeUnder, Scans}
 
--- the first n pages of the instance at a place, each by place and number
+-- the first n pages of the instance at a place, each by place and page
 abbrev pub pages_before : ℕ → ℕ → List (ℕ × ℕ)
 pages_before i zero = []
 pages_before i (suc n) = pages_before i n ++ (i, n) ∷ []
 
--- all pages of the instances at the first places
-abbrev pub pages_of_places : List (List Page) → ℕ → List (ℕ × ℕ)
-pages_of_places tables zero = []
-pages_of_places tables (suc i) = pages_of_places tables i ++ pages_before i (length (get_or tables i []))
+-- one page comes before another: its instance has the lower number, or it is the lower page of the same one
+abbrev pub ComesFirst : Space → ℕ × ℕ → ℕ × ℕ → Type 0
+ComesFirst s x y = (occupant_number s x.0 < occupant_number s y.0) ⊎ ((x.0 ≡ y.0) × (x.1 < y.1))
+
+-- These are all pages of the instances that are there, each by place and page: those of an instance with a lower number
+-- before those of one with a higher, and those of each in order. Places are used again, numbers aren't.
+pub record AreAllPages (s : Space) (pages : List (ℕ × ℕ)) : Type 0 where
+  pub each : (i p : ℕ) → ((k : ℕ) × (slice_get pages k ≡ Some (i, p))) ↔ (p < length (get_or s.tables i []))
+  pub in_order : (j k : ℕ) (x y : ℕ × ℕ) → j < k → slice_get pages j ≡ Some x → slice_get pages k ≡ Some y → ComesFirst s x y
+
+-- they are offered one after the other, and nothing comes between
+abbrev pub ScansAll : (List ℕ → ℕ) → Space → Space → Type 0
+ScansAll hashes s s2 = (pages : List (ℕ × ℕ)) × AreAllPages s pages × Scans hashes s pages s2
+
+-- and that is a full pass
+abbrev pub PassesOverAll : (List ℕ → ℕ) → Space → Space → Type 0
+PassesOverAll hashes s s2 = (pages : List (ℕ × ℕ)) × AreAllPages s pages × IsFullPass hashes s pages s2
 
 -- No ticket is out, nothing is pinned or earmarked, entries were made under this hash, and no two contents have one
 -- hash.

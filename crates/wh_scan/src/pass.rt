@@ -1,9 +1,9 @@
 // A pass over all pages.
 
-ghost use Rattle.std.specs.Prelude.{◌≡◌, ◌+◌, ◌≤◌, ℕ, List, [], length, get_or};
+ghost use Rattle.std.specs.Prelude.{◌≡◌, ◌+◌, ℕ, List, [], length, get_or};
 ghost use Rattle.wh_host_model.specs.Space.Offers.{Offers};
-ghost use Rattle.wh_host_model.specs.Space.Scanning.{IsDistinct, IsFullPass, IsHashOf, Scans};
-ghost use Rattle.wh_scan.specs.Pass.{MayPass, pages_before, pages_of_places};
+ghost use Rattle.wh_host_model.specs.Space.Scanning.{IsDistinct, IsHashOf, Scans};
+ghost use Rattle.wh_scan.specs.Pass.{MayPass, PassesOverAll, ScansAll, pages_before};
 ghost use Rattle.wh_space.specs.Merges.{HasFewPages};
 
 use crate::offers::offer_at;
@@ -45,22 +45,22 @@ fn scan_place<H: PageHash>(memory: &mut Memory, hasher: &H, place: u32)
     }
 }
 
-/// Offers all pages of the instances at the first so many places, which are all that there are, in order of place and
-/// number, each under the hash of its bytes as they are. Then as many frames are in use as there are distinct contents
-/// that aren't all zero, if the hash tells contents apart and was the hash before.
-pub fn scan_all<H: PageHash>(memory: &mut Memory, hasher: &H, places: u32)
-    requires few { HasFewPages memory.old }
-    requires all { length memory.old.tables ≤ places }
-    ensures scans { Scans (H.hashes hasher.now) memory.old
-        (pages_of_places memory.old.tables places) memory.new }
-    ensures full { MayPass (H.hashes hasher.now) memory.old → IsFullPass (H.hashes hasher.now)
-        memory.old (pages_of_places memory.old.tables places) memory.new }
+/// Offers all pages of all instances, in the order of the instances' numbers, and those of each in order, each under the
+/// hash of its bytes as they are. Then as many frames are in use as there are distinct contents that aren't all zero, if the
+/// hash tells contents apart and was the hash before.
+pub fn scan_all<H: PageHash>(memory: &mut Memory, hasher: &H)
+    requires { HasFewPages memory.old }
+    ensures scans { ScansAll (H.hashes hasher.now) memory.old memory.new }
+    ensures full { MayPass (H.hashes hasher.now) memory.old
+        → PassesOverAll (H.hashes hasher.now) memory.old memory.new }
     ensures counts { MayPass (H.hashes hasher.now) memory.old
         → (all : List (List ℕ)) → IsDistinct memory.new all
         → length all + length memory.new.pool.free ≡ length memory.new.pool.frames }
 {
     memory.known();
-    for place in 0..places {
-        scan_place(memory, hasher, place);
+    let mut after = None;
+    while let Some(next) = memory.next_instance(after) {
+        scan_place(memory, hasher, next.place as u32);
+        after = Some(next.number);
     }
 }

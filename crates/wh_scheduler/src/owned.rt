@@ -379,11 +379,11 @@ impl<D: SwapDev, T: Ledger, C: Ledger, O: Ledger, E: Ledger, B: Ties> OwnedHost<
         locked.meet(&mut self.owner);
     }
 
-    /// Offers all pages of all instances for sharing, by place and number, each under the hash of its bytes as they are. Then
-    /// as many frames are in use as there are distinct contents that aren't all zero, if the hash tells contents apart and
-    /// was the hash before. No byte of any page changes.
+    /// Offers all pages of all instances for sharing, in the order of the instances' numbers, and those of each in order, each
+    /// under the hash of its bytes as they are. Then as many frames are in use as there are distinct contents that aren't all
+    /// zero, if the hash tells contents apart and was the hash before. No byte of any page changes.
     ///
-    /// Whether it was done: it is where frames and slots are fewer than 2^32 together, and so are the places.
+    /// Whether it was done: it is where frames and slots are fewer than 2^32 together.
     pub fn scan<H: PageHash>(&mut self, hasher: &H) -> bool
         ensures moves { MovesOnly self.old.host self.new.host }
         ensures scans { IsScanned (H.hashes hasher.now) self.old.host result self.new.host }

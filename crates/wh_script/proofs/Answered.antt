@@ -1,6 +1,6 @@
 -- What lines get.
 use Rattle.std.proofs.lemmas.Option.{same_Some}
-use Rattle.std.proofs.Common.{◌≡◌, ◌∙◌, ℕ, ℤ, ◌<◌, ◌⊎◌, inl, inr, true, false, List, [], ◌∷◌, ◌++◌, length, Result, Ok, Err, OnOk, OnErr, is_err, refl, sym, ap, subst, append_assoc, true≢false, slice_index, ◌≢◌, arith}
+use Rattle.std.proofs.Common.{◌≡◌, ◌∙◌, ℕ, ℤ, ◌<◌, ◌⊎◌, inl, inr, true, false, List, [], ◌∷◌, ◌++◌, length, Result, Ok, Err, OnOk, OnErr, is_err, refl, sym, ap, subst, append-nil, append_assoc, true≢false, slice_index, ◌≢◌, arith}
 use Rattle.wh_host_model.specs.Script.{is_skipped, longest_line}
 use Rattle.wh_host_model.specs.Lines.Settings.{Settings}
 use Rattle.wh_host_model.specs.Lines.Commands.{Command, keep, load, admit, invoke, drain, refuel, cancel, retry, scan, report, release, AsksCommand, verb}
@@ -8,7 +8,7 @@ use Rattle.wh_host_model.specs.Lines.Texts.{Reply, error}
 use Rattle.wh_host_model.specs.Lines.Made.{Made, NoGuest}
 use Rattle.wh_host_model.specs.Lines.Drains.{Drains}
 use Rattle.wh_host_model.specs.Lines.Receiving.{ReceivesCall}
-use Rattle.wh_host_model.specs.Lines.Answers.{Files, IsRead, no_such_guest, AnswersLine, skipped, invoked, obeyed, too_long, no_command, line_wants}
+use Rattle.wh_host_model.specs.Lines.Answers.{Files, IsRead, no_such_guest, replies_text, AnswersLine, skipped, invoked, obeyed, too_long, no_command, line_wants}
 use Rattle.wh_commands.specs.declared.error.LineError.{LineError}
 use Rattle.wh_commands.specs.declared.error.LineError.TheVariants.{Syntax, NoName, NameTaken, File, Memory}
 use Rattle.wh_commands.specs.declared.command.Command.{Command as Code}
@@ -17,13 +17,14 @@ use Rattle.wh_commands.specs.Found.{FindsAsked}
 use Rattle.wh_script_model.specs.Said.{AllAreSaid, IsWellMade}
 use Rattle.wh_script_model.proofs.SaidObeyed.{call_well, obeys_well}
 use Rattle.wh_engine.specs.Obeying.{TakesInvoke, IsNamed}
+use Rattle.wh_engine.specs.Saying.{AddsLines}
 use Rattle.wh_engine.specs.Standing.{EngineState, StandsForScript}
 use Rattle.wh_script.specs.declared.lines.Line.{Line}
 use Rattle.wh_script.specs.declared.lines.Line.TheVariants.{Skipped, End}
 use Rattle.wh_script.specs.Coming.{IsKind}
-use Rattle.wh_script.specs.Answering.{HasDrained, Complains, GetsReplies, is_obeyed, is_wanting, Obeys, Answers, AnswersCommand}
+use Rattle.wh_script.specs.Answering.{HasDrained, Complains, GetsReplies, is_obeyed, is_wanting, AddsReplies, adds_replies, adds_report, Obeys, Answers, AnswersCommand}
+use Rattle.wh_script.specs.Speaking.{AsksReport, EndsInWant, IsLineText, says_replies, says_report}
 use Rattle.wh_script.proofs.Speaking.{adds_none, adds_more}
-use Rattle.wh_script.specs.Reports.{EndsInReport}
 use Rattle.wh_script.proofs.Drained.{no_guest_then}
 
 -- ---- which lines ask for a report
@@ -53,31 +54,36 @@ one_command line command asks other = by_verb command (heads (verb command) (ver
 invoke_apart : (inst export : List ℕ) (fuel : ℕ) (args : List ℤ) → invoke inst export fuel args ≡ report → ⊥
 invoke_apart inst export fuel args e = absurd (cc e)
 
-ends_behind : (settings : Settings) (number : ℕ) (m : Made) (lines replies : List Reply) (text : List ℕ) → EndsInReport settings number m replies text
-    → EndsInReport settings number m (lines ++ replies) text
-ends_behind settings number m lines replies text (inl shown) = inl shown
-ends_behind settings number m lines replies text (inr (front, is)) = inr (lines ++ front, ap (λ xs. lines ++ xs) is ∙ sym (append_assoc lines front (error 5 number ∷ [])))
+-- the text of these replies is that of a line which asks for no report, or for which memory was wanted
+only_replies : (settings : Settings) (number : ℕ) (line : List ℕ) (m : Made) (replies : List Reply) (text text2 : List ℕ) → (AsksReport line → EndsInWant number replies)
+    → AddsLines replies text text2 → (more : List ℕ) × IsLineText settings number line m replies more × (text2 ≡ text ++ more)
+only_replies settings number line m replies text text2 wants adds = (replies_text replies, says_replies wants, adds)
 
 pub is_skipped_line : (files : Files) (number : ℕ) (line : List ℕ) (e : EngineState) (text : List ℕ) → is_skipped line ≡ true → Answers files number line e text e text
-is_skipped_line files number line e text is settings m s = ([], m, skipped is, adds_none settings text, s, λ read asks. absurd (true≢false (sym is ∙ read.0)))
+is_skipped_line files number line e text is settings m s =
+    let t = only_replies settings number line m [] text text (λ asks. absurd (true≢false (sym is ∙ asks.is_read.0))) (adds_none text) in
+    ([], m, t.0, skipped is, t.1, t.2, s)
 
 pub is_too_long : (files : Files) (number : ℕ) (line text text2 : List ℕ) (e e2 : EngineState) → is_skipped line ≡ false → longest_line < length line
     → Complains (error 1 number) e text e2 text2 → Answers files number line e text e2 text2
 is_too_long files number line text text2 e e2 read long complains settings m s =
     let c = complains settings m s in
-    (c.0 ++ error 1 number ∷ [], c.1, too_long read long c.2, c.3, c.4, λ is asks. absurd (omega (arith, long, is.1)))
+    let t = only_replies settings number line c.1 (c.0 ++ error 1 number ∷ []) text text2 (λ asks. absurd (omega (arith, long, asks.is_read.1))) c.3 in
+    (c.0 ++ error 1 number ∷ [], c.1, t.0, too_long read long c.2, t.1, t.2, c.4)
 
 pub is_no_command : (files : Files) (number : ℕ) (line text text2 : List ℕ) (e e2 : EngineState) → IsRead line → ((command : Command) → ¬ (AsksCommand line command))
     → Complains (error 1 number) e text e2 text2 → Answers files number line e text e2 text2
 is_no_command files number line text text2 e e2 read none complains settings m s =
     let c = complains settings m s in
-    (c.0 ++ error 1 number ∷ [], c.1, no_command read none c.2, c.3, c.4, λ is asks. absurd (none report asks))
+    let t = only_replies settings number line c.1 (c.0 ++ error 1 number ∷ []) text text2 (λ asks. absurd (none report asks.asks)) c.3 in
+    (c.0 ++ error 1 number ∷ [], c.1, t.0, no_command read none c.2, t.1, t.2, c.4)
 
 pub wants_memory : (files : Files) (number : ℕ) (line text text2 : List ℕ) (e e2 : EngineState) → IsRead line
     → Complains (error 5 number) e text e2 text2 → Answers files number line e text e2 text2
 wants_memory files number line text text2 e e2 read complains settings m s =
     let c = complains settings m s in
-    (c.0 ++ error 5 number ∷ [], c.1, line_wants refl read c.2, c.3, c.4, λ is asks. inr (c.0, refl))
+    let t = only_replies settings number line c.1 (c.0 ++ error 5 number ∷ []) text text2 (λ asks. (c.0, refl)) c.3 in
+    (c.0 ++ error 5 number ∷ [], c.1, t.0, line_wants refl read c.2, t.1, t.2, c.4)
 
 -- a line whose command isn't found
 pub isnt_found : (files : Files) (number : ℕ) (line text text2 : List ℕ) (e e2 : EngineState) (r : Result Code LineError) (cause : LineError) → r ≡ Err cause
@@ -104,6 +110,9 @@ isnt_found files number line text text2 e e2 r Memory is only which read complai
 
 -- ---- commands
 
+no_report : (line inst export : List ℕ) (fuel : ℕ) (args : List ℤ) → AsksCommand line (invoke inst export fuel args) → (replies : List Reply) {number : ℕ} → AsksReport line → EndsInWant number replies
+no_report line inst export fuel args asks replies other = absurd (invoke_apart inst export fuel args (one_command line (invoke inst export fuel args) asks other.asks))
+
 pub is_received : (files : Files) (number i : ℕ) (inst export : List ℕ) (fuel : ℕ) (args : List ℤ) (e e2 : EngineState) (text : List ℕ)
     → ((settings : Settings) (m : Made) → StandsForScript settings e m → IsNamed m i inst)
     → ((settings : Settings) (m : Made) → StandsForScript settings e m → TakesInvoke settings m i export fuel args e2)
@@ -112,26 +121,30 @@ is_received files number i inst export fuel args e e2 text named takes line read
     let has = named settings m s.0 in
     let took = takes settings m s.0 in
     let same : took.0 ≡ has.0 = same_Some took.0 has.0 (sym took.1 ∙ has.1.0) in
-    let received : ReceivesCall true m i has.0 export fuel args took.2 = subst (λ g. ReceivesCall true m i g export fuel args took.2) same took.3 in (
+    let received : ReceivesCall true m i has.0 export fuel args took.2 = subst (λ g. ReceivesCall true m i g export fuel args took.2) same took.3 in
+    let t = only_replies settings number line took.2 [] text text (no_report line inst export fuel args asks []) (adds_none text) in (
       [],
       took.2,
+      t.0,
       invoked i read asks has.1 received,
-      adds_none settings text,
+      t.1,
+      t.2,
       (took.4, call_well true m took.2 i has.0 export fuel args has.1.0 received s.1),
-      λ is other. absurd (invoke_apart inst export fuel args (one_command line (invoke inst export fuel args) asks other)),
     )
 
 pub has_no_guest : (files : Files) (number : ℕ) (inst export : List ℕ) (fuel : ℕ) (args : List ℤ) (e e2 : EngineState) (text text2 : List ℕ)
     → ((settings : Settings) (m : Made) → StandsForScript settings e m → NoGuest m inst)
     → Complains (error 2 number) e text e2 text2 → AnswersCommand files number (invoke inst export fuel args) e text e2 text2
 has_no_guest files number inst export fuel args e e2 text text2 none complains line read asks settings m s =
-    let c = complains settings m s in (
+    let c = complains settings m s in
+    let t = only_replies settings number line c.1 (c.0 ++ error 2 number ∷ []) text text2 (no_report line inst export fuel args asks (c.0 ++ error 2 number ∷ [])) c.3 in (
       c.0 ++ error 2 number ∷ [],
       c.1,
+      t.0,
       obeyed {command = invoke inst export fuel args} read asks c.2 (no_such_guest refl (no_guest_then m c.1 c.0 inst c.2 (none settings m s.0))),
-      c.3,
+      t.1,
+      t.2,
       c.4,
-      λ is other. absurd (invoke_apart inst export fuel args (one_command line (invoke inst export fuel args) asks other)),
     )
 
 pub invoke_wants : (files : Files) (number : ℕ) (command : Command) (e e1 e2 : EngineState) (text text2 : List ℕ)
@@ -150,17 +163,34 @@ gets_well : (settings : Settings) (files : Files) (m1 m2 : Made) (number : ℕ) 
 gets_well settings files m1 m2 number command replies (is_obeyed o) well all = obeys_well true settings files m1 m2 number command replies o well all
 gets_well settings files m1 _ number command _ is_wanting well all = well
 
+-- the text of a drain, and behind it what the command gets
+says_both : (settings : Settings) (number : ℕ) (command : Command) (line : List ℕ) (m : Made) (lines replies : List Reply) (text mid text2 : List ℕ) → IsRead line
+    → AsksCommand line command → AddsLines lines text mid → AddsReplies settings number command m replies mid text2
+    → (more : List ℕ) × IsLineText settings number line m (lines ++ replies) more × (text2 ≡ text ++ more)
+says_both settings number command line m lines replies text mid text2 read asks drained (adds_replies adds wants) =
+    only_replies settings number line m (lines ++ replies) text text2
+    (λ other. (lines, ap (λ xs. lines ++ xs) (wants (one_command line command asks other.asks)))) (adds_more lines replies text mid text2 drained adds)
+says_both settings number command line m lines replies text mid text2 read asks drained (adds_report {shown = shown} is none shows at) =
+    let asked : AsksReport line = record { is_read = read; asks = subst (λ c. AsksCommand line c) is asks } in
+    let all : lines ++ replies ≡ lines = ap (λ xs. lines ++ xs) none ∙ append-nil lines in (
+      replies_text (lines ++ replies) ++ shown,
+      says_report asked shows,
+      at ∙ ap (λ xs. xs ++ shown) drained ∙ append_assoc text (replies_text lines) shown ∙ ap (λ (xs : List Reply). text ++ (replies_text xs ++ shown)) (sym all),
+    )
+
 pub drained_obeyed : (files : Files) (number : ℕ) (command : Command) (e e1 e2 : EngineState) (text mid text2 : List ℕ) → HasDrained e text e1 mid → Obeys files number command e1 mid e2 text2
     → AnswersCommand files number command e text e2 text2
 drained_obeyed files number command e e1 e2 text mid text2 drained obeys line read asks settings m s =
     let d = drained settings m s in
-    let o = obeys settings d.1 d.4.0 in (
+    let o = obeys settings d.1 d.4.0 in
+    let t = says_both settings number command line o.1 d.0 o.0 text mid text2 read asks d.3 o.3 in (
       d.0 ++ o.0,
       o.1,
+      t.0,
       gets_line settings files m d.1 o.1 number command line d.0 o.0 read asks d.2 o.2,
-      adds_more settings d.0 o.0 text mid text2 d.3 o.3,
+      t.1,
+      t.2,
       (o.4, gets_well settings files d.1 o.1 number command o.0 o.2 d.4.1 d.5),
-      λ is other. ends_behind settings number o.1 d.0 o.0 text2 (o.5 (one_command line command asks other)),
     )
 
 -- ---- kinds of lines

@@ -8,7 +8,7 @@ use Rattle.wh_engine.specs.Draining.{RunsEach, StaysSo}
 use Rattle.wh_engine.specs.Saying.{SaysAll}
 use Rattle.wh_engine.specs.Standing.{EngineState}
 use Rattle.wh_script.specs.Answering.{HasDrained, Complains}
-use Rattle.wh_script.proofs.Speaking.{adds_lines, adds_one, adds_more}
+use Rattle.wh_script.proofs.Speaking.{adds_one, adds_more}
 
 pub stays_so : (e : EngineState) → StaysSo e e
 stays_so e settings m s = s
@@ -39,12 +39,12 @@ has_drained e e1 e2 e3 text text2 stays runs says settings m s =
     } in
     let well2 = says_well m1 starts calls guests invoked well said.4 said.5 in
     let all = all_said m1 starts calls guests invoked said.4 said.5 in
-    (starts ++ calls, m2, drains, adds_lines settings (starts ++ calls) text text2 said.6, (said.7, well2), all)
+    (starts ++ calls, m2, drains, said.6, (said.7, well2), all)
 
 pub complains : (e e2 : EngineState) (text mid text2 : List ℕ) (reply : Reply) → HasDrained e text e2 mid → text2 ≡ mid ++ reply_text reply → Complains reply e text e2 text2
 complains e e2 text mid text2 reply drained is settings m s =
     let d = drained settings m s in
-    (d.0, d.1, d.2, adds_more settings d.0 (reply ∷ []) text mid text2 d.3 (adds_one settings reply mid text2 is), d.4)
+    (d.0, d.1, d.2, adds_more d.0 (reply ∷ []) text mid text2 d.3 (adds_one reply mid text2 is), d.4)
 
 -- who isn't there isn't there behind a drain
 pub no_guest_then : (m m2 : Made) (lines : List Reply) (name : List ℕ) → Drains m lines m2 → NoGuest m name → NoGuest m2 name

@@ -4,7 +4,6 @@ pub mod Hex
 pub mod Written
 pub mod Speaking
 pub mod Rows
-pub mod Reported
 pub mod Drained
 pub mod Asked
 pub mod Within

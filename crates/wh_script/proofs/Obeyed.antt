@@ -1,5 +1,5 @@
 -- What commands get behind a drain.
-use Rattle.std.proofs.Common.{◌≡◌, ◌∙◌, ℕ, true, List, [], ◌∷◌, ◌++◌, slice_get, Option, Some, None, MatchOption, refl, sym, ap, subst, inl, inr}
+use Rattle.std.proofs.Common.{◌≡◌, ◌∙◌, ℕ, true, List, [], ◌∷◌, ◌++◌, slice_get, Option, Some, None, MatchOption, refl, sym, ap, subst}
 use Rattle.std.proofs.lemmas.Option.{same_Some}
 use Rattle.wh_host_model.specs.Host.Worlds.{Params}
 use Rattle.wh_host_model.specs.Lines.Settings.{Settings}
@@ -12,9 +12,8 @@ use Rattle.wh_host.specs.Reporting.{ReportsHost}
 use Rattle.wh_engine.specs.Draining.{StaysSo}
 use Rattle.wh_engine.specs.Obeying.{IsNamed, IsModuleNamed, TakesModule, TakesGuest, ObeysCommand}
 use Rattle.wh_engine.specs.Standing.{EngineState, StandsForScript}
-use Rattle.wh_script.specs.Answering.{is_obeyed, is_wanting, Obeys}
+use Rattle.wh_script.specs.Answering.{is_obeyed, is_wanting, adds_replies, adds_report, Obeys}
 use Rattle.wh_script.proofs.Speaking.{adds_none, adds_one}
-use Rattle.wh_script.proofs.Reported.{adds_report}
 use Rattle.wh_script.proofs.Rows.{shows_report}
 
 -- whatever script the engine stands for, this is so of what it has made
@@ -33,13 +32,13 @@ obeys_one : (files : Files) (number : ℕ) (command : Command) (e e2 : EngineSta
     → Obeys files number command e text e2 text2
 obeys_one files number command e e2 text text2 reply is does settings m s =
     let d = does settings m s in
-    (reply ∷ [], d.0, is_obeyed d.1, adds_one settings reply text text2 is, d.2, λ asked. absurd (says_no_reply (subst (λ x. IsObeyed true settings files m number x (reply ∷ []) d.0) asked d.1)))
+    (reply ∷ [], d.0, is_obeyed d.1, adds_replies (adds_one reply text text2 is) (λ asked. absurd (says_no_reply (subst (λ x. IsObeyed true settings files m number x (reply ∷ []) d.0) asked d.1))), d.2)
 
 pub is_wanted : (files : Files) (number : ℕ) (command : Command) (e e2 : EngineState) (text text2 : List ℕ)
     → ((settings : Settings) (m : Made) → StandsForScript settings e m → StandsForScript settings e2 m)
     → text2 ≡ text ++ reply_text (error 5 number) → Obeys files number command e text e2 text2
 is_wanted files number command e e2 text text2 stays is settings m s =
-    (error 5 number ∷ [], m, is_wanting, adds_one settings (error 5 number) text text2 is, stays settings m s, λ asked. inr ([], refl))
+    (error 5 number ∷ [], m, is_wanting, adds_replies (adds_one (error 5 number) text text2 is) (λ asked. refl), stays settings m s)
 
 -- ---- modules
 
@@ -118,15 +117,9 @@ pub scanned : (files : Files) (number : ℕ) (e e2 : EngineState) (text text2 : 
 scanned files number e e2 text text2 stays is = obeys_one files number scan e e2 text text2 scan_ok is (λ settings m s. (m, is_scanned, stays settings m s))
 
 pub reported : (files : Files) (number : ℕ) (e : EngineState) (text text2 shows : List ℕ) → ReportsHost e.host shows → text2 ≡ text ++ shows → Obeys files number report e text e text2
-reported files number e text text2 shows reports is settings m s = (
-  [],
-  m,
-  is_obeyed is_reported,
-  adds_report settings e m shows text text2 s reports is,
-  s,
-  λ asked.
-      let shown = shows_report e shows text text2 reports is settings m s in inl (text, shown.0, shown.1, shown.2),
-)
+reported files number e text text2 shows reports is settings m s =
+    let shown = shows_report e shows text text2 reports is settings m s in
+    ([], m, is_obeyed is_reported, adds_report refl refl shown.1 shown.2, s)
 
 pub only_drained : (files : Files) (number : ℕ) (e : EngineState) (text : List ℕ) → Obeys files number drain e text e text
-only_drained files number e text settings m s = ([], m, is_obeyed is_drained, adds_none settings text, s, λ asked. absurd (cc asked))
+only_drained files number e text settings m s = ([], m, is_obeyed is_drained, adds_replies (adds_none text) (λ asked. absurd (cc asked)), s)

@@ -5,7 +5,7 @@ use Rattle.wh_host_model.specs.Script.{lines_of}
 use Rattle.wh_host_model.specs.Lines.Settings.{Settings}
 use Rattle.wh_host_model.specs.Lines.Texts.{Reply}
 use Rattle.wh_host_model.specs.Lines.Made.{Made, nothing_made}
-use Rattle.wh_host_model.specs.Lines.Answers.{Files, AnswersLine, AnswersLines, AnswersScript}
+use Rattle.wh_host_model.specs.Lines.Answers.{Files, AnswersLine, AnswersLines}
 use Rattle.wh_engine.specs.declared.fault.ScriptFault.{ScriptFault}
 use Rattle.wh_engine.specs.declared.fault.ScriptFault.TheVariants.{Settings as SettingsFault, Script, Output, Swap, Memory, Threads, Transcript}
 use Rattle.wh_script_model.specs.Following.{SomeCallIsOpen}
@@ -15,52 +15,57 @@ use Rattle.wh_script_model.proofs.SaidObeyed.{nothing_well}
 use Rattle.wh_script.specs.declared.lines.Line.{Line}
 use Rattle.wh_script.specs.declared.lines.Line.TheVariants.{Kept, TooLong, Skipped, End}
 use Rattle.wh_script.specs.Coming.{TakesLines, IsKind, ReadsLine, FailsAt}
-use Rattle.wh_script.specs.Reports.{ReportsIfAsked}
-use Rattle.wh_script.specs.Speaking.{Speaks, says_nothing}
+use Rattle.wh_script.specs.Speaking.{IsLineText}
 use Rattle.wh_script.specs.Answering.{ServesScript, HasDrained, Answers}
-use Rattle.wh_script.specs.Runs.{AreLines, AreFirstLines, GaveLines, AppendsFront, LinesSay, Sent, StopsAtCalls, StopsBetween, Runs}
+use Rattle.wh_script.specs.Runs.{AreLines, AreFirstLines, GaveLines, AppendsFront, IsPartial, IsWhole, LinesSay, Sent, StopsAtCalls, StopsBetween, Runs}
 use Rattle.wh_script.proofs.Coming.{takes_more}
-use Rattle.wh_script.proofs.Speaking.{speaks_on}
 use Rattle.wh_script.proofs.Written.{appends_nothing, appends_more}
 
 -- lines were taken up to this number, and what answers them was written
 abbrev pub SoFar : Settings → Files → Option (List ℕ) → Option (List ℕ) → Option (List ℕ) → Option (List ℕ) → ℕ → EngineState → Type 0
 SoFar settings files script coming before after number e = (lines : List (List ℕ)) × (replies : List Reply) × (m : Made) × (text : List ℕ)
-    × TakesLines script coming lines × (length lines + 1 ≡ number) × AnswersLines true settings files nothing_made 1 lines replies m × Speaks settings replies text
-    × Appends before after text × ServesScript settings e m × LinesSay settings files nothing_made 1 lines text m
+    × TakesLines script coming lines × (length lines + 1 ≡ number) × LinesSay settings files nothing_made 1 lines replies text m × Appends before after text
+    × ServesScript settings e m
 
--- one more line gets its replies
-answers_more : (settings : Settings) (files : Files) (before mid after : Made) (number : ℕ) (lines : List (List ℕ)) (line : List ℕ) (replies reply : List Reply)
-    → AnswersLines true settings files before number lines replies mid → AnswersLine true settings files mid (number + length lines) line reply after
-    → AnswersLines true settings files before number (lines ++ line ∷ []) (replies ++ reply) after
-answers_more settings files before mid after number [] line replies reply p r =
-    let here : AnswersLine true settings files before number line reply after = subst₂ (λ m n. AnswersLine true settings files m n line reply after) p.1 (omega arith) r in
-    (reply, [], after, ap (λ xs. xs ++ reply) p.0 ∙ sym (append-nil reply), here, (refl, refl))
-answers_more settings files before mid after number (l ∷ lines) line replies reply p r =
-    let later : AnswersLine true settings files mid (number + 1 + length lines) line reply after = subst (λ n. AnswersLine true settings files mid n line reply after) (omega arith) r in
-    (p.0, p.1 ++ reply, p.2, ap (λ xs. xs ++ reply) p.3 ∙ append_assoc p.0 p.1 reply, p.4, answers_more settings files p.2 mid after (number + 1) lines line p.1 reply p.5 later)
-
--- and the text goes on
-says_more : (settings : Settings) (files : Files) (before mid after : Made) (number : ℕ) (lines : List (List ℕ)) (line text now : List ℕ) (reply : List Reply)
-    → LinesSay settings files before number lines text mid → AnswersLine true settings files mid (number + length lines) line reply after → Speaks settings reply now
-    → ReportsIfAsked settings (number + length lines) line after reply now → LinesSay settings files before number (lines ++ line ∷ []) (text ++ now) after
-says_more settings files before mid after number [] line text now reply p r says_it shows =
+-- one more line gets its replies, and the text goes on
+says_more : (settings : Settings) (files : Files) (before mid after : Made) (number : ℕ) (lines : List (List ℕ)) (line text now : List ℕ) (replies reply : List Reply)
+    → LinesSay settings files before number lines replies text mid → AnswersLine true settings files mid (number + length lines) line reply after
+    → IsLineText settings (number + length lines) line after reply now → LinesSay settings files before number (lines ++ line ∷ []) (replies ++ reply) (text ++ now) after
+says_more settings files before mid after number [] line text now replies reply p r says_it =
     let n : number + 0 ≡ number = omega arith in
-    let here : AnswersLine true settings files before number line reply after = subst₂ (λ m k. AnswersLine true settings files m k line reply after) p.1 n r in
-    (reply, now, [], after, ap (λ xs. xs ++ now) p.0 ∙ sym (append-nil now), here, says_it, subst (λ k. ReportsIfAsked settings k line after reply now) n shows, (refl, refl))
-says_more settings files before mid after number (l ∷ lines) line text now reply p r says_it shows =
-    let later : AnswersLine true settings files mid (number + 1 + length lines) line reply after = subst (λ k. AnswersLine true settings files mid k line reply after) (omega arith) r in
-    let shown : ReportsIfAsked settings (number + 1 + length lines) line after reply now = subst (λ k. ReportsIfAsked settings k line after reply now) (omega arith) shows in (
-      p.0,
-      p.1,
-      p.2 ++ now,
-      p.3,
-      ap (λ xs. xs ++ now) p.4 ∙ append_assoc p.1 p.2 now,
-      p.5,
-      p.6,
-      p.7,
-      says_more settings files p.3 mid after (number + 1) lines line p.2 now reply p.8 later says_it shown,
+    let here : AnswersLine true settings files before number line reply after = subst₂ (λ m k. AnswersLine true settings files m k line reply after) p.2 n r in (
+      reply,
+      [],
+      now,
+      [],
+      after,
+      ap (λ xs. xs ++ reply) p.0 ∙ sym (append-nil reply),
+      ap (λ xs. xs ++ now) p.1 ∙ sym (append-nil now),
+      here,
+      subst (λ k. IsLineText settings k line after reply now) n says_it,
+      (refl, refl, refl),
     )
+says_more settings files before mid after number (l ∷ lines) line text now replies reply p r says_it =
+    let n : number + length (l ∷ lines) ≡ number + 1 + length lines = omega arith in (
+      p.0,
+      p.1 ++ reply,
+      p.2,
+      p.3 ++ now,
+      p.4,
+      ap (λ xs. xs ++ reply) p.5 ∙ append_assoc p.0 p.1 reply,
+      ap (λ xs. xs ++ now) p.6 ∙ append_assoc p.2 p.3 now,
+      p.7,
+      p.8,
+      says_more settings files p.4 mid after (number + 1) lines line p.3 now p.1 reply p.9 (subst (λ k. AnswersLine true settings files mid k line reply after) n r)
+          (subst (λ k. IsLineText settings k line after reply now) n says_it),
+    )
+
+-- so lines that say replies get them
+are_answered : (settings : Settings) (files : Files) (before after : Made) (number : ℕ) (lines : List (List ℕ)) (replies : List Reply) (text : List ℕ)
+    → LinesSay settings files before number lines replies text after → AnswersLines true settings files before number lines replies after
+are_answered settings files before after number [] replies text p = (p.0, p.2)
+are_answered settings files before after number (l ∷ lines) replies text p =
+    (p.0, p.1, p.4, p.5, p.7, are_answered settings files p.4 after (number + 1) lines p.1 p.3 p.9)
 
 first_lines : (a b : Option (List ℕ)) (lines : List (List ℕ)) → TakesLines a b lines → AreFirstLines a lines
 first_lines None b lines p = tt
@@ -90,35 +95,44 @@ line_of End a b held more reads = absurd (more refl)
 
 pub starts : (settings : Settings) (files : Files) (a w : Option (List ℕ)) (left : List ℕ) (e : EngineState) → left ≡ [] → StandsForScript settings e nothing_made
     → SoFar settings files a (prepend_known left a) w w 1 e
-starts settings files None w left e none stands = ([], [], nothing_made, [], tt, refl, (refl, refl), says_nothing, appends_nothing w, (stands, nothing_well), (refl, refl))
+starts settings files None w left e none stands = ([], [], nothing_made, [], tt, refl, (refl, refl, refl), appends_nothing w, (stands, nothing_well))
 starts settings files (Some xs) w left e none stands =
-    ([], [], nothing_made, [], rw none ([], refl, refl), refl, (refl, refl), says_nothing, appends_nothing w, (stands, nothing_well), (refl, refl))
+    ([], [], nothing_made, [], rw none ([], refl, refl), refl, (refl, refl, refl), appends_nothing w, (stands, nothing_well))
 
 nothing_first : (a : Option (List ℕ)) → AreFirstLines a []
 nothing_first None = tt
 nothing_first (Some xs) = (lines_of xs, refl)
 
 pub begins_nothing : (settings : Settings) (files : Files) (a left w : Option (List ℕ)) → Runs settings files a left w w (Err Memory)
-begins_nothing settings files a left w = ([], [], nothing_first a, ([], nothing_made, (refl, refl), says_nothing, (refl, refl)), appends_nothing w)
+begins_nothing settings files a left w = ([], [], nothing_first a, record { replies = []; made = nothing_made; answers = (refl, refl); says = (refl, refl, refl) }, appends_nothing w)
 
 module _ (settings : Settings) (files : Files) (a b before mid : Option (List ℕ)) (number : ℕ) (e : EngineState) (so_far : SoFar settings files a b before mid number e) where
+  partial : IsPartial settings files so_far.0 so_far.3
+  partial = record {
+    replies = so_far.1;
+    made = so_far.2;
+    answers = are_answered settings files nothing_made so_far.2 1 so_far.0 so_far.1 so_far.3 so_far.6;
+    says = so_far.6;
+  }
+
   stops_here : StopsBetween settings files a before mid
-  stops_here = (so_far.0, so_far.3, first_lines a b so_far.0 so_far.4, (so_far.1, so_far.2, so_far.6, so_far.7, so_far.10), so_far.8)
+  stops_here = (so_far.0, so_far.3, first_lines a b so_far.0 so_far.4, partial, so_far.7)
 
   stops_open : SomeCallIsOpen so_far.2 → StopsAtCalls settings files a before mid
-  stops_open open_call = (so_far.0, so_far.3, first_lines a b so_far.0 so_far.4, (so_far.1, so_far.2, so_far.6, so_far.7, so_far.10, open_call), so_far.8)
+  unfolding partial
+  stops_open open_call = (so_far.0, so_far.3, first_lines a b so_far.0 so_far.4, record { partial = partial; some_open = open_call }, so_far.7)
 
   pub stops : (left : Option (List ℕ)) (fault : ScriptFault) → StopsRun fault → StopsOnlyOpen e fault → Runs settings files a left before mid (Err fault)
   stops left Memory is only = stops_here
-  stops left Threads is only = stops_open (only settings so_far.2 so_far.9.0)
-  stops left Transcript is only = stops_open (only settings so_far.2 so_far.9.0)
+  stops left Threads is only = stops_open (only settings so_far.2 so_far.8.0)
+  stops left Transcript is only = stops_open (only settings so_far.2 so_far.8.0)
   stops left SettingsFault is only = elim is [ ]
   stops left Script is only = elim is [ ]
   stops left Output is only = elim is [ ]
   stops left Swap is only = elim is [ ]
 
   pub read_fails : (left : Option (List ℕ)) (fault : ScriptFault) → (fault ≡ Script) ⊎ (fault ≡ Memory) → FailsAt b left (Err fault) → Runs settings files a left before mid (Err fault)
-  read_fails left Script which at = (so_far.0, so_far.3, gave_lines a b left so_far.0 at.0 so_far.4 at.1 at.2, (so_far.1, so_far.2, so_far.6, so_far.7, so_far.10), so_far.8)
+  read_fails left Script which at = (so_far.0, so_far.3, gave_lines a b left so_far.0 at.0 so_far.4 at.1 at.2, partial, so_far.7)
   read_fails left Memory which at = stops_here
   read_fails left Output which at = neither which
     where
@@ -147,23 +161,27 @@ module _ (settings : Settings) (files : Files) (a b before mid : Option (List �
       neither (inr h) = absurd (cc h)
 
   module _ (e2 : EngineState) (text : List ℕ) (after left : Option (List ℕ)) where
+    whole : HasDrained e [] e2 text → IsWhole settings files so_far.0 (so_far.3 ++ text)
+    whole drained =
+        let d = drained settings so_far.2 so_far.8 in
+        let answered = are_answered settings files nothing_made so_far.2 1 so_far.0 so_far.1 so_far.3 so_far.6 in
+        record {
+          to_lines = so_far.1;
+          last = d.0;
+          front = so_far.3;
+          before = so_far.2;
+          after = d.1;
+          answers = record { before = so_far.2; after = d.1; to_lines = so_far.1; last = d.0; answers = answered; drains = d.2; replies_are = refl };
+          says = so_far.6;
+          drains = d.2;
+          is = ap (λ xs. so_far.3 ++ xs) d.3;
+        }
+
     -- the drain at the end
     pub ends : HasDrained e [] e2 text → IsAtEnd b → (r : Result Unit ScriptFault) → Sent mid after r text → Runs settings files a left before after r
-    ends drained end (Ok x) sent =
-        let d = drained settings so_far.2 so_far.9 in
-        let said = subst (λ xs. Speaks settings d.0 xs) (sym d.3.2) d.3.1 in
-        let whole : AnswersScript true settings files so_far.0 (so_far.1 ++ d.0) = record { before = so_far.2; after = d.1; to_lines = so_far.1; last = d.0; answers = so_far.6; drains = d.2; replies_are = refl } in
-        (so_far.0, so_far.3 ++ text, all_lines a b so_far.0 so_far.4 end, (so_far.1 ++ d.0, whole, speaks_on settings so_far.1 d.0 so_far.3 text so_far.7 said, (so_far.3, text, so_far.2, refl, so_far.10)), appends_more before mid after so_far.3 text so_far.8 sent)
+    ends drained end (Ok x) sent = (so_far.0, so_far.3 ++ text, all_lines a b so_far.0 so_far.4 end, whole drained, appends_more before mid after so_far.3 text so_far.7 sent)
     ends drained end (Err Output) sent =
-        let d = drained settings so_far.2 so_far.9 in
-        let said = subst (λ xs. Speaks settings d.0 xs) (sym d.3.2) d.3.1 in
-        let whole : AnswersScript true settings files so_far.0 (so_far.1 ++ d.0) = record { before = so_far.2; after = d.1; to_lines = so_far.1; last = d.0; answers = so_far.6; drains = d.2; replies_are = refl } in (
-          so_far.0,
-          so_far.3 ++ text,
-          first_lines a b so_far.0 so_far.4,
-          inr (so_far.1 ++ d.0, whole, speaks_on settings so_far.1 d.0 so_far.3 text so_far.7 said, (so_far.3, text, so_far.2, refl, so_far.10)),
-          front_of before mid after so_far.3 text so_far.8 sent,
-        )
+        (so_far.0, so_far.3 ++ text, first_lines a b so_far.0 so_far.4, inr (whole drained), front_of before mid after so_far.3 text so_far.7 sent)
     ends drained end (Err SettingsFault) sent = elim sent [ ]
     ends drained end (Err Script) sent = elim sent [ ]
     ends drained end (Err Swap) sent = elim sent [ ]
@@ -173,48 +191,51 @@ module _ (settings : Settings) (files : Files) (a b before mid : Option (List �
 
     module _ (c : Option (List ℕ)) (kind : Line) (held : List ℕ) (more : kind ≢ End) (reads : ReadsLine b c kind held)
         (answers : (line : List ℕ) → IsKind kind held line → Answers files number line e [] e2 text) where
-      pub goes_on : Appends mid after text → SoFar settings files a c before after (number + 1) e2
-      goes_on sent =
-          let line = line_of kind b c held more reads in
-          let answer = answers line.0 line.2 settings so_far.2 so_far.9 in
-          let n : number ≡ 1 + length so_far.0 = omega (arith, so_far.5) in
-          let said = subst (λ xs. Speaks settings answer.0 xs) (sym answer.3.2) answer.3.1 in (
-            so_far.0 ++ line.0 ∷ [],
+      next_line : (line : List ℕ) × TakesLines b c (line ∷ []) × IsKind kind held line
+      next_line = line_of kind b c held more reads
+
+      takes_next : TakesLines a c (so_far.0 ++ next_line.0 ∷ [])
+      takes_next = takes_more a b c so_far.0 (next_line.0 ∷ []) so_far.4 next_line.1
+
+      says_next : (replies : List Reply) × (m : Made) × LinesSay settings files nothing_made 1 (so_far.0 ++ next_line.0 ∷ []) replies (so_far.3 ++ text) m
+          × ServesScript settings e2 m
+      says_next =
+          let answer = answers next_line.0 next_line.2 settings so_far.2 so_far.8 in
+          let n : number ≡ 1 + length so_far.0 = omega (arith, so_far.5) in (
             so_far.1 ++ answer.0,
             answer.1,
-            so_far.3 ++ text,
-            takes_more a b c so_far.0 (line.0 ∷ []) so_far.4 line.1,
-            omega (arith, so_far.5, length-append so_far.0 (line.0 ∷ [])),
-            answers_more settings files nothing_made so_far.2 answer.1 1 so_far.0 line.0 so_far.1 answer.0 so_far.6
-                (subst (λ k. AnswersLine true settings files so_far.2 k line.0 answer.0 answer.1) n answer.2),
-            speaks_on settings so_far.1 answer.0 so_far.3 text so_far.7 said,
-            appends_more before mid after so_far.3 text so_far.8 sent,
-            answer.4,
-            says_more settings files nothing_made so_far.2 answer.1 1 so_far.0 line.0 so_far.3 text answer.0 so_far.10
-                (subst (λ k. AnswersLine true settings files so_far.2 k line.0 answer.0 answer.1) n answer.2) said (subst (λ k. ReportsIfAsked settings k line.0 answer.1 answer.0 text) n answer.5),
+            says_more settings files nothing_made so_far.2 answer.1 1 so_far.0 next_line.0 so_far.3 text so_far.1 answer.0 so_far.6
+                (subst (λ k. AnswersLine true settings files so_far.2 k next_line.0 answer.0 answer.1) n answer.3)
+                (subst₂ (λ k xs. IsLineText settings k next_line.0 answer.1 answer.0 xs) n (sym answer.5) answer.4),
+            answer.6,
           )
 
+      pub goes_on : Appends mid after text → SoFar settings files a c before after (number + 1) e2
+      goes_on sent = (
+        so_far.0 ++ next_line.0 ∷ [],
+        says_next.0,
+        says_next.1,
+        so_far.3 ++ text,
+        takes_next,
+        omega (arith, so_far.5, length-append so_far.0 (next_line.0 ∷ [])),
+        says_next.2,
+        appends_more before mid after so_far.3 text so_far.7 sent,
+        says_next.3,
+      )
+
       pub write_fails : (fault : ScriptFault) → Sent mid after (Err fault) text → Runs settings files a left before after (Err fault)
-      write_fails Output sent =
-          let line = line_of kind b c held more reads in
-          let answer = answers line.0 line.2 settings so_far.2 so_far.9 in
-          let n : number ≡ 1 + length so_far.0 = omega (arith, so_far.5) in
-          let said = subst (λ xs. Speaks settings answer.0 xs) (sym answer.3.2) answer.3.1 in
-          let all = answers_more settings files nothing_made so_far.2 answer.1 1 so_far.0 line.0 so_far.1 answer.0 so_far.6
-          (subst (λ k. AnswersLine true settings files so_far.2 k line.0 answer.0 answer.1) n answer.2) in (
-            so_far.0 ++ line.0 ∷ [],
-            so_far.3 ++ text,
-            first_lines a c (so_far.0 ++ line.0 ∷ []) (takes_more a b c so_far.0 (line.0 ∷ []) so_far.4 line.1),
-            inl (
-              so_far.1 ++ answer.0,
-              answer.1,
-              all,
-              speaks_on settings so_far.1 answer.0 so_far.3 text so_far.7 said,
-              says_more settings files nothing_made so_far.2 answer.1 1 so_far.0 line.0 so_far.3 text answer.0 so_far.10
-                  (subst (λ k. AnswersLine true settings files so_far.2 k line.0 answer.0 answer.1) n answer.2) said (subst (λ k. ReportsIfAsked settings k line.0 answer.1 answer.0 text) n answer.5),
-            ),
-            front_of before mid after so_far.3 text so_far.8 sent,
-          )
+      write_fails Output sent = (
+        so_far.0 ++ next_line.0 ∷ [],
+        so_far.3 ++ text,
+        first_lines a c (so_far.0 ++ next_line.0 ∷ []) takes_next,
+        inl (record {
+          replies = says_next.0;
+          made = says_next.1;
+          answers = are_answered settings files nothing_made says_next.1 1 (so_far.0 ++ next_line.0 ∷ []) says_next.0 (so_far.3 ++ text) says_next.2;
+          says = says_next.2;
+        }),
+        front_of before mid after so_far.3 text so_far.7 sent,
+      )
       write_fails SettingsFault sent = elim sent [ ]
       write_fails Script sent = elim sent [ ]
       write_fails Swap sent = elim sent [ ]

@@ -8,8 +8,9 @@ use Rattle.wh_host_model.specs.Lines.Drains.{Drains}
 use Rattle.wh_host_model.specs.Lines.Answers.{Files, IsObeyed, IsRead, AnswersLine}
 use Rattle.wh_script_model.specs.Said.{AllAreSaid, IsWellMade}
 use Rattle.wh_engine.specs.Standing.{EngineState, StandsForScript}
-use Rattle.wh_script.specs.Reports.{EndsInReport, IsReportOf, ReportsIfAsked}
-use Rattle.wh_script.specs.Speaking.{AddsSpeech}
+use Rattle.wh_engine.specs.Saying.{AddsLines}
+use Rattle.wh_script.specs.Reports.{IsReportOf}
+use Rattle.wh_script.specs.Speaking.{IsLineText}
 
 -- the engine stands for what the script has made, and that is well made
 abbrev pub ServesScript : Settings → EngineState → Made → Type 0
@@ -21,14 +22,14 @@ ServesScript settings e m = StandsForScript settings e m × IsWellMade m
 abbrev pub HasDrained : EngineState → List ℕ → EngineState → List ℕ → Type 0
 HasDrained e text e2 text2 =
     (settings : Settings) (m : Made) → ServesScript settings e m
-    → (lines : List Reply) × (m2 : Made) × Drains m lines m2 × AddsSpeech settings lines text text2 × ServesScript settings e2 m2
+    → (lines : List Reply) × (m2 : Made) × Drains m lines m2 × AddsLines lines text text2 × ServesScript settings e2 m2
     × AllAreSaid m2
 
 -- and the reply behind them
 abbrev pub Complains : Reply → EngineState → List ℕ → EngineState → List ℕ → Type 0
 Complains reply e text e2 text2 =
     (settings : Settings) (m : Made) → ServesScript settings e m
-    → (lines : List Reply) × (m2 : Made) × Drains m lines m2 × AddsSpeech settings (lines ++ reply ∷ []) text text2
+    → (lines : List Reply) × (m2 : Made) × Drains m lines m2 × AddsLines (lines ++ reply ∷ []) text text2
     × ServesScript settings e2 m2
 
 -- ---- commands
@@ -45,13 +46,20 @@ pub data GetsReplies (settings : Settings) (files : Files) (m : Made) (number : 
       → GetsReplies settings files m number command replies m2
   is_wanting : GetsReplies settings files m number command (error 5 number ∷ []) m
 
+-- behind the text stand these replies; and a report behind them where it was asked for and no memory was wanted
+pub data AddsReplies (settings : Settings) (number : ℕ) (command : Command) (m : Made) (replies : List Reply)
+    (text text2 : List ℕ) : Type 0 where
+  adds_replies : AddsLines replies text text2 → (command ≡ report → replies ≡ error 5 number ∷ [])
+      → AddsReplies settings number command m replies text text2
+  adds_report : {shown : List ℕ} → command ≡ report → replies ≡ [] → IsReportOf settings m shown → text2 ≡ text ++ shown
+      → AddsReplies settings number command m replies text text2
+
 -- the command of the line of this number, behind a drain
 abbrev pub Obeys : Files → ℕ → Command → EngineState → List ℕ → EngineState → List ℕ → Type 0
 Obeys files number command e text e2 text2 =
     (settings : Settings) (m : Made) → StandsForScript settings e m
     → (replies : List Reply) × (m2 : Made) × GetsReplies settings files m number command replies m2
-    × AddsSpeech settings replies text text2 × StandsForScript settings e2 m2
-    × (command ≡ report → EndsInReport settings number m2 replies text2)
+    × AddsReplies settings number command m2 replies text text2 × StandsForScript settings e2 m2
 
 -- the report stands behind the text, whatever script the engine stands for
 abbrev pub AddsReport : EngineState → List ℕ → List ℕ → Type 0
@@ -65,9 +73,8 @@ AddsReport e text text2 =
 abbrev pub Answers : Files → ℕ → List ℕ → EngineState → List ℕ → EngineState → List ℕ → Type 0
 Answers files number line e text e2 text2 =
     (settings : Settings) (m : Made) → ServesScript settings e m
-    → (replies : List Reply) × (m2 : Made) × AnswersLine true settings files m number line replies m2
-    × AddsSpeech settings replies text text2 × ServesScript settings e2 m2
-    × ReportsIfAsked settings number line m2 replies text2
+    → (replies : List Reply) × (m2 : Made) × (more : List ℕ) × AnswersLine true settings files m number line replies m2
+    × IsLineText settings number line m2 replies more × (text2 ≡ text ++ more) × ServesScript settings e2 m2
 
 -- a line of this number that asks for the command
 abbrev pub AnswersCommand : Files → ℕ → Command → EngineState → List ℕ → EngineState → List ℕ → Type 0

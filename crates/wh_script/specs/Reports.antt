@@ -1,10 +1,7 @@
 -- What a report shows of the instances of a script.
-use Rattle.std.specs.Prelude.{◌≡◌, ℕ, ◌+◌, ◌⊎◌, true, false, List, [], ◌∷◌, ◌++◌}
+use Rattle.std.specs.Prelude.{◌≡◌, ℕ, ◌+◌, true, false, List, [], ◌∷◌, ◌++◌}
 use Rattle.wh_host_model.specs.Lines.Settings.{Settings}
-use Rattle.wh_host_model.specs.Lines.Commands as asked_of
-use Rattle.wh_host_model.specs.Lines.Commands.{AsksCommand}
-use Rattle.wh_host_model.specs.Lines.Answers.{IsRead}
-use Rattle.wh_host_model.specs.Lines.Texts.{Reply, error, Row, frames_text, row_text, shared_text, slots_text}
+use Rattle.wh_host_model.specs.Lines.Texts.{Row, frames_text, row_text, shared_text, slots_text}
 use Rattle.wh_host_model.specs.Lines.Made.{Guest, Made}
 
 -- The row of an instance says what it was given, and the tax is that of the settings. How many frames are charged to it,
@@ -40,14 +37,3 @@ pub record IsReportOf (settings : Settings) (m : Made) (report : List ℕ) : Typ
   pub are_rows : AreRowsOf settings 0 m.guests rows
   pub is : report ≡ frames_text settings.frames used ++ slots_text settings.slots taken ++ shared_text shared sharing
       ++ row_texts rows
-
--- the text ends in a report of what the lines have made; or memory was wanted for it, as the last reply says
-abbrev pub EndsInReport : Settings → (number : ℕ) → Made → List Reply → List ℕ → Type 0
-EndsInReport settings number m replies text =
-    ((front report : List ℕ) × IsReportOf settings m report × (text ≡ front ++ report))
-    ⊎ ((front : List Reply) × (replies ≡ front ++ error 5 number ∷ []))
-
--- so does the text of a line that asks for one
-abbrev pub ReportsIfAsked : Settings → (number : ℕ) → (line : List ℕ) → Made → List Reply → List ℕ → Type 0
-ReportsIfAsked settings number line m replies text =
-    IsRead line → AsksCommand line asked_of.report → EndsInReport settings number m replies text

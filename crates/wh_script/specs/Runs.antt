@@ -5,12 +5,12 @@ use Rattle.wh_host_model.specs.Script.{lines_of}
 use Rattle.wh_host_model.specs.Lines.Settings.{Settings}
 use Rattle.wh_host_model.specs.Lines.Texts.{Reply}
 use Rattle.wh_host_model.specs.Lines.Made.{Made, nothing_made}
-use Rattle.wh_host_model.specs.Lines.Answers.{Files, AnswersLine, AnswersLines, AnswersScript}
+use Rattle.wh_host_model.specs.Lines.Drains.{Drains}
+use Rattle.wh_host_model.specs.Lines.Answers.{Files, AnswersLine, AnswersLines, AnswersScript, replies_text}
 use Rattle.wh_engine.specs.declared.fault.ScriptFault.{ScriptFault}
 use Rattle.wh_engine.specs.declared.fault.ScriptFault.TheVariants.{Script, Output, Memory, Threads, Transcript}
 use Rattle.wh_script_model.specs.Following.{SomeCallIsOpen}
-use Rattle.wh_script.specs.Reports.{ReportsIfAsked}
-use Rattle.wh_script.specs.Speaking.{Speaks}
+use Rattle.wh_script.specs.Speaking.{IsLineText}
 
 -- ---- lines
 
@@ -45,34 +45,39 @@ Sent old new (Ok _) text = Appends old new text
 Sent old new (Err Output) text = AppendsFront old new text
 Sent old new (Err fault) text = ⊥
 
--- The text is made of those of the lines, one behind the other, the first line having this number. Each says what the
--- line gets; and that of a line that asks for a report ends in one.
-abbrev pub LinesSay : Settings → Files → Made → ℕ → List (List ℕ) → List ℕ → Made → Type 0
-LinesSay settings files w number [] text w2 = (text ≡ []) × (w2 ≡ w)
-LinesSay settings files w number (line ∷ lines) text w2 =
-    (here : List Reply) × (now later : List ℕ) × (between : Made) × (text ≡ now ++ later)
-    × AnswersLine true settings files w number line here between × Speaks settings here now
-    × ReportsIfAsked settings number line between here now
-    × LinesSay settings files between (number + 1) lines later w2
+-- The lines get these replies, the first line having this number, and the text is made of those of the lines, one behind
+-- the other.
+abbrev pub LinesSay : Settings → Files → Made → ℕ → List (List ℕ) → List Reply → List ℕ → Made → Type 0
+LinesSay settings files w number [] replies text w2 = (replies ≡ []) × (text ≡ []) × (w2 ≡ w)
+LinesSay settings files w number (line ∷ lines) replies text w2 =
+    (here rest : List Reply) × (now later : List ℕ) × (between : Made) × (replies ≡ here ++ rest)
+    × (text ≡ now ++ later) × AnswersLine true settings files w number line here between
+    × IsLineText settings number line between here now
+    × LinesSay settings files between (number + 1) lines rest later w2
 
--- the text answers the whole script
-abbrev pub IsWhole : Settings → Files → List (List ℕ) → List ℕ → Type 0
-IsWhole settings files lines text =
-    (replies : List Reply) × AnswersScript true settings files lines replies × Speaks settings replies text
-    × ((front back : List ℕ) × (m : Made) × (text ≡ front ++ back)
-    × LinesSay settings files nothing_made 1 lines front m)
+-- The text answers the whole script: it is that of the lines, and of the replies to the drain behind them.
+pub record IsWhole (settings : Settings) (files : Files) (lines : List (List ℕ)) (text : List ℕ) : Type 0 where
+  pub to_lines : List Reply
+  pub last : List Reply
+  pub front : List ℕ
+  pub before : Made
+  pub after : Made
+  pub answers : AnswersScript true settings files lines (to_lines ++ last)
+  pub says : LinesSay settings files nothing_made 1 lines to_lines front before
+  pub drains : Drains before last after
+  pub is : text ≡ front ++ replies_text last
 
 -- or these lines, with no drain behind them
-abbrev pub IsPartial : Settings → Files → List (List ℕ) → List ℕ → Type 0
-IsPartial settings files lines text =
-    (replies : List Reply) × (m : Made) × AnswersLines true settings files nothing_made 1 lines replies m
-    × Speaks settings replies text × LinesSay settings files nothing_made 1 lines text m
+pub record IsPartial (settings : Settings) (files : Files) (lines : List (List ℕ)) (text : List ℕ) : Type 0 where
+  pub replies : List Reply
+  pub made : Made
+  pub answers : AnswersLines true settings files nothing_made 1 lines replies made
+  pub says : LinesSay settings files nothing_made 1 lines replies text made
 
 -- and behind them an instance has an open call
-abbrev pub IsPartialAtCall : Settings → Files → List (List ℕ) → List ℕ → Type 0
-IsPartialAtCall settings files lines text =
-    (replies : List Reply) × (m : Made) × AnswersLines true settings files nothing_made 1 lines replies m
-    × Speaks settings replies text × LinesSay settings files nothing_made 1 lines text m × SomeCallIsOpen m
+pub record IsPartialAtCall (settings : Settings) (files : Files) (lines : List (List ℕ)) (text : List ℕ) : Type 0 where
+  pub partial : IsPartial settings files lines text
+  pub some_open : SomeCallIsOpen partial.made
 
 -- ---- runs
 

@@ -1,18 +1,27 @@
--- What a text says: replies, and reports among them.
+-- What the text of a line says: its replies, and a report where the line asks for one.
 use Rattle.std.specs.Prelude.{◌≡◌, ℕ, List, [], ◌∷◌, ◌++◌}
 use Rattle.wh_host_model.specs.Lines.Settings.{Settings}
-use Rattle.wh_host_model.specs.Lines.Texts.{Reply, reply_text}
+use Rattle.wh_host_model.specs.Lines.Commands as asked_of
+use Rattle.wh_host_model.specs.Lines.Commands.{AsksCommand}
+use Rattle.wh_host_model.specs.Lines.Answers.{IsRead, replies_text}
+use Rattle.wh_host_model.specs.Lines.Texts.{Reply, error}
 use Rattle.wh_host_model.specs.Lines.Made.{Made}
 use Rattle.wh_script.specs.Reports.{IsReportOf}
 
--- The text is made of the lines of these replies, in order, and of whole reports before, between and behind them.
-pub data Speaks (settings : Settings) : List Reply → List ℕ → Type 0 where
-  says_nothing : Speaks settings [] []
-  says : {reply : Reply} {replies : List Reply} {text : List ℕ} → Speaks settings replies text
-      → Speaks settings (reply ∷ replies) (reply_text reply ++ text)
-  reports : {report text : List ℕ} {replies : List Reply} (m : Made) → IsReportOf settings m report
-      → Speaks settings replies text → Speaks settings replies (report ++ text)
+-- the line asks for a report
+pub record AsksReport (line : List ℕ) : Type 0 where
+  pub is_read : IsRead line
+  pub asks : AsksCommand line asked_of.report
 
--- such a text stands behind the other one
-abbrev pub AddsSpeech : Settings → List Reply → List ℕ → List ℕ → Type 0
-AddsSpeech settings replies text text2 = (more : List ℕ) × Speaks settings replies more × (text2 ≡ text ++ more)
+-- memory was wanted for the line of this number, as the last of its replies says
+abbrev pub EndsInWant : (number : ℕ) → List Reply → Type 0
+EndsInWant number replies = (before : List Reply) × (replies ≡ before ++ error 5 number ∷ [])
+
+-- The text of a line is that of its replies, in order; and behind them stands a report of what the lines have made, where
+-- this one asks for it and no memory was wanted.
+pub data IsLineText (settings : Settings) (number : ℕ) (line : List ℕ) (m : Made) (replies : List Reply)
+    : List ℕ → Type 0 where
+  says_replies : (AsksReport line → EndsInWant number replies)
+      → IsLineText settings number line m replies (replies_text replies)
+  says_report : {report : List ℕ} → AsksReport line → IsReportOf settings m report
+      → IsLineText settings number line m replies (replies_text replies ++ report)

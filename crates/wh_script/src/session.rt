@@ -7,7 +7,7 @@ ghost use Rattle.wh_host_model.specs.Lines.Settings as lines;
 ghost use Rattle.wh_host_model.specs.Lines.Texts.{error, reply_text};
 ghost use Rattle.wh_replies.specs.View.{reply_of};
 ghost use Rattle.wh_settings.specs.View.{settings_of};
-ghost use Rattle.wh_engine.specs.Draining.{DeviceMayFail, DeviceServesWell, DeviceStaysTrue, RunsEach, StaysSo, StopsOnlyOpen, StopsRun};
+ghost use Rattle.wh_engine.specs.Draining.{DeviceMayFail, DeviceServesWell, DeviceStaysTrue, RunsEach, RunsTurns, StaysSo, StopsOnlyOpen, StopsRun};
 ghost use Rattle.wh_engine.specs.Obeying.{IsModuleNamed, IsNamed};
 ghost use Rattle.wh_engine.specs.Standing.{StandsForScript, engine_on};
 ghost use Rattle.wh_script.specs.Answering.{HasDrained, Complains};
@@ -217,8 +217,8 @@ impl<
     E: Ledger + Send + 'static,
     B: Ties + Send + 'static,
 > Session<D, T, C, O, E, B> {
-    /// Runs all calls by threads until none can go on, and puts the lines of that behind the text. An epoch begins where some
-    /// call can go on.
+    /// Runs all calls by threads until none can go on, in turns of the quantum, and puts the lines of that behind the text. An
+    /// epoch begins where some call can go on.
     ///
     /// # Errors
     /// `Memory` where room is refused, `Threads` where a thread can't be started, and `Transcript` where calls can still go
@@ -234,6 +234,8 @@ impl<
             self.new.host.device → HasDrained (engine_on self.old.host.host self.old.engine)
             (string_bytes self.old.text) (engine_on self.new.host.host self.new.engine)
             (string_bytes self.new.text)) }
+        ensures turns { OnOk result (RunsTurns self.old.quantum self.old.host.books.turns
+            self.new.host.books.turns) }
         ensures err { IfErr result StopsRun }
         ensures open { IfErr result
             (StopsOnlyOpen (engine_on self.old.host.host self.old.engine)) }
@@ -251,7 +253,9 @@ impl<
         ensures stands { StaysSo (engine_on self.old.host.host self.old.engine)
             (engine_on self.new.host.host self.new.engine) }
         ensures device { self.new.host.device ≡ self.old.host.device }
+        ensures books { self.new.host.books ≡ self.old.host.books }
         ensures text { self.new.text ≡ self.old.text }
+        ensures quantum { self.new.quantum ≡ self.old.quantum }
     {
         if self.engine.can_go_on(self.host.host()) {
             self.engine.epoch(&mut self.host);
@@ -266,6 +270,8 @@ impl<
         ensures runs { OnOk result (DeviceServesWell D.honest D.faults self.old.host.device
             self.new.host.device → RunsEach (engine_on self.old.host.host self.old.engine)
             (engine_on self.new.host.host self.new.engine)) }
+        ensures turns { OnOk result (RunsTurns self.old.quantum self.old.host.books.turns
+            self.new.host.books.turns) }
         ensures text { self.new.text ≡ self.old.text }
         ensures err { IfErr result StopsRun }
         ensures open { IfErr result

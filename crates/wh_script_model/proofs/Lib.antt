@@ -13,3 +13,8 @@ pub mod Said
 pub mod SaidObeyed
 pub mod Scarce
 pub mod Opening
+pub mod DeterminedNames
+pub mod DeterminedParts
+pub mod DeterminedCommands
+pub mod DeterminedOrder
+pub mod Determined

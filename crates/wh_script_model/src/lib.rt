@@ -2,6 +2,7 @@
 //! the definition of a script's answers says.
 #![tactic(auto)]
 
+ghost use Rattle.wh_script_model.specs.Determined.{AnswersAreDetermined, LinesAreDetermined, ScarceAnswersAreDetermined};
 ghost use Rattle.wh_script_model.specs.Laws.{AsksWell, BeginsWell, CallsFollow, CancelsFollow, DrainsBegin, DrainsEnd, GuestsFollow, ModulesFollow, MovesFollow, ObeysWell, OpenIsKnown, RefuelsFollow, ReleasesFollow, RetriesFollow, RunsWell, SayingFollows, SaysWell, TurnsFollow, WantsAreNamed};
 
 /// A script and the host that runs its calls, after every list of events. The function does nothing; what it ensures are the
@@ -29,4 +30,14 @@ pub fn scripts_follow()
     ensures asks_well { AsksWell }
     ensures obeys_well { ObeysWell }
     ensures wants { WantsAreNamed }
+{}
+
+/// The answers to a script are determined, where it is known what the files hold that it loads, and memory isn't scarce or no
+/// reply names want of it. The function does nothing; what it ensures are the laws: two lists of replies to the same lines are the
+/// same, reply by reply, but that where both refuse a module for a fault of the validator each may name another one; and what the
+/// lines have made is the same in any case.
+pub fn answers_are_determined()
+    ensures lines { LinesAreDetermined }
+    ensures script { AnswersAreDetermined }
+    ensures scarce { ScarceAnswersAreDetermined }
 {}

@@ -21,4 +21,5 @@ pub mod Fetching
 pub mod Marking
 pub mod Framing
 pub mod Charged
+pub mod Numbering
 pub mod Besides

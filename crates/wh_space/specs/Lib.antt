@@ -6,6 +6,7 @@ pub mod Guests
 pub mod Lacking
 pub mod Leaving
 pub mod Merges
+pub mod Numbered
 pub mod Pages
 pub mod Parts
 pub mod Pinning

@@ -1,7 +1,7 @@
 // What may become of a page that is offered for sharing.
 
 ghost use Rattle.std.specs.Bool.{MatchBool};
-ghost use Rattle.std.specs.Prelude.{◌≡◌, ◌≢◌, ◌↔◌, ◌<◌, ◌≤◌, ℕ, IsTrue, IfSome, IfNone, [], Some, None, false, length, get_or, slice_get};
+ghost use Rattle.std.specs.Prelude.{◌≡◌, ◌≢◌, ◌↔◌, ◌<◌, ◌^◌, ℕ, IsTrue, IfSome, IfNone, [], Some, None, false, length, get_or, slice_get};
 ghost use Rattle.wh_content.specs.Marks.{frame_of_entry, mark_of_entry};
 ghost use Rattle.wh_host_model.specs.Frames.{IsTaken};
 ghost use Rattle.wh_host_model.specs.Pages.{zero_page};
@@ -10,13 +10,14 @@ ghost use Rattle.wh_host_model.specs.Space.Parts.{frame_bytes, has_number};
 ghost use Rattle.wh_host_model.specs.Space.States.{page_at, put};
 ghost use Rattle.wh_host_model.specs.declared.states.Page.TheVariants.{Private, Untouched};
 ghost use Rattle.wh_space.specs.Merges.{HasFewPages, IsNotPrivate, emptied, rehinted};
+ghost use Rattle.wh_space.specs.Numbered.{ComesAfter, IsNextInstance};
 ghost use Rattle.wh_space.specs.Pages.{fixed_in};
 
 use crate::memory::Memory;
 use crate::pages::{empty_page, put_page};
 use crate::pins::has_page_pinned;
 use wh_content::Entry;
-use wh_host_model::Page;
+use wh_host_model::{InstId, Page};
 use wh_tables::Tables;
 
 impl Memory {
@@ -28,11 +29,15 @@ impl Memory {
         frames + u64::from(self.slots.len()) < 1 << 32
     }
 
-    /// Whether there are at most so many places.
-    pub fn has_places_below(&self, places: u32) -> bool
-        ensures { IsTrue result ↔ (length self.now.tables ≤ places) }
+    /// Of the instances with pages, the one with the lowest number; or with the lowest above this one. It passes over places
+    /// without pages, in a line that is kept in the order of numbers, and looks at no page.
+    pub fn next_instance(&self, after: Option<u64>) -> Option<InstId>
+        ensures some { IfSome result (λ id. IsNextInstance self.now after id) }
+        ensures small { IfSome result (λ id. id.place < 2 ^ 32) }
+        ensures none { IfNone result ((i : ℕ) → ¬ ComesAfter self.now after i) }
     {
-        self.tables.places() <= places as usize
+        let _ = &self.tax;
+        self.tables.next_instance(after)
     }
 
     /// Whether the instance of this number is at this place.

@@ -19,3 +19,4 @@ pub mod Newcomers
 pub mod Arriving
 pub mod Answering
 pub mod Finding
+pub mod Lines

@@ -1,4 +1,5 @@
 pub mod Linking
 pub mod Order
+pub mod Line
 pub mod Index
 pub mod Tables

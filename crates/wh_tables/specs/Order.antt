@@ -8,6 +8,7 @@ use Rattle.wh_tables.specs.declared.order.Link.{Link}
 use Rattle.wh_tables.specs.declared.order.Ends.{Ends}
 use Rattle.wh_tables.specs.declared.order.Order.TheInside.{Inside}
 use Rattle.wh_host_model.specs.Space.Charges.{IsOnFrame, stands_on}
+use Rattle.wh_tables.specs.Line.{IsLineOf}
 use Rattle.wh_tables.specs.Linking.{IsEarlierStop, IsStop, LeadsToNearest, Turned, stop_of}
 
 -- the numbers of the instances by place, the links of each page of each, and of each frame the first and the last page
@@ -22,6 +23,10 @@ chains_of a = record {
   links = map (λ (row : Items Link). row.items) a.links.items;
   ends = a.ends.items;
 }
+
+-- the line is that of the numbers
+abbrev pub IsOrdered : Inside → Type 0
+IsOrdered a = IsLineOf a.numbers.items a.line.items
 
 -- One page comes before another: its instance has the lower number, or it is the lower page of the same instance. The
 -- place stands between, so that any two are in order.

@@ -5,12 +5,14 @@ ghost use Rattle.wh_host_model.specs.declared.states.Page.{Page};
 ghost use Rattle.wh_host_model.specs.declared.states.Page.TheVariants.{Untouched};
 ghost use Rattle.wh_host_model.specs.Space.Charges.{stands_on};
 ghost use Rattle.wh_tables.specs.Index.{CountsOneMore, HoldsOff, HoldsOn, IsIndexBut, IsIndexOf, Marked, counts_at, empty_index, one_if_touched, with_newcomer, without_active, with_mark, with_page};
+ghost use Rattle.wh_tables.specs.Line.{IsLineOf};
 ghost use Rattle.wh_tables.specs.Order.{HasLinks, IsAsLarge, IsInRange, next_in, prior_in};
 
 use crate::order::{Order, put_row};
 use crate::page_id::PageId;
 use std::alloc::{AllocError, Global};
 use std::marker::Model;
+use wh_host_model::InstId;
 
 // How many frames are charged to an instance, and on how many of these a touched page stands.
 #[derive(Clone, Copy)]
@@ -235,6 +237,13 @@ impl Index {
         ensures small { IfSome result (λ id. (id.place < 2 ^ 32) × (id.page < 2 ^ 32)) }
     {
         self.order.prior(frame, at)
+    }
+
+    // Whoever came last to each place, in the order of numbers.
+    pub fn line(&self) -> &[InstId]
+        ensures { IsLineOf self.now.chains.numbers result.now }
+    {
+        self.order.line()
     }
 
     // How many frames are charged to the instance at a place, and on how many of these a touched page stands.

@@ -2,6 +2,7 @@
 #![tactic(auto)]
 
 mod index;
+mod line;
 mod order;
 mod page_id;
 mod tables;

@@ -6,11 +6,14 @@ ghost use Rattle.wh_host_model.specs.Space.States.{page_at, put};
 ghost use Rattle.wh_host_model.specs.declared.states.Page.{Page};
 ghost use Rattle.wh_host_model.specs.declared.states.Page.TheVariants.{Untouched};
 ghost use Rattle.wh_host_model.specs.Space.Charges.{stands_on};
+ghost use Rattle.wh_tables.specs.Line.{IsLineOf};
 ghost use Rattle.wh_tables.specs.Order.{ComesBefore, ComesBehind, HasLinks, HasNext, HasPrior, IsAsLarge, IsInOrder, IsInRange, StandsNowhere, StandsOn, next_in, prior_in};
 
+use crate::line::join_line;
 use crate::page_id::PageId;
 use std::alloc::{AllocError, Global};
 use std::marker::Model;
+use wh_host_model::InstId;
 
 // What leads from a page on a frame to those beside it there: to the next one, and to the one before.
 #[derive(Clone, Copy)]
@@ -27,12 +30,14 @@ pub struct Ends {
 }
 
 // The numbers of the instances by place, the links of all their pages, and the ends of each frame. Pages on a frame are
-// ordered by the numbers of their instances, and then by their own.
+// ordered by the numbers of their instances, and then by their own. Beside them the instances stand in the order of their
+// numbers.
 #[derive(Drop)]
 pub struct Order {
     numbers: Vec<u64>,
     links: Vec<Vec<Link>>,
     ends: Vec<Ends>,
+    line: Vec<InstId>,
 }
 
 impl Model for Order {
@@ -42,7 +47,9 @@ impl Model for Order {
 
     ghost view = { chains_of };
 
-    ghost invariant = { λ a. Unit };
+    ghost use Rattle.wh_tables.specs.Order.{IsOrdered};
+
+    ghost invariant = { IsOrdered };
 }
 
 // Puts a row at a place, which may be the next one.
@@ -76,6 +83,7 @@ impl Order {
             numbers: Vec::new(alloc),
             links: Vec::new(alloc),
             ends,
+            line: Vec::new(alloc),
         })
     }
 
@@ -103,9 +111,18 @@ impl Order {
         let row = vec![in alloc; none; pages as usize]?;
         self.numbers.reserve(1)?;
         self.links.reserve(1)?;
+        self.line.reserve(1)?;
         put_row(&mut self.numbers, place, number);
         put_row(&mut self.links, place, row);
+        join_line(&mut self.line, InstId { place, number });
         Ok(())
+    }
+
+    // Whoever came last to each place, in the order of numbers.
+    pub fn line(&self) -> &[InstId]
+        ensures { IsLineOf self.now.numbers result.now }
+    {
+        &self.line
     }
 
     // The links of a page.

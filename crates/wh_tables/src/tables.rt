@@ -8,16 +8,18 @@ ghost use Rattle.wh_host_model.specs.declared.states.Page.{Page};
 ghost use Rattle.wh_host_model.specs.declared.states.Page.TheVariants.{Untouched};
 ghost use Rattle.wh_host_model.specs.Space.Charges.{IsFirstOn, IsOnFrame, active_in, charged_in, touchers_in};
 ghost use Rattle.wh_tables.specs.Index.{number_in};
+ghost use Rattle.wh_tables.specs.Line.{ComesLater, IsNextIn};
 ghost use Rattle.wh_tables.specs.Order.{ComesBefore, StandsOn};
 ghost use Rattle.wh_pages.specs.Seeking.{IsFirstFrom};
 ghost use Rattle.wh_tables.specs.Tables.{IsSoughtAt, marked_if, new_table, own_frame_of, without_marks, without_touched};
 
 use crate::index::Index;
+use crate::line::rank_above;
 use crate::order::put_row;
 use crate::page_id::PageId;
 use std::alloc::{AllocError, Global};
 use std::marker::Model;
-use wh_host_model::Page;
+use wh_host_model::{InstId, Page};
 use wh_pages::PageTable;
 
 /// The page tables of all instances, by their places, with an index of the frames on which their pages stand.
@@ -391,6 +393,26 @@ impl Tables {
             self.mark_on(place, number, frame);
         }
         Some(frame)
+    }
+
+    /// Of the instances with pages, the one with the lowest number; or with the lowest above this one. A line of all places by
+    /// number is kept for it, in which it passes over those without pages.
+    pub fn next_instance(&self, after: Option<u64>) -> Option<InstId>
+        ensures some { IfSome result (λ id. IsNextIn self.now.pages self.now.numbers after id) }
+        ensures none { IfNone result ((i : ℕ) → ¬ ComesLater self.now.pages self.now.numbers after i) }
+    {
+        let line = self.index.line();
+        let from = match after {
+            Some(number) => rank_above(line, number),
+            None => 0,
+        };
+        for rank in from..line.len() {
+            let id = line[rank];
+            if self.len_at(id.place) > 0 {
+                return Some(id);
+            }
+        }
+        None
     }
 
     /// How many frames are charged to the instance at a place: those of which its page is the first. The number is kept.

@@ -3,7 +3,8 @@ use Rattle.wh_scheduler.specs.InHand.{left_of}
 use Rattle.wh_engine.specs.Draining.{AllRest, SomeGoes}
 use Rattle.wh_engine.specs.Standing.{engine_on}
 use Rattle.wh_engine.proofs.Opened.{goes_open, only_open}
-use Rattle.wh_engine.proofs.Runs.{ran_at_once, ran_each}
+use Rattle.wh_engine.proofs.Runs.{ran_at_once, ran_each, true_on}
+use Rattle.wh_engine.proofs.Turned.{no_turns, whole_turns}
 use Rattle.wh_engine.proofs.engine.Engine.run.Goals as goal
 
 pub returns-then-not-can_go_on-clause-runs : goal.returns-then-not-can_go_on-clause-runs
@@ -34,3 +35,23 @@ pub returns-then-can_go_on-clause-open : goal.returns-then-can_go_on-clause-open
 returns-then-can_go_on-clause-open g c =
     let before = c.args.host.now.host in
     goes_open c.args.self.now before (subst (λ h. SomeGoes h c.args.self.now.guests.items) c.host.ensures c.if-not-can_go_on.ensures)
+
+pub returns-then-not-can_go_on-clause-turns : goal.returns-then-not-can_go_on-clause-turns
+returns-then-not-can_go_on-clause-turns g c = no_turns c.args.manner.quantum c.args.host.now.books.turns
+
+pub returns-in-Err-clause-device : goal.returns-in-Err-clause-device
+returns-in-Err-clause-device g c =
+    true_on g.D.SwapDev.keeps g.D.SwapDev.honest g.D.SwapDev.faults (left_of c.args.host.now) (left_of c.run-served.new.self) c.run-served.ensures.came
+
+pub returns-then-can_go_on-clause-device : goal.returns-then-can_go_on-clause-device
+returns-then-can_go_on-clause-device g c =
+    true_on g.D.SwapDev.keeps g.D.SwapDev.honest g.D.SwapDev.faults (left_of c.args.host.now) (left_of c.run-served.new.self) c.run-served.ensures.came
+
+pub returns-clause-device : goal.returns-clause-device
+returns-clause-device g c =
+    true_on g.D.SwapDev.keeps g.D.SwapDev.honest g.D.SwapDev.faults (left_of c.args.host.now) (left_of c.run-served.new.self) c.run-served.ensures.came
+
+pub returns-clause-turns : goal.returns-clause-turns
+returns-clause-turns g c =
+    let s = c.run-served.ensures in
+    whole_turns c.args.manner.quantum c.args.host.now.books.turns c.run-served.new.self.books.turns c.run-served.result c.in_default-end_of.ensures s.handed s.once s.grown s.turns

@@ -9,17 +9,13 @@ pub returns-then-not-has_few_pages-clause-moves : goal.returns-then-not-has_few_
 returns-then-not-has_few_pages-clause-moves g c w st =
     only_nothing c.args.self.now w st
 
-pub returns-then-places-clause-moves : goal.returns-then-places-clause-moves
-returns-then-places-clause-moves g c w st =
-    only_nothing c.args.self.now w st
-
 pub invariant_of-self : goal.invariant_of-self
 invariant_of-self g c =
     let i = c.self.inside in
     let h : HostState = record { modules = i.modules.items; residents = i.residents.slots; live = i.live; space = i.memory; next = i.next } in
     let inv = c.self.invariant in
     let hashes = g.H.PageHash.hashes c.args.hasher.now in
-    let made = scanned_here h inv.0 hashes _ c.scan_all.new.memory inv.1 c.scan_all.ensures.scans in
+    let made = scanned_here h inv.0 hashes _ c.scan_all.new.memory inv.1 c.scan_all.ensures.scans.2 in
     (made.0, made.2)
 
 pub returns-clause-moves : goal.returns-clause-moves
@@ -28,11 +24,11 @@ returns-clause-moves g c w st =
     let h : HostState = record { modules = i.modules.items; residents = i.residents.slots; live = i.live; space = i.memory; next = i.next } in
     let here = subst (λ z. IsHost z w) (sym c.self.view_is) st in
     let hashes = g.H.PageHash.hashes c.args.hasher.now in
-    scanned_here h w hashes _ c.scan_all.new.memory here c.scan_all.ensures.scans
+    scanned_here h w hashes _ c.scan_all.new.memory here c.scan_all.ensures.scans.2
 
 pub returns-clause-backing : goal.returns-clause-backing
 returns-clause-backing g c =
     let s = c.self.inside.memory in
     let hashes = g.H.PageHash.hashes c.args.hasher.now in
     let here = same_backing c.args.self.now.space s (ap (λ (z : HostState). z.space) c.self.view_is) in
-    then_backing c.args.self.now.space s c.scan_all.new.memory here (scans_backing hashes s _ c.scan_all.new.memory c.scan_all.ensures.scans)
+    then_backing c.args.self.now.space s c.scan_all.new.memory here (scans_backing hashes s _ c.scan_all.new.memory c.scan_all.ensures.scans.2)

@@ -1,0 +1,169 @@
+-- The line of instances by number, when one comes to a place, and who is the next in it.
+use Rattle.std.proofs.Common.{◌≡◌, ◌≢◌, ◌∙◌, ℕ, ◌+◌, ◌<◌, ◌≤◌, ◌==◌, inl, inr, cond, not, Bool, true, false, List, [], ◌∷◌, Option, Some, None, length, get_or, leb, leb-true, slice_get, zero, suc, refl, sym, ap, subst, arith}
+use Rattle.std.specs.List.{AllWithin, Contains, filter, insert}
+use Rattle.std.specs.List.Sorted.{IsPartitionPoint, IsPermutation}
+use Rattle.std.proofs.lemmas.Bool.{cases_lt}
+use Rattle.std.proofs.lemmas.Bool.Decides.{nat_tests}
+use Rattle.std.proofs.lemmas.List.Elements.{All-cons, All-filter, filter_passes, AllWithin-more}
+use Rattle.std.proofs.lemmas.List.Kept.{IsNonDecreasingBy-filter}
+use Rattle.std.proofs.lemmas.List.Sorted.{All-permutation, Contains-permutation, IsNonDecreasingBy-insert, IsPermutation-insert}
+use Rattle.wh_host_model.specs.declared.plain.InstId.{InstId}
+use Rattle.wh_host_model.specs.declared.states.Page.{Page}
+use Rattle.wh_host_model.specs.Space.Places.{with_row}
+use Rattle.wh_host_model.proofs.Space.Putting.{get_or_is, here_or}
+use Rattle.wh_host_model.proofs.Space.Rooms.{get_there}
+use Rattle.wh_host_model.proofs.Space.Rows.{row_other, row_same}
+use Rattle.wh_tables.specs.Line.{ComesLater, IsAbove, IsLineOf, IsNextIn}
+
+-- ---- who was at a place leaves the line
+
+abbrev pub is_elsewhere : ℕ → InstId → Bool
+is_elsewhere place id = not (id.place == place)
+
+elsewhere : (place i n : ℕ) → i ≢ place → is_elsewhere place (record { place = i; number = n }) ≡ true
+elsewhere place i n other = grind (arith, nat_tests)
+
+other_place : (place : ℕ) (id : InstId) → is_elsewhere place id ≡ true → id.place ≢ place
+other_place place id passes = grind (arith, nat_tests)
+
+contains_tail : {X : Type 0} (y : X) (xs : List X) (x : X) → Contains xs x → Contains (y ∷ xs) x
+contains_tail y xs x (k, less, is) = (suc k, omega arith, is)
+
+kept_or : {X : Type 0} (b : Bool) (y : X) (xs : List X) (x : X) → Contains xs x → Contains (cond b (y ∷ xs) xs) x
+kept_or true y xs x has = contains_tail y xs x has
+kept_or false y xs x has = has
+
+contains_filter : {X : Type 0} (p : X → Bool) (xs : List X) (x : X) → Contains xs x → p x ≡ true → Contains (filter p xs) x
+contains_filter p [] x (k, less, is) passes = absurd (omega arith)
+contains_filter p (y ∷ xs) x (zero, less, is) passes =
+    let e : p y ≡ true = ap p is ∙ passes in
+    rw e (zero, omega arith, is)
+contains_filter p (y ∷ xs) x (suc k, less, is) passes = kept_or (p y) y (filter p xs) x (contains_filter p xs x (k, omega arith, is) passes)
+
+-- ---- a newcomer joins it
+
+pub line_joined : (numbers : List ℕ) (line : List InstId) (newcomer : InstId) (rank : ℕ) → newcomer.place ≤ length numbers → IsLineOf numbers line
+    → rank ≤ length (filter (is_elsewhere newcomer.place) line)
+    → IsPartitionPoint (λ (id : InstId). id.number ≤ newcomer.number) (λ (id : InstId). newcomer.number < id.number) (filter (is_elsewhere newcomer.place) line) rank
+    → IsLineOf (with_row numbers newcomer.place newcomer.number) (insert (filter (is_elsewhere newcomer.place) line) rank newcomer)
+line_joined numbers line newcomer rank within is bound split =
+    let others : List InstId = filter (is_elsewhere newcomer.place) line in
+    let moved : IsPermutation (newcomer ∷ others) (insert others rank newcomer) = IsPermutation-insert others rank newcomer in
+    let here : slice_get (with_row numbers newcomer.place newcomer.number) newcomer.place ≡ Some newcomer.number = row_same numbers newcomer.place newcomer.number within in
+    record {
+      ascending = IsNonDecreasingBy-insert (λ (id : InstId). id.number) others rank newcomer (IsNonDecreasingBy-filter (λ (id : InstId). id.number) (is_elsewhere newcomer.place) line is.ascending) bound
+          (λ k d less. split.0 k d (omega arith) less)
+          (λ k d from less. (let above = split.1 k d from less in omega arith));
+      each = λ i n at. Contains-permutation (newcomer ∷ others) (insert others rank newcomer) (record { place = i; number = n }) moved
+          (elim (here_or newcomer.place i) [
+            | inl same ↦
+                (let both : Some newcomer.number ≡ Some n = sym here ∙ (ap (slice_get (with_row numbers newcomer.place newcomer.number)) (sym same) ∙ at) in
+                let number : newcomer.number ≡ n = cc in
+                (zero, omega arith, ap (λ p. record { place = p; number = newcomer.number }) (sym same) ∙ ap (λ m. record { place = i; number = m }) number))
+            | inr other ↦
+                contains_tail newcomer others (record { place = i; number = n })
+                (contains_filter (is_elsewhere newcomer.place) line (record { place = i; number = n })
+                (is.each i n (sym (row_other numbers newcomer.place i newcomer.number within other) ∙ at)) (elsewhere newcomer.place i n other))
+          ]);
+      there = All-permutation (λ (id : InstId). slice_get (with_row numbers newcomer.place newcomer.number) id.place ≡ Some id.number) (newcomer ∷ others) (insert others rank newcomer) moved
+          (All-cons (λ (id : InstId). slice_get (with_row numbers newcomer.place newcomer.number) id.place ≡ Some id.number) newcomer others here
+          (λ k d less.
+          row_other numbers newcomer.place (get_or others k d).place newcomer.number within (other_place newcomer.place (get_or others k d) (filter_passes (is_elsewhere newcomer.place) line k d less))
+          ∙ All-filter (is_elsewhere newcomer.place) (λ (id : InstId). slice_get numbers id.place ≡ Some id.number) line is.there k d less));
+    }
+
+-- ---- how many stand there up to a number
+
+pub split_at : (line : List InstId) (number rank : ℕ)
+    → IsPartitionPoint (λ (id : InstId). leb id.number number ≡ true) (λ (id : InstId). leb id.number number ≡ false) line rank
+    → IsPartitionPoint (λ (id : InstId). id.number ≤ number) (λ (id : InstId). number < id.number) line rank
+split_at line number rank split = (
+  λ k d from less. leb-true _ _ (split.0 k d from less),
+  λ k d from less. (let f = split.1 k d from less in grind (arith, nat_tests)),
+)
+
+-- ---- who is the next in it
+
+get_or-any : {X : Type 0} (xs : List X) (k : ℕ) (d e : X) → k < length xs → get_or xs k d ≡ get_or xs k e
+get_or-any [] k d e less = absurd (omega arith)
+get_or-any (x ∷ xs) zero d e less = refl
+get_or-any (x ∷ xs) (suc k) d e less = get_or-any xs k d e (omega arith)
+
+pub has_row : {X : Type 0} (xss : List (List X)) (j : ℕ) → 1 ≤ length (get_or xss j []) → j < length xss
+has_row [] j some = absurd (omega arith)
+has_row (xs ∷ xss) zero some = omega arith
+has_row (xs ∷ xss) (suc j) some = let rest = has_row xss j some in omega arith
+
+-- of the line, nobody below this rank comes later than the number, and all from it on have higher ones
+pub record IsSoughtFrom (pages : List (List Page)) (numbers : List ℕ) (after : Option ℕ) (line : List InstId) (rank : ℕ) : Type 0 where
+  pub passed : AllWithin (λ (id : InstId). ¬ ComesLater pages numbers after id.place) line 0 rank
+  pub ahead : AllWithin (λ (id : InstId). IsAbove after id.number) line rank (length line)
+
+number_there : (numbers : List ℕ) (line : List InstId) (k : ℕ) (d : InstId) → IsLineOf numbers line → k < length line → get_or numbers (get_or line k d).place 0 ≡ (get_or line k d).number
+number_there numbers line k d is less = get_or_is numbers (get_or line k d).place (get_or line k d).number 0 (is.there k d less)
+
+pub sought_first : (pages : List (List Page)) (numbers : List ℕ) (line : List InstId) → IsSoughtFrom pages numbers None line 0
+sought_first pages numbers line = record {
+  passed = λ k d from less. absurd (omega arith);
+  ahead = λ k d from less. tt;
+}
+
+pub sought_after : (pages : List (List Page)) (numbers : List ℕ) (number : ℕ) (line : List InstId) (rank : ℕ) → IsLineOf numbers line → rank ≤ length line
+    → IsPartitionPoint (λ (id : InstId). id.number ≤ number) (λ (id : InstId). number < id.number) line rank → IsSoughtFrom pages numbers (Some number) line rank
+sought_after pages numbers number line rank is within split = record {
+  passed = λ k d from less later. (
+      let up_to : (get_or line k d).number ≤ number = split.0 k d from less in
+      let e = number_there numbers line k d is (omega arith) in
+      let above : number < get_or numbers (get_or line k d).place 0 = later.1 in
+      absurd (omega arith));
+  ahead = λ k d from less. split.1 k d from less;
+}
+
+pub sought_more : (pages : List (List Page)) (numbers : List ℕ) (after : Option ℕ) (line : List InstId) (rank : ℕ) (e : InstId) → IsSoughtFrom pages numbers after line rank
+    → rank < length line → length (get_or pages (get_or line rank e).place []) ≤ 0 → IsSoughtFrom pages numbers after line (rank + 1)
+sought_more pages numbers after line rank e sought less empty = record {
+  passed = AllWithin-more (λ (id : InstId). ¬ ComesLater pages numbers after id.place) line 0 rank sought.passed
+      (λ d later. (let same : get_or line rank d ≡ get_or line rank e = get_or-any line rank d e less in
+      let some : 1 ≤ length (get_or pages (get_or line rank d).place []) = later.0 in
+      let long = ap (λ (id : InstId). length (get_or pages id.place [])) same in
+      absurd (omega arith)));
+  ahead = λ k d from least. sought.ahead k d (omega arith) least;
+}
+
+-- where an instance with pages stands in the line
+place_in_line : (pages : List (List Page)) (numbers : List ℕ) (line : List InstId) (j : ℕ) → IsLineOf numbers line → length numbers ≡ length pages → 1 ≤ length (get_or pages j [])
+    → (n : ℕ) × (get_or numbers j 0 ≡ n) × Contains line (record { place = j; number = n })
+place_in_line pages numbers line j is long some =
+    let within : j < length pages = has_row pages j some in
+    let there = get_there numbers j (omega arith) in
+    (there.0, get_or_is numbers j there.0 0 there.1, is.each j there.0 there.1)
+
+pub sought_found : (pages : List (List Page)) (numbers : List ℕ) (after : Option ℕ) (line : List InstId) (rank : ℕ) (e : InstId) → IsLineOf numbers line → length numbers ≡ length pages
+    → IsSoughtFrom pages numbers after line rank → rank < length line → 1 ≤ length (get_or pages (get_or line rank e).place []) → IsNextIn pages numbers after (get_or line rank e)
+sought_found pages numbers after line rank e is long sought less some =
+    let number = number_there numbers line rank e is less in
+    record {
+      number = number;
+      later = (some, subst (IsAbove after) (sym number) (sought.ahead rank e (omega arith) less));
+      lowest = λ j later. (
+          let there = place_in_line pages numbers line j is long later.0 in
+          let at : (k : ℕ) × (k < length line) × (get_or line k (record { place = j; number = there.0 }) ≡ record { place = j; number = there.0 }) = there.2 in
+          elim (cases_lt at.0 rank) [
+            | inl passed ↦ absurd (sought.passed at.0 (record { place = j; number = there.0 }) (omega arith) passed
+                (subst (λ (id : InstId). ComesLater pages numbers after id.place) (sym at.2) later))
+            | inr from ↦
+                (let e1 : (get_or line rank (record { place = j; number = there.0 })).number ≤ (get_or line at.0 (record { place = j; number = there.0 })).number = is.ascending rank at.0 (record { place = j; number = there.0 }) from at.1 in
+                let e2 = ap (λ (id : InstId). id.number) at.2 in
+                let e3 = ap (λ (id : InstId). id.number) (get_or-any line rank e (record { place = j; number = there.0 }) less) in
+                let e4 = there.1 in
+                omega arith)
+          ]);
+    }
+
+pub sought_none : (pages : List (List Page)) (numbers : List ℕ) (after : Option ℕ) (line : List InstId) (rank : ℕ) → IsLineOf numbers line → length numbers ≡ length pages
+    → IsSoughtFrom pages numbers after line rank → length line ≤ rank → (i : ℕ) → ¬ ComesLater pages numbers after i
+sought_none pages numbers after line rank is long sought past i later =
+    let there = place_in_line pages numbers line i is long later.0 in
+    let at : (k : ℕ) × (k < length line) × (get_or line k (record { place = i; number = there.0 }) ≡ record { place = i; number = there.0 }) = there.2 in
+    sought.passed at.0 (record { place = i; number = there.0 }) (omega arith) (omega arith)
+    (subst (λ (id : InstId). ComesLater pages numbers after id.place) (sym at.2) later)
