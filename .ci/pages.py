@@ -1,0 +1,87 @@
+#!/usr/bin/env python3
+"""Says which relative links and anchors of the pages lead nowhere, and whether the pages have more words than they may."""
+import pathlib
+import re
+import subprocess
+import sys
+
+root = pathlib.Path(__file__).resolve().parent.parent
+MOST_WORDS = 45000
+LINK = re.compile(r"\[[^\]]*\]\(([^)\s]+)\)")
+HEADING = re.compile(r"#{1,6} +(.*)")
+
+
+def tracked():
+    """The files of the repository, with their folders, by their paths from its root."""
+    names = subprocess.run(["git", "ls-files"], cwd=root, capture_output=True, text=True, check=True).stdout.split("\n")
+    files = {pathlib.PurePosixPath(name) for name in names if name}
+    return files, files | {folder for file in files for folder in file.parents}
+
+
+def prose(page):
+    """The lines of a page outside of its blocks of code."""
+    inside = False
+    for line in (root / page).read_text().split("\n"):
+        if line.startswith("```"):
+            inside = not inside
+        elif not inside and not line.startswith("    "):
+            yield line
+
+
+def anchors(page):
+    """The anchors of a page's headings, as they are made of their texts; the second of one text has -1 behind it."""
+    found = {}
+    for line in prose(page):
+        heading = HEADING.fullmatch(line)
+        if heading:
+            text = re.sub(r"\[([^\]]*)\]\([^)]*\)", r"\1", heading[1]).strip().lower()
+            anchor = re.sub(r"[^\w\- ]", "", text).replace(" ", "-")
+            times = found[anchor] = found.get(anchor, -1) + 1
+            yield f"{anchor}-{times}" if times else anchor
+
+
+def goal_of(page, path):
+    """What a relative path means in a page, from the root of the repository; None where it leaves that."""
+    parts = list(page.parent.parts)
+    for part in pathlib.PurePosixPath(path).parts:
+        if part != "..":
+            parts.append(part)
+        elif not parts:
+            return None
+        else:
+            parts.pop()
+    return pathlib.PurePosixPath(*parts)
+
+
+def faults_of(page, known):
+    """The links of a page that lead nowhere."""
+    for line in prose(page):
+        for link in LINK.findall(re.sub(r"`[^`]*`", "", line)):
+            if re.match(r"[a-z]+:", link):
+                continue
+            path, _, anchor = link.partition("#")
+            goal = goal_of(page, path) if path else page
+            if goal not in known:
+                yield f"{page}: {link} leads to no file"
+            elif anchor and (goal.suffix != ".md" or anchor not in anchors(goal)):
+                yield f"{page}: {link} leads to no heading"
+
+
+def is_counted(page):
+    """Whether the page is one of docs, or that of a crate."""
+    return page.parts[0] == "docs" or page.match("crates/*/README.md") and len(page.parts) == 3
+
+
+def main():
+    files, known = tracked()
+    pages = sorted(file for file in files if file.suffix == ".md")
+    faults = [fault for page in pages for fault in faults_of(page, known)]
+    words = sum(len((root / page).read_text().split()) for page in pages if is_counted(page))
+    if words > MOST_WORDS:
+        faults.append(f"the pages have {words} words, more than {MOST_WORDS}")
+    for fault in faults:
+        print(fault)
+    return 1 if faults else 0
+
+
+sys.exit(main())
