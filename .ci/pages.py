@@ -13,7 +13,8 @@ HEADING = re.compile(r"#{1,6} +(.*)")
 
 def tracked():
     """The files of the repository, with their folders, by their paths from its root."""
-    names = subprocess.run(["git", "ls-files"], cwd=root, capture_output=True, text=True, check=True).stdout.split("\n")
+    command = ["git", "-c", "safe.directory=*", "ls-files"]
+    names = subprocess.run(command, cwd=root, stdout=subprocess.PIPE, text=True, check=True).stdout.split("\n")
     files = {pathlib.PurePosixPath(name) for name in names if name}
     return files, files | {folder for file in files for folder in file.parents}
 
