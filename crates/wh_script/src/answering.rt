@@ -40,6 +40,7 @@ impl<
         held: &[u8],
         number: u64,
     ) -> Result<(), ScriptFault>
+        ensures config { self.new.config ≡ self.old.config }
         ensures device { DeviceStaysTrue D.keeps D.honest self.old.host.device
             self.new.host.device }
         ensures faults { DeviceMayFail D.faults self.old.host.device self.new.host.device }
@@ -73,6 +74,7 @@ impl<
         command: Command<'_>,
         number: u64,
     ) -> Result<(), ScriptFault>
+        ensures config { self.new.config ≡ self.old.config }
         ensures device { DeviceStaysTrue D.keeps D.honest self.old.host.device
             self.new.host.device }
         ensures faults { DeviceMayFail D.faults self.old.host.device self.new.host.device }
@@ -112,6 +114,7 @@ impl<
         args: &[i128],
         number: u64,
     ) -> Result<(), ScriptFault>
+        ensures config { self.new.config ≡ self.old.config }
         ensures device { DeviceStaysTrue D.keeps D.honest self.old.host.device
             self.new.host.device }
         ensures faults { DeviceMayFail D.faults self.old.host.device self.new.host.device }

@@ -37,6 +37,7 @@ impl<D: SwapDev, T: Ledger, C: Ledger, O: Ledger, E: Ledger, B: Ties> Session<D,
             → IsNoInvoke asked → Obeys (S.files source.now) number asked
             (engine_on self.old.host.host self.old.engine) (string_bytes self.old.text)
             (engine_on self.new.host.host self.new.engine) (string_bytes self.new.text)) }
+        ensures config { self.new.config ≡ self.old.config }
         ensures device { self.new.host.device ≡ self.old.host.device }
         ensures err { IfErr result (λ e. e ≡ ScriptFault.Memory) }
     {
@@ -64,6 +65,7 @@ impl<D: SwapDev, T: Ledger, C: Ledger, O: Ledger, E: Ledger, B: Ties> Session<D,
             files number (asked_of.keep name.now bytes)
             (engine_on self.old.host.host self.old.engine) (string_bytes self.old.text)
             (engine_on self.new.host.host self.new.engine) (string_bytes self.new.text)) }
+        ensures config { self.new.config ≡ self.old.config }
         ensures device { self.new.host.device ≡ self.old.host.device }
         ensures err { IfErr result (λ e. e ≡ ScriptFault.Memory) }
     {
@@ -88,6 +90,7 @@ impl<D: SwapDev, T: Ledger, C: Ledger, O: Ledger, E: Ledger, B: Ties> Session<D,
             (asked_of.load name.now path.now) (engine_on self.old.host.host self.old.engine)
             (string_bytes self.old.text) (engine_on self.new.host.host self.new.engine)
             (string_bytes self.new.text)) }
+        ensures config { self.new.config ≡ self.old.config }
         ensures device { self.new.host.device ≡ self.old.host.device }
         ensures err { IfErr result (λ e. e ≡ ScriptFault.Memory) }
     {
@@ -108,6 +111,7 @@ impl<D: SwapDev, T: Ledger, C: Ledger, O: Ledger, E: Ledger, B: Ties> Session<D,
             name.now → BringsBytes files asked bytes.now → Obeys files number asked
             (engine_on self.old.host.host self.old.engine) (string_bytes self.old.text)
             (engine_on self.new.host.host self.new.engine) (string_bytes self.new.text)) }
+        ensures config { self.new.config ≡ self.old.config }
         ensures device { self.new.host.device ≡ self.old.host.device }
         ensures err { IfErr result (λ e. e ≡ ScriptFault.Memory) }
     {
@@ -129,6 +133,7 @@ impl<D: SwapDev, T: Ledger, C: Ledger, O: Ledger, E: Ledger, B: Ties> Session<D,
             (asked_of.admit inst.now name.now (params_of given))
             (engine_on self.old.host.host self.old.engine) (string_bytes self.old.text)
             (engine_on self.new.host.host self.new.engine) (string_bytes self.new.text)) }
+        ensures config { self.new.config ≡ self.old.config }
         ensures device { self.new.host.device ≡ self.old.host.device }
         ensures err { IfErr result (λ e. e ≡ ScriptFault.Memory) }
     {
@@ -153,6 +158,7 @@ impl<D: SwapDev, T: Ledger, C: Ledger, O: Ledger, E: Ledger, B: Ties> Session<D,
             (asked_of.refuel inst.now fuel) (engine_on self.old.host.host self.old.engine)
             (string_bytes self.old.text) (engine_on self.new.host.host self.new.engine)
             (string_bytes self.new.text)) }
+        ensures config { self.new.config ≡ self.old.config }
         ensures device { self.new.host.device ≡ self.old.host.device }
         ensures err { IfErr result (λ e. e ≡ ScriptFault.Memory) }
     {
@@ -168,6 +174,7 @@ impl<D: SwapDev, T: Ledger, C: Ledger, O: Ledger, E: Ledger, B: Ties> Session<D,
         ensures obeys { OnOk result ((files : Files) → Obeys files number (asked_of.cancel inst.now)
             (engine_on self.old.host.host self.old.engine) (string_bytes self.old.text)
             (engine_on self.new.host.host self.new.engine) (string_bytes self.new.text)) }
+        ensures config { self.new.config ≡ self.old.config }
         ensures device { self.new.host.device ≡ self.old.host.device }
         ensures err { IfErr result (λ e. e ≡ ScriptFault.Memory) }
     {
@@ -183,6 +190,7 @@ impl<D: SwapDev, T: Ledger, C: Ledger, O: Ledger, E: Ledger, B: Ties> Session<D,
         ensures obeys { OnOk result ((files : Files) → Obeys files number (asked_of.retry inst.now)
             (engine_on self.old.host.host self.old.engine) (string_bytes self.old.text)
             (engine_on self.new.host.host self.new.engine) (string_bytes self.new.text)) }
+        ensures config { self.new.config ≡ self.old.config }
         ensures device { self.new.host.device ≡ self.old.host.device }
         ensures err { IfErr result (λ e. e ≡ ScriptFault.Memory) }
     {
@@ -198,6 +206,7 @@ impl<D: SwapDev, T: Ledger, C: Ledger, O: Ledger, E: Ledger, B: Ties> Session<D,
         ensures obeys { OnOk result ((files : Files) (number : ℕ) → Obeys files number asked_of.scan
             (engine_on self.old.host.host self.old.engine) (string_bytes self.old.text)
             (engine_on self.new.host.host self.new.engine) (string_bytes self.new.text)) }
+        ensures config { self.new.config ≡ self.old.config }
         ensures device { self.new.host.device ≡ self.old.host.device }
         ensures err { IfErr result (λ e. e ≡ ScriptFault.Memory) }
     {
@@ -209,10 +218,11 @@ impl<D: SwapDev, T: Ledger, C: Ledger, O: Ledger, E: Ledger, B: Ties> Session<D,
     fn offer_pages(&mut self)
         ensures stands { StaysSo (engine_on self.old.host.host self.old.engine)
             (engine_on self.new.host.host self.new.engine) }
+        ensures config { self.new.config ≡ self.old.config }
         ensures device { self.new.host.device ≡ self.old.host.device }
         ensures text { self.new.text ≡ self.old.text }
     {
-        match self.hash {
+        match self.config.hash {
             HashKind::Fnv64 => self.engine.scan(&mut self.host, &FnvHash),
             HashKind::Constant => self.engine.scan(&mut self.host, &ConstantHash),
         }
@@ -226,6 +236,7 @@ impl<D: SwapDev, T: Ledger, C: Ledger, O: Ledger, E: Ledger, B: Ties> Session<D,
             (string_bytes self.new.text)) }
         ensures shows { OnOk result (AddsReport (engine_on self.old.host.host self.old.engine)
             (string_bytes self.old.text) (string_bytes self.new.text)) }
+        ensures config { self.new.config ≡ self.old.config }
         ensures device { self.new.host.device ≡ self.old.host.device }
         ensures err { IfErr result (λ e. e ≡ ScriptFault.Memory) }
     {
@@ -244,6 +255,7 @@ impl<D: SwapDev, T: Ledger, C: Ledger, O: Ledger, E: Ledger, B: Ties> Session<D,
             (asked_of.release inst.now) (engine_on self.old.host.host self.old.engine)
             (string_bytes self.old.text) (engine_on self.new.host.host self.new.engine)
             (string_bytes self.new.text)) }
+        ensures config { self.new.config ≡ self.old.config }
         ensures device { self.new.host.device ≡ self.old.host.device }
         ensures err { IfErr result (λ e. e ≡ ScriptFault.Memory) }
     {
@@ -265,6 +277,7 @@ impl<D: SwapDev, T: Ledger, C: Ledger, O: Ledger, E: Ledger, B: Ties> Session<D,
             ≡ string_bytes self.old.text ++ reply_text (release_ok inst.now output.now)) }
         ensures engine { engine_on self.new.host.host self.new.engine ≡ engine_on self.old.host.host
             self.old.engine }
+        ensures config { self.new.config ≡ self.old.config }
         ensures device { self.new.host.device ≡ self.old.host.device }
         ensures err { IfErr result (λ e. e ≡ ScriptFault.Memory) }
     {

@@ -146,6 +146,7 @@ impl<
             (R.remaining reader.old) (R.remaining reader.new) (W.contents writer.old)
             (W.contents writer.new) result }
         ensures faults { DeviceMayFail D.faults self.old.host.device self.new.host.device }
+        ensures config { self.new.config ≡ self.old.config }
         ensures device { DeviceStaysTrue D.keeps D.honest self.old.host.device
             self.new.host.device }
     {

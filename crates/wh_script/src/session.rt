@@ -29,18 +29,24 @@ use wh_swap::SwapDev;
 
 const LONGEST_REPLY: usize = 128;
 
-/// What a script has made so far, the host on which it runs, and the text of the replies to the present line.
-pub struct Session<D: SwapDev, T: Ledger, C: Ledger, O: Ledger, E: Ledger, B: Ties> {
-    pub alloc: Global,
-    pub engine: Engine,
-    pub host: OwnedHost<D, T, C, O, E, B>,
-    pub text: String,
+/// How the calls of a script are run: the same from its first line to its last.
+#[derive(Clone, Copy, Debug)]
+pub struct SessionConfig {
     /// The greatest number of charges of a turn.
     pub quantum: u32,
     /// By which hash equal pages are looked for.
     pub hash: HashKind,
     /// How many threads run calls.
     pub workers: Workers,
+}
+
+/// What a script has made so far, the host on which it runs, and the text of the replies to the present line.
+pub struct Session<D: SwapDev, T: Ledger, C: Ledger, O: Ledger, E: Ledger, B: Ties> {
+    pub alloc: Global,
+    pub engine: Engine,
+    pub host: OwnedHost<D, T, C, O, E, B>,
+    pub text: String,
+    pub config: SessionConfig,
 }
 
 // Written out, so that letting one go is one call, and not one for each part of its parts.
@@ -52,9 +58,7 @@ impl<D: SwapDev + Drop, T: Ledger, C: Ledger, O: Ledger, E: Ledger, B: Ties> Dro
             engine: _,
             host: _,
             text: _,
-            quantum: _,
-            hash: _,
-            workers: _,
+            config: _,
         } = self;
     }
 }
@@ -91,8 +95,8 @@ impl<D: SwapDev + Drop, T: Ledger, C: Ledger, O: Ledger, E: Ledger, B: Ties> Ses
         ensures stands { IfOk result (λ session. StandsForScript (settings_of settings.now)
             (engine_on session.host.host session.engine) nothing_made) }
         ensures device { IfOk result (λ session. session.host.device ≡ Some fittings.device) }
-        ensures manner { IfOk result (λ session. (session.quantum ≡ settings.now.quantum)
-            × (session.hash ≡ settings.now.hash) × (session.workers ≡ workers)) }
+        ensures config { IfOk result (λ session. (session.config.quantum ≡ settings.now.quantum)
+            × (session.config.hash ≡ settings.now.hash) × (session.config.workers ≡ workers)) }
         ensures err { IfErr result (λ e. e ≡ ScriptFault.Memory) }
     {
         let Ok(host) = Host::new(alloc, settings.frames, settings.slots, settings.tax) else {
@@ -109,9 +113,11 @@ impl<D: SwapDev + Drop, T: Ledger, C: Ledger, O: Ledger, E: Ledger, B: Ties> Ses
             engine: Engine::new(alloc),
             host,
             text,
-            quantum: settings.quantum as u32,
-            hash: settings.hash,
-            workers,
+            config: SessionConfig {
+                quantum: settings.quantum as u32,
+                hash: settings.hash,
+                workers,
+            },
         })
     }
 
@@ -124,9 +130,7 @@ impl<D: SwapDev + Drop, T: Ledger, C: Ledger, O: Ledger, E: Ledger, B: Ties> Ses
             engine: _,
             host,
             text: _,
-            quantum: _,
-            hash: _,
-            workers: _,
+            config: _,
         } = self;
         host.into_device()
     }
@@ -163,15 +167,15 @@ impl<D: SwapDev, T: Ledger, C: Ledger, O: Ledger, E: Ledger, B: Ties> Session<D,
 
     // How calls are run: in turns of the session's quantum, by its workers, with this hash.
     fn manner<H>(&self, hasher: H) -> Manner<H>
-        ensures quantum { result.quantum ≡ self.now.quantum }
-        ensures workers { result.workers ≡ self.now.workers.number }
+        ensures quantum { result.quantum ≡ self.now.config.quantum }
+        ensures workers { result.workers ≡ self.now.config.workers.number }
         ensures hasher { result.hasher ≡ hasher }
         ensures few { result.workers ≤ 64 }
     {
         Manner {
             hasher,
-            quantum: self.quantum,
-            workers: self.workers.count(),
+            quantum: self.config.quantum,
+            workers: self.config.workers.count(),
         }
     }
 
@@ -184,6 +188,7 @@ impl<D: SwapDev, T: Ledger, C: Ledger, O: Ledger, E: Ledger, B: Ties> Session<D,
             ≡ string_bytes self.old.text ++ reply_text (reply_of reply.entry)) }
         ensures engine { engine_on self.new.host.host self.new.engine ≡ engine_on self.old.host.host
             self.old.engine }
+        ensures config { self.new.config ≡ self.old.config }
         ensures device { self.new.host.device ≡ self.old.host.device }
         ensures err { IfErr result (λ e. e ≡ ScriptFault.Memory) }
     {
@@ -199,6 +204,7 @@ impl<D: SwapDev, T: Ledger, C: Ledger, O: Ledger, E: Ledger, B: Ties> Session<D,
             ≡ string_bytes self.old.text ++ reply_text (error (cause_number cause) number)) }
         ensures engine { engine_on self.new.host.host self.new.engine ≡ engine_on self.old.host.host
             self.old.engine }
+        ensures config { self.new.config ≡ self.old.config }
         ensures device { self.new.host.device ≡ self.old.host.device }
         ensures err { IfErr result (λ e. e ≡ ScriptFault.Memory) }
     {
@@ -227,6 +233,7 @@ impl<
         &mut self,
         rt: X,
     ) -> Result<(), ScriptFault>
+        ensures config { self.new.config ≡ self.old.config }
         ensures device { DeviceStaysTrue D.keeps D.honest self.old.host.device
             self.new.host.device }
         ensures faults { DeviceMayFail D.faults self.old.host.device self.new.host.device }
@@ -234,7 +241,7 @@ impl<
             self.new.host.device → HasDrained (engine_on self.old.host.host self.old.engine)
             (string_bytes self.old.text) (engine_on self.new.host.host self.new.engine)
             (string_bytes self.new.text)) }
-        ensures turns { OnOk result (RunsTurns self.old.quantum self.old.host.books.turns
+        ensures turns { OnOk result (RunsTurns self.old.config.quantum self.old.host.books.turns
             self.new.host.books.turns) }
         ensures err { IfErr result StopsRun }
         ensures open { IfErr result
@@ -252,10 +259,10 @@ impl<
     fn begin_epoch(&mut self)
         ensures stands { StaysSo (engine_on self.old.host.host self.old.engine)
             (engine_on self.new.host.host self.new.engine) }
+        ensures config { self.new.config ≡ self.old.config }
         ensures device { self.new.host.device ≡ self.old.host.device }
         ensures books { self.new.host.books ≡ self.old.host.books }
         ensures text { self.new.text ≡ self.old.text }
-        ensures quantum { self.new.quantum ≡ self.old.quantum }
     {
         if self.engine.can_go_on(self.host.host()) {
             self.engine.epoch(&mut self.host);
@@ -264,20 +271,21 @@ impl<
 
     // Runs all calls until none can go on, in the manner of the settings.
     fn run<X: Threads + Wait + Copy + Send + 'static>(&mut self, rt: X) -> Result<(), ScriptFault>
+        ensures config { self.new.config ≡ self.old.config }
         ensures device { DeviceStaysTrue D.keeps D.honest self.old.host.device
             self.new.host.device }
         ensures faults { DeviceMayFail D.faults self.old.host.device self.new.host.device }
         ensures runs { OnOk result (DeviceServesWell D.honest D.faults self.old.host.device
             self.new.host.device → RunsEach (engine_on self.old.host.host self.old.engine)
             (engine_on self.new.host.host self.new.engine)) }
-        ensures turns { OnOk result (RunsTurns self.old.quantum self.old.host.books.turns
+        ensures turns { OnOk result (RunsTurns self.old.config.quantum self.old.host.books.turns
             self.new.host.books.turns) }
         ensures text { self.new.text ≡ self.old.text }
         ensures err { IfErr result StopsRun }
         ensures open { IfErr result
             (StopsOnlyOpen (engine_on self.old.host.host self.old.engine)) }
     {
-        match self.hash {
+        match self.config.hash {
             HashKind::Fnv64 => {
                 let manner = self.manner(FnvHash);
                 self.engine.run(rt, self.alloc, &mut self.host, manner)
@@ -299,6 +307,7 @@ impl<
         cause: LineError,
         number: u64,
     ) -> Result<(), ScriptFault>
+        ensures config { self.new.config ≡ self.old.config }
         ensures device { DeviceStaysTrue D.keeps D.honest self.old.host.device
             self.new.host.device }
         ensures faults { DeviceMayFail D.faults self.old.host.device self.new.host.device }
