@@ -45,7 +45,7 @@ fn fill(alloc: Global, memory: &mut Memory) -> Result<()> {
 fn time_pass(rt: &impl CpuClock, memory: &mut Memory) -> Result<Duration> {
     ensure!(memory.has_few_pages(), "there are too many pages");
     let before = rt.thread_cpu_time()?;
-    scan_all(memory, &FnvHash);
+    let _ = scan_all(memory, &FnvHash);
     since(rt, before)
 }
 

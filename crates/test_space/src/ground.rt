@@ -266,7 +266,7 @@ impl Ground {
         if !self.memory.has_few_pages() {
             return false;
         }
-        scan_all(&mut self.memory, &FnvHash);
+        let _ = scan_all(&mut self.memory, &FnvHash);
         true
     }
 

@@ -258,7 +258,7 @@ impl Trial {
     // tells them apart and none was ever offered under another's; else no fewer.
     pub fn scan<H: PageHash>(&mut self, alloc: Global, hasher: &H, exactly: bool) -> Result<()> {
         ensure!(self.memory.has_few_pages(), "there are too many pages");
-        scan_all(&mut self.memory, hasher);
+        let _ = scan_all(&mut self.memory, hasher);
         let distinct = self.distinct(alloc)?;
         let used = self.memory.used();
         ensure!(

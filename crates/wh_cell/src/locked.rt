@@ -16,12 +16,12 @@ ghost use Rattle.wh_host.specs.Sharing.{CanOffer};
 ghost use Rattle.wh_host.specs.Showing.{StandsByEvents};
 ghost use Rattle.wh_reclaim.specs.Together.{AreTogether};
 ghost use Rattle.wh_threads.specs.Counting.{IsZero, RanTurn, turns_of, charges_of};
-ghost use Rattle.wh_cell.specs.Counted.{CountsEvictions, evictions_of};
+ghost use Rattle.wh_cell.specs.Counted.{CountsEvictions, CountsOn, evictions_of};
 ghost use Rattle.wh_cell.specs.Knowing.{known_of};
 ghost use Rattle.wh_cell.specs.Leaving.{HasNoCharge, HasTakenOn, left_as};
 ghost use Rattle.wh_cell.specs.Locking.{IsInStep, now_of};
 ghost use Rattle.wh_cell.specs.Owning.{ComesOn};
-ghost use Rattle.wh_cell.specs.Scanned.{IsScanned};
+ghost use Rattle.wh_cell.specs.Scanned.{ScansLocked};
 
 use crate::backing::Backing;
 use crate::cell::Fittings;
@@ -54,6 +54,24 @@ pub fn count_evictions<T: Ledger, C: Ledger, O: Ledger, E: Ledger>(
     };
     let room = u64::MAX - reclaimer.count();
     books.evict(reclaimer, gone.min(room));
+}
+
+// So many pages were offered in a pass, if it was done.
+pub fn count_offers<T: Ledger, C: Ledger, O: Ledger, E: Ledger>(
+    books: &mut Books<T, C, O, E>,
+    scanner: &mut Helper<O>,
+    offered: Option<u64>,
+)
+    ensures from { scanner.new.from ≡ scanner.old.from }
+    ensures counted { CountsOn offered scanner.old.count books.old.offers scanner.new.count
+        books.new.offers }
+    ensures books { books.new ≡ record books.old { offers = books.new.offers } }
+{
+    let Some(pages) = offered else {
+        return;
+    };
+    let room = u64::MAX - scanner.count();
+    books.offers(scanner, pages.min(room));
 }
 
 /// What a cell is put together from.
@@ -312,16 +330,16 @@ impl<D: SwapDev, T: Ledger, C: Ledger, O: Ledger, E: Ledger, B: Ties> Locked<D, 
     /// under the hash of its bytes as they are. Then as many frames are in use as there are distinct contents that aren't all
     /// zero, if the hash tells contents apart and was the hash before. No byte of any page changes.
     ///
-    /// Whether it was done: it is where frames and slots are fewer than 2^32 together.
-    pub fn scan<H: PageHash>(&mut self, hasher: &H) -> bool
-        ensures moves { MovesOnly self.old.host self.new.host }
-        ensures scans { IsScanned (H.hashes hasher.now) self.old.host result self.new.host }
-        ensures backing { KeepsBacking self.old.host.space self.new.host.space }
-        ensures books { self.new.books ≡ self.old.books }
-        ensures known { self.new.known ≡ self.old.known }
-        ensures left { self.new.left ≡ self.old.left }
+    /// How many pages were offered. The scanner counts these, and so do the books, as far as they can be counted in 64 bits. It
+    /// is done where frames and slots are fewer than 2^32 together; else the answer is `None`, and nothing has changed.
+    pub fn scan<H: PageHash>(&mut self, hasher: &H, scanner: &mut Helper<O>) -> Option<u64>
+        ensures scans { ScansLocked (H.hashes hasher.now) self.old scanner.old.count result self.new
+            scanner.new.count }
+        ensures from { scanner.new.from ≡ scanner.old.from }
     {
-        self.host.scan(hasher)
+        let offered = self.host.scan(hasher);
+        count_offers(&mut self.books, scanner, offered);
+        offered
     }
 
     /// Makes the next step of an instance ready where its present call stands for a frame, with calls of the swap device: how

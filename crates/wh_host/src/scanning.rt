@@ -1,9 +1,9 @@
 //! Pages with equal bytes come to lie on one frame.
 
-ghost use Rattle.std.specs.Prelude.{◌≡◌, ◌+◌, ℕ, List, true, false, IfSome, IfNone, length};
+ghost use Rattle.std.specs.Prelude.{◌≡◌, ◌+◌, ℕ, List, IfSome, IfNone, IsSome, length};
 ghost use Rattle.wh_host_model.specs.Space.Offers.{OffersOf};
 ghost use Rattle.wh_host_model.specs.Space.Scanning.{IsDistinct};
-ghost use Rattle.wh_scan.specs.Pass.{MayPass, PassesOverAll, ScansAll};
+ghost use Rattle.wh_scan.specs.Pass.{HasSoManyPages, MayPass, PassesOverAll, ScansAll};
 ghost use Rattle.wh_host.specs.Backing.{KeepsBacking};
 ghost use Rattle.wh_host.specs.Paging.{MovesOnly};
 ghost use Rattle.wh_host.specs.Sharing.{CanOffer, CanScan};
@@ -18,25 +18,26 @@ impl Host {
     /// under the hash of its bytes as they are. Then as many frames are in use as there are distinct contents that aren't all
     /// zero, if the hash tells contents apart and was the hash before. No byte of any page changes, and it takes no memory.
     ///
-    /// Whether it was done: it is where frames and slots are fewer than 2^32 together.
-    pub fn scan<H: PageHash>(&mut self, hasher: &H) -> bool
+    /// How many pages were offered. It is done where frames and slots are fewer than 2^32 together; else the answer is `None`,
+    /// and nothing has changed.
+    pub fn scan<H: PageHash>(&mut self, hasher: &H) -> Option<u64>
         ensures moves { MovesOnly self.old self.new }
         ensures backing { KeepsBacking self.old.space self.new.space }
-        ensures done { CanScan self.old.space → result ≡ true }
-        ensures none { result ≡ false → self.new ≡ self.old }
-        ensures scans { result ≡ true
-            → ScansAll (H.hashes hasher.now) self.old.space self.new.space }
-        ensures full { result ≡ true → MayPass (H.hashes hasher.now) self.old.space
-            → PassesOverAll (H.hashes hasher.now) self.old.space self.new.space }
-        ensures counts { result ≡ true → MayPass (H.hashes hasher.now) self.old.space
+        ensures done { CanScan self.old.space → IsSome result }
+        ensures none { IfNone result (self.new ≡ self.old) }
+        ensures offers { IfSome result (HasSoManyPages self.old.space) }
+        ensures scans { IfSome result (λ _.
+            ScansAll (H.hashes hasher.now) self.old.space self.new.space) }
+        ensures full { IfSome result (λ _. MayPass (H.hashes hasher.now) self.old.space
+            → PassesOverAll (H.hashes hasher.now) self.old.space self.new.space) }
+        ensures counts { IfSome result (λ _. MayPass (H.hashes hasher.now) self.old.space
             → (all : List (List ℕ)) → IsDistinct self.new.space all
-            → length all + length self.new.space.pool.free ≡ length self.new.space.pool.frames }
+            → length all + length self.new.space.pool.free ≡ length self.new.space.pool.frames) }
     {
         if !self.memory.has_few_pages() {
-            return false;
+            return None;
         }
-        scan_all(&mut self.memory, hasher);
-        true
+        Some(scan_all(&mut self.memory, hasher))
     }
 
     /// Offers a page of an instance for sharing, under any hash at all, and says what came of it. Where the instance is gone,

@@ -14,7 +14,8 @@ use Rattle.wh_host_model.proofs.Space.Rooms.{get_there}
 use Rattle.wh_tables.specs.Line.{IsAbove}
 use Rattle.wh_space.specs.Numbered.{ComesAfter, IsNextInstance}
 use Rattle.wh_space.proofs.Owning.{page_there}
-use Rattle.wh_scan.specs.Pass.{AreAllPages, ComesFirst, MayPass, PassesOverAll, ScansAll, pages_before}
+use Rattle.wh_scan.specs.Pass.{AreAllPages, ComesFirst, HasSoManyPages, MayPass, PassesOverAll, ScansAll, pages_before}
+use Rattle.wh_scan.proofs.OneOrder.{one_order}
 use Rattle.wh_scan.proofs.Passing.{scans_occupants, scans_on, scans_rows}
 
 -- ---- members of lists of pages
@@ -92,7 +93,7 @@ none_yet s = record {
 }
 
 -- who has pages has a number of its own
-there_with_pages : (s : Space) (i : ℕ) → IsSound s → 1 ≤ length (get_or s.tables i []) → (t : Occupant) × occupant_at s i t × (occupant_number s i ≡ t.number)
+pub there_with_pages : (s : Space) (i : ℕ) → IsSound s → 1 ≤ length (get_or s.tables i []) → (t : Occupant) × occupant_at s i t × (occupant_number s i ≡ t.number)
 there_with_pages s i sound some =
     let within = has_row s.tables i some in
     let many = sound.occupants.tables in
@@ -178,13 +179,14 @@ pages_all s after pages first none = record {
 
 -- ---- they are offered, as far as the pass has come
 
-pub record IsPassUpTo (hashes : List ℕ → ℕ) (s : Space) (after : Option ℕ) (s2 : Space) : Type 0 where
+pub record IsPassUpTo (hashes : List ℕ → ℕ) (s : Space) (after : Option ℕ) (offered : ℕ) (s2 : Space) : Type 0 where
   pub pages : List (ℕ × ℕ)
+  pub many : length pages ≡ offered
   pub first : AreFirstPages s after pages
   pub scans : Scans hashes s pages s2
 
-pub pass_begun : (hashes : List ℕ → ℕ) (s : Space) → IsPassUpTo hashes s None s
-pass_begun hashes s = record { pages = []; first = none_yet s; scans = refl }
+pub pass_begun : (hashes : List ℕ → ℕ) (s : Space) → IsPassUpTo hashes s None 0 s
+pass_begun hashes s = record { pages = []; many = refl; first = none_yet s; scans = refl }
 
 same_number : (s s2 : Space) (i : ℕ) → s2.occupants ≡ s.occupants → occupant_number s2 i ≡ occupant_number s i
 same_number s s2 i same = ap (λ (z : List (Option Occupant)). of_occupant (λ t. t.number) (get_or z i None)) same
@@ -193,7 +195,7 @@ comes_before : (s s2 : Space) (after : Option ℕ) (i : ℕ) → s2.occupants �
     → ComesAfter s after i → ComesAfter s2 after i
 comes_before s s2 after i same row comes = (let some = comes.0 in omega arith, subst (IsAbove after) (sym (same_number s s2 i same)) comes.1)
 
-next_before : (s s2 : Space) (after : Option ℕ) (next : InstId) → s2.occupants ≡ s.occupants → ((i : ℕ) → length (get_or s2.tables i []) ≡ length (get_or s.tables i []))
+pub next_before : (s s2 : Space) (after : Option ℕ) (next : InstId) → s2.occupants ≡ s.occupants → ((i : ℕ) → length (get_or s2.tables i []) ≡ length (get_or s.tables i []))
     → IsNextInstance s2 after next → IsNextInstance s after next
 next_before s s2 after next same rows is = record {
   number = sym (same_number s s2 next.place same) ∙ is.number;
@@ -201,23 +203,33 @@ next_before s s2 after next same rows is = record {
   lowest = λ j comes. (let least = is.lowest j (comes_before s s2 after j same (rows j) comes) in let e = same_number s s2 j same in omega arith);
 }
 
-pub pass_next : (hashes : List ℕ → ℕ) (s : Space) (after : Option ℕ) (mid : Space) (next : InstId) (s2 : Space) → IsSound s → IsPassUpTo hashes s after mid → IsNextInstance mid after next
-    → Scans hashes mid (pages_before next.place (length (get_or mid.tables next.place []))) s2 → IsPassUpTo hashes s (Some next.number) s2
-pass_next hashes s after mid next s2 sound pass is scans =
+pub pass_next : (hashes : List ℕ → ℕ) (s : Space) (after : Option ℕ) (offered : ℕ) (mid : Space) (next : InstId) (s2 : Space) → IsSound s → IsPassUpTo hashes s after offered mid → IsNextInstance mid after next
+    → Scans hashes mid (pages_before next.place (length (get_or mid.tables next.place []))) s2 → IsPassUpTo hashes s (Some next.number) (offered + length (get_or s.tables next.place [])) s2
+pass_next hashes s after offered mid next s2 sound pass is scans =
     let same = scans_occupants hashes s pass.pages mid pass.scans in
     let rows : (i : ℕ) → length (get_or mid.tables i []) ≡ length (get_or s.tables i []) = λ i. scans_rows hashes s pass.pages mid i sound pass.scans in
     record {
       pages = pass.pages ++ pages_before next.place (length (get_or s.tables next.place []));
+      many =
+          (let both = length-append pass.pages (pages_before next.place (length (get_or s.tables next.place []))) in
+          let its = long_before next.place (length (get_or s.tables next.place [])) in
+          let old = pass.many in
+          omega arith);
       first = pages_next s after pass.pages next sound pass.first (next_before s mid after next same rows is);
       scans = scans_on hashes s pass.pages _ mid s2 pass.scans (subst (λ (n : ℕ). Scans hashes mid (pages_before next.place n) s2) (rows next.place) scans);
     }
 
-pub pass_done : (hashes : List ℕ → ℕ) (s : Space) (after : Option ℕ) (s2 : Space) → IsSound s → IsPassUpTo hashes s after s2 → ((i : ℕ) → ¬ ComesAfter s2 after i) → ScansAll hashes s s2
-pass_done hashes s after s2 sound pass none = (
-  pass.pages,
-  pages_all s after pass.pages pass.first (λ i comes. none i (comes_before s s2 after i (scans_occupants hashes s pass.pages s2 pass.scans) (scans_rows hashes s pass.pages s2 i sound pass.scans) comes)),
-  pass.scans,
-)
+pass_over : (hashes : List ℕ → ℕ) (s : Space) (after : Option ℕ) (offered : ℕ) (s2 : Space) → IsSound s → (pass : IsPassUpTo hashes s after offered s2) → ((i : ℕ) → ¬ ComesAfter s2 after i) → AreAllPages s pass.pages
+pass_over hashes s after offered s2 sound pass none =
+    pages_all s after pass.pages pass.first (λ i comes. none i (comes_before s s2 after i (scans_occupants hashes s pass.pages s2 pass.scans) (scans_rows hashes s pass.pages s2 i sound pass.scans) comes))
+
+pub pass_done : (hashes : List ℕ → ℕ) (s : Space) (after : Option ℕ) (offered : ℕ) (s2 : Space) → IsSound s → IsPassUpTo hashes s after offered s2 → ((i : ℕ) → ¬ ComesAfter s2 after i) → ScansAll hashes s s2
+pass_done hashes s after offered s2 sound pass none = (pass.pages, pass_over hashes s after offered s2 sound pass none, pass.scans)
+
+-- so many
+pub pass_many : (hashes : List ℕ → ℕ) (s : Space) (after : Option ℕ) (offered : ℕ) (s2 : Space) → IsSound s → IsPassUpTo hashes s after offered s2 → ((i : ℕ) → ¬ ComesAfter s2 after i) → HasSoManyPages s offered
+pass_many hashes s after offered s2 sound pass none = λ others all.
+    ap (λ (xs : List (ℕ × ℕ)). length xs) (one_order s others pass.pages all (pass_over hashes s after offered s2 sound pass none)) ∙ pass.many
 
 -- ---- that is a full pass
 

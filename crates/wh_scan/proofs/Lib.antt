@@ -2,3 +2,4 @@ pub mod Gone
 pub mod Passing
 pub mod ByNumber
 pub mod OneOrder
+pub mod Few

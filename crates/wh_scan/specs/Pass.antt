@@ -20,6 +20,10 @@ pub record AreAllPages (s : Space) (pages : List (ℕ × ℕ)) : Type 0 where
   pub each : (i p : ℕ) → ((k : ℕ) × (slice_get pages k ≡ Some (i, p))) ↔ (p < length (get_or s.tables i []))
   pub in_order : (j k : ℕ) (x y : ℕ × ℕ) → j < k → slice_get pages j ≡ Some x → slice_get pages k ≡ Some y → ComesFirst s x y
 
+-- there are so many of them
+abbrev pub HasSoManyPages : Space → ℕ → Type 0
+HasSoManyPages s n = (pages : List (ℕ × ℕ)) → AreAllPages s pages → length pages ≡ n
+
 -- they are offered one after the other, and nothing comes between
 abbrev pub ScansAll : (List ℕ → ℕ) → Space → Space → Type 0
 ScansAll hashes s s2 = (pages : List (ℕ × ℕ)) × AreAllPages s pages × Scans hashes s pages s2

@@ -3,7 +3,7 @@
 ghost use Rattle.std.specs.Prelude.{◌≡◌, ◌+◌, ℕ, List, [], length, get_or};
 ghost use Rattle.wh_host_model.specs.Space.Offers.{Offers};
 ghost use Rattle.wh_host_model.specs.Space.Scanning.{IsDistinct, IsHashOf, Scans};
-ghost use Rattle.wh_scan.specs.Pass.{MayPass, PassesOverAll, ScansAll, pages_before};
+ghost use Rattle.wh_scan.specs.Pass.{HasSoManyPages, MayPass, PassesOverAll, ScansAll, pages_before};
 ghost use Rattle.wh_space.specs.Merges.{HasFewPages};
 
 use crate::offers::offer_at;
@@ -32,24 +32,29 @@ pub fn scan_page<H: PageHash>(memory: &mut Memory, hasher: &H, place: u32, page:
     offer_at(memory, hasher, place, page, hash)
 }
 
-// Offers all pages of whoever is at this place, in order.
-fn scan_place<H: PageHash>(memory: &mut Memory, hasher: &H, place: u32)
+// Offers all pages of whoever is at this place, in order: how many there are.
+fn scan_place<H: PageHash>(memory: &mut Memory, hasher: &H, place: u32) -> u32
     requires { HasFewPages memory.old }
-    ensures { Scans (H.hashes hasher.now) memory.old
+    ensures scans { Scans (H.hashes hasher.now) memory.old
         (pages_before place (length (get_or memory.old.tables place []))) memory.new }
+    ensures offers { result ≡ length (get_or memory.old.tables place []) }
 {
     memory.known();
     let pages = memory.size(place as usize) * 16;
     for page in 0..pages {
         let _ = scan_page(memory, hasher, place, page);
     }
+    pages
 }
 
 /// Offers all pages of all instances, in the order of the instances' numbers, and those of each in order, each under the
 /// hash of its bytes as they are. Then as many frames are in use as there are distinct contents that aren't all zero, if the
 /// hash tells contents apart and was the hash before.
-pub fn scan_all<H: PageHash>(memory: &mut Memory, hasher: &H)
+///
+/// It answers how many pages were offered.
+pub fn scan_all<H: PageHash>(memory: &mut Memory, hasher: &H) -> u64
     requires { HasFewPages memory.old }
+    ensures offers { HasSoManyPages memory.old result }
     ensures scans { ScansAll (H.hashes hasher.now) memory.old memory.new }
     ensures full { MayPass (H.hashes hasher.now) memory.old
         → PassesOverAll (H.hashes hasher.now) memory.old memory.new }
@@ -58,9 +63,11 @@ pub fn scan_all<H: PageHash>(memory: &mut Memory, hasher: &H)
         → length all + length memory.new.pool.free ≡ length memory.new.pool.frames }
 {
     memory.known();
+    let mut offered: u64 = 0;
     let mut after = None;
     while let Some(next) = memory.next_instance(after) {
-        scan_place(memory, hasher, next.place as u32);
+        offered += u64::from(scan_place(memory, hasher, next.place as u32));
         after = Some(next.number);
     }
+    offered
 }

@@ -2,4 +2,5 @@ pub mod Agreement
 pub mod Counting
 pub mod Handover
 pub mod Lending
+pub mod Sweeping
 pub mod Working

@@ -102,6 +102,16 @@ impl<T: Ledger, C: Ledger, O: Ledger, E: Ledger> Books<T, C, O, E> {
         scanner.add(&mut self.offers, 1);
     }
 
+    /// So many offers of the scanner are counted.
+    pub fn offers(&mut self, scanner: &mut Helper<O>, count: u64)
+        requires room { scanner.old.count + count < 2 ^ 64 }
+        ensures books { self.new ≡ record self.old { offers = self.old.offers + count } }
+        ensures scanner { scanner.new
+            ≡ record scanner.old { count = scanner.old.count + count } }
+    {
+        scanner.add(&mut self.offers, count);
+    }
+
     /// So many evictions of the reclaimer are counted.
     pub fn evict(&mut self, reclaimer: &mut Helper<E>, count: u64)
         requires room { reclaimer.old.count + count < 2 ^ 64 }

@@ -1,6 +1,6 @@
 // Threads that have returned give back what they had.
 
-ghost use Rattle.std.specs.Prelude.{◌≡◌, ◌+◌, ◌<◌, ◌≤◌, slice_get, slice_set, Some};
+ghost use Rattle.std.specs.Prelude.{◌≡◌, ◌+◌, ◌<◌, ◌≤◌, slice_get, slice_set, Some, false, true};
 ghost use Rattle.crossbeam_channel.specs.Claims.{view, IsSeatAt};
 ghost use Rattle.crossbeam_channel.specs.Ends.{sends_on, receives_on};
 ghost use Rattle.wh_threads.specs.Counting.{LenderState, turns_of};
@@ -11,6 +11,7 @@ ghost use Rattle.wh_threads.specs.declared.tally.Tally.{Tally};
 use crate::channel::{Outlet, Slip, put_back};
 use crate::help::{Helped, Helps};
 use crate::lender::Lender;
+use crate::sweep::{Sweep, Sweeps, Swept};
 use crate::work::{Reply, Works};
 use std::sync::ledger::Ledger;
 use std::thread::{PromisedHandle, Threads};
@@ -91,6 +92,45 @@ impl<T: Ledger, C: Ledger, O: Ledger, E: Ledger> Lender<T, C, O, E> {
         ensures same { self.new ≡ record self.old { scanners_out = self.new.scanners_out } }
     {
         self.take_scanner(scanner.into_helper());
+    }
+
+    /// Waits for the thread of a scanner's sweep: its value, and whether the sweep was made. What was counted takes the place
+    /// of that with which it began.
+    pub fn join_sweep<J: Sweep<O>, R: Threads>(
+        &mut self,
+        rt: &R,
+        handle: PromisedHandle<Swept<O, J>, Sweeps<J>>,
+    ) -> (J, bool)
+        requires { handle.promise.from ≡ self.old.offers }
+        ensures done { result.1 ≡ true
+            → J.sweeps handle.promise.job.value self.old.offers result.0 self.new.offers }
+        ensures none { result.1 ≡ false
+            → (result.0 ≡ handle.promise.job.value) × (self.new.offers ≡ self.old.offers) }
+        ensures out { self.new.scanners_out + 1 ≡ self.old.scanners_out }
+        ensures grown { self.old.offers ≤ self.new.offers }
+        ensures only { self.new ≡ record self.old {
+          offers = self.new.offers;
+          scanners_out = self.new.scanners_out;
+        } }
+    {
+        let swept = handle.join(rt);
+        let is_done = swept.is_done();
+        let (job, scanner) = swept.into_parts();
+        self.take_scanner(scanner);
+        (job, is_done)
+    }
+
+    /// The value of a sweep for which no thread could be made, and which wasn't made; its scanner counted nothing.
+    pub fn take_refused_sweep<J: Sweep<O>>(&mut self, swept: Swept<O, J>) -> J
+        requires from { swept.helper.from ≡ self.old.offers }
+        requires idle { swept.helper.count ≡ swept.helper.from }
+        ensures job { result ≡ swept.job }
+        ensures out { self.new.scanners_out + 1 ≡ self.old.scanners_out }
+        ensures same { self.new ≡ record self.old { scanners_out = self.new.scanners_out } }
+    {
+        let (job, scanner) = swept.into_parts();
+        self.take_scanner(scanner);
+        job
     }
 
     /// Waits for the reclaimer's thread. What it has counted takes the place of that with which it began.

@@ -5,7 +5,9 @@
 mod crew;
 mod feed;
 mod serving;
+mod sweeping;
 
 pub use crew::{ServeError, Served, serve_turns};
 pub use feed::Supply;
 pub use serving::{Crew, Jobs, serve};
+pub use sweeping::serve_sweep;

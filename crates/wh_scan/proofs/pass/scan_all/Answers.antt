@@ -1,8 +1,9 @@
-use Rattle.std.proofs.Common.{◌^◌, ◌<◌, ℕ, Option, Some, None, subst, arith}
+use Rattle.std.proofs.Common.{◌+◌, ◌∙◌, ◌^◌, ◌<◌, ℕ, Option, Some, None, subst, arith}
 use Rattle.wh_host_model.proofs.Space.Passed.{passes_fully}
 use Rattle.wh_tables.specs.Line.{IsAbove}
 use Rattle.wh_scan.specs.Pass.{ScansAll}
-use Rattle.wh_scan.proofs.ByNumber.{full_pass, pass_done, pass_next}
+use Rattle.wh_scan.proofs.ByNumber.{full_pass, pass_begun, pass_done, pass_many}
+use Rattle.wh_scan.proofs.Few.{few_counted, none_counted, offered_next}
 use Rattle.wh_scan.proofs.Passing.{scans_few}
 use Rattle.wh_scan.proofs.pass.scan_all.Invariants.{numbers_left}
 use Rattle.wh_scan.proofs.pass.scan_all.Goals as goal
@@ -13,21 +14,34 @@ number_falls (Some m) n above less = omega arith
 
 pub scan_place-requires : goal.scan_place-requires
 scan_place-requires g c =
-    scans_few (g.H.PageHash.hashes c.args.hasher.now) c.args.memory.now c.loop-next.invariant.pages c.loop-next.memory c.loop-next.invariant.scans c.requires
+    scans_few (g.H.PageHash.hashes c.args.hasher.now) c.args.memory.now c.loop-next.invariant.0.pages c.loop-next.memory c.loop-next.invariant.0.scans c.requires
 
 pub loop-next-smaller : goal.loop-next-smaller
 loop-next-smaller g c = number_falls c.loop-next.after c.in-Some.next.number (subst (IsAbove c.loop-next.after) c.in-Some.ensures.some.number c.in-Some.ensures.some.later.1) (omega arith)
 
+pub loop-next-init : goal.loop-next-init
+loop-next-init g c = (pass_begun (g.H.PageHash.hashes c.args.hasher.now) c.args.memory.now, none_counted c.args.memory.now)
+
+pub overflow_add-offered : goal.overflow_add-offered
+overflow_add-offered g c =
+    let on = offered_next (g.H.PageHash.hashes c.args.hasher.now) c.args.memory.now c.loop-next.after c.loop-next.offered c.loop-next.memory c.in-Some.next c.scan_place.result c.scan_place.new.memory c.known.ensures.sound
+    c.loop-next.invariant c.in-Some.ensures.some c.scan_place.ensures.scans c.scan_place.ensures.offers in
+    let few = few_counted c.args.memory.now (Some c.in-Some.next.number) (c.loop-next.offered + c.scan_place.result) c.known.ensures.sound c.requires on.1 in
+    omega arith
+
 pub loop-next-preserved : goal.loop-next-preserved
 loop-next-preserved g c =
-    pass_next (g.H.PageHash.hashes c.args.hasher.now) c.args.memory.now c.loop-next.after c.loop-next.memory c.in-Some.next c.scan_place.new.memory c.known.ensures.sound c.loop-next.invariant
-    c.in-Some.ensures.some c.scan_place.ensures
+    offered_next (g.H.PageHash.hashes c.args.hasher.now) c.args.memory.now c.loop-next.after c.loop-next.offered c.loop-next.memory c.in-Some.next c.from-offered.result c.scan_place.new.memory c.known.ensures.sound
+    c.loop-next.invariant c.in-Some.ensures.some c.scan_place.ensures.scans (c.from-offered.ensures ∙ c.scan_place.ensures.offers)
 
 all_scanned : (g : _) (c : goal.In_default g) → ScansAll (g.H.PageHash.hashes c.args.hasher.now) c.args.memory.now c.loop-next.memory
-all_scanned g c = pass_done (g.H.PageHash.hashes c.args.hasher.now) c.args.memory.now c.loop-next.after c.loop-next.memory c.known.ensures.sound c.loop-next.invariant c.in_default.ensures.none
+all_scanned g c = pass_done (g.H.PageHash.hashes c.args.hasher.now) c.args.memory.now c.loop-next.after c.loop-next.offered c.loop-next.memory c.known.ensures.sound c.loop-next.invariant.0 c.in_default.ensures.none
 
 pub returns-clause-scans : goal.returns-clause-scans
 returns-clause-scans g c = all_scanned g c
+
+pub returns-clause-offers : goal.returns-clause-offers
+returns-clause-offers g c = pass_many (g.H.PageHash.hashes c.args.hasher.now) c.args.memory.now c.loop-next.after c.loop-next.offered c.loop-next.memory c.known.ensures.sound c.loop-next.invariant.0 c.in_default.ensures.none
 
 pub returns-clause-full : goal.returns-clause-full
 returns-clause-full g c = λ may. full_pass (g.H.PageHash.hashes c.args.hasher.now) c.args.memory.now c.loop-next.memory may (all_scanned g c)

@@ -20,10 +20,13 @@ loop-page-preserved g c =
     (scans_one (g.H.PageHash.hashes c.args.hasher.now) c.args.memory.now (pages_before c.args.place c.loop-page.page) c.args.place c.loop-page.page offered.0 c.scan_page.result
     c.loop-page.memory c.scan_page.new.memory c.loop-page.invariant offered.1 offered.2)
 
-pub returns : goal.returns
-returns g c =
+pub returns-clause-scans : goal.returns-clause-scans
+returns-clause-scans g c =
     let pages = c.size-pages.ensures.pages in
     let end = c.loop-page.auto.page-end in
     let past = c.loop-page-test.false in
     let all : length (get_or c.args.memory.now.tables c.args.place []) ≡ c.loop-page.page = omega arith in
     rw all c.loop-page.invariant
+
+pub returns-clause-offers : goal.returns-clause-offers
+returns-clause-offers g c = let pages = c.size-pages.ensures.pages in omega arith

@@ -1,18 +1,30 @@
-use Rattle.std.proofs.Common.{refl, subst}
-use Rattle.wh_host.specs.Paging.{MovesOnly}
-use Rattle.wh_cell.specs.Locking.{LockedState}
-use Rattle.wh_cell.specs.Scanned.{IsScanned}
+use Rattle.std.proofs.Common.{◌≡◌, ap, refl, subst}
+use Rattle.wh_cell.specs.Locking.{BooksState, LockedState}
+use Rattle.wh_cell.specs.Scanned.{ScansLocked}
 use Rattle.wh_cell.proofs.Steps.{moved_in_step}
 use Rattle.wh_cell.proofs.locked.Locked.scan.Goals as goal
 
 pub invariant_of-self : goal.invariant_of-self
-invariant_of-self g c = moved_in_step g.D.SwapDev.held g.D.SwapDev.keeps g.D.SwapDev.honest g.D.SwapDev.faults _ c.scan.new.self _ c.self.invariant c.scan.ensures.moves c.scan.ensures.backing refl
-
-pub returns-clause-moves : goal.returns-clause-moves
-returns-clause-moves g c = subst (λ (l : LockedState g.row.D.Denot). MovesOnly l.host c.scan.new.self) c.self.view_is c.scan.ensures.moves
+invariant_of-self g c =
+    moved_in_step g.D.SwapDev.held g.D.SwapDev.keeps g.D.SwapDev.honest g.D.SwapDev.faults _ c.scan-offered.new.self _ c.self.invariant c.scan-offered.ensures.moves c.scan-offered.ensures.backing (ap (λ b. b.charges) c.count_offers.ensures.books)
 
 pub returns-clause-scans : goal.returns-clause-scans
 returns-clause-scans g c =
-    let s = c.scan.ensures in
-    subst (λ (l : LockedState g.row.D.Denot). IsScanned (g.H.PageHash.hashes c.args.hasher.now) l.host c.scan.result c.scan.new.self) c.self.view_is
-    (record { done = s.done; none = s.none; scans = s.scans; full = s.full; counts = s.counts })
+    let s = c.scan-offered.ensures in
+    let n = c.count_offers in
+    let b = n.new.books in
+    let was = c.self.inside.books in
+    let now : BooksState = record { turns = b.turns; charges = b.charges; offers = b.offers; evictions = b.evictions } in
+    let then : BooksState = record { turns = was.turns; charges = was.charges; offers = b.offers; evictions = was.evictions } in
+    let counts : now ≡ then = ap (λ z. (let r : BooksState = record { turns = z.turns; charges = z.charges; offers = z.offers; evictions = z.evictions } in r)) n.ensures.books in
+    let after : LockedState g.row.D.Denot = record { host = c.scan-offered.new.self; known = c.self.inside.known; books = now; left = c.self.inside.left } in
+    subst (λ (l : LockedState g.row.D.Denot). ScansLocked (g.H.PageHash.hashes c.args.hasher.now) l c.args.scanner.now.count c.scan-offered.result after n.new.scanner.count) c.self.view_is
+    (record {
+      moves = s.moves;
+      scans = record { done = s.done; none = s.none; offers = s.offers; scans = s.scans; full = s.full; counts = s.counts };
+      backing = s.backing;
+      counted = n.ensures.counted;
+      books = counts;
+      known = refl;
+      left = refl;
+    })
