@@ -120,7 +120,7 @@ impl Rig {
 
     /// All pages are offered under their own hash.
     pub fn scan<H: PageHash>(&mut self, hasher: &H) -> bool {
-        self.host.scan(hasher)
+        self.host.scan(hasher).is_some()
     }
 
     /// A new epoch.

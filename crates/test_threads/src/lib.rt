@@ -7,6 +7,8 @@ mod cell;
 #[cfg(test)]
 mod overlap;
 #[cfg(test)]
+mod passes;
+#[cfg(test)]
 mod showing;
 #[cfg(test)]
 mod workers;

@@ -1,11 +1,11 @@
 -- Where a call can go on, the script has an open one.
-use Rattle.std.proofs.Common.{◌≡◌, Result, Ok, Err, IfErr, sym, subst}
+use Rattle.std.proofs.Common.{◌≡◌, ◌∙◌, inl, inr, Result, Ok, Err, IfErr, refl, sym, subst}
 use Rattle.wh_host.specs.Hosting.{HostState}
 use Rattle.wh_script_model.proofs.Opening.{open_is_known}
 use Rattle.wh_engine.specs.declared.engine.Engine.{Engine}
 use Rattle.wh_engine.specs.declared.fault.ScriptFault.{ScriptFault}
 use Rattle.wh_engine.specs.declared.fault.ScriptFault.TheVariants.{Settings as NoSettings, Script, Output, Swap, Memory, Threads, Transcript}
-use Rattle.wh_engine.specs.Draining.{SomeGoes, StaysSo, StopsOnlyOpen, WasOpen}
+use Rattle.wh_engine.specs.Draining.{SomeGoes, StaysSo, StopsOnlyOpen, StopsOpenOr, StopsRun, StopsScan, WasOpen}
 use Rattle.wh_engine.specs.Standing.{EngineState, engine_on}
 use Rattle.wh_engine.proofs.Runs.{places_of}
 
@@ -43,3 +43,69 @@ memory_only e (Err fault) is = subst (StopsOnlyOpen e) (sym is) tt
 pub err_before : {A : Type 0} (e e2 : EngineState) (r : Result A ScriptFault) → StaysSo e e2 → IfErr r (StopsOnlyOpen e2) → IfErr r (StopsOnlyOpen e)
 err_before e e2 (Ok x) stays is = tt
 err_before e e2 (Err fault) stays is = only_open_before e e2 fault stays is
+
+-- ---- of what may have to scan besides
+
+pub open_or : (scans : Type 0) (e : EngineState) (fault : ScriptFault) → StopsOnlyOpen e fault → StopsOpenOr scans e fault
+open_or scans e Threads was = inl was
+open_or scans e Transcript was = was
+open_or scans e Memory was = tt
+open_or scans e NoSettings was = tt
+open_or scans e Script was = tt
+open_or scans e Output was = tt
+open_or scans e Swap was = tt
+
+pub err_open_or : {A : Type 0} (scans : Type 0) (e : EngineState) (r : Result A ScriptFault) → IfErr r (StopsOnlyOpen e) → IfErr r (StopsOpenOr scans e)
+err_open_or scans e (Ok x) is = tt
+err_open_or scans e (Err fault) is = open_or scans e fault is
+
+-- a scan alone
+pub scan_or : (scans : Type 0) (e : EngineState) (fault : ScriptFault) → StopsScan fault → (fault ≡ Threads → scans) → StopsOpenOr scans e fault
+scan_or scans e Threads stops has = inr (has refl)
+scan_or scans e Transcript stops has = elim stops [ ]
+scan_or scans e Memory stops has = tt
+scan_or scans e NoSettings stops has = tt
+scan_or scans e Script stops has = tt
+scan_or scans e Output stops has = tt
+scan_or scans e Swap stops has = tt
+
+pub err_scan_or : {A : Type 0} (scans : Type 0) (e : EngineState) (r : Result A ScriptFault) → IfErr r StopsScan → IfErr r (λ fault. fault ≡ Threads → scans)
+    → IfErr r (StopsOpenOr scans e)
+err_scan_or scans e (Ok x) stops has = tt
+err_scan_or scans e (Err fault) stops has = scan_or scans e fault stops has
+
+pub scan_runs : (fault : ScriptFault) → StopsScan fault → StopsRun fault
+scan_runs Threads stops = tt
+scan_runs Memory stops = tt
+scan_runs Transcript stops = elim stops [ ]
+scan_runs NoSettings stops = elim stops [ ]
+scan_runs Script stops = elim stops [ ]
+scan_runs Output stops = elim stops [ ]
+scan_runs Swap stops = elim stops [ ]
+
+pub err_scan_runs : {A : Type 0} (r : Result A ScriptFault) → IfErr r StopsScan → IfErr r StopsRun
+err_scan_runs (Ok x) stops = tt
+err_scan_runs (Err fault) stops = scan_runs fault stops
+
+-- the same by another reason to scan
+pub or_by : (scans other : Type 0) (e : EngineState) (fault : ScriptFault) → (scans → other) → StopsOpenOr scans e fault → StopsOpenOr other e fault
+or_by scans other e Threads by (inl was) = inl was
+or_by scans other e Threads by (inr has) = inr (by has)
+or_by scans other e Transcript by was = was
+or_by scans other e Memory by was = tt
+or_by scans other e NoSettings by was = tt
+or_by scans other e Script by was = tt
+or_by scans other e Output by was = tt
+or_by scans other e Swap by was = tt
+
+pub memory_scans : {A : Type 0} (r : Result A ScriptFault) → IfErr r (λ fault. fault ≡ Memory) → IfErr r StopsScan
+memory_scans (Ok x) is = tt
+memory_scans (Err fault) is = subst StopsScan (sym is) tt
+
+pub memory_threads : {A : Type 0} (scans : Type 0) (r : Result A ScriptFault) → IfErr r (λ fault. fault ≡ Memory) → IfErr r (λ fault. fault ≡ Threads → scans)
+memory_threads scans (Ok x) is = tt
+memory_threads scans (Err fault) is = λ other. absurd (let no : Memory ≡ Threads = sym is ∙ other in cc no)
+
+pub err_scans : {A : Type 0} (scans : Type 0) (r : Result A ScriptFault) → scans → IfErr r (λ fault. fault ≡ Threads → scans)
+err_scans scans (Ok x) has = tt
+err_scans scans (Err fault) has = λ is. has

@@ -1,5 +1,5 @@
 -- Drains: the device behind a host, and what calls come to.
-use Rattle.std.specs.Prelude.{◌≡◌, ℕ, ◌+◌, List, ◌++◌, IsOk, Result, Ok, slice_get, Option, Some, None, false, true}
+use Rattle.std.specs.Prelude.{◌≡◌, ◌⊎◌, ℕ, ◌+◌, List, ◌++◌, IsOk, Result, Ok, slice_get, Option, Some, None, false, true}
 use Rattle.std.specs.List.{AllZip}
 use Rattle.wh_host_model.specs.declared.plain.SwapError.{SwapError}
 use Rattle.wh_host_model.specs.Lines.Settings.{Settings}
@@ -69,6 +69,12 @@ StopsRun Threads = Unit {0}
 StopsRun Transcript = Unit {0}
 StopsRun other = ⊥
 
+-- why a scan stops: memory was refused, or the scanner can't be started
+abbrev pub StopsScan : ScriptFault → Type 0
+StopsScan Memory = Unit {0}
+StopsScan Threads = Unit {0}
+StopsScan other = ⊥
+
 -- whatever script the engine stands for, its calls have run as they do alone
 abbrev pub RunsEach : EngineState → EngineState → Type 0
 RunsEach e e2 =
@@ -99,6 +105,12 @@ abbrev pub StopsOnlyOpen : EngineState → ScriptFault → Type 0
 StopsOnlyOpen e Threads = WasOpen e
 StopsOnlyOpen e Transcript = WasOpen e
 StopsOnlyOpen e other = Unit {0}
+
+-- the same of something that may have to scan besides: where the scanner can't be started, it had to
+abbrev pub StopsOpenOr : Type 0 → EngineState → ScriptFault → Type 0
+StopsOpenOr scans e Threads = WasOpen e ⊎ scans
+StopsOpenOr scans e Transcript = WasOpen e
+StopsOpenOr scans e other = Unit {0}
 
 -- pages alone have moved: whatever script the engine stood for, it stands for it still
 abbrev pub StaysSo : EngineState → EngineState → Type 0

@@ -3,7 +3,7 @@
 ghost use Rattle.std.specs.Bool.{MatchBool};
 ghost use Rattle.std.specs.Prelude.{◌≡◌, ◌≢◌, ◌≤◌, IfErr, OnOk};
 ghost use Rattle.wh_engine.specs.declared.fault.ScriptFault.TheVariants.{Transcript};
-ghost use Rattle.wh_engine.specs.Draining.{AllRest, DeviceMayFail, DeviceServesWell, DeviceStaysTrue, IsServedWhole, RunsEach, RunsTurns, SomeGoes, StopsOnlyOpen, StopsRun};
+ghost use Rattle.wh_engine.specs.Draining.{AllRest, DeviceMayFail, DeviceServesWell, DeviceStaysTrue, IsServedWhole, RunsEach, RunsTurns, SomeGoes, StopsOnlyOpen, StopsRun, StopsScan};
 ghost use Rattle.wh_engine.specs.Standing.{engine_on};
 
 use crate::engine::Engine;
@@ -21,8 +21,9 @@ use wh_swap::SwapDev;
 use wh_workers::{ServeError, Served};
 
 // Why calls weren't run, as a script says it.
-fn stops_by(error: ServeError) -> ScriptFault
+pub(crate) fn stops_by(error: ServeError) -> ScriptFault
     ensures stops { StopsRun result }
+    ensures scans { StopsScan result }
     ensures others { result ≢ Transcript }
 {
     match error {

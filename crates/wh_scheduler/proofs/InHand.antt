@@ -53,6 +53,22 @@ in_hand_on {D} locked backing owner owner2 shares l l2 hand is same books knows 
       sums = subst (λ z. AreSums z shares) (ap (λ (z : LockedState D). z.books) inside ∙ sym books) hand.sums;
     }
 
+-- after what may have counted
+pub in_hand_counted : {D : Type 0} (locked : Option (LockedState D)) (backing : Option (BackingState D)) (owner owner2 : LeftState D) (shares shares2 : SharesState) (l l2 : LockedState D) → IsInHand locked backing owner shares
+    → locked ≡ Some l → l2.known ≡ l.known → (AreSums l.books shares → AreSums l2.books shares2) → owner2 ≡ now_of l2 → IsInHand (Some l2) backing owner2 shares2
+in_hand_counted {D} locked backing owner owner2 shares shares2 l l2 hand is same sums knows =
+    let inside : hand.inside ≡ l = same_Some hand.inside l (sym hand.has ∙ is) in
+    let agree : l2.known ≡ known_of hand.behind = same ∙ ap (λ (z : LockedState D). z.known) (sym inside) ∙ hand.agree in
+    record {
+      inside = l2;
+      has = refl;
+      behind = hand.behind;
+      has_behind = hand.has_behind;
+      agree = agree;
+      knows = knows ∙ ap (λ (k : KnownState D). (let z : LeftState D = record { host = l2.host; device = k.device } in z)) agree;
+      sums = sums (subst (λ (z : LockedState D). AreSums z.books shares) inside hand.sums);
+    }
+
 -- and no count has changed
 pub books_on : {D : Type 0} (locked : Option (LockedState D)) (owner owner2 : LeftState D) (now : OwnedState D) (l l2 : LockedState D) → owned_of locked owner ≡ now
     → locked ≡ Some l → l2.books ≡ l.books → books_in (Some l2) ≡ now.books

@@ -1,2 +1,3 @@
 mod InHand
 mod Rosters
+mod Scans

@@ -7,6 +7,7 @@ mod owned;
 mod patience;
 mod place;
 mod roster;
+mod scanning;
 mod serving;
 
 pub use jobs::{Desk, ReclaimJob, ScanJob, TurnJob, TurnSupply};

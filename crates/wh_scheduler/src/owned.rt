@@ -20,6 +20,7 @@ ghost use Rattle.wh_transcript.specs.Transcripts.{IsReplayable};
 ghost use Rattle.wh_threads.specs.Counting.{turns_of};
 ghost use Rattle.wh_threads.specs.Handover.{SameMessages};
 ghost use Rattle.wh_workers.specs.Serving.{AreRun, AreTurns};
+ghost use Rattle.wh_cell.specs.Counted.{countable, offers_of};
 ghost use Rattle.wh_cell.specs.Knowing.{known_of};
 ghost use Rattle.wh_cell.specs.Leaving.{HasNoCharge, left_as};
 ghost use Rattle.wh_cell.specs.Locking.{now_of};
@@ -27,6 +28,7 @@ ghost use Rattle.wh_cell.specs.Owning.{ComesOn};
 ghost use Rattle.wh_cell.specs.Scanned.{IsScanned};
 ghost use Rattle.wh_scheduler.specs.InHand.{AreSums, IsSoundInHand, left_of};
 
+use crate::scanning::scan_there;
 use crate::serving::{Manner, run_calls};
 use std::alloc::{AllocError, Global};
 use std::marker::Model;
@@ -378,26 +380,6 @@ impl<D: SwapDev, T: Ledger, C: Ledger, O: Ledger, E: Ledger, B: Ties> OwnedHost<
         locked.epoch();
         locked.meet(&mut self.owner);
     }
-
-    /// Offers all pages of all instances for sharing, in the order of the instances' numbers, and those of each in order, each
-    /// under the hash of its bytes as they are. Then as many frames are in use as there are distinct contents that aren't all
-    /// zero, if the hash tells contents apart and was the hash before. No byte of any page changes.
-    ///
-    /// Whether it was done: it is where frames and slots are fewer than 2^32 together.
-    pub fn scan<H: PageHash>(&mut self, hasher: &H) -> bool
-        ensures moves { MovesOnly self.old.host self.new.host }
-        ensures scans { IsScanned (H.hashes hasher.now) self.old.host result self.new.host }
-        ensures backing { KeepsBacking self.old.host.space self.new.host.space }
-        ensures device { self.new.device ≡ self.old.device }
-        ensures books { self.new.books ≡ self.old.books }
-    {
-        let Some(locked) = &mut self.locked else {
-            unreachable!();
-        };
-        let is_done = locked.scan(hasher);
-        locked.meet(&mut self.owner);
-        is_done
-    }
 }
 
 impl<
@@ -408,6 +390,42 @@ impl<
     E: Ledger + Send + 'static,
     B: Ties + Send + 'static,
 > OwnedHost<D, T, C, O, E, B> {
+    /// Offers all pages of all instances for sharing, in the order of the instances' numbers, and those of each in order, each
+    /// under the hash of its bytes as they are. Then as many frames are in use as there are distinct contents that aren't all
+    /// zero, if the hash tells contents apart and was the hash before. No byte of any page changes. A scanner does it, in a
+    /// thread that this call starts and joins.
+    ///
+    /// How many pages were offered: by so many the book of offers has grown, as far as they can be counted in 64 bits. It is
+    /// done where frames and slots are fewer than 2^32 together; else the answer is `None`, and nothing has changed.
+    ///
+    /// # Errors
+    /// `Memory` where room was refused, and `NoThread` where the scanner couldn't be started. Nothing was done then.
+    pub fn scan<H: PageHash + Drop + Send + 'static, R: Threads + Wait>(
+        &mut self,
+        rt: &R,
+        alloc: Global,
+        hasher: H,
+    ) -> Result<Option<u64>, ServeError>
+        ensures moves { OnOk result (MovesOnly self.old.host self.new.host) }
+        ensures scans { IfOk result (λ offered.
+            IsScanned (H.hashes hasher) self.old.host offered self.new.host) }
+        ensures books { IfOk result (λ offered. self.new.books ≡ record self.old.books {
+          offers = self.old.books.offers + countable self.old.books.offers (offers_of offered);
+        }) }
+        ensures err { OnErr result (self.new ≡ self.old) }
+        ensures backing { KeepsBacking self.old.host.space self.new.host.space }
+        ensures device { self.new.device ≡ self.old.device }
+    {
+        let Some(locked) = self.locked.take() else {
+            unreachable!();
+        };
+        let (answer, back) = scan_there(rt, alloc, locked, hasher, &mut self.shares);
+        let mut back = back;
+        back.meet(&mut self.owner);
+        self.locked = Some(back);
+        answer
+    }
+
     /// Runs the calls of these instances until none can go on, as `run_calls` does, on a cell that the host lies in meanwhile.
     /// Whatever it answers, the host came by work from the one before.
     ///

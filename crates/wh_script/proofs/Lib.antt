@@ -9,4 +9,5 @@ pub mod Asked
 pub mod Within
 pub mod Answered
 pub mod Obeyed
+pub mod Stopped
 pub mod Runs

@@ -9,15 +9,15 @@ use Rattle.wh_host_model.specs.Lines.Answers.{Files, AnswersLine, AnswersLines}
 use Rattle.wh_engine.specs.declared.fault.ScriptFault.{ScriptFault}
 use Rattle.wh_engine.specs.declared.fault.ScriptFault.TheVariants.{Settings as SettingsFault, Script, Output, Swap, Memory, Threads, Transcript}
 use Rattle.wh_script_model.specs.Following.{SomeCallIsOpen}
-use Rattle.wh_engine.specs.Draining.{StopsOnlyOpen, StopsRun}
+use Rattle.wh_engine.specs.Draining.{StopsOnlyOpen, StopsOpenOr, StopsRun, WasOpen}
 use Rattle.wh_engine.specs.Standing.{EngineState, StandsForScript}
 use Rattle.wh_script_model.proofs.SaidObeyed.{nothing_well}
 use Rattle.wh_script.specs.declared.lines.Line.{Line}
 use Rattle.wh_script.specs.declared.lines.Line.TheVariants.{Kept, TooLong, Skipped, End}
 use Rattle.wh_script.specs.Coming.{TakesLines, IsKind, ReadsLine, FailsAt}
-use Rattle.wh_script.specs.Speaking.{IsLineText}
+use Rattle.wh_script.specs.Speaking.{AsksScan, IsLineText}
 use Rattle.wh_script.specs.Answering.{ServesScript, HasDrained, Answers}
-use Rattle.wh_script.specs.Runs.{AreLines, AreFirstLines, GaveLines, AppendsFront, IsPartial, IsWhole, LinesSay, Sent, StopsAtCalls, StopsBetween, Runs}
+use Rattle.wh_script.specs.Runs.{AreLines, AreFirstLines, GaveLines, AppendsFront, IsPartial, IsWhole, LinesSay, Sent, StopsAtCalls, StopsAtScan, StopsBetween, Runs}
 use Rattle.wh_script.proofs.Coming.{takes_more}
 use Rattle.wh_script.proofs.Written.{appends_nothing, appends_more}
 
@@ -118,18 +118,44 @@ module _ (settings : Settings) (files : Files) (a b before mid : Option (List �
   stops_here : StopsBetween settings files a before mid
   stops_here = (so_far.0, so_far.3, first_lines a b so_far.0 so_far.4, partial, so_far.7)
 
+  -- where the next line asks for a scan
+  stops_scan : (line : List ℕ) → AreFirstLines a (so_far.0 ++ line ∷ []) → AsksScan line → StopsAtScan settings files a before mid
+  stops_scan line first asks = (so_far.0, line, so_far.3, first, asks, partial, so_far.7)
+
   stops_open : SomeCallIsOpen so_far.2 → StopsAtCalls settings files a before mid
   unfolding partial
   stops_open open_call = (so_far.0, so_far.3, first_lines a b so_far.0 so_far.4, record { partial = partial; some_open = open_call }, so_far.7)
 
   pub stops : (left : Option (List ℕ)) (fault : ScriptFault) → StopsRun fault → StopsOnlyOpen e fault → Runs settings files a left before mid (Err fault)
   stops left Memory is only = stops_here
-  stops left Threads is only = stops_open (only settings so_far.2 so_far.8.0)
+  stops left Threads is only = inl (stops_open (only settings so_far.2 so_far.8.0))
   stops left Transcript is only = stops_open (only settings so_far.2 so_far.8.0)
   stops left SettingsFault is only = elim is [ ]
   stops left Script is only = elim is [ ]
   stops left Output is only = elim is [ ]
   stops left Swap is only = elim is [ ]
+
+  open_or_scan : (line : List ℕ) → AreFirstLines a (so_far.0 ++ line ∷ []) → WasOpen e ⊎ AsksScan line
+      → StopsAtCalls settings files a before mid ⊎ StopsAtScan settings files a before mid
+  open_or_scan line first (inl open_call) = inl (stops_open (open_call settings so_far.2 so_far.8.0))
+  open_or_scan line first (inr asks) = inr (stops_scan line first asks)
+
+  stops_or : (left : Option (List ℕ)) (line : List ℕ) → AreFirstLines a (so_far.0 ++ line ∷ []) → (fault : ScriptFault) → StopsRun fault → StopsOpenOr (AsksScan line) e fault
+      → Runs settings files a left before mid (Err fault)
+  stops_or left line first Memory is only = stops_here
+  stops_or left line first Threads is only = open_or_scan line first only
+  stops_or left line first Transcript is only = stops_open (only settings so_far.2 so_far.8.0)
+  stops_or left line first SettingsFault is only = elim is [ ]
+  stops_or left line first Script is only = elim is [ ]
+  stops_or left line first Output is only = elim is [ ]
+  stops_or left line first Swap is only = elim is [ ]
+
+  -- at a line
+  pub stops_at_line : (c : Option (List ℕ)) (kind : Line) (held : List ℕ) → kind ≢ End → ReadsLine b c kind held → (left : Option (List ℕ)) (fault : ScriptFault) → StopsRun fault
+      → ((line : List ℕ) → IsKind kind held line → StopsOpenOr (AsksScan line) e fault) → Runs settings files a left before mid (Err fault)
+  stops_at_line c kind held more reads left fault is only =
+      let next = line_of kind b c held more reads in
+      stops_or left next.0 (first_lines a c (so_far.0 ++ next.0 ∷ []) (takes_more a b c so_far.0 (next.0 ∷ []) so_far.4 next.1)) fault is (only next.0 next.2)
 
   pub read_fails : (left : Option (List ℕ)) (fault : ScriptFault) → (fault ≡ Script) ⊎ (fault ≡ Memory) → FailsAt b left (Err fault) → Runs settings files a left before mid (Err fault)
   read_fails left Script which at = (so_far.0, so_far.3, gave_lines a b left so_far.0 at.0 so_far.4 at.1 at.2, partial, so_far.7)

@@ -10,7 +10,7 @@ use Rattle.wh_host_model.specs.Lines.Answers.{Files, AnswersLine, AnswersLines, 
 use Rattle.wh_engine.specs.declared.fault.ScriptFault.{ScriptFault}
 use Rattle.wh_engine.specs.declared.fault.ScriptFault.TheVariants.{Script, Output, Memory, Threads, Transcript}
 use Rattle.wh_script_model.specs.Following.{SomeCallIsOpen}
-use Rattle.wh_script.specs.Speaking.{IsLineText}
+use Rattle.wh_script.specs.Speaking.{AsksScan, IsLineText}
 
 -- ---- lines
 
@@ -93,11 +93,18 @@ StopsAtCalls settings files script before after =
     (lines : List (List ℕ)) × (text : List ℕ) × AreFirstLines script lines × IsPartialAtCall settings files lines text
     × Appends before after text
 
+-- what answers the first lines was written, and the line behind them asks for a scan
+abbrev pub StopsAtScan : Settings → Files → Option (List ℕ) → Option (List ℕ) → Option (List ℕ) → Type 0
+StopsAtScan settings files script before after =
+    (lines : List (List ℕ)) × (line : List ℕ) × (text : List ℕ) × AreFirstLines script (lines ++ line ∷ [])
+    × AsksScan line × IsPartial settings files lines text × Appends before after text
+
 -- What a run did, from the script to what the reader has left, and from the writer's bytes before to those after, by
 -- how it ended. To the end: what answers the script was written. Where the writer failed: a beginning of what answers
 -- the first lines. Where the reader failed: what answers the lines that it gave. Where memory was wanted: what answers
--- the first lines. Where a thread was wanted, or calls didn't run to their ends: what answers the first lines, behind
--- which a call is open. It ends in no other way.
+-- the first lines. Where a thread was wanted: what answers the first lines, behind which a call is open, or a line asks
+-- for a scan. Where calls didn't run to their ends: what answers the first lines, behind which a call is open. It ends in
+-- no other way.
 abbrev pub Runs : Settings → Files → Option (List ℕ) → Option (List ℕ) → Option (List ℕ) → Option (List ℕ)
     → Result Unit ScriptFault → Type 0
 Runs settings files script left before after (Ok _) =
@@ -110,6 +117,7 @@ Runs settings files script left before after (Err Script) =
     (lines : List (List ℕ)) × (text : List ℕ) × GaveLines script left lines × IsPartial settings files lines text
     × Appends before after text
 Runs settings files script left before after (Err Memory) = StopsBetween settings files script before after
-Runs settings files script left before after (Err Threads) = StopsAtCalls settings files script before after
+Runs settings files script left before after (Err Threads) =
+    StopsAtCalls settings files script before after ⊎ StopsAtScan settings files script before after
 Runs settings files script left before after (Err Transcript) = StopsAtCalls settings files script before after
 Runs settings files script left before after (Err fault) = ⊥

@@ -13,6 +13,11 @@ pub record AsksReport (line : List ℕ) : Type 0 where
   pub is_read : IsRead line
   pub asks : AsksCommand line asked_of.report
 
+-- the line asks for a scan
+pub record AsksScan (line : List ℕ) : Type 0 where
+  pub is_read : IsRead line
+  pub asks : AsksCommand line asked_of.scan
+
 -- memory was wanted for the line of this number, as the last of its replies says
 abbrev pub EndsInWant : (number : ℕ) → List Reply → Type 0
 EndsInWant number replies = (before : List Reply) × (replies ≡ before ++ error 5 number ∷ [])

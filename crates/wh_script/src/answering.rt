@@ -4,10 +4,11 @@ ghost use Rattle.std.specs.Prelude.{◌≡◌, ℕ, List, [], OnOk, IfErr, strin
 ghost use Rattle.wh_host_model.specs.Lines.Answers.{Files};
 ghost use Rattle.wh_host_model.specs.Lines.Commands as asked_of;
 ghost use Rattle.wh_commands.specs.Found.{Says};
-ghost use Rattle.wh_engine.specs.Draining.{DeviceMayFail, DeviceServesWell, DeviceStaysTrue, StopsOnlyOpen, StopsRun};
+ghost use Rattle.wh_engine.specs.Draining.{DeviceMayFail, DeviceServesWell, DeviceStaysTrue, StopsOnlyOpen, StopsOpenOr, StopsRun};
 ghost use Rattle.wh_engine.specs.Standing.{engine_on};
 ghost use Rattle.wh_script.specs.Answering.{Answers, AnswersCommand};
 ghost use Rattle.wh_script.specs.Coming.{IsKind};
+ghost use Rattle.wh_script.specs.Speaking.{AsksScan};
 
 use crate::files::Source;
 use crate::lines::Line;
@@ -31,7 +32,8 @@ impl<
     /// Puts what a line gets into the text, in place of what stood there.
     ///
     /// # Errors
-    /// `Memory` where room for it is refused; `Threads` and `Transcript` where calls don't run to their ends.
+    /// `Memory` where room for it is refused; `Threads` and `Transcript` where calls don't run to their ends, and `Threads` also
+    /// where a scanner can't be started.
     pub fn answer<S: Source, X: Threads + Wait + Copy + Send + 'static>(
         &mut self,
         rt: X,
@@ -49,8 +51,8 @@ impl<
             (S.files source.now) number line (engine_on self.old.host.host self.old.engine) []
             (engine_on self.new.host.host self.new.engine) (string_bytes self.new.text)) }
         ensures err { IfErr result StopsRun }
-        ensures open { IfErr result
-            (StopsOnlyOpen (engine_on self.old.host.host self.old.engine)) }
+        ensures open { IfErr result (λ fault. (line : List ℕ) → IsKind kind held.now line
+            → StopsOpenOr (AsksScan line) (engine_on self.old.host.host self.old.engine) fault) }
     {
         self.text.clear();
         match kind {
@@ -84,8 +86,8 @@ impl<
             (engine_on self.old.host.host self.old.engine) (string_bytes self.old.text)
             (engine_on self.new.host.host self.new.engine) (string_bytes self.new.text)) }
         ensures err { IfErr result StopsRun }
-        ensures open { IfErr result
-            (StopsOnlyOpen (engine_on self.old.host.host self.old.engine)) }
+        ensures open { IfErr result (StopsOpenOr (command.entry ≡ Command.Scan)
+            (engine_on self.old.host.host self.old.engine)) }
     {
         match command {
             Command::Invoke {
@@ -96,7 +98,7 @@ impl<
             } => self.invoke(rt, inst, export, fuel, &args, number),
             command => {
                 self.drain(rt)?;
-                self.obey(source, command, number)
+                self.obey(&rt, source, command, number)
             }
         }
     }

@@ -6,14 +6,16 @@ ghost use Rattle.wh_host_model.specs.Lines.Answers.{BringsBytes, Files, NamesMod
 ghost use Rattle.wh_host_model.specs.Lines.Commands as asked_of;
 ghost use Rattle.wh_host_model.specs.Lines.Texts.{release_ok, reply_text};
 ghost use Rattle.wh_commands.specs.Found.{Says, params_of};
-ghost use Rattle.wh_engine.specs.Draining.{StaysSo};
+ghost use Rattle.wh_engine.specs.Draining.{StaysSo, StopsScan};
 ghost use Rattle.wh_engine.specs.Names.{number_of};
 ghost use Rattle.wh_engine.specs.Standing.{engine_on};
 ghost use Rattle.wh_script.specs.Answering.{AddsReport, IsNoInvoke, Obeys};
 
 use crate::files::{FileError, Source};
 use crate::session::Session;
+use std::sync::Wait;
 use std::sync::ledger::Ledger;
+use std::thread::Threads;
 use wh_cell::Ties;
 use wh_commands::{Command, Given, LineError};
 use wh_engine::ScriptFault;
@@ -22,13 +24,22 @@ use wh_replies::{Reply, write_released};
 use wh_settings::HashKind;
 use wh_swap::SwapDev;
 
-impl<D: SwapDev, T: Ledger, C: Ledger, O: Ledger, E: Ledger, B: Ties> Session<D, T, C, O, E, B> {
+impl<
+    D: SwapDev + Drop + Send + 'static,
+    T: Ledger + Send + 'static,
+    C: Ledger + Send + 'static,
+    O: Ledger + Send + 'static,
+    E: Ledger + Send + 'static,
+    B: Ties + Send + 'static,
+> Session<D, T, C, O, E, B> {
     /// Puts what a command gets behind the text. A call is asked for elsewhere, since it is taken before all calls have run.
     ///
     /// # Errors
-    /// `Memory` where room for the reply is refused.
-    pub fn obey<S: Source>(
+    /// `Memory` where room for the reply is refused, and for a scan also where room for its thread is, or `Threads` where that
+    /// can't be started.
+    pub fn obey<S: Source, X: Threads + Wait>(
         &mut self,
+        rt: &X,
         source: &S,
         command: Command<'_>,
         number: u64,
@@ -39,7 +50,9 @@ impl<D: SwapDev, T: Ledger, C: Ledger, O: Ledger, E: Ledger, B: Ties> Session<D,
             (engine_on self.new.host.host self.new.engine) (string_bytes self.new.text)) }
         ensures config { self.new.config ≡ self.old.config }
         ensures device { self.new.host.device ≡ self.old.host.device }
-        ensures err { IfErr result (λ e. e ≡ ScriptFault.Memory) }
+        ensures err { IfErr result StopsScan }
+        ensures threads { IfErr result (λ e. e ≡ ScriptFault.Threads
+            → command.entry ≡ Command.Scan) }
     {
         match command {
             Command::Module { name, hex } => self.module(name, hex, number),
@@ -53,7 +66,7 @@ impl<D: SwapDev, T: Ledger, C: Ledger, O: Ledger, E: Ledger, B: Ties> Session<D,
             Command::Refuel { inst, fuel } => self.refuel(inst, fuel, number),
             Command::Cancel { inst } => self.cancel(inst, number),
             Command::Retry { inst } => self.retry(inst, number),
-            Command::Scan => self.scan(),
+            Command::Scan => self.scan(rt),
             Command::Report => self.report(),
             Command::Release { inst } => self.release(inst, number),
         }
@@ -202,29 +215,32 @@ impl<D: SwapDev, T: Ledger, C: Ledger, O: Ledger, E: Ledger, B: Ties> Session<D,
     }
 
     /// `scan`.
-    fn scan(&mut self) -> Result<(), ScriptFault>
+    fn scan<X: Threads + Wait>(&mut self, rt: &X) -> Result<(), ScriptFault>
         ensures obeys { OnOk result ((files : Files) (number : ℕ) → Obeys files number asked_of.scan
             (engine_on self.old.host.host self.old.engine) (string_bytes self.old.text)
             (engine_on self.new.host.host self.new.engine) (string_bytes self.new.text)) }
         ensures config { self.new.config ≡ self.old.config }
         ensures device { self.new.host.device ≡ self.old.host.device }
-        ensures err { IfErr result (λ e. e ≡ ScriptFault.Memory) }
+        ensures err { IfErr result StopsScan }
     {
-        self.offer_pages();
+        self.offer_pages(rt)?;
         self.reply(Reply::ScanOk)
     }
 
     // Offers all pages for sharing, each under its hash.
-    fn offer_pages(&mut self)
+    fn offer_pages<X: Threads + Wait>(&mut self, rt: &X) -> Result<(), ScriptFault>
         ensures stands { StaysSo (engine_on self.old.host.host self.old.engine)
             (engine_on self.new.host.host self.new.engine) }
         ensures config { self.new.config ≡ self.old.config }
         ensures device { self.new.host.device ≡ self.old.host.device }
         ensures text { self.new.text ≡ self.old.text }
+        ensures err { IfErr result StopsScan }
     {
         match self.config.hash {
-            HashKind::Fnv64 => self.engine.scan(&mut self.host, &FnvHash),
-            HashKind::Constant => self.engine.scan(&mut self.host, &ConstantHash),
+            HashKind::Fnv64 => self.engine.scan(rt, self.alloc, &mut self.host, FnvHash),
+            HashKind::Constant => self
+                .engine
+                .scan(rt, self.alloc, &mut self.host, ConstantHash),
         }
     }
 

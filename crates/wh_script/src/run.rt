@@ -32,7 +32,8 @@ use wh_swap::SwapDev;
 /// `Script` where the reader fails, after the replies to the lines that it gave; `Output` where the writer fails, after a
 /// beginning of the replies; `Memory` where there is none for the host, for threads, for a reply or for a report, or where
 /// lines can't be counted, `Threads` where a thread can't be started, and `Transcript` where calls don't run to their ends,
-/// after the replies to the first lines; these two only where a call is open. Want of memory for a command is answered in its
+/// after the replies to the first lines; these two only where a call is open, and `Threads` also where the next line asks for a
+/// scan. Want of memory for a command is answered in its
 /// reply.
 pub fn run_script<
     R: Read,

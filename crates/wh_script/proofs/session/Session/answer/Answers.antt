@@ -8,6 +8,7 @@ use Rattle.wh_script.specs.Coming.{IsKind}
 use Rattle.wh_script.specs.Answering.{Answers, Complains}
 use Rattle.wh_script.proofs.Answered.{is_skipped_line, is_too_long, isnt_found, skips}
 use Rattle.wh_engine.specs.Standing.{engine_on}
+use Rattle.wh_script.proofs.Stopped.{asked_open, complained_open}
 use Rattle.wh_script.proofs.session.Session.answer.Goals as goal
 
 pub returns-in-End-clause-answers : goal.returns-in-End-clause-answers
@@ -51,3 +52,19 @@ returns-in-Err-clause-answers g c =
     isnt_found files c.args.number line [] text2 e e2 c.parse.result c.in-Err.error c.in-Err.is
     (subst (λ xs. (asked : Command) → AsksCommand xs asked → FindsAsked c.parse.result asked) k.0 c.parse.ensures.only) c.in-Err.ensures.err (k.1, k.2)
     (subst (λ t. Complains (error (cause_number c.in-Err.error) c.args.number) e t e2 text2) c.clear.ensures.bytes (complains same)))
+
+pub returns-in-TooLong-clause-open : goal.returns-in-TooLong-clause-open
+returns-in-TooLong-clause-open g c =
+    let before = c.args.self.now in
+    complained_open (engine_on before.host.host before.engine) c.args.kind c.args.held.now c.complain_drained.result c.complain_drained.ensures.open
+
+pub returns-in-Ok-clause-open : goal.returns-in-Ok-clause-open
+returns-in-Ok-clause-open g c =
+    let before = c.args.self.now in
+    let found = c.in-Ok.ensures.found in
+    asked_open (engine_on before.host.host before.engine) c.in-Ok.command c.args.held.now found.0 c.command.result found.1 found.2 c.args.kind c.in-Kept.is c.command.ensures.open
+
+pub returns-in-Err-clause-open : goal.returns-in-Err-clause-open
+returns-in-Err-clause-open g c =
+    let before = c.args.self.now in
+    complained_open (engine_on before.host.host before.engine) c.args.kind c.args.held.now c.complain_drained-in-Err.result c.complain_drained-in-Err.ensures.open

@@ -1,9 +1,11 @@
-use Rattle.std.proofs.Common.{subst, sym, string_bytes}
-use Rattle.wh_commands.specs.declared.command.Command.TheVariants.{Invoke}
+use Rattle.std.proofs.Common.{◌≡◌, ◌∙◌, Err, IfErr, ap, subst, sym, string_bytes}
+use Rattle.std.proofs.lemmas.Result.{err_from_is_err_and}
+use Rattle.wh_commands.specs.declared.command.Command.TheVariants.{Invoke, Scan}
 use Rattle.wh_commands.specs.Found.{Says}
 use Rattle.wh_host_model.specs.Lines.Commands as asked_of
 use Rattle.wh_engine.proofs.Sayings.{on_ok_then}
-use Rattle.wh_engine.specs.Draining.{DeviceServesWell}
+use Rattle.wh_engine.proofs.Opened.{err_open_or, err_scan_or, err_scan_runs, open_or}
+use Rattle.wh_engine.specs.Draining.{DeviceServesWell, StopsOpenOr}
 use Rattle.wh_engine.specs.Standing.{engine_on}
 use Rattle.wh_script.specs.Answering.{AnswersCommand}
 use Rattle.wh_script.proofs.Asked.{asked_as, no_invoke, isnt_invoke}
@@ -34,3 +36,24 @@ returns-in-Invoke-clause-answers g c =
     let given = subst (λ args. AnswersCommand files c.args.number (asked_of.invoke found.inst.now found.export.now found.fuel args) e (string_bytes before.text) e2 (string_bytes after.text))
     c.deref.ensures.value (answers same files) in
     subst (λ a. AnswersCommand files c.args.number a e (string_bytes before.text) e2 (string_bytes after.text)) (sym is) given)
+
+pub returns-in_err-drain-in_default-clause-open : goal.returns-in_err-drain-in_default-clause-open
+returns-in_err-drain-in_default-clause-open g c =
+    let before = c.args.self.now in
+    let e = engine_on before.host.host before.engine in
+    let p = err_from_is_err_and c.from_residual.result c.from_residual.ensures.1 in
+    subst (λ r. IfErr r (StopsOpenOr (c.args.command ≡ Scan) e)) (sym (p.1 ∙ ap Err p.2))
+    (open_or (c.args.command ≡ Scan) e c.in_err-drain-in_default.field-0.0 c.in_err-drain-in_default.ensures.open)
+
+pub returns-in_ok-drain-in_default-clause-err : goal.returns-in_ok-drain-in_default-clause-err
+returns-in_ok-drain-in_default-clause-err g c = err_scan_runs c.obey.result c.obey.ensures.err
+
+pub returns-in_ok-drain-in_default-clause-open : goal.returns-in_ok-drain-in_default-clause-open
+returns-in_ok-drain-in_default-clause-open g c =
+    let before = c.args.self.now in
+    err_scan_or (c.args.command ≡ Scan) (engine_on before.host.host before.engine) c.obey.result c.obey.ensures.err c.obey.ensures.threads
+
+pub returns-in-Invoke-clause-open : goal.returns-in-Invoke-clause-open
+returns-in-Invoke-clause-open g c =
+    let before = c.args.self.now in
+    err_open_or (c.args.command ≡ Scan) (engine_on before.host.host before.engine) c.invoke.result c.invoke.ensures.open

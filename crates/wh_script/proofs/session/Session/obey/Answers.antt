@@ -1,4 +1,5 @@
-use Rattle.std.proofs.Common.{subst, sym, string_bytes}
+use Rattle.std.proofs.Common.{◌≡◌, subst, sym, string_bytes}
+use Rattle.wh_engine.proofs.Opened.{err_scans, memory_scans, memory_threads}
 use Rattle.wh_engine.proofs.Sayings.{on_ok_then}
 use Rattle.wh_script.specs.Answering.{Obeys}
 use Rattle.wh_commands.specs.declared.command.Command.TheVariants.{Module, Load, Admit, Refuel, Cancel, Retry, Scan, Report, Release}
@@ -114,3 +115,54 @@ returns-in-Drain-clause-obeys g c asked says free =
     let files = g.S.Source.files c.args.source.now in
     subst (λ a. Obeys files c.args.number a e text e text) (sym (is_drain c.args.command asked c.in-Drain.is says free))
     (only_drained files c.args.number e text)
+
+pub returns-in-Module-clause-err : goal.returns-in-Module-clause-err
+returns-in-Module-clause-err g c = memory_scans c.module.result c.module.ensures.err
+
+pub returns-in-Module-clause-threads : goal.returns-in-Module-clause-threads
+returns-in-Module-clause-threads g c = memory_threads (c.args.command ≡ Scan) c.module.result c.module.ensures.err
+
+pub returns-in-Load-clause-err : goal.returns-in-Load-clause-err
+returns-in-Load-clause-err g c = memory_scans c.load.result c.load.ensures.err
+
+pub returns-in-Load-clause-threads : goal.returns-in-Load-clause-threads
+returns-in-Load-clause-threads g c = memory_threads (c.args.command ≡ Scan) c.load.result c.load.ensures.err
+
+pub returns-in-Admit-clause-err : goal.returns-in-Admit-clause-err
+returns-in-Admit-clause-err g c = memory_scans c.admit.result c.admit.ensures.err
+
+pub returns-in-Admit-clause-threads : goal.returns-in-Admit-clause-threads
+returns-in-Admit-clause-threads g c = memory_threads (c.args.command ≡ Scan) c.admit.result c.admit.ensures.err
+
+pub returns-in-Refuel-clause-err : goal.returns-in-Refuel-clause-err
+returns-in-Refuel-clause-err g c = memory_scans c.refuel.result c.refuel.ensures.err
+
+pub returns-in-Refuel-clause-threads : goal.returns-in-Refuel-clause-threads
+returns-in-Refuel-clause-threads g c = memory_threads (c.args.command ≡ Scan) c.refuel.result c.refuel.ensures.err
+
+pub returns-in-Cancel-clause-err : goal.returns-in-Cancel-clause-err
+returns-in-Cancel-clause-err g c = memory_scans c.cancel.result c.cancel.ensures.err
+
+pub returns-in-Cancel-clause-threads : goal.returns-in-Cancel-clause-threads
+returns-in-Cancel-clause-threads g c = memory_threads (c.args.command ≡ Scan) c.cancel.result c.cancel.ensures.err
+
+pub returns-in-Retry-clause-err : goal.returns-in-Retry-clause-err
+returns-in-Retry-clause-err g c = memory_scans c.retry.result c.retry.ensures.err
+
+pub returns-in-Retry-clause-threads : goal.returns-in-Retry-clause-threads
+returns-in-Retry-clause-threads g c = memory_threads (c.args.command ≡ Scan) c.retry.result c.retry.ensures.err
+
+pub returns-in-Report-clause-err : goal.returns-in-Report-clause-err
+returns-in-Report-clause-err g c = memory_scans c.report.result c.report.ensures.err
+
+pub returns-in-Report-clause-threads : goal.returns-in-Report-clause-threads
+returns-in-Report-clause-threads g c = memory_threads (c.args.command ≡ Scan) c.report.result c.report.ensures.err
+
+pub returns-clause-err : goal.returns-clause-err
+returns-clause-err g c = memory_scans c.release.result c.release.ensures.err
+
+pub returns-clause-threads : goal.returns-clause-threads
+returns-clause-threads g c = memory_threads (c.args.command ≡ Scan) c.release.result c.release.ensures.err
+
+pub returns-in-Scan-clause-threads : goal.returns-in-Scan-clause-threads
+returns-in-Scan-clause-threads g c = err_scans (c.args.command ≡ Scan) c.scan.result c.in-Scan.is

@@ -7,7 +7,7 @@ use Rattle.wh_script.specs.Coming.{unread, coming, ReadsLine}
 use Rattle.wh_script.specs.Answering.{HasDrained}
 use Rattle.wh_script.specs.Runs.{Sent, Runs}
 use Rattle.wh_script.proofs.Devices.{true_same, true_then, fails_same, fails_then, served_first, served_rest}
-use Rattle.wh_script.proofs.Runs.{begins_nothing, starts, stops, read_fails, ends, goes_on, write_fails}
+use Rattle.wh_script.proofs.Runs.{begins_nothing, starts, stops, stops_at_line, read_fails, ends, goes_on, write_fails}
 use Rattle.wh_script.proofs.session.Session.run_lines.Goals as goal
 
 pub returns-in_err-lines-clause-runs : goal.returns-in_err-lines-clause-runs
@@ -125,12 +125,15 @@ returns-in_err-answer-in_default g c =
     let script = left c.args.reader.now in
     let old = coming l.lines (left l.reader) in
     let p = err_from_is_err_and c.from_residual-in_err-answer-in_default.result c.from_residual-in_err-answer-in_default.ensures.1 in
+    let new = coming c.read.new.self (left c.read.new.reader) in
+    let reads = subst (λ held. ReadsLine old new c.in_ok-kind.kind held) (sym c.line.ensures) c.in_ok-kind.ensures.line in
     let fault = c.in_err-answer-in_default.field-0.0 in
     record {
       runs = λ settings stands served.
           let well = served_first keeps honest faults first before after c.answer.ensures.device l.invariant.faults c.answer.ensures.faults served in
           subst (Runs settings files script (left c.read.new.reader) (contents c.args.writer.now) (contents l.writer)) (sym (p.1 ∙ ap Err p.2))
-          (stops settings files script old (contents c.args.writer.now) (contents l.writer) l.number (engine_on l.self.host.host l.self.engine) (l.invariant.so_far settings stands well) (left c.read.new.reader) fault c.in_err-answer-in_default.ensures.err c.in_err-answer-in_default.ensures.open);
+          (stops_at_line settings files script old (contents c.args.writer.now) (contents l.writer) l.number (engine_on l.self.host.host l.self.engine) (l.invariant.so_far settings stands well)
+          new c.in_ok-kind.kind c.line.result.now c.in_default.not-End reads (left c.read.new.reader) fault c.in_err-answer-in_default.ensures.err c.in_err-answer-in_default.ensures.open);
       faults = fails_then keeps honest faults first before after l.invariant.faults c.answer.ensures.faults;
       device = true_then keeps honest faults first before after l.invariant.device c.answer.ensures.device;
     }

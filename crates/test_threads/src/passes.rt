@@ -1,0 +1,123 @@
+//! A pass over all pages of a host in its owner's hand: what it counts, and what it leaves on frames.
+
+ghost use Rattle.std.specs.Prelude.{◌≡◌, ◌<◌, [], replicate};
+ghost use Rattle.wh_swap.specs.Memory.{memory_held};
+
+use crate::cell::{BYTES, begin_owned, given};
+use std::alloc::Global;
+use std::marker::Brand;
+use std::sync::Wait;
+use std::sync::ledger::Ledger;
+use std::test::Fail;
+use std::thread::Threads;
+use wh_cell::{Fittings, Ties};
+use wh_kernels::FnvHash;
+use wh_scheduler::{Manner, OwnedHost};
+use wh_swap::MemSwap;
+
+// Two instances with a page of WebAssembly each. Both store 7 at the same place, and one of them 9 elsewhere too.
+fn store_apart<
+    T: Ledger + Send + 'static,
+    C: Ledger + Send + 'static,
+    O: Ledger + Send + 'static,
+    E: Ledger + Send + 'static,
+    B: Ties + Send + 'static,
+    R: Threads + Wait + Copy + Send + 'static,
+>(rt: R, alloc: Global, owned: &mut OwnedHost<MemSwap, T, C, O, E, B>) -> Result<(), Fail> {
+    let bytes = owned.load(alloc, &BYTES)?;
+    let a = owned.admit(alloc, bytes, given(alloc))?;
+    let b = owned.admit(alloc, bytes, given(alloc))?;
+    let _ = owned.invoke(alloc, a, "s", &[4096, 7], 1000)?;
+    let _ = owned.invoke(alloc, b, "s", &[4096, 7], 1000)?;
+    let _ = owned.invoke(alloc, b, "s", &[8192, 9], 1000)?;
+    let manner = Manner {
+        hasher: FnvHash,
+        quantum: 100,
+        workers: 1,
+    };
+    let _ = owned.run(rt, alloc, &[a, b], manner);
+    Ok(())
+}
+
+// How many pages a pass has offered; by how many the book of offers grew, and by how many what threads have counted; and the
+// first line of the report behind it.
+#[derive(Debug, Drop)]
+struct Passed {
+    offered: Option<u64>,
+    in_book: u64,
+    by_threads: u64,
+    head: String,
+}
+
+// A pass.
+fn pass<
+    T: Ledger + Send + 'static,
+    C: Ledger + Send + 'static,
+    O: Ledger + Send + 'static,
+    E: Ledger + Send + 'static,
+    B: Ties + Send + 'static,
+    R: Threads + Wait,
+>(rt: &R, alloc: Global, owned: &mut OwnedHost<MemSwap, T, C, O, E, B>) -> Result<Passed, Fail> {
+    let (books, shares) = owned.counts();
+    let (in_book, by_threads) = (books.offers.low(), shares.offers());
+    let offered = owned.scan(rt, alloc, FnvHash).unwrap_or(None);
+    let (books, shares) = owned.counts();
+    let report = owned.host().report(alloc)?;
+    let head = report.lines().next().unwrap_or("");
+    Ok(Passed {
+        offered,
+        in_book: books.offers.low().wrapping_sub(in_book),
+        by_threads: shares.offers().wrapping_sub(by_threads),
+        head: String::from_str(alloc, head)?,
+    })
+}
+
+// A pass over no page, and one over those of two instances, on a new host.
+fn passes<
+    T: Ledger + Send + 'static,
+    C: Ledger + Send + 'static,
+    O: Ledger + Send + 'static,
+    E: Ledger + Send + 'static,
+    B: Ties + Send + 'static,
+    R: Threads + Wait + Copy + Send + 'static,
+>(rt: R, alloc: Global, fittings: Fittings<MemSwap>) -> Result<(Passed, Passed), Fail>
+    requires empty { memory_held fittings.device ≡ replicate 256 [] }
+    requires owned { fittings.to_owner ≡ B.to_owner }
+    requires backed { fittings.to_device ≡ B.to_device }
+    requires turns { (fittings.turns.name ≡ T.name) × (fittings.turns.parts ≡ T.parts)
+        × (64 < T.parts) }
+    requires charges { (fittings.charges.name ≡ C.name) × (fittings.charges.parts ≡ C.parts)
+        × (64 < C.parts) }
+    requires offers { (fittings.offers.name ≡ O.name) × (fittings.offers.parts ≡ O.parts)
+        × (1 < O.parts) }
+    requires evictions { (fittings.evictions.name ≡ E.name)
+        × (fittings.evictions.parts ≡ E.parts) × (1 < E.parts) }
+{
+    let mut owned = begin_owned::<T, C, O, E, B>(alloc, fittings)?;
+    let none = pass(&rt, alloc, &mut owned)?;
+    store_apart(rt, alloc, &mut owned)?;
+    let all = pass(&rt, alloc, &mut owned)?;
+    Ok((none, all))
+}
+
+#[test]
+fn a_pass_counts_each_page(rt: HostRuntime) -> Result<(), Fail> {
+    let alloc = rt.alloc();
+    let device = MemSwap::new(alloc, 256)?;
+    let fittings = Fittings::new(alloc, device)?;
+    let (none, all) = passes::<Brand, Brand, Brand, Brand, Brand, HostRuntime>(
+        rt, alloc, fittings,
+    )?;
+    assert_eq!(rt; none.offered, Some(0));
+    assert_eq!(rt; none.in_book, 0);
+    assert_eq!(rt; none.by_threads, 0);
+
+    // Two instances have 65536 bytes each: 32 pages of 4096.
+    assert_eq!(rt; all.offered, Some(32));
+    assert_eq!(rt; all.in_book, 32);
+    assert_eq!(rt; all.by_threads, 32);
+
+    // Of the pages that were written two are equal, and one has another byte; all others are zero and have no frame.
+    assert_eq!(rt; all.head.as_str(), "# frames 64 used 2 free 62");
+    Ok(())
+}
