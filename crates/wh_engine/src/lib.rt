@@ -3,7 +3,9 @@
 
 mod asking;
 mod engine;
+mod ending;
 mod fault;
+mod finding;
 mod guests;
 mod modules;
 mod names;

@@ -8,13 +8,13 @@ use Rattle.wh_host_model.specs.Lines.Texts.{CallStatus}
 use Rattle.wh_host_model.specs.Lines.Made.{Guest, Invoked, Made, Reception, turned_down, taken_on}
 use Rattle.wh_host_model.specs.Lines.Drains.{call_status, SaysStart, has_none, has_one, SaysCall, is_refused, is_taken, as_before}
 use Rattle.wh_script_model.specs.Laws.{EndedStays}
-use Rattle.wh_script_model.specs.Said.{is_final, HasStart, HasEndedSo, StartsFirst, EndsAsSaid, CallsAreThere, IsWellMade}
+use Rattle.wh_script_model.specs.Said.{is_final, HasStart, HasEndedSo, StartsFirst, EndedAsSaid, CallsAreThere, IsWellMade}
 use Rattle.wh_script_model.proofs.Ended.{KeepsEnded, stays_ended}
 use Rattle.wh_script_model.proofs.Said.{set_cases, push_cases, push_there}
 
 -- ---- what lines make
 
-pub none_ended : EndsAsSaid [] []
+pub none_ended : EndedAsSaid [] []
 none_ended = record {
   taken = record {
     starts = λ j g c e anyone has first. absurd (none-some g e);
@@ -31,7 +31,7 @@ push_changes calls d k c e closed = push_there calls k d c e
 -- an instance that lives has other calls, or is released
 pub ended_with : (guests : List Guest) (invoked : List Invoked) (i : ℕ) (g h : Guest) → slice_get guests i ≡ Some g → g.is_released ≡ false
     → (HasStart h → HasStart g) → h.said ≡ g.said → KeepsEnded g.calls h.calls → StartsFirst h.calls → CallsAreThere guests invoked
-    → EndsAsSaid guests invoked → EndsAsSaid (slice_set guests i h) invoked
+    → EndedAsSaid guests invoked → EndedAsSaid (slice_set guests i h) invoked
 ended_with guests invoked i g h at live starts said keeps first_of there was = record {
   taken = record {
     starts = λ j k c2 e anyone has first.
@@ -65,7 +65,7 @@ ended_with guests invoked i g h at live starts said keeps first_of there was = r
 
 -- one more instance, of which nothing was said
 pub ended_guest : (guests : List Guest) (invoked : List Invoked) (h : Guest) → h.said ≡ None → StartsFirst h.calls → CallsAreThere guests invoked
-    → EndsAsSaid guests invoked → EndsAsSaid (guests ++ h ∷ []) invoked
+    → EndedAsSaid guests invoked → EndedAsSaid (guests ++ h ∷ []) invoked
 ended_guest guests invoked h unsaid first_of there was = record {
   taken = record {
     starts = λ j k c e anyone has first.
@@ -84,8 +84,8 @@ ended_guest guests invoked h unsaid first_of there was = record {
 }
 
 -- one more `invoke`, of which nothing was said
-pub ended_call : (guests : List Guest) (invoked : List Invoked) (came : Reception) → EndsAsSaid guests invoked
-    → EndsAsSaid guests (invoked ++ record { came = came; said = None } ∷ [])
+pub ended_call : (guests : List Guest) (invoked : List Invoked) (came : Reception) → EndedAsSaid guests invoked
+    → EndedAsSaid guests (invoked ++ record { came = came; said = None } ∷ [])
 ended_call guests invoked came was =
     let new : Invoked = record { came = came; said = None } in
     let unsaid : (v : Invoked) (status : CallStatus) → v ≡ new → v.said ≡ Some status → ⊥ =

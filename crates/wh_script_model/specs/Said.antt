@@ -80,7 +80,7 @@ StartsFirst (first ∷ calls) =
     is_open first.outcome ≡ true → AllByRecursion (λ (c : Call). is_open c.outcome ≡ true) calls
 
 -- what was last said to have ended has ended so: of calls that were taken, and of those that were refused
-pub record EndsAsSaid (guests : List Guest) (invoked : List Invoked) : Type 0 where
+pub record EndedAsSaid (guests : List Guest) (invoked : List Invoked) : Type 0 where
   pub taken : AreSaid IsAnyone HasEndedSo guests invoked
   pub refused : (n fault : ℕ) (v : Invoked) (status : CallStatus) → slice_get invoked n ≡ Some v
       → v.came ≡ turned_down fault → v.said ≡ Some status → status ≡ texts.refused fault
@@ -91,4 +91,4 @@ pub record EndsAsSaid (guests : List Guest) (invoked : List Invoked) : Type 0 wh
 pub record IsWellMade (m : Made) : Type 0 where
   pub there : CallsAreThere m.guests m.invoked
   pub gone : AreSaid IsReleased WasSaid m.guests m.invoked
-  pub ended : EndsAsSaid m.guests m.invoked
+  pub ended : EndedAsSaid m.guests m.invoked
