@@ -1,5 +1,5 @@
 -- Instances that a script admits.
-use Rattle.std.proofs.Common.{arith, ◌≡◌, ◌≢◌, ℕ, zero, suc, ◌+◌, ◌<◌, inl, ◌↔◌, true, false, Bool, List, [], ◌∷◌, ◌++◌, map, length, get_or, slice_get, bytes_eq, string_bytes, option_map, Option, Some, None, Ok, Err, refl, ap, sym, subst, ◌∙◌}
+use Rattle.std.proofs.Common.{arith, ◌≡◌, ◌≢◌, ℕ, zero, suc, ◌+◌, ◌<◌, inl, ◌↔◌, true, false, Bool, List, [], ◌∷◌, ◌++◌, map, length, get_or, slice_get, bytes_eq, string_bytes, option_map, Option, Some, None, Ok, Err, refl, ap, sym, subst, ◌∙◌, length-append}
 use Rattle.std.specs.Bool.{MatchBool}
 use Rattle.std.specs.Global.{Vec}
 use Rattle.std.specs.List.{AllZip}
@@ -38,9 +38,11 @@ use Rattle.wh_replies.specs.View.{status_of}
 use Rattle.wh_engine.specs.Names.{AreNames, number_of}
 use Rattle.wh_engine.specs.declared.names.Names.{Names}
 use Rattle.wh_engine.specs.declared.parts.Guest.{Guest}
-use Rattle.wh_engine.specs.Standing.{WholeState, IsLed, StandsWhole, AreGuests, IsGuest}
+use Rattle.wh_engine.specs.Standing.{WholeState, IsLed, StandsWhole, AreGuests, IsGuest, EngineState, StandsForScript, whole_on, LeavesOut, is_over, is_settled}
 use Rattle.wh_engine.proofs.Asked.{whole_of}
 use Rattle.wh_engine.proofs.Named.{named_next, unnamed}
+use Rattle.wh_engine.specs.Obeying.{TakesGuest}
+use Rattle.wh_engine.proofs.Left.{one_more_kept}
 
 -- ---- whether there is a start
 
@@ -107,7 +109,7 @@ map_long : {A B : Type 0} (f : A → B) (xs : List A) → length (map f xs) ≡ 
 map_long f [] = refl
 map_long f (x ∷ xs) = let e = map_long f xs in omega (arith, e)
 
-there_at : {A : Type 0} (xs : List A) (i : ℕ) → i < length xs → (x : A) × (slice_get xs i ≡ Some x)
+pub there_at : {A : Type 0} (xs : List A) (i : ℕ) → i < length xs → (x : A) × (slice_get xs i ≡ Some x)
 there_at [] i within = absurd (omega (arith, within))
 there_at (x ∷ xs) zero within = (x, refl)
 there_at (x ∷ xs) (suc i) within = let e : i < length xs = omega (arith, within) in there_at xs i e
@@ -314,3 +316,44 @@ refused settings e m inst k p error h2 given names xs s within free answers whol
     subst (λ r. TakesGuestWhole settings m inst k p r (with_guests e h2 names xs)) (refused_as inst error)
     (refused_stands settings e m there.0 inst k p (admit_number error) h2 names xs s there.1 are items did.1 follows.0 (admit_reply inst (fault_answer (fault_of error))) (refused_as inst error)
     follows.1 led (places_refused settings did.1 follows.0 (map (λ (y : Guest). y.id.place) e.guests) (fault_of error) follows.2))
+
+-- ---- what is kept then
+
+pub guest_again : (settings : Settings) (e : EngineState) (m : Made) (inst : List ℕ) (k : ℕ) (p : Params) (reply : Reply) (h2 : HostState) (names : Names) (x : Guest) (xs : Vec Guest) (count : ℕ)
+    (s : StandsForScript settings e m) → xs.items ≡ e.guests.items ++ x ∷ [] → count ≡ e.admitted + 1
+    → TakesGuestWhole settings m inst k p reply (with_guests (whole_on e s.guests s.invoked) h2 names (s.guests ++ x ∷ []))
+    → TakesGuest settings m inst k p reply (record e { host = h2; guest_names = names; guests = xs; admitted = count })
+guest_again settings e m inst k p reply h2 names x xs count s items counts takes = (
+  takes.0,
+  takes.1,
+  takes.2,
+  takes.3,
+  record {
+    guests = s.guests ++ x ∷ [];
+    invoked = s.invoked;
+    kept = subst (λ ys. LeavesOut is_over ys (s.guests ++ x ∷ [])) (sym items) (one_more_kept x s.kept);
+    pending = s.pending;
+    admitted = counts ∙ ap (λ n. n + 1) s.admitted ∙ sym (length-append s.guests (x ∷ []));
+    asked = s.asked;
+    stands = takes.4;
+  },
+)
+
+pub refused_again : (settings : Settings) (e : EngineState) (m : Made) (inst : List ℕ) (k : ℕ) (p : Params) (reply : Reply) (h2 : HostState) (names : Names) (xs : Vec Guest)
+    (s : StandsForScript settings e m) → xs.items ≡ e.guests.items → TakesGuestWhole settings m inst k p reply (with_guests (whole_on e s.guests s.invoked) h2 names s.guests)
+    → TakesGuest settings m inst k p reply (record e { host = h2; guest_names = names; guests = xs })
+refused_again settings e m inst k p reply h2 names xs s items takes = (
+  takes.0,
+  takes.1,
+  takes.2,
+  takes.3,
+  record {
+    guests = s.guests;
+    invoked = s.invoked;
+    kept = subst (λ ys. LeavesOut is_over ys s.guests) (sym items) s.kept;
+    pending = s.pending;
+    admitted = s.admitted;
+    asked = s.asked;
+    stands = takes.4;
+  },
+)

@@ -1,5 +1,5 @@
 -- Calls that a script asks of its instances.
-use Rattle.std.proofs.Common.{◌≡◌, ℕ, true, List, [], ◌∷◌, ◌++◌, map, length, slice_get, ℤ, Some, None, Result, Ok, Err, refl, ap, sym, subst, ◌∙◌}
+use Rattle.std.proofs.Common.{◌≡◌, ℕ, true, List, [], ◌∷◌, ◌++◌, map, length, slice_get, ℤ, Some, None, Result, Ok, Err, refl, ap, sym, subst, ◌∙◌, arith, ◌+◌, ◌<◌, length-append}
 use Rattle.std.specs.List.{AllZip}
 use Rattle.std.specs.Global.{Vec}
 use Rattle.wh_host.proofs.Hosts.{reached_on}
@@ -25,11 +25,14 @@ use Rattle.wh_engine.specs.declared.parts.Invoked.{Invoked}
 use Rattle.wh_engine.specs.declared.parts.Reception.{Reception}
 use Rattle.wh_engine.specs.declared.parts.Reception.TheVariants.{TurnedDown, TakenOn}
 use Rattle.wh_engine.specs.Names.{AreNames, number_of}
-use Rattle.wh_engine.specs.Standing.{WholeState, IsLed, StandsWhole, AreGuests, IsInvokedAs, reception_of}
+use Rattle.wh_engine.specs.Standing.{WholeState, IsLed, StandsWhole, AreGuests, IsInvokedAs, reception_of, EngineState, StandsForScript, whole_on, LeavesOut, is_over, is_settled, AreInvoked}
 use Rattle.wh_engine.specs.Obeying.{TakesInvoke}
 use Rattle.wh_engine.proofs.Asked.{whole_of, id_of, own_number}
 use Rattle.wh_engine.proofs.Instances.{TouchesCalls, nothing, calls_of, guest_of, placed_at, touched_guests, touched_modules, touched_names}
 use Rattle.wh_script_model.proofs.CommandsCalling.{calls_follow}
+use Rattle.wh_engine.proofs.Sayings.{guests_many}
+use Rattle.wh_engine.proofs.Admitted.{there_at}
+use Rattle.wh_engine.proofs.Left.{one_more_kept}
 
 -- ---- what an `invoke` changes beside its own entry
 
@@ -148,3 +151,35 @@ refused_gone settings e m i g export fuel given came calls s at gone is entries 
     record { number = refl; came = is; said = refl } in
     let b : IsBefore m m (with_invoked m (turned_down 1)) = record { touches = nothing; modules = refl; guests = refl; invoked = refl } in
     (g, at, with_invoked m (turned_down 1), guest_is_gone gone, called_stands settings e m m (with_invoked m (turned_down 1)) e.host s.world calls _ _ s b refl entries entry s.is (turned_known settings s.world m _ (turned_down 1) s.knows))
+
+-- ---- what is kept then
+
+pub gone_there : (settings : Settings) (e : EngineState) (m : Made) (number : ℕ) → StandsForScript settings e m → number < e.admitted → (g : made.Guest) × (slice_get m.guests number ≡ Some g)
+gone_there settings e m number s within =
+    let many = guests_many 0 s.guests m.guests s.stands.guests in
+    let all = s.admitted in
+    there_at m.guests number (omega (arith, within, many, all))
+
+pub call_again : (settings : Settings) (e : EngineState) (m : Made) (i : ℕ) (export : List ℕ) (fuel : ℕ) (given : List ℤ) (h2 : HostState) (came : Reception) (calls : Vec Invoked) (count : ℕ)
+    (s : StandsForScript settings e m) → calls.items ≡ e.invoked.items ++ record { number = count; came = came; said = None } ∷ [] → count ≡ e.asked + 1
+    → TakesInvokeWhole settings m i export fuel given (with_calls (whole_on e s.guests s.invoked) h2 (s.invoked ++ record { number = 1 + length s.invoked; came = came; said = None } ∷ []))
+    → TakesInvoke settings m i export fuel given (record e { host = h2; invoked = calls; asked = count })
+call_again settings e m i export fuel given h2 came calls count s items counts takes =
+    let x : ℕ → Invoked = λ n. record { number = n; came = came; said = None } in
+    let all : List Invoked = s.invoked ++ x (1 + length s.invoked) ∷ [] in
+    let same : count ≡ 1 + length s.invoked = let n = s.asked in omega (arith, counts, n) in (
+      takes.0,
+      takes.1,
+      takes.2,
+      takes.3,
+      record {
+        guests = s.guests;
+        invoked = all;
+        kept = s.kept;
+        pending = subst (λ ys. LeavesOut is_settled ys all) (sym items)
+            (subst (λ n. LeavesOut is_settled (e.invoked.items ++ x n ∷ []) all) (sym same) (one_more_kept (x (1 + length s.invoked)) s.pending));
+        admitted = s.admitted;
+        asked = same ∙ omega arith ∙ sym (length-append s.invoked (x (1 + length s.invoked) ∷ []));
+        stands = takes.4;
+      },
+    )

@@ -19,9 +19,10 @@ use Rattle.wh_script_model.specs.Replies.{SaysModule}
 use Rattle.wh_engine.specs.Names.{AreNames, number_of}
 use Rattle.wh_engine.specs.declared.names.Names.{Names}
 use Rattle.wh_engine.specs.declared.parts.Guest.{Guest}
-use Rattle.wh_engine.specs.Standing.{WholeState, IsLed, StandsWhole}
+use Rattle.wh_engine.specs.Standing.{WholeState, IsLed, StandsWhole, EngineState, StandsForScript, whole_on, LeavesOut, is_over, is_settled}
 use Rattle.wh_script_model.proofs.Commands.{modules_follow}
 use Rattle.wh_engine.proofs.Named.{named_next, unnamed}
+use Rattle.wh_engine.specs.Obeying.{TakesModule}
 
 abbrev label : NamedModule → List ℕ
 label n = n.name
@@ -136,3 +137,22 @@ takes_none settings e m name bytes h2 given names error why s free answers sets 
     let got = law_of settings e m name bytes h2 (Err error) (module_refused name why) s answers says in
     let are = unnamed (number_of e.module_names) (number_of given) (number_of names) (map label m.modules) name (Some e.modules) s.module_names free sets clears in
     none_stands settings e m name bytes h2 names why s are got.0 got.1 (module_refused name why) refl got.2 got.3 got.4
+
+-- ---- and instances and calls are kept as they were
+
+pub module_again : (settings : Settings) (e : EngineState) (m : Made) (name bytes : List ℕ) (h2 : HostState) (names : Names) (k : ℕ) (reply : Reply) (s : StandsForScript settings e m)
+    → TakesModuleWhole settings m name bytes reply (with_modules (whole_on e s.guests s.invoked) h2 names k)
+    → TakesModule settings m name bytes reply (record e { host = h2; module_names = names; modules = k })
+module_again settings e m name bytes h2 names k reply s takes = (
+  takes.0,
+  takes.1,
+  record {
+    guests = s.guests;
+    invoked = s.invoked;
+    kept = s.kept;
+    pending = s.pending;
+    admitted = s.admitted;
+    asked = s.asked;
+    stands = takes.2;
+  },
+)

@@ -1,5 +1,5 @@
 -- Where a call can go on, the script has an open one.
-use Rattle.std.proofs.Common.{◌≡◌, Result, Ok, Err, IfErr, sym, subst}
+use Rattle.std.proofs.Common.{◌≡◌, Result, Ok, Err, IfErr, sym, subst, map}
 use Rattle.wh_host.specs.Hosting.{HostState}
 use Rattle.wh_script_model.proofs.Opening.{open_is_known}
 use Rattle.wh_engine.specs.declared.engine.Engine.{Engine}
@@ -8,6 +8,7 @@ use Rattle.wh_engine.specs.declared.fault.ScriptFault.TheVariants.{Settings as N
 use Rattle.wh_engine.specs.Draining.{SomeGoes, StaysSo, StopsOnlyOpen, WasOpen}
 use Rattle.wh_engine.specs.Standing.{EngineState, engine_on}
 use Rattle.wh_engine.proofs.Runs.{places_of}
+use Rattle.wh_engine.specs.declared.parts.Guest.{Guest}
 
 pub goes_open : (e : Engine) (h : HostState) → SomeGoes h e.guests.items → WasOpen (engine_on h e)
 goes_open e h goes settings m s =

@@ -10,7 +10,7 @@ use Rattle.wh_engine.specs.Names.{AreNames, number_of}
 use Rattle.wh_engine.specs.declared.names.Names.{Names}
 use Rattle.wh_engine.specs.declared.parts.Guest.{Guest}
 use Rattle.wh_engine.specs.declared.parts.Invoked.{Invoked}
-use Rattle.wh_engine.specs.Standing.{EngineState, StandsForScript, AreGuests, IsInvokedAs}
+use Rattle.wh_engine.specs.Standing.{EngineState, StandsForScript, AreGuests, IsInvokedAs, LeavesOut, is_over, is_settled}
 
 -- other names with the same numbers, and the same instances and calls in other vectors
 pub refitted : (settings : Settings) (e : EngineState) (m : Made) (ms gs : Names) (xs : Vec Guest) (vs : Vec Invoked) → StandsForScript settings e m

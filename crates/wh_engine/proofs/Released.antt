@@ -23,10 +23,14 @@ use Rattle.wh_script_model.specs.Replies.{release_reply}
 use Rattle.wh_script_model.proofs.CommandsEnding.{releases_follow}
 use Rattle.wh_engine.specs.Names.{AreNames, number_of}
 use Rattle.wh_engine.specs.declared.parts.Guest.{Guest}
-use Rattle.wh_engine.specs.Standing.{WholeState, IsLed, StandsWhole, AreGuests, IsGuest}
-use Rattle.wh_engine.specs.Obeying.{IsNamed}
+use Rattle.wh_engine.specs.Standing.{WholeState, IsLed, StandsWhole, AreGuests, IsGuest, EngineState, StandsForScript, whole_on, LeavesOut, is_over, is_settled}
+use Rattle.wh_engine.specs.Obeying.{IsNamed, ObeysCommand}
 use Rattle.wh_engine.proofs.Asked.{ObeysWhole, on_host, stands_on, whole_of, id_of, own_number}
 use Rattle.wh_engine.proofs.Instances.{TouchesCalls, nothing, names_stay, placed_at}
+use Rattle.wh_engine.specs.Finding.{HasNumberAt}
+use Rattle.wh_engine.proofs.Found.{kept_changed}
+use Rattle.std.specs.Vec.{with_item}
+use Rattle.std.proofs.lemmas.List.{length-set}
 
 -- what the host has answered, and what the script gets for it
 record DoesRelease (settings : Settings) (files : Files) (line : ℕ) (m : Made) (e : WholeState) (name : List ℕ) (h2 : HostState) (r : Result (Vec ℕ) HostError) : Type 0 where
@@ -146,3 +150,26 @@ goes settings files line m e name h2 x i output s named at replies whole =
     let d = does settings files line m e name h2 x i (Ok output) s named at replies whole in
     gone_stands settings files line m e name output.items h2 x i named.0 s named.1 at d.after d.world (release_ok name output.items) refl
     (subst (λ (r : Reply). IsObeyed true settings files m line (release name) (r ∷ []) d.after) (ap (release_reply name) d.is) d.obeyed) d.is_host d.knows
+
+-- ---- what is kept then
+
+-- the one that is kept is marked, as it is among all
+pub gone_again : (settings : Settings) (files : Files) (line : ℕ) (m : Made) (e : EngineState) (name : List ℕ) (h2 : HostState) (x : Guest) (i at : ℕ) (reply : Reply) (s : StandsForScript settings e m)
+    → HasNumberAt e.guests.items i at → slice_get e.guests.items at ≡ Some x → ObeysWhole settings files m line (release name) reply (with_gone (whole_on e s.guests s.invoked) h2 i x)
+    → ObeysCommand settings files m line (release name) reply (record e { host = h2; guests = with_item e.guests at (record x { is_released = true }) })
+gone_again settings files line m e name h2 x i at reply s has there obeys =
+    let gone : Guest = record x { is_released = true } in
+    let same : has.0 ≡ x = same_Some has.0 x (sym has.1 ∙ there) in
+    let number : x.id.number ≡ i = ap (λ (y : Guest). y.id.number) (sym same) ∙ has.2 in (
+      obeys.0,
+      obeys.1,
+      record {
+        guests = slice_set s.guests i gone;
+        invoked = s.invoked;
+        kept = kept_changed s.kept m.guests s.stands.guests i at x gone there number;
+        pending = s.pending;
+        admitted = s.admitted ∙ sym (length-set s.guests i gone);
+        asked = s.asked;
+        stands = obeys.2;
+      },
+    )

@@ -1,7 +1,7 @@
 -- What is said of calls, one after the other.
-use Rattle.std.proofs.Common.{arith, ◌≡◌, ℕ, ◌+◌, ◌<◌, zero, suc, false, List, [], ◌∷◌, ◌++◌, map, length, Result, Ok, Err, OnOk, get_or, ◌≤◌, slice_get, slice_set, Option, Some, None, option_map, refl, ap, sym, subst, ◌∙◌, append_assoc, append-nil, length-append}
+use Rattle.std.proofs.Common.{arith, ◌≡◌, ℕ, ◌+◌, ◌<◌, zero, suc, false, List, [], ◌∷◌, ◌++◌, map, length, Result, Ok, Err, OnOk, get_or, ◌≤◌, slice_get, slice_set, Option, Some, None, option_map, refl, ap, sym, subst, ◌∙◌, append_assoc, append-nil, length-append, Bool, true, ◌&&◌, ◌||◌, not, ◌⊎◌, inl, inr, ⊎_elim}
 use Rattle.std.proofs.lemmas.Option.{same_Some, none-some}
-use Rattle.std.specs.List.{AllZip}
+use Rattle.std.specs.List.{AllZip, filter}
 use Rattle.std.specs.Global.{Vec}
 use Rattle.wh_model.specs.Execution.Instance.{Piece}
 use Rattle.wh_model.specs.Execution.Replay.{Call}
@@ -19,16 +19,21 @@ use Rattle.wh_replies.specs.declared.call.Status.{Status}
 use Rattle.wh_replies.specs.declared.call.Status.TheVariants as code
 use Rattle.wh_script_model.specs.Following as follow
 use Rattle.wh_script_model.specs.Following.{Knows, IsPlaced}
-use Rattle.wh_script_model.specs.Said.{HasStart, IsWellMade}
+use Rattle.wh_script_model.specs.Said.{HasStart, IsWellMade, is_final, IsReleased, WasSaid, when_released}
 use Rattle.wh_script_model.proofs.Drains.{saying_follows}
 use Rattle.wh_script_model.proofs.Said.{starts_well}
 use Rattle.wh_engine.specs.declared.parts.Guest.{Guest}
 use Rattle.wh_engine.specs.declared.parts.Invoked.{Invoked}
 use Rattle.wh_engine.specs.Names.{AreNames, number_of}
-use Rattle.wh_engine.specs.Standing.{EngineState, StandsForScript, IsGuest, AreGuests, IsInvokedAs}
-use Rattle.wh_engine.specs.Saying.{IsFaultless, ShowsCalls, AddsLines, SaysStartOf, HasItsCall, SaysCallOf, SaysAllStarts, SaysAllCalls, SaysAll}
+use Rattle.wh_engine.specs.Standing.{EngineState, StandsForScript, IsGuest, AreGuests, IsInvokedAs, AreInvoked, LeavesOut, none_there, keeps_it, leaves_it, StandsWhole, WholeState, whole_on, was_final, is_over, is_settled}
+use Rattle.wh_engine.specs.Saying.{IsFaultless, ShowsCalls, AddsLines, SaysStartOf, HasItsCall, SaysCallOf, SaysAllStarts, SaysAllCalls, SaysAll, IsLookedUp}
 use Rattle.wh_engine.proofs.Instances.{placed_at}
 use Rattle.wh_engine.proofs.Runs.{places_of, placed_there}
+use Rattle.wh_script_model.proofs.EndedObeyed.{ended_stays}
+use Rattle.wh_host.specs.Hosting.{HostState}
+use Rattle.wh_engine.proofs.Left.{let_go}
+use Rattle.wh_engine.proofs.Found.{kept_at, kept_rise, none_kept, pair_at}
+use Rattle.wh_engine.proofs.OneByOne.{OneByOne}
 
 -- ---- statuses of the code are as many as those of the definitions
 
@@ -455,6 +460,16 @@ pub starts_so : (g : made.Guest) (c : Call) (name : List ℕ) (said : Option Cal
 starts_so g c name said status lines named before e has first says =
     has_one has first (subst (λ n. SaysLine (texts.start n) g.said (call_status g 0 c) lines) named
     (subst (λ o. SaysLine (texts.start name) o (call_status g 0 c) lines) before (subst (λ s. SaysLine (texts.start name) said s lines) e says)))
+
+-- of a released instance it was said how the call is
+pub gone_unsaid : (g : made.Guest) (place : ℕ) (c : Call) (said : Option Status) → WasSaid g place c (option_map status_of said) → said ≡ None → ⊥
+gone_unsaid g place c said was none = none-some was.0 (ap (λ o. option_map status_of o) (sym none) ∙ was.1)
+
+pub gone_status : (g : made.Guest) (place : ℕ) (c : Call) (said : Option Status) (s status : Status) → WasSaid g place c (option_map status_of said) → said ≡ Some s
+    → status_of status ≡ when_released (status_of s) → status_of status ≡ call_status g place c
+gone_status g place c said s status was is now =
+    let same : was.0 ≡ status_of s = same_Some was.0 (status_of s) (sym was.1 ∙ ap (λ o. option_map status_of o) is) in
+    now ∙ ap when_released (sym same) ∙ sym was.2
 
 -- what holds where a line was added holds of it
 pub on_ok_then : {A E : Type 0} {P Q : Type 0} (r : Result A E) → OnOk r P → (P → Q) → OnOk r Q

@@ -57,6 +57,19 @@ IsStatusAt h x place said found =
     → (IsReleased g → WasSaid g place c (option_map status_of said))
     → (status : Status) × (found ≡ Some status) × (status_of status ≡ call_status g place c)
 
+-- the one of these instances that has the number shows the calls of this; where none has, this is released
+pub record IsLookedUp (h : HostState) (xs : List Guest) (i : ℕ) (g : made.Guest) : Type 0 where
+  pub rise : RiseFrom 0 xs
+  pub shows : (at : ℕ) (x : Guest) → slice_get xs at ≡ Some x → x.id.number ≡ i → ShowsCalls h x g
+  pub gone : HasNoNumber xs i → IsReleased g
+
+-- so the call at this place is of the instance of this number, which was said to be so
+abbrev pub IsFoundAt : HostState → List Guest → (number place : ℕ) → Option Status → Option Status → Type 0
+IsFoundAt h xs number place said found =
+    (g : made.Guest) (c : Call) → IsLookedUp h xs number g → slice_get g.calls place ≡ Some c
+    → (IsReleased g → WasSaid g place c (option_map status_of said))
+    → (status : Status) × (found ≡ Some status) × (status_of status ≡ call_status g place c)
+
 -- the lines stand behind the text
 abbrev pub AddsLines : List Reply → List ℕ → List ℕ → Type 0
 AddsLines lines text text2 = text2 ≡ text ++ replies_text lines
@@ -74,12 +87,6 @@ SaysStartOf h x x2 text text2 =
     → (IsReleased g → HasStart g → WasSaid g 0 c g.said)
     → (lines : List Reply) × (g2 : made.Guest) × SaysStart g lines g2 × AddsLines lines text text2
     × IsGuest i x2 g2 × (x2.id ≡ x.id)
-
--- the one of these instances that has the number shows the calls of this; where none has, this is released
-pub record IsLookedUp (h : HostState) (xs : List Guest) (i : ℕ) (g : made.Guest) : Type 0 where
-  pub rise : RiseFrom 0 xs
-  pub shows : (at : ℕ) (x : Guest) → slice_get xs at ≡ Some x → x.id.number ≡ i → ShowsCalls h x g
-  pub gone : HasNoNumber xs i → IsReleased g
 
 -- the calls of an `invoke` are shown, and those of released instances were said
 abbrev pub HasItsCall : HostState → List Guest → List made.Guest → made.Invoked → Type 0

@@ -1,13 +1,13 @@
 // Instances that a script admits, calls and lets go.
 
-ghost use Rattle.std.specs.Prelude.{◌≡◌, ◌<◌, None, IfOk, OnErr, OnOk, length};
+ghost use Rattle.std.specs.Prelude.{◌≡◌, ◌<◌, None, IfOk, OnErr, OnOk, vec_capacity, vec_len};
 ghost use Rattle.wh_commands.specs.Found.{params_of};
 ghost use Rattle.wh_host_model.specs.Lines.Made.{Made};
 ghost use Rattle.wh_host_model.specs.Lines.Settings.{Settings};
 ghost use Rattle.wh_replies.specs.View.{reply_of};
 ghost use Rattle.wh_engine.specs.Names.{number_of};
 ghost use Rattle.wh_engine.specs.Standing.{StandsForScript, engine_on};
-ghost use Rattle.wh_engine.specs.Obeying.{TakesInvoke, TakesGuest};
+ghost use Rattle.wh_engine.specs.Obeying.{IsNoted, TakesInvoke, TakesGuest};
 
 use crate::engine::Engine;
 use crate::parts::{Guest, Invoked, Reception};
@@ -131,8 +131,8 @@ impl Engine {
 
     // Keeps what came of the `invoke` of a number, which is the last one.
     fn note(&mut self, number: u64, came: Reception)
-        requires { vec_len self.old.invoked < vec_capacity self.old.invoked }
-        ensures {  }
+        requires room { vec_len self.old.invoked < vec_capacity self.old.invoked }
+        ensures { IsNoted self.old self.new number came }
     {
         self.asked = number;
         self.invoked.push_reserved(Invoked {

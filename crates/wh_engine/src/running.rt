@@ -1,7 +1,7 @@
 // Calls that run until none can go on.
 
 ghost use Rattle.std.specs.Bool.{MatchBool};
-ghost use Rattle.std.specs.Prelude.{◌≡◌, ◌≢◌, ◌≤◌, IfErr, OnOk};
+ghost use Rattle.std.specs.Prelude.{◌≡◌, ◌≢◌, ◌≤◌, [], IfErr, IfOk, OnOk};
 ghost use Rattle.wh_engine.specs.declared.fault.ScriptFault.TheVariants.{Transcript};
 ghost use Rattle.wh_engine.specs.Draining.{AllRest, DeviceMayFail, DeviceServesWell, DeviceStaysTrue, IsServedWhole, RunsEach, RunsTurns, SomeGoes, StopsOnlyOpen, StopsRun};
 ghost use Rattle.wh_engine.specs.Standing.{engine_on};
@@ -110,7 +110,7 @@ impl Engine {
         let manner = Manner {
             hasher: manner.hasher,
             quantum: manner.quantum,
-            workers: manner.workers.min(ids.len()),
+            workers: manner.workers.min(ids.len()).max(1),
         };
         let served = host.run(rt, alloc, &ids, manner);
         host.known();

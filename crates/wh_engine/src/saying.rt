@@ -6,7 +6,7 @@ ghost use Rattle.wh_replies.specs.View.{caller_of, status_of};
 ghost use Rattle.wh_script_model.specs.Said as said_spec;
 ghost use Rattle.wh_host_model.specs.Lines.Texts.{wants_fuel};
 ghost use Rattle.wh_instance.specs.Tenancy.{suspension_of};
-ghost use Rattle.wh_engine.specs.Saying.{IsFaultless, IsInvokedNow, IsReturnedSo, IsSaidAs, IsStatusAt, SaysAll, SaysAllCalls, SaysAllStarts, SaysCallOf, SaysOf, SaysStartOf};
+ghost use Rattle.wh_engine.specs.Saying.{IsFaultless, IsFoundAt, IsInvokedNow, IsReturnedSo, IsSaidAs, IsStatusAt, SaysAll, SaysAllCalls, SaysAllStarts, SaysCallOf, SaysOf, SaysStartOf};
 ghost use Rattle.wh_engine.specs.Standing.{engine_on};
 
 use crate::ending::{forget_calls, forget_guests};
@@ -86,6 +86,23 @@ fn status_now(host: &Host, guest: &Guest, place: u32, said: Option<Status>) -> O
     said_of(host.call_status(guest.id, place)?)
 }
 
+// How the call at a place of the journal of the instance of a number is, which was last said to be so. An instance that isn't
+// kept any more was released.
+fn found_now(
+    host: &Host,
+    guests: &[Guest],
+    number: usize,
+    place: u32,
+    said: Option<Status>,
+) -> Option<Status>
+    ensures { IsFoundAt host.now guests.now number place said result }
+{
+    match place_of(guests, number) {
+        Some(at) => status_now(host, &guests[at], place, said),
+        None => Some(when_released(said?)),
+    }
+}
+
 // Whether this was said last.
 fn was_said(said: Option<Status>, status: Status) -> bool
     ensures { MatchBool result (said ≡ Some status) (said ≢ Some status) }
@@ -135,10 +152,9 @@ fn invoked_now(host: &Host, guests: &[Guest], invoked: Invoked) -> Option<Status
 {
     match invoked.came {
         Reception::TurnedDown(fault) => Some(Status::Refused { fault }),
-        Reception::TakenOn { guest, place } => match place_of(guests, guest) {
-            Some(at) => status_now(host, &guests[at], place, invoked.said),
-            None => Some(when_released(invoked.said?)),
-        },
+        Reception::TakenOn { guest, place } => {
+            found_now(host, guests, guest, place, invoked.said)
+        }
     }
 }
 

@@ -1,6 +1,6 @@
 use Rattle.std.proofs.Common.{Ok, Err, refl, sym}
 use Rattle.wh_host_model.specs.Host.Events as events
-use Rattle.wh_host_model.specs.Host.Happens.{IsRefuel}
+use Rattle.wh_host_model.specs.Host.Happens.{call_ok, IsRefuel}
 use Rattle.wh_host_model.specs.Lines.Answers.{no_one_to_refuel}
 use Rattle.wh_host_model.specs.Lines.Commands.{refuel}
 use Rattle.wh_host_model.specs.Lines.Texts.{refuel_refused}
@@ -26,7 +26,7 @@ returns-in-Ok-clause-obeys g c settings files line m s named =
     let e = engine_on c.args.host.now.host c.args.self.now in
     let all = whole_on e s.guests s.invoked in
     let there = read_there settings e m c.args.number c.in-Some.at c.index.result.now s c.in-Some.ensures.found c.in-Some.ensures.within c.index.ensures in
-    obeyed_again settings files m line (refuel c.args.name.now c.args.fuel) (refuel_reply c.args.name.now _) e c.refuel.new.self.host s
+    obeyed_again settings files m line (refuel c.args.name.now c.args.fuel) (refuel_reply c.args.name.now call_ok) e c.refuel.new.self.host s
     (answered_ok (refuel c.args.name.now c.args.fuel) (refuel_reply c.args.name.now) settings files line m all c.refuel.new.self.host
     (asked (λ w id answer w2. IsRefuel w id c.args.fuel answer w2) (refuel c.args.name.now c.args.fuel) (refuel_reply c.args.name.now) c.args.name.now (refuels_follow c.args.name.now c.args.fuel)
     (λ settings files m m2 line replies o. refuel_touches o) (λ id. events.refuel id c.args.fuel) (λ w w2 id answer h. (answer, h)) settings files line m all c.refuel.new.self.host c.index.result.now c.args.number (Ok tt)
@@ -42,4 +42,4 @@ returns-in-Err-clause-obeys g c settings files line m s named =
     s.stands named there c.in-Err.ensures.asks (keeps_whole c.args.host.now.host.space c.refuel.new.self.host.space c.in-Err.ensures.backing) in
     let got = obeyed_again settings files m line (refuel c.args.name.now c.args.fuel) (refuel_refused c.args.name.now _) e c.refuel.new.self.host s
     (answered_err (refuel c.args.name.now c.args.fuel) (refuel_reply c.args.name.now) (λ fault. refuel_refused c.args.name.now fault) settings files line m all c.refuel.new.self.host c.in-Err.error refl refl did) in
-    rw (sym c.number-2.ensures) at got
+    rw (sym c.number-in-Err.ensures) at got

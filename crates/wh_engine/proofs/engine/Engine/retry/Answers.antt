@@ -1,6 +1,6 @@
 use Rattle.std.proofs.Common.{Ok, Err, refl, sym}
 use Rattle.wh_host_model.specs.Host.Events as events
-use Rattle.wh_host_model.specs.Host.Happens.{IsRetry}
+use Rattle.wh_host_model.specs.Host.Happens.{call_ok, IsRetry}
 use Rattle.wh_host_model.specs.Lines.Answers.{no_one_to_retry}
 use Rattle.wh_host_model.specs.Lines.Commands.{retry}
 use Rattle.wh_host_model.specs.Lines.Texts.{retry_refused}
@@ -26,7 +26,7 @@ returns-in-Ok-clause-obeys g c settings files line m s named =
     let e = engine_on c.args.host.now.host c.args.self.now in
     let all = whole_on e s.guests s.invoked in
     let there = read_there settings e m c.args.number c.in-Some.at c.index.result.now s c.in-Some.ensures.found c.in-Some.ensures.within c.index.ensures in
-    obeyed_again settings files m line (retry c.args.name.now) (retry_reply c.args.name.now _) e c.retry.new.self.host s
+    obeyed_again settings files m line (retry c.args.name.now) (retry_reply c.args.name.now call_ok) e c.retry.new.self.host s
     (answered_ok (retry c.args.name.now) (retry_reply c.args.name.now) settings files line m all c.retry.new.self.host
     (asked (λ w id answer w2. IsRetry w id answer w2) (retry c.args.name.now) (retry_reply c.args.name.now) c.args.name.now (retries_follow c.args.name.now)
     (λ settings files m m2 line replies o. retry_touches o) (λ id. events.retry id) (λ w w2 id answer h. (answer, h)) settings files line m all c.retry.new.self.host c.index.result.now c.args.number (Ok tt)
@@ -42,4 +42,4 @@ returns-in-Err-clause-obeys g c settings files line m s named =
     s.stands named there c.in-Err.ensures.asks (keeps_whole c.args.host.now.host.space c.retry.new.self.host.space c.in-Err.ensures.backing) in
     let got = obeyed_again settings files m line (retry c.args.name.now) (retry_refused c.args.name.now _) e c.retry.new.self.host s
     (answered_err (retry c.args.name.now) (retry_reply c.args.name.now) (λ fault. retry_refused c.args.name.now fault) settings files line m all c.retry.new.self.host c.in-Err.error refl refl did) in
-    rw (sym c.number-2.ensures) at got
+    rw (sym c.number-in-Err.ensures) at got
