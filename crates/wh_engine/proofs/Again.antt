@@ -1,5 +1,5 @@
 -- An engine that keeps of all that was made what it kept, on another host.
-use Rattle.std.proofs.Common.{◌≡◌, ℕ, true, List, [], ◌∷◌}
+use Rattle.std.proofs.Common.{ℕ, true, [], ◌∷◌}
 use Rattle.wh_host_model.specs.Lines.Settings.{Settings}
 use Rattle.wh_host_model.specs.Lines.Commands.{Command}
 use Rattle.wh_host_model.specs.Lines.Texts.{Reply}

@@ -15,7 +15,7 @@ use Rattle.wh_host_model.specs.Host.Worlds.{Loaded, World}
 use Rattle.wh_script_model.specs.Following.{AreSame, IsFollowed, IsPlaced, Knows}
 use Rattle.wh_engine.specs.Names.{AreNames, number_of}
 use Rattle.wh_engine.specs.declared.parts.Guest.{Guest}
-use Rattle.wh_engine.specs.Standing.{EngineState, StandsForScript, AreGuests, IsInvokedAs, StandsWhole, WholeState, whole_on, LeavesOut, is_over, is_settled, none_there, AreInvoked}
+use Rattle.wh_engine.specs.Standing.{EngineState, StandsForScript, AreGuests, StandsWhole, WholeState, whole_on, LeavesOut, is_over, is_settled, none_there, AreInvoked}
 
 none_vacant : (n : ℕ) → tally is_ticket (replicate n Vacant) ≡ 0
 none_vacant zero = refl

@@ -19,7 +19,7 @@ use Rattle.wh_script_model.specs.Replies.{SaysModule}
 use Rattle.wh_engine.specs.Names.{AreNames, number_of}
 use Rattle.wh_engine.specs.declared.names.Names.{Names}
 use Rattle.wh_engine.specs.declared.parts.Guest.{Guest}
-use Rattle.wh_engine.specs.Standing.{WholeState, IsLed, StandsWhole, EngineState, StandsForScript, whole_on, LeavesOut, is_over, is_settled}
+use Rattle.wh_engine.specs.Standing.{WholeState, IsLed, StandsWhole, EngineState, StandsForScript, whole_on}
 use Rattle.wh_script_model.proofs.Commands.{modules_follow}
 use Rattle.wh_engine.proofs.Named.{named_next, unnamed}
 use Rattle.wh_engine.specs.Obeying.{TakesModule}

@@ -7,7 +7,6 @@ use Rattle.wh_engine.specs.declared.fault.ScriptFault.{ScriptFault}
 use Rattle.wh_engine.specs.declared.fault.ScriptFault.TheVariants.{Settings as NoSettings, Script, Output, Swap, Memory, Threads, Transcript}
 use Rattle.wh_engine.specs.Draining.{SomeGoes, StaysSo, StopsOnlyOpen, WasOpen}
 use Rattle.wh_engine.specs.Standing.{EngineState, engine_on}
-use Rattle.wh_engine.proofs.Runs.{places_of}
 use Rattle.wh_engine.specs.declared.parts.Guest.{Guest}
 
 pub goes_open : (e : Engine) (h : HostState) → SomeGoes h e.guests.items → WasOpen (engine_on h e)

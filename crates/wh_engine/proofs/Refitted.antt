@@ -1,16 +1,14 @@
 -- An engine that keeps the same in other rooms.
 use Rattle.std.proofs.Common.{◌≡◌, map, sym, subst, Result, Ok, Err, OnErr}
 use Rattle.std.specs.Global.{Vec}
-use Rattle.std.specs.List.{AllZip}
 use Rattle.wh_host_model.specs.Lines.Settings.{Settings}
 use Rattle.wh_host_model.specs.Lines.Made as made
 use Rattle.wh_host_model.specs.Lines.Made.{Made}
-use Rattle.wh_script_model.specs.Following.{Knows}
 use Rattle.wh_engine.specs.Names.{AreNames, number_of}
 use Rattle.wh_engine.specs.declared.names.Names.{Names}
 use Rattle.wh_engine.specs.declared.parts.Guest.{Guest}
 use Rattle.wh_engine.specs.declared.parts.Invoked.{Invoked}
-use Rattle.wh_engine.specs.Standing.{EngineState, StandsForScript, AreGuests, IsInvokedAs, LeavesOut, is_over, is_settled}
+use Rattle.wh_engine.specs.Standing.{EngineState, StandsForScript, LeavesOut, is_over, is_settled}
 
 -- other names with the same numbers, and the same instances and calls in other vectors
 pub refitted : (settings : Settings) (e : EngineState) (m : Made) (ms gs : Names) (xs : Vec Guest) (vs : Vec Invoked) → StandsForScript settings e m

@@ -23,7 +23,7 @@ use Rattle.wh_script_model.specs.Replies.{release_reply}
 use Rattle.wh_script_model.proofs.CommandsEnding.{releases_follow}
 use Rattle.wh_engine.specs.Names.{AreNames, number_of}
 use Rattle.wh_engine.specs.declared.parts.Guest.{Guest}
-use Rattle.wh_engine.specs.Standing.{WholeState, IsLed, StandsWhole, AreGuests, IsGuest, EngineState, StandsForScript, whole_on, LeavesOut, is_over, is_settled}
+use Rattle.wh_engine.specs.Standing.{WholeState, IsLed, StandsWhole, AreGuests, IsGuest, EngineState, StandsForScript, whole_on}
 use Rattle.wh_engine.specs.Obeying.{IsNamed, ObeysCommand}
 use Rattle.wh_engine.proofs.Asked.{ObeysWhole, on_host, stands_on, whole_of, id_of, own_number}
 use Rattle.wh_engine.proofs.Instances.{TouchesCalls, nothing, names_stay, placed_at}

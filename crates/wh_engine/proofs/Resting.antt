@@ -1,5 +1,5 @@
 -- Instances none of which can go on.
-use Rattle.std.proofs.Common.{arith, ◌≡◌, ℕ, zero, suc, ◌+◌, ◌<◌, ◌≤◌, ⊎_elim, List, [], ◌∷◌, ◌++◌, length, get_or, slice_get, Some, true, false, sym, subst, ◌∙◌, ◌≢◌, ap, refl}
+use Rattle.std.proofs.Common.{arith, ◌≡◌, ℕ, zero, suc, ◌+◌, ◌<◌, ◌≤◌, ⊎_elim, List, [], ◌∷◌, ◌++◌, length, get_or, slice_get, Some, true, false, sym, subst, ◌∙◌, ◌≢◌, refl}
 use Rattle.std.proofs.lemmas.Bool.{cases_lt}
 use Rattle.std.proofs.lemmas.Option.{same_Some}
 use Rattle.wh_host.specs.Hosting.{HostState}
@@ -36,8 +36,9 @@ pub no_items : {A : Type 0} (xs : List A) → length xs ≡ 0 → xs ≡ []
 no_items [] e = refl
 no_items (x ∷ xs) e = absurd (omega (arith, e))
 
-pub some_items : {A : Type 0} (xs : List A) → ¬ (length xs ≡ 0) → xs ≢ []
-some_items xs none e = none (ap (λ ys. length ys) e)
+pub some_items : {A : Type 0} (xs : List A) → 0 < length xs → xs ≢ []
+some_items [] more e = omega (arith, more)
+some_items (x ∷ xs) more e = cc e
 
 -- ids of those of the first so many that can go on: where there are none, these rest; where there are some, one of them can
 pub record GoingSoFar (h : HostState) (xs : List Guest) (ids : List InstId) (at : ℕ) : Type 0 where

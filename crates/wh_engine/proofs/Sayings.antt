@@ -1,5 +1,5 @@
 -- What is said of calls, one after the other.
-use Rattle.std.proofs.Common.{arith, ◌≡◌, ℕ, ◌+◌, ◌<◌, zero, suc, false, List, [], ◌∷◌, ◌++◌, map, length, Result, Ok, Err, OnOk, get_or, ◌≤◌, slice_get, slice_set, Option, Some, None, option_map, refl, ap, sym, subst, ◌∙◌, append_assoc, append-nil, length-append, Bool, true, ◌&&◌, ◌||◌, not, ◌⊎◌, inl, inr, ⊎_elim}
+use Rattle.std.proofs.Common.{arith, ◌≡◌, ℕ, ◌+◌, zero, suc, false, List, [], ◌∷◌, ◌++◌, map, length, Result, Ok, Err, OnOk, get_or, slice_get, Option, Some, None, option_map, refl, ap, sym, subst, ◌∙◌, append_assoc, append-nil, Bool, true, ◌&&◌, ◌||◌, not, ◌⊎◌, inl, inr, ⊎_elim}
 use Rattle.std.proofs.lemmas.Option.{same_Some, none-some}
 use Rattle.std.specs.List.{AllZip, filter}
 use Rattle.std.specs.Global.{Vec}

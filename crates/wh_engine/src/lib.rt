@@ -2,8 +2,8 @@
 #![tactic(auto)]
 
 mod asking;
-mod engine;
 mod ending;
+mod engine;
 mod fault;
 mod finding;
 mod guests;

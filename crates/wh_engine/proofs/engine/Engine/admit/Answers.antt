@@ -1,4 +1,4 @@
-use Rattle.std.proofs.Common.{arith, ◌≡◌, ◌∙◌, ◌++◌, ◌∷◌, [], length, List, Some, None, false, ap, sym, subst, refl}
+use Rattle.std.proofs.Common.{arith, ◌≡◌, ◌∙◌, ◌++◌, ◌∷◌, [], List, Some, None, false, ap, sym, subst, refl}
 use Rattle.std.specs.Map.{update}
 use Rattle.std.proofs.Common.{bytes_eq}
 use Rattle.wh_host.specs.Paging.{IsGoing, Tells}
