@@ -15,6 +15,8 @@ mod limits;
 #[cfg(test)]
 mod lines;
 #[cfg(test)]
+mod lives;
+#[cfg(test)]
 mod requests;
 #[cfg(test)]
 mod running;

@@ -1,5 +1,5 @@
 -- Instances that a script admits.
-use Rattle.std.proofs.Common.{arith, ◌≡◌, ◌≢◌, ℕ, zero, suc, ◌+◌, ◌<◌, inl, ◌↔◌, true, false, Bool, List, [], ◌∷◌, ◌++◌, map, length, get_or, slice_get, bytes_eq, string_bytes, option_map, Option, Some, None, Ok, Err, refl, ap, sym, subst, ◌∙◌}
+use Rattle.std.proofs.Common.{arith, ◌≡◌, ◌≢◌, ℕ, zero, suc, ◌+◌, ◌<◌, inl, ◌↔◌, true, false, Bool, List, [], ◌∷◌, ◌++◌, map, length, get_or, slice_get, bytes_eq, string_bytes, option_map, Option, Some, None, Ok, Err, refl, ap, sym, subst, ◌∙◌, length-append}
 use Rattle.std.specs.Bool.{MatchBool}
 use Rattle.std.specs.Global.{Vec}
 use Rattle.std.specs.List.{AllZip}
@@ -38,10 +38,11 @@ use Rattle.wh_replies.specs.View.{status_of}
 use Rattle.wh_engine.specs.Names.{AreNames, number_of}
 use Rattle.wh_engine.specs.declared.names.Names.{Names}
 use Rattle.wh_engine.specs.declared.parts.Guest.{Guest}
-use Rattle.wh_engine.specs.Standing.{EngineState, IsLed, StandsForScript, AreGuests, IsGuest}
-use Rattle.wh_engine.specs.Obeying.{TakesGuest}
+use Rattle.wh_engine.specs.Standing.{WholeState, IsLed, StandsWhole, AreGuests, IsGuest, EngineState, StandsForScript, whole_on, LeavesOut, is_over}
 use Rattle.wh_engine.proofs.Asked.{whole_of}
 use Rattle.wh_engine.proofs.Named.{named_next, unnamed}
+use Rattle.wh_engine.specs.Obeying.{TakesGuest}
+use Rattle.wh_engine.proofs.Left.{one_more_kept}
 
 -- ---- whether there is a start
 
@@ -108,7 +109,7 @@ map_long : {A B : Type 0} (f : A → B) (xs : List A) → length (map f xs) ≡ 
 map_long f [] = refl
 map_long f (x ∷ xs) = let e = map_long f xs in omega (arith, e)
 
-there_at : {A : Type 0} (xs : List A) (i : ℕ) → i < length xs → (x : A) × (slice_get xs i ≡ Some x)
+pub there_at : {A : Type 0} (xs : List A) (i : ℕ) → i < length xs → (x : A) × (slice_get xs i ≡ Some x)
 there_at [] i within = absurd (omega (arith, within))
 there_at (x ∷ xs) zero within = (x, refl)
 there_at (x ∷ xs) (suc i) within = let e : i < length xs = omega (arith, within) in there_at xs i e
@@ -180,8 +181,14 @@ has_start {w = w} {w2 = w2} {k = k} {number = number} {place = place} {p = p} l 
 
 -- ---- the engine
 
-abbrev pub with_guests : EngineState → HostState → Names → Vec Guest → EngineState
+abbrev pub with_guests : WholeState → HostState → Names → List Guest → WholeState
 with_guests e h names xs = record e { host = h; guest_names = names; guests = xs }
+
+-- an instance whose name is free, of the module of this number, got this reply
+abbrev pub TakesGuestWhole : Settings → Made → (name : List ℕ) (k : ℕ) (p : Params) → Reply → WholeState → Type 0
+TakesGuestWhole settings m name k p reply e2 =
+    (named : NamedModule) × (slice_get m.modules k ≡ Some named)
+    × (m2 : Made) × ReceivesGuest true settings m name named.m p reply m2 × StandsWhole settings e2 m2
 
 -- the new instance as the engine keeps it
 pub record IsNewGuest (x : Guest) (inst : List ℕ) (own : InstId) : Type 0 where
@@ -190,22 +197,22 @@ pub record IsNewGuest (x : Guest) (inst : List ℕ) (own : InstId) : Type 0 wher
   pub live : x.is_released ≡ false
   pub unsaid : x.said ≡ None
 
-new_stands : (settings : Settings) (e : EngineState) (m : Made) (named : NamedModule) (inst : List ℕ) (k : ℕ) (p : Params) (id : InstId) (h2 : HostState) (names : Names) (x : Guest) (xs : Vec Guest)
-    → (s : StandsForScript settings e m) → number_of e.guest_names inst ≡ None → slice_get m.modules k ≡ Some named
-    → ((other : List ℕ) → number_of names other ≡ update bytes_eq (number_of e.guest_names) inst (Some (length e.guests.items)) other)
-    → Tells h2 x.has_start (λ z. IsGoing z id) → IsNewGuest x inst id → xs.items ≡ e.guests.items ++ x ∷ []
+new_stands : (settings : Settings) (e : WholeState) (m : Made) (named : NamedModule) (inst : List ℕ) (k : ℕ) (p : Params) (id : InstId) (h2 : HostState) (names : Names) (x : Guest) (xs : List Guest)
+    → (s : StandsWhole settings e m) → number_of e.guest_names inst ≡ None → slice_get m.modules k ≡ Some named
+    → ((other : List ℕ) → number_of names other ≡ update bytes_eq (number_of e.guest_names) inst (Some (length e.guests)) other)
+    → Tells h2 x.has_start (λ z. IsGoing z id) → IsNewGuest x inst id → xs ≡ e.guests ++ x ∷ []
     → (w2 : World) → LetsIn s.world k p id.place id.number w2
     → (m2 : Made) (reply : Reply) → reply ≡ texts.admit_ok inst id.number → ReceivesGuest true settings m inst named.m p reply m2 → IsLed h2 w2
-    → Knows settings w2 m2 (map (λ (y : Guest). y.id.place) e.guests.items ++ id.place ∷ [])
-    → TakesGuest settings m inst k p reply (with_guests e h2 names xs)
+    → Knows settings w2 m2 (map (λ (y : Guest). y.id.place) e.guests ++ id.place ∷ [])
+    → TakesGuestWhole settings m inst k p reply (with_guests e h2 names xs)
 new_stands settings e m named inst k p id h2 names x xs s free at sets tells is items w2 lets _ _ eq (receiving.isnt_admitted fault first) is2 knows2 = absurd (cc eq)
 new_stands settings e m named inst k p id h2 names x xs s free at sets tells is items w2 lets _ _ eq (receiving.admission_wants scarce none) is2 knows2 = absurd (cc eq)
 new_stands settings e m named inst k p id h2 names x xs s free at sets tells is items w2 lets _ _ eq (receiving.is_admitted {inst = own} {s = store} {pieces = pieces} none initial) is2 knows2 =
     let g = new_guest inst named.m p own pieces in
-    let long : length e.guests.items ≡ length m.guests = guests_long 0 e.guests.items m.guests s.guests in
+    let long : length e.guests ≡ length m.guests = guests_long 0 e.guests m.guests s.guests in
     let number : id.number ≡ length m.guests = cc eq in
-    let place : x.id.number ≡ 0 + length e.guests.items = let a = ap (λ (y : InstId). y.number) is.id in omega (arith, a, number, long) in
-    let at_end : IsGuest (0 + length e.guests.items) x g = record {
+    let place : x.id.number ≡ 0 + length e.guests = let a = ap (λ (y : InstId). y.number) is.id in omega (arith, a, number, long) in
+    let at_end : IsGuest (0 + length e.guests) x g = record {
       number = place;
       name = is.name;
       starts = has_start lets m.guests g pieces h2 x.has_start knows2.guests refl is2.0 tells;
@@ -221,23 +228,23 @@ new_stands settings e m named inst k p id h2 names x xs s free at sets tells is 
         is = is2;
         modules = s.modules;
         knows = subst (Knows settings w2 (record m { guests = m.guests ++ g ∷ [] }))
-            (sym (ap (λ ys. map (λ (y : Guest). y.id.place) ys) items ∙ map_end (λ (y : Guest). y.id.place) e.guests.items x
-            ∙ ap (λ (y : InstId). map (λ (z : Guest). z.id.place) e.guests.items ++ y.place ∷ []) is.id)) knows2;
+            (sym (ap (λ ys. map (λ (y : Guest). y.id.place) ys) items ∙ map_end (λ (y : Guest). y.id.place) e.guests x
+            ∙ ap (λ (y : InstId). map (λ (z : Guest). z.id.place) e.guests ++ y.place ∷ []) is.id)) knows2;
         module_names = s.module_names;
         guest_names = subst (AreNames (number_of names)) (sym (map_end (λ (y : made.Guest). y.name) m.guests g))
-            (named_next (number_of e.guest_names) (number_of names) (map (λ (y : made.Guest). y.name) m.guests) inst (length e.guests.items) s.guest_names free
+            (named_next (number_of e.guest_names) (number_of names) (map (λ (y : made.Guest). y.name) m.guests) inst (length e.guests) s.guest_names free
             (long ∙ sym (map_long (λ (y : made.Guest). y.name) m.guests)) sets);
-        guests = subst (λ ys. AreGuests 0 ys (m.guests ++ g ∷ [])) (sym items) (guests_end 0 e.guests.items m.guests x g s.guests at_end);
+        guests = subst (λ ys. AreGuests 0 ys (m.guests ++ g ∷ [])) (sym items) (guests_end 0 e.guests m.guests x g s.guests at_end);
         invoked = s.invoked;
       },
     )
 
 -- it is admitted
-pub admitted : (settings : Settings) (e : EngineState) (m : Made) (inst : List ℕ) (k : ℕ) (p : Params) (id : InstId) (h2 : HostState) (names : Names) (x : Guest) (xs : Vec Guest)
-    → StandsForScript settings e m → number_of e.guest_names inst ≡ None → k < e.modules → AnswersAdmit e.host k p (Ok id) h2 → StaysWhole e.host.space h2.space
-    → ((other : List ℕ) → number_of names other ≡ update bytes_eq (number_of e.guest_names) inst (Some (length e.guests.items)) other)
-    → Tells h2 x.has_start (λ z. IsGoing z id) → IsNewGuest x inst id → xs.items ≡ e.guests.items ++ x ∷ []
-    → TakesGuest settings m inst k p (texts.admit_ok inst id.number) (with_guests e h2 names xs)
+pub admitted : (settings : Settings) (e : WholeState) (m : Made) (inst : List ℕ) (k : ℕ) (p : Params) (id : InstId) (h2 : HostState) (names : Names) (x : Guest) (xs : List Guest)
+    → StandsWhole settings e m → number_of e.guest_names inst ≡ None → k < e.modules → AnswersAdmit e.host k p (Ok id) h2 → StaysWhole e.host.space h2.space
+    → ((other : List ℕ) → number_of names other ≡ update bytes_eq (number_of e.guest_names) inst (Some (length e.guests)) other)
+    → Tells h2 x.has_start (λ z. IsGoing z id) → IsNewGuest x inst id → xs ≡ e.guests ++ x ∷ []
+    → TakesGuestWhole settings m inst k p (texts.admit_ok inst id.number) (with_guests e h2 names xs)
 admitted settings e m inst k p id h2 names x xs s free within answers whole sets tells is items =
     let w = s.world in
     let did = answers w s.is.0 in
@@ -245,7 +252,7 @@ admitted settings e m inst k p id h2 names x xs s free within answers whole sets
     let entered = entered_as w did.1 k p id did.0 did.2 did.3 in
     let reached = s.is.1 in
     let led : IsLed h2 did.1 = (did.4, reached_on w did.1 (events.admit k p) reached (did.0, did.3)) in
-    let follows = guests_follow reached.frames reached.slots reached.tax reached.events w reached.happen settings m (map (λ (y : Guest). y.id.place) e.guests.items) k there.0 inst p
+    let follows = guests_follow reached.frames reached.slots reached.tax reached.events w reached.happen settings m (map (λ (y : Guest). y.id.place) e.guests) k there.0 inst p
     (admit_ok id) did.1 s.knows there.1 (is_admitted entered.lets) (whole_of e.host h2 w did.1 s.is.0 did.4 whole) in
     new_stands settings e m there.0 inst k p id h2 names x xs s free there.1 sets tells is items did.1 entered.lets follows.0 (texts.admit_ok inst id.number) refl follows.1 led follows.2
 
@@ -262,9 +269,9 @@ refused_as inst MemoryMin = refl
 refused_as inst SegmentBounds = refl
 refused_as inst Memory = refl
 
-refused_engine : (settings : Settings) (e : EngineState) (m : Made) (h2 : HostState) (names : Names) (xs : Vec Guest) → StandsForScript settings e m
-    → AreNames (number_of names) (map (λ (y : made.Guest). y.name) m.guests) → xs.items ≡ e.guests.items
-    → (w2 : World) → IsLed h2 w2 → Knows settings w2 m (map (λ (y : Guest). y.id.place) e.guests.items) → StandsForScript settings (with_guests e h2 names xs) m
+refused_engine : (settings : Settings) (e : WholeState) (m : Made) (h2 : HostState) (names : Names) (xs : List Guest) → StandsWhole settings e m
+    → AreNames (number_of names) (map (λ (y : made.Guest). y.name) m.guests) → xs ≡ e.guests
+    → (w2 : World) → IsLed h2 w2 → Knows settings w2 m (map (λ (y : Guest). y.id.place) e.guests) → StandsWhole settings (with_guests e h2 names xs) m
 refused_engine settings e m h2 names xs s are items w2 is2 knows2 = record {
   world = w2;
   is = is2;
@@ -280,32 +287,73 @@ places_refused : (settings : Settings) (w2 : World) (m2 : Made) (places : List �
 places_refused settings w2 m2 places (Some fault) knows = knows
 places_refused settings w2 m2 places None knows = knows
 
-refused_stands : (settings : Settings) (e : EngineState) (m : Made) (named : NamedModule) (inst : List ℕ) (k : ℕ) (p : Params) (fault : ℕ) (h2 : HostState) (names : Names) (xs : Vec Guest)
-    → StandsForScript settings e m → slice_get m.modules k ≡ Some named → AreNames (number_of names) (map (λ (y : made.Guest). y.name) m.guests) → xs.items ≡ e.guests.items
+refused_stands : (settings : Settings) (e : WholeState) (m : Made) (named : NamedModule) (inst : List ℕ) (k : ℕ) (p : Params) (fault : ℕ) (h2 : HostState) (names : Names) (xs : List Guest)
+    → StandsWhole settings e m → slice_get m.modules k ≡ Some named → AreNames (number_of names) (map (λ (y : made.Guest). y.name) m.guests) → xs ≡ e.guests
     → (w2 : World) (m2 : Made) (reply : Reply) → reply ≡ texts.admit_refused inst fault → ReceivesGuest true settings m inst named.m p reply m2 → IsLed h2 w2
-    → Knows settings w2 m2 (map (λ (y : Guest). y.id.place) e.guests.items)
-    → TakesGuest settings m inst k p reply (with_guests e h2 names xs)
+    → Knows settings w2 m2 (map (λ (y : Guest). y.id.place) e.guests)
+    → TakesGuestWhole settings m inst k p reply (with_guests e h2 names xs)
 refused_stands settings e m named inst k p fault h2 names xs s at are items w2 _ _ eq (receiving.is_admitted none initial) is2 knows2 = absurd (cc eq)
 refused_stands settings e m named inst k p fault h2 names xs s at are items w2 _ _ eq (receiving.isnt_admitted own first) is2 knows2 =
     (named, at, m, receiving.isnt_admitted own first, refused_engine settings e m h2 names xs s are items w2 is2 knows2)
 refused_stands settings e m named inst k p fault h2 names xs s at are items w2 _ _ eq (receiving.admission_wants scarce none) is2 knows2 =
     (named, at, m, receiving.admission_wants scarce none, refused_engine settings e m h2 names xs s are items w2 is2 knows2)
 
-pub refused : (settings : Settings) (e : EngineState) (m : Made) (inst : List ℕ) (k : ℕ) (p : Params) (error : AdmitError) (h2 : HostState) (given names : Names) (xs : Vec Guest)
-    → StandsForScript settings e m → k < e.modules → number_of e.guest_names inst ≡ None → AnswersAdmit e.host k p (Err error) h2 → StaysWhole e.host.space h2.space
-    → ((other : List ℕ) → number_of given other ≡ update bytes_eq (number_of e.guest_names) inst (Some (length e.guests.items)) other)
+pub refused : (settings : Settings) (e : WholeState) (m : Made) (inst : List ℕ) (k : ℕ) (p : Params) (error : AdmitError) (h2 : HostState) (given names : Names) (xs : List Guest)
+    → StandsWhole settings e m → k < e.modules → number_of e.guest_names inst ≡ None → AnswersAdmit e.host k p (Err error) h2 → StaysWhole e.host.space h2.space
+    → ((other : List ℕ) → number_of given other ≡ update bytes_eq (number_of e.guest_names) inst (Some (length e.guests)) other)
     → ((other : List ℕ) → number_of names other ≡ update bytes_eq (number_of given) inst None other)
-    → xs.items ≡ e.guests.items
-    → TakesGuest settings m inst k p (texts.admit_refused inst (admit_number error)) (with_guests e h2 names xs)
+    → xs ≡ e.guests
+    → TakesGuestWhole settings m inst k p (texts.admit_refused inst (admit_number error)) (with_guests e h2 names xs)
 refused settings e m inst k p error h2 given names xs s within free answers whole sets clears items =
     let w = s.world in
     let did = answers w s.is.0 in
     let there = there_at m.modules k (subst (λ n. k < n) s.modules within) in
     let reached = s.is.1 in
     let led : IsLed h2 did.1 = (did.4, reached_on w did.1 (events.admit k p) reached (did.0, did.3)) in
-    let follows = guests_follow reached.frames reached.slots reached.tax reached.events w reached.happen settings m (map (λ (y : Guest). y.id.place) e.guests.items) k there.0 inst p
+    let follows = guests_follow reached.frames reached.slots reached.tax reached.events w reached.happen settings m (map (λ (y : Guest). y.id.place) e.guests) k there.0 inst p
     (fault_answer (fault_of error)) did.1 s.knows there.1 (subst (λ a. IsAdmit w k p a did.1) did.2 did.3) (whole_of e.host h2 w did.1 s.is.0 did.4 whole) in
-    let are = unnamed (number_of e.guest_names) (number_of given) (number_of names) (map (λ (y : made.Guest). y.name) m.guests) inst (Some (length e.guests.items)) s.guest_names free sets clears in
-    subst (λ r. TakesGuest settings m inst k p r (with_guests e h2 names xs)) (refused_as inst error)
+    let are = unnamed (number_of e.guest_names) (number_of given) (number_of names) (map (λ (y : made.Guest). y.name) m.guests) inst (Some (length e.guests)) s.guest_names free sets clears in
+    subst (λ r. TakesGuestWhole settings m inst k p r (with_guests e h2 names xs)) (refused_as inst error)
     (refused_stands settings e m there.0 inst k p (admit_number error) h2 names xs s there.1 are items did.1 follows.0 (admit_reply inst (fault_answer (fault_of error))) (refused_as inst error)
-    follows.1 led (places_refused settings did.1 follows.0 (map (λ (y : Guest). y.id.place) e.guests.items) (fault_of error) follows.2))
+    follows.1 led (places_refused settings did.1 follows.0 (map (λ (y : Guest). y.id.place) e.guests) (fault_of error) follows.2))
+
+-- ---- what is kept then
+
+pub guest_again : (settings : Settings) (e : EngineState) (m : Made) (inst : List ℕ) (k : ℕ) (p : Params) (reply : Reply) (h2 : HostState) (names : Names) (x : Guest) (xs : Vec Guest) (count : ℕ)
+    (s : StandsForScript settings e m) → xs.items ≡ e.guests.items ++ x ∷ [] → count ≡ e.admitted + 1
+    → TakesGuestWhole settings m inst k p reply (with_guests (whole_on e s.guests s.invoked) h2 names (s.guests ++ x ∷ []))
+    → TakesGuest settings m inst k p reply (record e { host = h2; guest_names = names; guests = xs; admitted = count })
+guest_again settings e m inst k p reply h2 names x xs count s items counts takes = (
+  takes.0,
+  takes.1,
+  takes.2,
+  takes.3,
+  record {
+    guests = s.guests ++ x ∷ [];
+    invoked = s.invoked;
+    kept = subst (λ ys. LeavesOut is_over ys (s.guests ++ x ∷ [])) (sym items) (one_more_kept x s.kept);
+    pending = s.pending;
+    admitted = counts ∙ ap (λ n. n + 1) s.admitted ∙ sym (length-append s.guests (x ∷ []));
+    asked = s.asked;
+    stands = takes.4;
+  },
+)
+
+pub refused_again : (settings : Settings) (e : EngineState) (m : Made) (inst : List ℕ) (k : ℕ) (p : Params) (reply : Reply) (h2 : HostState) (names : Names) (xs : Vec Guest)
+    (s : StandsForScript settings e m) → xs.items ≡ e.guests.items → TakesGuestWhole settings m inst k p reply (with_guests (whole_on e s.guests s.invoked) h2 names s.guests)
+    → TakesGuest settings m inst k p reply (record e { host = h2; guest_names = names; guests = xs })
+refused_again settings e m inst k p reply h2 names xs s items takes = (
+  takes.0,
+  takes.1,
+  takes.2,
+  takes.3,
+  record {
+    guests = s.guests;
+    invoked = s.invoked;
+    kept = subst (λ ys. LeavesOut is_over ys s.guests) (sym items) s.kept;
+    pending = s.pending;
+    admitted = s.admitted;
+    asked = s.asked;
+    stands = takes.4;
+  },
+)

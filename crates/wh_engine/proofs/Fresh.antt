@@ -15,7 +15,7 @@ use Rattle.wh_host_model.specs.Host.Worlds.{Loaded, World}
 use Rattle.wh_script_model.specs.Following.{AreSame, IsFollowed, IsPlaced, Knows}
 use Rattle.wh_engine.specs.Names.{AreNames, number_of}
 use Rattle.wh_engine.specs.declared.parts.Guest.{Guest}
-use Rattle.wh_engine.specs.Standing.{EngineState, StandsForScript, AreGuests, IsInvokedAs}
+use Rattle.wh_engine.specs.Standing.{EngineState, StandsForScript, AreGuests, StandsWhole, WholeState, whole_on, LeavesOut, is_over, is_settled, none_there, AreInvoked}
 
 none_vacant : (n : ℕ) → tally is_ticket (replicate n Vacant) ≡ 0
 none_vacant zero = refl
@@ -45,9 +45,9 @@ knows_none settings w tax num den modules tenants new = record {
   placed = subst (λ ts. AllZip IsPlaced [] ts) (sym tenants) tt;
 }
 
-pub fresh : (settings : Settings) (tax : Tax) (e : EngineState) → tax.num ≡ settings.num → tax.den ≡ settings.den → IsNewHost e.host settings.frames settings.slots tax → ((name : List ℕ) → number_of e.module_names name ≡ None)
-    → ((name : List ℕ) → number_of e.guest_names name ≡ None) → e.guests.items ≡ [] → e.invoked.items ≡ [] → e.modules ≡ 0 → StandsForScript settings e nothing_made
-fresh settings tax e num den new modules guests none no_call zero_many = record {
+fresh_whole : (settings : Settings) (tax : Tax) (e : WholeState) → tax.num ≡ settings.num → tax.den ≡ settings.den → IsNewHost e.host settings.frames settings.slots tax → ((name : List ℕ) → number_of e.module_names name ≡ None)
+    → ((name : List ℕ) → number_of e.guest_names name ≡ None) → e.guests ≡ [] → e.invoked ≡ [] → e.modules ≡ 0 → StandsWhole settings e nothing_made
+fresh_whole settings tax e num den new modules guests none no_call zero_many = record {
   world = new.0;
   is = (new.1, new.2);
   modules = zero_many;
@@ -55,5 +55,18 @@ fresh settings tax e num den new modules guests none no_call zero_many = record 
   module_names = no_names (number_of e.module_names) modules;
   guest_names = no_names (number_of e.guest_names) guests;
   guests = subst (λ xs. AreGuests 0 xs []) (sym none) tt;
-  invoked = subst (λ xs. AllZip IsInvokedAs xs []) (sym no_call) tt;
+  invoked = subst (λ xs. AreInvoked 1 xs []) (sym no_call) tt;
+}
+
+pub fresh : (settings : Settings) (tax : Tax) (e : EngineState) → tax.num ≡ settings.num → tax.den ≡ settings.den → IsNewHost e.host settings.frames settings.slots tax
+    → ((name : List ℕ) → number_of e.module_names name ≡ None) → ((name : List ℕ) → number_of e.guest_names name ≡ None) → e.guests.items ≡ [] → e.invoked.items ≡ [] → e.modules ≡ 0
+    → e.admitted ≡ 0 → e.asked ≡ 0 → StandsForScript settings e nothing_made
+fresh settings tax e num den new modules guests none no_call zero_many no_guest none_asked = record {
+  guests = [];
+  invoked = [];
+  kept = subst (λ xs. LeavesOut is_over xs []) (sym none) none_there;
+  pending = subst (λ xs. LeavesOut is_settled xs []) (sym no_call) none_there;
+  admitted = no_guest;
+  asked = none_asked;
+  stands = fresh_whole settings tax (whole_on e [] []) num den new modules guests refl refl zero_many;
 }

@@ -19,10 +19,10 @@ use Rattle.wh_script_model.specs.Replies.{SaysModule}
 use Rattle.wh_engine.specs.Names.{AreNames, number_of}
 use Rattle.wh_engine.specs.declared.names.Names.{Names}
 use Rattle.wh_engine.specs.declared.parts.Guest.{Guest}
-use Rattle.wh_engine.specs.Standing.{EngineState, IsLed, StandsForScript}
-use Rattle.wh_engine.specs.Obeying.{TakesModule}
+use Rattle.wh_engine.specs.Standing.{WholeState, IsLed, StandsWhole, EngineState, StandsForScript, whole_on}
 use Rattle.wh_script_model.proofs.Commands.{modules_follow}
 use Rattle.wh_engine.proofs.Named.{named_next, unnamed}
+use Rattle.wh_engine.specs.Obeying.{TakesModule}
 
 abbrev label : NamedModule → List ℕ
 label n = n.name
@@ -35,16 +35,21 @@ one_longer : (ms : List NamedModule) (n : NamedModule) → length (ms ++ n ∷ [
 one_longer [] n = refl
 one_longer (x ∷ ms) n = let e = one_longer ms n in omega (arith, e)
 
+-- a module whose name is free got this reply
+abbrev pub TakesModuleWhole : Settings → Made → (name bytes : List ℕ) → Reply → WholeState → Type 0
+TakesModuleWhole settings m name bytes reply e2 =
+    (m2 : Made) × ReceivesModule true m name bytes reply m2 × StandsWhole settings e2 m2
+
 -- what the law of modules says of an answer of the host
-law_of : (settings : Settings) (e : EngineState) (m : Made) (name bytes : List ℕ) (h2 : HostState) (r : Result ModuleId ModuleError) (reply : Reply) (s : StandsForScript settings e m)
+law_of : (settings : Settings) (e : WholeState) (m : Made) (name bytes : List ℕ) (h2 : HostState) (r : Result ModuleId ModuleError) (reply : Reply) (s : StandsWhole settings e m)
     → AnswersLoad e.host bytes r h2 → ((answer : LoadAnswer) → IsLoadAnswer r answer → SaysModule name answer reply)
     → (m2 : Made) × (w2 : World) × ReceivesModule true m name bytes reply m2 × IsLed h2 w2
-    × Knows settings w2 m2 (map (λ (x : Guest). x.id.place) e.guests.items)
+    × Knows settings w2 m2 (map (λ (x : Guest). x.id.place) e.guests)
 law_of settings e m name bytes h2 r reply s answers says =
     let did = answers s.world s.is.0 in
     let reached = s.is.1 in
     let follows = modules_follow reached.frames reached.slots reached.tax reached.events s.world reached.happen settings m
-    (map (λ (x : Guest). x.id.place) e.guests.items) name bytes did.0 did.1 reply s.knows did.3 (says did.0 did.2) in
+    (map (λ (x : Guest). x.id.place) e.guests) name bytes did.0 did.1 reply s.knows did.3 (says did.0 did.2) in
     (follows.0, did.1, follows.1, (did.4, reached_on s.world did.1 (events.load bytes) reached (did.0, did.3)), follows.2)
 
 labelled : (ms : List NamedModule) → length (map label ms) ≡ length ms
@@ -52,18 +57,18 @@ labelled [] = refl
 labelled (x ∷ ms) = let e = labelled ms in omega (arith, e)
 
 -- the engine with another host and other names of modules
-abbrev pub with_modules : EngineState → HostState → Names → ℕ → EngineState
+abbrev pub with_modules : WholeState → HostState → Names → ℕ → WholeState
 with_modules e h names k = record e { host = h; module_names = names; modules = k }
 
 ok_says : (name : List ℕ) (id : ModuleId) (answer : LoadAnswer) → IsLoadAnswer (Ok id) answer → SaysModule name answer (module_ok name)
 ok_says name id answer is = subst (λ a. SaysModule name a (module_ok name)) (sym is) refl
 
-kept_stands : (settings : Settings) (e : EngineState) (m : Made) (name bytes : List ℕ) (h2 : HostState) (names : Names) (k : ℕ) → StandsForScript settings e m → number_of e.module_names name ≡ None
+kept_stands : (settings : Settings) (e : WholeState) (m : Made) (name bytes : List ℕ) (h2 : HostState) (names : Names) (k : ℕ) → StandsWhole settings e m → number_of e.module_names name ≡ None
     → ((other : List ℕ) → number_of names other ≡ update bytes_eq (number_of e.module_names) name (Some e.modules) other)
     → (e.modules < most_modules → k ≡ e.modules + 1)
     → (m2 : Made) (w2 : World) (reply : Reply) → reply ≡ module_ok name → ReceivesModule true m name bytes reply m2 → IsLed h2 w2
-    → Knows settings w2 m2 (map (λ (x : Guest). x.id.place) e.guests.items)
-    → TakesModule settings m name bytes reply (with_modules e h2 names k)
+    → Knows settings w2 m2 (map (λ (x : Guest). x.id.place) e.guests)
+    → TakesModuleWhole settings m name bytes reply (with_modules e h2 names k)
 kept_stands settings e m name bytes h2 names k s free sets counts _ w2 _ is (module_isnt_kept turns_down) is2 knows2 = absurd (cc is)
 kept_stands settings e m name bytes h2 names k s free sets counts _ w2 _ is (module_is_wanting scarce wants) is2 knows2 = absurd (cc is)
 kept_stands settings e m name bytes h2 names k s free sets counts _ w2 _ is (module_is_kept {m = spelled} accepted few) is2 knows2 =
@@ -86,8 +91,8 @@ kept_stands settings e m name bytes h2 names k s free sets counts _ w2 _ is (mod
     )
 
 -- other names of the same modules
-pub with_names : (settings : Settings) (e : EngineState) (m : Made) (h2 : HostState) (names : Names) (w2 : World) → StandsForScript settings e m → AreNames (number_of names) (map label m.modules)
-    → IsLed h2 w2 → Knows settings w2 m (map (λ (x : Guest). x.id.place) e.guests.items) → StandsForScript settings (with_modules e h2 names e.modules) m
+pub with_names : (settings : Settings) (e : WholeState) (m : Made) (h2 : HostState) (names : Names) (w2 : World) → StandsWhole settings e m → AreNames (number_of names) (map label m.modules)
+    → IsLed h2 w2 → Knows settings w2 m (map (λ (x : Guest). x.id.place) e.guests) → StandsWhole settings (with_modules e h2 names e.modules) m
 with_names settings e m h2 names w2 s are is2 knows2 = record {
   world = w2;
   is = is2;
@@ -99,11 +104,11 @@ with_names settings e m h2 names w2 s are is2 knows2 = record {
   invoked = s.invoked;
 }
 
-none_stands : (settings : Settings) (e : EngineState) (m : Made) (name bytes : List ℕ) (h2 : HostState) (names : Names) (why : Refusal) → StandsForScript settings e m
+none_stands : (settings : Settings) (e : WholeState) (m : Made) (name bytes : List ℕ) (h2 : HostState) (names : Names) (why : Refusal) → StandsWhole settings e m
     → AreNames (number_of names) (map label m.modules)
     → (m2 : Made) (w2 : World) (reply : Reply) → reply ≡ module_refused name why → ReceivesModule true m name bytes reply m2 → IsLed h2 w2
-    → Knows settings w2 m2 (map (λ (x : Guest). x.id.place) e.guests.items)
-    → TakesModule settings m name bytes reply (with_modules e h2 names e.modules)
+    → Knows settings w2 m2 (map (λ (x : Guest). x.id.place) e.guests)
+    → TakesModuleWhole settings m name bytes reply (with_modules e h2 names e.modules)
 none_stands settings e m name bytes h2 names why s are _ w2 _ is (module_is_kept accepted few) is2 knows2 = absurd (cc is)
 none_stands settings e m name bytes h2 names why s are _ w2 _ is (module_isnt_kept turns_down) is2 knows2 =
     (m, module_isnt_kept turns_down, with_names settings e m h2 names w2 s are is2 knows2)
@@ -111,24 +116,43 @@ none_stands settings e m name bytes h2 names why s are _ w2 _ is (module_is_want
     (m, module_is_wanting scarce wants, with_names settings e m h2 names w2 s are is2 knows2)
 
 -- it was kept
-pub takes_kept : (settings : Settings) (e : EngineState) (m : Made) (name bytes : List ℕ) (h2 : HostState) (names : Names) (k : ℕ) (id : ModuleId) → StandsForScript settings e m → number_of e.module_names name ≡ None
+pub takes_kept : (settings : Settings) (e : WholeState) (m : Made) (name bytes : List ℕ) (h2 : HostState) (names : Names) (k : ℕ) (id : ModuleId) → StandsWhole settings e m → number_of e.module_names name ≡ None
     → AnswersLoad e.host bytes (Ok id) h2
     → ((other : List ℕ) → number_of names other ≡ update bytes_eq (number_of e.module_names) name (Some e.modules) other)
     → (e.modules < most_modules → k ≡ e.modules + 1)
-    → TakesModule settings m name bytes (module_ok name) (with_modules e h2 names k)
+    → TakesModuleWhole settings m name bytes (module_ok name) (with_modules e h2 names k)
 takes_kept settings e m name bytes h2 names k id s free answers sets counts =
     let got = law_of settings e m name bytes h2 (Ok id) (module_ok name) s answers (λ answer is. ok_says name id answer is) in
     kept_stands settings e m name bytes h2 names k s free sets counts got.0 got.1 (module_ok name) refl got.2 got.3 got.4
 
 -- it wasn't, and has no name again
-pub takes_none : (settings : Settings) (e : EngineState) (m : Made) (name bytes : List ℕ) (h2 : HostState) (given names : Names) (error : ModuleError) (why : Refusal) → StandsForScript settings e m
+pub takes_none : (settings : Settings) (e : WholeState) (m : Made) (name bytes : List ℕ) (h2 : HostState) (given names : Names) (error : ModuleError) (why : Refusal) → StandsWhole settings e m
     → number_of e.module_names name ≡ None
     → AnswersLoad e.host bytes (Err error) h2
     → ((other : List ℕ) → number_of given other ≡ update bytes_eq (number_of e.module_names) name (Some e.modules) other)
     → ((other : List ℕ) → number_of names other ≡ update bytes_eq (number_of given) name None other)
     → ((answer : LoadAnswer) → IsLoadAnswer (Err error) answer → SaysModule name answer (module_refused name why))
-    → TakesModule settings m name bytes (module_refused name why) (with_modules e h2 names e.modules)
+    → TakesModuleWhole settings m name bytes (module_refused name why) (with_modules e h2 names e.modules)
 takes_none settings e m name bytes h2 given names error why s free answers sets clears says =
     let got = law_of settings e m name bytes h2 (Err error) (module_refused name why) s answers says in
     let are = unnamed (number_of e.module_names) (number_of given) (number_of names) (map label m.modules) name (Some e.modules) s.module_names free sets clears in
     none_stands settings e m name bytes h2 names why s are got.0 got.1 (module_refused name why) refl got.2 got.3 got.4
+
+-- ---- and instances and calls are kept as they were
+
+pub module_again : (settings : Settings) (e : EngineState) (m : Made) (name bytes : List ℕ) (h2 : HostState) (names : Names) (k : ℕ) (reply : Reply) (s : StandsForScript settings e m)
+    → TakesModuleWhole settings m name bytes reply (with_modules (whole_on e s.guests s.invoked) h2 names k)
+    → TakesModule settings m name bytes reply (record e { host = h2; module_names = names; modules = k })
+module_again settings e m name bytes h2 names k reply s takes = (
+  takes.0,
+  takes.1,
+  record {
+    guests = s.guests;
+    invoked = s.invoked;
+    kept = s.kept;
+    pending = s.pending;
+    admitted = s.admitted;
+    asked = s.asked;
+    stands = takes.2;
+  },
+)

@@ -1,11 +1,15 @@
 pub mod Admitted
+pub mod Again
 pub mod Asked
 pub mod Called
+pub mod Found
 pub mod Fresh
 pub mod Instances
 pub mod Kept
+pub mod Left
 pub mod LookedUp
 pub mod Named
+pub mod OneByOne
 pub mod Opened
 pub mod Refitted
 pub mod Released

@@ -1,5 +1,5 @@
 -- Where a call can go on, the script has an open one.
-use Rattle.std.proofs.Common.{◌≡◌, ◌∙◌, inl, inr, Result, Ok, Err, IfErr, refl, sym, subst}
+use Rattle.std.proofs.Common.{◌≡◌, ◌∙◌, inl, inr, Result, Ok, Err, IfErr, refl, sym, subst, map}
 use Rattle.wh_host.specs.Hosting.{HostState}
 use Rattle.wh_script_model.proofs.Opening.{open_is_known}
 use Rattle.wh_engine.specs.declared.engine.Engine.{Engine}
@@ -7,13 +7,14 @@ use Rattle.wh_engine.specs.declared.fault.ScriptFault.{ScriptFault}
 use Rattle.wh_engine.specs.declared.fault.ScriptFault.TheVariants.{Settings as NoSettings, Script, Output, Swap, Memory, Threads, Transcript}
 use Rattle.wh_engine.specs.Draining.{SomeGoes, StaysSo, StopsOnlyOpen, StopsOpenOr, StopsRun, StopsScan, WasOpen}
 use Rattle.wh_engine.specs.Standing.{EngineState, engine_on}
-use Rattle.wh_engine.proofs.Runs.{places_of}
+use Rattle.wh_engine.specs.declared.parts.Guest.{Guest}
 
 pub goes_open : (e : Engine) (h : HostState) → SomeGoes h e.guests.items → WasOpen (engine_on h e)
 goes_open e h goes settings m s =
-    let reached = s.is.1 in
-    let going = goes.3 s.world s.is.0 in
-    open_is_known reached.frames reached.slots reached.tax reached.events s.world reached.happen settings m (places_of (engine_on h e)) goes.1.id.number going.0 s.knows going.1.0 going.2.0
+    let known = s.stands in
+    let reached = known.is.1 in
+    let going = goes.3 known.world known.is.0 in
+    open_is_known reached.frames reached.slots reached.tax reached.events known.world reached.happen settings m (map (λ (x : Guest). x.id.place) s.guests) goes.1.id.number going.0 known.knows going.1.0 going.2.0
 
 -- whatever stops it
 pub only_open : (e : EngineState) (fault : ScriptFault) → WasOpen e → StopsOnlyOpen e fault

@@ -1,32 +1,38 @@
 -- An engine that keeps the same in other rooms.
 use Rattle.std.proofs.Common.{◌≡◌, map, sym, subst, Result, Ok, Err, OnErr}
 use Rattle.std.specs.Global.{Vec}
-use Rattle.std.specs.List.{AllZip}
 use Rattle.wh_host_model.specs.Lines.Settings.{Settings}
 use Rattle.wh_host_model.specs.Lines.Made as made
 use Rattle.wh_host_model.specs.Lines.Made.{Made}
-use Rattle.wh_script_model.specs.Following.{Knows}
 use Rattle.wh_engine.specs.Names.{AreNames, number_of}
 use Rattle.wh_engine.specs.declared.names.Names.{Names}
 use Rattle.wh_engine.specs.declared.parts.Guest.{Guest}
 use Rattle.wh_engine.specs.declared.parts.Invoked.{Invoked}
-use Rattle.wh_engine.specs.Standing.{EngineState, StandsForScript, AreGuests, IsInvokedAs}
+use Rattle.wh_engine.specs.Standing.{EngineState, StandsForScript, LeavesOut, is_over, is_settled}
 
 -- other names with the same numbers, and the same instances and calls in other vectors
 pub refitted : (settings : Settings) (e : EngineState) (m : Made) (ms gs : Names) (xs : Vec Guest) (vs : Vec Invoked) → StandsForScript settings e m
     → AreNames (number_of ms) (map (λ (n : made.NamedModule). n.name) m.modules)
     → AreNames (number_of gs) (map (λ (g : made.Guest). g.name) m.guests)
     → xs.items ≡ e.guests.items → vs.items ≡ e.invoked.items
-    → StandsForScript settings (record { host = e.host; module_names = ms; guest_names = gs; guests = xs; invoked = vs; modules = e.modules }) m
+    → StandsForScript settings (record e { module_names = ms; guest_names = gs; guests = xs; invoked = vs }) m
 refitted settings e m ms gs xs vs s modules guests same calls = record {
-  world = s.world;
-  is = s.is;
-  modules = s.modules;
-  knows = subst (λ ys. Knows settings s.world m (map (λ (x : Guest). x.id.place) ys)) (sym same) s.knows;
-  module_names = modules;
-  guest_names = guests;
-  guests = subst (λ ys. AreGuests 0 ys m.guests) (sym same) s.guests;
-  invoked = subst (λ ys. AllZip IsInvokedAs ys m.invoked) (sym calls) s.invoked;
+  guests = s.guests;
+  invoked = s.invoked;
+  kept = subst (λ ys. LeavesOut is_over ys s.guests) (sym same) s.kept;
+  pending = subst (λ ys. LeavesOut is_settled ys s.invoked) (sym calls) s.pending;
+  admitted = s.admitted;
+  asked = s.asked;
+  stands = record {
+    world = s.stands.world;
+    is = s.stands.is;
+    modules = s.stands.modules;
+    knows = s.stands.knows;
+    module_names = modules;
+    guest_names = guests;
+    guests = s.stands.guests;
+    invoked = s.stands.invoked;
+  };
 }
 
 -- what holds anyway holds at Err

@@ -1,7 +1,6 @@
 -- Instances that a script lets go.
 use Rattle.std.proofs.Common.{◌≡◌, ℕ, zero, suc, ◌+◌, true, List, [], ◌∷◌, map, slice_get, slice_set, Option, Some, Result, Ok, Err, refl, ap, sym, subst, ◌∙◌}
 use Rattle.std.specs.Global.{Vec}
-use Rattle.std.specs.Vec.{with_item}
 use Rattle.std.proofs.lemmas.Option.{same_Some}
 use Rattle.wh_host.proofs.Hosts.{reached_on}
 use Rattle.wh_host_model.specs.Host.Events as events
@@ -24,23 +23,27 @@ use Rattle.wh_script_model.specs.Replies.{release_reply}
 use Rattle.wh_script_model.proofs.CommandsEnding.{releases_follow}
 use Rattle.wh_engine.specs.Names.{AreNames, number_of}
 use Rattle.wh_engine.specs.declared.parts.Guest.{Guest}
-use Rattle.wh_engine.specs.Standing.{EngineState, IsLed, StandsForScript, AreGuests, IsGuest}
+use Rattle.wh_engine.specs.Standing.{WholeState, IsLed, StandsWhole, AreGuests, IsGuest, EngineState, StandsForScript, whole_on}
 use Rattle.wh_engine.specs.Obeying.{IsNamed, ObeysCommand}
-use Rattle.wh_engine.proofs.Asked.{on_host, stands_on, whole_of, id_of, own_number}
+use Rattle.wh_engine.proofs.Asked.{ObeysWhole, on_host, stands_on, whole_of, id_of, own_number}
 use Rattle.wh_engine.proofs.Instances.{TouchesCalls, nothing, names_stay, placed_at}
+use Rattle.wh_engine.specs.Finding.{HasNumberAt}
+use Rattle.wh_engine.proofs.Found.{kept_changed}
+use Rattle.std.specs.Vec.{with_item}
+use Rattle.std.proofs.lemmas.List.{length-set}
 
 -- what the host has answered, and what the script gets for it
-record DoesRelease (settings : Settings) (files : Files) (line : ℕ) (m : Made) (e : EngineState) (name : List ℕ) (h2 : HostState) (r : Result (Vec ℕ) HostError) : Type 0 where
+record DoesRelease (settings : Settings) (files : Files) (line : ℕ) (m : Made) (e : WholeState) (name : List ℕ) (h2 : HostState) (r : Result (Vec ℕ) HostError) : Type 0 where
   answer : Option (List ℕ)
   is : IsOutput r answer
   after : Made
   world : World
   obeyed : IsObeyed true settings files m line (release name) (release_reply name answer ∷ []) after
   is_host : IsLed h2 world
-  knows : Knows settings world after (map (λ (y : Guest). y.id.place) e.guests.items)
+  knows : Knows settings world after (map (λ (y : Guest). y.id.place) e.guests)
 
-does : (settings : Settings) (files : Files) (line : ℕ) (m : Made) (e : EngineState) (name : List ℕ) (h2 : HostState) (x : Guest) (i : ℕ) (r : Result (Vec ℕ) HostError)
-    → StandsForScript settings e m → IsNamed m i name → slice_get e.guests.items i ≡ Some x → AnswersRelease e.host x.id r h2 → StaysWhole e.host.space h2.space
+does : (settings : Settings) (files : Files) (line : ℕ) (m : Made) (e : WholeState) (name : List ℕ) (h2 : HostState) (x : Guest) (i : ℕ) (r : Result (Vec ℕ) HostError)
+    → StandsWhole settings e m → IsNamed m i name → slice_get e.guests i ≡ Some x → AnswersRelease e.host x.id r h2 → StaysWhole e.host.space h2.space
     → DoesRelease settings files line m e name h2 r
 does settings files line m e name h2 x i r s named at replies whole =
     let w = s.world in
@@ -49,8 +52,8 @@ does settings files line m e name h2 x i r s named at replies whole =
     subst (λ id. IsRelease w id did.0 did.1) (id_of x i (own_number e m settings i x s at)) did.3 in
     let reached = s.is.1 in
     let follows = releases_follow reached.frames reached.slots reached.tax reached.events w reached.happen settings files line m
-    (map (λ (y : Guest). y.id.place) e.guests.items) i x.id.place named.0 name did.0 did.1 s.knows named.1
-    (placed_at e.guests.items i x at) happened (whole_of e.host h2 w did.1 s.is.0 did.4 whole) in
+    (map (λ (y : Guest). y.id.place) e.guests) i x.id.place named.0 name did.0 did.1 s.knows named.1
+    (placed_at e.guests i x at) happened (whole_of e.host h2 w did.1 s.is.0 did.4 whole) in
     record { answer = did.0; is = did.2; after = follows.0; world = did.1; obeyed = follows.1; is_host = (did.4, reached_on w did.1 (events.release (record { place = x.id.place; number = i })) reached (did.0, happened)); knows = follows.2 }
 
 -- ---- it was released before
@@ -63,15 +66,15 @@ refused_after e (answers.no_such_guest for none) = refl
 refused_after e (answers.is_released i z has live replay) = absurd (cc e)
 refused_after e (answers.no_one_to_release i has gone) = refl
 
-refused_stands : (settings : Settings) (files : Files) (line : ℕ) (m : Made) (e : EngineState) (name : List ℕ) (h2 : HostState) (m2 : Made) (w2 : World) (reply : Reply) → StandsForScript settings e m
+refused_stands : (settings : Settings) (files : Files) (line : ℕ) (m : Made) (e : WholeState) (name : List ℕ) (h2 : HostState) (m2 : Made) (w2 : World) (reply : Reply) → StandsWhole settings e m
     → reply ≡ release_refused name 1 → IsObeyed true settings files m line (release name) (reply ∷ []) m2 → IsLed h2 w2
-    → Knows settings w2 m2 (map (λ (y : Guest). y.id.place) e.guests.items) → ObeysCommand settings files m line (release name) reply (on_host e h2)
+    → Knows settings w2 m2 (map (λ (y : Guest). y.id.place) e.guests) → ObeysWhole settings files m line (release name) reply (on_host e h2)
 refused_stands settings files line m e name h2 m2 w2 reply s is obeyed is2 knows2 =
     (m2, obeyed, stands_on settings e m m2 h2 w2 s is2 knows2 (subst (λ z. TouchesCalls m z) (sym (refused_after is obeyed)) nothing))
 
-pub refuses : (settings : Settings) (files : Files) (line : ℕ) (m : Made) (e : EngineState) (name : List ℕ) (h2 : HostState) (x : Guest) (i : ℕ) (error : HostError)
-    → StandsForScript settings e m → IsNamed m i name → slice_get e.guests.items i ≡ Some x → AnswersRelease e.host x.id (Err error) h2 → StaysWhole e.host.space h2.space
-    → ObeysCommand settings files m line (release name) (release_refused name (host_number error)) (on_host e h2)
+pub refuses : (settings : Settings) (files : Files) (line : ℕ) (m : Made) (e : WholeState) (name : List ℕ) (h2 : HostState) (x : Guest) (i : ℕ) (error : HostError)
+    → StandsWhole settings e m → IsNamed m i name → slice_get e.guests i ≡ Some x → AnswersRelease e.host x.id (Err error) h2 → StaysWhole e.host.space h2.space
+    → ObeysWhole settings files m line (release name) (release_refused name (host_number error)) (on_host e h2)
 refuses settings files line m e name h2 x i NoInstance s named at replies whole =
     let d = does settings files line m e name h2 x i (Err NoInstance) s named at replies whole in
     let same : release_reply name d.answer ≡ release_refused name 1 = ap (release_reply name) d.is in
@@ -105,45 +108,68 @@ named_at (h ∷ gs) zero g e = ap (λ (z : made.Guest). Some z.name) (same_Some 
 named_at (h ∷ gs) (suc i) g e = named_at gs i g e
 
 -- one name, one number
-one_place : (settings : Settings) (e : EngineState) (m : Made) (name : List ℕ) (i j : ℕ) (g h : made.Guest) → StandsForScript settings e m → HasGuest m name i g → HasGuest m name j h → j ≡ i
+one_place : (settings : Settings) (e : WholeState) (m : Made) (name : List ℕ) (i j : ℕ) (g h : made.Guest) → StandsWhole settings e m → HasGuest m name i g → HasGuest m name j h → j ≡ i
 one_place settings e m name i j g h s a b =
     let first = s.guest_names.only name i (named_at m.guests i g a.0 ∙ ap (λ n. Some n) a.1) in
     let second = s.guest_names.only name j (named_at m.guests j h b.0 ∙ ap (λ n. Some n) b.1) in
     same_Some j i (sym second ∙ first)
 
-abbrev pub with_gone : EngineState → HostState → ℕ → Guest → EngineState
-with_gone e h i x = record e { host = h; guests = with_item e.guests i (record x { is_released = true }) }
+abbrev pub with_gone : WholeState → HostState → ℕ → Guest → WholeState
+with_gone e h i x = record e { host = h; guests = slice_set e.guests i (record x { is_released = true }) }
 
-gone_stands : (settings : Settings) (files : Files) (line : ℕ) (m : Made) (e : EngineState) (name output : List ℕ) (h2 : HostState) (x : Guest) (i : ℕ) (g : made.Guest) → StandsForScript settings e m
-    → HasGuest m name i g → slice_get e.guests.items i ≡ Some x
+gone_stands : (settings : Settings) (files : Files) (line : ℕ) (m : Made) (e : WholeState) (name output : List ℕ) (h2 : HostState) (x : Guest) (i : ℕ) (g : made.Guest) → StandsWhole settings e m
+    → HasGuest m name i g → slice_get e.guests i ≡ Some x
     → (m2 : Made) (w2 : World) (reply : Reply) → reply ≡ release_ok name output → IsObeyed true settings files m line (release name) (reply ∷ []) m2 → IsLed h2 w2
-    → Knows settings w2 m2 (map (λ (y : Guest). y.id.place) e.guests.items) → ObeysCommand settings files m line (release name) reply (with_gone e h2 i x)
+    → Knows settings w2 m2 (map (λ (y : Guest). y.id.place) e.guests) → ObeysWhole settings files m line (release name) reply (with_gone e h2 i x)
 gone_stands settings files line m e name output h2 x i g s has at m2 w2 _ eq (answers.module_name_is_taken names taken) is2 knows2 = absurd names
 gone_stands settings files line m e name output h2 x i g s has at m2 w2 _ eq (answers.module_comes names free brings receives) is2 knows2 = absurd names
 gone_stands settings files line m e name output h2 x i g s has at _ w2 _ eq (answers.no_such_guest for none) is2 knows2 = absurd (cc eq)
 gone_stands settings files line m e name output h2 x i g s has at _ w2 _ eq (answers.no_one_to_release j has2 gone) is2 knows2 = absurd (cc eq)
 gone_stands settings files line m e name output h2 x i g s has at _ w2 _ eq (answers.is_released j {g = h} z also live replay) is2 knows2 =
     let same : j ≡ i = one_place settings e m name i j g h s has also in
-    let here : slice_get e.guests.items j ≡ Some x = ap (slice_get e.guests.items) same ∙ at in (
+    let here : slice_get e.guests j ≡ Some x = ap (slice_get e.guests) same ∙ at in (
       _,
       answers.is_released j z also live replay,
       record {
         world = w2;
         is = is2;
         modules = s.modules;
-        knows = subst (Knows settings w2 _) (sym (places_stay e.guests.items i x at)) knows2;
+        knows = subst (Knows settings w2 _) (sym (places_stay e.guests i x at)) knows2;
         module_names = s.module_names;
         guest_names = subst (AreNames (number_of e.guest_names)) (sym (names_stay m.guests j h (record h { is_released = true }) also.0 refl)) s.guest_names;
-        guests = subst (λ k. AreGuests 0 (slice_set e.guests.items k (record x { is_released = true })) (slice_set m.guests j (record h { is_released = true }))) same
-            (gone_stay 0 e.guests.items m.guests j x h s.guests here also.0);
+        guests = subst (λ k. AreGuests 0 (slice_set e.guests k (record x { is_released = true })) (slice_set m.guests j (record h { is_released = true }))) same
+            (gone_stay 0 e.guests m.guests j x h s.guests here also.0);
         invoked = s.invoked;
       },
     )
 
-pub goes : (settings : Settings) (files : Files) (line : ℕ) (m : Made) (e : EngineState) (name : List ℕ) (h2 : HostState) (x : Guest) (i : ℕ) (output : Vec ℕ)
-    → StandsForScript settings e m → IsNamed m i name → slice_get e.guests.items i ≡ Some x → AnswersRelease e.host x.id (Ok output) h2 → StaysWhole e.host.space h2.space
-    → ObeysCommand settings files m line (release name) (release_ok name output.items) (with_gone e h2 i x)
+pub goes : (settings : Settings) (files : Files) (line : ℕ) (m : Made) (e : WholeState) (name : List ℕ) (h2 : HostState) (x : Guest) (i : ℕ) (output : Vec ℕ)
+    → StandsWhole settings e m → IsNamed m i name → slice_get e.guests i ≡ Some x → AnswersRelease e.host x.id (Ok output) h2 → StaysWhole e.host.space h2.space
+    → ObeysWhole settings files m line (release name) (release_ok name output.items) (with_gone e h2 i x)
 goes settings files line m e name h2 x i output s named at replies whole =
     let d = does settings files line m e name h2 x i (Ok output) s named at replies whole in
     gone_stands settings files line m e name output.items h2 x i named.0 s named.1 at d.after d.world (release_ok name output.items) refl
     (subst (λ (r : Reply). IsObeyed true settings files m line (release name) (r ∷ []) d.after) (ap (release_reply name) d.is) d.obeyed) d.is_host d.knows
+
+-- ---- what is kept then
+
+-- the one that is kept is marked, as it is among all
+pub gone_again : (settings : Settings) (files : Files) (line : ℕ) (m : Made) (e : EngineState) (name : List ℕ) (h2 : HostState) (x : Guest) (i at : ℕ) (reply : Reply) (s : StandsForScript settings e m)
+    → HasNumberAt e.guests.items i at → slice_get e.guests.items at ≡ Some x → ObeysWhole settings files m line (release name) reply (with_gone (whole_on e s.guests s.invoked) h2 i x)
+    → ObeysCommand settings files m line (release name) reply (record e { host = h2; guests = with_item e.guests at (record x { is_released = true }) })
+gone_again settings files line m e name h2 x i at reply s has there obeys =
+    let gone : Guest = record x { is_released = true } in
+    let same : has.0 ≡ x = same_Some has.0 x (sym has.1 ∙ there) in
+    let number : x.id.number ≡ i = ap (λ (y : Guest). y.id.number) (sym same) ∙ has.2 in (
+      obeys.0,
+      obeys.1,
+      record {
+        guests = slice_set s.guests i gone;
+        invoked = s.invoked;
+        kept = kept_changed s.kept m.guests s.stands.guests i at x gone there number;
+        pending = s.pending;
+        admitted = s.admitted ∙ sym (length-set s.guests i gone);
+        asked = s.asked;
+        stands = obeys.2;
+      },
+    )

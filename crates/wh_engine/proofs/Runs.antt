@@ -1,5 +1,5 @@
 -- What a drain comes to.
-use Rattle.std.proofs.Common.{arith, ◌≡◌, ◌≢◌, ℕ, ◌+◌, ◌<◌, ◌⊎◌, inl, inr, zero, suc, List, [], ◌∷◌, ◌++◌, map, length, get_or, slice_get, Option, Some, None, refl, ap, sym, subst, ◌∙◌, length-append}
+use Rattle.std.proofs.Common.{arith, ◌≡◌, ◌≢◌, ℕ, ◌+◌, ◌⊎◌, inl, inr, zero, suc, List, [], ◌∷◌, ◌++◌, map, length, get_or, slice_get, Option, Some, None, refl, ap, sym, subst, ◌∙◌, length-append, false, true, ⊎_elim}
 use Rattle.std.specs.List.{AllZip}
 use Rattle.std.proofs.lemmas.Option.{same_Some}
 use Rattle.wh_host_model.specs.declared.plain.InstId.{InstId}
@@ -30,11 +30,14 @@ use Rattle.wh_engine.specs.declared.engine.Engine.{Engine}
 use Rattle.wh_engine.specs.declared.parts.Guest.{Guest}
 use Rattle.wh_engine.specs.Draining.{AllRest, DeviceMayFail, DeviceServesWell, DeviceStaysTrue, HasServed, RunsEach, StaysSo}
 use Rattle.wh_engine.specs.Names.{AreNames, number_of}
-use Rattle.wh_engine.specs.Standing.{AreGuests, EngineState, IsGuest, IsLed, StandsForScript, engine_on}
-use Rattle.wh_engine.proofs.Asked.{on_host, whole_of}
-use Rattle.wh_engine.proofs.Instances.{guest_at, placed_at}
+use Rattle.wh_engine.specs.Standing.{AreGuests, EngineState, IsGuest, IsLed, StandsForScript, engine_on, LeavesOut, WholeState, whole_on, is_over}
+use Rattle.wh_engine.proofs.Asked.{whole_of}
+use Rattle.wh_engine.proofs.Instances.{placed_at}
 use Rattle.wh_engine.proofs.Whole.{keeps_whole}
 use Rattle.wh_engine.proofs.Worked.{works_known}
+use Rattle.wh_engine.proofs.Again.{stands_again}
+use Rattle.wh_engine.proofs.Found.{over_released, pair_at}
+use Rattle.wh_engine.proofs.Left.{kept_or_over}
 
 -- ---- the device
 
@@ -124,8 +127,8 @@ is_served_at settings m places w id t known at not there =
 
 -- ---- all instances, by their numbers
 
-abbrev pub places_of : EngineState → List ℕ
-places_of e = map (λ (x : Guest). x.id.place) e.guests.items
+abbrev pub places_of : WholeState → List ℕ
+places_of e = map (λ (x : Guest). x.id.place) e.guests
 
 one_run : (k : ℕ) (x : Guest) (g r : made.Guest) → RunsAlone g r → IsGuest k x g → IsGuest k x r
 one_run k x g _ (is_gone gone) is = is
@@ -150,50 +153,56 @@ names_run [] (r ∷ run) all = absurd all
 names_run (g ∷ gs) [] all = absurd all
 names_run (g ∷ gs) (r ∷ run) all = ap (λ ns. r.name ∷ ns) (names_run gs run all.1) ∙ ap (λ n. n ∷ map (λ (z : made.Guest). z.name) gs) (name_run g r all.0)
 
-within_zip : {A : Type 0} (R : A → Option Tenant → Type 0) (gs : List A) (ts : List (Option Tenant)) (i : ℕ) (t : Tenant) → AllZip R gs ts → get_or ts i None ≡ Some t → i < length gs
-within_zip R [] [] i t h e = absurd (cc e)
-within_zip R [] (o ∷ ts) i t h e = absurd h
-within_zip R (g ∷ gs) [] i t h e = absurd h
-within_zip R (g ∷ gs) (o ∷ ts) zero t h e = omega arith
-within_zip R (g ∷ gs) (o ∷ ts) (suc i) t h e = let n = within_zip R gs ts i t h.1 e in omega arith
+lives_so : (w : World) (g : made.Guest) (o : Option Tenant) (t : Tenant) → follow.IsFollowed follow.ComeFurther w g o → o ≡ Some t → g.is_released ≡ false
+lives_so w g _ t (follow.is_there tenancy calls sound) e = tenancy.is_live
+lives_so w g _ t (follow.is_gone gone) e = absurd (cc e)
 
-there_at : (k : ℕ) (xs : List Guest) (gs : List made.Guest) (i : ℕ) → AreGuests k xs gs → i < length gs → (x : Guest) × (slice_get xs i ≡ Some x)
-there_at k [] [] i are within = absurd (omega (arith, within))
-there_at k [] (g ∷ gs) i are within = absurd are
-there_at k (x ∷ xs) [] i are within = absurd are
-there_at k (x ∷ xs) (g ∷ gs) zero are within = (x, refl)
-there_at k (x ∷ xs) (g ∷ gs) (suc i) are within = there_at (k + 1) xs gs i are.1 (omega (arith, within))
+-- who has a number is an instance of the script that lives
+lives_at : (w : World) (gs : List made.Guest) (ts : List (Option Tenant)) (i : ℕ) (t : Tenant) → AllZip (follow.IsFollowed follow.ComeFurther w) gs ts → get_or ts i None ≡ Some t
+    → (g : made.Guest) × (slice_get gs i ≡ Some g) × (g.is_released ≡ false)
+lives_at w [] [] i t h e = absurd (cc e)
+lives_at w [] (o ∷ ts) i t h e = absurd h
+lives_at w (g ∷ gs) [] i t h e = absurd h
+lives_at w (g ∷ gs) (o ∷ ts) zero t h e = (g, refl, lives_so w g o t h.0 e)
+lives_at w (g ∷ gs) (o ∷ ts) (suc i) t h e = lives_at w gs ts i t h.1 e
 
 -- where none of them can go on, nobody has a call that can
-all_served : (settings : Settings) (m : Made) (e : EngineState) (h2 : HostState) (w2 : World) → AreGuests 0 e.guests.items m.guests → IsHost h2 w2 → RunsKnown settings w2 m (places_of e)
-    → AllRest h2 e.guests.items → AllServed w2
-all_served settings m e h2 w2 are is2 known rest i t there =
-    let within = within_zip (follow.IsFollowed follow.ComeFurther w2) m.guests w2.tenants i t known.guests there in
-    let x = there_at 0 e.guests.items m.guests i are within in
-    let number : x.0.id.number ≡ i = let n = guest_at 0 e.guests.items m.guests i x.0 are x.1 in omega (arith, n) in
-    is_served_at settings m (places_of e) w2 x.0.id t known
-    (ap (slice_get (places_of e)) number ∙ placed_at e.guests.items i x.0 x.1) (rest i x.0 x.1 w2 is2)
-    (ap (tenant w2) number ∙ there)
+all_served : (settings : Settings) (m : Made) (e : WholeState) (kept : List Guest) (h2 : HostState) (w2 : World) → AreGuests 0 e.guests m.guests → LeavesOut is_over kept e.guests → IsHost h2 w2
+    → RunsKnown settings w2 m (places_of e) → AllRest h2 kept → AllServed w2
+all_served settings m e kept h2 w2 are leaves is2 known rest i t there =
+    let g = lives_at w2 m.guests w2.tenants i t known.guests there in
+    let d = pair_at 0 e.guests m.guests i g.0 are g.1 in
+    let x = d.0 in
+    let number : x.id.number ≡ i = let n : x.id.number ≡ 0 + i = d.2.number in omega (arith, n) in
+    ⊎_elim
+    (λ (k : (at : ℕ) × (slice_get kept at ≡ Some x)).
+    is_served_at settings m (places_of e) w2 x.id t known
+    (ap (slice_get (places_of e)) number ∙ placed_at e.guests i x d.1) (rest k.0 x k.1 w2 is2)
+    (ap (tenant w2) number ∙ there))
+    (λ (over : is_over x ≡ true). absurd (cc (over_released x over, d.2.released, g.2)))
+    (kept_or_over leaves i x d.1)
 
 -- then all have run
-ran_so : (settings : Settings) (m : Made) (e : EngineState) (h2 : HostState) (w2 : World) → StandsForScript settings e m → IsLed h2 w2 → RunsKnown settings w2 m (places_of e)
-    → AllRest h2 e.guests.items → (run : List made.Guest) × AllZip RunsAlone m.guests run × StandsForScript settings (on_host e h2) (record m { guests = run })
+ran_so : (settings : Settings) (m : Made) (e : EngineState) (h2 : HostState) (w2 : World) (s : StandsForScript settings e m) → IsLed h2 w2 → RunsKnown settings w2 m (map (λ (x : Guest). x.id.place) s.guests)
+    → AllRest h2 e.guests.items → (run : List made.Guest) × AllZip RunsAlone m.guests run × StandsForScript settings (record e { host = h2 }) (record m { guests = run })
 ran_so settings m e h2 w2 s led known rest =
+    let whole = whole_on e s.guests s.invoked in
     let reached = led.1 in
-    let all = all_served settings m e h2 w2 s.guests led.0 known rest in
-    let end = drains_end reached.frames reached.slots reached.tax reached.events w2 reached.happen settings m (places_of e) known all in (
+    let all = all_served settings m whole e.guests.items h2 w2 s.stands.guests s.kept led.0 known rest in
+    let end = drains_end reached.frames reached.slots reached.tax reached.events w2 reached.happen settings m (places_of whole) known all in (
       end.0,
       end.1,
-      record {
-        world = w2;
-        is = led;
-        modules = s.modules;
-        knows = end.2;
-        module_names = s.module_names;
-        guest_names = subst (AreNames (number_of e.guest_names)) (sym (names_run m.guests end.0 end.1)) s.guest_names;
-        guests = run_keeps 0 e.guests.items m.guests end.0 end.1 s.guests;
-        invoked = s.invoked;
-      },
+      stands_again settings e m (record m { guests = end.0 }) h2 s
+          (record {
+            world = w2;
+            is = led;
+            modules = s.stands.modules;
+            knows = end.2;
+            module_names = s.stands.module_names;
+            guest_names = subst (AreNames (number_of e.guest_names)) (sym (names_run m.guests end.0 end.1)) s.stands.guest_names;
+            guests = run_keeps 0 s.guests m.guests end.0 end.1 s.stands.guests;
+            invoked = s.stands.invoked;
+          }),
     )
 
 -- ---- a drain
@@ -201,7 +210,7 @@ ran_so settings m e h2 w2 s led known rest =
 -- none could go on from the beginning
 pub ran_at_once : (e : Engine) (h : HostState) → AllRest h e.guests.items → RunsEach (engine_on h e) (engine_on h e)
 ran_at_once e h rest settings m s =
-    ran_so settings m (engine_on h e) h s.world s s.is (drains_begin settings s.world m (places_of (engine_on h e)) s.knows) rest
+    ran_so settings m (engine_on h e) h s.stands.world s s.stands.is (drains_begin settings s.stands.world m _ s.stands.knows) rest
 
 whole_moves : (s s2 : Space) → IsAsWhole s s2 → tickets s ≡ 0 → tickets s2 ≡ 0 → StaysWhole s s2
 whole_moves s s2 whole none none2 = record { frames = whole.frames; slots = whole.slots; tax = whole.tax; none_out = none2 ∙ sym none }
@@ -214,33 +223,35 @@ ran_each keeps honest faults e left now on none rest well settings m s =
     let served = served_by_it keeps honest faults left now on well in
     let c = on.came in
     let nothing : c.more ≡ [] = none_of c.more (faults c.before) (sym served.1 ∙ c.serves.added) in
-    let w = s.world in
+    let w = s.stands.world in
     let h = left.host in
     let h2 = now.host in
-    let did = c.right served.0 w s.is.0 in
+    let places = map (λ (x : Guest). x.id.place) s.guests in
+    let did = c.right served.0 w s.stands.is.0 in
     let w2 = did.0 in
     let works : WorksTo w [] w2 = subst (λ more. WorksTo w more w2) nothing did.1 in
-    let before : tickets h.space ≡ 0 = ap (λ (z : Space). tickets z) s.is.0.space ∙ s.knows.none_out in
-    let whole = whole_of h h2 w w2 s.is.0 did.2 (whole_moves h.space h2.space c.whole before none) in
-    let known = works_known settings w w2 m (places_of (engine_on h e)) s.is.1 works whole (drains_begin settings w m (places_of (engine_on h e)) s.knows) in
+    let before : tickets h.space ≡ 0 = ap (λ (z : Space). tickets z) s.stands.is.0.space ∙ s.stands.knows.none_out in
+    let whole = whole_of h h2 w w2 s.stands.is.0 did.2 (whole_moves h.space h2.space c.whole before none) in
+    let known = works_known settings w w2 m places s.stands.is.1 works whole (drains_begin settings w m places s.stands.knows) in
     ran_so settings m (engine_on h e) h2 w2 s (did.2, known.0) known.1 rest
 
 -- ---- pages move
 
 pub stays_so : (e : EngineState) (h2 : HostState) → ((w : World) → IsHost e.host w → (w2 : World) × OnlyMoves w w2 × IsHost h2 w2)
-    → KeepsBacking e.host.space h2.space → StaysSo e (on_host e h2)
+    → KeepsBacking e.host.space h2.space → StaysSo e (record e { host = h2 })
 stays_so e h2 moves keeps settings m s =
-    let w = s.world in
-    let did = moves w s.is.0 in
-    let reached = s.is.1 in
-    record {
+    let w = s.stands.world in
+    let did = moves w s.stands.is.0 in
+    let reached = s.stands.is.1 in
+    stands_again settings e m m h2 s
+    (record {
       world = did.0;
       is = (did.2, reached_on w did.0 events.epoch reached did.1);
-      modules = s.modules;
-      knows = (moves_follow reached.frames reached.slots reached.tax reached.events w reached.happen settings m (places_of e) did.0 did.1
-          (whole_of e.host h2 w did.0 s.is.0 did.2 (keeps_whole e.host.space h2.space keeps))).0 s.knows;
-      module_names = s.module_names;
-      guest_names = s.guest_names;
-      guests = s.guests;
-      invoked = s.invoked;
-    }
+      modules = s.stands.modules;
+      knows = (moves_follow reached.frames reached.slots reached.tax reached.events w reached.happen settings m (map (λ (x : Guest). x.id.place) s.guests) did.0 did.1
+          (whole_of e.host h2 w did.0 s.stands.is.0 did.2 (keeps_whole e.host.space h2.space keeps))).0 s.stands.knows;
+      module_names = s.stands.module_names;
+      guest_names = s.stands.guest_names;
+      guests = s.stands.guests;
+      invoked = s.stands.invoked;
+    })

@@ -1,7 +1,7 @@
 -- What is said of calls, one after the other.
-use Rattle.std.proofs.Common.{arith, ◌≡◌, ℕ, ◌+◌, ◌<◌, zero, suc, false, List, [], ◌∷◌, ◌++◌, map, length, Result, Ok, Err, OnOk, get_or, ◌≤◌, slice_get, slice_set, Option, Some, None, option_map, refl, ap, sym, subst, ◌∙◌, append_assoc, append-nil, length-append}
+use Rattle.std.proofs.Common.{arith, ◌≡◌, ℕ, ◌+◌, zero, suc, false, List, [], ◌∷◌, ◌++◌, map, length, Result, Ok, Err, OnOk, get_or, slice_get, Option, Some, None, option_map, refl, ap, sym, subst, ◌∙◌, append_assoc, append-nil, Bool, true, ◌&&◌, ◌||◌, not, ◌⊎◌, inl, inr, ⊎_elim}
 use Rattle.std.proofs.lemmas.Option.{same_Some, none-some}
-use Rattle.std.specs.List.{AllZip}
+use Rattle.std.specs.List.{AllZip, filter}
 use Rattle.std.specs.Global.{Vec}
 use Rattle.wh_model.specs.Execution.Instance.{Piece}
 use Rattle.wh_model.specs.Execution.Replay.{Call}
@@ -19,16 +19,21 @@ use Rattle.wh_replies.specs.declared.call.Status.{Status}
 use Rattle.wh_replies.specs.declared.call.Status.TheVariants as code
 use Rattle.wh_script_model.specs.Following as follow
 use Rattle.wh_script_model.specs.Following.{Knows, IsPlaced}
-use Rattle.wh_script_model.specs.Said.{HasStart, IsWellMade}
+use Rattle.wh_script_model.specs.Said.{HasStart, IsWellMade, is_final, IsReleased, WasSaid, when_released}
 use Rattle.wh_script_model.proofs.Drains.{saying_follows}
 use Rattle.wh_script_model.proofs.Said.{starts_well}
 use Rattle.wh_engine.specs.declared.parts.Guest.{Guest}
 use Rattle.wh_engine.specs.declared.parts.Invoked.{Invoked}
 use Rattle.wh_engine.specs.Names.{AreNames, number_of}
-use Rattle.wh_engine.specs.Standing.{EngineState, StandsForScript, IsGuest, AreGuests, IsInvokedAs}
-use Rattle.wh_engine.specs.Saying.{IsFaultless, ShowsCalls, AddsLines, SaysStartOf, HasItsCall, SaysCallOf, SaysAllStarts, SaysAllCalls, SaysAll}
+use Rattle.wh_engine.specs.Standing.{EngineState, StandsForScript, IsGuest, AreGuests, IsInvokedAs, AreInvoked, LeavesOut, none_there, keeps_it, leaves_it, StandsWhole, WholeState, whole_on, was_final, is_over, is_settled}
+use Rattle.wh_engine.specs.Saying.{IsFaultless, ShowsCalls, AddsLines, SaysStartOf, HasItsCall, SaysCallOf, SaysAllStarts, SaysAllCalls, SaysAll, IsLookedUp}
 use Rattle.wh_engine.proofs.Instances.{placed_at}
 use Rattle.wh_engine.proofs.Runs.{places_of, placed_there}
+use Rattle.wh_script_model.proofs.EndedObeyed.{ended_stays}
+use Rattle.wh_host.specs.Hosting.{HostState}
+use Rattle.wh_engine.proofs.Left.{let_go}
+use Rattle.wh_engine.proofs.Found.{kept_at, kept_rise, none_kept, pair_at}
+use Rattle.wh_engine.proofs.OneByOne.{OneByOne}
 
 -- ---- statuses of the code are as many as those of the definitions
 
@@ -82,67 +87,7 @@ pub adds_more : (a b : List Reply) (text mid text2 : List ℕ) → AddsLines a t
 adds_more a b text mid text2 p q =
     q ∙ ap (λ xs. xs ++ replies_text b) p ∙ append_assoc text (replies_text a) (replies_text b) ∙ ap (λ xs. text ++ xs) (sym (texts_join a b))
 
--- ---- lists of what was said
-
-pub starts_join : (gs said : List made.Guest) (lines here : List Reply) (g g2 : made.Guest) → SayStarts gs lines said → SaysStart g here g2
-    → SayStarts (gs ++ g ∷ []) (lines ++ here) (said ++ g2 ∷ [])
-starts_join [] said lines here g g2 p x =
-    (here, [], g2, [], ap (λ xs. xs ++ here) p.0 ∙ sym (append-nil here), ap (λ xs. xs ++ g2 ∷ []) p.1, x, (refl, refl))
-starts_join (y ∷ gs) said lines here g g2 (first, rest, k, ks, l, f, z, more) x = (
-  first,
-  rest ++ here,
-  k,
-  ks ++ g2 ∷ [],
-  ap (λ xs. xs ++ here) l ∙ append_assoc first rest here,
-  ap (λ xs. xs ++ g2 ∷ []) f,
-  z,
-  starts_join gs ks rest here g g2 more x,
-)
-
-pub calls_join : (guests : List made.Guest) (n : ℕ) (vs said : List made.Invoked) (lines here : List Reply) (v v2 : made.Invoked) → SayCalls guests n vs lines said
-    → SaysCall guests (n + length vs) v here v2 → SayCalls guests n (vs ++ v ∷ []) (lines ++ here) (said ++ v2 ∷ [])
-calls_join guests n [] said lines here v v2 p x =
-    let now : SaysCall guests n v here v2 = subst (λ k. SaysCall guests k v here v2) (omega arith) x in
-    (here, [], v2, [], ap (λ xs. xs ++ here) p.0 ∙ sym (append-nil here), ap (λ xs. xs ++ v2 ∷ []) p.1, now, (refl, refl))
-calls_join guests n (y ∷ vs) said lines here v v2 (first, rest, k, ks, l, f, z, more) x =
-    let later : SaysCall guests (n + 1 + length vs) v here v2 = subst (λ j. SaysCall guests j v here v2) (omega arith) x in (
-      first,
-      rest ++ here,
-      k,
-      ks ++ v2 ∷ [],
-      ap (λ xs. xs ++ here) l ∙ append_assoc first rest here,
-      ap (λ xs. xs ++ v2 ∷ []) f,
-      z,
-      calls_join guests (n + 1) vs ks rest here v v2 more later,
-    )
-
-pub as_many_said : (gs said : List made.Guest) (lines : List Reply) → SayStarts gs lines said → length said ≡ length gs
-as_many_said [] said lines p = ap (λ (xs : List made.Guest). length xs) p.1
-as_many_said (g ∷ gs) said lines (first, rest, k, ks, l, f, z, more) =
-    let n = as_many_said gs ks rest more in let e : length said ≡ suc (length ks) = ap (λ (xs : List made.Guest). length xs) f in omega arith
-
-pub as_many_calls : (guests : List made.Guest) (n : ℕ) (vs said : List made.Invoked) (lines : List Reply) → SayCalls guests n vs lines said → length said ≡ length vs
-as_many_calls guests n [] said lines p = ap (λ (xs : List made.Invoked). length xs) p.1
-as_many_calls guests n (v ∷ vs) said lines (first, rest, k, ks, l, f, z, more) =
-    let m = as_many_calls guests (n + 1) vs ks rest more in let e : length said ≡ suc (length ks) = ap (λ (xs : List made.Invoked). length xs) f in omega arith
-
--- ---- instances, the first of which were said
-
-pub guests_said : (k : ℕ) (xs : List Guest) (said rest : List made.Guest) (x2 : Guest) (g g2 : made.Guest) → AreGuests k xs (said ++ g ∷ rest) → IsGuest (k + length said) x2 g2
-    → AreGuests k (slice_set xs (length said) x2) (said ++ g2 ∷ rest)
-guests_said k [] [] rest x2 g g2 are is = absurd are
-guests_said k [] (s ∷ said) rest x2 g g2 are is = absurd are
-guests_said k (x ∷ xs) [] rest x2 g g2 are is = (subst (λ n. IsGuest n x2 g2) (omega arith) is, are.1)
-guests_said k (x ∷ xs) (s ∷ said) rest x2 g g2 are is =
-    (are.0, guests_said (k + 1) xs said rest x2 g g2 are.1 (subst (λ n. IsGuest n x2 g2) (omega arith) is))
-
-pub guest_here : (k : ℕ) (xs : List Guest) (said rest : List made.Guest) (g : made.Guest) (x : Guest) → AreGuests k xs (said ++ g ∷ rest) → slice_get xs (length said) ≡ Some x
-    → IsGuest (k + length said) x g
-guest_here k [] [] rest g x are e = absurd are
-guest_here k [] (s ∷ said) rest g x are e = absurd are
-guest_here k (y ∷ xs) [] rest g x are e =
-    let here : IsGuest k x g = subst (λ z. IsGuest k z g) (same_Some y x e) are.0 in subst (λ n. IsGuest n x g) (omega arith) here
-guest_here k (y ∷ xs) (s ∷ said) rest g x are e = subst (λ n. IsGuest n x g) (omega arith) (guest_here (k + 1) xs said rest g x are.1 e)
+-- ---- as many
 
 pub guests_many : (k : ℕ) (xs : List Guest) (gs : List made.Guest) → AreGuests k xs gs → length xs ≡ length gs
 guests_many k [] [] are = refl
@@ -150,21 +95,21 @@ guests_many k [] (g ∷ gs) are = absurd are
 guests_many k (x ∷ xs) [] are = absurd are
 guests_many k (x ∷ xs) (g ∷ gs) are = let n = guests_many (k + 1) xs gs are.1 in omega arith
 
-pub places_same : (xs : List Guest) (i : ℕ) (x x2 : Guest) → slice_get xs i ≡ Some x → x2.id ≡ x.id
-    → map (λ (y : Guest). y.id.place) (slice_set xs i x2) ≡ map (λ (y : Guest). y.id.place) xs
-places_same [] i x x2 e same = refl
-places_same (y ∷ xs) zero x x2 e same =
-    ap (λ (p : ℕ). p ∷ map (λ (z : Guest). z.id.place) xs) (ap (λ (n : InstId). n.place) same ∙ ap (λ (z : Guest). z.id.place) (sym (same_Some y x e)))
-places_same (y ∷ xs) (suc i) x x2 e same = ap (λ ps. y.id.place ∷ ps) (places_same xs i x x2 e same)
+pub calls_many : (k : ℕ) (xs : List Invoked) (vs : List made.Invoked) → AreInvoked k xs vs → length xs ≡ length vs
+calls_many k [] [] are = refl
+calls_many k [] (v ∷ vs) are = absurd are
+calls_many k (x ∷ xs) [] are = absurd are
+calls_many k (x ∷ xs) (v ∷ vs) are = let n = calls_many (k + 1) xs vs are.1 in omega arith
 
--- the first element of what is left
-pub first_left : {A : Type 0} (taken rest : List A) (n : ℕ) → length taken + length rest ≡ n → length taken < n → (x : A) × (more : List A) × (rest ≡ x ∷ more)
-first_left taken [] n e less = absurd (omega arith)
-first_left taken (x ∷ rest) n e less = (x, rest, refl)
+as_many_said : (gs said : List made.Guest) (lines : List Reply) → SayStarts gs lines said → length said ≡ length gs
+as_many_said [] said lines p = ap (λ (xs : List made.Guest). length xs) p.1
+as_many_said (g ∷ gs) said lines (first, rest, k, ks, l, f, z, more) =
+    let n = as_many_said gs ks rest more in let e : length said ≡ suc (length ks) = ap (λ (xs : List made.Guest). length xs) f in omega arith
 
-pub at_middle : {A : Type 0} (taken rest : List A) (x : A) → slice_get (taken ++ x ∷ rest) (length taken) ≡ Some x
-at_middle [] rest x = refl
-at_middle (y ∷ taken) rest x = at_middle taken rest x
+as_many_calls : (guests : List made.Guest) (n : ℕ) (vs said : List made.Invoked) (lines : List Reply) → SayCalls guests n vs lines said → length said ≡ length vs
+as_many_calls guests n [] said lines p = ap (λ (xs : List made.Invoked). length xs) p.1
+as_many_calls guests n (v ∷ vs) said lines (first, rest, k, ks, l, f, z, more) =
+    let m = as_many_calls guests (n + 1) vs ks rest more in let e : length said ≡ suc (length ks) = ap (λ (xs : List made.Invoked). length xs) f in omega arith
 
 -- ---- what the host shows
 
@@ -180,48 +125,12 @@ followed_same w (y ∷ gs) [] i g h e live = absurd h
 followed_same w (y ∷ gs) (o ∷ ts) zero g h e live = one_followed w g o (subst (λ z. follow.IsFollowed follow.AreSame w z o) (same_Some y g e) h.0) live
 followed_same w (y ∷ gs) (o ∷ ts) (suc i) g h e live = followed_same w gs ts i g h.1 e live
 
-no_length : {A : Type 0} (xs : List A) → length xs ≡ 0 → xs ≡ []
-no_length [] n = refl
-no_length (x ∷ xs) n = absurd (omega (arith, n))
-
-there_within : {A : Type 0} (xs : List A) (i : ℕ) (x : A) → slice_get xs i ≡ Some x → i < length xs
-there_within [] i x e = absurd (none-some x e)
-there_within (y ∷ xs) zero x e = omega arith
-there_within (y ∷ xs) (suc i) x e = let n = there_within xs i x e in omega arith
-
 one_name : (g g2 : made.Guest) (here : List Reply) → SaysStart g here g2 → g2.name ≡ g.name
 one_name g _ here (has_none p q) = refl
 one_name g _ here (has_one n e x) = refl
 
-code_guest : (k : ℕ) (xs : List Guest) (gs : List made.Guest) (i : ℕ) (g : made.Guest) → AreGuests k xs gs → slice_get gs i ≡ Some g → (x : Guest) × (slice_get xs i ≡ Some x) × IsGuest (k + i) x g
-code_guest k [] [] i g are e = absurd (none-some g e)
-code_guest k [] (y ∷ gs) i g are e = absurd are
-code_guest k (x ∷ xs) [] i g are e = absurd are
-code_guest k (x ∷ xs) (y ∷ gs) zero g are e = (x, refl, subst (λ n. IsGuest n x g) (omega arith) (subst (IsGuest k x) (same_Some y g e) are.0))
-code_guest k (x ∷ xs) (y ∷ gs) (suc i) g are e =
-    let d = code_guest (k + 1) xs gs i g are.1 e in (d.0, d.1, subst (λ n. IsGuest n d.0 g) (omega arith) d.2)
-
-zip_many : {A B : Type 0} (R : A → B → Type 0) (xs : List A) (ys : List B) → AllZip R xs ys → length xs ≡ length ys
-zip_many R [] [] all = refl
-zip_many R [] (y ∷ ys) all = absurd all
-zip_many R (x ∷ xs) [] all = absurd all
-zip_many R (x ∷ xs) (y ∷ ys) all = let n = zip_many R xs ys all.1 in omega arith
-
-zip_here : (xs : List Invoked) (said rest : List made.Invoked) (v : made.Invoked) (x : Invoked) → AllZip IsInvokedAs xs (said ++ v ∷ rest) → slice_get xs (length said) ≡ Some x → IsInvokedAs x v
-zip_here [] [] rest v x all e = absurd all
-zip_here [] (s ∷ said) rest v x all e = absurd all
-zip_here (y ∷ xs) [] rest v x all e = subst (λ z. IsInvokedAs z v) (same_Some y x e) all.0
-zip_here (y ∷ xs) (s ∷ said) rest v x all e = zip_here xs said rest v x all.1 e
-
-zip_said : (xs : List Invoked) (said rest : List made.Invoked) (x2 : Invoked) (v v2 : made.Invoked) → AllZip IsInvokedAs xs (said ++ v ∷ rest) → IsInvokedAs x2 v2
-    → AllZip IsInvokedAs (slice_set xs (length said) x2) (said ++ v2 ∷ rest)
-zip_said [] [] rest x2 v v2 all is = absurd all
-zip_said [] (s ∷ said) rest x2 v v2 all is = absurd all
-zip_said (x ∷ xs) [] rest x2 v v2 all is = (is, all.1)
-zip_said (x ∷ xs) (s ∷ said) rest x2 v v2 all is = (all.0, zip_said xs said rest x2 v v2 all.1 is)
-
 -- an instance as it was, or as it was said since
-pub shows : (settings : Settings) (e : EngineState) (m : Made) (i : ℕ) (x : Guest) (g : made.Guest) → StandsForScript settings e m → slice_get m.guests i ≡ Some g
+pub shows : (settings : Settings) (e : WholeState) (m : Made) (i : ℕ) (x : Guest) (g : made.Guest) → StandsWhole settings e m → slice_get m.guests i ≡ Some g
     → slice_get (places_of e) i ≡ Some x.id.place → x.id.number ≡ i → x.is_released ≡ g.is_released → ShowsCalls e.host x g
 shows settings e m i x g s at placed number released = record {
   released = released;
@@ -232,68 +141,104 @@ shows settings e m i x g s at placed number released = record {
       (d.0, (ap (λ n. tenant s.world n) number ∙ d.1, placed_there (places_of e) s.world.tenants i x.id.place d.0 s.knows.placed placed d.1), d.2, d.3);
 }
 
+-- ---- instances without a start
+
+both_empty : (ps : List Piece) (o : Option ℕ) → ¬ (¬ ((ps ≡ []) × (o ≡ None))) → (ps ≡ []) × (o ≡ None)
+both_empty [] None none = (refl, refl)
+both_empty [] (Some x) none = absurd (none (λ both. cc both.1))
+both_empty (p ∷ ps) o none = absurd (none (λ both. cc both.0))
+
+pub no_start : (g : made.Guest) → ¬ (HasStart g) → (g.pieces ≡ []) × (g.m.start ≡ None)
+no_start g none = both_empty g.pieces g.m.start none
+
+-- ---- what has ended has no line
+
+ends_said : (said : Option Status) → was_final said ≡ true → (s : Status) × (said ≡ Some s) × (is_final (status_of s) ≡ true)
+ends_said None e = absurd (cc e)
+ends_said (Some s) e = (s, refl, e)
+
+over_parts : (gone starts final : Bool) → (gone && (not starts || final)) ≡ true → (starts ≡ false) ⊎ ((starts ≡ true) × (final ≡ true))
+over_parts true true final e = inr (refl, e)
+over_parts true false final e = inl refl
+over_parts false starts final e = absurd (cc e)
+
+-- nothing is said of an instance that is over, if nothing is said again of what has ended
+abbrev pub StaysSilent : made.Guest → Type 0
+StaysSilent g = (status : CallStatus) → g.said ≡ Some status → is_final status ≡ true → SaysStart g [] g
+
+over_silent : (k : ℕ) (x : Guest) (g : made.Guest) → IsGuest k x g → is_over x ≡ true → StaysSilent g → SaysStart g [] g
+over_silent k x g is over silent =
+    ⊎_elim
+    (λ (without : x.has_start ≡ false).
+    let none = no_start g (λ has. cc (is.starts.1 has, without)) in
+    has_none none.0 none.1)
+    (λ (both : (x.has_start ≡ true) × (was_final x.said ≡ true)).
+    let d = ends_said x.said both.1 in
+    silent (status_of d.0) (sym is.said ∙ ap (λ o. option_map status_of o) d.1) d.2)
+    (over_parts x.is_released x.has_start (was_final x.said) over)
+
 -- ---- starts
 
-pub record StartsSoFar (e : EngineState) (m : Made) (xs : List Guest) (count : ℕ) (text now : List ℕ) : Type 0 where
-  pub taken : List made.Guest
-  pub rest : List made.Guest
-  pub said : List made.Guest
-  pub lines : List Reply
-  pub split : m.guests ≡ taken ++ rest
-  pub counted : length taken ≡ count
-  pub says : SayStarts taken lines said
-  pub are : AreGuests 0 xs (said ++ rest)
-  pub adds : AddsLines lines text now
-  pub placed : map (λ (x : Guest). x.id.place) xs ≡ places_of e
+-- the calls of an instance are shown, what was to be said of it was, and nothing is said again of what has ended
+record IsReady (h : HostState) (x : Guest) (g : made.Guest) : Type 0 where
+  first : (c : Call) × (slice_get g.calls 0 ≡ Some c)
+  shown : ShowsCalls h x g
+  was : IsReleased g → HasStart g → WasSaid g 0 first.0 g.said
+  silent : StaysSilent g
 
-pub no_start_said : (settings : Settings) (e : EngineState) (m : Made) (text : List ℕ) → StandsForScript settings e m → StartsSoFar e m e.guests.items 0 text text
-no_start_said settings e m text s = record {
-  taken = [];
-  rest = m.guests;
+-- the lines of all starts, and what is kept then
+record StartsAreSaid (k : ℕ) (xs2 all : List Guest) (gs : List made.Guest) (text text2 : List ℕ) : Type 0 where
+  all2 : List Guest
+  said : List made.Guest
+  lines : List Reply
+  kept : LeavesOut is_over xs2 all2
+  are : AreGuests k all2 said
+  says : SayStarts gs lines said
+  adds : AddsLines lines text text2
+  placed : map (λ (x : Guest). x.id.place) all2 ≡ map (λ (x : Guest). x.id.place) all
+
+say_starts : (h : HostState) (k : ℕ) {xs all : List Guest} → LeavesOut is_over xs all → (gs : List made.Guest) (text : List ℕ) (xs2 : List Guest) (text2 : List ℕ) → AreGuests k all gs
+    → ((j : ℕ) (x : Guest) (g : made.Guest) → slice_get all j ≡ Some x → slice_get gs j ≡ Some g → IsReady h x g)
+    → OneByOne (SaysStartOf h) xs text xs2 text2 → StartsAreSaid k xs2 all gs text text2
+say_starts h k none_there [] text xs2 text2 are ready steps = record {
+  all2 = [];
   said = [];
   lines = [];
-  split = refl;
-  counted = refl;
+  kept = subst (λ zs. LeavesOut is_over zs []) (sym steps.0) none_there;
+  are = tt;
   says = (refl, refl);
-  are = s.guests;
-  adds = adds_none text;
+  adds = subst (λ t. AddsLines [] text t) (sym steps.1) (adds_none text);
   placed = refl;
 }
-
-pub start_said_next : (settings : Settings) (e : EngineState) (m : Made) (xs : List Guest) (count : ℕ) (text now now2 : List ℕ) (x x2 : Guest) → StandsForScript settings e m → IsWellMade m
-    → StartsSoFar e m xs count text now → slice_get xs count ≡ Some x → SaysStartOf e.host x x2 now now2
-    → StartsSoFar e m (slice_set xs count x2) (count + 1) text now2
-start_said_next settings e m xs count text now now2 x x2 s well so at says =
-    let n = as_many_said so.taken so.said so.lines so.says in
-    let all : length so.said + length so.rest ≡ length xs = sym (length-append so.said so.rest) ∙ sym (guests_many 0 xs (so.said ++ so.rest) so.are) in
-    let within : count < length xs = there_within xs count x at in
-    let head = first_left so.taken so.rest (length xs) (omega (arith, n, all)) (omega (arith, so.counted)) in
-    let g = head.0 in
-    let more = head.1 in
-    let count_said : length so.said ≡ count = n ∙ so.counted in
-    let are : AreGuests 0 xs (so.said ++ g ∷ more) = subst (λ r. AreGuests 0 xs (so.said ++ r)) head.2 so.are in
-    let at_said : slice_get xs (length so.said) ≡ Some x = ap (slice_get xs) count_said ∙ at in
-    let is : IsGuest count x g = subst (λ k. IsGuest k x g) (omega (arith, count_said)) (guest_here 0 xs so.said more g x are at_said) in
-    let split : m.guests ≡ so.taken ++ g ∷ more = so.split ∙ ap (λ r. so.taken ++ r) head.2 in
-    let of_script : slice_get m.guests count ≡ Some g = ap (λ (gs : List made.Guest). slice_get gs count) split ∙ ap (slice_get (so.taken ++ g ∷ more)) (sym so.counted) ∙ at_middle so.taken more g in
-    let place : slice_get (places_of e) count ≡ Some x.id.place = ap (λ (ps : List ℕ). slice_get ps count) (sym so.placed) ∙ placed_at xs count x at in
-    let shown = shows settings e m count x g s of_script place is.number is.released in
-    let first = well.there.starts count g of_script in
-    let did = says count g first.0 is shown first.1 (λ gone has. well.gone.starts count g first.0 of_script gone has first.1) in
-    let g2 = did.1 in
+say_starts h k none_there (g ∷ gs) text xs2 text2 are ready steps = absurd are
+say_starts h k (keeps_it r) [] text xs2 text2 are ready steps = absurd are
+say_starts h k (keeps_it {x = x} {all = all} r) (g ∷ gs) text xs2 text2 are ready (y, rest, mid, is, first, more) =
+    let now = ready 0 x g refl refl in
+    let did = first k g now.first.0 are.0 now.shown now.first.1 now.was in
+    let others = say_starts h (k + 1) r gs mid rest text2 are.1 (λ j. ready (suc j)) more in
     record {
-      taken = so.taken ++ g ∷ [];
-      rest = more;
-      said = so.said ++ g2 ∷ [];
-      lines = so.lines ++ did.0;
-      split = split ∙ sym (append_assoc so.taken (g ∷ []) more);
-      counted = length-append so.taken (g ∷ []) ∙ ap (λ k. k + 1) so.counted;
-      says = starts_join so.taken so.said so.lines did.0 g g2 so.says did.2;
-      are = subst (AreGuests 0 (slice_set xs count x2)) (sym (append_assoc so.said (g2 ∷ []) more))
-          (subst (λ k. AreGuests 0 (slice_set xs k x2) (so.said ++ g2 ∷ more)) count_said
-          (guests_said 0 xs so.said more x2 g g2 are (subst (λ k. IsGuest k x2 g2) (omega (arith, count_said)) did.4)));
-      adds = adds_more so.lines did.0 text now now2 so.adds did.3;
-      placed = places_same xs count x x2 at did.5 ∙ so.placed;
+      all2 = y ∷ others.all2;
+      said = did.1 ∷ others.said;
+      lines = did.0 ++ others.lines;
+      kept = subst (λ zs. LeavesOut is_over zs (y ∷ others.all2)) (sym is) (keeps_it others.kept);
+      are = (did.4, others.are);
+      says = (did.0, others.lines, did.1, others.said, refl, refl, did.2, others.says);
+      adds = adds_more did.0 others.lines text mid text2 did.3 others.adds;
+      placed = ap (λ (n : InstId). n.place ∷ map (λ (z : Guest). z.id.place) others.all2) did.5 ∙ ap (λ ps. x.id.place ∷ ps) others.placed;
+    }
+say_starts h k (leaves_it over r) [] text xs2 text2 are ready steps = absurd are
+say_starts h k (leaves_it {x = x} {all = all} over r) (g ∷ gs) text xs2 text2 are ready steps =
+    let now = ready 0 x g refl refl in
+    let others = say_starts h (k + 1) r gs text xs2 text2 are.1 (λ j. ready (suc j)) steps in
+    record {
+      all2 = x ∷ others.all2;
+      said = g ∷ others.said;
+      lines = others.lines;
+      kept = leaves_it over others.kept;
+      are = (are.0, others.are);
+      says = ([], others.lines, g, others.said, refl, refl, over_silent k x g are.0 over now.silent, others.says);
+      adds = others.adds;
+      placed = ap (λ ps. x.id.place ∷ ps) others.placed;
     }
 
 names_said : (gs said : List made.Guest) (lines : List Reply) → SayStarts gs lines said → map (λ (g : made.Guest). g.name) said ≡ map (λ (g : made.Guest). g.name) gs
@@ -306,144 +251,187 @@ names_said (g ∷ gs) said lines (first, rest, k, ks, l, f, z, more) =
 abbrev pub with_starts : EngineState → Vec Guest → EngineState
 with_starts e xs = record e { guests = xs }
 
-pub starts_are_said : (settings : Settings) (e : EngineState) (m : Made) (xs : Vec Guest) (count : ℕ) (text now : List ℕ) → StandsForScript settings e m
-    → StartsSoFar e m xs.items count text now → length xs.items ≤ count
+guest_ready : (settings : Settings) (e : WholeState) (m : Made) → StandsWhole settings e m → IsWellMade m → (j : ℕ) (x : Guest) (g : made.Guest) → slice_get e.guests j ≡ Some x
+    → slice_get m.guests j ≡ Some g → IsReady e.host x g
+guest_ready settings e m s well j x g at of_script =
+    let d = pair_at 0 e.guests m.guests j g s.guests of_script in
+    let same : d.0 ≡ x = same_Some d.0 x (sym d.1 ∙ at) in
+    let is : IsGuest j x g = subst (λ (z : Guest). IsGuest j z g) same (subst (λ n. IsGuest n d.0 g) (omega arith) d.2) in
+    let first = well.there.starts j g of_script in
+    record {
+      first = first;
+      shown = shows settings e m j x g s of_script (placed_at e.guests j x at) is.number is.released;
+      was = λ gone has. well.gone.starts j g first.0 of_script gone has first.1;
+      silent = λ status said final. (ended_stays m well).0 j g status of_script said final;
+    }
+
+pub starts_are_said : (settings : Settings) (e : EngineState) (m : Made) (xs : Vec Guest) (between : List Guest) (text now : List ℕ) → StandsForScript settings e m → IsWellMade m
+    → OneByOne (SaysStartOf e.host) e.guests.items text between now → xs.items ≡ filter (λ x. not (is_over x)) between
     → (lines : List Reply) × (guests : List made.Guest) × SayStarts m.guests lines guests × AddsLines lines text now × StandsForScript settings (with_starts e xs) (record m { guests = guests })
-starts_are_said settings e m xs count text now s so end =
-    let n = as_many_said so.taken so.said so.lines so.says in
-    let all : length so.said + length so.rest ≡ length xs.items = sym (length-append so.said so.rest) ∙ sym (guests_many 0 xs.items (so.said ++ so.rest) so.are) in
-    let none : so.rest ≡ [] = no_length so.rest (omega (arith, n, all, so.counted)) in
-    let whole : m.guests ≡ so.taken = so.split ∙ ap (λ r. so.taken ++ r) none ∙ append-nil so.taken in
-    let says : SayStarts m.guests so.lines so.said = subst (λ gs. SayStarts gs so.lines so.said) (sym whole) so.says in
-    let are : AreGuests 0 xs.items so.said = subst (AreGuests 0 xs.items) (ap (λ r. so.said ++ r) none ∙ append-nil so.said) so.are in (
-      so.lines,
-      so.said,
-      says,
-      so.adds,
+starts_are_said settings e m xs between text now s well steps left =
+    let all = whole_on e s.guests s.invoked in
+    let d = say_starts e.host 0 s.kept m.guests text between now s.stands.guests (guest_ready settings all m s.stands well) steps in
+    let many : length s.guests ≡ length d.all2 = guests_many 0 s.guests m.guests s.stands.guests ∙ sym (as_many_said m.guests d.said d.lines d.says) ∙ sym (guests_many 0 d.all2 d.said d.are) in (
+      d.lines,
+      d.said,
+      d.says,
+      d.adds,
       record {
-        world = s.world;
-        is = s.is;
-        modules = s.modules;
-        knows = subst (Knows settings s.world (record m { guests = so.said })) (sym so.placed)
-            (saying_follows settings s.world m (places_of e) so.lines so.said m.invoked s.knows says);
-        module_names = s.module_names;
-        guest_names = subst (AreNames (number_of e.guest_names)) (sym (names_said m.guests so.said so.lines says)) s.guest_names;
-        guests = are;
+        guests = d.all2;
         invoked = s.invoked;
+        kept = subst (λ ys. LeavesOut is_over ys d.all2) (sym left) (let_go d.kept);
+        pending = s.pending;
+        admitted = s.admitted ∙ many;
+        asked = s.asked;
+        stands = record {
+          world = s.stands.world;
+          is = s.stands.is;
+          modules = s.stands.modules;
+          knows = subst (Knows settings s.stands.world (record m { guests = d.said })) (sym d.placed)
+              (saying_follows settings s.stands.world m (places_of all) d.lines d.said m.invoked s.stands.knows d.says);
+          module_names = s.stands.module_names;
+          guest_names = subst (AreNames (number_of e.guest_names)) (sym (names_said m.guests d.said d.lines d.says)) s.stands.guest_names;
+          guests = d.are;
+          invoked = s.stands.invoked;
+        };
       },
     )
 
 -- ---- calls
 
-pub record CallsSoFar (m : Made) (xs : List Invoked) (count : ℕ) (text now : List ℕ) : Type 0 where
-  pub taken : List made.Invoked
-  pub rest : List made.Invoked
-  pub said : List made.Invoked
-  pub lines : List Reply
-  pub split : m.invoked ≡ taken ++ rest
-  pub counted : length taken ≡ count
-  pub says : SayCalls m.guests 1 taken lines said
-  pub are : AllZip IsInvokedAs xs (said ++ rest)
-  pub adds : AddsLines lines text now
+-- the call of an `invoke` is shown, and nothing is said again of what has ended
+record IsCallReady (h : HostState) (hosted : List Guest) (guests : List made.Guest) (v : made.Invoked) : Type 0 where
+  has : HasItsCall h hosted guests v
+  silent : (number : ℕ) (status : CallStatus) → v.said ≡ Some status → is_final status ≡ true → SaysCall guests number v [] v
 
-pub no_call_said : (settings : Settings) (e : EngineState) (m : Made) (text : List ℕ) → StandsForScript settings e m → CallsSoFar m e.invoked.items 0 text text
-no_call_said settings e m text s = record {
-  taken = [];
-  rest = m.invoked;
+settled_silent : (h : HostState) (hosted : List Guest) (guests : List made.Guest) (k : ℕ) (x : Invoked) (v : made.Invoked) → IsInvokedAs k x v → is_settled x ≡ true
+    → IsCallReady h hosted guests v → SaysCall guests k v [] v
+settled_silent h hosted guests k x v is settled ready =
+    let d = ends_said x.said settled in
+    ready.silent k (status_of d.0) (sym is.said ∙ ap (λ o. option_map status_of o) d.1) d.2
+
+-- the lines of all calls, and what is kept then
+record CallsAreSaid (guests : List made.Guest) (k : ℕ) (xs2 : List Invoked) (vs : List made.Invoked) (text text2 : List ℕ) : Type 0 where
+  all2 : List Invoked
+  said : List made.Invoked
+  lines : List Reply
+  kept : LeavesOut is_settled xs2 all2
+  are : AreInvoked k all2 said
+  says : SayCalls guests k vs lines said
+  adds : AddsLines lines text text2
+
+say_calls : (h : HostState) (hosted : List Guest) (guests : List made.Guest) (k : ℕ) {xs all : List Invoked} → LeavesOut is_settled xs all → (vs : List made.Invoked) (text : List ℕ) (xs2 : List Invoked)
+    (text2 : List ℕ) → AreInvoked k all vs → ((n : ℕ) (v : made.Invoked) → slice_get vs n ≡ Some v → IsCallReady h hosted guests v)
+    → OneByOne (SaysCallOf h hosted) xs text xs2 text2 → CallsAreSaid guests k xs2 vs text text2
+say_calls h hosted guests k none_there [] text xs2 text2 are ready steps = record {
+  all2 = [];
   said = [];
   lines = [];
-  split = refl;
-  counted = refl;
+  kept = subst (λ zs. LeavesOut is_settled zs []) (sym steps.0) none_there;
+  are = tt;
   says = (refl, refl);
-  are = s.invoked;
-  adds = adds_none text;
+  adds = subst (λ t. AddsLines [] text t) (sym steps.1) (adds_none text);
 }
-
--- what stands for an `invoke` has its call
-has_its_call : (settings : Settings) (e : EngineState) (m : Made) (n : ℕ) (v : made.Invoked) → StandsForScript settings e m → IsWellMade m → slice_get m.invoked n ≡ Some v
-    → HasItsCall e.host e.guests.items m.guests v
-has_its_call settings e m n v s well at i place came =
-    let d = well.there.calls n i place v at came in
-    let x = code_guest 0 e.guests.items m.guests i d.0 s.guests d.2 in
-    let is : IsGuest i x.0 d.0 = subst (λ k. IsGuest k x.0 d.0) (omega arith) x.2 in (
-      x.0,
-      d.0,
-      d.1,
-      x.1,
-      d.2,
-      d.3,
-      shows settings e m i x.0 d.0 s d.2 (placed_at e.guests.items i x.0 x.1) is.number is.released,
-      λ gone. well.gone.calls n i place v d.0 d.1 at came d.2 gone d.3,
-    )
-
-pub call_said_next : (settings : Settings) (e : EngineState) (m : Made) (xs : List Invoked) (count number : ℕ) (text now now2 : List ℕ) (x x2 : Invoked) → StandsForScript settings e m → IsWellMade m
-    → CallsSoFar m xs count text now → slice_get xs count ≡ Some x → number ≡ count + 1 → SaysCallOf e.host e.guests.items number x x2 now now2
-    → CallsSoFar m (slice_set xs count x2) (count + 1) text now2
-call_said_next settings e m xs count number text now now2 x x2 s well so at numbered says =
-    let n = as_many_calls m.guests 1 so.taken so.said so.lines so.says in
-    let all : length so.said + length so.rest ≡ length xs = sym (length-append so.said so.rest) ∙ sym (zip_many IsInvokedAs xs (so.said ++ so.rest) so.are) in
-    let within : count < length xs = there_within xs count x at in
-    let head = first_left so.taken so.rest (length xs) (omega (arith, n, all)) (omega (arith, so.counted)) in
-    let v = head.0 in
-    let more = head.1 in
-    let count_said : length so.said ≡ count = n ∙ so.counted in
-    let are : AllZip IsInvokedAs xs (so.said ++ v ∷ more) = subst (λ r. AllZip IsInvokedAs xs (so.said ++ r)) head.2 so.are in
-    let at_said : slice_get xs (length so.said) ≡ Some x = ap (slice_get xs) count_said ∙ at in
-    let is = zip_here xs so.said more v x are at_said in
-    let split : m.invoked ≡ so.taken ++ v ∷ more = so.split ∙ ap (λ r. so.taken ++ r) head.2 in
-    let of_script : slice_get m.invoked count ≡ Some v = ap (λ (vs : List made.Invoked). slice_get vs count) split ∙ ap (slice_get (so.taken ++ v ∷ more)) (sym so.counted) ∙ at_middle so.taken more v in
-    let did = says m.guests v is (has_its_call settings e m count v s well of_script) in
-    let v2 = did.1 in
-    let same_number : number ≡ 1 + length so.taken = omega (arith, so.counted, numbered) in
+say_calls h hosted guests k none_there (v ∷ vs) text xs2 text2 are ready steps = absurd are
+say_calls h hosted guests k (keeps_it r) [] text xs2 text2 are ready steps = absurd are
+say_calls h hosted guests k (keeps_it {x = x} r) (v ∷ vs) text xs2 text2 are ready (y, rest, mid, is, first, more) =
+    let now = ready 0 v refl in
+    let did = first guests v k are.0 now.has in
+    let others = say_calls h hosted guests (k + 1) r vs mid rest text2 are.1 (λ n. ready (suc n)) more in
     record {
-      taken = so.taken ++ v ∷ [];
-      rest = more;
-      said = so.said ++ v2 ∷ [];
-      lines = so.lines ++ did.0;
-      split = split ∙ sym (append_assoc so.taken (v ∷ []) more);
-      counted = length-append so.taken (v ∷ []) ∙ ap (λ k. k + 1) so.counted;
-      says = calls_join m.guests 1 so.taken so.said so.lines did.0 v v2 so.says (subst (λ k. SaysCall m.guests k v did.0 v2) same_number did.2);
-      are = subst (AllZip IsInvokedAs (slice_set xs count x2)) (sym (append_assoc so.said (v2 ∷ []) more))
-          (subst (λ k. AllZip IsInvokedAs (slice_set xs k x2) (so.said ++ v2 ∷ more)) count_said (zip_said xs so.said more x2 v v2 are did.4));
-      adds = adds_more so.lines did.0 text now now2 so.adds did.3;
+      all2 = y ∷ others.all2;
+      said = did.1 ∷ others.said;
+      lines = did.0 ++ others.lines;
+      kept = subst (λ zs. LeavesOut is_settled zs (y ∷ others.all2)) (sym is) (keeps_it others.kept);
+      are = (did.4, others.are);
+      says = (did.0, others.lines, did.1, others.said, refl, refl, did.2, others.says);
+      adds = adds_more did.0 others.lines text mid text2 did.3 others.adds;
     }
+say_calls h hosted guests k (leaves_it settled r) [] text xs2 text2 are ready steps = absurd are
+say_calls h hosted guests k (leaves_it {x = x} settled r) (v ∷ vs) text xs2 text2 are ready steps =
+    let others = say_calls h hosted guests (k + 1) r vs text xs2 text2 are.1 (λ n. ready (suc n)) steps in
+    record {
+      all2 = x ∷ others.all2;
+      said = v ∷ others.said;
+      lines = others.lines;
+      kept = leaves_it settled others.kept;
+      are = (are.0, others.are);
+      says = ([], others.lines, v, others.said, refl, refl, settled_silent h hosted guests k x v are.0 settled (ready 0 v refl), others.says);
+      adds = others.adds;
+    }
+
+-- an instance is found by its number, or was released
+looked_up : (settings : Settings) (e : EngineState) (m : Made) (i : ℕ) (g : made.Guest) → StandsForScript settings e m → slice_get m.guests i ≡ Some g → IsLookedUp e.host e.guests.items i g
+looked_up settings e m i g s of_script =
+    let all = whole_on e s.guests s.invoked in
+    let d = pair_at 0 s.guests m.guests i g s.stands.guests of_script in
+    let is : IsGuest i d.0 g = subst (λ n. IsGuest n d.0 g) (omega arith) d.2 in
+    record {
+      rise = kept_rise s.kept 0 m.guests s.stands.guests;
+      shows = λ at x there number.
+          let here = kept_at s.kept m.guests s.stands.guests i at x there number in
+          let same : d.0 ≡ x = same_Some d.0 x (sym d.1 ∙ here) in
+          subst (λ (z : Guest). ShowsCalls e.host z g) same (shows settings all m i d.0 g s.stands of_script (placed_at s.guests i d.0 d.1) is.number is.released);
+      gone = λ none. none_kept s.kept m.guests s.stands.guests i g none of_script;
+    }
+
+call_ready : (settings : Settings) (e : EngineState) (m : Made) → StandsForScript settings e m → IsWellMade m → (n : ℕ) (v : made.Invoked) → slice_get m.invoked n ≡ Some v
+    → IsCallReady e.host e.guests.items m.guests v
+call_ready settings e m s well n v at = record {
+  has = λ i place came.
+      let d = well.there.calls n i place v at came in (
+        d.0,
+        d.1,
+        d.2,
+        d.3,
+        looked_up settings e m i d.0 s d.2,
+        λ gone. well.gone.calls n i place v d.0 d.1 at came d.2 gone d.3,
+      );
+  silent = λ number status said final. (ended_stays m well).1 n number v status at said final;
+}
 
 abbrev pub with_said : EngineState → Vec Invoked → EngineState
 with_said e xs = record e { invoked = xs }
 
-pub calls_are_said : (settings : Settings) (e : EngineState) (m : Made) (xs : Vec Invoked) (count : ℕ) (text now : List ℕ) → StandsForScript settings e m
-    → CallsSoFar m xs.items count text now → length xs.items ≤ count
+pub calls_are_said : (settings : Settings) (e : EngineState) (m : Made) (xs : Vec Invoked) (between : List Invoked) (text now : List ℕ) → StandsForScript settings e m → IsWellMade m
+    → OneByOne (SaysCallOf e.host e.guests.items) e.invoked.items text between now → xs.items ≡ filter (λ x. not (is_settled x)) between
     → (lines : List Reply) × (invoked : List made.Invoked) × SayCalls m.guests 1 m.invoked lines invoked × AddsLines lines text now × StandsForScript settings (with_said e xs) (record m { invoked = invoked })
-calls_are_said settings e m xs count text now s so end =
-    let n = as_many_calls m.guests 1 so.taken so.said so.lines so.says in
-    let all : length so.said + length so.rest ≡ length xs.items = sym (length-append so.said so.rest) ∙ sym (zip_many IsInvokedAs xs.items (so.said ++ so.rest) so.are) in
-    let none : so.rest ≡ [] = no_length so.rest (omega (arith, n, all, so.counted)) in
-    let whole : m.invoked ≡ so.taken = so.split ∙ ap (λ r. so.taken ++ r) none ∙ append-nil so.taken in
-    let says : SayCalls m.guests 1 m.invoked so.lines so.said = subst (λ vs. SayCalls m.guests 1 vs so.lines so.said) (sym whole) so.says in (
-      so.lines,
-      so.said,
-      says,
-      so.adds,
+calls_are_said settings e m xs between text now s well steps left =
+    let d = say_calls e.host e.guests.items m.guests 1 s.pending m.invoked text between now s.stands.invoked (call_ready settings e m s well) steps in
+    let many : length s.invoked ≡ length d.all2 = calls_many 1 s.invoked m.invoked s.stands.invoked ∙ sym (as_many_calls m.guests 1 m.invoked d.said d.lines d.says) ∙ sym (calls_many 1 d.all2 d.said d.are) in
+    let known = s.stands.knows in (
+      d.lines,
+      d.said,
+      d.says,
+      d.adds,
       record {
-        world = s.world;
-        is = s.is;
-        modules = s.modules;
-        knows = record {
-          frames = s.knows.frames;
-          slots = s.knows.slots;
-          tax_num = s.knows.tax_num;
-          tax_den = s.knows.tax_den;
-          none_out = s.knows.none_out;
-          minima = s.knows.minima;
-          spreads = s.knows.spreads;
-          modules = s.knows.modules;
-          guests = s.knows.guests;
-          placed = s.knows.placed;
-        };
-        module_names = s.module_names;
-        guest_names = s.guest_names;
         guests = s.guests;
-        invoked = subst (AllZip IsInvokedAs xs.items) (ap (λ r. so.said ++ r) none ∙ append-nil so.said) so.are;
+        invoked = d.all2;
+        kept = s.kept;
+        pending = subst (λ ys. LeavesOut is_settled ys d.all2) (sym left) (let_go d.kept);
+        admitted = s.admitted;
+        asked = s.asked ∙ many;
+        stands = record {
+          world = s.stands.world;
+          is = s.stands.is;
+          modules = s.stands.modules;
+          knows = record {
+            frames = known.frames;
+            slots = known.slots;
+            tax_num = known.tax_num;
+            tax_den = known.tax_den;
+            none_out = known.none_out;
+            minima = known.minima;
+            spreads = known.spreads;
+            modules = known.modules;
+            guests = known.guests;
+            placed = known.placed;
+          };
+          module_names = s.stands.module_names;
+          guest_names = s.stands.guest_names;
+          guests = s.stands.guests;
+          invoked = d.are;
+        };
       },
     )
 
@@ -456,11 +444,6 @@ both_said e mid e2 text between text2 starts calls settings m s well =
     (a.0, b.0, a.1, b.1, a.2, b.2, adds_more a.0 b.0 text between text2 a.3 b.3, b.4)
 
 -- ---- parts
-
-both_empty : (ps : List Piece) (o : Option ℕ) → ¬ (¬ ((ps ≡ []) × (o ≡ None))) → (ps ≡ []) × (o ≡ None)
-both_empty [] None none = (refl, refl)
-both_empty [] (Some x) none = absurd (none (λ both. cc both.1))
-both_empty (p ∷ ps) o none = absurd (none (λ both. cc both.0))
 
 -- it is said how a call is that was taken
 pub takes_so : (guests : List made.Guest) (number : ℕ) (v : made.Invoked) (i place : ℕ) (g : made.Guest) (c : Call) (status : CallStatus) (lines : List Reply) → v.came ≡ made.taken_on i place
@@ -478,8 +461,15 @@ starts_so g c name said status lines named before e has first says =
     has_one has first (subst (λ n. SaysLine (texts.start n) g.said (call_status g 0 c) lines) named
     (subst (λ o. SaysLine (texts.start name) o (call_status g 0 c) lines) before (subst (λ s. SaysLine (texts.start name) said s lines) e says)))
 
-pub no_start : (g : made.Guest) → ¬ (HasStart g) → (g.pieces ≡ []) × (g.m.start ≡ None)
-no_start g none = both_empty g.pieces g.m.start none
+-- of a released instance it was said how the call is
+pub gone_unsaid : (g : made.Guest) (place : ℕ) (c : Call) (said : Option Status) → WasSaid g place c (option_map status_of said) → said ≡ None → ⊥
+gone_unsaid g place c said was none = none-some was.0 (ap (λ o. option_map status_of o) (sym none) ∙ was.1)
+
+pub gone_status : (g : made.Guest) (place : ℕ) (c : Call) (said : Option Status) (s status : Status) → WasSaid g place c (option_map status_of said) → said ≡ Some s
+    → status_of status ≡ when_released (status_of s) → status_of status ≡ call_status g place c
+gone_status g place c said s status was is now =
+    let same : was.0 ≡ status_of s = same_Some was.0 (status_of s) (sym was.1 ∙ ap (λ o. option_map status_of o) is) in
+    now ∙ ap when_released (sym same) ∙ sym was.2
 
 -- what holds where a line was added holds of it
 pub on_ok_then : {A E : Type 0} {P Q : Type 0} (r : Result A E) → OnOk r P → (P → Q) → OnOk r Q

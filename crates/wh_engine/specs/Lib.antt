@@ -1,4 +1,5 @@
 pub mod Names
+pub mod Finding
 pub mod Standing
 pub mod Obeying
 pub mod Draining

@@ -1,5 +1,5 @@
 -- What commands get, and for which script an engine stands then.
-use Rattle.std.specs.Prelude.{◌≡◌, ℕ, ℤ, true, List, [], ◌∷◌, slice_get, Some, Result, Ok, Err}
+use Rattle.std.specs.Prelude.{◌≡◌, ℕ, ℤ, true, List, [], ◌∷◌, ◌++◌, slice_get, Some, None, Result, Ok, Err}
 use Rattle.std.specs.Global.{Vec}
 use Rattle.wh_host_model.specs.Host.Worlds.{Params}
 use Rattle.wh_host_model.specs.Lines.Settings.{Settings}
@@ -10,6 +10,8 @@ use Rattle.wh_host_model.specs.Lines.Receiving.{ReceivesModule, ReceivesGuest, R
 use Rattle.wh_host_model.specs.Lines.Answers.{Files, IsObeyed}
 use Rattle.wh_host.specs.Asking.{host_number}
 use Rattle.wh_host.specs.declared.error.HostError.{HostError}
+use Rattle.wh_engine.specs.declared.engine.Engine.{Engine}
+use Rattle.wh_engine.specs.declared.parts.Reception.{Reception}
 use Rattle.wh_engine.specs.Standing.{EngineState, StandsForScript}
 
 -- the instance of this number has the name
@@ -36,6 +38,11 @@ abbrev pub TakesInvoke : Settings → Made → (i : ℕ) (export : List ℕ) (fu
 TakesInvoke settings m i export fuel given e2 =
     (g : Guest) × (slice_get m.guests i ≡ Some g)
     × (m2 : Made) × ReceivesCall true m i g export fuel given m2 × StandsForScript settings e2 m2
+
+-- one more call is kept, with this number
+pub record IsNoted (e e2 : Engine) (number : ℕ) (came : Reception) : Type 0 where
+  pub invoked : e2.invoked.items ≡ e.invoked.items ++ record { number = number; came = came; said = None } ∷ []
+  pub others : e2 ≡ record e { invoked = e2.invoked; asked = number }
 
 -- and a command this one
 abbrev pub ObeysCommand : Settings → Files → Made → (line : ℕ) → Command → Reply → EngineState → Type 0

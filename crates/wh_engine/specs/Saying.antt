@@ -22,6 +22,7 @@ use Rattle.wh_replies.specs.declared.call.Status.{Status}
 use Rattle.wh_script_model.specs.Said.{HasStart, WasSaid, IsReleased, IsWellMade}
 use Rattle.wh_engine.specs.declared.parts.Guest.{Guest}
 use Rattle.wh_engine.specs.declared.parts.Invoked.{Invoked}
+use Rattle.wh_engine.specs.Finding.{HasNoNumber, RiseFrom}
 use Rattle.wh_engine.specs.Standing.{EngineState, StandsForScript, IsGuest, IsInvokedAs}
 
 -- no device has failed at the call that stands for this
@@ -56,6 +57,19 @@ IsStatusAt h x place said found =
     → (IsReleased g → WasSaid g place c (option_map status_of said))
     → (status : Status) × (found ≡ Some status) × (status_of status ≡ call_status g place c)
 
+-- the one of these instances that has the number shows the calls of this; where none has, this is released
+pub record IsLookedUp (h : HostState) (xs : List Guest) (i : ℕ) (g : made.Guest) : Type 0 where
+  pub rise : RiseFrom 0 xs
+  pub shows : (at : ℕ) (x : Guest) → slice_get xs at ≡ Some x → x.id.number ≡ i → ShowsCalls h x g
+  pub gone : HasNoNumber xs i → IsReleased g
+
+-- so the call at this place is of the instance of this number, which was said to be so
+abbrev pub IsFoundAt : HostState → List Guest → (number place : ℕ) → Option Status → Option Status → Type 0
+IsFoundAt h xs number place said found =
+    (g : made.Guest) (c : Call) → IsLookedUp h xs number g → slice_get g.calls place ≡ Some c
+    → (IsReleased g → WasSaid g place c (option_map status_of said))
+    → (status : Status) × (found ≡ Some status) × (status_of status ≡ call_status g place c)
+
 -- the lines stand behind the text
 abbrev pub AddsLines : List Reply → List ℕ → List ℕ → Type 0
 AddsLines lines text text2 = text2 ≡ text ++ replies_text lines
@@ -78,23 +92,23 @@ SaysStartOf h x x2 text text2 =
 abbrev pub HasItsCall : HostState → List Guest → List made.Guest → made.Invoked → Type 0
 HasItsCall h xs guests v =
     (i place : ℕ) → v.came ≡ made.taken_on i place
-    → (x : Guest) × (g : made.Guest) × (c : Call) × (slice_get xs i ≡ Some x) × (slice_get guests i ≡ Some g)
-    × (slice_get g.calls place ≡ Some c) × ShowsCalls h x g × (IsReleased g → WasSaid g place c v.said)
+    → (g : made.Guest) × (c : Call) × (slice_get guests i ≡ Some g) × (slice_get g.calls place ≡ Some c)
+    × IsLookedUp h xs i g × (IsReleased g → WasSaid g place c v.said)
 
 -- so the call of an `invoke` is
 abbrev pub IsInvokedNow : HostState → List Guest → Invoked → Option Status → Type 0
 IsInvokedNow h xs x found =
-    (guests : List made.Guest) (v : made.Invoked) (number : ℕ) → IsInvokedAs x v → HasItsCall h xs guests v
+    (guests : List made.Guest) (v : made.Invoked) (number : ℕ) → IsInvokedAs number x v → HasItsCall h xs guests v
     → (status : Status) × (found ≡ Some status)
     × ((lines : List Reply) → SaysLine (texts.call number) v.said (status_of status) lines
     → SaysCall guests number v lines (record v { said = Some (status_of status) }))
 
--- the line of the call of an `invoke` with this number
-abbrev pub SaysCallOf : HostState → List Guest → ℕ → Invoked → Invoked → List ℕ → List ℕ → Type 0
-SaysCallOf h xs number x x2 text text2 =
-    (guests : List made.Guest) (v : made.Invoked) → IsInvokedAs x v → HasItsCall h xs guests v
+-- the line of the call of an `invoke`
+abbrev pub SaysCallOf : HostState → List Guest → Invoked → Invoked → List ℕ → List ℕ → Type 0
+SaysCallOf h xs x x2 text text2 =
+    (guests : List made.Guest) (v : made.Invoked) (number : ℕ) → IsInvokedAs number x v → HasItsCall h xs guests v
     → (lines : List Reply) × (v2 : made.Invoked) × SaysCall guests number v lines v2 × AddsLines lines text text2
-    × IsInvokedAs x2 v2
+    × IsInvokedAs number x2 v2
 
 -- whatever script the engine stands for, these are the lines of all starts
 abbrev pub SaysAllStarts : EngineState → List ℕ → EngineState → List ℕ → Type 0

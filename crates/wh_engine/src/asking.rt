@@ -1,6 +1,6 @@
 // What a script asks of the present call of an instance.
 
-ghost use Rattle.std.specs.Prelude.{◌≡◌, ℕ, ◌<◌, length};
+ghost use Rattle.std.specs.Prelude.{◌≡◌, ℕ};
 ghost use Rattle.wh_host_model.specs.Lines.Answers.{Files};
 ghost use Rattle.wh_host_model.specs.Lines.Commands.{cancel, refuel, retry};
 ghost use Rattle.wh_host_model.specs.Lines.Made.{Made};
@@ -12,6 +12,7 @@ ghost use Rattle.wh_engine.specs.Obeying.{IsNamed, ObeysCommand};
 use crate::engine::Engine;
 use std::sync::ledger::Ledger;
 use wh_cell::Ties;
+use wh_host::HostError;
 use wh_replies::Reply;
 use wh_scheduler::OwnedHost;
 use wh_swap::SwapDev;
@@ -25,7 +26,6 @@ impl Engine {
         name: &'a str,
         fuel: u64,
     ) -> Reply<'a>
-        requires there { number < length self.now.guests.items }
         ensures obeys { (settings : Settings) (files : Files) (line : ℕ) (m : Made)
             → StandsForScript settings (engine_on host.old.host self.now) m
             → IsNamed m number name.now
@@ -33,7 +33,13 @@ impl Engine {
             (engine_on host.new.host self.now) }
         ensures device { host.new.device ≡ host.old.device }
     {
-        match host.refuel(self.guests[number].id, fuel) {
+        let Some(at) = self.kept_at(number) else {
+            return Reply::RefuelRefused {
+                inst: name,
+                fault: HostError::NoInstance.number(),
+            };
+        };
+        match host.refuel(self.guests[at].id, fuel) {
             Ok(()) => Reply::RefuelOk { inst: name },
             Err(error) => Reply::RefuelRefused {
                 inst: name,
@@ -49,7 +55,6 @@ impl Engine {
         number: usize,
         name: &'a str,
     ) -> Reply<'a>
-        requires there { number < length self.now.guests.items }
         ensures obeys { (settings : Settings) (files : Files) (line : ℕ) (m : Made)
             → StandsForScript settings (engine_on host.old.host self.now) m
             → IsNamed m number name.now
@@ -57,7 +62,13 @@ impl Engine {
             (engine_on host.new.host self.now) }
         ensures device { host.new.device ≡ host.old.device }
     {
-        match host.cancel(self.guests[number].id) {
+        let Some(at) = self.kept_at(number) else {
+            return Reply::CancelRefused {
+                inst: name,
+                fault: HostError::NoInstance.number(),
+            };
+        };
+        match host.cancel(self.guests[at].id) {
             Ok(()) => Reply::CancelOk { inst: name },
             Err(error) => Reply::CancelRefused {
                 inst: name,
@@ -73,7 +84,6 @@ impl Engine {
         number: usize,
         name: &'a str,
     ) -> Reply<'a>
-        requires there { number < length self.now.guests.items }
         ensures obeys { (settings : Settings) (files : Files) (line : ℕ) (m : Made)
             → StandsForScript settings (engine_on host.old.host self.now) m
             → IsNamed m number name.now
@@ -81,7 +91,13 @@ impl Engine {
             (engine_on host.new.host self.now) }
         ensures device { host.new.device ≡ host.old.device }
     {
-        match host.retry(self.guests[number].id) {
+        let Some(at) = self.kept_at(number) else {
+            return Reply::RetryRefused {
+                inst: name,
+                fault: HostError::NoInstance.number(),
+            };
+        };
+        match host.retry(self.guests[at].id) {
             Ok(()) => Reply::RetryOk { inst: name },
             Err(error) => Reply::RetryRefused {
                 inst: name,

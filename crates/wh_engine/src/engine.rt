@@ -11,14 +11,20 @@ use crate::names::Names;
 use crate::parts::{Guest, Invoked};
 use std::alloc::Global;
 
-/// What a script has made. The host on which it was made comes with each request.
+/// What a script has made, as far as lines to come depend on it. The host on which it was made comes with each request.
 pub struct Engine {
     pub(crate) module_names: Names,
     pub(crate) guest_names: Names,
+    // Those that live, or whose start has a line to come, by their numbers.
     pub(crate) guests: Vec<Guest>,
+    // The calls that weren't said to have ended, by the numbers of their `invoke`s.
     pub(crate) invoked: Vec<Invoked>,
     // How many modules were kept.
     pub(crate) modules: usize,
+    // How many instances were admitted.
+    pub(crate) admitted: usize,
+    // How many `invoke`s have a number.
+    pub(crate) asked: u64,
 }
 
 // Written out, so that letting one go is one call, and not one for each part of its parts.
@@ -30,6 +36,8 @@ impl Drop for Engine {
             guests: _,
             invoked: _,
             modules: _,
+            admitted: _,
+            asked: _,
         } = self;
     }
 }
@@ -48,6 +56,8 @@ impl Engine {
             guests: Vec::new(alloc),
             invoked: Vec::new(alloc),
             modules: 0,
+            admitted: 0,
+            asked: 0,
         }
     }
 }

@@ -1,13 +1,13 @@
 // Instances that a script admits, calls and lets go.
 
-ghost use Rattle.std.specs.Prelude.{◌≡◌, ◌<◌, None, IfOk, OnErr, OnOk, length};
+ghost use Rattle.std.specs.Prelude.{◌≡◌, ◌<◌, None, IfOk, OnErr, OnOk, vec_capacity, vec_len};
 ghost use Rattle.wh_commands.specs.Found.{params_of};
 ghost use Rattle.wh_host_model.specs.Lines.Made.{Made};
 ghost use Rattle.wh_host_model.specs.Lines.Settings.{Settings};
 ghost use Rattle.wh_replies.specs.View.{reply_of};
 ghost use Rattle.wh_engine.specs.Names.{number_of};
 ghost use Rattle.wh_engine.specs.Standing.{StandsForScript, engine_on};
-ghost use Rattle.wh_engine.specs.Obeying.{TakesInvoke, TakesGuest};
+ghost use Rattle.wh_engine.specs.Obeying.{IsNoted, TakesInvoke, TakesGuest};
 
 use crate::engine::Engine;
 use crate::parts::{Guest, Invoked, Reception};
@@ -15,7 +15,7 @@ use std::alloc::{AllocError, Global};
 use std::sync::ledger::Ledger;
 use wh_cell::Ties;
 use wh_commands::Given;
-use wh_host::{ModuleId, Params};
+use wh_host::{HostError, ModuleId, Params};
 use wh_replies::Reply;
 use wh_scheduler::OwnedHost;
 use wh_swap::SwapDev;
@@ -44,9 +44,13 @@ impl Engine {
             → StandsForScript settings (engine_on host.new.host self.new) m) }
         ensures device { host.new.device ≡ host.old.device }
     {
+        let number = self.admitted;
+        let Some(admitted) = number.checked_add(1) else {
+            return Err(AllocError);
+        };
         let name = String::from_str(alloc, inst)?;
         self.guests.reserve(1)?;
-        self.guest_names.add(alloc, inst, self.guests.len())?;
+        self.guest_names.add(alloc, inst, number)?;
         let params = Params {
             shares: given.shares,
             min: given.min,
@@ -59,6 +63,7 @@ impl Engine {
         match host.admit(alloc, ModuleId { number: of }, params) {
             Ok(id) => {
                 let has_start = host.host().can_go_on(id);
+                self.admitted = admitted;
                 self.guests.push_reserved(Guest {
                     name,
                     id,
@@ -94,7 +99,7 @@ impl Engine {
         fuel: u64,
         args: &[i128],
     ) -> Result<(), AllocError>
-        requires there { number < length self.old.guests.items }
+        requires there { number < self.old.admitted }
         ensures ok { OnOk result ((settings : Settings) (m : Made)
             → StandsForScript settings (engine_on host.old.host self.old) m
             → TakesInvoke settings m number export.now fuel args.now
@@ -104,8 +109,15 @@ impl Engine {
             → StandsForScript settings (engine_on host.new.host self.new) m) }
         ensures device { host.new.device ≡ host.old.device }
     {
+        let Some(asked) = self.asked.checked_add(1) else {
+            return Err(AllocError);
+        };
         self.invoked.reserve(1)?;
-        let id = self.guests[number].id;
+        let Some(at) = self.kept_at(number) else {
+            self.note(asked, Reception::TurnedDown(HostError::NoInstance.number()));
+            return Ok(());
+        };
+        let id = self.guests[at].id;
         let came = match host.invoke(alloc, id, export, args, fuel) {
             Ok(place) => Reception::TakenOn {
                 guest: number,
@@ -113,7 +125,20 @@ impl Engine {
             },
             Err(error) => Reception::TurnedDown(error.number()),
         };
-        self.invoked.push_reserved(Invoked { came, said: None });
+        self.note(asked, came);
         Ok(())
+    }
+
+    // Keeps what came of the `invoke` of a number, which is the last one.
+    fn note(&mut self, number: u64, came: Reception)
+        requires room { vec_len self.old.invoked < vec_capacity self.old.invoked }
+        ensures { IsNoted self.old self.new number came }
+    {
+        self.asked = number;
+        self.invoked.push_reserved(Invoked {
+            number,
+            came,
+            said: None,
+        });
     }
 }

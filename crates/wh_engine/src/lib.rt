@@ -2,8 +2,10 @@
 #![tactic(auto)]
 
 mod asking;
+mod ending;
 mod engine;
 mod fault;
+mod finding;
 mod guests;
 mod modules;
 mod names;

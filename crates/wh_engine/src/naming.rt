@@ -1,6 +1,6 @@
 // What the names of a script stand for.
 
-ghost use Rattle.std.specs.Prelude.{◌≡◌, MatchOption, length};
+ghost use Rattle.std.specs.Prelude.{◌≡◌, MatchOption};
 ghost use Rattle.wh_host_model.specs.Lines.Made.{Made, NoGuest, NoModule};
 ghost use Rattle.wh_host_model.specs.Lines.Settings.{Settings};
 ghost use Rattle.wh_host.specs.Hosting.{HostState};
@@ -40,8 +40,8 @@ impl Engine {
 
     /// How many instances were admitted.
     pub fn guests(&self) -> usize
-        ensures { result ≡ length self.now.guests.items }
+        ensures { result ≡ self.now.admitted }
     {
-        self.guests.len()
+        self.admitted
     }
 }

@@ -29,6 +29,8 @@ pub enum Reception {
 /// An `invoke`, and how its call was last said to be.
 #[derive(Clone, Copy, Debug, PartialEq, Eq)]
 pub struct Invoked {
+    /// The number by which lines name it.
+    pub number: u64,
     pub came: Reception,
     pub said: Option<Status>,
 }

@@ -1,6 +1,6 @@
 // Instances that a script lets go.
 
-ghost use Rattle.std.specs.Prelude.{◌≡◌, ◌∷◌, ◌<◌, ℕ, [], List, length};
+ghost use Rattle.std.specs.Prelude.{◌≡◌, ◌∷◌, ℕ, [], List};
 ghost use Rattle.wh_host_model.specs.Lines.Answers.{Files};
 ghost use Rattle.wh_host_model.specs.Lines.Commands.{release};
 ghost use Rattle.wh_host_model.specs.Lines.Made.{Made};
@@ -27,7 +27,6 @@ impl Engine {
         alloc: Global,
         number: usize,
     ) -> Result<Vec<u8>, HostError>
-        requires there { number < length self.old.guests.items }
         ensures obeys { (settings : Settings) (files : Files) (line : ℕ) (m : Made) (name : List ℕ)
             → StandsForScript settings (engine_on host.old.host self.old) m
             → IsNamed m number name
@@ -35,12 +34,15 @@ impl Engine {
             (engine_on host.new.host self.new) }
         ensures device { host.new.device ≡ host.old.device }
     {
-        let id = self.guests[number].id;
+        let Some(at) = self.kept_at(number) else {
+            return Err(HostError::NoInstance);
+        };
+        let id = self.guests[at].id;
         let output = match host.release(alloc, id) {
             Ok(output) => output,
             Err(error) => return Err(error),
         };
-        self.guests[number].is_released = true;
+        self.guests[at].is_released = true;
         Ok(output)
     }
 }

@@ -1,7 +1,7 @@
 // Calls that run until none can go on.
 
 ghost use Rattle.std.specs.Bool.{MatchBool};
-ghost use Rattle.std.specs.Prelude.{◌≡◌, ◌≢◌, ◌≤◌, IfErr, OnOk};
+ghost use Rattle.std.specs.Prelude.{◌≡◌, ◌≢◌, ◌≤◌, [], IfErr, IfOk, OnOk};
 ghost use Rattle.wh_engine.specs.declared.fault.ScriptFault.TheVariants.{Transcript};
 ghost use Rattle.wh_engine.specs.Draining.{AllRest, DeviceMayFail, DeviceServesWell, DeviceStaysTrue, IsServedWhole, RunsEach, RunsTurns, SomeGoes, StopsOnlyOpen, StopsRun, StopsScan};
 ghost use Rattle.wh_engine.specs.Standing.{engine_on};
@@ -53,22 +53,16 @@ impl Engine {
         false
     }
 
-    // How many instances have a call that can go on.
-    fn count_going(&self, host: &Host) -> usize {
-        let mut count: usize = 0;
+    // Which instances the host knows that have a call that can go on.
+    fn going(&self, alloc: Global, host: &Host) -> Result<Vec<InstId>, AllocError>
+        ensures none { IfOk result (λ ids. ids.items ≡ [] → AllRest host.now self.now.guests.items) }
+        ensures some { IfOk result (λ ids. ids.items ≢ [] → SomeGoes host.now self.now.guests.items) }
+    {
+        let mut ids = Vec::new(alloc);
         for guest in &self.guests {
             if host.can_go_on(guest.id) {
-                count = count.saturating_add(1);
+                ids.push(guest.id)?;
             }
-        }
-        count
-    }
-
-    // Which instances the host knows them as.
-    fn ids(&self, alloc: Global) -> Result<Vec<InstId>, AllocError> {
-        let mut ids = Vec::with_capacity(alloc, self.guests.len())?;
-        for guest in &self.guests {
-            ids.push(guest.id)?;
         }
         Ok(ids)
     }
@@ -108,16 +102,16 @@ impl Engine {
         ensures transcript { IfErr result (λ fault. fault ≡ Transcript
             → SomeGoes host.new.host self.now.guests.items) }
     {
-        if !self.can_go_on(host.host()) {
-            return Ok(());
-        }
-        let Ok(ids) = self.ids(alloc) else {
+        let Ok(ids) = self.going(alloc, host.host()) else {
             return Err(ScriptFault::Memory);
         };
+        if ids.is_empty() {
+            return Ok(());
+        }
         let manner = Manner {
             hasher: manner.hasher,
             quantum: manner.quantum,
-            workers: manner.workers.min(self.count_going(host.host())).max(1),
+            workers: manner.workers.min(ids.len()).max(1),
         };
         let served = host.run(rt, alloc, &ids, manner);
         host.known();

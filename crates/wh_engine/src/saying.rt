@@ -6,10 +6,12 @@ ghost use Rattle.wh_replies.specs.View.{caller_of, status_of};
 ghost use Rattle.wh_script_model.specs.Said as said_spec;
 ghost use Rattle.wh_host_model.specs.Lines.Texts.{wants_fuel};
 ghost use Rattle.wh_instance.specs.Tenancy.{suspension_of};
-ghost use Rattle.wh_engine.specs.Saying.{IsFaultless, IsInvokedNow, IsReturnedSo, IsSaidAs, IsStatusAt, SaysAll, SaysAllCalls, SaysAllStarts, SaysCallOf, SaysOf, SaysStartOf};
+ghost use Rattle.wh_engine.specs.Saying.{IsFaultless, IsFoundAt, IsInvokedNow, IsReturnedSo, IsSaidAs, IsStatusAt, SaysAll, SaysAllCalls, SaysAllStarts, SaysCallOf, SaysOf, SaysStartOf};
 ghost use Rattle.wh_engine.specs.Standing.{engine_on};
 
+use crate::ending::{forget_calls, forget_guests};
 use crate::engine::Engine;
+use crate::finding::place_of;
 use crate::parts::{Guest, Invoked, Reception};
 use std::alloc::AllocError;
 use wh_host::{CallStatus, CallValue, Host, Suspension};
@@ -84,6 +86,23 @@ fn status_now(host: &Host, guest: &Guest, place: u32, said: Option<Status>) -> O
     said_of(host.call_status(guest.id, place)?)
 }
 
+// How the call at a place of the journal of the instance of a number is, which was last said to be so. An instance that isn't
+// kept any more was released.
+fn found_now(
+    host: &Host,
+    guests: &[Guest],
+    number: usize,
+    place: u32,
+    said: Option<Status>,
+) -> Option<Status>
+    ensures { IsFoundAt host.now guests.now number place said result }
+{
+    match place_of(guests, number) {
+        Some(at) => status_now(host, &guests[at], place, said),
+        None => Some(when_released(said?)),
+    }
+}
+
 // Whether this was said last.
 fn was_said(said: Option<Status>, status: Status) -> bool
     ensures { MatchBool result (said ≡ Some status) (said ≢ Some status) }
@@ -134,34 +153,33 @@ fn invoked_now(host: &Host, guests: &[Guest], invoked: Invoked) -> Option<Status
     match invoked.came {
         Reception::TurnedDown(fault) => Some(Status::Refused { fault }),
         Reception::TakenOn { guest, place } => {
-            let guest = guests.get(guest)?;
-            status_now(host, guest, place, invoked.said)
+            found_now(host, guests, guest, place, invoked.said)
         }
     }
 }
 
-// Says how the call of the `invoke` with a number is.
+// Says how the call of an `invoke` is.
 fn say_call(
     host: &Host,
     guests: &[Guest],
-    number: u64,
     invoked: &mut Invoked,
     text: &mut String,
 ) -> Result<(), AllocError>
-    ensures { OnOk result (SaysCallOf host.now guests.now number invoked.old invoked.new
+    ensures { OnOk result (SaysCallOf host.now guests.now invoked.old invoked.new
         (string_bytes text.old) (string_bytes text.new)) }
 {
     let Some(status) = invoked_now(host, guests, *invoked) else {
         return Ok(());
     };
-    say_line(text, Caller::Call(number), invoked.said, status)?;
+    say_line(text, Caller::Call(invoked.number), invoked.said, status)?;
     invoked.said = Some(status);
     Ok(())
 }
 
 impl Engine {
     /// Puts the lines of a drain behind a text: of each start, by the numbers of instances, and then of each call, by the
-    /// numbers of their `invoke`s, of which another line is to be said than the last one.
+    /// numbers of their `invoke`s, of which another line is to be said than the last one. Released instances and calls that have
+    /// ended are forgotten then, since no line says anything of them again.
     ///
     /// # Errors
     /// A growth of memory was refused; a beginning of the lines may stand behind the text.
@@ -180,6 +198,7 @@ impl Engine {
         for at in 0..self.guests.len() {
             say_start(host, &mut self.guests[at], text)?;
         }
+        forget_guests(&mut self.guests);
         Ok(())
     }
 
@@ -188,10 +207,10 @@ impl Engine {
             (engine_on host.now self.new) (string_bytes text.new)) }
     {
         for at in 0..self.invoked.len() {
-            let number = at as u64 + 1;
             let invoked = &mut self.invoked[at];
-            say_call(host, &self.guests, number, invoked, text)?;
+            say_call(host, &self.guests, invoked, text)?;
         }
+        forget_calls(&mut self.invoked);
         Ok(())
     }
 }

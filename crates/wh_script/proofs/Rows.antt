@@ -57,4 +57,4 @@ is_report settings w m places known =
 
 pub shows_report : (e : EngineState) (report text text2 : List ℕ) → ReportsHost e.host report → text2 ≡ text ++ report → AddsReport e text text2
 shows_report e report text text2 reports is settings m s =
-    (report, subst (IsReportOf settings m) (sym (reports s.world s.is.0)) (is_report settings s.world m _ s.knows), is)
+    (report, subst (IsReportOf settings m) (sym (reports s.stands.world s.stands.is.0)) (is_report settings s.stands.world m _ s.stands.knows), is)

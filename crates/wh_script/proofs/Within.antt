@@ -11,16 +11,17 @@ there_within [] i x e = absurd (cc e)
 there_within (y ∷ xs) zero x e = omega arith
 there_within (y ∷ xs) (suc i) x e = let h = there_within xs i x e in omega (arith, h)
 
-pub guest_within : (settings : Settings) (e : EngineState) (m : Made) (k : ℕ) (name : List ℕ) → StandsForScript settings e m → IsNamed m k name → k < length e.guests.items
+pub guest_within : (settings : Settings) (e : EngineState) (m : Made) (k : ℕ) (name : List ℕ) → StandsForScript settings e m → IsNamed m k name → k < e.admitted
 guest_within settings e m k name s is =
     let within = there_within m.guests k is.0 is.1.0 in
-    let many = guests_many 0 e.guests.items m.guests s.guests in
-    omega (arith, within, many)
+    let many = guests_many 0 s.guests m.guests s.stands.guests in
+    let all = s.admitted in
+    omega (arith, within, many, all)
 
 pub module_within : (settings : Settings) (e : EngineState) (m : Made) (k : ℕ) (name : List ℕ) → StandsForScript settings e m → IsModuleNamed m k name → k < e.modules
 module_within settings e m k name s is =
     let within = there_within m.modules k is.0 is.1 in
-    let many = s.modules in
+    let many = s.stands.modules in
     omega (arith, within, many)
 
 pub some_number : (o : Option ℕ) → true ≡ is_some o → (k : ℕ) × (o ≡ Some k)

@@ -1,6 +1,6 @@
 // What a script runs on, and the text of the replies to one line.
 
-ghost use Rattle.std.specs.Prelude.{◌≡◌, ◌<◌, ◌≤◌, ◌++◌, ◌∷◌, [], IfOk, IfErr, IfSome, OnOk, MatchOption, Some, length, string_bytes};
+ghost use Rattle.std.specs.Prelude.{◌≡◌, ◌<◌, ◌≤◌, ◌++◌, ◌∷◌, [], IfOk, IfErr, IfSome, OnOk, MatchOption, Some, string_bytes};
 ghost use Rattle.wh_commands.specs.Causes.{cause_number};
 ghost use Rattle.wh_host_model.specs.Lines.Made.{Made, NoGuest, NoModule, nothing_made};
 ghost use Rattle.wh_host_model.specs.Lines.Settings as lines;
@@ -153,7 +153,7 @@ impl<D: SwapDev, T: Ledger, C: Ledger, O: Ledger, E: Ledger, B: Ties> Session<D,
 
     /// The number of the instance of this name, if there is one, released or not.
     pub fn guest_named(&self, name: &str) -> Option<usize>
-        ensures there { IfSome result (λ k. k < length self.now.engine.guests.items) }
+        ensures there { IfSome result (λ k. k < self.now.engine.admitted) }
         ensures named { (settings : lines.Settings) (m : Made) → StandsForScript settings
             (engine_on self.now.host.host self.now.engine) m → MatchOption result
             (NoGuest m name.now) (λ k. IsNamed m k name.now) }

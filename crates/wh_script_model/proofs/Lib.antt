@@ -9,7 +9,9 @@ pub mod CommandsAsked
 pub mod CommandsEnding
 pub mod CommandsCalling
 pub mod CommandsGuests
+pub mod Ended
 pub mod Said
+pub mod EndedObeyed
 pub mod SaidObeyed
 pub mod Scarce
 pub mod Opening

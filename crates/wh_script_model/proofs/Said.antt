@@ -1,17 +1,18 @@
 -- What has been said of calls stays true of what the lines of a script make.
-use Rattle.std.proofs.Common.{◌≡◌, ◌≢◌, ℕ, zero, suc, ◌+◌, ◌⊎◌, ⊎_elim, inl, inr, Bool, true, false, if◌then◌else◌, List, [], ◌∷◌, ◌++◌, map, length, take, slice_get, slice_set, Option, Some, None, is_some, refl, sym, ap, subst, ◌∙◌, arith}
+use Rattle.std.proofs.Common.{◌≡◌, ℕ, zero, suc, ◌+◌, ◌⊎◌, ⊎_elim, inl, inr, Bool, true, false, if◌then◌else◌, List, [], ◌∷◌, ◌++◌, map, length, take, slice_get, slice_set, Option, Some, is_some, refl, sym, ap, subst, ◌∙◌}
 use Rattle.std.specs.List.{AllZip, AllByRecursion}
 use Rattle.std.proofs.lemmas.Option.{none-some, same_Some}
 use Rattle.wh_model.specs.Execution.Store.{Instance, Store}
 use Rattle.wh_model.specs.Execution.Instance.{Piece, Parameters}
-use Rattle.wh_model.specs.Execution.Replay.{Outcome, returned, stopped, cancelled, dead, pending, Call, Waits, Standing, Replays, at_rest, ended, at_work, Replay}
+use Rattle.wh_model.specs.Execution.Replay.{Outcome, returned, stopped, cancelled, dead, pending, Call, Waits, Standing, Replays, ended, at_work, Replay}
 use Rattle.wh_model.specs.Format.Syntax.{Module}
 use Rattle.wh_host_model.specs.Lines.Texts as texts
 use Rattle.wh_host_model.specs.Lines.Texts.{CallStatus, Reply}
-use Rattle.wh_host_model.specs.Lines.Made.{Guest, Invoked, Made, turned_down, taken_on, Reception, with_guest, is_open, first_open, with_first_open, cancel_first, ended_so}
-use Rattle.wh_host_model.specs.Lines.Drains.{ComesTo, RunsAlone, is_gone, has_run, open_status, status_by, call_status, SaysLine, SaysStart, has_none, has_one, SayStarts, SaysCall, is_refused, is_taken, SayCalls, Drains}
+use Rattle.wh_host_model.specs.Lines.Made.{Guest, Invoked, Made, turned_down, taken_on, Reception, is_open, first_open, with_first_open, cancel_first, ended_so}
+use Rattle.wh_host_model.specs.Lines.Drains.{ComesTo, RunsAlone, is_gone, has_run, status_by, call_status, SaysStart, has_none, has_one, SayStarts, SaysCall, is_refused, is_taken, SayCalls, Drains}
 use Rattle.wh_host_model.proofs.Lines.Once.{end_closed}
-use Rattle.wh_script_model.specs.Said.{when_released, HasStart, IsSaid, WasSaid, AreSaid, IsAnyone, IsReleased, AllAreSaid, CallsAreThere, IsWellMade}
+use Rattle.wh_script_model.proofs.Ended.{ended_as_said, run_ended, run_start, run_starts_first, start_still_ended}
+use Rattle.wh_script_model.specs.Said.{HasEndedSo, StartsFirst, when_released, HasStart, IsSaid, WasSaid, IsReleased, AllAreSaid, IsWellMade}
 
 -- ---- places of lists
 
@@ -197,6 +198,24 @@ runs_well m run h all = record {
         let same = gone_before d.0 r d.2 released in
         h.gone.calls n i place v r c at came (d.1 ∙ ap Some (sym same)) released first;
   };
+  ended = record {
+    taken = record {
+      starts = λ j r c e anyone has first.
+          let d = run_at m.guests run j r all e in
+          let before = h.there.starts j d.0 d.1 in
+          let kept = run_start d.0 r d.2 in
+          subst (HasEndedSo r 0 c) (sym kept.1)
+          (run_ended d.0 r 0 before.0 c d.0.said d.2 before.1 first (h.ended.taken.starts j d.0 before.0 d.1 tt (kept.0 has) before.1));
+      calls = λ n i place v r c at came e anyone first.
+          let d = run_at m.guests run i r all e in
+          let before = h.there.calls n i place v at came in
+          let same : before.0 ≡ d.0 = same_Some before.0 d.0 (sym before.2 ∙ d.1) in
+          let here : slice_get d.0.calls place ≡ Some before.1 = subst (λ (x : Guest). slice_get x.calls place ≡ Some before.1) same before.3 in
+          run_ended d.0 r place before.1 c v.said d.2 here first (h.ended.taken.calls n i place v d.0 before.1 at came d.1 tt here);
+    };
+    refused = h.ended.refused;
+    starts_first = λ j r e. let d = run_at m.guests run j r all e in run_starts_first d.0 r d.2 (h.ended.starts_first j d.0 d.1);
+  };
 }
 
 -- ---- it is said how they are
@@ -248,6 +267,10 @@ abbrev taken_guest : Reception → ℕ
 taken_guest (turned_down fault) = 0
 taken_guest (taken_on i place) = i
 
+abbrev fault_of : Reception → ℕ
+fault_of (turned_down fault) = fault
+fault_of (taken_on i place) = 0
+
 abbrev taken_place : Reception → ℕ
 taken_place (turned_down fault) = 0
 taken_place (taken_on i place) = place
@@ -279,6 +302,20 @@ all_said m starts calls guests invoked say_starts say_calls = record {
       call_said guests d.2 d.0 v d.1 i place g c d.4 came e first;
 }
 
+-- a call that was refused was said to be so
+refused_so : (guests : List Guest) (n fault : ℕ) (v v2 : Invoked) (here : List Reply) (status : CallStatus) → SaysCall guests n v here v2
+    → v2.came ≡ turned_down fault → v2.said ≡ Some status → status ≡ texts.refused fault
+refused_so guests n fault v _ here status (is_refused {fault = own} came x) turned said =
+    sym (same_Some (texts.refused own) status said) ∙ ap texts.refused (ap fault_of (sym came ∙ turned))
+refused_so guests n fault v _ here status (is_taken came f g x) turned said = absurd (cc (came, turned))
+
+-- behind an open start its calls are as they were
+first_still : (m : Made) (starts : List Reply) (guests : List Guest) → IsWellMade m → SayStarts m.guests starts guests
+    → (i : ℕ) (g2 : Guest) → slice_get guests i ≡ Some g2 → StartsFirst g2.calls
+first_still m starts guests h say_starts i g2 e =
+    let d = said_at m.guests guests starts i g2 say_starts e in
+    subst StartsFirst (sym (same_calls d.0 g2 d.1 d.3)) (h.ended.starts_first i d.0 d.2)
+
 -- where only starts were said, too
 pub starts_well : (m : Made) (starts : List Reply) (guests : List Guest) → IsWellMade m → SayStarts m.guests starts guests → IsWellMade (record m { guests = guests })
 starts_well m starts guests h say_starts = record {
@@ -299,6 +336,18 @@ starts_well m starts guests h say_starts = record {
     calls = λ n i place v g2 c at came e released first.
         let d = said_at m.guests guests starts i g2 say_starts e in
         still_said d.0 g2 d.1 place c v.said d.3 released first (λ gone first_of. h.gone.calls n i place v d.0 c at came d.2 gone first_of);
+  };
+  ended = record {
+    taken = record {
+      starts = λ j g2 c e anyone has first.
+          let d = said_at m.guests guests starts j g2 say_starts e in
+          ended_as_said g2 0 c g2.said (start_said d.0 g2 d.1 c d.3 has first);
+      calls = λ n i place v g2 c at came e anyone first.
+          let d = said_at m.guests guests starts i g2 say_starts e in
+          start_still_ended d.0 g2 d.1 place c v.said d.3 first (λ first_of. h.ended.taken.calls n i place v d.0 c at came d.2 tt first_of);
+    };
+    refused = h.ended.refused;
+    starts_first = first_still m starts guests h say_starts;
   };
 }
 
@@ -321,6 +370,16 @@ says_well m starts calls guests invoked h say_starts say_calls =
       gone = record {
         starts = λ j g c e released has first. said_gone g 0 c g.said released (all.starts j g c e tt has first);
         calls = λ n i place v g c at came e released first. said_gone g place c v.said released (all.calls n i place v g c at came e tt first);
+      };
+      ended = record {
+        taken = record {
+          starts = λ j g c e anyone has first. ended_as_said g 0 c g.said (all.starts j g c e tt has first);
+          calls = λ n i place v g c at came e anyone first. ended_as_said g place c v.said (all.calls n i place v g c at came e tt first);
+        };
+        refused = λ n fault v status at came said.
+            let u = calls_at guests 1 m.invoked invoked calls n v say_calls at in
+            refused_so guests u.2 fault u.0 v u.1 status u.4 came said;
+        starts_first = first_still m starts guests h say_starts;
       };
     }
 

@@ -1,8 +1,8 @@
 -- What has been said of calls stays true where a line is obeyed.
-use Rattle.std.proofs.Common.{◌≡◌, ℕ, zero, suc, ◌+◌, ◌⊎◌, ⊎_elim, inl, inr, Bool, true, false, List, [], ◌∷◌, ◌++◌, length, take, slice_get, slice_set, Option, Some, None, is_some, ℤ, refl, sym, ap, subst, ◌∙◌}
+use Rattle.std.proofs.Common.{◌≡◌, ℕ, zero, suc, ⊎_elim, Bool, true, false, List, [], ◌∷◌, ◌++◌, length, take, slice_get, slice_set, Option, Some, None, is_some, ℤ, refl, sym, ap, subst, ◌∙◌}
 use Rattle.std.proofs.lemmas.Option.{none-some, same_Some}
 use Rattle.wh_model.specs.Format.Syntax.{Module}
-use Rattle.wh_model.specs.Execution.Replay.{Outcome, Call, Standing, Replay}
+use Rattle.wh_model.specs.Execution.Replay.{Call, Standing, Replay}
 use Rattle.wh_host_model.specs.Host.Worlds.{Params, given_of}
 use Rattle.wh_host_model.specs.Lines.Settings.{Settings}
 use Rattle.wh_host_model.specs.Lines.Commands.{Command}
@@ -11,7 +11,9 @@ use Rattle.wh_host_model.specs.Lines.Made.{Guest, Invoked, Made, turned_down, ta
 use Rattle.wh_host_model.specs.Lines.Drains.{status_by, call_status}
 use Rattle.wh_host_model.specs.Lines.Receiving.{ReceivesModule, module_is_kept, module_isnt_kept, module_is_wanting, ReceivesGuest, is_admitted, isnt_admitted, admission_wants, ReceivesCall, guest_is_gone, isnt_invoked, is_invoked, invoke_wants}
 use Rattle.wh_host_model.specs.Lines.Answers.{Files, IsObeyed, module_name_is_taken, no_file, module_comes, no_such_module, guest_name_is_taken, guest_comes, no_such_guest, is_drained, is_scanned, is_reported, is_refueled, no_one_to_refuel, no_call_to_refuel, is_cancelled, no_one_to_cancel, no_call_to_cancel, no_one_to_retry, no_fault_to_retry, is_released, no_one_to_release}
-use Rattle.wh_script_model.specs.Said.{when_released, HasStart, IsSaid, WasSaid, AreSaid, IsReleased, AllAreSaid, CallsAreThere, IsWellMade}
+use Rattle.wh_script_model.specs.Said.{StartsFirst, HasStart, IsSaid, WasSaid, AreSaid, IsReleased, AllAreSaid, CallsAreThere, IsWellMade}
+use Rattle.wh_script_model.proofs.Ended.{KeepsEnded, none_changes, first_open_changes, cancel_changes, starts_first_pushed, starts_first_changed, starts_first_cancelled}
+use Rattle.wh_script_model.proofs.EndedObeyed.{none_ended, push_changes, ended_with, ended_guest, ended_call}
 use Rattle.wh_script_model.proofs.Said.{set_cases, set_there, push_cases, push_there, push_last, KeepsPlaces, places_stay, first_open_places, cancel_places, push_places, waiting_has_none, goes_so}
 
 pub nothing_well : IsWellMade nothing_made
@@ -24,6 +26,7 @@ nothing_well = record {
     starts = λ j g c e released has first. absurd (none-some g e);
     calls = λ n i place v g c at came e released first. absurd (none-some v at);
   };
+  ended = none_ended;
 }
 
 -- ---- an instance has other calls, or is released
@@ -70,12 +73,15 @@ gone_with guests invoked i h live gone = record {
       (set_cases guests i j h k e);
 }
 
-with_well : (m : Made) (i : ℕ) (g h : Guest) → slice_get m.guests i ≡ Some g → h.is_released ≡ false → KeepsPlaces g.calls h.calls → IsWellMade m
-    → IsWellMade (with_guest m i h)
-with_well m i g h at live keeps well = record {
-  there = there_with m.guests m.invoked i g h at keeps well.there;
-  gone = gone_with m.guests m.invoked i h live well.gone;
-}
+with_well : (m : Made) (i : ℕ) (g : Guest) (calls : List Call) → slice_get m.guests i ≡ Some g → g.is_released ≡ false → KeepsPlaces g.calls calls
+    → KeepsEnded g.calls calls → (StartsFirst g.calls → StartsFirst calls) → IsWellMade m → IsWellMade (with_guest m i (record g { calls = calls }))
+with_well m i g calls at live places keeps first well =
+    let h : Guest = record g { calls = calls } in
+    record {
+      there = there_with m.guests m.invoked i g h at places well.there;
+      gone = gone_with m.guests m.invoked i h live well.gone;
+      ended = ended_with m.guests m.invoked i g h at live (λ has. has) refl keeps (first (well.ended.starts_first i g at)) well.there well.ended;
+    }
 
 -- it goes, and was said to be so before
 was_said : (g : Guest) (z : Standing) (place : ℕ) (c : Call) (said : Option CallStatus) → g.is_released ≡ false → Replay g.m (given_of g.params) g.calls z
@@ -106,20 +112,21 @@ released_well m i g z at live replay well all =
             subst (λ (x : Guest). WasSaid x place c v.said) (sym p.1) (was_said g z place c v.said live replay first_of (all.calls n i place v g c at_v came_of at tt first_of)) in
             ⊎_elim here (λ (q : slice_get m.guests j ≡ Some k). well.gone.calls n j place v k c at_v came q released first) (set_cases m.guests i j h k e);
       };
+      ended = ended_with m.guests m.invoked i g h at live (λ has. has) refl (none_changes g.calls) (well.ended.starts_first i g at) well.there well.ended;
     }
 
 -- ---- what comes
 
 module_well : (m m2 : Made) (name bytes : List ℕ) (reply : Reply) (scarce : Bool)
     → ReceivesModule scarce m name bytes reply m2 → IsWellMade m → IsWellMade m2
-module_well m _ name bytes reply scarce (module_is_kept a f) h = record { there = h.there; gone = h.gone }
+module_well m _ name bytes reply scarce (module_is_kept a f) h = record { there = h.there; gone = h.gone; ended = h.ended }
 module_well m _ name bytes reply scarce (module_isnt_kept r) h = h
 module_well m _ name bytes reply scarce (module_is_wanting s r) h = h
 
 -- one more instance, which is there and has a call
-one_more_guest : (m : Made) (h : Guest) (c : Call) → slice_get h.calls 0 ≡ Some c → h.is_released ≡ false → IsWellMade m
+one_more_guest : (m : Made) (h : Guest) (c : Call) → slice_get h.calls 0 ≡ Some c → h.is_released ≡ false → h.said ≡ None → StartsFirst h.calls → IsWellMade m
     → IsWellMade (record m { guests = m.guests ++ h ∷ [] })
-one_more_guest m h c first_of live well = record {
+one_more_guest m h c first_of live unsaid starts_first well = record {
   there = record {
     starts = λ j k e.
         ⊎_elim
@@ -142,11 +149,12 @@ one_more_guest m h c first_of live well = record {
         (λ (q : slice_get m.guests j ≡ Some k). well.gone.calls n j place v k c2 at came q released first)
         (push_cases m.guests j h k e);
   };
+  ended = ended_guest m.guests m.invoked h unsaid starts_first well.there well.ended;
 }
 
 guest_well : (m m2 : Made) (scarce : Bool) (settings : Settings) (name : List ℕ) (x : Module) (p : Params) (reply : Reply)
     → ReceivesGuest scarce settings m name x p reply m2 → IsWellMade m → IsWellMade m2
-guest_well m _ scarce settings name x p reply (is_admitted n initial) h = one_more_guest m _ _ refl refl h
+guest_well m _ scarce settings name x p reply (is_admitted n initial) h = one_more_guest m _ _ refl refl refl (λ e. tt) h
 guest_well m _ scarce settings name x p reply (isnt_admitted fault f) h = h
 guest_well m _ scarce settings name x p reply (admission_wants s n) h = h
 
@@ -175,6 +183,7 @@ one_more_call m came there_of well =
             absurd (not_released g (ap (λ (x : Guest). x.is_released) (sym same) ∙ d.4) released) in
             ⊎_elim here (λ (q : slice_get m.invoked n ≡ Some v). well.gone.calls n i place v g c q is e released first) (push_cases m.invoked n new v at);
       };
+      ended = ended_call m.guests m.invoked came well.ended;
     }
 
 turned_well : (m : Made) (fault : ℕ) → IsWellMade m → IsWellMade (with_invoked m (turned_down fault))
@@ -199,7 +208,7 @@ call_well scarce m _ i g name fuel given at (guest_is_gone r) h = turned_well m 
 call_well scarce m _ i g name fuel given at (isnt_invoked fault l f) h = turned_well m _ h
 call_well scarce m _ i g name fuel given at (is_invoked vs live n x a) h =
     let k : Guest = record g { calls = g.calls ++ _ ∷ [] } in
-    let between = with_well m i g k at live (push_places g.calls _) h in
+    let between = with_well m i g k.calls at live (push_places g.calls _) (push_changes g.calls _) (starts_first_pushed g.calls _ refl) h in
     one_more_call (with_guest m i k) (taken_on i (length g.calls))
     (λ j place e.
     let same_i : i ≡ j = ap guest_taken e in
@@ -225,11 +234,11 @@ obeys_well scarce settings files m m2 number command replies is_drained h all = 
 obeys_well scarce settings files m m2 number command replies is_scanned h all = h
 obeys_well scarce settings files m m2 number command replies is_reported h all = h
 obeys_well scarce settings files m _ number command replies (is_refueled i {g = g} n live f) h all =
-    with_well m i g (record g { calls = _ }) n.0 live (first_open_places _ g.calls) h
+    with_well m i g _ n.0 live (first_open_places _ g.calls) (first_open_changes _ g.calls) (starts_first_changed _ (λ c. refl) g.calls) h
 obeys_well scarce settings files m m2 number command replies (no_one_to_refuel i n l) h all = h
 obeys_well scarce settings files m m2 number command replies (no_call_to_refuel i n l f) h all = h
 obeys_well scarce settings files m _ number command replies (is_cancelled i {g = g} n live f) h all =
-    with_well m i g (record g { calls = _ }) n.0 live (cancel_places g.calls) h
+    with_well m i g _ n.0 live (cancel_places g.calls) (cancel_changes g.calls (h.ended.starts_first i g n.0)) (λ first. starts_first_cancelled g.calls) h
 obeys_well scarce settings files m m2 number command replies (no_one_to_cancel i n l) h all = h
 obeys_well scarce settings files m m2 number command replies (no_call_to_cancel i n l f) h all = h
 obeys_well scarce settings files m m2 number command replies (no_one_to_retry i n l) h all = h

@@ -8,14 +8,14 @@ use Rattle.wh_host_model.specs.Host.Laws.{AfterEvents}
 use Rattle.wh_host_model.specs.Host.Happens.{IsTurn, LoadAnswer, IsLoad, AdmitAnswer, admit_ok, admit_refused, admit_wants_memory, IsAdmit, InvokeAnswer, IsInvoke, CallAnswer, IsRefuel, IsCancel, IsRetry, IsRelease, OnlyMoves}
 use Rattle.wh_host_model.specs.Lines.Settings.{Settings}
 use Rattle.wh_host_model.specs.Lines.Commands.{Command, refuel, cancel, retry, release}
-use Rattle.wh_host_model.specs.Lines.Texts.{Reply}
+use Rattle.wh_host_model.specs.Lines.Texts.{CallStatus, Reply}
 use Rattle.wh_host_model.specs.Lines.Made.{NamedModule, Guest, Invoked, Made, nothing_made, HasGuest}
-use Rattle.wh_host_model.specs.Lines.Drains.{RunsAlone, SayStarts, SayCalls}
+use Rattle.wh_host_model.specs.Lines.Drains.{RunsAlone, SaysStart, SayStarts, SaysCall, SayCalls}
 use Rattle.wh_host_model.specs.Lines.Served.{IsServed}
 use Rattle.wh_host_model.specs.Lines.Receiving.{ReceivesModule, ReceivesGuest, ReceivesCall}
 use Rattle.wh_host_model.specs.Lines.Answers.{Files, IsObeyed, AnswersScript}
 use Rattle.wh_script_model.specs.Following.{SomeCallIsOpen, Knows, RunsKnown, StaysWhole}
-use Rattle.wh_script_model.specs.Said.{AllAreSaid, IsWellMade}
+use Rattle.wh_script_model.specs.Said.{AllAreSaid, IsWellMade, is_final}
 use Rattle.wh_script_model.specs.Scarce.{NameNoWant}
 use Rattle.wh_script_model.specs.Replies.{SaysModule, admit_reply, reception, refuel_reply, cancel_reply, retry_reply, release_reply}
 
@@ -170,6 +170,16 @@ ObeysWell =
     (scarce : Bool) (settings : Settings) (files : Files) (m m2 : Made) (number : ℕ) (command : Command)
     (replies : List Reply) → IsObeyed scarce settings files m number command replies m2
     → IsWellMade m → AllAreSaid m → IsWellMade m2
+
+-- What was last said to have ended is said so at any later drain: no line is printed for it, and nothing of it changes.
+-- So it is with starts, and with the calls of each `invoke`, whatever its number.
+abbrev pub EndedStays : Type 0
+EndedStays =
+    (m : Made) → IsWellMade m
+    → ((i : ℕ) (g : Guest) (status : CallStatus) → slice_get m.guests i ≡ Some g → g.said ≡ Some status
+    → is_final status ≡ true → SaysStart g [] g)
+    × ((n number : ℕ) (v : Invoked) (status : CallStatus) → slice_get m.invoked n ≡ Some v
+    → v.said ≡ Some status → is_final status ≡ true → SaysCall m.guests number v [] v)
 
 -- ---- want of memory
 

@@ -3,12 +3,12 @@
 #![tactic(auto)]
 
 ghost use Rattle.wh_script_model.specs.Determined.{AnswersAreDetermined, LinesAreDetermined, ScarceAnswersAreDetermined};
-ghost use Rattle.wh_script_model.specs.Laws.{AsksWell, BeginsWell, CallsFollow, CancelsFollow, DrainsBegin, DrainsEnd, GuestsFollow, ModulesFollow, MovesFollow, ObeysWell, OpenIsKnown, RefuelsFollow, ReleasesFollow, RetriesFollow, RunsWell, SayingFollows, SaysWell, TurnsFollow, WantsAreNamed};
+ghost use Rattle.wh_script_model.specs.Laws.{AsksWell, BeginsWell, CallsFollow, CancelsFollow, DrainsBegin, DrainsEnd, EndedStays, GuestsFollow, ModulesFollow, MovesFollow, ObeysWell, OpenIsKnown, RefuelsFollow, ReleasesFollow, RetriesFollow, RunsWell, SayingFollows, SaysWell, TurnsFollow, WantsAreNamed};
 
 /// A script and the host that runs its calls, after every list of events. The function does nothing; what it ensures are the
 /// laws: a request and its answer lead from one that follows the script to one that follows it then; turns bring calls further;
 /// and where no call can go on, each has come as far as it does alone. What lines make is well made: all its calls are there,
-/// and of those of released instances it was said how they were. Where no reply names want of memory, the answers are those
+/// and of those of released instances it was said how they were; and what was last said to have ended stays so. Where no reply names want of memory, the answers are those
 /// that a script gets where there is enough.
 pub fn scripts_follow()
     ensures modules { ModulesFollow }
@@ -29,6 +29,7 @@ pub fn scripts_follow()
     ensures says_well { SaysWell }
     ensures asks_well { AsksWell }
     ensures obeys_well { ObeysWell }
+    ensures ended { EndedStays }
     ensures wants { WantsAreNamed }
 {}
 

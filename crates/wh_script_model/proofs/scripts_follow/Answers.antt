@@ -8,6 +8,7 @@ use Rattle.wh_script_model.proofs.Opening.{open_is_known}
 use Rattle.wh_script_model.proofs.Turning.{turns_follow}
 use Rattle.wh_script_model.proofs.Said.{runs_well, says_well, all_said}
 use Rattle.wh_script_model.proofs.SaidObeyed.{nothing_well, call_well, obeys_well}
+use Rattle.wh_script_model.proofs.EndedObeyed.{ended_stays}
 use Rattle.wh_script_model.proofs.Scarce.{wants_are_named}
 use Rattle.wh_script_model.proofs.scripts_follow.Goals as goal
 
@@ -62,6 +63,9 @@ returns-clause-asks_well c = call_well
 
 pub returns-clause-obeys_well : goal.returns-clause-obeys_well
 returns-clause-obeys_well c = obeys_well
+
+pub returns-clause-ended : goal.returns-clause-ended
+returns-clause-ended c = ended_stays
 
 pub returns-clause-wants : goal.returns-clause-wants
 returns-clause-wants c = wants_are_named

@@ -1,45 +1,48 @@
-use Rattle.std.proofs.Common.{arith, ◌≡◌, ◌∙◌, ◌++◌, ◌∷◌, [], length, List, Some, None, false, ap, sym, subst, refl}
+use Rattle.std.proofs.Common.{arith, ◌≡◌, ◌∙◌, ◌++◌, ◌∷◌, [], List, Some, None, false, ap, sym, subst, refl}
 use Rattle.std.specs.Map.{update}
 use Rattle.std.proofs.Common.{bytes_eq}
 use Rattle.wh_host.specs.Paging.{IsGoing, Tells}
 use Rattle.wh_engine.specs.Names.{number_of}
 use Rattle.wh_engine.specs.declared.parts.Guest.{Guest}
-use Rattle.wh_engine.proofs.Admitted.{admitted, refused}
+use Rattle.wh_engine.proofs.Admitted.{admitted, guest_again, refused, refused_again}
 use Rattle.wh_engine.proofs.Named.{same_names}
 use Rattle.wh_engine.proofs.Refitted.{err_then, refitted}
 use Rattle.wh_engine.proofs.Whole.{keeps_whole}
-use Rattle.wh_engine.specs.Standing.{engine_on}
+use Rattle.wh_engine.specs.Standing.{engine_on, whole_on}
 use Rattle.wh_engine.proofs.engine.Engine.admit.Goals as goal
 
 pub returns-in_err-reserve-clause-err : goal.returns-in_err-reserve-clause-err
 returns-in_err-reserve-clause-err g c =
     err_then c.from_residual-in_err-reserve.result (λ settings m s.
-    refitted settings (engine_on c.args.host.now.host c.args.self.now) m c.args.self.now.module_names c.args.self.now.guest_names c.reserve.new.self c.args.self.now.invoked s s.module_names s.guest_names
+    refitted settings (engine_on c.args.host.now.host c.args.self.now) m c.args.self.now.module_names c.args.self.now.guest_names c.reserve.new.self c.args.self.now.invoked s s.stands.module_names s.stands.guest_names
     c.reserve.ensures.items refl)
 
 pub returns-in_err-add-clause-err : goal.returns-in_err-add-clause-err
 returns-in_err-add-clause-err g c =
     err_then c.from_residual-in_err-add.result (λ settings m s.
-    refitted settings (engine_on c.args.host.now.host c.args.self.now) m c.args.self.now.module_names c.add.new.self c.reserve.new.self c.args.self.now.invoked s s.module_names
-    (same_names (number_of c.args.self.now.guest_names) (number_of c.add.new.self) _ s.guest_names c.in_err-add.ensures.err)
+    refitted settings (engine_on c.args.host.now.host c.args.self.now) m c.args.self.now.module_names c.add.new.self c.reserve.new.self c.args.self.now.invoked s s.stands.module_names
+    (same_names (number_of c.args.self.now.guest_names) (number_of c.add.new.self) _ s.stands.guest_names c.in_err-add.ensures.err)
     c.reserve.ensures.items refl)
 
 pub returns-in-Ok-clause-ok : goal.returns-in-Ok-clause-ok
 returns-in-Ok-clause-ok g c settings m s =
+    let e = engine_on c.args.host.now.host c.args.self.now in
     let x : Guest = record { name = c.in_ok-name.name; id = c.in-Ok.id; has_start = c.can_go_on-has_start.result; is_released = false; said = None } in
-    admitted settings (engine_on c.args.host.now.host c.args.self.now) m c.args.inst.now c.args.of _ c.in-Ok.id c.admit.new.self.host c.add.new.self
+    guest_again settings e m c.args.inst.now c.args.of _ _ c.admit.new.self.host c.add.new.self x c.push_reserved.new.self c.in-Some.admitted s
+    (c.push_reserved.ensures.items ∙ ap (λ (xs : List Guest). xs ++ x ∷ []) c.reserve.ensures.items) (omega (arith, c.in-Some.ensures))
+    (admitted settings (whole_on e s.guests s.invoked) m c.args.inst.now c.args.of _ c.in-Ok.id c.admit.new.self.host c.add.new.self
     x
-    c.push_reserved.new.self s c.requires.free c.requires.there c.in-Ok.ensures.admits (keeps_whole c.args.host.now.host.space c.admit.new.self.host.space c.in-Ok.ensures.backing)
-    (λ other. subst (λ n. number_of c.add.new.self other ≡ update bytes_eq (number_of c.args.self.now.guest_names) c.args.inst.now (Some n) other)
-    (omega (arith, c.len.ensures, ap (λ (xs : List Guest). length xs) c.reserve.ensures.items)) (c.in_ok-add.ensures.ok other))
+    (s.guests ++ x ∷ []) s.stands c.requires.free c.requires.there c.in-Ok.ensures.admits (keeps_whole c.args.host.now.host.space c.admit.new.self.host.space c.in-Ok.ensures.backing)
+    (λ other. subst (λ n. number_of c.add.new.self other ≡ update bytes_eq (number_of c.args.self.now.guest_names) c.args.inst.now (Some n) other) s.admitted (c.in_ok-add.ensures.ok other))
     (subst (λ h. Tells h c.can_go_on-has_start.result (λ w. IsGoing w c.in-Ok.id)) c.host.ensures c.can_go_on-has_start.ensures) (record { id = refl; name = c.in_ok-name.ensures.ok; live = refl; unsaid = refl })
-    (c.push_reserved.ensures.items ∙ ap (λ (xs : List Guest). xs ++ x ∷ []) c.reserve.ensures.items)
+    refl)
 
 pub returns-in-Err-clause-ok : goal.returns-in-Err-clause-ok
 returns-in-Err-clause-ok g c settings m s =
-    let got = refused settings (engine_on c.args.host.now.host c.args.self.now) m c.args.inst.now c.args.of _ c.in-Err.error c.admit.new.self.host c.add.new.self c.remove.new.self c.reserve.new.self s c.requires.there c.requires.free
+    let e = engine_on c.args.host.now.host c.args.self.now in
+    let got = refused_again settings e m c.args.inst.now c.args.of _ _ c.admit.new.self.host c.remove.new.self c.reserve.new.self s c.reserve.ensures.items
+    (refused settings (whole_on e s.guests s.invoked) m c.args.inst.now c.args.of _ c.in-Err.error c.admit.new.self.host c.add.new.self c.remove.new.self s.guests s.stands c.requires.there c.requires.free
     c.in-Err.ensures.admits (keeps_whole c.args.host.now.host.space c.admit.new.self.host.space c.in-Err.ensures.backing)
-    (λ other. subst (λ n. number_of c.add.new.self other ≡ update bytes_eq (number_of c.args.self.now.guest_names) c.args.inst.now (Some n) other)
-    (omega (arith, c.len.ensures, ap (λ (xs : List Guest). length xs) c.reserve.ensures.items)) (c.in_ok-add.ensures.ok other))
-    c.remove.ensures c.reserve.ensures.items in
+    (λ other. subst (λ n. number_of c.add.new.self other ≡ update bytes_eq (number_of c.args.self.now.guest_names) c.args.inst.now (Some n) other) s.admitted (c.in_ok-add.ensures.ok other))
+    c.remove.ensures refl) in
     rw (sym c.number.ensures) at got

@@ -1,43 +1,50 @@
-use Rattle.std.proofs.Common.{subst}
+use Rattle.std.proofs.Common.{arith, ◌≡◌, ◌<◌, length, subst}
 use Rattle.wh_scheduler.specs.InHand.{left_of}
 use Rattle.wh_engine.specs.Draining.{AllRest, SomeGoes}
 use Rattle.wh_engine.specs.Standing.{engine_on}
 use Rattle.wh_engine.proofs.Opened.{goes_open, only_open}
+use Rattle.wh_engine.proofs.Resting.{no_items, some_items}
 use Rattle.wh_engine.proofs.Runs.{ran_at_once, ran_each, true_on}
 use Rattle.wh_engine.proofs.Turned.{no_turns, whole_turns}
 use Rattle.wh_engine.proofs.engine.Engine.run.Goals as goal
 
-pub returns-then-not-can_go_on-clause-runs : goal.returns-then-not-can_go_on-clause-runs
-returns-then-not-can_go_on-clause-runs g c well =
+pub returns-then-is_empty-clause-runs : goal.returns-then-is_empty-clause-runs
+returns-then-is_empty-clause-runs g c well =
+    let ok = c.in-Ok.ids.ok.0 in
+    let none : length c.in-Ok.ids.items ≡ 0 = grind (arith, ok, c.if-is_empty.true, c.is_empty.ensures) in
     ran_at_once c.args.self.now c.args.host.now.host
-    (subst (λ h. AllRest h c.args.self.now.guests.items) c.host.ensures c.if-not-can_go_on.ensures)
+    (subst (λ h. AllRest h c.args.self.now.guests.items) c.host.ensures (c.in-Ok.ensures.none (no_items c.in-Ok.ids.items none)))
 
 pub returns-clause-runs : goal.returns-clause-runs
 returns-clause-runs g c =
     ran_each g.D.SwapDev.keeps g.D.SwapDev.honest g.D.SwapDev.faults c.args.self.now (left_of c.args.host.now) (left_of c.run-served.new.self)
     c.run-served.ensures.came c.known.ensures.together.none_out
-    (subst (λ h. AllRest h c.args.self.now.guests.items) c.host-3.ensures c.if-can_go_on.ensures)
+    (subst (λ h. AllRest h c.args.self.now.guests.items) c.host-2.ensures c.if-can_go_on.ensures)
 
 pub returns-in-Err-clause-transcript : goal.returns-in-Err-clause-transcript
 returns-in-Err-clause-transcript g c same = absurd (c.stops_by.ensures.others same)
 
 pub returns-then-can_go_on-clause-transcript : goal.returns-then-can_go_on-clause-transcript
 returns-then-can_go_on-clause-transcript g c same =
-    subst (λ h. SomeGoes h c.args.self.now.guests.items) c.host-3.ensures c.if-can_go_on.ensures
+    subst (λ h. SomeGoes h c.args.self.now.guests.items) c.host-2.ensures c.if-can_go_on.ensures
 
 -- whichever way it stops, a call could go on when it began
 pub returns-in-Err-clause-open : goal.returns-in-Err-clause-open
 returns-in-Err-clause-open g c =
     let before = c.args.host.now.host in
-    only_open (engine_on before c.args.self.now) c.stops_by.result (goes_open c.args.self.now before (subst (λ h. SomeGoes h c.args.self.now.guests.items) c.host.ensures c.if-not-can_go_on.ensures))
+    let ok = c.in-Ok.ids.ok.0 in
+    let some : 0 < length c.in-Ok.ids.items = grind (arith, ok, c.if-is_empty.false, c.is_empty.ensures) in
+    only_open (engine_on before c.args.self.now) c.stops_by.result (goes_open c.args.self.now before (subst (λ h. SomeGoes h c.args.self.now.guests.items) c.host.ensures (c.in-Ok.ensures.some (some_items c.in-Ok.ids.items some))))
 
 pub returns-then-can_go_on-clause-open : goal.returns-then-can_go_on-clause-open
 returns-then-can_go_on-clause-open g c =
     let before = c.args.host.now.host in
-    goes_open c.args.self.now before (subst (λ h. SomeGoes h c.args.self.now.guests.items) c.host.ensures c.if-not-can_go_on.ensures)
+    let ok = c.in-Ok.ids.ok.0 in
+    let some : 0 < length c.in-Ok.ids.items = grind (arith, ok, c.if-is_empty.false, c.is_empty.ensures) in
+    goes_open c.args.self.now before (subst (λ h. SomeGoes h c.args.self.now.guests.items) c.host.ensures (c.in-Ok.ensures.some (some_items c.in-Ok.ids.items some)))
 
-pub returns-then-not-can_go_on-clause-turns : goal.returns-then-not-can_go_on-clause-turns
-returns-then-not-can_go_on-clause-turns g c = no_turns c.args.manner.quantum c.args.host.now.books.turns
+pub returns-then-is_empty-clause-turns : goal.returns-then-is_empty-clause-turns
+returns-then-is_empty-clause-turns g c = no_turns c.args.manner.quantum c.args.host.now.books.turns
 
 pub returns-in-Err-clause-device : goal.returns-in-Err-clause-device
 returns-in-Err-clause-device g c =

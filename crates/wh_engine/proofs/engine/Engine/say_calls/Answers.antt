@@ -1,17 +1,18 @@
-use Rattle.std.proofs.Common.{arith, ◌≡◌, ◌+◌, slice_get, Some, refl, ap, sym, subst, ◌∙◌, string_bytes}
+use Rattle.std.proofs.Common.{arith, ◌≡◌, slice_get, Some, refl, ap, sym, subst, ◌∙◌, string_bytes}
 use Rattle.std.proofs.lemmas.List.{length-set}
 use Rattle.std.proofs.lemmas.Option.{slice_get-get_or}
 use Rattle.std.specs.Vec.{with_item}
 use Rattle.wh_engine.specs.Saying.{SaysCallOf}
 use Rattle.wh_engine.specs.Standing.{EngineState, StandsForScript, engine_on}
-use Rattle.wh_engine.proofs.Sayings.{with_said, no_call_said, call_said_next, calls_are_said}
+use Rattle.wh_engine.proofs.OneByOne.{all_changed, next_changed, none_changed}
+use Rattle.wh_engine.proofs.Sayings.{with_said, calls_are_said}
 use Rattle.wh_engine.proofs.engine.Engine.say_calls.Goals as goal
 
 pub loop-at-init : goal.loop-at-init
 loop-at-init c = record {
   same = refl;
   many = refl;
-  so_far = λ settings m s well. no_call_said settings (engine_on c.args.host.now c.args.self.now) m (string_bytes c.args.text.now) s;
+  so_far = none_changed (SaysCallOf c.args.host.now c.args.self.now.guests.items) c.args.self.now.invoked.items (string_bytes c.args.text.now);
 }
 
 pub index_mut-invoked-requires : goal.index_mut-invoked-requires
@@ -23,18 +24,19 @@ loop-at-preserved c =
     let x = c.index_mut-invoked.result.now in
     let read : slice_get l.self.invoked.items l.at ≡ Some x = slice_get-get_or l.self.invoked.items l.at x (omega (arith, l.invariant.many)) ∙ ap Some (sym c.index_mut-invoked.ensures.value) in
     let guests = c.deref.ensures.value ∙ ap (λ (e : EngineState). e.guests.items) l.invariant.same in
-    let says = subst (λ xs. SaysCallOf c.args.host.now xs (l.at + 1) x c.say_call.new.invoked (string_bytes l.text) (string_bytes c.say_call.new.text)) guests c.in_ok-say_call.ensures in
+    let says = subst (λ xs. SaysCallOf c.args.host.now xs x c.say_call.new.invoked (string_bytes l.text) (string_bytes c.say_call.new.text)) guests c.in_ok-say_call.ensures in
     record {
       same = ap (λ e. with_said e (with_item l.self.invoked l.at c.say_call.new.invoked)) l.invariant.same;
       many = length-set l.self.invoked.items l.at c.say_call.new.invoked ∙ l.invariant.many;
-      so_far = λ settings m s well.
-          call_said_next settings (engine_on c.args.host.now c.args.self.now) m l.self.invoked.items l.at (l.at + 1) (string_bytes c.args.text.now) (string_bytes l.text) (string_bytes c.say_call.new.text) x c.say_call.new.invoked
-          s well (l.invariant.so_far settings m s well) read refl
-          says;
+      so_far = next_changed (SaysCallOf c.args.host.now c.args.self.now.guests.items) c.args.self.now.invoked.items l.self.invoked.items l.at (string_bytes c.args.text.now) (string_bytes l.text)
+          (string_bytes c.say_call.new.text) x c.say_call.new.invoked l.invariant.so_far read says;
     }
 
 pub returns : goal.returns
 returns c settings m s well =
     let l = c.loop-at in
-    let d = calls_are_said settings (engine_on c.args.host.now c.args.self.now) m l.self.invoked l.at (string_bytes c.args.text.now) (string_bytes l.text) s (l.invariant.so_far settings m s well) (omega (arith, l.invariant.many)) in
-    (d.0, d.1, d.2, d.3, subst (λ e. StandsForScript settings e (record m { invoked = d.1 })) (sym l.invariant.same) d.4)
+    let left = c.forget_calls.new.invoked in
+    let steps = all_changed (SaysCallOf c.args.host.now c.args.self.now.guests.items) c.args.self.now.invoked.items l.self.invoked.items l.at (string_bytes c.args.text.now) (string_bytes l.text) l.invariant.so_far
+    (omega (arith, l.invariant.many)) in
+    let d = calls_are_said settings (engine_on c.args.host.now c.args.self.now) m left l.self.invoked.items (string_bytes c.args.text.now) (string_bytes l.text) s well steps c.forget_calls.ensures in
+    (d.0, d.1, d.2, d.3, subst (λ e. StandsForScript settings (with_said e left) (record m { invoked = d.1 })) (sym l.invariant.same) d.4)
