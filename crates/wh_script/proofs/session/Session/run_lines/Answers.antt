@@ -1,4 +1,4 @@
-use Rattle.std.proofs.Common.{rules, Err, sym, ap, subst, ◌∙◌, string_bytes}
+use Rattle.std.proofs.Common.{rules, Err, refl, sym, ap, subst, ◌∙◌, string_bytes}
 use Rattle.std.proofs.lemmas.Result.{err_from_is_err_and}
 use Rattle.std.specs.Io.KnownBytes.{Appends}
 use Rattle.wh_engine.specs.declared.fault.ScriptFault.TheVariants.{Memory}
@@ -35,6 +35,7 @@ loop-number-init g c =
       within = search rules;
       device = true_same keeps honest faults self.host.device;
       faults = fails_same keeps honest faults self.host.device;
+      config = refl;
       so_far = λ settings stands served.
           starts settings (g.S.Source.files c.args.source.now) (g.R.Read.remaining c.args.reader.now) (g.W.Write.contents c.args.writer.now) (unread c.in_ok-lines.lines)
           (engine_on self.host.host self.engine) c.in_ok-lines.ensures.empty stands;
@@ -76,6 +77,7 @@ returns-in_err-drain-in-End g c =
           (stops settings files script old (contents c.args.writer.now) (contents l.writer) l.number (engine_on l.self.host.host l.self.engine) (l.invariant.so_far settings stands well) (left c.read.new.reader) fault c.in_err-drain-in-End.ensures.err c.in_err-drain-in-End.ensures.open);
       faults = fails_then keeps honest faults first before after l.invariant.faults c.drain.ensures.faults;
       device = true_then keeps honest faults first before after l.invariant.device c.drain.ensures.device;
+      config = c.drain.ensures.config ∙ l.invariant.config;
     }
 
 pub returns-in-End : goal.returns-in-End
@@ -108,6 +110,7 @@ returns-in-End g c =
           drains end c.send.result sent;
       faults = fails_then keeps honest faults first before after l.invariant.faults c.drain.ensures.faults;
       device = true_then keeps honest faults first before after l.invariant.device c.drain.ensures.device;
+      config = c.drain.ensures.config ∙ l.invariant.config;
     }
 
 pub returns-in_err-answer-in_default : goal.returns-in_err-answer-in_default
@@ -136,6 +139,7 @@ returns-in_err-answer-in_default g c =
           new c.in_ok-kind.kind c.line.result.now c.in_default.not-End reads (left c.read.new.reader) fault c.in_err-answer-in_default.ensures.err c.in_err-answer-in_default.ensures.open);
       faults = fails_then keeps honest faults first before after l.invariant.faults c.answer.ensures.faults;
       device = true_then keeps honest faults first before after l.invariant.device c.answer.ensures.device;
+      config = c.answer.ensures.config ∙ l.invariant.config;
     }
 
 pub returns-in_err-send-in_default : goal.returns-in_err-send-in_default
@@ -170,6 +174,7 @@ returns-in_err-send-in_default g c =
           new c.in_ok-kind.kind c.line.result.now c.in_default.not-End reads (c.in_ok-answer-in_default.ensures.answers here) fault sent);
       faults = fails_then keeps honest faults first before after l.invariant.faults c.answer.ensures.faults;
       device = true_then keeps honest faults first before after l.invariant.device c.answer.ensures.device;
+      config = c.answer.ensures.config ∙ l.invariant.config;
     }
 
 pub loop-number-preserved : goal.loop-number-preserved
@@ -195,6 +200,7 @@ loop-number-preserved g c =
     record {
       within = search rules;
       device = true_then keeps honest faults first before after l.invariant.device c.answer.ensures.device;
+      config = c.answer.ensures.config ∙ l.invariant.config;
       faults = fails_then keeps honest faults first before after l.invariant.faults c.answer.ensures.faults;
       so_far = λ settings stands served.
           let well = served_first keeps honest faults first before after c.answer.ensures.device l.invariant.faults c.answer.ensures.faults served in

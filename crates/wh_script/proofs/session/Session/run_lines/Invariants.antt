@@ -1,3 +1,4 @@
+use Rattle.std.specs.Prelude.{◌≡◌}
 use Rattle.wh_host_model.specs.Lines.Made.{nothing_made}
 use Rattle.wh_host_model.specs.Lines.Settings.{Settings}
 use Rattle.wh_engine.specs.Draining.{DeviceMayFail, DeviceServesWell, DeviceStaysTrue}
@@ -11,6 +12,7 @@ invariant-loop-number g l = record {
   within : IsInChunk l.lines;
   device : DeviceStaysTrue g.D.SwapDev.keeps g.D.SwapDev.honest l.fn.self.host.device l.self.host.device;
   faults : DeviceMayFail g.D.SwapDev.faults l.fn.self.host.device l.self.host.device;
+  config : l.self.config ≡ l.fn.self.config;
   so_far : (settings : Settings) → StandsForScript settings (engine_on l.fn.self.host.host l.fn.self.engine) nothing_made
       → DeviceServesWell g.D.SwapDev.honest g.D.SwapDev.faults l.fn.self.host.device l.self.host.device
       → SoFar settings (g.S.Source.files l.fn.source) (g.R.Read.remaining l.fn.reader) (coming l.lines (g.R.Read.remaining l.reader)) (g.W.Write.contents l.fn.writer) (g.W.Write.contents l.writer) l.number
