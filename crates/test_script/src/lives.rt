@@ -60,10 +60,7 @@ const ENDED: &[(&str, &str)] = &[
         "cancel e",
         "call 1 fuel charges 2\ncall 2 fuel charges 1\ncancel e ok\n",
     ),
-    (
-        "release e",
-        "call 2 cancelled charges 1\nrelease e ok -\n",
-    ),
+    ("release e", "call 2 cancelled charges 1\nrelease e ok -\n"),
     ("drain", ""),
     ("retry e", "retry e refused H1\n"),
     ("admit f s 100 2 16 4 0 0", "admit f ok 2\n"),
