@@ -44,13 +44,12 @@ impl Engine {
             → StandsForScript settings (engine_on host.new.host self.new) m) }
         ensures device { host.new.device ≡ host.old.device }
     {
-        let number = self.admitted;
-        let Some(admitted) = number.checked_add(1) else {
+        let Some(admitted) = self.admitted.checked_add(1) else {
             return Err(AllocError);
         };
         let name = String::from_str(alloc, inst)?;
         self.guests.reserve(1)?;
-        self.guest_names.add(alloc, inst, number)?;
+        self.guest_names.add(alloc, inst, self.admitted)?;
         let params = Params {
             shares: given.shares,
             min: given.min,
