@@ -66,7 +66,7 @@ def check_report(report, numbers):
     text = "".join(report)
     frames, used, free = map(int, re.search(r"# frames (\d+) used (\d+) free (\d+)", text).groups())
     slots, held, left = map(int, re.search(r"# slots (\d+) used (\d+) free (\d+)", text).groups())
-    rows = [list(map(int, row)) for row in re.findall(r"#\s+(\d+)\s+100\s+2\s+16\s+(\d+)\s+\d+\s+(\d+) ", text)]
+    rows = [list(map(int, row)) for row in re.findall(r"#\s*(\d+)\s+100\s+2\s+16\s+(\d+)\s+\d+\s+(\d+) ", text)]
     right = (frames, slots, used + free, held + left) == (FRAMES, SLOTS, FRAMES, SLOTS)
     if not right or [row[0] for row in rows] != numbers or [sum(row[place] for row in rows) for place in (1, 2)] != [used, held]:
         sys.exit("a report that doesn't add up:\n" + text)

@@ -4,8 +4,9 @@ use Rattle.std.proofs.lemmas.Option.{slice_get_within}
 use Rattle.std.specs.Result.{IsErrAnd}
 use Rattle.wh_model.specs.Format.Syntax.{Module}
 use Rattle.wh_model.specs.Execution.Instance.{Beginning, IsInitial, memory_min, segment_bounds, begins, fragments}
-use Rattle.wh_host_model.specs.Host.Worlds.{Loaded, Params, World, given_of}
-use Rattle.wh_host_model.specs.Host.Admission.{AdmitFault, no_module, shares, min_max, frames, swap, instances, memory, segments, MeetsFault}
+use Rattle.wh_host_model.specs.Host.Worlds.{Loaded, World}
+use Rattle.wh_host_model.specs.Owners.{Params, given_of, AdmitFault, no_module, shares, min_max, frames, swap, instances, memory, segments}
+use Rattle.wh_host_model.specs.Host.Admission.{MeetsFault}
 use Rattle.wh_initial.specs.Begins.{first_store}
 use Rattle.wh_admit.specs.declared.room.Room.{Room}
 use Rattle.wh_admit.specs.declared.outcome.Admitted.{Admitted}

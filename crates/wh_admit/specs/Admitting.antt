@@ -1,8 +1,9 @@
 -- Which fault an admission meets, whatever the host is for which its module and its room stand.
 use Rattle.std.specs.Prelude.{ℕ, Option, Some, None}
 use Rattle.wh_model.specs.Format.Syntax.{Module}
-use Rattle.wh_host_model.specs.Host.Worlds.{Params, World}
-use Rattle.wh_host_model.specs.Host.Admission.{AdmitFault, MeetsFault, IsFirstMet}
+use Rattle.wh_host_model.specs.Host.Worlds.{World}
+use Rattle.wh_host_model.specs.Owners.{Params, AdmitFault}
+use Rattle.wh_host_model.specs.Host.Admission.{MeetsFault, IsFirstMet}
 use Rattle.wh_admit.specs.declared.room.Room.{Room}
 use Rattle.wh_admit.specs.declared.error.AdmitError.{AdmitError}
 use Rattle.wh_admit.specs.Faults.{fault_of}

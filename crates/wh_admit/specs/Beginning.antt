@@ -3,8 +3,7 @@ use Rattle.std.specs.Prelude.{◌≡◌, ◌≤◌, false, List, Option, Some}
 use Rattle.wh_model.specs.Format.Syntax.{Module}
 use Rattle.wh_model.specs.Execution.Store.{Instance, Store}
 use Rattle.wh_model.specs.Execution.Instance.{AreGiven, Piece, IsInitial, memory_min, segment_bounds, begins}
-use Rattle.wh_host_model.specs.Host.Worlds.{Params, given_of}
-use Rattle.wh_host_model.specs.Host.Calls.{most_fuel}
+use Rattle.wh_host_model.specs.Owners.{Params, given_of, most_fuel}
 use Rattle.wh_initial.specs.Begins.{Instantiates}
 use Rattle.wh_admit.specs.declared.outcome.Admitted.{Admitted}
 use Rattle.wh_admit.specs.declared.error.AdmitError.{AdmitError}

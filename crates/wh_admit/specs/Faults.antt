@@ -1,7 +1,7 @@
 -- Which of the definitions' faults an error is, and the numbers by which replies name errors. They are this project's
 -- own.
 use Rattle.std.specs.Prelude.{ℕ, Option, Some, None}
-use Rattle.wh_host_model.specs.Host.Admission.{AdmitFault, no_module, shares, min_max, frames, swap, instances, memory, segments, admit_rank}
+use Rattle.wh_host_model.specs.Owners.{AdmitFault, no_module, shares, min_max, frames, swap, instances, memory, segments, admit_rank}
 use Rattle.wh_initial.specs.declared.error.InstantiateError.{InstantiateError}
 use Rattle.wh_initial.specs.declared.error.InstantiateError.TheVariants as initial
 use Rattle.wh_admit.specs.declared.error.AdmitError.{AdmitError}

@@ -1,7 +1,6 @@
 -- Whether the numbers that an owner gives are admitted, and whether there is room for them.
 use Rattle.std.specs.Prelude.{ℕ, ◌+◌, ◌-◌, ◌<◌, ◌≤◌, ◌⊎◌}
-use Rattle.wh_host_model.specs.Host.Worlds.{Params}
-use Rattle.wh_host_model.specs.Host.Admission.{most_instances}
+use Rattle.wh_host_model.specs.Owners.{Params, most_instances}
 use Rattle.wh_admit.specs.declared.room.Room.{Room}
 use Rattle.wh_admit.specs.declared.error.AdmitError.{AdmitError}
 use Rattle.wh_admit.specs.declared.error.AdmitError.TheVariants.{Shares, MinMax, Frames, Swap, Instances}

@@ -3,7 +3,7 @@ use Rattle.std.specs.Prelude.{Option, Some, None}
 use Rattle.wh_model.specs.Format.Syntax.{Module}
 use Rattle.wh_syntax.specs.View.{view_module}
 use Rattle.wh_imports.specs.LinkedState.{LinkedState}
-use Rattle.wh_host_model.specs.Host.Worlds as host
+use Rattle.wh_host_model.specs.Owners as host
 use Rattle.wh_admit.specs.declared.params.Params.{Params}
 
 abbrev pub view_params : Params → host.Params

@@ -10,7 +10,7 @@ use Rattle.wh_model.specs.Format.Syntax.{FuncType, Body}
 use Rattle.wh_model.specs.Validity.Typing.{Context}
 use Rattle.wh_model.specs.Execution.Numbers.{bits, unsigned}
 use Rattle.wh_model.specs.Execution.Store.{Value, value, type_of, InRange, bits_of, own, Instance}
-use Rattle.wh_host_model.specs.Host.Calls.{IsArgument, AreArguments}
+use Rattle.wh_host_model.specs.Owners.{IsArgument, AreArguments}
 use Rattle.wh_call.specs.Arguments.{IsOwnType, HasNoOwn, LacksOwn}
 use Rattle.wh_call.proofs.Lists.{drop_at, drop_all}
 use Rattle.wh_arguments.specs.Asked.{CanTake, AreWords, WordsAre}
@@ -115,16 +115,6 @@ all_fit (t ∷ ts) [] vs h = absurd h
 all_fit (t ∷ ts) (n ∷ ns) vs (v, rest, is, e, more) =
     subst (AllByRecursion InRange) (sym e)
     (subst InRange (sym (value_is t n v is)) (below t n), all_fit ts ns rest more)
-
--- the same numbers are the same values
-pub same_values : (ts : List ValType) (ns : List ℤ) (us vs : List Value) → AreArguments ts ns us
-    → AreArguments ts ns vs → us ≡ vs
-same_values [] [] us vs g h = g ∙ sym h
-same_values [] (n ∷ ns) us vs g h = absurd h
-same_values (t ∷ ts) [] us vs g h = absurd h
-same_values (t ∷ ts) (n ∷ ns) us vs (u, others, isu, eu, moreu) (v, rest, isv, ev, morev) =
-    eu ∙ (ap (λ z. z ∷ others) (value_is t n u isu ∙ sym (value_is t n v isv))
-    ∙ (ap (λ zs. v ∷ zs) (same_values ts ns others rest moreu morev) ∙ sym ev))
 
 pub same_count : (ts : List ValType) (ns : List ℤ) (vs : List Value) → AreArguments ts ns vs → length ts ≡ length ns
 same_count [] [] vs h = refl

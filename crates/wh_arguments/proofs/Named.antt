@@ -4,10 +4,10 @@ use Rattle.std.specs.String.{string_bytes}
 use Rattle.wh_model.specs.declared.ExternKind.{ExternKind}
 use Rattle.wh_model.specs.declared.ExternKind.TheVariants.{Func}
 use Rattle.wh_model.specs.Format.Syntax as model
-use Rattle.wh_model.specs.Format.Syntax.{FuncType, Body, Module}
+use Rattle.wh_model.specs.Format.Syntax.{FuncType, Body}
 use Rattle.wh_model.specs.Validity.Valid.{DifferentNames}
 use Rattle.wh_model.specs.Execution.Store.{own, Instance}
-use Rattle.wh_host_model.specs.Host.Calls.{ExportsOwn}
+use Rattle.wh_host_model.specs.Owners.{ExportsOwn}
 use Rattle.wh_syntax.specs.declared.module.Export.{Export}
 use Rattle.wh_syntax.specs.View.{view_export, view_module}
 use Rattle.wh_syntax.specs.declared.module.Module.{Module as Decoded}
@@ -38,13 +38,6 @@ same_export (e ∷ es) d (suc i) zero a b at bt same =
     absurd (all_of (λ (other : model.Export). other.name ≢ e.name) es i a d.0 at
     (same ∙ ap (λ (z : model.Export). z.name) (sym first)))
 same_export (e ∷ es) d (suc i) (suc j) a b at bt same = same_export es d.1 i j a b at bt same
-
--- a name exports one function of an instance's own at most
-pub one_own_export : (m : Module) (inst : Instance) (name : List ℕ) (x y : ℕ) (type other : FuncType)
-    (body rest : Body) → DifferentNames m.exports → ExportsOwn m inst name x type body
-    → ExportsOwn m inst name y other rest → x ≡ y
-one_own_export m inst name x y type other body rest d u v =
-    ap (λ (z : model.Export). z.index) (same_export m.exports d u.place v.place _ _ u.exported v.exported refl)
 
 -- ---- what was found
 

@@ -4,7 +4,7 @@ use Rattle.wh_model.specs.declared.ValType.{ValType}
 use Rattle.wh_model.specs.Format.Syntax.{FuncType, Body}
 use Rattle.wh_model.specs.Validity.Typing.{Context}
 use Rattle.wh_model.specs.Execution.Store.{Value, own, Instance, bits_of}
-use Rattle.wh_host_model.specs.Host.Calls.{AreArguments, ExportsOwn}
+use Rattle.wh_host_model.specs.Owners.{AreArguments, ExportsOwn}
 use Rattle.wh_syntax.specs.View.{view_module}
 use Rattle.wh_imports.specs.LinkedState.{LinkedState}
 use Rattle.wh_machine.specs.Runs.{IsInstanceOf}

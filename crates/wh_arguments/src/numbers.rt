@@ -6,7 +6,7 @@ ghost use Rattle.wh_model.specs.Execution.Numbers.{bits, unsigned};
 ghost use Rattle.wh_model.specs.Execution.Store.{Value, own, Instance};
 ghost use Rattle.wh_model.specs.Format.Syntax.{FuncType as ModelType, Body};
 ghost use Rattle.wh_model.specs.Validity.Typing.{Context};
-ghost use Rattle.wh_host_model.specs.Host.Calls.{IsArgument, AreArguments};
+ghost use Rattle.wh_host_model.specs.Owners.{IsArgument, AreArguments};
 ghost use Rattle.wh_call.specs.Arguments.{HasNoOwn};
 ghost use Rattle.wh_arguments.specs.Asked.{CanTake, WordsAre, AreWords};
 ghost use Rattle.wh_machine.specs.Runs.{IsInstanceOf};

@@ -2,7 +2,8 @@
 use Rattle.std.proofs.Common.{◌≡◌, ℕ, zero, suc, ◌+◌, List, [], ◌∷◌, length, get_or, Option, Some, None, refl, sym, ap, subst, ◌∙◌, arith}
 use Rattle.std.specs.List.{sum_by}
 use Rattle.std.proofs.lemmas.List.Sums.{sum_by-cons, sum_by-append}
-use Rattle.wh_host_model.specs.Host.Worlds.{Entry, Tenant, World, journal, tenant}
+use Rattle.wh_host_model.specs.Host.Worlds.{Tenant, World, journal, tenant}
+use Rattle.wh_host_model.specs.Owners.{Entry}
 use Rattle.wh_journal.specs.Calls.{JournalCallState}
 use Rattle.wh_instance.specs.Tenancy.{RepresentsEach}
 use Rattle.wh_host.specs.declared.parts.Resident.{Resident}

@@ -7,7 +7,8 @@ use Rattle.wh_model.specs.Execution.Store.{Instance}
 use Rattle.wh_model.specs.Execution.Replay.{Call, dead}
 use Rattle.wh_host_model.specs.declared.plain.TurnEnd.{TurnEnd}
 use Rattle.wh_host_model.specs.Space.Parts.{Space}
-use Rattle.wh_host_model.specs.Host.Worlds.{Entry, Rest, Doing, Tenant, World, journal, tenant, with_tenant}
+use Rattle.wh_host_model.specs.Host.Worlds.{Rest, Doing, Tenant, World, journal, tenant, with_tenant}
+use Rattle.wh_host_model.specs.Owners.{Entry}
 use Rattle.wh_host_model.specs.Host.Turns.{Upshot, Proceeds, returns, traps, writes_all, uses_fuel, waits, waits_to_write, has_had_its_turn}
 use Rattle.wh_host_model.specs.Host.Answers.{gone_further, ended_by, Closes, faces_next, is_dead, Turn, is_idle, has_ended, has_no_fuel, has_no_frame, can_go_on, keeps_its_fault}
 use Rattle.wh_host_model.specs.Host.Admission.{live_count}
@@ -149,10 +150,6 @@ live_most (Some t ∷ ts) = let few = live_most ts in omega (arith, few)
 
 pub taken_none : (w : World) → HasTaken w 0 w
 taken_none w = record { charges = omega arith; live = refl; admitted = refl }
-
--- pages alone move
-pub taken_moved : (w : World) (s : Space) → HasTaken w 0 (record w { space = s })
-taken_moved w s = record { charges = omega arith; live = refl; admitted = refl }
 
 -- one instance has taken so many more
 pub taken_by_one : (w : World) (i n : ℕ) (t t2 : Tenant) (s : Space) → tenant w i ≡ Some t → charges_in (journal t2) ≡ charges_in (journal t) + n

@@ -6,7 +6,8 @@ use Rattle.wh_host_model.specs.declared.plain.InstId.{InstId}
 use Rattle.wh_host_model.specs.declared.plain.SwapError.{SwapError}
 use Rattle.wh_host_model.specs.Host.Events.{Event, load, admit, invoke, refuel, cancel, retry, release}
 use Rattle.wh_host_model.specs.Host.Happens.{AllHappen, Happens, IsCancel, IsRefuel, IsRetry}
-use Rattle.wh_host_model.specs.Host.Worlds.{Params, World, empty_world}
+use Rattle.wh_host_model.specs.Host.Worlds.{World, empty_world}
+use Rattle.wh_host_model.specs.Owners.{Params}
 use Rattle.wh_admit.specs.declared.error.AdmitError.{AdmitError}
 use Rattle.wh_host.specs.declared.error.HostError.{HostError}
 use Rattle.wh_host.specs.declared.error.ModuleError.{ModuleError}

@@ -36,18 +36,6 @@ uses_pass s held k used s2 uses holds frames tax =
       whole = record { frames = frames; slots = ap (λ (xs : List Slot). length xs) uses ∙ length-set s.slots.uses k used; tax = tax };
     }
 
--- after what leaves the slots as they were
-then_pass : (s s1 s2 : Space) (held : List (List ℕ)) (out : List (Option Errand)) → s1.slots ≡ s.slots → length s1.pool.frames ≡ length s.pool.frames → s1.tax ≡ s.tax
-    → Passes s1 held out s2 → Passes s held out s2
-then_pass s s1 s2 held out slots frames tax p = record {
-  pass = p.pass;
-  whole = record {
-    frames = p.whole.frames ∙ frames;
-    slots = p.whole.slots ∙ ap (λ (z : Slots). length z.uses) slots;
-    tax = p.whole.tax ∙ tax;
-  };
-}
-
 same_slots_pass : (s s2 : Space) → s2.slots ≡ s.slots → length s2.pool.frames ≡ length s.pool.frames → s2.tax ≡ s.tax → Passes s s.slots.held (pass_of s).out s2
 same_slots_pass s s2 slots frames tax = record {
   pass = ap (λ (z : Slots). (let p : Pass = record { held = z.held; out = map errand_for z.uses } in p)) slots;

@@ -8,8 +8,10 @@ use Rattle.wh_model.specs.Execution.Replay.{cancelled}
 use Rattle.wh_host_model.specs.declared.plain.InstId.{InstId}
 use Rattle.wh_host_model.specs.declared.plain.SwapError.{SwapError}
 use Rattle.wh_host_model.specs.Space.Parts.{Space}
-use Rattle.wh_host_model.specs.Host.Worlds.{Params, Entry, Doing, Tenant, World, journal, for_device}
-use Rattle.wh_host_model.specs.Host.Calls.{TakesCall, new_entry, more_fuel, Refuels, has_more, Cancels, Retries, may_try}
+use Rattle.wh_host_model.specs.Host.Worlds.{Doing, Tenant, World, journal, for_device}
+use Rattle.wh_host_model.specs.Owners.{Entry, new_entry}
+use Rattle.wh_host_model.specs.Owners.{Params}
+use Rattle.wh_host_model.specs.Host.Calls.{TakesCall, more_fuel, Refuels, has_more, Cancels, Retries, may_try}
 use Rattle.wh_host_model.specs.Host.Calls as calls
 use Rattle.wh_host_model.specs.Host.Admission.{StartsAs, writes, runs, ends}
 use Rattle.wh_host_model.specs.Host.Happens.{IsLoad, is_loaded, isnt_loaded, no_memory_to_load, LoadAnswer, IsAdmit, is_admitted, isnt_admitted, no_memory_to_admit, AdmitAnswer, IsInvoke, is_invoked, has_no_instance, isnt_invoked, no_memory_to_invoke, InvokeAnswer, CallAnswer, IsRefuel, is_refueled, no_one_to_refuel, no_call_to_refuel, IsCancel, is_cancelled, no_one_to_cancel, no_call_to_cancel, IsRetry, is_retried, no_one_to_retry, no_fault_to_retry, IsRelease, is_released, no_one_to_release, MovesPages, moved, has_failed, OnlyMoves}

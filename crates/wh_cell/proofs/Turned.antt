@@ -4,7 +4,8 @@ use Rattle.std.proofs.lemmas.List.{get_or-set_same}
 use Rattle.wh_host_model.specs.declared.plain.InstId.{InstId}
 use Rattle.wh_host_model.specs.declared.plain.TurnEnd.{TurnEnd}
 use Rattle.wh_host_model.specs.Space.Parts.{Space}
-use Rattle.wh_host_model.specs.Host.Worlds.{Entry, Tenant, World, journal, tenant, with_tenant}
+use Rattle.wh_host_model.specs.Host.Worlds.{Tenant, World, journal, tenant, with_tenant}
+use Rattle.wh_host_model.specs.Owners.{Entry}
 use Rattle.wh_host_model.specs.Host.Happens.{IsLive, IsTurn, of_none, of_one}
 use Rattle.wh_host.specs.Telling.{AreChargesTold}
 use Rattle.wh_host.proofs.Hosts.{some_within, turn_stays}

@@ -1,6 +1,7 @@
 -- The charges that the calls of a host took, and the book in which they are counted.
 use Rattle.std.specs.Prelude.{◌≡◌, ◌+◌, ◌≤◌, ℕ, List, length, sum_by, Option, Some, None}
-use Rattle.wh_host_model.specs.Host.Worlds.{Entry, Tenant, World, journal}
+use Rattle.wh_host_model.specs.Host.Worlds.{Tenant, World, journal}
+use Rattle.wh_host_model.specs.Owners.{Entry}
 use Rattle.wh_host_model.specs.Host.Admission.{live_count}
 
 -- of the calls of a journal

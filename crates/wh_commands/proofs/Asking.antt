@@ -1,5 +1,5 @@
 -- What words ask for.
-use Rattle.std.proofs.Common.{◌≡◌, ℕ, ◌<◌, List, [], ◌∷◌, ◌++◌, length, ap, sym, subst, ◌∙◌, arith, append_assoc, append-nil, Bool, true, false, not, if◌then◌else◌}
+use Rattle.std.proofs.Common.{◌≡◌, ℕ, ◌<◌, List, [], ◌∷◌, ◌++◌, length, ap, sym, subst, ◌∙◌, arith, append_assoc, Bool, true, false, not, if◌then◌else◌}
 use Rattle.std.specs.List.{AllZip}
 use Rattle.wh_commands.specs.Left.{FirstIsNot}
 
@@ -38,11 +38,6 @@ reads_more R words left left2 xs ys word x h e r new = (
   h.1 ∙ (ap (λ ws. h.0 ++ ws) e ∙ sym (append_assoc h.0 (word ∷ []) left2)),
   subst (AllZip R (h.0 ++ word ∷ [])) (sym new) (zip_more R h.0 xs word x h.2 r),
 )
-
-pub reads_all : {A : Type 0} (R : List ℕ → A → Type 0) (words left : List (List ℕ)) (xs : List A)
-    → HasRead R words left xs → left ≡ [] → AllZip R words xs
-reads_all R words left xs h e =
-    subst (λ ws. AllZip R ws xs) (sym (h.1 ∙ (ap (λ ws. h.0 ++ ws) e ∙ append-nil h.0))) h.2
 
 none_behind : {A : Type 0} (R : List ℕ → A → Type 0) (done left : List (List ℕ)) (word : List ℕ) (xs : List A)
     → ((x : A) → ¬ (R word x)) → AllZip R (done ++ word ∷ left) xs → ⊥

@@ -1,7 +1,7 @@
 -- The words that say what an instance is given.
 use Rattle.std.proofs.Common.{◌≡◌, ℕ, List, ◌∷◌, Result, Ok, Err, IfErr, IsErrAnd, subst, sym}
 use Rattle.wh_model.specs.declared.ValType.TheVariants.{I32, I64}
-use Rattle.wh_host_model.specs.Host.Worlds.{Params}
+use Rattle.wh_host_model.specs.Owners.{Params}
 use Rattle.wh_host_model.specs.Lines.Words.{IsBits}
 use Rattle.wh_host_model.specs.Lines.Commands.{AreParams}
 use Rattle.wh_commands.specs.Left.{FirstIsNot}

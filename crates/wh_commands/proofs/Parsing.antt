@@ -1,25 +1,20 @@
 -- What a line asks for, by its first word and by what the words behind it were found to be.
-use Rattle.std.proofs.Common.{◌≡◌, ◌≢◌, ℕ, ℤ, List, [], ◌∷◌, ◌⊎◌, inl, inr, Result, Ok, Err, IfOk, IfErr, OnErr, refl, sym, ap, subst, ◌∙◌}
+use Rattle.std.proofs.Common.{◌≡◌, ◌≢◌, ℕ, ℤ, List, [], ◌∷◌, ◌⊎◌, inl, inr, Result, Ok, Err, IfOk, IfErr, OnErr, refl, sym, subst, ◌∙◌}
 use Rattle.std.specs.Prelude.{codes}
-use Rattle.wh_host_model.specs.Script.{IsName, IsWord}
-use Rattle.wh_host_model.specs.Host.Worlds.{Params}
-use Rattle.wh_host_model.specs.Lines.Words.{words_of, IsCount}
+use Rattle.wh_host_model.specs.Script.{IsName}
+use Rattle.wh_host_model.specs.Owners.{Params}
+use Rattle.wh_host_model.specs.Lines.Words.{words_of}
 use Rattle.wh_host_model.specs.Lines.Commands as lines
-use Rattle.wh_host_model.specs.Lines.Commands.{verb, Follow, AsksCommand, keep, load, admit, invoke, drain, refuel, cancel, retry, scan, report, release}
+use Rattle.wh_host_model.specs.Lines.Commands.{verb, Follow, AsksCommand, admit, invoke}
 use Rattle.wh_commands.specs.declared.command.Command.{Command}
 use Rattle.wh_commands.specs.declared.error.LineError.{LineError}
 use Rattle.wh_commands.specs.declared.error.LineError.TheVariants.{Syntax, NoName, NameTaken, File, Memory}
 use Rattle.wh_commands.specs.Left.{IsHexWord}
 use Rattle.wh_commands.specs.Found.{Says, FindsAsked, IsAskedBy, Refuses}
-use Rattle.wh_commands.proofs.OneCommand.{by_line, by_keep, by_load, by_admit, by_invoke, by_drain, by_refuel, by_cancel, by_retry, by_scan, by_report, by_release, one_follows}
+use Rattle.wh_commands.proofs.OneCommand.{by_line, by_keep, by_admit, by_invoke, one_follows}
 
 abbrev pub Parsed : Type 0
 Parsed = Result Command LineError
-
-pub found_by : (line first word : List ℕ) (words : List (List ℕ)) (r : Parsed) → words_of line ≡ word ∷ words → word ≡ first
-    → IfOk r (λ c. IsAskedBy first words c) → IfOk r (λ c. (asked : lines.Command) × AsksCommand line asked × Says c asked)
-found_by line first word words (Ok c) e f h = (h.0, (words, e ∙ ap (λ w. w ∷ words) (f ∙ sym h.1), h.2), h.3)
-found_by line first word words (Err x) e f h = tt
 
 -- the words behind the first one ask for nothing
 abbrev pub AsksNone : List ℕ → List (List ℕ) → Type 0
@@ -77,32 +72,6 @@ pub none_keep : (words : List (List ℕ)) → ((n hex : List ℕ) → IsName n �
     → AsksNone (codes "module") words
 none_keep words h d e f = by_keep words (λ d. ⊥) (λ n b g. h n g.0 g.2 (g.3, (b, g.4)) g.1) d e f
 
-pub none_load : (words : List (List ℕ)) → ((n path : List ℕ) → IsName n → IsWord path → words ≢ n ∷ path ∷ [])
-    → AsksNone (codes "load") words
-none_load words h d e f = by_load words (λ d. ⊥) (λ n p g. h n p g.1 g.2 g.0) d e f
-
-pub none_refuel : (words : List (List ℕ)) → ((i w : List ℕ) (n : ℕ) → IsName i → IsCount w n → words ≢ i ∷ w ∷ [])
-    → AsksNone (codes "refuel") words
-none_refuel words h d e f = by_refuel words (λ d. ⊥) (λ i n g. h i g.0 n g.2 g.3 g.1) d e f
-
-pub none_cancel : (words : List (List ℕ)) → ((i : List ℕ) → IsName i → words ≢ i ∷ []) → AsksNone (codes "cancel") words
-none_cancel words h d e f = by_cancel words (λ d. ⊥) (λ i g. h i g.1 g.0) d e f
-
-pub none_retry : (words : List (List ℕ)) → ((i : List ℕ) → IsName i → words ≢ i ∷ []) → AsksNone (codes "retry") words
-none_retry words h d e f = by_retry words (λ d. ⊥) (λ i g. h i g.1 g.0) d e f
-
-pub none_release : (words : List (List ℕ)) → ((i : List ℕ) → IsName i → words ≢ i ∷ []) → AsksNone (codes "release") words
-none_release words h d e f = by_release words (λ d. ⊥) (λ i g. h i g.1 g.0) d e f
-
-pub none_drain : (words : List (List ℕ)) → words ≢ [] → AsksNone (codes "drain") words
-none_drain words h d e f = by_drain words (λ d. ⊥) (λ g. h g) d e f
-
-pub none_scan : (words : List (List ℕ)) → words ≢ [] → AsksNone (codes "scan") words
-none_scan words h d e f = by_scan words (λ d. ⊥) (λ g. h g) d e f
-
-pub none_report : (words : List (List ℕ)) → words ≢ [] → AsksNone (codes "report") words
-none_report words h d e f = by_report words (λ d. ⊥) (λ g. h g) d e f
-
 pub is_admit : (words : List (List ℕ)) (d : lines.Command) → verb d ≡ codes "admit" → Follow d words
     → (inst of : List ℕ) × (params : Params) × Follow (admit inst of params) words
 is_admit words d e f = by_admit words (λ d. (inst of : List ℕ) × (params : Params) × Follow (admit inst of params) words)
@@ -113,20 +82,3 @@ pub is_invoke : (words : List (List ℕ)) (d : lines.Command) → verb d ≡ cod
 is_invoke words d e f = by_invoke words
     (λ d. (inst export : List ℕ) × (fuel : ℕ) × (args : List ℤ) × Follow (invoke inst export fuel args) words)
     (λ i x n a g. (i, x, n, a, g)) d e f
-
--- no verb is the first word
-pub no_verb : (line word : List ℕ) (words : List (List ℕ)) → words_of line ≡ word ∷ words
-    → word ≢ codes "module" → word ≢ codes "load" → word ≢ codes "admit" → word ≢ codes "invoke" → word ≢ codes "drain"
-    → word ≢ codes "refuel" → word ≢ codes "cancel" → word ≢ codes "retry" → word ≢ codes "scan"
-    → word ≢ codes "report" → word ≢ codes "release" → (asked : lines.Command) → AsksCommand line asked → ⊥
-no_verb line word words e a b c d f g h i j k l (keep n x) q = a (sym (by_line line word words e (keep n x) q).0)
-no_verb line word words e a b c d f g h i j k l (load n x) q = b (sym (by_line line word words e (load n x) q).0)
-no_verb line word words e a b c d f g h i j k l (admit n x y) q = c (sym (by_line line word words e (admit n x y) q).0)
-no_verb line word words e a b c d f g h i j k l (invoke n x y z) q = d (sym (by_line line word words e (invoke n x y z) q).0)
-no_verb line word words e a b c d f g h i j k l drain q = f (sym (by_line line word words e drain q).0)
-no_verb line word words e a b c d f g h i j k l (refuel n x) q = g (sym (by_line line word words e (refuel n x) q).0)
-no_verb line word words e a b c d f g h i j k l (cancel n) q = h (sym (by_line line word words e (cancel n) q).0)
-no_verb line word words e a b c d f g h i j k l (retry n) q = i (sym (by_line line word words e (retry n) q).0)
-no_verb line word words e a b c d f g h i j k l scan q = j (sym (by_line line word words e scan q).0)
-no_verb line word words e a b c d f g h i j k l report q = k (sym (by_line line word words e report q).0)
-no_verb line word words e a b c d f g h i j k l (release n) q = l (sym (by_line line word words e (release n) q).0)

@@ -1,7 +1,7 @@
 -- What a command says.
 use Rattle.std.specs.Prelude.{◌≡◌, ℕ, List, Result, Ok, Err, ⊤}
-use Rattle.wh_host_model.specs.Requests.{IsHex}
-use Rattle.wh_host_model.specs.Host.Worlds.{Params}
+use Rattle.wh_host_model.specs.Lines.Hex.{IsHex}
+use Rattle.wh_host_model.specs.Owners.{Params}
 use Rattle.wh_host_model.specs.Lines.Commands.{Command as Asked, keep, load, admit, invoke, drain, refuel, cancel, retry, scan, report, release, verb, Follow}
 use Rattle.wh_commands.specs.declared.command.Given.{Given}
 use Rattle.wh_commands.specs.declared.command.Command.{Command}

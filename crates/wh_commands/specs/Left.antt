@@ -2,7 +2,7 @@
 use Rattle.std.specs.Prelude.{◌≡◌, ℕ, List, [], ◌∷◌, Option, None, Some, ⊤}
 use denote.Ref.{Bor}
 use Rattle.wh_host_model.specs.Script.{IsWord}
-use Rattle.wh_host_model.specs.Requests.{IsHex}
+use Rattle.wh_host_model.specs.Lines.Hex.{IsHex}
 use Rattle.wh_host_model.specs.Lines.Words.{words_of}
 use Rattle.wh_commands.specs.declared.words.Words.{Words}
 

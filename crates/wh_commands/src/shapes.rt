@@ -6,7 +6,7 @@ ghost use Rattle.std.specs.Char.{is_ascii_hexdigit};
 ghost use Rattle.std.specs.List.{AllPass};
 ghost use Rattle.wh_host_model.specs.Script as spec;
 ghost use Rattle.wh_host_model.specs.Script.{IsName, IsWord};
-ghost use Rattle.wh_host_model.specs.Requests.{IsHex};
+ghost use Rattle.wh_host_model.specs.Lines.Hex.{IsHex};
 
 use memchr::memchr;
 

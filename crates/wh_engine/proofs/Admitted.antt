@@ -13,8 +13,10 @@ use Rattle.wh_host_model.specs.declared.plain.InstId.{InstId}
 use Rattle.std.proofs.Math.Seq.{get_or-append_seam}
 use Rattle.std.proofs.lemmas.Option.{same_Some}
 use Rattle.wh_model.specs.Execution.Store.{Instance, Store}
-use Rattle.wh_host_model.specs.Host.Worlds.{Params, Entry, Doing, Loaded, Tenant, World, tenant, journal, journal_calls}
-use Rattle.wh_host_model.specs.Host.Admission.{start_entry, StartsAs, writes, runs, ends, rest_of, LetsIn}
+use Rattle.wh_host_model.specs.Host.Worlds.{Doing, Loaded, Tenant, World, tenant, journal, journal_calls}
+use Rattle.wh_host_model.specs.Owners.{Entry, start_entry}
+use Rattle.wh_host_model.specs.Owners.{Params, AdmitFault}
+use Rattle.wh_host_model.specs.Host.Admission.{StartsAs, writes, runs, ends, rest_of, LetsIn}
 use Rattle.wh_host_model.specs.Host.Happens.{AdmitAnswer, admit_ok, IsAdmit, is_admitted, isnt_admitted, no_memory_to_admit}
 use Rattle.wh_host_model.specs.Lines.Settings.{Settings}
 use Rattle.wh_host_model.specs.Lines.Texts as texts
@@ -33,7 +35,6 @@ use Rattle.wh_script_model.specs.Following.{AreSame, IsFollowed, is_there, Knows
 use Rattle.wh_script_model.specs.Replies.{admit_reply}
 use Rattle.wh_script_model.specs.Laws.{places_after}
 use Rattle.wh_script_model.proofs.CommandsGuests.{guests_follow}
-use Rattle.wh_host_model.specs.Host.Admission.{AdmitFault}
 use Rattle.wh_replies.specs.View.{status_of}
 use Rattle.wh_engine.specs.Names.{AreNames, number_of}
 use Rattle.wh_engine.specs.declared.names.Names.{Names}

@@ -4,7 +4,7 @@ use Rattle.std.specs.Map.{update}
 use Rattle.wh_host.proofs.Hosts.{reached_on}
 use Rattle.wh_host_model.specs.Host.Events as events
 use Rattle.wh_host_model.specs.Host.Worlds.{World}
-use Rattle.wh_host_model.specs.Host.Admission.{most_modules}
+use Rattle.wh_host_model.specs.Owners.{most_modules}
 use Rattle.wh_host_model.specs.Host.Happens.{LoadAnswer}
 use Rattle.wh_host_model.specs.Lines.Settings.{Settings}
 use Rattle.wh_host_model.specs.Lines.Texts.{Refusal, Reply, module_ok, module_refused}

@@ -36,11 +36,6 @@ only_open_before e e2 Script stays was = tt
 only_open_before e e2 Output stays was = tt
 only_open_before e e2 Swap stays was = tt
 
--- for want of memory no call need be open
-pub memory_only : {A : Type 0} (e : EngineState) (r : Result A ScriptFault) → IfErr r (λ fault. fault ≡ Memory) → IfErr r (StopsOnlyOpen e)
-memory_only e (Ok x) is = tt
-memory_only e (Err fault) is = subst (StopsOnlyOpen e) (sym is) tt
-
 pub err_before : {A : Type 0} (e e2 : EngineState) (r : Result A ScriptFault) → StaysSo e e2 → IfErr r (StopsOnlyOpen e2) → IfErr r (StopsOnlyOpen e)
 err_before e e2 (Ok x) stays is = tt
 err_before e e2 (Err fault) stays is = only_open_before e e2 fault stays is

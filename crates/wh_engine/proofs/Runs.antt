@@ -8,7 +8,8 @@ use Rattle.wh_host_model.specs.Space.Errands.{tickets}
 use Rattle.wh_host_model.specs.Space.Parts.{Space}
 use Rattle.wh_host_model.specs.Host.Events as events
 use Rattle.wh_host_model.specs.Host.Happens.{OnlyMoves}
-use Rattle.wh_host_model.specs.Host.Worlds.{Suspension, for_fuel, for_frame, for_device, Entry, Tenant, World, tenant}
+use Rattle.wh_host_model.specs.Host.Worlds.{Suspension, for_fuel, for_frame, for_device, Tenant, World, tenant}
+use Rattle.wh_host_model.specs.Owners.{Entry}
 use Rattle.wh_host_model.specs.Lines.Settings.{Settings}
 use Rattle.wh_host_model.specs.Lines.Made as made
 use Rattle.wh_host_model.specs.Lines.Made.{Made}
@@ -28,7 +29,7 @@ use Rattle.wh_script_model.specs.Laws.{AllServed}
 use Rattle.wh_script_model.proofs.Drains.{drains_begin, drains_end, moves_follow}
 use Rattle.wh_engine.specs.declared.engine.Engine.{Engine}
 use Rattle.wh_engine.specs.declared.parts.Guest.{Guest}
-use Rattle.wh_engine.specs.Draining.{AllRest, DeviceMayFail, DeviceServesWell, DeviceStaysTrue, HasServed, RunsEach, StaysSo}
+use Rattle.wh_engine.specs.Draining.{AllRest, DeviceServesWell, DeviceStaysTrue, HasServed, RunsEach, StaysSo}
 use Rattle.wh_engine.specs.Names.{AreNames, number_of}
 use Rattle.wh_engine.specs.Standing.{AreGuests, EngineState, IsGuest, IsLed, StandsForScript, engine_on, LeavesOut, WholeState, whole_on, is_over}
 use Rattle.wh_engine.proofs.Asked.{whole_of}
@@ -46,10 +47,6 @@ pub true_same : {D : Type 0} (keeps honest : D → Type 0) (o : Option D) → De
 true_same keeps honest None = tt
 true_same keeps honest (Some d) = record { was_honest = λ h. h; goes_on = λ h. h; stays_honest = λ k h. h }
 
-pub none_failed : {D : Type 0} (faults : D → List SwapError) (o : Option D) → DeviceMayFail faults o o
-none_failed faults None = tt
-none_failed faults (Some d) = ([], refl)
-
 -- it has served while calls ran
 pub true_on : {D : Type 0} (keeps honest : D → Type 0) (faults : D → List SwapError) (left now : LeftState D) → ComesOn keeps honest faults left now
     → DeviceStaysTrue keeps honest left.device now.device
@@ -58,12 +55,6 @@ true_on keeps honest faults left now on =
     subst (λ o. DeviceStaysTrue keeps honest o now.device) (sym on.came.left_it)
     (subst (λ o. DeviceStaysTrue keeps honest (Some on.came.before) o) (sym on.has)
     (record { was_honest = s.was_honest; goes_on = s.goes_on; stays_honest = s.stays_honest }))
-
-pub failed_on : {D : Type 0} (keeps honest : D → Type 0) (faults : D → List SwapError) (left now : LeftState D) → ComesOn keeps honest faults left now
-    → DeviceMayFail faults left.device now.device
-failed_on keeps honest faults left now on =
-    subst (λ o. DeviceMayFail faults o now.device) (sym on.came.left_it)
-    (subst (λ o. DeviceMayFail faults (Some on.came.before) o) (sym on.has) (on.came.more, on.came.serves.added))
 
 served_by_it : {D : Type 0} (keeps honest : D → Type 0) (faults : D → List SwapError) (left now : LeftState D) (on : ComesOn keeps honest faults left now)
     → DeviceServesWell honest faults left.device now.device → HasServed (honest on.device) (faults on.came.before) (faults on.device)

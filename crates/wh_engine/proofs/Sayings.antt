@@ -11,15 +11,15 @@ use Rattle.wh_host_model.specs.Lines.Settings.{Settings}
 use Rattle.wh_host_model.specs.Lines.Texts as texts
 use Rattle.wh_host_model.specs.Lines.Texts.{CallStatus, Reply, done, trapped, wants_fuel, wants_frame, queued, cancelled, dead, refused, reply_text}
 use Rattle.wh_host_model.specs.Lines.Made as made
-use Rattle.wh_host_model.specs.Lines.Made.{Made, first_open}
+use Rattle.wh_host_model.specs.Lines.Made.{Made}
 use Rattle.wh_host_model.specs.Lines.Drains.{call_status, SaysLine, SaysStart, has_none, has_one, SayStarts, SaysCall, is_taken, SayCalls}
 use Rattle.wh_host_model.specs.Lines.Answers.{replies_text}
 use Rattle.wh_replies.specs.View.{status_of}
 use Rattle.wh_replies.specs.declared.call.Status.{Status}
 use Rattle.wh_replies.specs.declared.call.Status.TheVariants as code
 use Rattle.wh_script_model.specs.Following as follow
-use Rattle.wh_script_model.specs.Following.{Knows, IsPlaced}
-use Rattle.wh_script_model.specs.Said.{HasStart, IsWellMade, is_final, IsReleased, WasSaid, when_released}
+use Rattle.wh_script_model.specs.Following.{Knows}
+use Rattle.wh_script_model.specs.Said.{HasStart, IsWellMade, is_final, IsReleased, WasSaid}
 use Rattle.wh_script_model.proofs.Drains.{saying_follows}
 use Rattle.wh_script_model.proofs.Said.{starts_well}
 use Rattle.wh_engine.specs.declared.parts.Guest.{Guest}
@@ -36,9 +36,6 @@ use Rattle.wh_engine.proofs.Found.{kept_at, kept_rise, none_kept, pair_at}
 use Rattle.wh_engine.proofs.OneByOne.{OneByOne}
 
 -- ---- statuses of the code are as many as those of the definitions
-
-no_status : Status
-no_status = code.Queued
 
 abbrev status_from : CallStatus → Status
 status_from (done (Some value) charges) = code.Value value charges
@@ -460,16 +457,6 @@ pub starts_so : (g : made.Guest) (c : Call) (name : List ℕ) (said : Option Cal
 starts_so g c name said status lines named before e has first says =
     has_one has first (subst (λ n. SaysLine (texts.start n) g.said (call_status g 0 c) lines) named
     (subst (λ o. SaysLine (texts.start name) o (call_status g 0 c) lines) before (subst (λ s. SaysLine (texts.start name) said s lines) e says)))
-
--- of a released instance it was said how the call is
-pub gone_unsaid : (g : made.Guest) (place : ℕ) (c : Call) (said : Option Status) → WasSaid g place c (option_map status_of said) → said ≡ None → ⊥
-gone_unsaid g place c said was none = none-some was.0 (ap (λ o. option_map status_of o) (sym none) ∙ was.1)
-
-pub gone_status : (g : made.Guest) (place : ℕ) (c : Call) (said : Option Status) (s status : Status) → WasSaid g place c (option_map status_of said) → said ≡ Some s
-    → status_of status ≡ when_released (status_of s) → status_of status ≡ call_status g place c
-gone_status g place c said s status was is now =
-    let same : was.0 ≡ status_of s = same_Some was.0 (status_of s) (sym was.1 ∙ ap (λ o. option_map status_of o) is) in
-    now ∙ ap when_released (sym same) ∙ sym was.2
 
 -- what holds where a line was added holds of it
 pub on_ok_then : {A E : Type 0} {P Q : Type 0} (r : Result A E) → OnOk r P → (P → Q) → OnOk r Q

@@ -4,7 +4,7 @@ use Rattle.std.specs.List.{AllZip}
 use Rattle.wh_host_model.specs.declared.plain.SwapError.{SwapError}
 use Rattle.wh_host_model.specs.Lines.Settings.{Settings}
 use Rattle.wh_host_model.specs.Lines.Made as made
-use Rattle.wh_host_model.specs.Lines.Made.{Made}
+use Rattle.wh_host_model.specs.Lines.Made.{Made, SomeCallIsOpen}
 use Rattle.wh_host_model.specs.Lines.Drains.{RunsAlone}
 use Rattle.wh_host.specs.Hosting.{HostState}
 use Rattle.wh_host.specs.Paging.{IsGoing, Tells}
@@ -16,7 +16,6 @@ use Rattle.wh_workers.specs.declared.crew.ServeError.{ServeError}
 use Rattle.wh_engine.specs.declared.fault.ScriptFault.{ScriptFault}
 use Rattle.wh_engine.specs.declared.fault.ScriptFault.TheVariants.{Memory, Threads, Transcript}
 use Rattle.wh_engine.specs.declared.parts.Guest.{Guest}
-use Rattle.wh_script_model.specs.Following.{SomeCallIsOpen}
 use Rattle.wh_engine.specs.Standing.{EngineState, StandsForScript}
 
 -- ---- the device: none where there is none

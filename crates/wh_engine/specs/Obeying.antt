@@ -1,7 +1,7 @@
 -- What commands get, and for which script an engine stands then.
 use Rattle.std.specs.Prelude.{◌≡◌, ℕ, ℤ, true, List, [], ◌∷◌, ◌++◌, slice_get, Some, None, Result, Ok, Err}
 use Rattle.std.specs.Global.{Vec}
-use Rattle.wh_host_model.specs.Host.Worlds.{Params}
+use Rattle.wh_host_model.specs.Owners.{Params}
 use Rattle.wh_host_model.specs.Lines.Settings.{Settings}
 use Rattle.wh_host_model.specs.Lines.Commands.{Command}
 use Rattle.wh_host_model.specs.Lines.Texts.{Reply, release_ok, release_refused}

@@ -8,15 +8,14 @@ use Rattle.wh_host_model.specs.declared.states.Slot.TheVariants.{Vacant, Taken, 
 use Rattle.wh_host_model.specs.Space.Errands.{Pass, errand_for, pass_of}
 use Rattle.wh_host_model.specs.Space.Moves.{has_pins, unpinned}
 use Rattle.wh_host_model.specs.Space.Offers.{Offers}
-use Rattle.wh_host_model.specs.Space.Parts.{Claimed, Space}
-use Rattle.wh_host_model.specs.Space.Places.{Enters, Exits, released_use}
+use Rattle.wh_host_model.specs.Space.Parts.{Space}
+use Rattle.wh_host_model.specs.Space.Places.{Exits, released_use}
 use Rattle.wh_host_model.specs.Space.Scanning.{Scans}
-use Rattle.wh_host_model.specs.Space.Stores.{Epochs, ended, stood}
+use Rattle.wh_host_model.specs.Space.Stores.{ended, stood}
 use Rattle.wh_instance.specs.declared.stages.Turned.{Turned}
 use Rattle.wh_instance.specs.declared.stages.Turned.TheVariants as turned
 use Rattle.wh_space.specs.Views.{KeepsRest}
 use Rattle.wh_host.specs.Backing.{KeepsBacking}
-use Rattle.wh_host.specs.Hosting.{HostState}
 use Rattle.wh_host.specs.Lent.{settled_in}
 
 -- there are as many slots where the same tickets are out
@@ -36,10 +35,6 @@ same_backing s s2 e = backs _ _ (ap pass_of e) (ap (λ (a : Space). length a.poo
 
 pub then_backing : (a b c : Space) → KeepsBacking a b → KeepsBacking b c → KeepsBacking a c
 then_backing a b c first second = backs _ _ (second.pass ∙ first.pass) (second.frames ∙ first.frames) (second.tax ∙ first.tax)
-
--- of hosts that are the same
-pub same_host_backing : (h h2 : HostState) → h2 ≡ h → KeepsBacking h.space h2.space
-same_host_backing h h2 e = same_backing h.space h2.space (ap (λ (z : HostState). z.space) e)
 
 -- ---- standing
 
@@ -67,13 +62,7 @@ settled_backing s i (turned.Again false) = ended_backing s i
 pub rest_backing : (i : ℕ) (s s2 : Space) → KeepsRest i s s2 → KeepsBacking s s2
 rest_backing i s s2 keeps = backs _ _ (keeps.pass) (keeps.frames) (keeps.tax)
 
-pub epochs_backing : (s s2 : Space) → Epochs s s2 → KeepsBacking s s2
-epochs_backing s s2 is = backs _ _ (ap pass_of is) (ap (λ (a : Space). length a.pool.frames) is) (ap (λ (a : Space). a.tax) is)
-
 -- ---- who comes and goes
-
-pub enters_backing : (s : Space) (i : ℕ) (c : Claimed) (size : ℕ) (s2 : Space) → Enters s i c size s2 → KeepsBacking s s2
-enters_backing s i c size s2 enters = let is = enters.leaves in backs _ _ (ap pass_of is) (ap (λ (a : Space). length a.pool.frames) is) (ap (λ (a : Space). a.tax) is)
 
 errand_released : (i n : ℕ) (x : Slot) → errand_for (released_use i n x) ≡ errand_for x
 errand_released i n Vacant = refl

@@ -10,8 +10,9 @@ use Rattle.wh_host_model.specs.declared.plain.InstId.{InstId}
 use Rattle.wh_host_model.specs.Space.Parts.{Space, minima, spreads, view}
 use Rattle.wh_host_model.specs.Space.Places.{Enters, HasRoomFor}
 use Rattle.wh_host_model.specs.Host.Spaces.{Arrives}
-use Rattle.wh_host_model.specs.Host.Worlds.{Params, Tenant, World, given_of, promised, empty_world}
-use Rattle.wh_host_model.specs.Host.Admission.{AdmitFault, no_module, shares, min_max, frames, swap, instances, memory, segments, admit_rank, StartsAs, MeetsFault, LetsIn, rest_of}
+use Rattle.wh_host_model.specs.Host.Worlds.{Tenant, World, promised}
+use Rattle.wh_host_model.specs.Owners.{Params, given_of, AdmitFault, no_module, shares, min_max, frames, swap, instances, memory, segments, admit_rank}
+use Rattle.wh_host_model.specs.Host.Admission.{StartsAs, MeetsFault, LetsIn, rest_of}
 use Rattle.wh_host_model.specs.Host.Events.{admit}
 use Rattle.wh_host_model.specs.Host.Happens.{admit_ok, admit_refused, IsAdmit, is_admitted, isnt_admitted, no_memory_to_admit}
 use Rattle.wh_host_model.proofs.Host.Bridges.{entrants_arrive}
@@ -103,13 +104,6 @@ room_for h w k number m p a st none b =
     let least = b.min in
     let most = b.max in
     subst (λ (s : Space). HasRoomFor s (claimed (promise_of number a))) (sym st.space) (omega (arith, some_frames, least), omega (arith, some_slots, least, most))
-
-pub fits_in : (m : Module) (p : Params) (a : Admitted) → BeginsAs m p a → 16 * a.begun.pages ≤ a.max
-fits_in m p a b =
-    let few = b.instantiates.few_pages in
-    let same = b.instantiates.pages in
-    let most = b.max in
-    omega (arith, few, same, most)
 
 pub few_live : (h : HostState) (w : World) (k : ℕ) (p : Params) → IsHost h w → ((fault : AdmitFault) → ¬ (MeetsFault w k p fault)) → h.live < 4096
 few_live h w k p st none = let some = none instances in let e = st.live in omega (arith, some, e)

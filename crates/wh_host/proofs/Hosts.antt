@@ -8,7 +8,8 @@ use Rattle.wh_host_model.specs.Space.Parts.{Space, Claimed, claim, empty_space, 
 use Rattle.wh_host_model.specs.declared.Tax.{Tax}
 use Rattle.wh_host_model.specs.Space.Sound.{IsSound}
 use Rattle.wh_host_model.specs.Host.Spaces.{LeftAlone, OthersLeftAlone}
-use Rattle.wh_host_model.specs.Host.Worlds.{Params, Tenant, World, tenant, with_tenant, promised, empty_world}
+use Rattle.wh_host_model.specs.Host.Worlds.{Tenant, World, tenant, with_tenant, promised, empty_world}
+use Rattle.wh_host_model.specs.Owners.{Params}
 use Rattle.wh_host_model.specs.Host.Answers.{Closes, faces_next, is_dead, Turn, is_idle, has_ended, has_no_fuel, has_no_frame, can_go_on, keeps_its_fault}
 use Rattle.wh_host_model.specs.Host.Laws.{PlacesAreTenants}
 use Rattle.wh_host_model.specs.Host.Calls.{Refuels, has_more, Retries, may_try}

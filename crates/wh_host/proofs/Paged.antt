@@ -14,7 +14,8 @@ use Rattle.wh_host_model.specs.Host.Events.{Event, provide}
 use Rattle.wh_host_model.specs.Host.Happens.{AwaitsFrame, Happens, IsLive, MovesPages, OnlyMoves, has_failed, moved}
 use Rattle.wh_host_model.specs.Host.Spaces.{AllLeftAlone}
 use Rattle.wh_host_model.specs.Host.Standing.{FirstStandsDuly, StandsDuly}
-use Rattle.wh_host_model.specs.Host.Worlds.{Doing, Entry, Suspension, Tenant, World, for_device, for_frame, store_in, with_tenant}
+use Rattle.wh_host_model.specs.Host.Worlds.{Doing, Suspension, Tenant, World, for_device, for_frame, store_in, with_tenant}
+use Rattle.wh_host_model.specs.Owners.{Entry}
 use Rattle.wh_host_model.proofs.Host.Bridges.{failures_leave_all, provisions_leave_all}
 use Rattle.wh_host_model.proofs.Host.Lasting.{frames_are_awaited}
 use Rattle.wh_host_model.proofs.Host.Leaving.{left_then}

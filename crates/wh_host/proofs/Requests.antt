@@ -24,7 +24,8 @@ use Rattle.wh_host_model.specs.Space.Places.{Exits}
 use Rattle.wh_host_model.specs.Host.Spaces.{AllLeftAlone, Departs, OthersLeftAlone, StandsAlone}
 use Rattle.wh_host_model.specs.Space.Sight.{HasNoPins}
 use Rattle.wh_host_model.specs.Host.Worlds.{Tenant, Loaded, World, tenant, with_tenant, promised}
-use Rattle.wh_host_model.specs.Host.Calls.{InvokeFault, IsFirst, Meets, TakesCall, Cancels, ends}
+use Rattle.wh_host_model.specs.Host.Calls.{IsFirst, Meets, TakesCall, Cancels, ends}
+use Rattle.wh_host_model.specs.Owners.{InvokeFault}
 use Rattle.wh_host_model.specs.Host.Admission.{LoadsModule, LetsGo, broken, invalid, unlinked, modules_full, decoder_wants, validator_wants, linker_wants, host_wants}
 use Rattle.wh_host_model.specs.Host.Events.{epoch, invoke, cancel, load, release}
 use Rattle.wh_host_model.specs.Host.Happens.{IsLive, OnlyMoves, IsCancel, is_cancelled, IsInvoke, is_invoked, isnt_invoked, no_memory_to_invoke, invoke_ok, call_ok, LoadAnswer, load_refused, load_wants_memory, IsLoad, is_loaded, isnt_loaded, no_memory_to_load, load_ok, IsRelease, is_released}

@@ -4,7 +4,8 @@ use Rattle.wh_model.specs.Linking.Accepting.{IsAccepted}
 use Rattle.wh_model.specs.Execution.Instance.{begins, IsInitial}
 use Rattle.wh_model.specs.Execution.Replay.{Replay}
 use Rattle.wh_host_model.specs.Space.Parts.{view, wants}
-use Rattle.wh_host_model.specs.Host.Worlds.{Loaded, Params, Tenant, World, given_of, journal, journal_calls, standing_in, store_in, tenant}
+use Rattle.wh_host_model.specs.Host.Worlds.{Loaded, Tenant, World, journal, journal_calls, standing_in, store_in, tenant}
+use Rattle.wh_host_model.specs.Owners.{Params, given_of}
 use Rattle.wh_host_model.specs.Host.Journals.{InOrder}
 use Rattle.wh_host_model.specs.Host.Laws.{IsReplayed}
 use Rattle.wh_host_model.specs.Host.Standing.{FirstStandsDuly}

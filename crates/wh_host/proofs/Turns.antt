@@ -13,7 +13,8 @@ use Rattle.wh_host_model.specs.Host.Spaces.{StepsAlone, StandsAlone, PinsEndAfte
 use Rattle.wh_model.specs.Execution.Asking.{Asks}
 use Rattle.wh_model.specs.Execution.Configuration.{config}
 use Rattle.wh_model.specs.Execution.Reduction.{IsNext}
-use Rattle.wh_host_model.specs.Host.Worlds.{Entry, Rest, Doing, Tenant, store_with}
+use Rattle.wh_host_model.specs.Host.Worlds.{Rest, Doing, Tenant, store_with}
+use Rattle.wh_host_model.specs.Owners.{Entry}
 use Rattle.wh_host_model.proofs.Host.Leaving.{left_then}
 use Rattle.wh_host_model.specs.Host.Turns.{Proceeds, Upshot, to_end, out_of_fuel, to_wait, to_go_on}
 use Rattle.wh_host_model.specs.Host.Answers.{gone_further, ended_by, Closes, faces_next, is_dead, ProceedsIn, Turn, is_idle, has_ended, has_no_fuel, has_no_frame, can_go_on, keeps_its_fault}
@@ -47,16 +48,6 @@ claimed_there s i c e = rows s.occupants i e where
   rows (None ∷ xs) zero e = absurd (let bad : None ≡ Some c = e in cc bad)
   rows (Some t ∷ xs) zero e = (t, refl, live t t.live refl e)
   rows (x ∷ xs) (suc i) e = rows xs i e
-
--- one that lies there lies there still, where it sees the same and has the same claim
-pub lies_still : (l : LinkedState) (limit : ℕ) (x : TenantState) (s s2 : Space) (place : ℕ) (t : Tenant) → LiesAt l limit x s place t → view s2 place ≡ view s place → claim s2 place ≡ claim s place → LiesAt l limit x s2 place t
-lies_still l limit x s s2 place t lies sees claims = record {
-  place_is = lies.place_is;
-  is = subst (λ b. IsTenant l limit x b t) (sym sees) lies.is;
-  within = subst (λ (c : Option Claimed). limit ≤ limit_by c) (sym claims) lies.within;
-  claimed = lies.claimed;
-  claim_is = claims ∙ lies.claim_is;
-}
 
 -- ---- where a turn leaves the memory
 

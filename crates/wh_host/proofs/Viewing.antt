@@ -13,7 +13,8 @@ use Rattle.wh_host_model.specs.Space.Parts.{Space, Occupant, view, claim_of, nee
 use Rattle.wh_host_model.specs.Space.Ready.{Ready}
 use Rattle.wh_host_model.specs.Space.Sound.{IsSound}
 use Rattle.wh_host_model.specs.Host.Spaces.{StepsAlone}
-use Rattle.wh_host_model.specs.Host.Worlds.{Entry, Rest, Doing, Tenant, store_with}
+use Rattle.wh_host_model.specs.Host.Worlds.{Rest, Doing, Tenant, store_with}
+use Rattle.wh_host_model.specs.Owners.{Entry}
 use Rattle.wh_control.specs.Parts.{ProgramParts, funcs_in}
 use Rattle.wh_control.specs.Represents.{CallsState, Func, RepresentsCalls, result_of}
 use Rattle.wh_control.specs.declared.store.Store as code_store

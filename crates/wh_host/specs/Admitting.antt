@@ -4,8 +4,8 @@ use Rattle.slab.specs.Slab.{Slab, get, HasRoomFor}
 use Rattle.wh_host_model.specs.declared.plain.InstId.{InstId}
 use Rattle.wh_host_model.specs.Space.Parts.{Space}
 use Rattle.wh_host_model.specs.Space.Places.{Enters}
-use Rattle.wh_host_model.specs.Host.Worlds.{Params, World}
-use Rattle.wh_host_model.specs.Host.Admission.{AdmitFault}
+use Rattle.wh_host_model.specs.Host.Worlds.{World}
+use Rattle.wh_host_model.specs.Owners.{Params, AdmitFault}
 use Rattle.wh_host_model.specs.Host.Happens.{AdmitAnswer, admit_ok, admit_refused, admit_wants_memory, IsAdmit}
 use Rattle.wh_admit.specs.declared.error.AdmitError.{AdmitError}
 use Rattle.wh_admit.specs.declared.outcome.Admitted.{Admitted}

@@ -3,7 +3,7 @@ use Rattle.std.specs.Prelude.{◌≡◌, ℕ, ℤ, List, Option, Some, None, Res
 use Rattle.wh_host_model.specs.declared.plain.InstId.{InstId}
 use Rattle.wh_host_model.specs.Host.Worlds.{World}
 use Rattle.wh_host_model.specs.Host.Happens.{CallAnswer, call_ok, call_no_instance, call_no_call, InvokeAnswer, invoke_ok, invoke_no_instance, invoke_refused, invoke_wants_memory, IsInvoke}
-use Rattle.wh_host_model.specs.Host.Calls.{InvokeFault}
+use Rattle.wh_host_model.specs.Owners.{InvokeFault}
 use Rattle.wh_instance.specs.Invoked.{invoke_number, refusal_of}
 use Rattle.wh_host.specs.declared.error.HostError.{HostError}
 use Rattle.wh_host.specs.declared.error.HostError.TheVariants.{NoInstance, Invoke, NoCall, Memory}

@@ -3,7 +3,8 @@ use Rattle.std.specs.Prelude.{◌≡◌, ℕ, ◌+◌, ◌++◌, Bool, List, [],
 use Rattle.std.specs.Global.{Global, Vec}
 use Rattle.std.specs.declared.sync.Arc.{Arc}
 use Rattle.wh_host_model.specs.Space.Errands.{tickets}
-use Rattle.wh_host_model.specs.Host.Worlds.{Params, Suspension, Tenant, Loaded, World, journal}
+use Rattle.wh_host_model.specs.Host.Worlds.{Suspension, Tenant, Loaded, World, journal}
+use Rattle.wh_host_model.specs.Owners.{Params}
 use Rattle.wh_admit.specs.Views.{view_params}
 use Rattle.wh_instance.specs.Tenancy.{suspension_of}
 use Rattle.wh_host.specs.declared.parts.LoadedModule.{LoadedModule}

@@ -1,7 +1,8 @@
 -- What a host shows of one of its instances.
 use Rattle.std.specs.Prelude.{◌≡◌, ◌++◌, ℕ, List, Some, slice_get, Result, Ok, Err}
 use Rattle.wh_host_model.specs.declared.plain.InstId.{InstId}
-use Rattle.wh_host_model.specs.Host.Worlds.{Params, Tenant, Loaded, World, journal}
+use Rattle.wh_host_model.specs.Host.Worlds.{Tenant, Loaded, World, journal}
+use Rattle.wh_host_model.specs.Owners.{Params}
 use Rattle.wh_host_model.specs.Host.Happens.{IsLive, NoInstance as NobodyThere}
 use Rattle.wh_instance.specs.Tenancy.{RepresentsEach, suspension_of}
 use Rattle.wh_transcript.specs.Transcripts.{TranscriptState}

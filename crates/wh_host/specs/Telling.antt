@@ -1,7 +1,8 @@
 -- What a host tells of one call.
 use Rattle.std.specs.Prelude.{◌≡◌, ◌++◌, ℕ, option_map, slice_get, Option, Some, None}
 use Rattle.wh_host_model.specs.declared.plain.InstId.{InstId}
-use Rattle.wh_host_model.specs.Host.Worlds.{Entry, Tenant, World, journal}
+use Rattle.wh_host_model.specs.Host.Worlds.{Tenant, World, journal}
+use Rattle.wh_host_model.specs.Owners.{Entry}
 use Rattle.wh_host_model.specs.Host.Happens.{IsLive}
 use Rattle.wh_journal.specs.Calls.{JournalState}
 use Rattle.wh_instance.specs.declared.stages.CallStatus.{CallStatus}

@@ -1,9 +1,8 @@
 pub mod Faults
 pub mod Frames
 pub mod Hash
+pub mod Owners
 pub mod Pages
-pub mod Replies
-pub mod Requests
 pub mod Script
 pub mod Host
 pub mod Lines

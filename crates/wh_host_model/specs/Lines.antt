@@ -1,4 +1,5 @@
 -- The language of scripts: what a line asks for, the texts of replies, and the answers to a script.
+pub mod Hex
 pub mod Words
 pub mod Commands
 pub mod Texts

@@ -1,7 +1,6 @@
--- The script: its lines, the shape of a command, and the text of the replies.
-use Rattle.std.specs.Prelude.{◌≡◌, ◌≢◌, ℕ, ◌<◌, ◌≤◌, ◌==◌, ◌||◌, ◌&&◌, nat_le, Bool, true, if◌then◌else◌, List, [], ◌∷◌, ◌++◌, length, IsTrue, codes}
+-- The script: its lines, names and words.
+use Rattle.std.specs.Prelude.{◌≢◌, ℕ, ◌<◌, ◌≤◌, ◌==◌, ◌||◌, ◌&&◌, nat_le, Bool, true, if◌then◌else◌, List, [], ◌∷◌, length, IsTrue}
 use Rattle.std.specs.List.{All}
-use Rattle.std.specs.Fmt.{decimal}
 
 -- a byte before the first line, which it begins where there is none
 abbrev pub onto_first : ℕ → List (List ℕ) → List (List ℕ)
@@ -39,42 +38,7 @@ pub record IsWord (word : List ℕ) : Type 0 where
   pub ascii : All (λ b. b < 128) word
   pub spaceless : All (λ b. b ≢ 32) word
 
--- the line is `module`, a name and a word, with one space between them
-pub record IsModuleLine (line name word : List ℕ) : Type 0 where
-  pub spelled : line ≡ codes "module " ++ name ++ 32 ∷ word
-  pub is_name : IsName name
-  pub is_word : IsWord word
-
--- `error C1 line 4`
-abbrev pub error_reply : ℕ → ℕ → List ℕ
-error_reply cause number = codes "error C" ++ decimal cause ++ codes " line " ++ decimal number ++ codes "\n"
-
--- `module NAME ok`
-abbrev pub kept_reply : List ℕ → List ℕ
-kept_reply name = codes "module " ++ name ++ codes " ok\n"
-
--- `module NAME refused D3 at 7`
-abbrev pub refused_reply : List ℕ → ℕ → ℕ → List ℕ
-refused_reply name kind offset =
-    codes "module " ++ name ++ codes " refused D" ++ decimal kind ++ codes " at " ++ decimal offset ++ codes "\n"
-
 -- where a fault of the validator lies: in no function, or at an instruction of one
 pub data Place : Type 0 where
   in_module : Place
   in_func : (func instr : ℕ) → Place
-
--- `module NAME refused V6 module`, or `module NAME refused V1 func 0 instr 4`
-abbrev pub invalid_reply : List ℕ → ℕ → Place → List ℕ
-invalid_reply name kind in_module = codes "module " ++ name ++ codes " refused V" ++ decimal kind ++ codes " module\n"
-invalid_reply name kind (in_func func instr) =
-    codes "module " ++ name ++ codes " refused V" ++ decimal kind ++ codes " func " ++ decimal func ++ codes " instr "
-    ++ decimal instr ++ codes "\n"
-
--- `module NAME refused L1 import 0`
-abbrev pub unlinked_reply : List ℕ → ℕ → ℕ → List ℕ
-unlinked_reply name kind place =
-    codes "module " ++ name ++ codes " refused L" ++ decimal kind ++ codes " import " ++ decimal place ++ codes "\n"
-
--- `module NAME refused L3`
-abbrev pub no_link_memory_reply : List ℕ → List ℕ
-no_link_memory_reply name = codes "module " ++ name ++ codes " refused L3\n"

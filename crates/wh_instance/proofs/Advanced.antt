@@ -6,7 +6,8 @@ use Rattle.wh_model.specs.Execution.Store.{Instance}
 use Rattle.wh_model.specs.Execution.Configuration.{Term, Config}
 use Rattle.wh_model.specs.Execution.Instance.{Piece}
 use Rattle.wh_model.specs.Execution.Replay.{Call}
-use Rattle.wh_host_model.specs.Host.Worlds.{Entry, Rest, Doing, resting, has_left, computing, Tenant}
+use Rattle.wh_host_model.specs.Host.Worlds.{Rest, Doing, resting, has_left, computing, Tenant}
+use Rattle.wh_host_model.specs.Owners.{Entry}
 use Rattle.wh_host_model.specs.Host.Turns.{Opens, by_invocation, as_it_was, Upshot, Proceeds, returns, traps, writes_all, uses_fuel, waits, waits_to_write, has_had_its_turn}
 use Rattle.wh_host_model.specs.Host.Answers.{gone_further}
 use Rattle.wh_control.specs.Represents.{bits_of}

@@ -6,7 +6,8 @@ use Rattle.wh_model.specs.Execution.Store.{Instance, Store}
 use Rattle.wh_model.specs.Execution.Configuration.{Term, called, config}
 use Rattle.wh_model.specs.Execution.Replay.{Outcome, returned, stopped, cancelled, dead, pending, fails, Call, Invocation}
 use Rattle.wh_host_model.specs.Space.Parts.{Space, view}
-use Rattle.wh_host_model.specs.Host.Worlds.{Entry, Rest, Doing, resting, computing, Tenant, store_with}
+use Rattle.wh_host_model.specs.Host.Worlds.{Rest, Doing, resting, computing, Tenant, store_with}
+use Rattle.wh_host_model.specs.Owners.{Entry}
 use Rattle.wh_host_model.specs.Host.Answers.{ended_by, gone_further, Faces, dies, Closes, faces_next, is_dead}
 use Rattle.wh_journal.specs.Calls.{JournalCallState, with_progress, with_end}
 use Rattle.wh_journal.specs.declared.calls.CallEnd.{CallEnd}

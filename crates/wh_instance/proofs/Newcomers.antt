@@ -12,8 +12,9 @@ use Rattle.wh_model.specs.Execution.Configuration.{called, config}
 use Rattle.wh_model.specs.Execution.Instance.{Parameters, Piece, Within, fragments, first_size}
 use Rattle.wh_model.specs.Execution.Replay.{returned, pending, Invocation}
 use Rattle.wh_model.proofs.Fragments.{fragments_within, fragments_in_pages}
-use Rattle.wh_host_model.specs.Host.Worlds.{Entry, Doing, resting, has_left, computing, Tenant, store_with}
-use Rattle.wh_host_model.specs.Host.Admission.{StartsAs, writes as start_writes, runs, ends, start_entry, rest_of}
+use Rattle.wh_host_model.specs.Host.Worlds.{Doing, resting, has_left, computing, Tenant, store_with}
+use Rattle.wh_host_model.specs.Owners.{Entry, start_entry}
+use Rattle.wh_host_model.specs.Host.Admission.{StartsAs, writes as start_writes, runs, ends, rest_of}
 use Rattle.wh_syntax.specs.declared.module.Data.{Data}
 use Rattle.wh_syntax.specs.View.{view_module, view_data}
 use Rattle.wh_bodies.specs.Views.{view_side}

@@ -1,15 +1,16 @@
 -- What the owner's requests leave of an instance.
-use Rattle.std.proofs.Common.{◌≡◌, ◌≢◌, true, false, inl, inr, ℕ, ◌+◌, ◌<◌, min, Bool, List, [], ◌∷◌, length, suc, Option, Some, None, refl, sym, ap, subst, ◌∙◌, arith}
+use Rattle.std.proofs.Common.{◌≡◌, ◌≢◌, true, false, inl, inr, ℕ, ◌+◌, ◌<◌, min, List, [], ◌∷◌, length, suc, Option, Some, None, refl, sym, ap, subst, ◌∙◌, arith}
 use Rattle.std.specs.List.{AllByRecursion}
 use Rattle.wh_model.specs.Execution.Store.{Instance}
 use Rattle.wh_model.specs.Execution.Replay.{cancelled}
 use Rattle.wh_host_model.specs.declared.plain.SwapError.{SwapError}
 use Rattle.wh_host_model.specs.Space.Parts.{Space}
-use Rattle.wh_host_model.specs.Host.Worlds.{Entry, Rest, Doing, for_fuel, for_frame, for_device, Tenant}
+use Rattle.wh_host_model.specs.Host.Worlds.{Rest, Doing, for_fuel, for_device, Tenant}
+use Rattle.wh_host_model.specs.Owners.{Entry}
 use Rattle.wh_host_model.specs.Host.Answers.{ended_by, Closes}
-use Rattle.wh_host_model.specs.Host.Calls.{more_fuel, most_fuel, StandsAfter, Refuels, has_more, Retries, may_try}
+use Rattle.wh_host_model.specs.Host.Calls.{more_fuel, StandsAfter, Refuels, has_more, Retries, may_try}
+use Rattle.wh_host_model.specs.Owners.{most_fuel}
 use Rattle.wh_host_model.specs.Host.Happens.{AwaitsFrame}
-use Rattle.std.specs.Bool.{MatchBool}
 use Rattle.wh_journal.specs.Calls.{JournalCallState, with_more_fuel}
 use Rattle.wh_journal.specs.declared.calls.CallEnd.TheVariants as end
 use Rattle.wh_machine.specs.States.{Setting}
@@ -73,12 +74,6 @@ no_device (Some stop.Fuel) fault is e = cc e
 no_device (Some stop.Frame) fault is e = cc e
 no_device (Some (stop.Device other)) fault is e = cc is
 
-retries_device : (t t2 : Tenant) → Retries t t2 → (fault : SwapError) × (t.stands_for ≡ Some (for_device fault))
-retries_device t t2 (may_try {fault = fault} a b) = (fault, b)
-
-pub cannot_retry : {M : Type 0} (w : Setting M) (x : TenantState) (m : M) (t t2 : Tenant) → is_fault x.stands_for ≡ false → RepresentsTenant w x m t → ¬ (Retries t t2)
-cannot_retry w x m t t2 is rep r = let f = retries_device t t2 r in no_device x.stands_for f.0 is (sym rep.stands_for ∙ f.1)
-
 -- ---- a device fault
 
 frame_at : (stands : Option code.Suspension) → stands_at_frame stands ≡ true → stands ≡ Some stop.Frame
@@ -86,12 +81,6 @@ frame_at None is = absurd (cc is)
 frame_at (Some stop.Fuel) is = absurd (cc is)
 frame_at (Some stop.Frame) is = refl
 frame_at (Some (stop.Device fault)) is = absurd (cc is)
-
-no_frame : (stands : Option code.Suspension) → stands_at_frame stands ≡ false → suspension_of stands ≢ Some for_frame
-no_frame None is e = cc e
-no_frame (Some stop.Fuel) is e = cc e
-no_frame (Some stop.Frame) is e = cc is
-no_frame (Some (stop.Device fault)) is e = cc e
 
 pub fails_for : {M : Type 0} (w : Setting M) (x : TenantState) (m : M) (t : Tenant) (fault : SwapError) → stands_at_frame x.stands_for ≡ true → RepresentsTenant w x m t
     → AwaitsFrame t × RepresentsTenant w (record x { stands_for = Some (stop.Device fault) }) m (record t { stands_for = Some (for_device fault) })
@@ -111,14 +100,6 @@ fails_for w x m t fault is rep =
         dead = rep.dead;
       },
     )
-
-pub awaits_none : {M : Type 0} (w : Setting M) (x : TenantState) (m : M) (t : Tenant) → stands_at_frame x.stands_for ≡ false → RepresentsTenant w x m t → ¬ (AwaitsFrame t)
-awaits_none w x m t is rep e = no_frame x.stands_for is (sym rep.stands_for ∙ e)
-
--- whether it is told so
-pub told_frame : {M : Type 0} (w : Setting M) (x : TenantState) (m : M) (t : Tenant) (told : Bool) → told ≡ stands_at_frame x.stands_for → RepresentsTenant w x m t → MatchBool told (AwaitsFrame t) (¬ (AwaitsFrame t))
-told_frame w x m t true is rep = rep.stands_for ∙ ap suspension_of (frame_at x.stands_for (sym is))
-told_frame w x m t false is rep = awaits_none w x m t (sym is) rep
 
 -- as many calls have ended
 pub as_many_ended : (cs : List JournalCallState) (es : List Entry) → RepresentsEach cs es → length es ≡ length cs

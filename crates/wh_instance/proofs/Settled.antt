@@ -13,7 +13,8 @@ use Rattle.wh_model.specs.Execution.Taking.{Takes, took_all, took}
 use Rattle.wh_model.proofs.Chains.{one_after}
 use Rattle.wh_host_model.specs.declared.plain.SwapError.{SwapError}
 use Rattle.wh_host_model.specs.Space.Parts.{Space}
-use Rattle.wh_host_model.specs.Host.Worlds.{Entry, Rest, Doing, resting, has_left, computing, Suspension, for_fuel, for_frame, for_device, Tenant, store_with}
+use Rattle.wh_host_model.specs.Host.Worlds.{Rest, Doing, resting, has_left, computing, Suspension, for_fuel, for_frame, for_device, Tenant, store_with}
+use Rattle.wh_host_model.specs.Owners.{Entry}
 use Rattle.wh_host_model.specs.Host.Admission.{rest_of}
 use Rattle.wh_host_model.specs.Host.Turns.{Opens, by_invocation, as_it_was, Upshot, to_end, out_of_fuel, to_wait, to_go_on, Proceeds, returns, traps, writes_all, uses_fuel, waits, waits_to_write, has_had_its_turn}
 use Rattle.wh_host_model.specs.Host.Answers.{gone_further, ended_by, gone_on, Closes, at_frame, KeepsNoFault}

@@ -4,9 +4,11 @@ use Rattle.std.specs.List.{AllByRecursion}
 use Rattle.wh_model.specs.Format.Syntax.{FuncType, Body, Module}
 use Rattle.wh_model.specs.Execution.Store.{Value, own, Instance, bits_of}
 use Rattle.wh_host_model.specs.Space.Parts.{Space}
-use Rattle.wh_host_model.specs.Host.Worlds.{Entry, Rest, Doing, Tenant, journal, store_in}
+use Rattle.wh_host_model.specs.Host.Worlds.{Rest, Doing, Tenant, journal, store_in}
+use Rattle.wh_host_model.specs.Owners.{Entry, new_entry}
 use Rattle.wh_host_model.specs.Host.Answers.{Faces}
-use Rattle.wh_host_model.specs.Host.Calls.{most_open, most_calls, AreArguments, ExportsOwn, open_count, InvokeFault, no_export, arguments, queue_full, instance_dead, journal_full, Meets, rank, IsFirst, new_entry, TakesCall}
+use Rattle.wh_host_model.specs.Host.Calls.{open_count, Meets, IsFirst, TakesCall}
+use Rattle.wh_host_model.specs.Owners.{most_open, most_calls, AreArguments, ExportsOwn, InvokeFault, no_export, arguments, queue_full, instance_dead, journal_full, rank}
 use Rattle.wh_journal.specs.Calls.{JournalCallState, JournalState}
 use Rattle.wh_syntax.specs.View.{view_module}
 use Rattle.wh_imports.specs.LinkedState.{LinkedState}

@@ -7,7 +7,8 @@ use Rattle.wh_model.specs.Format.Syntax.{FuncType, Body, Module}
 use Rattle.wh_model.specs.Validity.Typing.{Context, operand}
 use Rattle.wh_model.specs.Execution.Store.{Value, value, type_of, bits_of, InRange, own, Instance}
 use Rattle.wh_model.specs.Execution.Replay.{Outcome, returned, stopped, cancelled, dead, pending, Call, fails}
-use Rattle.wh_host_model.specs.Host.Worlds.{Entry, Tenant, journal}
+use Rattle.wh_host_model.specs.Host.Worlds.{Tenant, journal}
+use Rattle.wh_host_model.specs.Owners.{Entry}
 use Rattle.wh_host_model.specs.Host.Turns.{HaveTypes}
 use Rattle.wh_host_model.specs.Host.Journals.{HasEnded, InOrder, IsDeadCall, IsEnded, IsOpenCall, ReturnsTyped, is_starting, has_started, has_died}
 use Rattle.wh_host_model.specs.Lines.Made.{is_open}

@@ -7,7 +7,8 @@ use Rattle.wh_model.specs.Execution.Reduction.{IsNext}
 use Rattle.wh_model.specs.Execution.Asking.{Asks}
 use Rattle.wh_host_model.specs.declared.plain.SwapError.{SwapError}
 use Rattle.wh_host_model.specs.Space.Parts.{Space, view}
-use Rattle.wh_host_model.specs.Host.Worlds.{Entry, Rest, Doing, resting, computing, for_fuel, for_device, Tenant, store_with}
+use Rattle.wh_host_model.specs.Host.Worlds.{Rest, Doing, resting, computing, for_fuel, for_device, Tenant, store_with}
+use Rattle.wh_host_model.specs.Owners.{Entry}
 use Rattle.wh_host_model.specs.Host.Turns.{Upshot, to_end, out_of_fuel, to_wait, to_go_on, Proceeds}
 use Rattle.wh_host_model.specs.Host.Answers.{gone_further, ended_by, gone_on, Closes, at_frame, KeepsNoFault}
 use Rattle.wh_machine.specs.States.{Setting}

@@ -3,7 +3,8 @@ use Rattle.std.specs.Prelude.{◌≡◌, ◌<◌, ℕ, List, [], ◌∷◌, Opti
 use Rattle.wh_model.specs.Execution.Replay.{cancelled}
 use Rattle.wh_host_model.specs.Space.Parts.{Space, view}
 use Rattle.wh_host_model.specs.declared.plain.SwapError.{SwapError}
-use Rattle.wh_host_model.specs.Host.Worlds.{Entry, Tenant, for_device}
+use Rattle.wh_host_model.specs.Host.Worlds.{Tenant, for_device}
+use Rattle.wh_host_model.specs.Owners.{Entry}
 use Rattle.wh_host_model.specs.Host.Answers.{ended_by, Closes}
 use Rattle.wh_host_model.specs.Host.Calls.{Refuels, Retries}
 use Rattle.wh_host_model.specs.Host.Happens.{AwaitsFrame}

@@ -5,7 +5,8 @@ use Rattle.wh_model.specs.Validity.Typing.{Context}
 use Rattle.wh_model.specs.Execution.Store.{Value, own, Instance}
 use Rattle.wh_host_model.specs.Space.Parts.{Space, view}
 use Rattle.wh_host_model.specs.Host.Worlds.{Tenant}
-use Rattle.wh_host_model.specs.Host.Calls.{most_open, most_calls, InvokeFault, no_export, arguments, queue_full, instance_dead, journal_full, AreArguments, Meets, rank, IsFirst, TakesCall}
+use Rattle.wh_host_model.specs.Host.Calls.{Meets, IsFirst, TakesCall}
+use Rattle.wh_host_model.specs.Owners.{most_open, most_calls, InvokeFault, no_export, arguments, queue_full, instance_dead, journal_full, AreArguments, rank}
 use Rattle.wh_syntax.specs.View.{view_module}
 use Rattle.wh_imports.specs.LinkedState.{LinkedState}
 use Rattle.wh_journal.specs.Calls.{JournalCallState, JournalState}

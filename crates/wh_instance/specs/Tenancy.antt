@@ -6,7 +6,8 @@ use Rattle.wh_model.specs.Execution.Store.{type_of, InRange, own, Instance}
 use Rattle.wh_model.specs.Execution.Configuration.{Term}
 use Rattle.wh_model.specs.Execution.Instance.{Piece}
 use Rattle.wh_model.specs.Execution.Replay.{Outcome, returned, stopped, cancelled, dead, pending, Waits}
-use Rattle.wh_host_model.specs.Host.Worlds.{Entry, Rest, Doing, resting, has_left, computing, Suspension, for_fuel, for_frame, for_device, Tenant}
+use Rattle.wh_host_model.specs.Host.Worlds.{Rest, Doing, resting, has_left, computing, Suspension, for_fuel, for_frame, for_device, Tenant}
+use Rattle.wh_host_model.specs.Owners.{Entry}
 use Rattle.wh_imports.specs.LinkedState.{LinkedState}
 use Rattle.wh_control.specs.Represents.{bits_of}
 use Rattle.wh_control.specs.declared.store.Store as code_store

@@ -5,7 +5,8 @@ use Rattle.wh_model.specs.Format.Syntax.{Module}
 use Rattle.wh_model.specs.Validity.Typing.{Context}
 use Rattle.wh_model.specs.Execution.Store.{Value, value, bits_of, InRange, Instance}
 use Rattle.wh_model.specs.Execution.Replay.{Call, returned, stopped, cancelled, dead, pending}
-use Rattle.wh_host_model.specs.Host.Worlds.{Entry, Suspension, Tenant, journal, journal_calls}
+use Rattle.wh_host_model.specs.Host.Worlds.{Suspension, Tenant, journal, journal_calls}
+use Rattle.wh_host_model.specs.Owners.{Entry}
 use Rattle.wh_host_model.specs.Host.Journals.{InOrder, ReturnsTyped}
 use Rattle.wh_host_model.specs.Lines.Made.{first_open}
 use Rattle.wh_imports.specs.LinkedState.{LinkedState}

@@ -1,7 +1,7 @@
 //! Calls that the owner of an instance asks for.
 
 ghost use Rattle.std.specs.Prelude.{◌≡◌, ◌<◌, OnOk, OnErr, IfOk, IfErr};
-ghost use Rattle.wh_host_model.specs.Host.Calls.{most_calls};
+ghost use Rattle.wh_host_model.specs.Owners.{most_calls};
 ghost use Rattle.wh_arguments.specs.Asked.{CanTake};
 ghost use Rattle.wh_instance.specs.Invoked.{IsSomeTenant, open_in, calls_in_journal, HasCallRoom, LacksCallRoom, MayTake, AddsCall, InvokesTenant, RefusesInvoke};
 

@@ -1,5 +1,5 @@
 -- Columns of rows, and what a page counts.
-use Rattle.std.proofs.Common.{◌≡◌, ℕ, zero, suc, ◌<◌, ◌≤◌, ◌++◌, List, [], ◌∷◌, Some, length, map, take, slice_get, slice_set, refl, ap, subst, arith}
+use Rattle.std.proofs.Common.{◌≡◌, ℕ, zero, suc, ◌<◌, ◌≤◌, List, [], ◌∷◌, Some, map, take, slice_get, slice_set, ap, subst, arith}
 use Rattle.wh_host_model.specs.Space.States.{resident}
 use Rattle.wh_host_model.specs.declared.states.Page.{Page}
 use Rattle.wh_host_model.specs.declared.states.Page.TheVariants.{Untouched, Private, Shared, Leaving, LeavingShared, Coming, Swapped}
@@ -14,11 +14,6 @@ column_get f [] n i x below e = absurd (cc e)
 column_get f (y ∷ rows) zero i x below e = absurd (omega (arith, below))
 column_get f (y ∷ rows) (suc n) zero x below e = ap (λ z. Some (f z)) (one_value y x e)
 column_get f (y ∷ rows) (suc n) (suc i) x below e = column_get f rows n i x (omega (arith, below)) e
-
-pub column_added : {X Y : Type 0} (f : X → Y) (rows : List X) (n : ℕ) (x : X) → n < length rows → map f (take (suc n) (slice_set rows n x)) ≡ map f (take n rows) ++ f x ∷ []
-column_added f [] n x below = absurd (omega (arith, below))
-column_added f (y ∷ rows) zero x below = refl
-column_added f (y ∷ rows) (suc n) x below = ap (λ zs. f y ∷ zs) (column_added f rows n x (omega (arith, below)))
 
 -- what is there already may be put there
 pub put_again : {X : Type 0} (xs : List X) (i : ℕ) (x : X) → slice_get xs i ≡ Some x → slice_set xs i x ≡ xs

@@ -39,9 +39,6 @@ wants_stands s i need is = go (get_or s.occupants i None) refl is where
 
 -- ---- what is reserved
 
-pub reserved_stands : (s : Space) (i : ℕ) (need : Need) (s1 : Space) → Reserves s i need s1 → StandsForFrame s i need → StandsForFrame s1 i need
-reserved_stands s i need s1 reserves (t, there, live, stands) = (t, ap (λ (z : Space). slice_get z.occupants i) reserves.leaves ∙ there, live, stands)
-
 one_among : (s : Space) (i p : ℕ) (ps : List ℕ) → 1 ≤ tally (one_if p) ps → at swapped (page_at s.tables i p) ≡ 1 → 1 ≤ among swapped s i ps
 one_among s i p [] some one = some
 one_among s i p (q ∷ ps) some one =
@@ -52,9 +49,6 @@ one_among s i p (q ∷ ps) some one =
 
 pub some_swapped : (s : Space) (i : ℕ) (need : Need) (p : ℕ) → IsFirstSwapped s i need p → 1 ≤ among swapped s i (pages_of_need need)
 some_swapped s i need p first = one_among s i p (pages_of_need need) first.0 first.1
-
-pub none_swapped : (s : Space) (i : ℕ) (need : Need) → among swapped s i (pages_of_need need) ≡ 0 → (p : ℕ) → ¬ IsFirstSwapped s i need p
-none_swapped s i need none p first = let some = some_swapped s i need p first in omega arith
 
 min_some : (n m : ℕ) → 1 ≤ m → min n m ≡ 0 → n ≡ 0
 min_some n m some none = grind arith

@@ -1,13 +1,11 @@
 -- What keeps memory and device together.
-use Rattle.std.proofs.Common.{◌≡◌, ◌∙◌, ℕ, List, [], ◌∷◌, Option, Some, None, map, replicate, zero, suc, refl, sym, ap, cond, true, false, Bool, arith}
+use Rattle.std.proofs.Common.{◌≡◌, ◌∙◌, ℕ, List, [], ◌∷◌, Option, Some, None, map, replicate, zero, suc, refl, sym, ap, arith}
 use Rattle.wh_host_model.specs.Frames.{tally}
 use Rattle.wh_host_model.specs.declared.Tax.{Tax}
 use Rattle.wh_host_model.specs.declared.states.Slot.{Slot}
 use Rattle.wh_host_model.specs.declared.states.Slot.TheVariants.{Vacant, Taken, Evicting, EvictVoid, Fetching, FetchVoid}
 use Rattle.wh_host_model.specs.Space.Errands.{Errand, Pass, errand_for, is_ticket, pass_of, tickets}
-use Rattle.wh_host_model.specs.Space.Moves.{has_pins, unpinned}
 use Rattle.wh_host_model.specs.Space.Parts.{Slots, Space}
-use Rattle.wh_host_model.specs.Space.Stores.{ended, stood}
 use Rattle.wh_space.specs.Arrivals.{IsNew}
 use Rattle.wh_reclaim.specs.Together.{AreTogether}
 
@@ -48,9 +46,3 @@ new_together s frames slots tax new = record {
   none_out = ap tickets new.is ∙ none_vacant slots;
   agrees = ap (λ (z : Space). z.slots.held) new.is;
 }
-
-pub ended_together : (s : Space) (i : ℕ) (held : List (List ℕ)) → AreTogether s held → AreTogether (ended s i) held
-ended_together s i held are = same_slots s (ended s i) held (go (has_pins s.pins i)) are where
-  go : (b : Bool) → (cond b (unpinned (stood s i None)) (stood s i None)).slots ≡ s.slots
-  go true = refl
-  go false = refl

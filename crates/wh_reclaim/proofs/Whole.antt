@@ -1,5 +1,5 @@
 -- A provision takes no frame and no slot away, and adds none.
-use Rattle.std.proofs.Common.{◌≡◌, ◌∙◌, inl, inr, ℕ, List, [], ◌∷◌, Result, Ok, Err, length-set, refl, subst, sym}
+use Rattle.std.proofs.Common.{◌∙◌, inl, inr, ℕ, List, [], ◌∷◌, Result, Ok, Err, length-set, refl, subst, sym}
 use Rattle.std.specs.Prelude.{IfOk, OnErr}
 use Rattle.wh_model.specs.declared.memory.Need.{Need}
 use Rattle.wh_host_model.specs.Space.Moves.{Evicts, Fetches, Earmarks}
@@ -9,9 +9,6 @@ use Rattle.wh_reclaim.specs.Whole.{IsAsWhole}
 
 pub then_whole : (a b c : Space) → IsAsWhole a b → IsAsWhole b c → IsAsWhole a c
 then_whole a b c first second = record { frames = second.frames ∙ first.frames; slots = second.slots ∙ first.slots; tax = second.tax ∙ first.tax }
-
-pub same_whole : (s s2 : Space) → s2 ≡ s → IsAsWhole s s2
-same_whole s s2 e = subst (IsAsWhole s) (sym e) (record { frames = refl; slots = refl; tax = refl })
 
 evicts_whole : (s : Space) (j p : ℕ) (s2 : Space) → Evicts s j p s2 → IsAsWhole s s2
 evicts_whole s j p s2 e =

@@ -1,7 +1,7 @@
 -- Bytes in hexadecimal, as the kit's crate writes them.
-use Rattle.std.proofs.Common.{◌≡◌, ℕ, zero, suc, ◌<◌, ◌/◌, ◌%◌, List, [], ◌∷◌, length, get_or, refl, ◌∙◌, Result, Ok, Err, IfOk, arith}
+use Rattle.std.proofs.Common.{◌≡◌, ℕ, zero, suc, ◌<◌, ◌/◌, ◌%◌, List, [], ◌∷◌, get_or, refl, ◌∙◌, Result, Ok, Err, IfOk, arith}
 use Rattle.hex.specs.Hex.{lower_digits, encode_with, encode_lower}
-use Rattle.wh_host_model.specs.Lines.Texts.{low_digit, hex_text, output_text}
+use Rattle.wh_host_model.specs.Lines.Texts.{low_digit, hex_text}
 
 digit : (n : ℕ) → n < 16 → get_or lower_digits n 0 ≡ low_digit n
 digit zero h = refl
@@ -31,10 +31,6 @@ encoded (b ∷ bytes) h =
 
 pub encoded_so : (bytes text : List ℕ) → ((i : ℕ) → get_or bytes i 0 < 256) → text ≡ encode_lower bytes → text ≡ hex_text bytes
 encoded_so bytes text h e = e ∙ encoded bytes h
-
-pub some_output : (output : List ℕ) → 0 < length output → output_text output ≡ hex_text output
-some_output [] h = absurd (omega arith)
-some_output (b ∷ bytes) h = refl
 
 pub weaker : {A E : Type 0} (P Q : A → Type 0) (r : Result A E) → ((x : A) → P x → Q x) → IfOk r P → IfOk r Q
 weaker P Q (Ok x) h p = h x p

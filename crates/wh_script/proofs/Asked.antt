@@ -1,7 +1,7 @@
 -- Which command of the definitions a command of the code is.
 use Rattle.std.proofs.Common.{◌≡◌, ◌∙◌, ℕ, ℤ, ◌⊎◌, inl, inr, List, Bor, refl, sym, ap, subst}
 use Rattle.std.specs.Global.{Vec}
-use Rattle.wh_host_model.specs.Requests.{IsHex}
+use Rattle.wh_host_model.specs.Lines.Hex.{IsHex}
 use Rattle.wh_host_model.specs.Lines.Commands.{Command, keep, load, admit, invoke, drain, refuel, cancel, retry, scan, report, release}
 use Rattle.wh_commands.specs.declared.command.Command.{Command as Code}
 use Rattle.wh_commands.specs.declared.command.Command.TheVariants.{Module, Load, Admit, Invoke, Drain, Refuel, Cancel, Retry, Scan, Report, Release}

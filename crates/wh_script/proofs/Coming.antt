@@ -12,10 +12,6 @@ use Rattle.wh_engine.specs.declared.fault.ScriptFault.{ScriptFault}
 use Rattle.wh_engine.specs.declared.fault.ScriptFault.TheVariants.{Settings as SettingsFault, Script, Output, Swap, Memory, Threads, Transcript}
 use Rattle.wh_script.specs.Coming.{FailsAt, Holds, TakesLines, IsKind, ReadsLine}
 
-pub consumes_nothing : (k : Option (List ℕ)) → Consumes k k []
-consumes_nothing None = tt
-consumes_nothing (Some xs) = refl
-
 pub keeps_consumes : (a b c : Option (List ℕ)) (xs : List ℕ) → Keeps a b → Consumes b c xs → Consumes a c xs
 keeps_consumes None b c xs p q = tt
 keeps_consumes (Some us) None c xs p q = elim p [ ]

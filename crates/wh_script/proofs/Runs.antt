@@ -4,11 +4,10 @@ use Rattle.std.specs.Io.KnownBytes.{Appends, Consumes, IsAtEnd, prepend_known}
 use Rattle.wh_host_model.specs.Script.{lines_of}
 use Rattle.wh_host_model.specs.Lines.Settings.{Settings}
 use Rattle.wh_host_model.specs.Lines.Texts.{Reply}
-use Rattle.wh_host_model.specs.Lines.Made.{Made, nothing_made}
+use Rattle.wh_host_model.specs.Lines.Made.{Made, nothing_made, SomeCallIsOpen}
 use Rattle.wh_host_model.specs.Lines.Answers.{Files, AnswersLine, AnswersLines}
 use Rattle.wh_engine.specs.declared.fault.ScriptFault.{ScriptFault}
 use Rattle.wh_engine.specs.declared.fault.ScriptFault.TheVariants.{Settings as SettingsFault, Script, Output, Swap, Memory, Threads, Transcript}
-use Rattle.wh_script_model.specs.Following.{SomeCallIsOpen}
 use Rattle.wh_engine.specs.Draining.{StopsOnlyOpen, StopsOpenOr, StopsRun, WasOpen}
 use Rattle.wh_engine.specs.Standing.{EngineState, StandsForScript}
 use Rattle.wh_script_model.proofs.SaidObeyed.{nothing_well}

@@ -4,12 +4,11 @@ use Rattle.std.specs.Io.KnownBytes.{Appends}
 use Rattle.wh_host_model.specs.Script.{lines_of}
 use Rattle.wh_host_model.specs.Lines.Settings.{Settings}
 use Rattle.wh_host_model.specs.Lines.Texts.{Reply}
-use Rattle.wh_host_model.specs.Lines.Made.{Made, nothing_made}
+use Rattle.wh_host_model.specs.Lines.Made.{Made, nothing_made, SomeCallIsOpen}
 use Rattle.wh_host_model.specs.Lines.Drains.{Drains}
 use Rattle.wh_host_model.specs.Lines.Answers.{Files, AnswersLine, AnswersLines, AnswersScript, replies_text}
 use Rattle.wh_engine.specs.declared.fault.ScriptFault.{ScriptFault}
 use Rattle.wh_engine.specs.declared.fault.ScriptFault.TheVariants.{Script, Output, Memory, Threads, Transcript}
-use Rattle.wh_script_model.specs.Following.{SomeCallIsOpen}
 use Rattle.wh_script.specs.Speaking.{AsksScan, IsLineText}
 
 -- ---- lines

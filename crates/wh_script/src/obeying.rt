@@ -1,7 +1,7 @@
 // What a command gets, once all calls have run.
 
 ghost use Rattle.std.specs.Prelude.{◌≡◌, ◌++◌, ℕ, List, None, OnOk, IfErr, string_bytes};
-ghost use Rattle.wh_host_model.specs.Requests.{IsHex};
+ghost use Rattle.wh_host_model.specs.Lines.Hex.{IsHex};
 ghost use Rattle.wh_host_model.specs.Lines.Answers.{BringsBytes, Files, NamesModule};
 ghost use Rattle.wh_host_model.specs.Lines.Commands as asked_of;
 ghost use Rattle.wh_host_model.specs.Lines.Texts.{release_ok, reply_text};

@@ -4,8 +4,10 @@ use Rattle.std.proofs.lemmas.Option.{same_Some}
 use Rattle.wh_model.specs.Format.Syntax.{FuncType, Body, Module}
 use Rattle.wh_host_model.specs.declared.plain.SwapError.{SwapError}
 use Rattle.wh_host_model.specs.Space.Parts.{Space}
-use Rattle.wh_host_model.specs.Host.Worlds.{Entry, for_device, Tenant, Loaded, World, journal, journal_calls, tenant, with_tenant}
-use Rattle.wh_host_model.specs.Host.Calls.{ExportsOwn, InvokeFault, no_export, arguments, queue_full, instance_dead, journal_full, Meets, IsFirst, TakesCall, open_count, rank, new_entry}
+use Rattle.wh_host_model.specs.Host.Worlds.{for_device, Tenant, Loaded, World, journal, journal_calls, tenant, with_tenant}
+use Rattle.wh_host_model.specs.Owners.{Entry, new_entry}
+use Rattle.wh_host_model.specs.Host.Calls.{Meets, IsFirst, TakesCall, open_count}
+use Rattle.wh_host_model.specs.Owners.{ExportsOwn, InvokeFault, no_export, arguments, queue_full, instance_dead, journal_full, rank}
 use Rattle.wh_host_model.specs.Host.Happens as happen
 use Rattle.wh_host_model.specs.Host.Happens.{IsLive, InvokeAnswer, IsInvoke}
 use Rattle.wh_host_model.specs.Host.Laws.{HasJournal}

@@ -6,7 +6,9 @@ use Rattle.wh_model.specs.Execution.Replay.{cancelled, store_at, Replay}
 use Rattle.wh_host_model.specs.declared.Tax.{Tax}
 use Rattle.wh_host_model.specs.Space.Parts.{Space, minima, spreads}
 use Rattle.wh_host_model.specs.Space.Sound.{IsSound}
-use Rattle.wh_host_model.specs.Host.Worlds.{Params, Entry, Rest, Doing, resting, has_left, computing, Tenant, World, given_of, promised, journal, journal_calls, tenant, with_tenant, standing_with, standing_in}
+use Rattle.wh_host_model.specs.Host.Worlds.{Rest, Doing, resting, has_left, computing, Tenant, World, promised, journal, journal_calls, tenant, with_tenant, standing_with, standing_in}
+use Rattle.wh_host_model.specs.Owners.{Entry}
+use Rattle.wh_host_model.specs.Owners.{Params, given_of}
 use Rattle.wh_host_model.specs.Host.Answers.{ended_by, Closes, faces_next, is_dead}
 use Rattle.wh_host_model.specs.Host.Calls.{Cancels, ends}
 use Rattle.wh_host_model.specs.Host.Admission.{LetsGo}

@@ -8,8 +8,10 @@ use Rattle.wh_model.specs.Execution.Instance.{Piece, IsInitial, memory_min, segm
 use Rattle.wh_model.specs.Execution.Replay.{pending}
 use Rattle.wh_host_model.specs.declared.Tax.{Tax}
 use Rattle.wh_host_model.specs.Space.Sound.{IsSound}
-use Rattle.wh_host_model.specs.Host.Worlds.{Params, Entry, Doing, Tenant, Loaded, World, given_of, promised, journal_calls}
-use Rattle.wh_host_model.specs.Host.Admission.{live_count, AdmitFault, no_module, shares, min_max, frames, swap, instances, memory, segments, MeetsFault, IsFirstMet, start_entry, StartsAs, writes, runs, ends, rest_of, LetsIn}
+use Rattle.wh_host_model.specs.Host.Worlds.{Doing, Tenant, Loaded, World, promised, journal_calls}
+use Rattle.wh_host_model.specs.Owners.{Entry, start_entry}
+use Rattle.wh_host_model.specs.Owners.{Params, given_of, AdmitFault, no_module, shares, min_max, frames, swap, instances, memory, segments}
+use Rattle.wh_host_model.specs.Host.Admission.{live_count, MeetsFault, IsFirstMet, StartsAs, writes, runs, ends, rest_of, LetsIn}
 use Rattle.wh_host_model.specs.Host.Happens as happen
 use Rattle.wh_host_model.specs.Host.Happens.{AdmitAnswer, IsAdmit}
 use Rattle.wh_host_model.specs.Lines.Settings.{Settings}

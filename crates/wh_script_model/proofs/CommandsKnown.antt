@@ -8,7 +8,8 @@ use Rattle.wh_host_model.specs.declared.plain.SwapError.{SwapError}
 use Rattle.wh_host_model.specs.Space.Parts.{Space, minima, spreads}
 use Rattle.wh_host_model.specs.Space.Sound.{IsSound}
 use Rattle.wh_script_model.proofs.SumsChange.{IsQuiet}
-use Rattle.wh_host_model.specs.Host.Worlds.{Params, for_device, Tenant, Loaded, World, journal, journal_calls, with_tenant}
+use Rattle.wh_host_model.specs.Host.Worlds.{for_device, Tenant, Loaded, World, journal, journal_calls, with_tenant}
+use Rattle.wh_host_model.specs.Owners.{Params}
 use Rattle.wh_host_model.specs.Host.Happens.{IsLive}
 use Rattle.wh_host_model.specs.Lines.Settings.{Settings}
 use Rattle.wh_host_model.specs.Lines.Made.{Guest, Made, live_sum, with_guest, is_open}

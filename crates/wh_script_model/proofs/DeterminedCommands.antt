@@ -9,7 +9,7 @@ use Rattle.wh_model.specs.Execution.Store.{Instance}
 use Rattle.wh_model.specs.Laws.ReplayLaws.{Alike}
 use Rattle.wh_model.proofs.Opened.{opened_store}
 use Rattle.wh_model.proofs.Journals.{one_standing}
-use Rattle.wh_host_model.specs.Host.Worlds.{Params, given_of}
+use Rattle.wh_host_model.specs.Owners.{Params, given_of}
 use Rattle.wh_host_model.specs.Lines.Settings.{Settings}
 use Rattle.wh_host_model.specs.Lines.Commands.{Command, keep, load, admit, invoke, drain, refuel, cancel, retry, scan, report, release}
 use Rattle.wh_host_model.specs.Lines.Texts.{Reply, error, refuel_ok, refuel_refused, cancel_ok, cancel_refused, retry_refused, scan_ok, release_ok, release_refused}

@@ -19,9 +19,7 @@ use Rattle.wh_model.specs.Execution.Instance.{Piece, begins}
 use Rattle.wh_model.proofs.Instance.{one_beginning}
 use Rattle.wh_model.proofs.LinkingLemmas.{one_first_fault, links_no_fault}
 use Rattle.wh_decode.proofs.Modules.{one_fault, fault_or_module, one_module}
-use Rattle.wh_host_model.specs.Host.Worlds.{Params, given_of}
-use Rattle.wh_host_model.specs.Host.Calls.{IsArgument, AreArguments, ExportsOwn, rank, new_entry}
-use Rattle.wh_host_model.specs.Host.Admission.{admit_rank, most_modules}
+use Rattle.wh_host_model.specs.Owners.{Params, given_of, admit_rank, most_modules, IsArgument, AreArguments, ExportsOwn, rank, new_entry}
 use Rattle.wh_host_model.specs.Lines.Settings.{Settings}
 use Rattle.wh_host_model.specs.Lines.Texts.{Refusal, broken, unlinked, Reply, module_refused, admit_refused}
 use Rattle.wh_host_model.specs.Lines.Made.{Guest, Made, turned_down, taken_on, with_guest, with_invoked}

@@ -4,7 +4,8 @@ use Rattle.std.specs.List.{AllZip}
 use Rattle.wh_model.specs.Execution.Replay.{Outcome, cancelled, Call}
 use Rattle.wh_host_model.specs.declared.Tax.{Tax}
 use Rattle.wh_host_model.specs.Space.Parts.{Space, minima, spreads}
-use Rattle.wh_host_model.specs.Host.Worlds.{Params, Tenant, World, journal, journal_calls}
+use Rattle.wh_host_model.specs.Host.Worlds.{Tenant, World, journal, journal_calls}
+use Rattle.wh_host_model.specs.Owners.{Params}
 use Rattle.wh_host_model.specs.Lines.Settings.{Settings}
 use Rattle.wh_host_model.specs.Lines.Texts.{CallStatus, Reply}
 use Rattle.wh_host_model.specs.Lines.Made.{Guest, Made, live_sum, is_open}

@@ -5,7 +5,8 @@ use Rattle.wh_model.specs.Format.Syntax.{Module}
 use Rattle.wh_model.specs.Execution.Store.{Instance}
 use Rattle.wh_model.specs.Execution.Replay.{Outcome, returned, stopped, cancelled, dead, pending, Call, fails}
 use Rattle.wh_host_model.specs.Host.Laws.{HasJournal}
-use Rattle.wh_host_model.specs.Host.Worlds.{World, Entry, Tenant, journal, journal_calls}
+use Rattle.wh_host_model.specs.Host.Worlds.{World, Tenant, journal, journal_calls}
+use Rattle.wh_host_model.specs.Owners.{Entry}
 use Rattle.wh_host_model.specs.Host.Answers.{ended_by, dies}
 use Rattle.wh_host_model.specs.Host.Calls.{more_fuel}
 use Rattle.wh_host_model.specs.Host.Journals.{HasEnded, IsEnded, IsOpenCall, IsDeadCall, InOrder, is_starting, has_started, has_died}

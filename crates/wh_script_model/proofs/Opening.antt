@@ -4,10 +4,11 @@ use Rattle.std.specs.List.{AllZip}
 use Rattle.wh_model.specs.Execution.Replay.{Call}
 use Rattle.wh_host_model.specs.Host.Journals.{InOrder}
 use Rattle.wh_host_model.specs.Host.Laws.{HasJournal}
-use Rattle.wh_host_model.specs.Host.Worlds.{Entry, Tenant, World, journal, journal_calls}
-use Rattle.wh_host_model.specs.Lines.Made.{Guest, first_open}
+use Rattle.wh_host_model.specs.Host.Worlds.{Tenant, World, journal, journal_calls}
+use Rattle.wh_host_model.specs.Owners.{Entry}
+use Rattle.wh_host_model.specs.Lines.Made.{Guest, first_open, SomeCallIsOpen}
 use Rattle.wh_host_model.proofs.Host.Holding.{journals_are_in_order}
-use Rattle.wh_script_model.specs.Following.{AreSame, IsFollowed, is_there, SomeCallIsOpen}
+use Rattle.wh_script_model.specs.Following.{AreSame, IsFollowed, is_there}
 use Rattle.wh_script_model.specs.Laws.{OpenIsKnown}
 use Rattle.wh_script_model.proofs.Journals.{first_is, ordered}
 

@@ -3,7 +3,7 @@ use Rattle.std.proofs.Common.{◌≡◌, ℕ, zero, suc, ⊎_elim, Bool, true, f
 use Rattle.std.proofs.lemmas.Option.{none-some, same_Some}
 use Rattle.wh_model.specs.Format.Syntax.{Module}
 use Rattle.wh_model.specs.Execution.Replay.{Call, Standing, Replay}
-use Rattle.wh_host_model.specs.Host.Worlds.{Params, given_of}
+use Rattle.wh_host_model.specs.Owners.{Params, given_of}
 use Rattle.wh_host_model.specs.Lines.Settings.{Settings}
 use Rattle.wh_host_model.specs.Lines.Commands.{Command}
 use Rattle.wh_host_model.specs.Lines.Texts.{CallStatus, Reply}

@@ -1,5 +1,5 @@
 -- Where no ticket is out, what was promised at each place decides how much is promised in all.
-use Rattle.std.proofs.Common.{◌≡◌, ◌≢◌, ℕ, zero, suc, ◌+◌, ◌-◌, ◌≤◌, Bool, true, false, List, [], ◌∷◌, Option, Some, None, get_or, slice_get, refl, sym, ap, ◌∙◌, arith}
+use Rattle.std.proofs.Common.{◌≡◌, ℕ, zero, suc, ◌+◌, ◌-◌, ◌≤◌, Bool, true, false, List, [], ◌∷◌, Option, Some, None, get_or, slice_get, refl, sym, ap, ◌∙◌, arith}
 use Rattle.std.proofs.lemmas.Bool.Decides.{nat_tests}
 use Rattle.wh_host_model.specs.Frames.{tally, one_if}
 use Rattle.wh_host_model.specs.declared.states.Slot.{Slot}
@@ -25,32 +25,6 @@ tally_alike none f (x ∷ xs) [] zero_there same =
 tally_alike none f (x ∷ xs) (y ∷ ys) zero_there same =
     let rest = tally_alike none f xs ys zero_there (λ j. same (suc j)) in
     let first : f x ≡ f y = same 0 in
-    omega (arith, rest, first)
-
-pub tally_but : {A : Type 0} (none : A) (f : A → ℕ) (xs ys : List A) (i : ℕ) → f none ≡ 0
-    → ((j : ℕ) → j ≢ i → f (get_or xs j none) ≡ f (get_or ys j none))
-    → tally f xs + f (get_or ys i none) ≡ tally f ys + f (get_or xs i none)
-tally_but none f [] [] i zero_there same = refl
-tally_but none f [] (y ∷ ys) zero zero_there same =
-    let rest = tally_alike none f [] ys zero_there (λ j. same (suc j) (λ e. omega arith)) in
-    omega (arith, rest, zero_there)
-tally_but none f [] (y ∷ ys) (suc i) zero_there same =
-    let rest = tally_but none f [] ys i zero_there (λ j other. same (suc j) (λ e. other (omega arith))) in
-    let first : f none ≡ f y = same 0 (λ e. omega arith) in
-    omega (arith, rest, first, zero_there)
-tally_but none f (x ∷ xs) [] zero zero_there same =
-    let rest = tally_alike none f xs [] zero_there (λ j. same (suc j) (λ e. omega arith)) in
-    omega (arith, rest, zero_there)
-tally_but none f (x ∷ xs) [] (suc i) zero_there same =
-    let rest = tally_but none f xs [] i zero_there (λ j other. same (suc j) (λ e. other (omega arith))) in
-    let first : f x ≡ f none = same 0 (λ e. omega arith) in
-    omega (arith, rest, first, zero_there)
-tally_but none f (x ∷ xs) (y ∷ ys) zero zero_there same =
-    let rest = tally_alike none f xs ys zero_there (λ j. same (suc j) (λ e. omega arith)) in
-    omega (arith, rest)
-tally_but none f (x ∷ xs) (y ∷ ys) (suc i) zero_there same =
-    let rest = tally_but none f xs ys i zero_there (λ j other. same (suc j) (λ e. other (omega arith))) in
-    let first : f x ≡ f y = same 0 (λ e. omega arith) in
     omega (arith, rest, first)
 
 -- ---- where no ticket is out, all are live
@@ -106,16 +80,6 @@ same_sums v s s2 sound sound2 none none2 same =
     tally_alike None (of_occupant (amount v)) s2.occupants s.occupants refl
     (λ j. at_place v s2 sound2 none2 j ∙ ap (of_claim v) (same j) ∙ sym (at_place v s sound none j))
 
-more_sums : (v : Claimed → ℕ) (s s2 : Space) → IsSound s → IsSound s2 → tickets s ≡ 0 → tickets s2 ≡ 0 → (i : ℕ) (c : Claimed)
-    → ((j : ℕ) → j ≢ i → claim s2 j ≡ claim s j) → claim s i ≡ None → claim s2 i ≡ Some c
-    → tally (of_occupant (amount v)) s2.occupants ≡ tally (of_occupant (amount v)) s.occupants + v c
-more_sums v s s2 sound sound2 none none2 i c same free taken =
-    let sums = tally_but None (of_occupant (amount v)) s2.occupants s.occupants i refl
-    (λ j other. at_place v s2 sound2 none2 j ∙ ap (of_claim v) (same j other) ∙ sym (at_place v s sound none j)) in
-    let before : of_occupant (amount v) (get_or s.occupants i None) ≡ 0 = at_place v s sound none i ∙ ap (of_claim v) free in
-    let after : of_occupant (amount v) (get_or s2.occupants i None) ≡ v c = at_place v s2 sound2 none2 i ∙ ap (of_claim v) taken in
-    omega (arith, sums, before, after)
-
 -- ---- minima and what may go beyond
 
 -- how much is promised in all
@@ -128,12 +92,3 @@ pub claims_decide : (s s2 : Space) → IsSound s → IsSound s2 → tickets s �
     → ((j : ℕ) → claim s2 j ≡ claim s j) → (minima s2 ≡ minima s) × (spreads s2 ≡ spreads s)
 claims_decide s s2 sound sound2 none none2 same =
     (same_sums (λ c. c.min) s s2 sound sound2 none none2 same, same_sums (λ c. (c.max - c.min) + 1) s s2 sound sound2 none none2 same)
-
--- a place is taken; read the other way round, it is left
-pub claim_comes : (s s2 : Space) → IsSound s → IsSound s2 → tickets s ≡ 0 → tickets s2 ≡ 0 → (i : ℕ) (c : Claimed)
-    → ((j : ℕ) → j ≢ i → claim s2 j ≡ claim s j) → claim s i ≡ None → claim s2 i ≡ Some c
-    → Promises s s2 c.min ((c.max - c.min) + 1)
-claim_comes s s2 sound sound2 none none2 i c same free taken = record {
-  minima = more_sums (λ c. c.min) s s2 sound sound2 none none2 i c same free taken;
-  spreads = more_sums (λ c. (c.max - c.min) + 1) s s2 sound sound2 none none2 i c same free taken;
-}

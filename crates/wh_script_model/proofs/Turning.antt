@@ -11,7 +11,8 @@ use Rattle.wh_host_model.specs.declared.plain.SwapError.{SwapError}
 use Rattle.wh_host_model.specs.declared.plain.TurnEnd.{TurnEnd}
 use Rattle.wh_host_model.specs.Space.Parts.{Space, claim}
 use Rattle.wh_host_model.specs.Space.Sound.{IsSound}
-use Rattle.wh_host_model.specs.Host.Worlds.{Entry, Rest, Doing, Suspension, for_fuel, for_frame, for_device, Tenant, Loaded, World, journal, journal_calls, with_tenant}
+use Rattle.wh_host_model.specs.Host.Worlds.{Rest, Doing, Suspension, for_fuel, for_frame, for_device, Tenant, Loaded, World, journal, journal_calls, with_tenant}
+use Rattle.wh_host_model.specs.Owners.{Entry}
 use Rattle.wh_host_model.specs.Host.Turns.{to_end, Proceeds, returns, traps, writes_all}
 use Rattle.wh_host_model.specs.Host.Answers.{ended_by, gone_further, Closes, faces_next, is_dead, at_frame, Turn, is_idle, has_ended, has_no_fuel, has_no_frame, can_go_on, keeps_its_fault}
 use Rattle.wh_host_model.specs.Host.Journals.{IsOpenCall, InOrder, is_starting, has_started, has_died}

@@ -4,7 +4,7 @@ use Rattle.std.specs.List.{AllZip, AllByRecursion}
 use Rattle.wh_model.specs.declared.faults.ValidKind.{ValidKind}
 use Rattle.wh_model.specs.Format.Numbering.{valid_number}
 use Rattle.wh_host_model.specs.Script.{Place}
-use Rattle.wh_host_model.specs.Replies.{IsValidFault}
+use Rattle.wh_host_model.specs.Owners.{IsValidFault}
 use Rattle.wh_host_model.specs.Lines.Settings.{Settings}
 use Rattle.wh_host_model.specs.Lines.Commands.{load, AsksCommand}
 use Rattle.wh_host_model.specs.Lines.Texts.{invalid, Reply, module_refused}

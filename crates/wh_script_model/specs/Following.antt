@@ -1,5 +1,5 @@
 -- What a script knows of the host that runs its calls.
-use Rattle.std.specs.Prelude.{◌≡◌, ◌≢◌, ℕ, ◌+◌, ◌-◌, true, false, List, length, slice_get, Option, Some, None}
+use Rattle.std.specs.Prelude.{◌≡◌, ◌≢◌, ℕ, ◌+◌, ◌-◌, true, List, length, Option, Some, None}
 use Rattle.std.specs.List.{AllZip}
 use Rattle.wh_model.specs.Execution.Replay.{Call}
 use Rattle.wh_host_model.specs.declared.plain.SwapError.{SwapError}
@@ -7,7 +7,7 @@ use Rattle.wh_host_model.specs.Space.Errands.{tickets}
 use Rattle.wh_host_model.specs.Space.Parts.{Space, minima, spreads}
 use Rattle.wh_host_model.specs.Host.Worlds.{for_device, Tenant, Loaded, World, journal, journal_calls}
 use Rattle.wh_host_model.specs.Lines.Settings.{Settings}
-use Rattle.wh_host_model.specs.Lines.Made.{NamedModule, Guest, Made, live_sum, first_open}
+use Rattle.wh_host_model.specs.Lines.Made.{NamedModule, Guest, Made, live_sum}
 use Rattle.wh_host_model.specs.Lines.Drains.{ComesTo}
 use Rattle.wh_host_model.specs.Lines.Served.{IsTenantOf}
 
@@ -60,9 +60,3 @@ pub record StaysWhole (s s2 : Space) : Type 0 where
   pub slots : length s2.slots.uses ≡ length s.slots.uses
   pub tax : s2.tax ≡ s.tax
   pub none_out : tickets s2 ≡ tickets s
-
--- an instance that isn't released has an open call
-abbrev pub SomeCallIsOpen : Made → Type 0
-SomeCallIsOpen m =
-    (i : ℕ) × (g : Guest) × (c : Call) × (slice_get m.guests i ≡ Some g) × (g.is_released ≡ false)
-    × (first_open g.calls ≡ Some c)

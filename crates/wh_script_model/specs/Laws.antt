@@ -3,18 +3,19 @@ use Rattle.std.specs.Prelude.{◌≡◌, ◌≢◌, ℕ, Bool, true, false, List
 use Rattle.std.specs.List.{AllZip}
 use Rattle.wh_host_model.specs.declared.plain.InstId.{InstId}
 use Rattle.wh_host_model.specs.declared.plain.TurnEnd.{TurnEnd}
-use Rattle.wh_host_model.specs.Host.Worlds.{Params, Tenant, World, tenant}
+use Rattle.wh_host_model.specs.Host.Worlds.{Tenant, World, tenant}
+use Rattle.wh_host_model.specs.Owners.{Params}
 use Rattle.wh_host_model.specs.Host.Laws.{AfterEvents}
 use Rattle.wh_host_model.specs.Host.Happens.{IsTurn, LoadAnswer, IsLoad, AdmitAnswer, admit_ok, admit_refused, admit_wants_memory, IsAdmit, InvokeAnswer, IsInvoke, CallAnswer, IsRefuel, IsCancel, IsRetry, IsRelease, OnlyMoves}
 use Rattle.wh_host_model.specs.Lines.Settings.{Settings}
 use Rattle.wh_host_model.specs.Lines.Commands.{Command, refuel, cancel, retry, release}
 use Rattle.wh_host_model.specs.Lines.Texts.{CallStatus, Reply}
-use Rattle.wh_host_model.specs.Lines.Made.{NamedModule, Guest, Invoked, Made, nothing_made, HasGuest}
+use Rattle.wh_host_model.specs.Lines.Made.{NamedModule, Guest, Invoked, Made, nothing_made, HasGuest, SomeCallIsOpen}
 use Rattle.wh_host_model.specs.Lines.Drains.{RunsAlone, SaysStart, SayStarts, SaysCall, SayCalls}
 use Rattle.wh_host_model.specs.Lines.Served.{IsServed}
 use Rattle.wh_host_model.specs.Lines.Receiving.{ReceivesModule, ReceivesGuest, ReceivesCall}
 use Rattle.wh_host_model.specs.Lines.Answers.{Files, IsObeyed, AnswersScript}
-use Rattle.wh_script_model.specs.Following.{SomeCallIsOpen, Knows, RunsKnown, StaysWhole}
+use Rattle.wh_script_model.specs.Following.{Knows, RunsKnown, StaysWhole}
 use Rattle.wh_script_model.specs.Said.{AllAreSaid, IsWellMade, is_final}
 use Rattle.wh_script_model.specs.Scarce.{NameNoWant}
 use Rattle.wh_script_model.specs.Replies.{SaysModule, admit_reply, reception, refuel_reply, cancel_reply, retry_reply, release_reply}

@@ -3,9 +3,9 @@ use Rattle.std.specs.Prelude.{◌≡◌, ℕ, List, Option, Some, None}
 use Rattle.wh_model.specs.declared.ValidKind.{ValidKind}
 use Rattle.wh_model.specs.Format.Numbering.{fault_number, valid_number, import_number}
 use Rattle.wh_host_model.specs.Script.{Place}
-use Rattle.wh_host_model.specs.Replies.{IsValidFault}
-use Rattle.wh_host_model.specs.Host.Admission.{LoadFault, broken, invalid, unlinked, modules_full, LoadWant, decoder_wants, validator_wants, linker_wants, host_wants, admit_rank}
-use Rattle.wh_host_model.specs.Host.Calls.{rank}
+use Rattle.wh_host_model.specs.Owners.{IsValidFault, rank}
+use Rattle.wh_host_model.specs.Host.Admission.{LoadFault, broken, invalid, unlinked, modules_full, LoadWant, decoder_wants, validator_wants, linker_wants, host_wants}
+use Rattle.wh_host_model.specs.Owners.{admit_rank}
 use Rattle.wh_host_model.specs.Host.Happens.{LoadAnswer, load_ok, load_refused, load_wants_memory, AdmitAnswer, admit_ok, admit_refused, admit_wants_memory, InvokeAnswer, invoke_ok, invoke_no_instance, invoke_refused, invoke_wants_memory, CallAnswer, call_ok, call_no_instance, call_no_call}
 use Rattle.wh_host_model.specs.Lines.Texts as texts
 use Rattle.wh_host_model.specs.Lines.Texts.{Refusal, no_link_memory, no_room, Reply, module_ok, module_refused, refuel_ok, refuel_refused, cancel_ok, cancel_refused, retry_ok, retry_refused, release_ok, release_refused}

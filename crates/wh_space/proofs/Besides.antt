@@ -1,5 +1,5 @@
 -- The greatest sharer of a frame that can leave for a step, looked for from the last page there on.
-use Rattle.std.proofs.Common.{◌≡◌, ◌≢◌, ◌/◌, ◌%◌, ◌∷◌, zero, suc, cond, nat_lt, Bool, true, false, ℕ, ◌+◌, ◌<◌, ◌≤◌, ◌⊎◌, inl, inr, List, [], Option, Some, None, IfSome, IfNone, length, get_or, refl, sym, ap, ◌∙◌, subst, arith}
+use Rattle.std.proofs.Common.{◌≡◌, ◌≢◌, ◌/◌, ◌%◌, ◌∷◌, zero, suc, cond, nat_lt, Bool, true, false, ℕ, ◌+◌, ◌<◌, ◌≤◌, ◌⊎◌, inl, inr, List, [], Option, Some, None, length, get_or, refl, sym, ap, ◌∙◌, subst, arith}
 use Rattle.wh_model.specs.declared.memory.Need.{Need}
 use Rattle.wh_host_model.specs.declared.states.Page.{Page}
 use Rattle.wh_host_model.specs.Frames.{one_if, tally}
@@ -13,10 +13,9 @@ use Rattle.wh_host_model.specs.Space.States.{at, page_at, shares}
 use Rattle.wh_host_model.proofs.Space.Charging.{in_row, number_is, occupied, on_once}
 use Rattle.wh_tables.specs.declared.page_id.PageId.{PageId}
 use Rattle.wh_tables.specs.Linking.{IsEarlierStop, IsStop}
-use Rattle.wh_tables.specs.Order.{ComesBefore, IsLower, StandsOn}
+use Rattle.wh_tables.specs.Order.{ComesBefore, StandsOn}
 use Rattle.wh_tables.specs.Index.{number_in}
 use Rattle.wh_tables.proofs.InOrder.{order_of_pages}
-use Rattle.wh_tables.proofs.Keys.{key_falls, key_of}
 use Rattle.wh_space.specs.declared.memory.Memory.TheInside.{Inside}
 use Rattle.wh_space.specs.Parts.{IsWell, space_of}
 use Rattle.std.specs.Prelude.{MatchOption}
@@ -40,37 +39,6 @@ beside_stands s i need f z beside = sharer_stands f (page_at s.tables z.place z.
 pub record IsPast (s : Space) (numbers : List ℕ) (i : ℕ) (need : Need) (f : ℕ) (at : Option PageId) : Type 0 where
   pub on : IsStop (StandsOn s.tables f) at
   pub none : (z : PageId) → StandsOn s.tables f z → IsEarlierStop (ComesBefore numbers) at (Some z) → ¬ IsBeside s i need f z.place z.page
-
-pub past_last : (s : Space) (numbers : List ℕ) (i : ℕ) (need : Need) (f : ℕ) (last : Option PageId)
-    → IfSome last (λ id. StandsOn s.tables f id × ((z : PageId) → StandsOn s.tables f z → ¬ ComesBefore numbers id z)) → IfNone last ((z : PageId) → ¬ StandsOn s.tables f z) → IsPast s numbers i need f last
-past_last s numbers i need f None some none = record { on = tt; none = λ z on less bad. none z on }
-past_last s numbers i need f (Some id) some none = record { on = some.0; none = λ z on less bad. some.1 z on less }
-
-pub past_prior : (s : Space) (numbers : List ℕ) (i : ℕ) (need : Need) (f : ℕ) (id : PageId) (prior : Option PageId) → IsPast s numbers i need f (Some id) → ¬ IsBeside s i need f id.place id.page
-    → IfSome prior (λ p. StandsOn s.tables f p × ComesBefore numbers p id × ((z : PageId) → StandsOn s.tables f z → ComesBefore numbers z id → ¬ ComesBefore numbers p z))
-    → IfNone prior ((z : PageId) → StandsOn s.tables f z → ¬ ComesBefore numbers z id) → IsPast s numbers i need f prior
-past_prior s numbers i need f id None past not_it some none = record {
-  on = tt;
-  none = λ z on less beside. elim ((order_of_pages numbers).order z id) [
-    | inl same ↦ not_it (subst (λ w. IsBeside s i need f w.place w.page) same beside)
-    | inr (inl before) ↦ none z on before
-    | inr (inr after) ↦ past.none z on after beside
-  ];
-}
-past_prior s numbers i need f id (Some p) past not_it some none = record {
-  on = some.0;
-  none = λ z on less beside. elim ((order_of_pages numbers).order z id) [
-    | inl same ↦ not_it (subst (λ w. IsBeside s i need f w.place w.page) same beside)
-    | inr (inl before) ↦ some.2 z on before less
-    | inr (inr after) ↦ past.none z on after beside
-  ];
-}
-
-pub prior_falls : (numbers : List ℕ) (pages : List (List Page)) (f : ℕ) (id : PageId) (prior : Option PageId)
-    → IfSome prior (λ p. StandsOn pages f p × ComesBefore numbers p id × ((z : PageId) → StandsOn pages f z → ComesBefore numbers z id → ¬ ComesBefore numbers p z))
-    → IfSome prior (λ p. (p.place < 4294967296) × (p.page < 4294967296)) → key_of numbers prior < key_of numbers (Some id)
-prior_falls numbers pages f id None some small = omega arith
-prior_falls numbers pages f id (Some p) some small = key_falls numbers p id small.0 small.1 some.1
 
 pub none_beside : (s : Space) (numbers : List ℕ) (i : ℕ) (need : Need) (f : ℕ) → IsPast s numbers i need f None → IsNoneBeside s i need f
 none_beside s numbers i need f past = λ j p beside. past.none (record { place = j; page = p }) (beside_stands s i need f (record { place = j; page = p }) beside) tt beside

@@ -1,25 +1,22 @@
 -- What each instance brings to the choice of the page that leaves.
-use Rattle.std.proofs.Common.{◌≡◌, ◌∙◌, inl, inr, ℕ, ◌+◌, ◌<◌, ◌≤◌, ◌⊎◌, cond, is_some, not, Bool, true, false, List, [], ◌∷◌, Option, Some, None, length, get_or, map, slice_get, take, zero, suc, refl, sym, ap, subst, arith}
+use Rattle.std.proofs.Common.{◌≡◌, ◌∙◌, inl, inr, ℕ, ◌+◌, ◌<◌, ◌≤◌, ◌⊎◌, is_some, not, Bool, true, false, List, [], ◌∷◌, Option, Some, None, length, get_or, map, slice_get, zero, suc, refl, sym, ap, subst, arith}
 use Rattle.std.specs.Prelude.{MatchBool, MatchOption}
-use Rattle.std.proofs.lemmas.List.{length-map}
 use Rattle.wh_host_model.specs.declared.states.Page.{Page}
 use Rattle.wh_host_model.specs.declared.states.Page.TheVariants.{Untouched, Private, Shared, Leaving, LeavingShared, Coming, Swapped}
 use Rattle.wh_host_model.specs.Space.Charges.{IsOnTouched, IsTouched, touchers_in}
-use Rattle.wh_host_model.specs.Space.Claims.{CanBeTaken, CanLeave, IsGiven, IsTakenFrom, stays}
+use Rattle.wh_host_model.specs.Space.Claims.{CanBeTaken, CanLeave, IsTakenFrom, stays}
 use Rattle.wh_host_model.specs.Space.Parts.{Occupant, Space, occupant_at}
 use Rattle.wh_host_model.specs.Space.States.{at, page_at, resident}
 use Rattle.wh_host_model.proofs.Space.Putting.{there_of}
-use Rattle.wh_host_model.specs.Space.Sound.{IsSound}
 use Rattle.wh_space.specs.declared.guest.Guest.{Guest}
-use Rattle.wh_space.specs.declared.memory.Memory.TheInside.{Inside}
 use Rattle.wh_pages.specs.Seeking.{IsFirstFrom}
 use Rattle.wh_tables.specs.Tables.{IsSoughtAt}
 use Rattle.wh_host_model.specs.Space.Moves.{frame_of}
 use Rattle.wh_tables.proofs.Keeping.{frame_stands}
 use Rattle.wh_tables.proofs.Touching.{touchers_with_page}
 use Rattle.wh_space.proofs.Charged.{not_on_touched, on_touched}
-use Rattle.wh_space.specs.Claiming.{GivesNone, MightBeTaken, MightLeave, TakesNoPage}
-use Rattle.wh_space.specs.Parts.{occupant_of, space_of}
+use Rattle.wh_space.specs.Claiming.{MightBeTaken, MightLeave, TakesNoPage}
+use Rattle.wh_space.specs.Parts.{occupant_of}
 
 -- ---- pages that are counted
 
@@ -68,22 +65,6 @@ touched_or s i q = go (page_at s.touched i q) where
 
 all_touched : (s : Space) (i q : ℕ) → ¬ MightLeave s i true q → CanLeave s i q → IsTouched s i q
 all_touched s i q none can = elim (touched_or s i q) [ inl touched ↦ touched | inr idle ↦ absurd (none (can, λ so. idle)) ]
-
--- the first page that can leave and wasn't touched
-pub gives_idle : (s : Space) (i p : ℕ) → IsFirstFrom (MightLeave s i true) 0 (Some p) → IsGiven s i p
-gives_idle s i p next = (next.0.0.0, inl (next.0.0.1 refl, λ q below can. all_touched s i q (next.1 q (omega arith) below) can))
-
--- where all are touched, the first one, or none
-pub gives_first : (s : Space) (i : ℕ) (first : Option ℕ) → IsFirstFrom (MightLeave s i true) 0 None → IsFirstFrom (MightLeave s i false) 0 first → MatchOption first (GivesNone s i) (λ p. IsGiven s i p)
-gives_first s i None idle none = λ q can. none q (omega arith) (can, λ so. (let bad : false ≡ true = so in absurd (cc bad)))
-gives_first s i (Some p) idle next =
-    (next.0.0.0, inr (λ q can. (all_touched s i q (idle q (omega arith)) can, least q can))) where
-      least : (q : ℕ) → CanLeave s i q → p ≤ q
-      least q can = elim (either q p) [ inl below ↦ absurd (next.1 q (omega arith) below (can, λ so. (let bad : false ≡ true = so in absurd (cc bad)))) | inr most ↦ most ]
-
-pub tells_giving : (s : Space) (i : ℕ) (first : Option ℕ) → IsFirstFrom (MightLeave s i false) 0 first → MatchBool (is_some first) ((p : ℕ) × CanLeave s i p) (GivesNone s i)
-tells_giving s i None none = λ q can. none q (omega arith) (can, λ so. (let bad : false ≡ true = so in absurd (cc bad)))
-tells_giving s i (Some p) next = (p, next.0.0.0)
 
 -- what can leave stands on a frame
 stays_resident : (x : Page) → stays x ≡ 1 → resident x ≡ 1
@@ -197,16 +178,9 @@ on_touched_or s i q can = go (page_at s.tables i q) refl can.0.0 where
 all_busy : (s : Space) (i q : ℕ) → ¬ MightBeTaken s i true q → CanBeTaken s i q → IsOnTouched s i q
 all_busy s i q none can = elim (on_touched_or s i q can) [ inl touched ↦ touched | inr idle ↦ absurd (none (can, λ so. idle)) ]
 
-pub takes_idle : (s : Space) (i p : ℕ) → IsFirstFrom (MightBeTaken s i true) 0 (Some p) → IsTakenFrom s i p
-takes_idle s i p next = (next.0.0.0, inl (next.0.0.1 refl, λ q below can. all_busy s i q (next.1 q (omega arith) below) can))
-
 pub takes_first : (s : Space) (i : ℕ) (first : Option ℕ) → IsFirstFrom (MightBeTaken s i true) 0 None → IsFirstFrom (MightBeTaken s i false) 0 first → MatchOption first (TakesNoPage s i) (λ p. IsTakenFrom s i p)
 takes_first s i None idle none = λ q can. none q (omega arith) (can, λ so. (let bad : false ≡ true = so in absurd (cc bad)))
 takes_first s i (Some p) idle next =
     (next.0.0.0, inr (λ q can. (all_busy s i q (idle q (omega arith)) can, least q can))) where
       least : (q : ℕ) → CanBeTaken s i q → p ≤ q
       least q can = elim (either q p) [ inl below ↦ absurd (next.1 q (omega arith) below (can, λ so. (let bad : false ≡ true = so in absurd (cc bad)))) | inr most ↦ most ]
-
-pub tells_taking : (s : Space) (i : ℕ) (first : Option ℕ) → IsFirstFrom (MightBeTaken s i false) 0 first → MatchBool (is_some first) ((p : ℕ) × CanBeTaken s i p) (TakesNoPage s i)
-tells_taking s i None none = λ q can. none q (omega arith) (can, λ so. (let bad : false ≡ true = so in absurd (cc bad)))
-tells_taking s i (Some p) next = (p, next.0.0.0)

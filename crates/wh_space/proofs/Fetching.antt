@@ -6,7 +6,7 @@ use Rattle.wh_host_model.specs.declared.states.Page.{Page}
 use Rattle.wh_host_model.specs.declared.states.Page.TheVariants.{Untouched, Private, Shared, Leaving, LeavingShared, Coming, Swapped}
 use Rattle.wh_host_model.specs.declared.states.Slot.TheVariants.{Taken, Vacant}
 use Rattle.wh_host_model.specs.Space.Moves.{Fetches, fetched}
-use Rattle.wh_host_model.specs.Space.Parts.{Occupant, pages_of, Space, kept, pinned_by}
+use Rattle.wh_host_model.specs.Space.Parts.{Occupant, Space, kept, pinned_by}
 use Rattle.wh_host_model.specs.Space.Sound.{HasTable, IsSound, IsUsed}
 use Rattle.wh_host_model.specs.Space.States.{count, page_at, put, resident}
 use Rattle.wh_host_model.proofs.Space.Fetched.{is_sound_fetched}
@@ -57,10 +57,6 @@ each_few s sound i =
           let there = get_there s.occupants i (omega arith) in
           table_few there.0 (get_or s.tables i []) (sound.occupants.have i there.0 there.1))
     ]
-
--- of one instance at most as many are resident
-pub pages_few : (s : Space) → IsSound s → (i : ℕ) → pages_of s i ≤ 65536
-pages_few s sound i = let a = row_few (get_or s.tables i []) in let b = each_few s sound i in omega arith
 
 pub few_resident : (s : Space) → IsSound s → length s.occupants ≤ 2 ^ 32 → count resident s.tables < 2 ^ 63
 few_resident s sound places =

@@ -1,13 +1,12 @@
 -- Frames of which the page tables know.
-use Rattle.std.proofs.Common.{◌≡◌, ◌≢◌, ℕ, ◌+◌, ◌<◌, ◌≤◌, ◌⊎◌, inl, inr, List, Option, Some, None, IfSome, length, slice_get, refl, sym, ap, ◌∙◌, subst, arith}
-use Rattle.wh_host_model.specs.Frames.{IsTaken, one_if}
+use Rattle.std.proofs.Common.{◌≡◌, ℕ, ◌<◌, inl, inr, Option, Some, None, IfSome, length, refl, sym, ap, arith}
+use Rattle.wh_host_model.specs.Frames.{one_if}
 use Rattle.wh_host_model.proofs.Tally.{one_other}
-use Rattle.wh_host_model.specs.declared.states.Mark.{Mark}
 use Rattle.wh_host_model.specs.declared.states.Page.{Page}
 use Rattle.wh_host_model.specs.declared.states.Page.TheVariants.{Untouched, Private, Shared, Leaving, LeavingShared, Coming, Swapped}
 use Rattle.wh_host_model.specs.Space.Moves.{frame_of}
 use Rattle.wh_host_model.specs.Space.States.{owns, page_at}
-use Rattle.wh_host_model.proofs.Space.Putting.{here_or, there_of}
+use Rattle.wh_host_model.proofs.Space.Putting.{here_or}
 use Rattle.wh_host_model.proofs.Space.Reading.{taken_under}
 use Rattle.wh_space.specs.declared.memory.Memory.TheInside.{Inside}
 use Rattle.wh_space.specs.Parts.{IsWell, space_of}
@@ -39,12 +38,6 @@ owner_frame f (Leaving g) own = ap Some (sym (one_is f g own))
 owner_frame f (LeavingShared g) own = absurd (omega arith)
 owner_frame f (Coming k) own = absurd (omega arith)
 owner_frame f (Swapped k) own = absurd (omega arith)
-
-pub known_mark : (a : Inside) (f : ℕ) (mark : Mark) → IsWell a → slice_get a.content f ≡ Some mark → f < a.tables.frames
-known_mark a f mark was there =
-    let within = there_of a.content f mark there in
-    let long = was.sound.frames.marks in
-    known a f was (omega arith)
 
 pub back_frame : (page : Page) → frame_of (back_again page) ≡ frame_of page
 back_frame Untouched = refl

@@ -47,11 +47,6 @@ keeps_load s i at n Value s2 is = record {
 keeps_load s i at n Trap s2 is = keeps_nothing i s s2 is
 keeps_load s i at n (NotReady need) s2 is = keeps_nothing i s s2 is
 
-pub load_seen : (s : Space) (i at n : ℕ) (got : Got) (s2 : Space) → LeavesLoad s i at n got s2 → view s2 i ≡ view s i
-load_seen s i at n Value s2 is = touches_seen s i at n s2 is i
-load_seen s i at n Trap s2 is = ap (λ (a : Space). view a i) is
-load_seen s i at n (NotReady need) s2 is = ap (λ (a : Space). view a i) is
-
 pub load_waits : (s : Space) (i at n : ℕ) (got : Got) (s2 : Space) → LeavesLoad s i at n got s2 → IsWaiting got → s2 ≡ s
 load_waits s i at n Value s2 is waits = absurd waits
 load_waits s i at n Trap s2 is waits = is

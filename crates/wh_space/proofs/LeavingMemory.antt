@@ -2,7 +2,6 @@
 use Rattle.std.proofs.Common.{◌≡◌, ◌≢◌, ◌==◌, ◌&&◌, inl, inr, ℕ, ◌+◌, ◌<◌, ◌≤◌, cond, nat_lt, Bool, List, [], ◌∷◌, Option, Some, None, true, false, length, length-set, get_or, map, slice_get, slice_set, zero, suc, refl, sym, ◌∙◌, ap, subst, arith}
 use Rattle.std.proofs.lemmas.Bool.Decides.{nat_tests}
 use Rattle.std.proofs.lemmas.List.{get_or-set_other, length-map, map-set}
-use Rattle.wh_pages.specs.Table.{PageTableState}
 use Rattle.wh_host_model.specs.Frames.{Pool, one_if, tally}
 use Rattle.wh_host_model.specs.declared.states.Mark.{Mark}
 use Rattle.wh_host_model.specs.declared.states.Mark.TheVariants.{Plain, Hint, Sharers}
@@ -229,12 +228,6 @@ is_gone a b i pool was here guests pages marks limits ended frames slots tax =
     }
 
 -- ---- where somebody of this number is there is somebody, who lives
-
-pub somebody_at : (xs : List (Option Occupant)) (i n : ℕ) → has_number (get_or xs i None) n ≡ true → (t : Occupant) × (slice_get xs i ≡ Some (Some t))
-somebody_at [] i n has = absurd (cc has)
-somebody_at (None ∷ xs) zero n has = absurd (cc has)
-somebody_at (Some t ∷ xs) zero n has = (t, refl)
-somebody_at (x ∷ xs) (suc i) n has = somebody_at xs i n has
 
 pub lives_at : (xs : List (Option Occupant)) (i n : ℕ) → has_number (get_or xs i None) n ≡ true → (t : Occupant) × (slice_get xs i ≡ Some (Some t)) × (t.live ≡ true)
 lives_at [] i n has = absurd (cc has)

@@ -91,9 +91,6 @@ untouched_wants s = refl
 pub can_take : (s : Space) (i p : ℕ) → IsSound s → page_at s.tables i p ≡ Some Untouched → 1 ≤ may_take s i → CanBreak s i p
 can_take s i p sound there some = let z = untouched_wants s in can s i p Untouched sound there refl (omega arith)
 
-pub cannot_take : (s : Space) (i p : ℕ) → IsSound s → page_at s.tables i p ≡ Some Untouched → may_take s i ≡ 0 → ¬ CanBreak s i p
-cannot_take s i p sound there none can = let k = can.1 in let wants = frames_one_page s i p Untouched sound.frames there in omega arith
-
 pub can_keep_last : (s : Space) (i p f : ℕ) (x : Page) → IsSound s → page_at s.tables i p ≡ Some x → shares f x ≡ 1 → sharers s f ≡ 1 → CanBreak s i p
 can_keep_last s i p f x sound there one last = let has = shared x f one in let t = has.touched in let h = has.hand in let z = single_last s x f has last in can s i p x sound there (omega arith) (omega arith)
 

@@ -87,9 +87,6 @@ two_sharers s i p f x y there also shared too =
     let b : at (shares f) (page_at s.tables i (p + 1)) ≡ 1 = rw also ((shares_frame y f too).0) in
     omega arith
 
-two_of_two : copies 2 2 + 1 ≡ copies 1 2 + copies 1 2
-two_of_two = refl
-
 two_of_more : (n : ℕ) → 2 < n → copies 2 n ≡ copies 1 n + copies 1 n
 two_of_more n more = grind (arith, nat_tests)
 

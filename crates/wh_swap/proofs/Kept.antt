@@ -5,11 +5,6 @@ use Rattle.std.proofs.lemmas.List.{get_or-set_same, get_or-set_other, get_or-map
 use Rattle.wh_swap.specs.declared.written.Written.{Written}
 use Rattle.wh_swap.specs.Written.{written_bytes, all_written, AreKept}
 
--- a read keeps them
-pub kept_read : (page page2 : ℕ → List ℕ) (held : List (List ℕ)) → AreKept page held → ((k : ℕ) → page2 k ≡ page k)
-    → AreKept page2 held
-kept_read page page2 held kept same k some = same k ∙ kept k some
-
 -- a write to one of them keeps the others, and that one if it is there
 pub kept_write : (page page2 : ℕ → List ℕ) (held : List (List ℕ)) (s : ℕ) (bytes : List ℕ) → s < length held
     → AreKept page held → ((k : ℕ) → k ≢ s → page2 k ≡ page k) → (bytes ≢ [] → page2 s ≡ bytes)

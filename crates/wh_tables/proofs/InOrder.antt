@@ -1,11 +1,9 @@
 -- Any two pages are in order.
-use Rattle.std.proofs.Common.{◌≡◌, ◌≢◌, ℕ, ◌<◌, ◌⊎◌, inl, inr, List, [], Option, get_or, sym, ap, ◌∙◌, subst, arith}
+use Rattle.std.proofs.Common.{◌≡◌, ◌≢◌, ℕ, ◌<◌, ◌⊎◌, inl, inr, List, [], get_or, sym, ap, ◌∙◌, subst, arith}
 use Rattle.std.proofs.lemmas.Bool.{cases_lt}
 use Rattle.wh_tables.specs.declared.page_id.PageId.{PageId}
-use Rattle.wh_tables.specs.Linking.{IsEarlierStop}
 use Rattle.wh_tables.specs.Order.{ComesBefore, IsLower}
 use Rattle.wh_tables.proofs.Linking.{IsOrder}
-use Rattle.wh_tables.proofs.Stops.{order_of_stops}
 
 lower_apart : {T : Type 0} (m : ℕ) → ¬ T → ¬ IsLower m m T
 lower_apart m never (inl less) = absurd (omega arith)
@@ -67,9 +65,6 @@ same_or Before order x y =
       | inr (inl less) ↦ inr (λ e. order.apart y (subst (λ w. Before w y) e less))
       | inr (inr more) ↦ inr (λ e. order.apart y (subst (λ w. Before y w) e more))
     ]
-
-pub stop_or : (x y : Option PageId) → (x ≡ y) ⊎ (x ≢ y)
-stop_or x y = same_or (IsEarlierStop (ComesBefore [])) (order_of_stops (ComesBefore []) (order_of_pages [])) x y
 
 pub same_id : (x y : PageId) → (x ≡ y) ⊎ (x ≢ y)
 same_id x y = same_or (ComesBefore []) (order_of_pages []) x y

@@ -9,7 +9,7 @@ use Rattle.wh_host_model.proofs.Tally.{one_same}
 use Rattle.wh_host_model.proofs.Space.Putting.{is_page}
 use Rattle.wh_pages.specs.Table.{PageTableState}
 use Rattle.wh_tables.specs.declared.page_id.PageId.{PageId}
-use Rattle.wh_host_model.specs.Space.Charges.{IsOnFrame, stands_on}
+use Rattle.wh_host_model.specs.Space.Charges.{stands_on}
 use Rattle.wh_tables.specs.Order.{Chains, IsAsLarge, IsInRange, StandsNowhere, StandsOn}
 use Rattle.wh_tables.specs.Index.{Counted, IsIndexOf, Marked, with_mark, with_page}
 use Rattle.wh_tables.specs.Tables.{AreIndexed, marked_of, marks_by_place, pages_by_place, tables_with}
@@ -282,7 +282,3 @@ put_again (xs ∷ marks) zero p mark there = let e = once xs p mark there in cc 
   once (z ∷ xs) zero mark there = let e : z ≡ mark = cc in cc
   once (z ∷ xs) (suc p) mark there = let e = once xs p mark there in cc
 put_again (xs ∷ marks) (suc i) p mark there = let e = put_again marks i p mark there in cc
-
--- the page that stands on a frame
-pub on_its_frame : (pages : List (List Page)) (i p f : ℕ) (page : Page) → page_at pages i p ≡ Some page → frame_of page ≡ Some f → IsOnFrame pages i p f
-on_its_frame pages i p f page there is = rw there (frame_stands f page is)

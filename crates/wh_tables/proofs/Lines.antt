@@ -1,11 +1,12 @@
 -- The line of instances by number, when one comes to a place, and who is the next in it.
-use Rattle.std.proofs.Common.{◌≡◌, ◌≢◌, ◌∙◌, ℕ, ◌+◌, ◌<◌, ◌≤◌, ◌==◌, inl, inr, cond, not, Bool, true, false, List, [], ◌∷◌, Option, Some, None, length, get_or, leb, leb-true, slice_get, zero, suc, refl, sym, ap, subst, arith}
-use Rattle.std.specs.List.{AllWithin, Contains, filter, insert}
+use Rattle.std.proofs.Common.{◌≡◌, ◌≢◌, ◌∙◌, ℕ, ◌+◌, ◌<◌, ◌≤◌, ◌-◌, ◌⊎◌, ◌==◌, inl, inr, cond, not, Bool, true, false, List, [], ◌∷◌, Option, Some, None, length, get_or, leb, leb-true, slice_get, zero, suc, refl, sym, ap, subst, arith}
+use Rattle.std.specs.List.{AllPairs, AllWithin, Contains, filter, insert}
 use Rattle.std.specs.List.Sorted.{IsPartitionPoint, IsPermutation}
 use Rattle.std.proofs.lemmas.Bool.{cases_lt}
 use Rattle.std.proofs.lemmas.Bool.Decides.{nat_tests}
 use Rattle.std.proofs.lemmas.List.Elements.{All-cons, All-filter, filter_passes, AllWithin-more}
-use Rattle.std.proofs.lemmas.List.Kept.{IsNonDecreasingBy-filter}
+use Rattle.std.proofs.lemmas.List.Edits.{get_or-insert_above, get_or-insert_at, get_or-insert_below, length-insert}
+use Rattle.std.proofs.lemmas.List.Kept.{AllPairs-filter, IsNonDecreasingBy-filter}
 use Rattle.std.proofs.lemmas.List.Sorted.{All-permutation, Contains-permutation, IsNonDecreasingBy-insert, IsPermutation-insert}
 use Rattle.wh_host_model.specs.declared.plain.InstId.{InstId}
 use Rattle.wh_host_model.specs.declared.states.Page.{Page}
@@ -42,6 +43,28 @@ contains_filter p (y ∷ xs) x (suc k, less, is) passes = kept_or (p y) y (filte
 
 -- ---- a newcomer joins it
 
+pairs_insert : {X : Type 0} (R : X → X → Type 0) (xs : List X) (i : ℕ) (y : X) → AllPairs R xs → i ≤ length xs → ((k : ℕ) (d : X) → k < length xs → R (get_or xs k d) y × R y (get_or xs k d))
+    → AllPairs R (insert xs i y)
+pairs_insert {X} R xs i y pairs within beside j k d less least = go (cases_lt k i) where
+  long : length (insert xs i y) ≡ length xs + 1
+  long = length-insert xs i y within
+
+  past : (m n : ℕ) → j ≡ m → k ≡ n + 1 → i ≤ n → n < length xs → (m < i) ⊎ (i ≤ m) → R (get_or (insert xs i y) j d) (get_or (insert xs i y) k d)
+  past m n here there from most (inl before) =
+      rw (here, there, get_or-insert_above xs i y d n from within, get_or-insert_below xs i y d m before within) (pairs m n d (omega arith) most)
+  past m n here there from most (inr behind) = elim (cases_lt i m) [
+    | inl above ↦ (let e : j ≡ (m - 1) + 1 = omega arith in rw (e, there, get_or-insert_above xs i y d n from within, get_or-insert_above xs i y d (m - 1) (omega arith) within) (pairs (m - 1) n d (omega arith) most))
+    | inr same ↦ (let e : j ≡ i = omega arith in rw (e, there, get_or-insert_above xs i y d n from within, get_or-insert_at xs i y d within) (beside n d most).1)
+  ]
+
+  at : (k ≡ i) ⊎ (i < k) → R (get_or (insert xs i y) j d) (get_or (insert xs i y) k d)
+  at (inl here) = rw (here, get_or-insert_at xs i y d within, get_or-insert_below xs i y d j (omega arith) within) (beside j d (omega arith)).0
+  at (inr behind) = past j (k - 1) refl (omega arith) (omega arith) (omega (arith, long)) (cases_lt j i)
+
+  go : (k < i) ⊎ (i ≤ k) → R (get_or (insert xs i y) j d) (get_or (insert xs i y) k d)
+  go (inl below) = rw (get_or-insert_below xs i y d k below within, get_or-insert_below xs i y d j (omega arith) within) (pairs j k d less (omega arith))
+  go (inr from) = at (elim (here_or i k) [ inl same ↦ inl same | inr other ↦ inr (omega (arith, other)) ])
+
 pub line_joined : (numbers : List ℕ) (line : List InstId) (newcomer : InstId) (rank : ℕ) → newcomer.place ≤ length numbers → IsLineOf numbers line
     → rank ≤ length (filter (is_elsewhere newcomer.place) line)
     → IsPartitionPoint (λ (id : InstId). id.number ≤ newcomer.number) (λ (id : InstId). newcomer.number < id.number) (filter (is_elsewhere newcomer.place) line) rank
@@ -54,6 +77,8 @@ line_joined numbers line newcomer rank within is bound split =
       ascending = IsNonDecreasingBy-insert (λ (id : InstId). id.number) others rank newcomer (IsNonDecreasingBy-filter (λ (id : InstId). id.number) (is_elsewhere newcomer.place) line is.ascending) bound
           (λ k d less. split.0 k d (omega arith) less)
           (λ k d from less. (let above = split.1 k d from less in omega arith));
+      once = pairs_insert (λ (a b : InstId). a.place ≢ b.place) others rank newcomer (AllPairs-filter (λ (a b : InstId). a.place ≢ b.place) (is_elsewhere newcomer.place) line is.once) bound
+          (λ k d less. (let apart : (get_or others k d).place ≢ newcomer.place = other_place newcomer.place (get_or others k d) (filter_passes (is_elsewhere newcomer.place) line k d less) in (apart, λ same. apart (sym same))));
       each = λ i n at. Contains-permutation (newcomer ∷ others) (insert others rank newcomer) (record { place = i; number = n }) moved
           (elim (here_or newcomer.place i) [
             | inl same ↦

@@ -1,5 +1,5 @@
 -- A list of which the first elements are done.
-use Rattle.std.proofs.Common.{◌≡◌, ℕ, ◌+◌, ◌<◌, ◌≤◌, ◌++◌, List, [], ◌∷◌, length, get_or, map, slice_set, take, drop, zero, suc, refl, ap, arith}
+use Rattle.std.proofs.Common.{◌≡◌, ℕ, ◌+◌, ◌<◌, ◌++◌, List, [], ◌∷◌, length, get_or, map, slice_set, take, drop, zero, suc, ap, arith}
 
 done_row : {X : Type 0} (f : X → X) (xs : List X) (i : ℕ) (row new : X) → i < length xs → row ≡ get_or (map f (take i xs) ++ drop i xs) i row → new ≡ f row
     → slice_set (map f (take i xs) ++ drop i xs) i new ≡ map f (take (suc i) xs) ++ drop (suc i) xs
@@ -10,9 +10,3 @@ done_row f (x ∷ xs) (suc i) row new within found is = let e = done_row f xs i 
 pub one_more : {X : Type 0} (f : X → X) (xs : List X) (i : ℕ) (row new : X) → i < length xs → row ≡ get_or (map f (take i xs) ++ drop i xs) i row → new ≡ f row
     → slice_set (map f (take i xs) ++ drop i xs) i new ≡ map f (take (i + 1) xs) ++ drop (i + 1) xs
 one_more f xs i row new within found is = let e : i + 1 ≡ suc i = omega arith in rw e (done_row f xs i row new within found is)
-
-pub all_done : {X : Type 0} (f : X → X) (xs : List X) (i : ℕ) → length xs ≤ i → map f (take i xs) ++ drop i xs ≡ map f xs
-all_done f [] zero past = refl
-all_done f [] (suc i) past = refl
-all_done f (x ∷ xs) zero past = absurd (omega arith)
-all_done f (x ∷ xs) (suc i) past = let e = all_done f xs i (omega arith) in cc

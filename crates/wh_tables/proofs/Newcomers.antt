@@ -110,13 +110,6 @@ row_here [] i xs within = absurd (omega arith)
 row_here (ys ∷ xss) zero xs within = refl
 row_here (ys ∷ xss) (suc i) xs within = row_here xss i xs (omega arith)
 
-row_else : {X : Type 0} (xss : List X) (i j : ℕ) (xs none : X) → j ≢ i → get_or (slice_set xss i xs) j none ≡ get_or xss j none
-row_else [] i j xs none other = refl
-row_else (ys ∷ xss) zero zero xs none other = absurd (other refl)
-row_else (ys ∷ xss) zero (suc j) xs none other = refl
-row_else (ys ∷ xss) (suc i) zero xs none other = refl
-row_else (ys ∷ xss) (suc i) (suc j) xs none other = row_else xss i j xs none (λ e. other (ap suc e))
-
 -- what holds of a row that is another one now
 pub record HasSameRow (xs ys : List Page) (marks marks2 : List Bool) : Type 0 where
   pub stands : (f p : ℕ) → at (stands_on f) (slice_get ys p) ≡ at (stands_on f) (slice_get xs p)

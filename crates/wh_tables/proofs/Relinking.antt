@@ -1,12 +1,11 @@
 -- One link of many is another now.
-use Rattle.std.proofs.Common.{◌≡◌, ◌≢◌, ℕ, inl, inr, List, [], ◌∷◌, Option, Some, None, length, slice_get, slice_set, get_or, zero, suc, refl, sym, ap, ◌∙◌, length-set}
+use Rattle.std.proofs.Common.{◌≡◌, ◌≢◌, ℕ, inl, inr, List, [], ◌∷◌, Option, Some, None, length, slice_get, get_or, zero, suc, refl, sym, ap, ◌∙◌, length-set}
 use Rattle.wh_host_model.specs.Space.States.{page_at, put}
-use Rattle.wh_host_model.proofs.Space.Putting.{here_or, put_other, put_other_row, put_this, set_other}
+use Rattle.wh_host_model.proofs.Space.Putting.{here_or, put_other, put_other_row, put_this}
 use Rattle.wh_tables.specs.declared.page_id.PageId.{PageId}
 use Rattle.wh_tables.specs.declared.order.Link.{Link}
-use Rattle.wh_tables.specs.declared.order.Ends.{Ends}
 use Rattle.wh_tables.proofs.InOrder.{same_id}
-use Rattle.wh_tables.specs.Order.{Chains, HasNext, HasPrior, IsAsLarge, IsElsewhere, first_of_ends, last_of_ends, next_in, next_of_link, prior_in, prior_of_link}
+use Rattle.wh_tables.specs.Order.{Chains, HasNext, HasPrior, IsAsLarge, IsElsewhere, next_in, next_of_link, prior_in, prior_of_link}
 
 -- the lengths of rows stay
 pub put_lengths : {X : Type 0} (xss : List (List X)) (j p : ℕ) (x : X) (i : ℕ) → length (get_or (put xss j p x) i []) ≡ length (get_or xss i [])
@@ -28,71 +27,8 @@ put_elsewhere xss a b x other =
           ]
     ]
 
-large_ends : (c : Chains) (f : ℕ) (ends : Ends) → IsAsLarge c (record c { ends = slice_set c.ends f ends })
-large_ends c f ends = record { numbers = refl; ends = length-set c.ends f ends; places = refl; pages = λ i. refl }
-
 large_links : (c : Chains) (id : PageId) (link : Link) → IsAsLarge c (record c { links = put c.links id.place id.page link })
 large_links c id link = record { numbers = refl; ends = refl; places = length-set c.links id.place _; pages = λ i. put_lengths c.links id.place id.page link i }
-
-pub next_from_start : (c : Chains) (f : ℕ) (ends : Ends) (to : Option PageId) → slice_get c.ends f ≡ Some ends
-    → HasNext c f None to (record c { ends = slice_set c.ends f (record ends { first = to }) })
-next_from_start c f ends to there =
-    let new : Ends = record ends { first = to } in
-    record {
-      large = large_ends c f new;
-      next = record {
-        here = ap first_of_ends (put_end c.ends f ends new there);
-        others = others;
-      };
-      prior = prior;
-    } where
-      put_end : (xs : List Ends) (f : ℕ) (x y : Ends) → slice_get xs f ≡ Some x → slice_get (slice_set xs f y) f ≡ Some y
-      put_end [] f x y e = cc
-      put_end (z ∷ xs) zero x y e = refl
-      put_end (z ∷ xs) (suc f) x y e = put_end xs f x y e
-
-      others : (g : ℕ) (other : Option PageId) → IsElsewhere f None g other → next_in (record c { ends = slice_set c.ends f (record ends { first = to }) }) g other ≡ next_in c g other
-      others g None (inl away) = absurd (away refl)
-      others g None (inr (e, away)) = ap first_of_ends (set_other c.ends f g (record ends { first = to }) away)
-      others g (Some id) away = refl
-
-      prior : (g : ℕ) (other : Option PageId) → prior_in (record c { ends = slice_set c.ends f (record ends { first = to }) }) g other ≡ prior_in c g other
-      prior g (Some id) = refl
-      prior g None =
-          elim (here_or f g) [
-            | inl same ↦ rw same (ap last_of_ends (put_end c.ends f ends (record ends { first = to }) there ∙ refl) ∙ sym (ap last_of_ends there))
-            | inr away ↦ ap last_of_ends (set_other c.ends f g (record ends { first = to }) away)
-          ]
-
-pub prior_from_start : (c : Chains) (f : ℕ) (ends : Ends) (to : Option PageId) → slice_get c.ends f ≡ Some ends
-    → HasPrior c f None to (record c { ends = slice_set c.ends f (record ends { last = to }) })
-prior_from_start c f ends to there =
-    let new : Ends = record ends { last = to } in
-    record {
-      large = large_ends c f new;
-      prior = record {
-        here = ap last_of_ends (put_end c.ends f ends new there);
-        others = others;
-      };
-      next = next;
-    } where
-      put_end : (xs : List Ends) (f : ℕ) (x y : Ends) → slice_get xs f ≡ Some x → slice_get (slice_set xs f y) f ≡ Some y
-      put_end [] f x y e = cc
-      put_end (z ∷ xs) zero x y e = refl
-      put_end (z ∷ xs) (suc f) x y e = put_end xs f x y e
-
-      others : (g : ℕ) (other : Option PageId) → IsElsewhere f None g other → prior_in (record c { ends = slice_set c.ends f (record ends { last = to }) }) g other ≡ prior_in c g other
-      others g None (inl away) = absurd (away refl)
-      others g None (inr (e, away)) = ap last_of_ends (set_other c.ends f g (record ends { last = to }) away)
-      others g (Some id) away = refl
-
-      next : (g : ℕ) (other : Option PageId) → next_in (record c { ends = slice_set c.ends f (record ends { last = to }) }) g other ≡ next_in c g other
-      next g (Some id) = refl
-      next g None =
-          elim (here_or f g) [
-            | inl same ↦ rw same (ap first_of_ends (put_end c.ends f ends (record ends { last = to }) there ∙ refl) ∙ sym (ap first_of_ends there))
-            | inr away ↦ ap first_of_ends (set_other c.ends f g (record ends { last = to }) away)
-          ]
 
 pub next_from_page : (c : Chains) (f : ℕ) (id : PageId) (link : Link) (to : Option PageId) → page_at c.links id.place id.page ≡ Some link
     → HasNext c f (Some id) to (record c { links = put c.links id.place id.page (record link { next = to }) })

@@ -1,13 +1,14 @@
 -- The instances in the order of their numbers.
-use Rattle.std.specs.Prelude.{ℕ, ◌≡◌, ◌<◌, ◌≤◌, List, [], Option, Some, None, length, get_or, slice_get}
-use Rattle.std.specs.List.{All, Contains}
+use Rattle.std.specs.Prelude.{ℕ, ◌≡◌, ◌≢◌, ◌<◌, ◌≤◌, List, [], Option, Some, None, length, get_or, slice_get}
+use Rattle.std.specs.List.{All, AllPairs, Contains}
 use Rattle.std.specs.List.Sorted.{IsNonDecreasingBy}
 use Rattle.wh_host_model.specs.declared.plain.InstId.{InstId}
 use Rattle.wh_host_model.specs.declared.states.Page.{Page}
 
--- whoever came last to each place, with its number; numbers ascend
+-- whoever came last to each place, once, with its number; numbers ascend
 pub record IsLineOf (numbers : List ℕ) (line : List InstId) : Type 0 where
   pub ascending : IsNonDecreasingBy (λ (id : InstId). id.number) line
+  pub once : AllPairs (λ (a b : InstId). a.place ≢ b.place) line
   pub each : (i n : ℕ) → slice_get numbers i ≡ Some n → Contains line (record { place = i; number = n })
   pub there : All (λ (id : InstId). slice_get numbers id.place ≡ Some id.number) line
 

@@ -1,7 +1,7 @@
 -- What contracts see of a transcript can be stored: as its parts.
 use Rattle.std.specs.Prelude.{ℕ, List, Option, refl}
 use Rattle.std.specs.Coded.{Coded, code_by, coded_list, coded_option, coded_ℕ, coded×}
-use Rattle.wh_host_model.specs.Host.Worlds.{Params}
+use Rattle.wh_host_model.specs.Owners.{Params}
 use Rattle.wh_journal.specs.Calls.{JournalCallState, stored_call}
 use Rattle.wh_instance.specs.declared.stages.Suspension.{Suspension}
 use Rattle.wh_instance.specs.contracts.stages.Suspension as suspension_type

@@ -6,7 +6,9 @@ use Rattle.wh_model.specs.Linking.Accepting.{IsAccepted}
 use Rattle.wh_model.specs.Execution.Store.{Instance, Store}
 use Rattle.wh_model.specs.Execution.Instance.{Piece, begins, IsInitial}
 use Rattle.wh_model.specs.Execution.Replay.{Replay}
-use Rattle.wh_host_model.specs.Host.Worlds.{Params, Entry, Rest, Doing, given_of, journal_calls, store_with, standing_with}
+use Rattle.wh_host_model.specs.Host.Worlds.{Rest, Doing, journal_calls, store_with, standing_with}
+use Rattle.wh_host_model.specs.Owners.{Entry}
+use Rattle.wh_host_model.specs.Owners.{Params, given_of}
 use Rattle.wh_host_model.specs.Host.Journals.{InOrder}
 use Rattle.wh_host_model.specs.Host.Standing.{FirstStandsDuly}
 use Rattle.wh_journal.specs.Calls.{JournalCallState}

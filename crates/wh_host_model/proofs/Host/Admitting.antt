@@ -20,10 +20,11 @@ use Rattle.wh_host_model.specs.declared.states.Page.TheVariants.{Untouched}
 use Rattle.wh_host_model.specs.Space.Parts.{Space, minima}
 use Rattle.wh_host_model.specs.Space.Places.{newcomer, with_row}
 use Rattle.wh_host_model.specs.Host.Spaces.{Arrives}
-use Rattle.wh_host_model.specs.Host.Worlds.{Doing, Entry, Loaded, Params, World, computing, empty_world, given_of, has_left, promised, resting}
+use Rattle.wh_host_model.specs.Host.Worlds.{Doing, Loaded, World, computing, empty_world, has_left, promised, resting}
+use Rattle.wh_host_model.specs.Owners.{Entry, start_entry}
+use Rattle.wh_host_model.specs.Owners.{Params, given_of, AdmitFault, frames, memory, min_max, no_module, segments, shares, swap, most_fuel}
 use Rattle.wh_host_model.specs.Host.Answers.{Faces}
-use Rattle.wh_host_model.specs.Host.Calls.{most_fuel}
-use Rattle.wh_host_model.specs.Host.Admission.{AdmitFault, MeetsFault, StartsAs, frames, memory, min_max, no_module, segments, shares, start_entry, swap}
+use Rattle.wh_host_model.specs.Host.Admission.{MeetsFault, StartsAs}
 use Rattle.wh_host_model.specs.Host.Admission as admission
 use Rattle.wh_host_model.specs.Host.Happens.{IsAdmit, admit_ok, is_admitted}
 use Rattle.wh_host_model.specs.Host.Progress.{AdmissionsAreTaken}

@@ -8,7 +8,8 @@ use Rattle.wh_model.proofs.Journals.{invocation_same}
 use Rattle.wh_host_model.specs.declared.plain.TurnEnd.{TurnEnd}
 use Rattle.wh_host_model.specs.declared.plain.TurnEnd.TheVariants.{Again, Fuel, Frame, Ended}
 use Rattle.wh_host_model.specs.Space.Parts.{Space, view}
-use Rattle.wh_host_model.specs.Host.Worlds.{Entry, Rest, Doing, computing, Suspension, for_fuel, Tenant, store_with, store_in}
+use Rattle.wh_host_model.specs.Host.Worlds.{Rest, Doing, computing, Suspension, for_fuel, Tenant, store_with, store_in}
+use Rattle.wh_host_model.specs.Owners.{Entry}
 use Rattle.wh_host_model.specs.Host.Turns.{Upshot, to_end, out_of_fuel, to_go_on}
 use Rattle.wh_host_model.specs.Host.Answers.{gone_further, ended_by, gone_on, Faces, Closes, faces_next, is_dead, Turn, is_idle, has_ended, has_no_fuel, has_no_frame, can_go_on, keeps_its_fault}
 use Rattle.wh_host_model.specs.Host.Admission.{rest_of}

@@ -13,7 +13,9 @@ use Rattle.wh_model.proofs.Journals.{after_same, one_end, not_open, from_beginni
 use Rattle.wh_model.proofs.Opened.{opened_store}
 use Rattle.std.proofs.lemmas.List.{reverse-reverse}
 use Rattle.wh_host_model.specs.Space.Parts.{view}
-use Rattle.wh_host_model.specs.Host.Worlds.{Doing, Entry, Loaded, Rest, Tenant, World, computing, given_of, has_left, journal, journal_calls, resting, standing_with, store_with}
+use Rattle.wh_host_model.specs.Host.Worlds.{Doing, Loaded, Rest, Tenant, World, computing, has_left, journal, journal_calls, resting, standing_with, store_with}
+use Rattle.wh_host_model.specs.Owners.{Entry}
+use Rattle.wh_host_model.specs.Owners.{given_of}
 use Rattle.wh_host_model.specs.Host.Apart.{AreTreatedAlike, ComeToTheSame, NoBytesReachAnother, asked, call_asked, unanswered}
 use Rattle.wh_host_model.specs.Host.Laws.{IsReplayed}
 use Rattle.wh_host_model.proofs.Host.Entries.{invoked_alike}

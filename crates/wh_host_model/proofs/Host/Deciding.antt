@@ -12,10 +12,11 @@ use Rattle.wh_model.specs.Execution.Store.{FuncInst, Instance, Value, host, own,
 use Rattle.wh_model.specs.Format.Syntax.{Body, Export, FuncType, Module}
 use Rattle.wh_model.proofs.Instance.{one_beginning}
 use Rattle.wh_host_model.specs.Space.Parts.{minima, spreads}
-use Rattle.wh_host_model.specs.Host.Worlds.{Loaded, Params, Tenant, World, given_of, journal}
-use Rattle.wh_host_model.specs.Host.Calls.{AreArguments, ExportsOwn, InvokeFault, IsArgument, IsFirst, Meets, arguments, instance_dead, journal_full, most_calls, most_open, no_export, open_count, queue_full, rank}
+use Rattle.wh_host_model.specs.Host.Worlds.{Loaded, Tenant, World, journal}
+use Rattle.wh_host_model.specs.Owners.{Params, given_of, AdmitFault, admit_rank, frames, instances, memory, min_max, most_instances, no_module, segments, shares, swap, AreArguments, ExportsOwn, InvokeFault, IsArgument, arguments, instance_dead, journal_full, most_calls, most_open, no_export, queue_full, rank}
+use Rattle.wh_host_model.specs.Host.Calls.{IsFirst, Meets, open_count}
 use Rattle.wh_model.specs.Linking.Accepting.{IsAccepted}
-use Rattle.wh_host_model.specs.Host.Admission.{AdmitFault, IsFirstMet, MeetsFault, admit_rank, frames, instances, live_count, memory, min_max, most_instances, no_module, segments, shares, swap}
+use Rattle.wh_host_model.specs.Host.Admission.{IsFirstMet, MeetsFault, live_count}
 use Rattle.wh_model.proofs.Beginnings.{some_beginning}
 use Rattle.wh_host_model.proofs.Space.Putting.{here_or}
 

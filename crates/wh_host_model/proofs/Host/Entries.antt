@@ -7,7 +7,8 @@ use Rattle.wh_model.specs.Execution.Instance.{Piece}
 use Rattle.wh_model.specs.Execution.Replay.{dead, pending, Call, Invocation, never_began, Standing, idle, Stands, is_invoked, Waits, Replays, at_rest, at_work}
 use Rattle.wh_model.specs.Execution.Histories.{Past, none_yet, one_more}
 use Rattle.wh_model.proofs.Histories.{past_then}
-use Rattle.wh_host_model.specs.Host.Worlds.{Entry, Rest, Doing, journal_calls, store_with, standing_with}
+use Rattle.wh_host_model.specs.Host.Worlds.{Rest, Doing, journal_calls, store_with, standing_with}
+use Rattle.wh_host_model.specs.Owners.{Entry}
 use Rattle.wh_host_model.specs.Host.Answers.{ended_by, Faces}
 
 -- ---- calls that are open

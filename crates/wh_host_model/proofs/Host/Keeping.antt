@@ -15,12 +15,14 @@ use Rattle.std.proofs.Math.Seq.{take-append_seam, drop-append_seam}
 use Rattle.wh_host_model.specs.declared.plain.TurnEnd.{TurnEnd}
 use Rattle.wh_host_model.specs.Space.Parts.{Space, view, wants}
 use Rattle.wh_host_model.specs.Host.Spaces.{StandsAlone}
-use Rattle.wh_host_model.specs.Host.Worlds.{Params, Rest, Doing, resting, has_left, computing, Suspension, for_fuel, for_frame, for_device, Tenant, Entry, journal_calls, store_with, store_in, standing_with}
+use Rattle.wh_host_model.specs.Host.Worlds.{Rest, Doing, resting, has_left, computing, Suspension, for_fuel, for_frame, for_device, Tenant, journal_calls, store_with, store_in, standing_with}
+use Rattle.wh_host_model.specs.Owners.{Entry, start_entry, new_entry}
+use Rattle.wh_host_model.specs.Owners.{Params, most_fuel, most_calls, most_open}
 use Rattle.wh_host_model.specs.Host.Turns.{HaveTypes, Upshot, to_end, out_of_fuel, to_wait, to_go_on, Proceeds, returns, traps, writes_all, uses_fuel, waits, waits_to_write, has_had_its_turn}
 use Rattle.wh_host_model.specs.Host.Answers.{gone_further, ended_by, gone_on, Faces, Closes, faces_next, is_dead, at_frame, Turn, is_idle, has_ended, has_no_fuel, has_no_frame, can_go_on, keeps_its_fault}
 use Rattle.wh_host_model.specs.Host.Calls as requests
-use Rattle.wh_host_model.specs.Host.Calls.{most_fuel, most_calls, most_open, open_count, new_entry, TakesCall, more_fuel, StandsAfter, Refuels, has_more, Cancels, Retries, may_try}
-use Rattle.wh_host_model.specs.Host.Admission.{start_entry, StartsAs, writes, runs, ends, rest_of}
+use Rattle.wh_host_model.specs.Host.Calls.{open_count, TakesCall, more_fuel, StandsAfter, Refuels, has_more, Cancels, Retries, may_try}
+use Rattle.wh_host_model.specs.Host.Admission.{StartsAs, writes, runs, ends, rest_of}
 use Rattle.wh_host_model.specs.Host.Journals.{IsOpenCall, ReturnsTyped, HasEnded, InOrder, is_starting, has_started}
 use Rattle.wh_host_model.specs.Host.Standing.{NextAsks, a_piece, a_step, StandsDuly, FirstStandsDuly}
 use Rattle.wh_host_model.proofs.Host.Entries.{Now, faces_now, past_dead, calls_join, all_join, joined, invoked_alike}

@@ -11,11 +11,13 @@ use Rattle.wh_model.specs.Execution.Taking.{Takes, took_all, took}
 use Rattle.wh_host_model.specs.declared.Tax.{Tax}
 use Rattle.wh_host_model.specs.declared.plain.TurnEnd.{TurnEnd}
 use Rattle.wh_host_model.specs.Space.Parts.{Space, view, wants}
-use Rattle.wh_host_model.specs.Host.Worlds.{Params, Rest, Doing, Suspension, for_fuel, for_frame, for_device, Tenant, Entry, World, empty_world}
+use Rattle.wh_host_model.specs.Host.Worlds.{Rest, Doing, Suspension, for_fuel, for_frame, for_device, Tenant, World, empty_world}
+use Rattle.wh_host_model.specs.Owners.{Entry, new_entry}
+use Rattle.wh_host_model.specs.Owners.{Params, most_fuel, most_calls, most_open}
 use Rattle.wh_host_model.specs.Host.Turns.{Opens, by_invocation, as_it_was, Computes, Upshot, to_end, Proceeds, returns, traps, writes_all, uses_fuel, waits, waits_to_write, has_had_its_turn}
 use Rattle.wh_host_model.specs.Host.Answers.{gone_further, ended_by, Closes, faces_next, is_dead, at_frame, Turn, is_idle, has_ended, has_no_fuel, has_no_frame, can_go_on, keeps_its_fault}
 use Rattle.wh_host_model.specs.Host.Calls as requests
-use Rattle.wh_host_model.specs.Host.Calls.{most_fuel, most_calls, most_open, open_count, new_entry, TakesCall, more_fuel, StandsAfter, Refuels, has_more, Cancels, Retries, may_try}
+use Rattle.wh_host_model.specs.Host.Calls.{open_count, TakesCall, more_fuel, StandsAfter, Refuels, has_more, Cancels, Retries, may_try}
 use Rattle.wh_host_model.specs.Host.Admission.{StartsAs, writes, runs, ends}
 use Rattle.wh_host_model.specs.Host.Journals.{IsOpenCall, ReturnsTyped, HasEnded, InOrder, is_starting, has_started}
 use Rattle.wh_host_model.specs.Host.Misreading.{AllSeeAsMany, Step, by_event, by_misreading, Befalls, AllBefall, ComesAbout, MemoryStaysSound, PlacesStayRight, ModulesStayAccepted, JournalsStayInOrder, InputsStay, FramesAreAwaited}

@@ -1,12 +1,13 @@
 -- Whoever has a place, also one that was released, has the number of an instance that was admitted.
-use Rattle.std.proofs.Common.{◌≡◌, ◌≢◌, ℕ, ℤ, zero, suc, ◌+◌, ◌<◌, ◌≤◌, inl, inr, Bool, true, false, List, [], ◌∷◌, Option, Some, None, length, get_or, length-set, length-append, refl, sym, ap, subst, ◌∙◌, arith}
+use Rattle.std.proofs.Common.{◌≡◌, ◌≢◌, ℕ, ℤ, zero, suc, ◌+◌, ◌<◌, inl, inr, Bool, true, false, List, [], ◌∷◌, Option, Some, None, length, get_or, length-set, length-append, refl, sym, ap, subst, ◌∙◌, arith}
 use Rattle.wh_host_model.specs.declared.Tax.{Tax}
 use Rattle.wh_host_model.specs.declared.plain.InstId.{InstId}
 use Rattle.wh_host_model.specs.declared.plain.SwapError.{SwapError}
 use Rattle.wh_host_model.specs.declared.plain.TurnEnd.{TurnEnd}
 use Rattle.wh_host_model.specs.Space.Parts.{Claimed, Occupant, Promised, Space, claim, claim_of, occupant_at, promise_at, promised_to}
 use Rattle.wh_host_model.specs.Host.Spaces.{AllLeftAlone, KeepsPromise}
-use Rattle.wh_host_model.specs.Host.Worlds.{Params, Tenant, World, empty_world, promised, with_tenant}
+use Rattle.wh_host_model.specs.Host.Worlds.{Tenant, World, empty_world, promised, with_tenant}
+use Rattle.wh_host_model.specs.Owners.{Params}
 use Rattle.wh_host_model.specs.Host.Calls.{Cancels}
 use Rattle.wh_host_model.specs.Host.Calls as requests
 use Rattle.wh_host_model.specs.Host.Admission.{LetsGo, LetsIn}
@@ -32,9 +33,6 @@ below_kept n j s s2 below (inr none) x e = absurd (let bad : None ≡ Some x = s
 
 below_all : (n : ℕ) (s s2 : Space) → AreBelow n s → AllLeftAlone s s2 → AreBelow n s2
 below_all n s s2 below same = record { each = λ j x e. (let alike = same.0 j in below_kept n j s s2 below alike.promise x e) }
-
-below_more : (n m : ℕ) (s : Space) → n ≤ m → AreBelow n s → AreBelow m s
-below_more n m s low below = record { each = λ j x e. (let less = below.each j x e in omega (arith, less, low)) }
 
 -- a live one has the number that it claims
 claimed_number : (o : Option Occupant) (c : Claimed) (x : Promised) → claim_of o ≡ Some c → promised_to o ≡ Some x → x.number ≡ c.number

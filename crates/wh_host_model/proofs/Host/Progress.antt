@@ -18,10 +18,12 @@ use Rattle.wh_host_model.specs.Space.Parts.{Claimed, Occupant, Space, claim, cla
 use Rattle.wh_host_model.specs.Space.Sound.{IsSound}
 use Rattle.wh_host_model.specs.Space.Stores.{ended}
 use Rattle.wh_host_model.specs.Host.Spaces.{StandsAlone}
-use Rattle.wh_host_model.specs.Host.Worlds.{Doing, Entry, Params, Rest, Suspension, Tenant, World, computing, journal, empty_world, for_device, for_frame, for_fuel, resting, store_in, store_with, tenant, with_tenant}
+use Rattle.wh_host_model.specs.Host.Worlds.{Doing, Rest, Suspension, Tenant, World, computing, journal, empty_world, for_device, for_frame, for_fuel, resting, store_in, store_with, tenant, with_tenant}
+use Rattle.wh_host_model.specs.Owners.{Entry, new_entry}
+use Rattle.wh_host_model.specs.Owners.{Params, AreArguments, ExportsOwn, IsArgument, arguments, instance_dead, journal_full, most_calls, most_open, queue_full}
 use Rattle.wh_host_model.specs.Host.Turns.{as_it_was, uses_fuel}
 use Rattle.wh_host_model.specs.Host.Answers.{Closes, Faces, dies, ended_by, faces_next, has_no_fuel, is_dead, is_idle}
-use Rattle.wh_host_model.specs.Host.Calls.{AreArguments, ExportsOwn, IsArgument, Meets, Retries, StandsAfter, arguments, has_more, instance_dead, journal_full, may_try, more_fuel, most_calls, most_open, new_entry, open_count, queue_full}
+use Rattle.wh_host_model.specs.Host.Calls.{Meets, Retries, StandsAfter, has_more, may_try, more_fuel, open_count}
 use Rattle.wh_host_model.specs.Host.Calls as requests
 use Rattle.wh_host_model.specs.Host.Admission.{decoder_wants}
 use Rattle.wh_host_model.specs.Host.Events.{Event, turn, load, admit, invoke, refuel, cancel, retry, release, offer, evict_begin, evict_commit, fetch_begin, fetch_commit, provide, epoch}

@@ -5,7 +5,8 @@ use Rattle.wh_host_model.specs.declared.plain.SwapError.{SwapError}
 use Rattle.wh_host_model.specs.declared.plain.TurnEnd.{TurnEnd}
 use Rattle.wh_host_model.specs.Space.Parts.{Claimed, Occupant, Promised, Space, claim, claim_of, promise_at, promised_to}
 use Rattle.wh_host_model.specs.Host.Spaces.{AllLeftAlone, KeepsPromise}
-use Rattle.wh_host_model.specs.Host.Worlds.{Params, Tenant, World, empty_world, promised}
+use Rattle.wh_host_model.specs.Host.Worlds.{Tenant, World, empty_world, promised}
+use Rattle.wh_host_model.specs.Owners.{Params}
 use Rattle.wh_host_model.specs.Host.Admission.{LetsGo, LetsIn}
 use Rattle.wh_host_model.specs.Host.Calls as requests
 use Rattle.wh_host_model.specs.Host.Events.{Event, turn, load, admit, invoke, refuel, cancel, retry, release, offer, evict_begin, evict_commit, fetch_begin, fetch_commit, provide, epoch}

@@ -12,9 +12,11 @@ use Rattle.wh_host_model.specs.Space.Parts.{Space, Claimed, Occupant, view, clai
 use Rattle.wh_host_model.specs.Space.Sound.{IsSound}
 use Rattle.wh_host_model.specs.Space.Places.{IsFreePlace}
 use Rattle.wh_host_model.specs.Host.Spaces.{LeftAlone, AllLeftAlone}
-use Rattle.wh_host_model.specs.Host.Worlds.{Doing, Entry, Params, Rest, Suspension, Tenant, Loaded, World, for_device, for_fuel, given_of, promised, tenant, with_tenant}
+use Rattle.wh_host_model.specs.Host.Worlds.{Doing, Rest, Suspension, Tenant, Loaded, World, for_device, for_fuel, promised, tenant, with_tenant}
+use Rattle.wh_host_model.specs.Owners.{Entry}
+use Rattle.wh_host_model.specs.Owners.{Params, given_of, most_fuel}
 use Rattle.wh_host_model.specs.Host.Answers.{Closes, faces_next, is_dead, Turn, is_idle, has_ended, has_no_fuel, has_no_frame, can_go_on, keeps_its_fault}
-use Rattle.wh_host_model.specs.Host.Calls.{most_fuel, TakesCall, Refuels, has_more, Cancels, Retries, may_try}
+use Rattle.wh_host_model.specs.Host.Calls.{TakesCall, Refuels, has_more, Cancels, Retries, may_try}
 use Rattle.wh_host_model.specs.Host.Calls as requests
 use Rattle.wh_model.specs.Linking.Accepting.{IsAccepted}
 use Rattle.wh_host_model.specs.Host.Admission.{LoadsModule, LetsIn, LetsGo, StartsAs}

@@ -37,7 +37,9 @@ use Rattle.wh_host_model.specs.Space.Parts.{Claimed, Space, claim, view, wants}
 use Rattle.wh_host_model.specs.Space.Ready.{Ready}
 use Rattle.wh_host_model.specs.Space.Sound.{IsSound}
 use Rattle.wh_host_model.specs.Host.Spaces.{StepsAlone}
-use Rattle.wh_host_model.specs.Host.Worlds.{Doing, Entry, Suspension, Tenant, World, computing, empty_world, for_device, for_frame, for_fuel, given_of, has_left, journal, journal_calls, promised, resting, standing_in, standing_with, store_in, store_with, tenant, with_tenant}
+use Rattle.wh_host_model.specs.Host.Worlds.{Doing, Suspension, Tenant, World, computing, empty_world, for_device, for_frame, for_fuel, has_left, journal, journal_calls, promised, resting, standing_in, standing_with, store_in, store_with, tenant, with_tenant}
+use Rattle.wh_host_model.specs.Owners.{Entry}
+use Rattle.wh_host_model.specs.Owners.{given_of}
 use Rattle.wh_host_model.specs.Host.Turns.{as_it_was, by_invocation, to_end, to_wait, waits, waits_to_write, writes_all}
 use Rattle.wh_host_model.specs.Host.Answers.{KeepsNoFault, Turn, is_idle, keeps_its_fault}
 use Rattle.wh_host_model.specs.Host.Events.{Event, turn}

@@ -34,7 +34,9 @@ use Rattle.wh_host_model.specs.Space.Stores.{ended, stood}
 use Rattle.wh_host_model.specs.declared.plain.TurnEnd.{TurnEnd}
 use Rattle.wh_host_model.specs.declared.plain.TurnEnd.TheVariants.{Again, Ended, Frame, Fuel}
 use Rattle.wh_host_model.specs.Host.Spaces.{StandsAlone, StepsAlone}
-use Rattle.wh_host_model.specs.Host.Worlds.{Doing, Entry, Rest, Tenant, World, computing, given_of, journal, journal_calls, resting, standing_in, standing_with, store_in, store_with, tenant}
+use Rattle.wh_host_model.specs.Host.Worlds.{Doing, Rest, Tenant, World, computing, journal, journal_calls, resting, standing_in, standing_with, store_in, store_with, tenant}
+use Rattle.wh_host_model.specs.Owners.{Entry}
+use Rattle.wh_host_model.specs.Owners.{given_of}
 use Rattle.wh_host_model.specs.Host.Turns.{Computes, HaveTypes, Opens, Proceeds, Upshot, has_had_its_turn, out_of_fuel, returns, to_end, to_go_on, to_wait, traps, uses_fuel, waits}
 use Rattle.wh_host_model.specs.Host.Admission.{rest_of}
 use Rattle.wh_host_model.specs.Host.Answers.{KeepsNoFault, Turn, can_go_on, ended_by, gone_further, has_ended, has_no_frame, has_no_fuel}

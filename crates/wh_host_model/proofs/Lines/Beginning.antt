@@ -7,9 +7,7 @@ use Rattle.wh_model.specs.Format.Syntax.{Code, FuncType, Body}
 use Rattle.wh_model.specs.Execution.Store.{own, Instance, Store}
 use Rattle.wh_model.specs.Execution.Instance.{Beginning, memory_min, segment_bounds, begins, Prepares, IsInitial, in_bounds}
 use Rattle.wh_model.proofs.Instance.{one_beginning}
-use Rattle.wh_host_model.specs.Host.Worlds.{given_of}
-use Rattle.wh_host_model.specs.Host.Admission.{no_module, shares, min_max, frames, swap, instances, memory, segments}
-use Rattle.wh_host_model.specs.Host.Calls.{ExportsOwn}
+use Rattle.wh_host_model.specs.Owners.{given_of, no_module, shares, min_max, frames, swap, instances, memory, segments, ExportsOwn}
 use Rattle.wh_host_model.specs.Lines.Settings.{default_settings}
 use Rattle.wh_host_model.specs.Lines.Commands.{admit}
 use Rattle.wh_host_model.specs.Lines.Texts.{admit_ok}

@@ -11,8 +11,7 @@ use Rattle.wh_model.specs.Focus.Focused.{Focused, running, activation, plug}
 use Rattle.wh_model.specs.Focus.FocusSteps.{Steps, steps, rests}
 use Rattle.wh_model.proofs.Agrees.{after_agrees}
 use Rattle.wh_model.proofs.StepsReduce.{steps_reduce}
-use Rattle.wh_host_model.specs.Host.Worlds.{given_of}
-use Rattle.wh_host_model.specs.Host.Calls.{no_export, arguments, queue_full, instance_dead, journal_full}
+use Rattle.wh_host_model.specs.Owners.{given_of, no_export, arguments, queue_full, instance_dead, journal_full}
 use Rattle.wh_host_model.specs.Lines.Texts as texts
 use Rattle.wh_host_model.specs.Lines.Texts.{CallStatus, call, wants_fuel, queued, call_is}
 use Rattle.wh_host_model.specs.Lines.Made.{Guest, taken_on, Invoked, Made, is_open}

@@ -14,7 +14,7 @@ use Rattle.wh_model.specs.Execution.Instance.{Parameters, Piece, begins, IsIniti
 use Rattle.wh_model.specs.Execution.Replay.{Outcome, returned, stopped, cancelled, dead, pending, Call, with_pieces, Invocation, Standing, running, store_at, Stands, is_invoked, is_under_way, Ends, has_returned, has_trapped, has_written, was_cancelled, never_began, Waits, Replays, ended, at_work, fails, IsDead, IsNotDead, IsJournal, Replay}
 use Rattle.wh_model.proofs.Chains.{one_after}
 use Rattle.wh_model.proofs.Journals.{invocation_same, one_end, from_beginning}
-use Rattle.wh_host_model.specs.Host.Worlds.{given_of}
+use Rattle.wh_host_model.specs.Owners.{given_of}
 use Rattle.wh_host_model.specs.Lines.AnswerLaws.{RunsOnce}
 use Rattle.wh_host_model.specs.Lines.Made.{is_open, first_open}
 use Rattle.wh_host_model.specs.Lines.Drains.{ComesTo, had_ended, goes_on, AreAtRest, all_ended, used_up, is_gone, has_run}

@@ -8,7 +8,9 @@ use Rattle.wh_model.specs.Execution.Store.{Instance, Store}
 use Rattle.wh_model.specs.Execution.Instance.{Piece, Parameters}
 use Rattle.wh_model.specs.Execution.Replay.{Outcome, returned, stopped, cancelled, dead, pending, Call, Standing, Replays, at_rest, ended, at_work, Replay}
 use Rattle.wh_host_model.specs.Space.Parts.{wants}
-use Rattle.wh_host_model.specs.Host.Worlds.{Entry, Rest, Doing, Suspension, for_fuel, journal, journal_calls, given_of, store_with, standing_with, standing_in}
+use Rattle.wh_host_model.specs.Host.Worlds.{Rest, Doing, Suspension, for_fuel, journal, journal_calls, store_with, standing_with, standing_in}
+use Rattle.wh_host_model.specs.Owners.{Entry}
+use Rattle.wh_host_model.specs.Owners.{given_of}
 use Rattle.wh_host_model.specs.Host.Journals.{HasEnded, IsEnded, IsDeadCall, InOrder, is_starting, has_started, has_died}
 use Rattle.wh_host_model.specs.Host.Standing.{StandsDuly, FirstStandsDuly}
 use Rattle.wh_host_model.specs.Lines.Made.{is_open, first_open}

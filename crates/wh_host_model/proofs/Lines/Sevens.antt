@@ -14,8 +14,7 @@ use Rattle.wh_model.specs.Focus.FocusSteps.{steps, rests}
 use Rattle.wh_model.specs.Laws.Worked.{invoked, Done}
 use Rattle.wh_model.proofs.Agrees.{after_agrees}
 use Rattle.wh_model.proofs.Journals.{done_replays}
-use Rattle.wh_host_model.specs.Host.Worlds.{given_of}
-use Rattle.wh_host_model.specs.Host.Calls.{InvokeFault, no_export, arguments, queue_full, instance_dead, journal_full, rank, AreArguments}
+use Rattle.wh_host_model.specs.Owners.{given_of, InvokeFault, no_export, arguments, queue_full, instance_dead, journal_full, rank, AreArguments}
 use Rattle.wh_host_model.specs.Lines.Texts.{CallStatus, call, done, refused, call_is}
 use Rattle.wh_host_model.specs.Lines.Made.{Guest, Reception, Made, taken_on, turned_down, Invoked}
 use Rattle.wh_host_model.specs.Lines.Drains.{had_ended, goes_on, all_ended, has_run, Drains, anew, has_none, is_refused, is_taken}

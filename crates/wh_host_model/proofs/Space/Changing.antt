@@ -5,7 +5,7 @@ use Rattle.wh_host_model.specs.declared.states.Page.{Page}
 use Rattle.wh_host_model.specs.Space.States.{page_at, put, count_of}
 use Rattle.wh_host_model.specs.Frames.{tally}
 use Rattle.wh_host_model.specs.Space.Ready.{below}
-use Rattle.wh_host_model.specs.Space.Charges.{before_in, charge_in, charged_in, standing_at, stands_on}
+use Rattle.wh_host_model.specs.Space.Charges.{before_in, charge_in, standing_at, stands_on}
 use Rattle.wh_host_model.proofs.Space.Putting.{here_or, put_other_row, row_put}
 
 -- sums that differ at one number alone
@@ -44,11 +44,3 @@ charge_same number tables i p x y g there same k =
     ∙ below_each (length tables) (λ j. cond (nat_lt (number j) (number k)) (standing_at tables j g) 0) (λ j. cond (nat_lt (number j) (number k)) (standing_at (put tables i p y) j g) 0)
     (λ j. ap (λ n. cond (nat_lt (number j) (number k)) n 0) (standing_same tables i p x y g there same j)) in
     ap (λ b. cond (b == 0) (min 1 (standing_at (put tables i p y) k g)) 0) sum ∙ ap (λ n. cond (before_in number tables k g == 0) (min 1 n) 0) own
-
--- A page that leaves or joins frame f, and no other, changes each instance's count by its charge for this frame: at most one
--- instance's falls by 1, and one's rises by 1.
-pub charges_change : (number : ℕ → ℕ) (tables : List (List Page)) (frames i p f : ℕ) (x y : Page) → page_at tables i p ≡ Some x → f < frames
-    → ((g : ℕ) → g ≢ f → stands_on g y ≡ stands_on g x) → (k : ℕ)
-    → charged_in number (put tables i p y) frames k + charge_in number tables k f ≡ charged_in number tables frames k + charge_in number (put tables i p y) k f
-charges_change number tables frames i p f x y there less others k =
-    below_change frames f (λ g. charge_in number tables k g) (λ g. charge_in number (put tables i p y) k g) less (λ g other. charge_same number tables i p x y g there (others g other) k)

@@ -16,7 +16,7 @@ use Rattle.wh_host_model.specs.Space.Parts.{Space, backing, frame_bytes, kept_by
 use Rattle.wh_host_model.specs.Space.Sound.{FramesAreSound, IsSound}
 use Rattle.wh_host_model.specs.Space.States.{Backing, at, comes_from, count, joined, lies_in, owns, page_at, page_bytes, resident, shares, untouched}
 use Rattle.wh_host_model.specs.Space.Ready.{IsAtHand, among, copies, may_take, pages_from, pages_of_need}
-use Rattle.wh_host_model.specs.Space.Breaks.{Breaks, BreaksEach, GetsFrame, TakesFrame, standing_alone, with_fewer}
+use Rattle.wh_host_model.specs.Space.Breaks.{Breaks, BreaksEach, TakesFrame, standing_alone, with_fewer}
 use Rattle.wh_host_model.specs.Space.Stores.{Fills}
 use Rattle.wh_host_model.specs.Space.Storing.{SomeStore}
 use Rattle.wh_host_model.specs.Pages.{zero_page}
@@ -106,11 +106,6 @@ same_cond f g a b e = grind (arith, nat_tests)
 
 pub other_cond : (f g a b : ℕ) → f ≢ g → cond (f == g) a b ≡ b
 other_cond f g a b other = grind (arith, nat_tests)
-
-pub single_less : (s mid : Space) (o : Option ℕ) → ((h : ℕ) → sharers mid h ≤ sharers s h) → single mid o ≤ single s o
-unfolding single
-single_less s mid None less = omega arith
-single_less s mid (Some f) less = copies_less (sharers mid f) (sharers s f) (less f)
 
 pub both_want : (s mid : Space) (o q : Option ℕ) → ((h : ℕ) → sharers mid h ≤ sharers s h) → ((f : ℕ) → o ≡ Some f → sharers mid f + 1 ≡ sharers s f) → single s o + single mid q ≤ double s o q
 unfolding single double

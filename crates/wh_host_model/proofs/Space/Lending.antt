@@ -92,13 +92,6 @@ lent s i g bytes s2 (inr (rest, (before, behind, was, now), is)) =
       takes = (let here : kept_by (Some new) i ≡ rest = kept_at new i refl in let k = shorter g before behind in rw (here, was, now) (omega arith));
     })
 
-kept_less : (o : Option Pins) (i h : ℕ) → tally (one_if h) (kept_by o i) ≤ tally (one_if h) (kept o)
-kept_less None i h = omega arith
-kept_less (Some x) i h = go (x.place == i) where
-  go : (t : Bool) → tally (one_if h) (cond t x.frames []) ≤ tally (one_if h) x.frames
-  go true = omega arith
-  go false = omega arith
-
 -- no page was on it
 pub lent_alone : (s : Space) (i g : ℕ) (bytes : List ℕ) (s2 : Space) → FramesAreSound s → IsLent s i g bytes s2 → (g < length s.pool.frames) × (count (owns g) s.tables ≡ 0) × (sharers s g ≡ 0)
 lent_alone s i g bytes s2 sound lends =

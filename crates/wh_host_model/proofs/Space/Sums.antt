@@ -1,5 +1,5 @@
 -- Sums over numbers and over lists.
-use Rattle.std.proofs.Common.{◌≡◌, ◌≢◌, ℕ, ◌+◌, ◌<◌, ◌≤◌, inl, inr, List, [], ◌∷◌, Some, length, slice_get, slice_set, get_or, zero, suc, refl, arith}
+use Rattle.std.proofs.Common.{◌≡◌, ℕ, ◌+◌, ◌<◌, ◌≤◌, inl, inr, List, [], ◌∷◌, Some, length, slice_get, slice_set, get_or, zero, suc, refl, arith}
 use Rattle.std.proofs.lemmas.Bool.Decides.{nat_tests}
 use Rattle.std.proofs.lemmas.Bool.{cases_lt}
 use Rattle.wh_host_model.specs.Frames.{tally, one_if}
@@ -85,19 +85,4 @@ beside none w m (x ∷ xs) [] same each = absurd (omega arith)
 beside none w m (x ∷ xs) (y ∷ ys) same each =
     let one : w x ≤ m y = each 0 y refl in
     let rest = beside none w m xs ys (omega arith) (λ i z at. each (suc i) z at) in
-    omega arith
-
--- and where one of them is known apart
-pub beside_but : {X Y : Type 0} (none : X) (w : X → ℕ) (m : Y → ℕ) (xs : List X) (ys : List Y) (i : ℕ) (y : Y) → length xs ≡ length ys → slice_get ys i ≡ Some y
-    → ((j : ℕ) (z : Y) → j ≢ i → slice_get ys j ≡ Some z → w (get_or xs j none) ≤ m z) → tally w xs + m y ≤ tally m ys + w (get_or xs i none)
-beside_but none w m [] [] i y same at each = cc
-beside_but none w m [] (z ∷ ys) i y same at each = absurd (omega arith)
-beside_but none w m (x ∷ xs) [] i y same at each = absurd (omega arith)
-beside_but none w m (x ∷ xs) (z ∷ ys) zero y same at each =
-    let e : z ≡ y = cc in
-    let rest = beside none w m xs ys (omega arith) (λ j u there. each (suc j) u (λ b. omega arith) there) in
-    rw e (omega arith)
-beside_but none w m (x ∷ xs) (z ∷ ys) (suc i) y same at each =
-    let one : w x ≤ m z = each 0 z (λ b. omega arith) refl in
-    let rest = beside_but none w m xs ys i y (omega arith) at (λ j u other there. each (suc j) u (λ b. other (omega arith)) there) in
     omega arith

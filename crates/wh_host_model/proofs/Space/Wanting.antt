@@ -6,7 +6,7 @@ use Rattle.wh_host_model.specs.Frames.{tally}
 use Rattle.wh_host_model.specs.declared.states.Page.{Page}
 use Rattle.wh_host_model.specs.declared.states.Page.TheVariants.{Untouched, Private, Shared, Leaving, LeavingShared, Coming, Swapped}
 use Rattle.wh_host_model.specs.Space.Parts.{Space, sharers}
-use Rattle.wh_host_model.specs.Space.Ready.{below, among, copies, pages_from, pages_of_need, frames_for, frames_to_write, frames_in_all}
+use Rattle.wh_host_model.specs.Space.Ready.{below, among, copies, pages_from, pages_of_need, frames_for, frames_to_write}
 use Rattle.wh_host_model.specs.Space.States.{at, page_at, shares, resident, swapped, untouched, count, count_of}
 use Rattle.wh_host_model.proofs.Space.Sums.{below_le}
 
@@ -90,16 +90,6 @@ copies_room s i ps few =
 cond_le : (b : Bool) (n : ℕ) → cond b n 0 ≤ n
 cond_le true n = omega arith
 cond_le false n = omega arith
-
--- a step that has r resident pages wants at most 2 - r frames and what sharing has saved
-pub frames_in_all_room : (s : Space) (i : ℕ) (need : Need)
-    → frames_in_all s i need + among resident s i (pages_of_need need) ≤ 2 + below (length s.pool.frames) (λ f. sharers s f - 1)
-frames_in_all_room s i need =
-    let few = few_pages need in
-    let kinds = kinds_of s i (pages_of_need need) few in
-    let room = copies_room s i (pages_of_need need) few in
-    let some = cond_le need.writes (frames_for s i (pages_of_need need)) in
-    omega arith
 
 pub frames_to_write_room : (s : Space) (i : ℕ) (need : Need)
     → frames_to_write s i need ≤ among untouched s i (pages_of_need need) + below (length s.pool.frames) (λ f. sharers s f - 1)

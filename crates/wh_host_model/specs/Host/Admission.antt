@@ -7,20 +7,20 @@ use Rattle.wh_model.specs.Validity.Valid.{Valid}
 use Rattle.wh_model.specs.Validity.Heights.{Fits}
 use Rattle.wh_model.specs.Execution.Store.{Instance, Store}
 use Rattle.wh_model.specs.Execution.Instance.{AreGiven, Piece, IsInitial, memory_min, segment_bounds, begins}
-use Rattle.wh_model.specs.Execution.Replay.{Outcome, returned, pending}
+use Rattle.wh_model.specs.Execution.Replay.{returned, pending}
 use Rattle.wh_model.specs.declared.faults.ImportFault.{ImportFault}
 use Rattle.wh_model.specs.Linking.Imports.{IsFirstFault}
 use Rattle.wh_model.specs.Linking.Accepting.{IsModule, IsAccepted}
 use Rattle.wh_host_model.specs.Space.Parts.{Space, minima, spreads}
 use Rattle.wh_host_model.specs.Host.Spaces.{Arrives, Departs}
-use Rattle.wh_host_model.specs.Host.Worlds.{Params, Entry, Rest, Doing, resting, has_left, Tenant, Loaded, World, given_of, promised, with_tenant}
+use Rattle.wh_host_model.specs.Host.Worlds.{Rest, Doing, resting, has_left, Tenant, Loaded, World, promised, with_tenant}
+use Rattle.wh_host_model.specs.Owners.{Entry}
+use Rattle.wh_host_model.specs.Owners.{Params, given_of, most_fuel}
 use Rattle.wh_host_model.specs.Host.Answers.{Faces}
-use Rattle.wh_host_model.specs.Host.Calls.{most_fuel}
+use Rattle.wh_host_model.specs.Owners.{AdmitFault, admit_rank, frames, instances, memory, min_max, most_instances, most_modules, no_module, segments, shares, swap}
+use Rattle.wh_host_model.specs.Owners.{start_entry}
 
 -- ---- modules
-
-abbrev pub most_modules : ℕ
-most_modules = 1024
 
 -- why a module isn't loaded
 pub data LoadFault : Type 0 where
@@ -59,25 +59,11 @@ pub record LoadsModule (w : World) (bytes : List ℕ) (number : ℕ) (w2 : World
 
 -- ---- admission
 
-abbrev pub most_instances : ℕ
-most_instances = 4096
-
 -- how many instances are live
 abbrev pub live_count : List (Option Tenant) → ℕ
 live_count [] = 0
 live_count (None ∷ ts) = live_count ts
 live_count (Some t ∷ ts) = 1 + live_count ts
-
--- why an instance isn't admitted
-pub data AdmitFault : Type 0 where
-  no_module : AdmitFault
-  shares : AdmitFault
-  min_max : AdmitFault
-  frames : AdmitFault
-  swap : AdmitFault
-  instances : AdmitFault
-  memory : AdmitFault
-  segments : AdmitFault
 
 -- the fault is met, whatever of the other ones is
 abbrev pub MeetsFault : World → ℕ → Params → AdmitFault → Type 0
@@ -90,28 +76,9 @@ MeetsFault w k p instances = most_instances ≤ live_count w.tenants
 MeetsFault w k p memory = (l : Loaded) × (slice_get w.modules k ≡ Some l) × IsInitial l.m (given_of p) memory_min
 MeetsFault w k p segments = (l : Loaded) × (slice_get w.modules k ≡ Some l) × IsInitial l.m (given_of p) segment_bounds
 
--- replies name it A and this number; they are looked at in this order
-abbrev pub admit_rank : AdmitFault → ℕ
-admit_rank no_module = 1
-admit_rank shares = 2
-admit_rank min_max = 3
-admit_rank frames = 4
-admit_rank swap = 5
-admit_rank instances = 6
-admit_rank memory = 7
-admit_rank segments = 8
-
 abbrev pub IsFirstMet : World → ℕ → Params → AdmitFault → Type 0
 IsFirstMet w k p fault =
     MeetsFault w k p fault × ((other : AdmitFault) → admit_rank other < admit_rank fault → ¬ (MeetsFault w k p other))
-
--- the start of an instance, as its journal has it
-abbrev pub start_entry : Option ℕ → ℕ → Outcome → Entry
-start_entry func fuel outcome =
-    record {
-      call = record { func = func; args = []; fuel = fuel; fragments = 0; charges = 0; outcome = outcome };
-      given = [];
-    }
 
 -- What an instance begins with: its start has pieces to write, or calls the start function, or has ended already.
 pub data StartsAs (inst : Instance) (s : Store) (pieces : List Piece) (start : Option ℕ) (fuel : ℕ)

@@ -12,7 +12,8 @@ use Rattle.wh_host_model.specs.declared.plain.TurnEnd.TheVariants.{Idle, Again, 
 use Rattle.wh_host_model.specs.Space.Parts.{Space, view}
 use Rattle.wh_host_model.specs.Space.Ready.{Ready}
 use Rattle.wh_host_model.specs.Host.Spaces.{StepsAlone, StandsAlone, PinsEndAfter}
-use Rattle.wh_host_model.specs.Host.Worlds.{Entry, Rest, Doing, resting, computing, Suspension, for_fuel, for_frame, for_device, Tenant, store_with, store_in}
+use Rattle.wh_host_model.specs.Host.Worlds.{Rest, Doing, resting, computing, Suspension, for_fuel, for_frame, for_device, Tenant, store_with, store_in}
+use Rattle.wh_host_model.specs.Owners.{Entry}
 use Rattle.wh_host_model.specs.Host.Turns.{Upshot, to_end, out_of_fuel, to_wait, to_go_on, Proceeds}
 
 -- ---- calls that go on, and that end

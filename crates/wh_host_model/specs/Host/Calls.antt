@@ -1,66 +1,23 @@
 -- What the owner of an instance asks of its calls: a new one, more fuel, an end, another try.
-use Rattle.std.specs.Prelude.{◌≡◌, ◌≢◌, ℕ, ◌+◌, ◌-◌, ◌^◌, ◌<◌, ◌≤◌, ◌⊎◌, true, false, List, [], ◌∷◌, ◌++◌, length, min, slice_get, Option, Some, None, ℤ, pos, negsuc, ◌≤ℤ◌}
-use Rattle.wh_model.specs.declared.ValType.{ValType}
-use Rattle.wh_model.specs.declared.ValType.TheVariants.{I32, I64}
-use Rattle.wh_model.specs.declared.ExternKind.TheVariants.{Func}
+use Rattle.std.specs.Prelude.{◌≡◌, ◌≢◌, ℕ, ◌+◌, ◌-◌, ◌<◌, ◌≤◌, ◌⊎◌, true, false, List, [], ◌∷◌, ◌++◌, length, min, Option, Some, None, ℤ}
 use Rattle.wh_model.specs.Format.Syntax.{FuncType, Body, Module}
-use Rattle.wh_model.specs.Execution.Numbers.{unsigned}
-use Rattle.wh_model.specs.Execution.Store.{Value, value, own, Instance}
-use Rattle.wh_model.specs.Execution.Replay.{Call, pending, cancelled}
+use Rattle.wh_model.specs.Execution.Store.{Value}
+use Rattle.wh_model.specs.Execution.Replay.{Call, cancelled}
 use Rattle.wh_host_model.specs.declared.plain.SwapError.{SwapError}
 use Rattle.wh_host_model.specs.Space.Parts.{Space}
 use Rattle.wh_host_model.specs.Space.Sight.{HasNoPins}
 use Rattle.wh_host_model.specs.Host.Spaces.{StandsAlone}
-use Rattle.wh_host_model.specs.Host.Worlds.{Entry, Doing, Suspension, for_fuel, for_frame, for_device, Tenant, journal, store_in}
+use Rattle.wh_host_model.specs.Host.Worlds.{Doing, Suspension, for_fuel, for_frame, for_device, Tenant, journal, store_in}
+use Rattle.wh_host_model.specs.Owners.{Entry}
 use Rattle.wh_host_model.specs.Host.Answers.{ended_by, Faces, Closes}
-
--- ---- limits
-
--- the start isn't counted
-abbrev pub most_open : ℕ
-most_open = 1024
-
--- the start is counted
-abbrev pub most_calls : ℕ
-most_calls = 65536
-
-abbrev pub most_fuel : ℕ
-most_fuel = 2 ^ 64 - 1
+use Rattle.wh_host_model.specs.Owners.{AreArguments, ExportsOwn, InvokeFault, arguments, instance_dead, journal_full, most_calls, most_fuel, most_open, no_export, queue_full, rank}
+use Rattle.wh_host_model.specs.Owners.{new_entry}
 
 -- ---- a new call
-
--- a number that may be given for a parameter, signed or unsigned, and the value that it stands for
-abbrev pub IsArgument : ValType → ℤ → Value → Type 0
-IsArgument I32 n v =
-    (negsuc 2147483647 ≤ℤ n) × (n ≤ℤ pos 4294967295) × (v ≡ value I32 (unsigned 32 n))
-IsArgument I64 n v =
-    (negsuc 9223372036854775807 ≤ℤ n) × (n ≤ℤ pos 18446744073709551615) × (v ≡ value I64 (unsigned 64 n))
-
--- one for each parameter
-abbrev pub AreArguments : List ValType → List ℤ → List Value → Type 0
-AreArguments [] [] vs = vs ≡ []
-AreArguments (t ∷ ts) (n ∷ ns) vs =
-    (v : Value) × (rest : List Value) × IsArgument t n v × (vs ≡ v ∷ rest) × AreArguments ts ns rest
-AreArguments ts ns vs = ⊥
-
--- the module exports one of its own functions by this name
-pub record ExportsOwn (m : Module) (inst : Instance) (name : List ℕ) (x : ℕ) (type : FuncType) (body : Body)
-    : Type 0 where
-  pub place : ℕ
-  pub exported : slice_get m.exports place ≡ Some (record { name = name; kind = Func; index = x })
-  pub is_own : slice_get inst.funcs x ≡ Some (own type body)
 
 -- how many calls are open, the start not counted
 abbrev pub open_count : Tenant → ℕ
 open_count t = length t.open_calls - (1 - min 1 (length t.ended))
-
--- why a call is refused
-pub data InvokeFault : Type 0 where
-  no_export : InvokeFault
-  arguments : InvokeFault
-  queue_full : InvokeFault
-  instance_dead : InvokeFault
-  journal_full : InvokeFault
 
 -- the fault is met, whatever of the other ones is
 abbrev pub Meets : Module → Tenant → List ℕ → List ℤ → InvokeFault → Type 0
@@ -72,25 +29,9 @@ Meets m t name given queue_full = most_open ≤ open_count t
 Meets m t name given instance_dead = t.dead ≡ true
 Meets m t name given journal_full = most_calls ≤ length (journal t)
 
--- replies name it H and this number; they are looked at in this order
-abbrev pub rank : InvokeFault → ℕ
-rank no_export = 2
-rank arguments = 3
-rank queue_full = 4
-rank instance_dead = 5
-rank journal_full = 6
-
 abbrev pub IsFirst : Module → Tenant → List ℕ → List ℤ → InvokeFault → Type 0
 IsFirst m t name given fault =
     Meets m t name given fault × ((other : InvokeFault) → rank other < rank fault → ¬ (Meets m t name given other))
-
--- the call as it is accepted
-abbrev pub new_entry : ℕ → List Value → List ℤ → ℕ → Entry
-new_entry x vs given fuel =
-    record {
-      call = record { func = Some x; args = vs; fuel = fuel; fragments = 0; charges = 0; outcome = pending };
-      given = given;
-    }
 
 -- A call is accepted: it stands at the end of the journal, and is faced where no other is open.
 pub record TakesCall (m : Module) (s : Space) (t : Tenant) (name : List ℕ) (given : List ℤ) (fuel at : ℕ) (t2 : Tenant)

@@ -2,7 +2,7 @@
 use Rattle.std.specs.Prelude.{ℕ, List, Option, ℤ}
 use Rattle.wh_host_model.specs.declared.plain.InstId.{InstId}
 use Rattle.wh_host_model.specs.declared.plain.SwapError.{SwapError}
-use Rattle.wh_host_model.specs.Host.Worlds.{Params}
+use Rattle.wh_host_model.specs.Owners.{Params}
 
 -- a page of 4096 bytes of a linear memory
 pub record PageId : Type 0 where

@@ -6,10 +6,11 @@ use Rattle.wh_host_model.specs.declared.plain.InstId.{InstId}
 use Rattle.wh_host_model.specs.declared.plain.SwapError.{SwapError}
 use Rattle.wh_host_model.specs.Space.Parts.{Space}
 use Rattle.wh_host_model.specs.Host.Spaces.{AllLeftAlone}
-use Rattle.wh_host_model.specs.Host.Worlds.{Params, for_frame, for_device, Tenant, Loaded, World, tenant, with_tenant}
+use Rattle.wh_host_model.specs.Host.Worlds.{for_frame, for_device, Tenant, Loaded, World, tenant, with_tenant}
+use Rattle.wh_host_model.specs.Owners.{Params, AdmitFault, InvokeFault}
 use Rattle.wh_host_model.specs.Host.Answers.{Turn}
-use Rattle.wh_host_model.specs.Host.Calls.{InvokeFault, Meets, IsFirst, TakesCall, Refuels, Cancels, Retries}
-use Rattle.wh_host_model.specs.Host.Admission.{LoadFault, RefusesLoad, LoadWant, MayWant, LoadsModule, AdmitFault, MeetsFault, IsFirstMet, LetsIn, LetsGo}
+use Rattle.wh_host_model.specs.Host.Calls.{Meets, IsFirst, TakesCall, Refuels, Cancels, Retries}
+use Rattle.wh_host_model.specs.Host.Admission.{LoadFault, RefusesLoad, LoadWant, MayWant, LoadsModule, MeetsFault, IsFirstMet, LetsIn, LetsGo}
 use Rattle.wh_host_model.specs.Host.Events.{Event, turn, load, admit, invoke, refuel, cancel, retry, release, offer, evict_begin, evict_commit, fetch_begin, fetch_commit, provide, epoch}
 
 -- the number is that of a live instance, and it lies there

@@ -4,9 +4,9 @@ use Rattle.std.specs.List.{AllByRecursion}
 use Rattle.wh_model.specs.Format.Syntax.{FuncType, Body, Module}
 use Rattle.wh_model.specs.Execution.Store.{own, Instance}
 use Rattle.wh_model.specs.Execution.Replay.{Outcome, returned, stopped, cancelled, dead, pending, Call, fails}
-use Rattle.wh_host_model.specs.Host.Worlds.{Entry}
+use Rattle.wh_host_model.specs.Owners.{Entry}
 use Rattle.wh_host_model.specs.Host.Turns.{HaveTypes}
-use Rattle.wh_host_model.specs.Host.Calls.{most_fuel, AreArguments}
+use Rattle.wh_host_model.specs.Owners.{most_fuel, AreArguments}
 
 -- it calls a function of the module's own, with arguments as its owner gave them, and fuel that can be counted
 pub record IsAsked (inst : Instance) (e : Entry) : Type 0 where

@@ -13,9 +13,10 @@ use Rattle.wh_host_model.specs.declared.plain.TurnEnd.TheVariants.{Again, Frame}
 use Rattle.wh_host_model.specs.Space.Parts.{Space, Claimed, Promised, view, claim, promise_at, wants}
 use Rattle.wh_host_model.specs.Space.Sound.{IsSound}
 use Rattle.wh_host_model.specs.Space.Ready.{Ready}
-use Rattle.wh_host_model.specs.Host.Worlds.{computing, Tenant, Loaded, World, given_of, promised, journal, journal_calls, store_in, standing_in, tenant, empty_world}
+use Rattle.wh_host_model.specs.Host.Worlds.{computing, Tenant, Loaded, World, promised, journal, journal_calls, store_in, standing_in, tenant, empty_world}
+use Rattle.wh_host_model.specs.Owners.{given_of, most_calls, most_open}
 use Rattle.wh_host_model.specs.Host.Answers.{Turn}
-use Rattle.wh_host_model.specs.Host.Calls.{most_calls, most_open, open_count}
+use Rattle.wh_host_model.specs.Host.Calls.{open_count}
 use Rattle.wh_model.specs.Linking.Accepting.{IsAccepted}
 use Rattle.wh_host_model.specs.Host.Events.{Event}
 use Rattle.wh_host_model.specs.Host.Happens.{Happens, AllHappen}

@@ -4,12 +4,14 @@ use Rattle.wh_model.specs.Format.Syntax.{Module}
 use Rattle.wh_host_model.specs.declared.plain.InstId.{InstId}
 use Rattle.wh_host_model.specs.declared.plain.TurnEnd.{TurnEnd}
 use Rattle.wh_host_model.specs.declared.plain.TurnEnd.TheVariants.{Idle, Fuel}
-use Rattle.wh_host_model.specs.Host.Worlds.{Params, Entry, Tenant, Loaded, World, for_fuel, given_of, with_tenant}
-use Rattle.wh_host_model.specs.Host.Calls.{InvokeFault, Meets, most_fuel}
+use Rattle.wh_host_model.specs.Host.Worlds.{Tenant, Loaded, World, for_fuel, with_tenant}
+use Rattle.wh_host_model.specs.Owners.{Entry}
+use Rattle.wh_host_model.specs.Owners.{Params, given_of, AdmitFault, most_modules, InvokeFault, most_fuel}
+use Rattle.wh_host_model.specs.Host.Calls.{Meets}
 use Rattle.wh_model.specs.Execution.Instance.{AreGiven}
 use Rattle.wh_host_model.specs.Space.Parts.{Space}
 use Rattle.wh_model.specs.Linking.Accepting.{IsAccepted}
-use Rattle.wh_host_model.specs.Host.Admission.{AdmitFault, MeetsFault, most_modules}
+use Rattle.wh_host_model.specs.Host.Admission.{MeetsFault}
 use Rattle.wh_host_model.specs.Host.Events.{Event}
 use Rattle.wh_host_model.specs.Host.Happens.{Happens, IsLive, IsTurn, IsLoad, load_ok, IsAdmit, admit_ok, IsInvoke, invoke_ok}
 use Rattle.wh_host_model.specs.Host.Laws.{AfterEvents}

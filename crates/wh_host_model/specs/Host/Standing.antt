@@ -9,7 +9,8 @@ use Rattle.wh_model.specs.Execution.Memory.{writing}
 use Rattle.wh_model.specs.Execution.Instance.{Piece}
 use Rattle.wh_model.specs.Execution.Replay.{Call}
 use Rattle.wh_host_model.specs.Space.Parts.{Space, wants}
-use Rattle.wh_host_model.specs.Host.Worlds.{Entry, Doing, has_left, computing, Suspension, for_fuel, for_frame, Tenant, store_in}
+use Rattle.wh_host_model.specs.Host.Worlds.{Doing, has_left, computing, Suspension, for_fuel, for_frame, Tenant, store_in}
+use Rattle.wh_host_model.specs.Owners.{Entry}
 
 -- The next step over this store reads or writes these bytes: it writes the next piece; or fuel is left, and it is a
 -- charged reduction that asks for them.

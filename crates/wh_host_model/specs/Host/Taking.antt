@@ -9,7 +9,8 @@ use Rattle.wh_model.specs.Execution.Instance.{Piece}
 use Rattle.wh_host_model.specs.declared.plain.TurnEnd.{TurnEnd}
 use Rattle.wh_host_model.specs.Space.Parts.{Space}
 use Rattle.wh_host_model.specs.Space.Ready.{Ready}
-use Rattle.wh_host_model.specs.Host.Worlds.{Entry, has_left, computing, Tenant, journal, store_in}
+use Rattle.wh_host_model.specs.Host.Worlds.{has_left, computing, Tenant, journal, store_in}
+use Rattle.wh_host_model.specs.Owners.{Entry}
 use Rattle.wh_host_model.specs.Host.Answers.{Turn}
 
 -- In a turn of q charges the next step of the present call may be taken: it is a piece that is ready; or, q and fuel

@@ -1,31 +1,17 @@
 -- A host as its definitions see it: modules, instances and their calls, over one memory.
-use Rattle.std.specs.Prelude.{ℕ, ◌/◌, Bool, List, [], ◌++◌, map, get_or, slice_set, Option, None, ℤ}
+use Rattle.std.specs.Prelude.{ℕ, Bool, List, [], ◌++◌, map, get_or, slice_set, Option, None}
 use Rattle.wh_model.specs.Format.Syntax.{Module}
 use Rattle.wh_model.specs.Execution.Store.{Value, Instance, Store}
 use Rattle.wh_model.specs.Execution.Configuration.{Term, config}
-use Rattle.wh_model.specs.Execution.Instance.{Piece, Parameters}
+use Rattle.wh_model.specs.Execution.Instance.{Piece}
 use Rattle.wh_model.specs.Execution.Replay.{Call, Standing, idle, writing, running}
 use Rattle.wh_host_model.specs.declared.Tax.{Tax}
 use Rattle.wh_host_model.specs.declared.plain.SwapError.{SwapError}
 use Rattle.wh_host_model.specs.Space.Parts.{Space, Claimed, view, empty_space}
+use Rattle.wh_host_model.specs.Owners.{Params}
+use Rattle.wh_host_model.specs.Owners.{Entry}
 
 -- ---- what is known of an instance
-
--- What the owner of an instance gives it: its shares of memory, the least and the greatest number of frames, the fuel
--- of its start, and what the host's module is to offer it.
-pub record Params : Type 0 where
-  pub shares : ℕ
-  pub min : ℕ
-  pub max : ℕ
-  pub fuel : ℕ
-  pub base : ℕ
-  pub salt : ℕ
-  pub inputs : List ℕ
-
--- a call as the journal has it, and the arguments as its owner gave them
-pub record Entry : Type 0 where
-  pub call : Call
-  pub given : List ℤ
 
 -- the store of an instance (4.2.3) but for its memory
 pub record Rest : Type 0 where
@@ -76,10 +62,6 @@ pub record World : Type 0 where
   pub space : Space
 
 -- ---- words for it
-
--- what instantiation is given (4.5.4): 16 frames are one page of 65536 bytes
-abbrev pub given_of : Params → Parameters
-given_of p = record { base = p.base; salt = p.salt; inputs = p.inputs; page_limit = p.max / 16 }
 
 -- what the instance of this number is promised
 abbrev pub promised : ℕ → Params → Claimed

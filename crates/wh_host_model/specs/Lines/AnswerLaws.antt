@@ -3,7 +3,7 @@ use Rattle.std.specs.Prelude.{◌≡◌, ℕ, Bool, List}
 use Rattle.std.specs.List.{AllByRecursion}
 use Rattle.wh_model.specs.Execution.Store.{Store}
 use Rattle.wh_model.specs.Execution.Instance.{begins, IsInitial}
-use Rattle.wh_host_model.specs.Host.Worlds.{given_of}
+use Rattle.wh_host_model.specs.Owners.{given_of}
 use Rattle.wh_host_model.specs.Lines.Texts.{Reply}
 use Rattle.wh_host_model.specs.Lines.Made.{Guest, Made, nothing_made}
 use Rattle.wh_host_model.specs.Lines.Drains.{RunsAlone, Drains}

@@ -3,8 +3,7 @@ use Rattle.std.specs.Prelude.{◌≡◌, ℕ, ◌+◌, ◌<◌, ◌≤◌, Bool,
 use Rattle.wh_model.specs.Format.Syntax.{Module}
 use Rattle.wh_model.specs.Execution.Replay.{Call, Standing, store_at, Replay}
 use Rattle.wh_host_model.specs.Script.{is_skipped, longest_line}
-use Rattle.wh_host_model.specs.Host.Worlds.{Params, given_of}
-use Rattle.wh_host_model.specs.Host.Calls.{most_fuel}
+use Rattle.wh_host_model.specs.Owners.{Params, given_of, most_fuel}
 use Rattle.wh_host_model.specs.Lines.Settings.{Settings}
 use Rattle.wh_host_model.specs.Lines.Commands.{Command, keep, load, admit, invoke, drain, refuel, cancel, retry, scan, report, release, AsksCommand}
 use Rattle.wh_host_model.specs.Lines.Texts.{Reply, error, refuel_ok, refuel_refused, cancel_ok, cancel_refused, retry_refused, scan_ok, release_ok, release_refused, reply_text}

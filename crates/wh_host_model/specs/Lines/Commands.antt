@@ -3,8 +3,8 @@ use Rattle.std.specs.Prelude.{◌≡◌, ℕ, List, [], ◌∷◌, ℤ, codes}
 use Rattle.std.specs.List.{AllZip}
 use Rattle.wh_model.specs.declared.ValType.TheVariants.{I32, I64}
 use Rattle.wh_host_model.specs.Script.{IsName, IsWord}
-use Rattle.wh_host_model.specs.Requests.{IsHex}
-use Rattle.wh_host_model.specs.Host.Worlds.{Params}
+use Rattle.wh_host_model.specs.Lines.Hex.{IsHex}
+use Rattle.wh_host_model.specs.Owners.{Params}
 use Rattle.wh_host_model.specs.Lines.Words.{words_of, IsNumber, IsCount, IsBits}
 
 -- what there is to ask for

@@ -8,7 +8,7 @@ use Rattle.wh_model.specs.Execution.Store.{Value, value, Instance, Store}
 use Rattle.wh_model.specs.Execution.Configuration.{Config}
 use Rattle.wh_model.specs.Execution.Reduction.{IsNext}
 use Rattle.wh_model.specs.Execution.Replay.{Outcome, returned, stopped, cancelled, dead, pending, Call, Standing, idle, running, Replay}
-use Rattle.wh_host_model.specs.Host.Worlds.{given_of}
+use Rattle.wh_host_model.specs.Owners.{given_of}
 use Rattle.wh_host_model.specs.Lines.Texts as texts
 use Rattle.wh_host_model.specs.Lines.Texts.{Caller, call, start, CallStatus, done, trapped, wants_fuel, queued, released, refused, Reply, call_is}
 use Rattle.wh_host_model.specs.Lines.Made.{Guest, turned_down, taken_on, Invoked, Made, is_open, first_open}

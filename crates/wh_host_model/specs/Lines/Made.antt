@@ -4,7 +4,7 @@ use Rattle.wh_model.specs.Format.Syntax.{Module}
 use Rattle.wh_model.specs.Execution.Store.{Instance}
 use Rattle.wh_model.specs.Execution.Instance.{Piece}
 use Rattle.wh_model.specs.Execution.Replay.{Outcome, returned, stopped, cancelled, dead, pending, Call, fails}
-use Rattle.wh_host_model.specs.Host.Worlds.{Params}
+use Rattle.wh_host_model.specs.Owners.{Params}
 use Rattle.wh_host_model.specs.Lines.Texts.{CallStatus}
 
 -- a module under its name
@@ -113,3 +113,9 @@ cancel_first [] = []
 cancel_first (first ∷ calls) =
     if is_open first.outcome then ended_so cancelled first ∷ map (ended_so dead) calls
     else first ∷ with_first_open (ended_so cancelled) calls
+
+-- an instance that isn't released has an open call
+abbrev pub SomeCallIsOpen : Made → Type 0
+SomeCallIsOpen m =
+    (i : ℕ) × (g : Guest) × (c : Call) × (slice_get m.guests i ≡ Some g) × (g.is_released ≡ false)
+    × (first_open g.calls ≡ Some c)

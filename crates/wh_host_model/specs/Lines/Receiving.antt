@@ -15,10 +15,8 @@ use Rattle.wh_model.specs.Execution.Store.{Value, Instance, Store}
 use Rattle.wh_model.specs.Execution.Instance.{Piece, IsInitial, memory_min, segment_bounds, begins}
 use Rattle.wh_model.specs.Execution.Replay.{Outcome, returned, pending}
 use Rattle.wh_host_model.specs.Script.{Place}
-use Rattle.wh_host_model.specs.Replies.{IsValidFault}
-use Rattle.wh_host_model.specs.Host.Worlds.{Params, given_of}
-use Rattle.wh_host_model.specs.Host.Calls.{AreArguments, ExportsOwn, InvokeFault, no_export, arguments, queue_full, instance_dead, journal_full, rank, most_open, most_calls, new_entry}
-use Rattle.wh_host_model.specs.Host.Admission.{AdmitFault, no_module, shares, min_max, frames, swap, instances, memory, segments, admit_rank, most_modules, most_instances, start_entry}
+use Rattle.wh_host_model.specs.Owners.{IsValidFault, AreArguments, ExportsOwn, InvokeFault, no_export, arguments, queue_full, instance_dead, journal_full, rank, most_open, most_calls, start_entry, new_entry}
+use Rattle.wh_host_model.specs.Owners.{Params, given_of, AdmitFault, no_module, shares, min_max, frames, swap, instances, memory, segments, admit_rank, most_modules, most_instances}
 use Rattle.wh_host_model.specs.Lines.Settings.{Settings}
 use Rattle.wh_host_model.specs.Lines.Texts.{Refusal, broken, invalid, unlinked, no_link_memory, modules_full, no_room, Reply, module_ok, module_refused, admit_ok, admit_refused}
 use Rattle.wh_host_model.specs.Lines.Made.{Guest, Made, turned_down, taken_on, with_guest, with_invoked, live_sum, open_behind, start_failed}

@@ -4,7 +4,7 @@ use Rattle.std.specs.Str.Parse.{IsNumeral, starts_with_minus, signed_digits_valu
 use Rattle.wh_model.specs.declared.ValType.{ValType}
 use Rattle.wh_model.specs.Execution.Store.{value}
 use Rattle.wh_host_model.specs.Script.{onto_first}
-use Rattle.wh_host_model.specs.Host.Calls.{IsArgument, most_fuel}
+use Rattle.wh_host_model.specs.Owners.{IsArgument, most_fuel}
 
 -- the words of a line: its bytes up to each space, and those behind the last one
 abbrev pub words_of : List ℕ → List (List ℕ)

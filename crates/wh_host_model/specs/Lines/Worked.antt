@@ -4,7 +4,7 @@ use Rattle.wh_model.specs.declared.ValType.{ValType}
 use Rattle.wh_model.specs.declared.ValType.TheVariants.{I32}
 use Rattle.wh_model.specs.declared.ExternKind.TheVariants.{Func}
 use Rattle.wh_model.specs.Format.Syntax.{i32_const, br, Code, nothing, plain, loop, Module}
-use Rattle.wh_host_model.specs.Host.Worlds.{Params}
+use Rattle.wh_host_model.specs.Owners.{Params}
 use Rattle.wh_host_model.specs.Lines.Settings.{default_settings}
 use Rattle.wh_host_model.specs.Lines.Commands.{Command, admit, cancel, refuel}
 use Rattle.wh_host_model.specs.Lines.Texts.{call, done, wants_fuel, queued, cancelled, refused, Reply, admit_ok, cancel_ok, refuel_refused, call_is}

@@ -1,6 +1,6 @@
 use Rattle.std.proofs.Common.{◌≡◌, Some, slice_get, refl, sym, ap, subst, ◌∙◌, ◌+◌, arith, Option, List}
 use Rattle.slab.specs.Slab.{Updates}
-use Rattle.wh_host_model.specs.Host.Admission.{no_module}
+use Rattle.wh_host_model.specs.Owners.{no_module}
 use Rattle.wh_host_model.specs.Host.Happens.{admit_ok, admit_refused, admit_wants_memory, no_memory_to_admit}
 use Rattle.wh_host_model.specs.Host.Worlds.{promised}
 use Rattle.wh_host_model.specs.Space.Places.{Enters}

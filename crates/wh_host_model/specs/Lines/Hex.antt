@@ -1,6 +1,5 @@
--- What a line of a script asks for.
+-- Bytes in hexadecimal.
 use Rattle.std.specs.Prelude.{◌≡◌, ℕ, ◌+◌, ◌*◌, ◌≤◌, List, [], ◌∷◌}
-use Rattle.wh_host_model.specs.Script.{IsModuleLine}
 
 -- a hexadecimal digit and its value: `0` to `9`, or `a` to `f` in either case
 pub data IsDigit (c n : ℕ) : Type 0 where
@@ -18,12 +17,3 @@ IsHex [] bytes = bytes ≡ []
 IsHex (c ∷ []) bytes = ⊥
 IsHex (c ∷ d ∷ word) [] = ⊥
 IsHex (c ∷ d ∷ word) (b ∷ bytes) = IsPair c d b × IsHex word bytes
-
--- what a line may ask for
-pub data Request : Type 0 where
-  -- to keep the module of these bytes under this name
-  keep_module : (name bytes : List ℕ) → Request
-
--- the line asks for it
-abbrev pub AsksRequest : List ℕ → Request → Type 0
-AsksRequest line (keep_module name bytes) = (word : List ℕ) × IsModuleLine line name word × IsHex word bytes
