@@ -1,2 +1,3 @@
+mod Lent
 mod Places
 mod Turns

@@ -1,2 +1,3 @@
 pub mod EachAt
+pub mod Lent
 pub mod Serving

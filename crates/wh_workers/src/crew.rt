@@ -5,18 +5,20 @@ ghost use Rattle.crossbeam_channel.specs.Claims.{view, IsSeatAt};
 ghost use Rattle.crossbeam_channel.specs.Ends.{sends_on, receives_on};
 ghost use Rattle.wh_threads.specs.Counting.{LenderState, turns_of};
 ghost use Rattle.wh_workers.specs.EachAt.{EachAt};
+ghost use Rattle.wh_workers.specs.Lent.{AreLent};
 ghost use Rattle.wh_threads.specs.Handover.{TakesBack, HandsOut, SameMessages, turns_in, traffic, all_parts};
 ghost use Rattle.wh_workers.specs.Serving.{AreRun, AreTurns};
 ghost use Rattle.wh_threads.specs.Working.{HasWorked};
 
 use crate::feed::{Supply, feed};
+use crate::helpers::Helpers;
 use std::alloc::{AllocError, Global};
 use std::sync::Wait;
 use std::sync::ledger::Ledger;
 use std::thread::{PromisedHandle, Threads};
 use wh_threads::{
-    Equipment, Inlet, Lender, Outlet, Reply, Slip, Turns, Works, left_over, open_channel, pass_for,
-    start_worker, stop,
+    Equipment, Help, Inlet, Lender, Outlet, Reply, Slip, Turns, Works, left_over, open_channel,
+    pass_for, start_worker, stop,
 };
 
 // How many messages the channel holds: room for all last signs.
@@ -177,42 +179,62 @@ fn join_all<T: Ledger, C: Ledger, O: Ledger, E: Ledger, R: Threads>(
     }
 }
 
-// Hands out all turns, of so many charges each, and then the last signs. It gives how many turns.
+// Hands out all turns, of so many charges each, and then the last signs. It gives how many turns, and whether these were all.
 #[tactic(auto, using(crate::proofs::Turns::handed_with_last))]
-fn hand_out_all<S: Supply, R: Wait>(
-    rt: &R,
+fn hand_out_all<
+    T: Ledger,
+    C: Ledger,
+    O: Ledger + Send + 'static,
+    E: Ledger + Send + 'static,
+    S: Supply,
+    H: Help<O> + Drop + Send + 'static,
+    P: Help<E> + Drop + Send + 'static,
+    R: Threads + Wait + Copy + Send + 'static,
+>(
+    rt: R,
     supply: &mut S,
+    helpers: &mut Helpers<O, E, H, P>,
+    lender: &mut Lender<T, C, O, E>,
     outlet: &Outlet,
     slip: &mut Slip,
     workers: usize,
     quantum: u32,
-) -> u64
+) -> (u64, Result<(), ServeError>)
     requires channel { IsSeatAt (sends_on outlet.now) slip.old }
     requires fresh { ((view slip.old).sent ≡ []) × (0 < (view slip.old).parts) }
+    requires lent { AreLent helpers.old.scanner helpers.old.reclaimer lender.old }
     ensures channel { IsSeatAt (sends_on outlet.now) slip.new }
-    ensures out { HandsOut (view slip.old) result quantum (view slip.new) }
+    ensures out { HandsOut (view slip.old) result.0 quantum (view slip.new) }
+    ensures lent { AreLent helpers.new.scanner helpers.new.reclaimer lender.new }
+    ensures only { lender.new ≡ record lender.old {
+      scanners_out = lender.new.scanners_out;
+      reclaimers_out = lender.new.reclaimers_out;
+    } }
 {
-    let turns = feed(rt, supply, outlet, slip, quantum);
-    stop(rt, outlet, slip, workers);
-    turns
+    let fed = feed(rt, supply, helpers, lender, outlet, slip, quantum);
+    stop(&rt, outlet, slip, workers);
+    fed
 }
 
 // Starts the workers, hands out all turns, and joins the workers. It gives how many turns, and whether all workers were
-// started.
+// started and these were all turns.
 #[tactic(auto, using(crate::proofs::Turns::turns_handed, crate::proofs::Turns::turns_none_still))]
 fn run_crew<
     T: Ledger + Send + 'static,
     C: Ledger + Send + 'static,
-    O: Ledger,
-    E: Ledger,
+    O: Ledger + Send + 'static,
+    E: Ledger + Send + 'static,
     J: Turns<T, C> + Drop + Send + 'static,
     S: Supply,
+    H: Help<O> + Drop + Send + 'static,
+    P: Help<E> + Drop + Send + 'static,
     R: Threads + Wait + Copy + Send + 'static,
 >(
     rt: R,
     alloc: Global,
     team: &Team<J>,
     supply: &mut S,
+    helpers: &mut Helpers<O, E, H, P>,
     lender: &mut Lender<T, C, O, E>,
     slip: &mut Slip,
     workers: usize,
@@ -222,47 +244,60 @@ fn run_crew<
     requires fresh { view slip.old ≡ traffic all_parts [] [] }
     requires few { workers ≤ 64 }
     requires lender { lender.old.workers_out ≡ 0 }
+    requires lent { AreLent helpers.old.scanner helpers.old.reclaimer lender.old }
     ensures channel { IsSeatAt (sends_on team.now.outlet) slip.new }
     ensures whole { (view slip.new).parts ≡ all_parts }
     ensures handed { AreTurns result.0 quantum (view slip.new).sent }
     ensures grown { turns_of lender.new.tallies
         ≡ turns_of lender.old.tallies + turns_in (view slip.new).received }
-    ensures only { lender.new ≡ record lender.old { tallies = lender.new.tallies } }
+    ensures lent { AreLent helpers.new.scanner helpers.new.reclaimer lender.new }
+    ensures only { lender.new ≡ record lender.old {
+      tallies = lender.new.tallies;
+      scanners_out = lender.new.scanners_out;
+      reclaimers_out = lender.new.reclaimers_out;
+    } }
 {
     let Ok(running) = Vec::with_capacity(alloc, workers) else {
         return (0, Err(ServeError::Memory));
     };
     let (running, started) = start_all(rt, team, lender, slip, workers, running);
-    let turns = match started {
-        Ok(()) => hand_out_all(&rt, supply, &team.outlet, slip, workers, quantum),
-        Err(_) => 0,
+    let (turns, end) = match started {
+        Ok(()) => {
+            let outlet = &team.outlet;
+            hand_out_all(rt, supply, helpers, lender, outlet, slip, workers, quantum)
+        }
+        Err(error) => (0, Err(error)),
     };
     join_all(&rt, &team.outlet, lender, slip, running);
-    (turns, started)
+    (turns, end)
 }
 
 /// Runs all turns that come, of so many charges each, by so many workers, each in a thread of its own. The calling thread
-/// hands them out.
+/// hands them out, and starts helpers where they are wanted.
 ///
 /// Turns are numbered in the order in which they are handed out; the workers' counts grow by those that they received. Where
-/// it ends well each turn that was handed out was received once. All parts are back, whatever it answers.
+/// it ends well each turn that was handed out was received once. All parts of the workers are back, whatever it answers.
 ///
 /// # Errors
 /// `Memory` where room for the channel was refused: nothing is done then. `Served::end` says `Memory` or `NoThread` where
-/// not all workers could be started: none ran a turn then; and `NoThread` where a turn was left that no worker received.
+/// not all workers could be started: none ran a turn then; `NoThread` where a reclaimer was wanted that couldn't be started:
+/// no further turn was handed out then; and `NoThread` where a turn was left that no worker received.
 pub fn serve_turns<
     T: Ledger + Send + 'static,
     C: Ledger + Send + 'static,
-    O: Ledger,
-    E: Ledger,
+    O: Ledger + Send + 'static,
+    E: Ledger + Send + 'static,
     J: Turns<T, C> + Drop + Send + 'static,
     S: Supply,
+    H: Help<O> + Drop + Send + 'static,
+    P: Help<E> + Drop + Send + 'static,
     R: Threads + Wait + Copy + Send + 'static,
 >(
     rt: R,
     alloc: Global,
     job: J,
     supply: &mut S,
+    helpers: &mut Helpers<O, E, H, P>,
     lender: &mut Lender<T, C, O, E>,
     workers: usize,
     quantum: u32,
@@ -270,6 +305,7 @@ pub fn serve_turns<
     requires some { 0 < workers }
     requires few { workers ≤ 64 }
     requires whole { lender.old.workers_out ≡ 0 }
+    requires lent { AreLent helpers.old.scanner helpers.old.reclaimer lender.old }
     ensures handed { IfOk result (λ s. AreTurns s.turns quantum (view s.slip).sent) }
     ensures grown { IfOk result (λ s. AreRun (turns_of lender.old.tallies) (view s.slip).received
         (turns_of lender.new.tallies)) }
@@ -278,18 +314,23 @@ pub fn serve_turns<
     ensures turns { IfOk result (λ s. OnOk s.end
         (turns_of lender.new.tallies ≡ turns_of lender.old.tallies + s.turns)) }
     ensures err { OnErr result (lender.new ≡ lender.old) }
-    ensures only { lender.new ≡ record lender.old { tallies = lender.new.tallies } }
+    ensures lent { AreLent helpers.new.scanner helpers.new.reclaimer lender.new }
+    ensures only { lender.new ≡ record lender.old {
+      tallies = lender.new.tallies;
+      scanners_out = lender.new.scanners_out;
+      reclaimers_out = lender.new.reclaimers_out;
+    } }
 {
     let Ok((outlet, inlet, first)) = open_channel(alloc, CAPACITY) else {
         return Err(ServeError::Memory);
     };
     let mut slip = first;
     let team = Team { job, inlet, outlet };
-    let (turns, started) = run_crew(
-        rt, alloc, &team, supply, lender, &mut slip, workers, quantum,
+    let (turns, end) = run_crew(
+        rt, alloc, &team, supply, helpers, lender, &mut slip, workers, quantum,
     );
     let end = match left_over(&rt, &team.inlet, &mut slip) {
-        None => started,
+        None => end,
         Some(_) => Err(ServeError::NoThread),
     };
     Ok(Served { turns, slip, end })

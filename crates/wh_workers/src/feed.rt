@@ -1,51 +1,119 @@
-// Turns are handed out, and then the signs that no further one comes.
+// Turns are handed out, and then the signs that no further one comes. Helpers are started where they are wanted.
 
 ghost use Rattle.std.specs.Prelude.{◌≡◌, ◌+◌, ◌<◌, ◌∷◌, ◌++◌, []};
 ghost use Rattle.std.specs.Bool.{MatchBool};
 ghost use Rattle.crossbeam_channel.specs.Claims.{view, IsSeatAt};
 ghost use Rattle.crossbeam_channel.specs.Ends.{sends_on};
+ghost use Rattle.wh_threads.specs.Counting.{LenderState};
 ghost use Rattle.wh_threads.specs.Handover.{HandsOut};
+ghost use Rattle.wh_workers.specs.Lent.{AreLent};
 
+use crate::crew::ServeError;
+use crate::helpers::Helpers;
 use std::sync::Wait;
+use std::sync::ledger::Ledger;
+use std::thread::Threads;
 use wh_host_model::InstId;
-use wh_threads::{Message, Outlet, Slip, hand_out};
+use wh_threads::{Help, Lender, Message, Outlet, Slip, hand_out};
+
+// The scanner is started behind so many turns: half of those for which a page is owed.
+const TURNS_BEFORE_A_SCANNER: u64 = 32;
+
+/// What is to be done next.
+#[derive(Clone, Copy, Debug, PartialEq, Eq)]
+pub enum Next {
+    /// A turn of this instance is to be handed out.
+    Turn(InstId),
+    /// A reclaimer is to be started: a call waits for a frame, and none is at work.
+    Reclaimer,
+    /// Nothing: no call can go on.
+    End,
+}
 
 /// Which turns are handed out.
 pub trait Supply {
-    /// The instance whose turn comes next, once it is known. None where no call can go on.
-    fn next<R: Wait>(&mut self, rt: &R) -> Option<InstId>;
+    /// What is to be done next, once it is known. Where no reclaimer is at work it says so rather than wait for one.
+    fn next<R: Wait>(&mut self, rt: &R, has_reclaimer: bool) -> Next;
 }
 
-// Hands out turns of so many charges as they come, until no further one comes, or no worker is left. It gives how many.
-pub fn feed<S: Supply, R: Wait>(
-    rt: &R,
+// Behind so many turns the scanner is started, if it is to begin there. Where it can't be, it is done without.
+fn begin_scanner<
+    T: Ledger,
+    C: Ledger,
+    O: Ledger + Send + 'static,
+    E: Ledger,
+    H: Help<O> + Drop + Send + 'static,
+    P,
+    R: Threads + Wait + Copy + Send + 'static,
+>(rt: R, count: u64, helpers: &mut Helpers<O, E, H, P>, lender: &mut Lender<T, C, O, E>)
+    requires lent { AreLent helpers.old.scanner helpers.old.reclaimer lender.old }
+    ensures lent { AreLent helpers.new.scanner helpers.new.reclaimer lender.new }
+    ensures only { lender.new ≡ record lender.old {
+      scanners_out = lender.new.scanners_out;
+      reclaimers_out = lender.new.reclaimers_out;
+    } }
+{
+    if count == TURNS_BEFORE_A_SCANNER {
+        let _ = helpers.scanner.start_scanner(rt, lender);
+    }
+}
+
+// Hands out turns of so many charges as they come, until no further one comes, no worker is left, or a reclaimer is wanted
+// that can't be started. It gives how many, and whether it was the last. A scanner that can't be started is done without.
+pub fn feed<
+    T: Ledger,
+    C: Ledger,
+    O: Ledger + Send + 'static,
+    E: Ledger + Send + 'static,
+    S: Supply,
+    H: Help<O> + Drop + Send + 'static,
+    P: Help<E> + Drop + Send + 'static,
+    R: Threads + Wait + Copy + Send + 'static,
+>(
+    rt: R,
     supply: &mut S,
+    helpers: &mut Helpers<O, E, H, P>,
+    lender: &mut Lender<T, C, O, E>,
     outlet: &Outlet,
     slip: &mut Slip,
     quantum: u32,
-) -> u64
+) -> (u64, Result<(), ServeError>)
     requires channel { IsSeatAt (sends_on outlet.now) slip.old }
     requires fresh { ((view slip.old).sent ≡ []) × (0 < (view slip.old).parts) }
+    requires lent { AreLent helpers.old.scanner helpers.old.reclaimer lender.old }
     ensures channel { IsSeatAt (sends_on outlet.now) slip.new }
-    ensures out { HandsOut (view slip.old) result quantum (view slip.new) }
+    ensures out { HandsOut (view slip.old) result.0 quantum (view slip.new) }
+    ensures lent { AreLent helpers.new.scanner helpers.new.reclaimer lender.new }
+    ensures only { lender.new ≡ record lender.old {
+      scanners_out = lender.new.scanners_out;
+      reclaimers_out = lender.new.reclaimers_out;
+    } }
 {
     let mut count = 0;
     for _ in rt.forever() {
         if count >= u64::MAX {
-            return count;
+            return (count, Ok(()));
         }
-        let Some(instance) = supply.next(rt) else {
-            return count;
-        };
-        let message = Message::Turn {
-            number: count,
-            instance,
-            quantum,
-        };
-        if !hand_out(rt, outlet, slip, message) {
-            return count;
+        begin_scanner(rt, count, helpers, lender);
+        match supply.next(&rt, helpers.reclaimer.is_started()) {
+            Next::Turn(instance) => {
+                let message = Message::Turn {
+                    number: count,
+                    instance,
+                    quantum,
+                };
+                if !hand_out(&rt, outlet, slip, message) {
+                    return (count, Ok(()));
+                }
+                count += 1;
+            }
+            Next::Reclaimer => {
+                if let Err(error) = helpers.reclaimer.start_reclaimer(rt, lender) {
+                    return (count, Err(error));
+                }
+            }
+            Next::End => return (count, Ok(())),
         }
-        count += 1;
     }
     unreachable!()
 }

@@ -4,10 +4,11 @@
 
 mod crew;
 mod feed;
+mod helpers;
 mod serving;
 mod sweeping;
 
-pub use crew::{ServeError, Served, serve_turns};
-pub use feed::Supply;
+pub use crew::{ServeError, Served};
+pub use feed::{Next, Supply};
 pub use serving::{Crew, Jobs, serve};
 pub use sweeping::serve_sweep;

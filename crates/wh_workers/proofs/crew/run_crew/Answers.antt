@@ -1,4 +1,4 @@
-use Rattle.std.proofs.Common.{◌∙◌}
+use Rattle.std.proofs.Common.{◌∙◌, slice_get}
 use Rattle.crossbeam_channel.specs.Claims.{view}
 use Rattle.wh_workers.proofs.Turns.{turns_handed, turns_none_still}
 use Rattle.wh_workers.proofs.crew.run_crew.Goals.{in-Ok-started, in-Err}
@@ -10,11 +10,22 @@ returns-clause-handed g c =
     elim c.match-started.branch [
       | in-Ok-started w ↦
           rw w.turns-is (
-          turns_handed _ _ _ _ _ w.hand_out_all-turns.ensures.out (sent ∙ (λ i. (view (w.slip-is i)).sent))
+          turns_handed _ _ _ _ _ w.hand_out_all.ensures.out (sent ∙ (λ i. (view (w.slip-is i)).sent))
           )
       | in-Err w ↦
           rw w.turns-is (
           turns_none_still _ _ c.start_all-running.ensures.none.0 (sent ∙ (λ i. (view (w.slip-is i)).sent))
           c.args.quantum
           )
+    ]
+
+pub join_all-requires-clause-running : goal.join_all-requires-clause-running
+join_all-requires-clause-running g c =
+    let running = c.start_all-running.ensures.running in
+    elim c.match-started.branch [
+      | in-Ok-started w ↦ λ i h at. (
+        (λ j. slice_get ((w.lender-is ∙ w.hand_out_all.ensures.only) j).tallies i) ∙ (running i h at).0,
+        (running i h at).1,
+      )
+      | in-Err w ↦ λ i h at. ((λ j. slice_get (w.lender-is j).tallies i) ∙ (running i h at).0, (running i h at).1)
     ]

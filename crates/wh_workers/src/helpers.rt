@@ -1,0 +1,253 @@
+// The helpers of a call of `serve`: a scanner and a reclaimer, each of which is started where it is wanted.
+
+ghost use Rattle.std.specs.Prelude.{◌≡◌, ◌≤◌, None, IfOk, IsSome, OnErr, OnOk};
+ghost use Rattle.wh_threads.specs.Counting.{LenderState};
+ghost use Rattle.wh_workers.specs.Lent.{IsLent};
+
+use crate::crew::ServeError;
+use std::alloc::{AllocError, Global};
+use std::marker::Model;
+use std::sync::atomic::{AtomicU64, Ordering};
+use std::sync::ledger::Ledger;
+use std::sync::{Arc, Wait};
+use std::thread::{PromisedHandle, Threads};
+use wh_threads::{Help, Helped, Helps, Lender, start_helper};
+
+// A helper that was started, and the flag that tells it to stop.
+#[derive(Drop)]
+pub struct Started<K: Ledger> {
+    pub handle: PromisedHandle<Helped<K>, Helps>,
+    pub flag: Arc<AtomicU64, Global>,
+}
+
+// What a helper's thread gets beside its counts.
+#[derive(Drop)]
+pub struct Means<H> {
+    job: H,
+    stop: Arc<AtomicU64, Global>,
+    flag: Arc<AtomicU64, Global>,
+}
+
+// All memory for a helper's thread but its stack.
+pub fn means_of<K: Ledger, H: Help<K> + Drop>(
+    alloc: Global,
+    job: &H,
+) -> Result<Means<H>, AllocError> {
+    let job = job.share()?;
+    let stop = Arc::new(alloc, AtomicU64::new(0))?;
+    let flag = Arc::try_clone(&stop)?;
+    Ok(Means { job, stop, flag })
+}
+
+// A helper that found no thread was told to stop before it began. One that did something all the same is never met,
+// and never taken.
+fn idle_helper<K: Ledger, R: Wait>(rt: &R, helper: Helped<K>) -> Helped<K>
+    ensures same { result ≡ helper }
+    ensures idle { result.count ≡ result.from }
+{
+    if !helper.is_idle() {
+        for _ in rt.forever() {}
+        unreachable!()
+    }
+    helper
+}
+
+// Starts a scanner, which scans until so many pages were offered in all, or it is told to stop.
+pub fn start_scanner<
+    T: Ledger,
+    C: Ledger,
+    O: Ledger + Send + 'static,
+    E: Ledger,
+    H: Help<O> + Drop + Send + 'static,
+    R: Threads + Wait + Copy + Send + 'static,
+>(
+    rt: R,
+    means: Means<H>,
+    lender: &mut Lender<T, C, O, E>,
+    wanted: u64,
+) -> Result<Started<O>, ServeError>
+    requires { lender.old.scanners_out ≡ 0 }
+    ensures ok { IfOk result (λ s. (s.handle.promise.from ≡ lender.old.offers)
+        × (lender.new ≡ record lender.old { scanners_out = 1 })) }
+    ensures err { OnErr result (lender.new ≡ lender.old) }
+{
+    let Means { job, stop, flag } = means;
+    let scanner = lender.lend_scanner();
+    match start_helper(rt, job, stop, &*flag, wanted, scanner) {
+        Ok(handle) => Ok(Started { handle, flag }),
+        Err(scanner) => {
+            lender.take_refused_scanner(idle_helper(&rt, scanner));
+            Err(ServeError::NoThread)
+        }
+    }
+}
+
+// Starts a reclaimer, which goes on until it is told to stop.
+fn start_reclaimer<
+    T: Ledger,
+    C: Ledger,
+    O: Ledger,
+    E: Ledger + Send + 'static,
+    P: Help<E> + Drop + Send + 'static,
+    R: Threads + Wait + Copy + Send + 'static,
+>(rt: R, means: Means<P>, lender: &mut Lender<T, C, O, E>) -> Result<Started<E>, ServeError>
+    requires { lender.old.reclaimers_out ≡ 0 }
+    ensures ok { IfOk result (λ s. (s.handle.promise.from ≡ lender.old.evictions)
+        × (lender.new ≡ record lender.old { reclaimers_out = 1 })) }
+    ensures err { OnErr result (lender.new ≡ lender.old) }
+{
+    let Means { job, stop, flag } = means;
+    let reclaimer = lender.lend_reclaimer();
+    match start_helper(rt, job, stop, &*flag, u64::MAX, reclaimer) {
+        Ok(handle) => Ok(Started { handle, flag }),
+        Err(reclaimer) => {
+            lender.take_refused_reclaimer(idle_helper(&rt, reclaimer));
+            Err(ServeError::NoThread)
+        }
+    }
+}
+
+/// A helper that is started where it is wanted. Contracts see with which count it began, where it was started.
+pub struct Standby<K: Ledger, H> {
+    // What its thread is to get; none where it was started, or couldn't be.
+    means: Option<Means<H>>,
+    started: Option<Started<K>>,
+}
+
+impl<K: Ledger, H> Model for Standby<K, H> {
+    ghost use Rattle.std.specs.Prelude.{ℕ, Option};
+    ghost use Rattle.std.specs.Option.{option_map};
+
+    ghost Value = { Option ℕ };
+
+    ghost view = { λ s. option_map (λ h. h.handle.promise.from) s.started };
+}
+
+impl<K: Ledger, H: Help<K> + Drop> Standby<K, H> {
+    // A helper that isn't started, whose thread is to get this.
+    fn new(means: Means<H>) -> Standby<K, H>
+        ensures { result ≡ None }
+    {
+        Standby {
+            means: Some(means),
+            started: None,
+        }
+    }
+
+    // Whether it was started.
+    pub fn is_started(&self) -> bool {
+        self.started.is_some()
+    }
+}
+
+impl<K: Ledger + Send + 'static, H: Help<K> + Drop + Send + 'static> Standby<K, H> {
+    // Starts it as a scanner, unless it was started before. An error where it can't be, or couldn't before.
+    pub fn start_scanner<
+        T: Ledger,
+        C: Ledger,
+        E: Ledger,
+        R: Threads + Wait + Copy + Send + 'static,
+    >(&mut self, rt: R, lender: &mut Lender<T, C, K, E>) -> Result<(), ServeError>
+        requires { IsLent self.old lender.old.offers lender.old.scanners_out }
+        ensures ok { OnOk result (IsSome self.new) }
+        ensures lent { IsLent self.new lender.new.offers lender.new.scanners_out }
+        ensures only { lender.new
+            ≡ record lender.old { scanners_out = lender.new.scanners_out } }
+    {
+        if self.started.is_some() {
+            return Ok(());
+        }
+        let Some(means) = self.means.take() else {
+            return Err(ServeError::NoThread);
+        };
+        let started = start_scanner(rt, means, lender, u64::MAX)?;
+        self.started = Some(started);
+        Ok(())
+    }
+
+    // The same as a reclaimer.
+    pub fn start_reclaimer<
+        T: Ledger,
+        C: Ledger,
+        O: Ledger,
+        R: Threads + Wait + Copy + Send + 'static,
+    >(&mut self, rt: R, lender: &mut Lender<T, C, O, K>) -> Result<(), ServeError>
+        requires { IsLent self.old lender.old.evictions lender.old.reclaimers_out }
+        ensures ok { OnOk result (IsSome self.new) }
+        ensures lent { IsLent self.new lender.new.evictions lender.new.reclaimers_out }
+        ensures only { lender.new
+            ≡ record lender.old { reclaimers_out = lender.new.reclaimers_out } }
+    {
+        if self.started.is_some() {
+            return Ok(());
+        }
+        let Some(means) = self.means.take() else {
+            return Err(ServeError::NoThread);
+        };
+        let started = start_reclaimer(rt, means, lender)?;
+        self.started = Some(started);
+        Ok(())
+    }
+}
+
+// The scanner is told to stop, where it was started, and gives back its part.
+pub fn join_scanner<T: Ledger, C: Ledger, O: Ledger, E: Ledger, H: Help<O> + Drop, R: Threads>(
+    rt: &R,
+    scans: &H,
+    lender: &mut Lender<T, C, O, E>,
+    scanner: Standby<O, H>,
+)
+    requires { IsLent scanner lender.old.offers lender.old.scanners_out }
+    ensures grown { lender.old.offers ≤ lender.new.offers }
+    ensures only { lender.new
+        ≡ record lender.old { offers = lender.new.offers; scanners_out = 0 } }
+{
+    let Standby { means: _, started } = scanner;
+    if let Some(Started { handle, flag }) = started {
+        flag.store(1, Ordering::SeqCst);
+        scans.bell().notify_all();
+        lender.join_scanner(rt, handle);
+    }
+}
+
+// The reclaimer is told to stop, where it was started, and gives back its part.
+pub fn join_reclaimer<T: Ledger, C: Ledger, O: Ledger, E: Ledger, P: Help<E> + Drop, R: Threads>(
+    rt: &R,
+    reclaims: &P,
+    lender: &mut Lender<T, C, O, E>,
+    reclaimer: Standby<E, P>,
+)
+    requires { IsLent reclaimer lender.old.evictions lender.old.reclaimers_out }
+    ensures grown { lender.old.evictions ≤ lender.new.evictions }
+    ensures only { lender.new
+        ≡ record lender.old { evictions = lender.new.evictions; reclaimers_out = 0 } }
+{
+    let Standby { means: _, started } = reclaimer;
+    if let Some(Started { handle, flag }) = started {
+        flag.store(1, Ordering::SeqCst);
+        reclaims.bell().notify_all();
+        lender.join_reclaimer(rt, handle);
+    }
+}
+
+/// The helpers of a call of `serve`.
+pub struct Helpers<O: Ledger, E: Ledger, H, P> {
+    /// Who offers pages.
+    pub scanner: Standby<O, H>,
+    /// Who evicts them.
+    pub reclaimer: Standby<E, P>,
+}
+
+impl<O: Ledger, E: Ledger, H: Help<O> + Drop, P: Help<E> + Drop> Helpers<O, E, H, P> {
+    // Helpers that aren't started. All memory for their threads but the stacks is taken here.
+    pub fn new(alloc: Global, scans: &H, reclaims: &P) -> Result<Helpers<O, E, H, P>, AllocError>
+        ensures { IfOk result (λ h. (h.scanner ≡ None) × (h.reclaimer ≡ None)) }
+    {
+        let for_scanner = means_of::<O, H>(alloc, scans)?;
+        let for_reclaimer = means_of::<E, P>(alloc, reclaims)?;
+        Ok(Helpers {
+            scanner: Standby::new(for_scanner),
+            reclaimer: Standby::new(for_reclaimer),
+        })
+    }
+}
