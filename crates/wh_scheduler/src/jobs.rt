@@ -17,9 +17,9 @@ use wh_host_model::{InstId, TurnEnd};
 use wh_kernels::PageHash;
 use wh_swap::SwapDev;
 use wh_threads::{Help, Helper, Order, Progress, Turns, Worker};
-use wh_workers::Supply;
+use wh_workers::{Next, Supply};
 
-// For how many turns that are handed out the scanner offers a page: more often than it has to.
+// For how many turns that are handed out the scanner offers a page: more often than it has to. It is started behind as many.
 const TURNS_FOR_AN_OFFER: u64 = 32;
 
 // For how many turns a worker receives turns while another one waits to do so.
@@ -419,20 +419,19 @@ impl<D: SwapDev + Drop, T: Ledger, C: Ledger, O: Ledger, E: Ledger, B: Ties> Tur
         roster.has_news
     }
 
-    // Chooses the turns of all that can go on and have none out. Whether none can any more, and no turn is out.
-    fn choose_all<R: Wait>(&mut self, rt: &R) -> bool {
+    // Chooses the turns of all that can go on and have none out. What comes then: `Rest` where none can go on any more, and no
+    // turn is out.
+    fn choose_all<R: Wait>(&mut self, rt: &R) -> Choice {
         let locked = self.cell.lock(rt);
         let mut roster = self.desk.roster.lock(rt);
         for _ in rt.forever() {
-            match roster.choose(locked.host()) {
-                Choice::Turn(id) => {
-                    if self.due.push(id).is_err() {
-                        roster.bring_back(id);
-                        return false;
-                    }
-                }
-                Choice::Wait => return false,
-                Choice::Rest => return true,
+            let choice = roster.choose(locked.host());
+            let Choice::Turn(id) = choice else {
+                return choice;
+            };
+            if self.due.push(id).is_err() {
+                roster.bring_back(id);
+                return Choice::Wait;
             }
         }
         unreachable!()
@@ -448,12 +447,16 @@ impl<D: SwapDev + Drop, T: Ledger, C: Ledger, O: Ledger, E: Ledger, B: Ties> Tur
         }
     }
 
-    // Takes whatever turns there are now. Whether none comes any more.
-    fn refill<R: Wait>(&mut self, rt: &R) -> bool {
+    // Takes whatever turns there are now. What comes behind them, as far as the host was looked at: else `Wait`.
+    fn refill<R: Wait>(&mut self, rt: &R) -> Choice {
         let has_news = self.take_due(rt);
-        let is_over = has_news && self.choose_all(rt);
+        let then = if has_news {
+            self.choose_all(rt)
+        } else {
+            Choice::Wait
+        };
         self.count_turns(rt, self.due.len() as u64);
-        is_over
+        then
     }
 
     // Waits until the bell rings again: it rang so often when it was last looked at.
@@ -473,16 +476,21 @@ impl<D: SwapDev + Drop, T: Ledger, C: Ledger, O: Ledger, E: Ledger, B: Ties> Tur
 
 impl<D: SwapDev + Drop, T: Ledger, C: Ledger, O: Ledger, E: Ledger, B: Ties> Supply
     for TurnSupply<D, T, C, O, E, B> {
-    fn next<R: Wait>(&mut self, rt: &R) -> Option<InstId> {
+    fn next<R: Wait>(&mut self, rt: &R, has_reclaimer: bool) -> Next {
         for _ in rt.forever() {
             if let Some(id) = self.next_due() {
                 self.desk.place.hand();
-                return Some(id);
+                return Next::Turn(id);
             }
             let rings = self.desk.turn_back.notifications();
-            let is_over = self.refill(rt);
-            if is_over {
-                return None;
+            match self.refill(rt) {
+                Choice::Rest => return Next::End,
+                Choice::Frame => {
+                    if !has_reclaimer {
+                        return Next::Reclaimer;
+                    }
+                }
+                Choice::Turn(_) | Choice::Wait => {}
             }
             if self.due.is_empty() {
                 self.wait(rt, rings);

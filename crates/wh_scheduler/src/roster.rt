@@ -3,10 +3,10 @@
 ghost use Rattle.std.specs.Prelude.{◌≡◌, ◌≢◌, ◌<◌, ◌≤◌, ◌⊎◌, ◌++◌, ◌∷◌, [], false, true, Some, None, IfOk, IfNone, IfSome, length, map, vec_len};
 ghost use Rattle.wh_host_model.specs.declared.plain.InstId.{InstId};
 ghost use Rattle.wh_host.specs.Paging.{IsAwaiting, IsGoing, Tells};
-ghost use Rattle.wh_scheduler.specs.Rostered.{ChoosesTurn, ComesHome, HasNoSeat, HasToWait, IsSeatOf, RestBetween, RestsAll, at_home, ends_service};
+ghost use Rattle.wh_scheduler.specs.Rostered.{ChoosesTurn, ComesHome, HasNoSeat, HasTurnOut, IsSeatOf, OutOrDoneBetween, RestBetween, RestsAll, WantsFrame, at_home, ends_service};
 ghost use Rattle.wh_cell.specs.declared.moving.Moved.TheVariants.{Ready};
-ghost use Rattle.wh_scheduler.specs.declared.roster.Choice.TheVariants.{Wait, Rest};
-ghost use Rattle.wh_scheduler.specs.declared.roster.Prospect.TheVariants.{Now, Later, Never};
+ghost use Rattle.wh_scheduler.specs.declared.roster.Choice.TheVariants.{Wait, Frame, Rest};
+ghost use Rattle.wh_scheduler.specs.declared.roster.Prospect.TheVariants.{Now, Out, Later, Never};
 
 use std::alloc::{AllocError, Global};
 use std::mem;
@@ -28,8 +28,10 @@ pub struct Seat {
 pub enum Choice {
     /// A turn of this instance.
     Turn(InstId),
-    /// A turn has to come back before, or a step has to be made ready.
+    /// A turn has to come back before: nobody else can go on.
     Wait,
+    /// A step has to be made ready: an instance waits for a frame.
+    Frame,
     /// Nothing: no instance can go on, and no turn is out.
     Rest,
 }
@@ -39,7 +41,9 @@ pub enum Choice {
 pub enum Prospect {
     // It can go on, and none is out.
     Now,
-    // Its turn is out, or its step has to be made ready.
+    // Its turn is out.
+    Out,
+    // It waits for a frame: its step has to be made ready.
     Later,
     // It can't go on, and none is out.
     Never,
@@ -109,13 +113,14 @@ impl Drop for Roster {
 fn prospect_of(host: &Host, seat: Seat, ready: Option<InstId>) -> Prospect
     ensures now { result ≡ Now → (seat.is_out ≡ false)
         × Tells host.now true (λ w. IsGoing w seat.id) }
-    ensures later { result ≡ Later → (seat.is_out ≡ true)
-        ⊎ (Tells host.now true (λ w. IsAwaiting w seat.id) × (ready ≢ Some seat.id)) }
+    ensures out { result ≡ Out → seat.is_out ≡ true }
+    ensures later { result ≡ Later → (seat.is_out ≡ false)
+        × Tells host.now true (λ w. IsAwaiting w seat.id) × (ready ≢ Some seat.id) }
     ensures never { result ≡ Never → (seat.is_out ≡ false)
         × Tells host.now false (λ w. IsGoing w seat.id) }
 {
     if seat.is_out {
-        return Prospect::Later;
+        return Prospect::Out;
     }
     if !host.can_go_on(seat.id) {
         return Prospect::Never;
@@ -172,11 +177,13 @@ impl Roster {
     }
 
     /// What comes next: the next instance, behind the one that was chosen last, that can go on and has no turn out, which has one
-    /// out then. It waits for a frame only where its step was made ready. The answer is `Rest` where no instance can go on, and
-    /// no turn is out; else it is `Wait`.
+    /// out then. It waits for a frame only where its step was made ready. Where there is none, the answer is `Frame` where one
+    /// waits for a frame and isn't the one whose step is ready; else `Wait` where a turn is out; else `Rest`.
     pub fn choose(&mut self, host: &Host) -> Choice
         ensures turn { ChoosesTurn host.now self.old.seats.items result self.new.seats.items }
-        ensures wait { result ≡ Wait → HasToWait host.now self.old.seats.items self.old.ready }
+        ensures wait { result ≡ Wait → HasTurnOut self.old.seats.items
+            × OutOrDoneBetween host.now self.old.seats.items 0 (length self.old.seats.items) }
+        ensures frame { result ≡ Frame → WantsFrame host.now self.old.seats.items self.old.ready }
         ensures rest { result ≡ Rest → RestsAll host.now self.old.seats.items }
     {
         let many = self.seats.len();
@@ -190,21 +197,25 @@ impl Roster {
             return earlier;
         }
         self.has_news = false;
-        if later == Choice::Wait {
-            return later;
+        if later == Choice::Rest || earlier == Choice::Frame {
+            return earlier;
         }
-        earlier
+        later
     }
 
     // What comes next among the seats from the one on, up to the other.
     fn choose_between(&mut self, host: &Host, from: usize, to: usize) -> Choice
         requires { (from ≤ to) × (to ≤ vec_len self.old.seats) }
         ensures turn { ChoosesTurn host.now self.old.seats.items result self.new.seats.items }
-        ensures wait { result ≡ Wait → HasToWait host.now self.old.seats.items self.old.ready }
+        ensures wait { result ≡ Wait → HasTurnOut self.old.seats.items }
+        ensures frame { result ≡ Frame → WantsFrame host.now self.old.seats.items self.old.ready }
         ensures rest { result ≡ Rest → RestBetween host.now self.old.seats.items from to }
+        ensures others { (result ≡ Wait) ⊎ (result ≡ Rest)
+            → OutOrDoneBetween host.now self.old.seats.items from to }
         ensures ready { self.new.ready ≡ self.old.ready }
         ensures len { vec_len self.new.seats ≡ vec_len self.old.seats }
     {
+        let mut is_out = false;
         let mut waits = false;
         for at in from..to {
             let seat = self.seats[at];
@@ -218,11 +229,15 @@ impl Roster {
                     self.next = at + 1;
                     return Choice::Turn(seat.id);
                 }
+                Prospect::Out => is_out = true,
                 Prospect::Later => waits = true,
                 Prospect::Never => {}
             }
         }
-        if waits { Choice::Wait } else { Choice::Rest }
+        if waits {
+            return Choice::Frame;
+        }
+        if is_out { Choice::Wait } else { Choice::Rest }
     }
 
     /// The turn of this instance has come back, and its call goes on: its next one is due. Whether at least half of the turns

@@ -1,4 +1,4 @@
-//! A call of `run_calls`: workers that run turns on a cell, a scanner and a reclaimer.
+//! A call of `run_calls`: workers that run turns on a cell, a scanner and a reclaimer where they are wanted.
 
 ghost use Rattle.std.specs.Prelude.{◌≡◌, ◌+◌, ◌/◌, ◌<◌, ◌≤◌, IfOk, OnErr, OnOk};
 ghost use Rattle.crossbeam_channel.specs.Claims.{view};
@@ -95,15 +95,18 @@ fn staff_of<
     Ok(Staff { jobs, supply })
 }
 
-/// Runs the calls of these instances until none can go on: turns by so many workers, each in a thread of its own; beside them
-/// a scanner offers pages, and a reclaimer makes steps ready that wait for frames. The calling thread hands the turns out.
+/// Runs the calls of these instances until none can go on: turns by so many workers, each in a thread of its own. The calling
+/// thread hands the turns out. Beside them a scanner offers pages, from the 32nd turn on, and a reclaimer makes steps ready that
+/// wait for frames, from where the first one does. A run with fewer turns starts no scanner, and one in which no step waits for
+/// a frame no reclaimer.
 ///
 /// What was handed out and run is told, however it ended. Where it ended well each turn that was handed out was received once,
 /// the workers' counts have grown by so many, and for each 64 turns a page was offered. No count gets smaller.
 ///
 /// # Errors
-/// `Memory` where room was refused, and `NoThread` where the scanner or the reclaimer couldn't be started: no turn was run
-/// then. `Served::end` says so where that came later, or pages couldn't be offered that are owed.
+/// `Memory` where room was refused: no turn was run then. `Served::end` says so where not all workers could be started, or
+/// pages couldn't be offered that are owed. It is `NoThread` too where a step waited for a frame and the reclaimer couldn't be
+/// started: no further turn was handed out then, and calls may be left that can go on.
 pub fn run_calls<
     D: SwapDev + Drop + Send + 'static,
     T: Ledger + Send + 'static,

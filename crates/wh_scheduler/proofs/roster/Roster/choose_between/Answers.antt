@@ -1,8 +1,7 @@
-use Rattle.std.proofs.Common.{◌≡◌, ◌≢◌, ◌∙◌, ◌<◌, ◌⊎◌, Some, get_or, slice_get, vec_len, sym, ap, subst, true, false, arith}
+use Rattle.std.proofs.Common.{◌≡◌, ◌≢◌, ◌∙◌, ◌<◌, Some, get_or, inl, inr, slice_get, vec_len, sym, ap, subst, true, false, arith}
 use Rattle.std.proofs.lemmas.Option.{slice_get_read}
-use Rattle.wh_host.specs.Paging.{IsAwaiting, Tells}
-use Rattle.wh_scheduler.proofs.Rosters.{rest_more}
-use Rattle.wh_scheduler.proofs.roster.Roster.choose_between.Goals.{in-Later, in-Never}
+use Rattle.wh_scheduler.proofs.Rosters.{out_or_done_more, rest_more}
+use Rattle.wh_scheduler.proofs.roster.Roster.choose_between.Goals.{in-Out, in-Later, in-Never}
 use Rattle.wh_scheduler.proofs.roster.Roster.choose_between.Goals as goal
 
 pub loop-at-preserved : goal.loop-at-preserved
@@ -15,16 +14,28 @@ loop-at-preserved c =
     let there : slice_get seats.items at ≡ Some seat =
     slice_get_read _ _ _ seat seats.ok.0 within (c.index-seat.ensures ∙ ap (λ z. get_or z at seat) was.0) in
     elim c.match-prospect_of.branch [
+      | in-Out w ↦ (
+        was.0,
+        was.1,
+        λ no. out_or_done_more c.args.host.now seats.items c.args.from at seat (was.2 (sym w.waits-is ∙ no)) there (inl (c.prospect_of.ensures.out w.in-Out.is)),
+        λ no none. absurd (let bad : true ≡ false = sym w.is_out-is ∙ none in cc bad),
+        λ yes. was.4 (sym w.waits-is ∙ yes),
+        λ yes. (at, seat, there, c.prospect_of.ensures.out w.in-Out.is),
+      )
       | in-Later w ↦ (
         was.0,
         was.1,
         λ no. absurd (let bad : true ≡ false = sym w.waits-is ∙ no in cc bad),
-        λ yes. (at, seat, there, subst (λ r. ((seat.is_out ≡ true) ⊎ (Tells c.args.host.now true (λ x. IsAwaiting x seat.id) × (r ≢ Some seat.id)))) was.1 (c.prospect_of.ensures.later w.in-Later.is)),
+        λ no none. absurd (let bad : true ≡ false = sym w.waits-is ∙ no in cc bad),
+        λ yes. (let later = c.prospect_of.ensures.later w.in-Later.is in (at, seat, there, later.0, later.1, subst (λ r. r ≢ Some seat.id) was.1 later.2)),
+        λ yes. was.5 (sym w.is_out-is ∙ yes),
       )
       | in-Never w ↦ (
         was.0,
         was.1,
-        λ no. rest_more c.args.host.now seats.items c.args.from at seat (was.2 (sym w.waits-is ∙ no)) there (c.prospect_of.ensures.never w.in-Never.is),
-        λ yes. was.3 (sym w.waits-is ∙ yes),
+        λ no. out_or_done_more c.args.host.now seats.items c.args.from at seat (was.2 (sym w.waits-is ∙ no)) there (inr (c.prospect_of.ensures.never w.in-Never.is).1),
+        λ no none. rest_more c.args.host.now seats.items c.args.from at seat (was.3 (sym w.waits-is ∙ no) (sym w.is_out-is ∙ none)) there (c.prospect_of.ensures.never w.in-Never.is),
+        λ yes. was.4 (sym w.waits-is ∙ yes),
+        λ yes. was.5 (sym w.is_out-is ∙ yes),
       )
     ]
