@@ -18,7 +18,7 @@ use wh_threads::{
     Shares, Slip, Tally, Turns, Worker, hand_out, left_over, open_channel, pass_for, put_back,
     receive, receive_turn,
 };
-use wh_workers::{Crew, Jobs, Supply, serve};
+use wh_workers::{Crew, Jobs, Next, Supply, serve};
 
 // An instance by its number.
 fn instance(number: u64) -> InstId {
@@ -267,31 +267,75 @@ impl<T: Ledger, C: Ledger, O: Ledger, E: Ledger> Help<O> for Desk<T, C, O, E> {
     }
 }
 
-// So many turns.
-#[derive(Drop)]
-struct Several {
-    left: u64,
+// How many pages were evicted, by the books.
+fn evicted<T: Ledger, C: Ledger, O: Ledger, E: Ledger, R: Wait>(
+    rt: &R,
+    books: &Mutex<Books<T, C, O, E>>,
+) -> u64 {
+    let books = books.lock(rt);
+    books.evictions.low()
 }
 
-impl Supply for Several {
-    fn next<R: Wait>(&mut self, _rt: &R) -> Option<InstId> {
-        if self.left == 0 {
-            return None;
-        }
-        self.left -= 1;
-        Some(instance(self.left))
+// So many turns. Where so many are left it goes on once a page was evicted, for which it wants a reclaimer.
+struct Several<T: Ledger, C: Ledger, O: Ledger, E: Ledger> {
+    left: u64,
+    pause: u64,
+    books: Arc<Mutex<Books<T, C, O, E>>, Global>,
+}
+
+// Written out, so that letting one go is one call, and not one for each part of its parts.
+impl<T: Ledger, C: Ledger, O: Ledger, E: Ledger> Drop for Several<T, C, O, E> {
+    fn drop(self) {
+        let Several {
+            left: _,
+            pause: _,
+            books: _,
+        } = self;
     }
 }
 
-// A reclaimer that has nothing to do, and waits until it is told to stop.
-#[derive(Drop)]
-struct Idle {
+impl<T: Ledger, C: Ledger, O: Ledger, E: Ledger> Supply for Several<T, C, O, E> {
+    fn next<R: Wait>(&mut self, rt: &R, has_reclaimer: bool) -> Next {
+        if self.left == 0 {
+            return Next::End;
+        }
+        if self.left == self.pause {
+            if !has_reclaimer {
+                return Next::Reclaimer;
+            }
+            for _ in rt.forever() {
+                if evicted(rt, &self.books) > 0 {
+                    break;
+                }
+                thread::yield_now();
+            }
+        }
+        self.left -= 1;
+        Next::Turn(instance(self.left))
+    }
+}
+
+// A reclaimer that evicts one page, and waits then until it is told to stop.
+struct Evicts<T: Ledger, C: Ledger, O: Ledger, E: Ledger> {
+    books: Arc<Mutex<Books<T, C, O, E>>, Global>,
     bell: Arc<Condvar, Global>,
 }
 
-impl<E: Ledger> Help<E> for Idle {
-    fn help<R: Wait>(&self, _rt: &R, _helper: &mut Helper<E>) -> Progress {
-        Progress::Waits
+// Written out, so that letting one go is one call, and not one for each part of its parts.
+impl<T: Ledger, C: Ledger, O: Ledger, E: Ledger> Drop for Evicts<T, C, O, E> {
+    fn drop(self) {
+        let Evicts { books: _, bell: _ } = self;
+    }
+}
+
+impl<T: Ledger, C: Ledger, O: Ledger, E: Ledger> Help<E> for Evicts<T, C, O, E> {
+    fn help<R: Wait>(&self, rt: &R, helper: &mut Helper<E>) -> Progress {
+        if helper.count() > 0 {
+            return Progress::Waits;
+        }
+        let mut books = self.books.lock(rt);
+        books.evict(helper, 1);
+        Progress::Did
     }
 
     fn bell(&self) -> &Condvar {
@@ -299,8 +343,9 @@ impl<E: Ledger> Help<E> for Idle {
     }
 
     fn share(&self) -> Result<Self, AllocError> {
+        let books = Arc::try_clone(&self.books)?;
         let bell = Arc::try_clone(&self.bell)?;
-        Ok(Idle { bell })
+        Ok(Evicts { books, bell })
     }
 }
 
@@ -322,10 +367,14 @@ fn make_desk<T: Ledger, C: Ledger, O: Ledger, E: Ledger>(
 }
 
 // What two workers, a scanner and a reclaimer do at this desk.
+type JobsAt<T, C, O, E> = Jobs<Desk<T, C, O, E>, Desk<T, C, O, E>, Evicts<T, C, O, E>>;
+
+// The same, made.
 fn jobs_at<T: Ledger, C: Ledger, O: Ledger, E: Ledger>(
     desk: &Desk<T, C, O, E>,
-) -> Result<Jobs<Desk<T, C, O, E>, Desk<T, C, O, E>, Idle>, AllocError> {
-    let reclaims = Idle {
+) -> Result<JobsAt<T, C, O, E>, AllocError> {
+    let reclaims = Evicts {
+        books: Arc::try_clone(&desk.books)?,
         bell: Arc::try_clone(&desk.bell)?,
     };
     let turns: Desk<T, C, O, E> = Turns::<T, C>::share(desk)?;
@@ -350,8 +399,8 @@ fn settle<T: Ledger, C: Ledger, O: Ledger, E: Ledger, R: Wait>(
 // How many turns there were, what the two workers counted, and how many offers and evictions there were.
 type Ran = (u64, Tally, Tally, (u64, u64));
 
-// 128 turns by two workers, who meet in each turn; beside them a scanner that offers three pages at most, and a
-// reclaimer that waits.
+// So many turns by two workers, who meet in each turn; beside them a scanner that offers three pages at most, and a
+// reclaimer that evicts one, for which it is waited where so many turns are left.
 fn serve_at<
     T: Ledger + Send + 'static,
     C: Ledger + Send + 'static,
@@ -363,9 +412,15 @@ fn serve_at<
     alloc: Global,
     desk: &Desk<T, C, O, E>,
     shares: &mut Shares<T, C, O, E>,
+    left: u64,
+    pause: u64,
 ) -> Result<Option<Ran>, AllocError> {
     let jobs = jobs_at(desk)?;
-    let mut supply = Several { left: 128 };
+    let mut supply = Several {
+        left,
+        pause,
+        books: Arc::try_clone(&desk.books)?,
+    };
     let crew = Crew {
         workers: 2,
         quantum: 5,
@@ -394,9 +449,11 @@ fn serve_books<
     alloc: Global,
     books: Books<T, C, O, E>,
     shares: &mut Shares<T, C, O, E>,
+    left: u64,
+    pause: u64,
 ) -> Result<Option<Ran>, AllocError> {
     let desk = make_desk(alloc, books)?;
-    serve_at(rt, alloc, &desk, shares)
+    serve_at(rt, alloc, &desk, shares, left, pause)
 }
 
 // The same with new books.
@@ -413,6 +470,8 @@ fn serve_many<
     charges: Blank,
     offers: Blank,
     evictions: Blank,
+    left: u64,
+    pause: u64,
 ) -> Result<Option<Ran>, AllocError>
     requires turns { (turns.name ≡ T.name) × (turns.parts ≡ T.parts) × (64 < T.parts) }
     requires charges { (charges.name ≡ C.name) × (charges.parts ≡ C.parts) × (64 < C.parts) }
@@ -420,7 +479,7 @@ fn serve_many<
     requires evictions { (evictions.name ≡ E.name) × (evictions.parts ≡ E.parts) × (1 < E.parts) }
 {
     let (books, mut shares) = Books::<T, C, O, E>::open(alloc, turns, charges, offers, evictions)?;
-    serve_books(rt, alloc, books, &mut shares)
+    serve_books(rt, alloc, books, &mut shares, left, pause)
 }
 
 #[test]
@@ -434,6 +493,8 @@ fn two_workers_run_turns(rt: HostRuntime) -> Result<(), Fail> {
         charges,
         offers,
         evictions,
+        128,
+        1000,
     )?;
     let Some((turns, first, second, helped)) = served else {
         assert!(rt; false, "threads were started");
@@ -443,8 +504,34 @@ fn two_workers_run_turns(rt: HostRuntime) -> Result<(), Fail> {
     assert_eq!(rt; (first.turns, first.charges), (64, 320));
     assert_eq!(rt; (second.turns, second.charges), (64, 320));
 
-    // Two offers are owed. The scanner stops at the third, or earlier where it is told to.
+    // Two offers are owed. The scanner stops at the third, or earlier where it is told to. No reclaimer was wanted.
     assert!(rt; helped.0 == 2 || helped.0 == 3);
     assert_eq!(rt; helped.1, 0);
+    Ok(())
+}
+
+#[test]
+fn helpers_are_started_where_they_are_wanted(rt: HostRuntime) -> Result<(), Fail> {
+    let (turns, charges) = (Blank::new(65), Blank::new(65));
+    let (offers, evictions) = (Blank::new(2), Blank::new(2));
+    let served = serve_many::<Brand, Brand, Brand, Brand, HostRuntime>(
+        rt,
+        rt.alloc(),
+        turns,
+        charges,
+        offers,
+        evictions,
+        16,
+        8,
+    )?;
+    let Some((turns, first, second, helped)) = served else {
+        assert!(rt; false, "threads were started");
+        return Ok(());
+    };
+    assert_eq!(rt; turns, 16);
+    assert_eq!(rt; (first.turns, second.turns), (8, 8));
+
+    // No offer is owed for so few turns, and no scanner was started. The reclaimer was, in the middle.
+    assert_eq!(rt; helped, (0, 1));
     Ok(())
 }
