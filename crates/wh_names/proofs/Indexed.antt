@@ -24,6 +24,25 @@ without_from names name n bucket place link leads falls none k low has =
       | inr past ↦ none k past has
     ]
 
+-- a link leads to no later place than that from which it leads on
+pub leads_down : (f : ℕ → ℕ) (bucket place link : ℕ) → LeadsOn f bucket place link → link ≤ place
+leads_down f bucket place link leads =
+    elim (cases_lt 0 link) [
+      | inl some ↦
+          (let e : link ≡ (link - 1) + 1 = omega (arith, some) in
+          let less = (leads.there (link - 1) e).0 in
+          omega (arith, some, less))
+      | inr none ↦ omega (arith, none)
+    ]
+
+-- a link that leads on from within all names leads to one of them, of the bucket
+pub there_from : (names : List (List ℕ)) (n bucket place link : ℕ) → LeadsOn (bucket_at names n) bucket place link
+    → place ≤ length names → (k : ℕ) → link ≡ k + 1 → (k < length names) × (bucket_at names n k ≡ bucket)
+there_from names n bucket place link leads few k e =
+    let was = leads.there k e in
+    let less = was.0 in
+    (omega (arith, less, few), was.1)
+
 -- no name is past all
 pub without_past : (names : List (List ℕ)) (name : List ℕ) (k : ℕ) → length names ≤ k → slice_get names k ≢ Some name
 without_past names name k past has = let none = slice_get_past names k past in absurd (cc (none, has))

@@ -20,8 +20,8 @@ is_at false None k e = absurd (cc e)
 is_at false (Some j) k e = inr (j, refl, (let same = same_Some (j + 1) k e in omega (arith, same)))
 
 is_false : (b : Bool) → (b ≡ true → ⊥) → b ≡ false
-is_false true no = absurd (no refl)
-is_false false no = refl
+is_false true never = absurd (never refl)
+is_false false never = refl
 
 -- ---- what a place says
 
