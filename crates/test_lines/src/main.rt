@@ -1,8 +1,10 @@
-//! Tests of the libraries that read and write the lines of scripts, replies and settings: tables of cases, with what has
-//! to come of each. It prints how many cases each library has, and fails at the first one that comes out otherwise.
+//! Tests of the libraries that read and write the lines of scripts, replies and settings, and of that which keeps names:
+//! tables of cases, with what has to come of each. It prints how many cases each library has, and fails at the first one
+//! that comes out otherwise.
 #![tactic(auto)]
 
 mod commands;
+mod names;
 mod replies;
 mod settings;
 mod tables;
@@ -20,5 +22,6 @@ fn main(rt: HostRuntime) -> Result<()> {
     tell(&rt, "wh_commands", commands::check(alloc)?)?;
     tell(&rt, "wh_replies", replies::check(alloc)?)?;
     tell(&rt, "wh_settings", settings::check(alloc)?)?;
+    tell(&rt, "wh_names", names::check(alloc)?)?;
     Ok(())
 }

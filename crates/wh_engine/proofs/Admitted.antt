@@ -1,9 +1,8 @@
 -- Instances that a script admits.
-use Rattle.std.proofs.Common.{arith, ◌≡◌, ◌≢◌, ℕ, zero, suc, ◌+◌, ◌<◌, inl, ◌↔◌, true, false, Bool, List, [], ◌∷◌, ◌++◌, map, length, get_or, slice_get, bytes_eq, string_bytes, option_map, Option, Some, None, Ok, Err, refl, ap, sym, subst, ◌∙◌, length-append}
+use Rattle.std.proofs.Common.{arith, ◌≡◌, ◌≢◌, ℕ, zero, suc, ◌+◌, ◌-◌, ◌<◌, inl, ◌↔◌, true, false, Bool, List, [], ◌∷◌, ◌++◌, map, take, length, get_or, slice_get, string_bytes, option_map, Option, Some, None, Ok, Err, refl, ap, sym, subst, ◌∙◌, length-append}
 use Rattle.std.specs.Bool.{MatchBool}
 use Rattle.std.specs.Global.{Vec}
 use Rattle.std.specs.List.{AllZip}
-use Rattle.std.specs.Map.{update}
 use Rattle.wh_model.specs.Format.Syntax.{Module}
 use Rattle.wh_model.specs.Execution.Instance.{Piece}
 use Rattle.wh_model.specs.Execution.Replay.{Outcome, returned, pending, Call}
@@ -36,12 +35,13 @@ use Rattle.wh_script_model.specs.Replies.{admit_reply}
 use Rattle.wh_script_model.specs.Laws.{places_after}
 use Rattle.wh_script_model.proofs.CommandsGuests.{guests_follow}
 use Rattle.wh_replies.specs.View.{status_of}
-use Rattle.wh_engine.specs.Names.{AreNames, number_of}
-use Rattle.wh_engine.specs.declared.names.Names.{Names}
+use Rattle.wh_names.specs.Places.{place_of, AreApart}
+use Rattle.wh_names.specs.declared.names.Names.{Names}
+use Rattle.wh_names.proofs.Places.{apart_more}
 use Rattle.wh_engine.specs.declared.parts.Guest.{Guest}
 use Rattle.wh_engine.specs.Standing.{WholeState, IsLed, StandsWhole, AreGuests, IsGuest, EngineState, StandsForScript, whole_on, LeavesOut, is_over}
 use Rattle.wh_engine.proofs.Asked.{whole_of}
-use Rattle.wh_engine.proofs.Named.{named_next, unnamed}
+use Rattle.wh_engine.proofs.Named.{taken_back}
 use Rattle.wh_engine.specs.Obeying.{TakesGuest}
 use Rattle.wh_engine.proofs.Left.{one_more_kept}
 
@@ -105,10 +105,6 @@ guests_long k (x ∷ xs) (g ∷ gs) are = let e = guests_long (k + 1) xs gs are.
 map_end : {A B : Type 0} (f : A → B) (xs : List A) (x : A) → map f (xs ++ x ∷ []) ≡ map f xs ++ f x ∷ []
 map_end f [] x = refl
 map_end f (y ∷ xs) x = ap (λ zs. f y ∷ zs) (map_end f xs x)
-
-map_long : {A B : Type 0} (f : A → B) (xs : List A) → length (map f xs) ≡ length xs
-map_long f [] = refl
-map_long f (x ∷ xs) = let e = map_long f xs in omega (arith, e)
 
 pub there_at : {A : Type 0} (xs : List A) (i : ℕ) → i < length xs → (x : A) × (slice_get xs i ≡ Some x)
 there_at [] i within = absurd (omega (arith, within))
@@ -199,8 +195,8 @@ pub record IsNewGuest (x : Guest) (inst : List ℕ) (own : InstId) : Type 0 wher
   pub unsaid : x.said ≡ None
 
 new_stands : (settings : Settings) (e : WholeState) (m : Made) (named : NamedModule) (inst : List ℕ) (k : ℕ) (p : Params) (id : InstId) (h2 : HostState) (names : Names) (x : Guest) (xs : List Guest)
-    → (s : StandsWhole settings e m) → number_of e.guest_names inst ≡ None → slice_get m.modules k ≡ Some named
-    → ((other : List ℕ) → number_of names other ≡ update bytes_eq (number_of e.guest_names) inst (Some (length e.guests)) other)
+    → (s : StandsWhole settings e m) → place_of e.guest_names inst ≡ None → slice_get m.modules k ≡ Some named
+    → names ≡ e.guest_names ++ inst ∷ []
     → Tells h2 x.has_start (λ z. IsGoing z id) → IsNewGuest x inst id → xs ≡ e.guests ++ x ∷ []
     → (w2 : World) → LetsIn s.world k p id.place id.number w2
     → (m2 : Made) (reply : Reply) → reply ≡ texts.admit_ok inst id.number → ReceivesGuest true settings m inst named.m p reply m2 → IsLed h2 w2
@@ -232,9 +228,8 @@ new_stands settings e m named inst k p id h2 names x xs s free at sets tells is 
             (sym (ap (λ ys. map (λ (y : Guest). y.id.place) ys) items ∙ map_end (λ (y : Guest). y.id.place) e.guests x
             ∙ ap (λ (y : InstId). map (λ (z : Guest). z.id.place) e.guests ++ y.place ∷ []) is.id)) knows2;
         module_names = s.module_names;
-        guest_names = subst (AreNames (number_of names)) (sym (map_end (λ (y : made.Guest). y.name) m.guests g))
-            (named_next (number_of e.guest_names) (number_of names) (map (λ (y : made.Guest). y.name) m.guests) inst (length e.guests) s.guest_names free
-            (long ∙ sym (map_long (λ (y : made.Guest). y.name) m.guests)) sets);
+        guest_names = sets ∙ ap (λ (ls : List (List ℕ)). ls ++ inst ∷ []) s.guest_names ∙ sym (map_end (λ (y : made.Guest). y.name) m.guests g);
+        apart = subst AreApart (sym sets) (apart_more e.guest_names inst s.apart free);
         guests = subst (λ ys. AreGuests 0 ys (m.guests ++ g ∷ [])) (sym items) (guests_end 0 e.guests m.guests x g s.guests at_end);
         invoked = s.invoked;
       },
@@ -242,8 +237,8 @@ new_stands settings e m named inst k p id h2 names x xs s free at sets tells is 
 
 -- it is admitted
 pub admitted : (settings : Settings) (e : WholeState) (m : Made) (inst : List ℕ) (k : ℕ) (p : Params) (id : InstId) (h2 : HostState) (names : Names) (x : Guest) (xs : List Guest)
-    → StandsWhole settings e m → number_of e.guest_names inst ≡ None → k < e.modules → AnswersAdmit e.host k p (Ok id) h2 → StaysWhole e.host.space h2.space
-    → ((other : List ℕ) → number_of names other ≡ update bytes_eq (number_of e.guest_names) inst (Some (length e.guests)) other)
+    → StandsWhole settings e m → place_of e.guest_names inst ≡ None → k < e.modules → AnswersAdmit e.host k p (Ok id) h2 → StaysWhole e.host.space h2.space
+    → names ≡ e.guest_names ++ inst ∷ []
     → Tells h2 x.has_start (λ z. IsGoing z id) → IsNewGuest x inst id → xs ≡ e.guests ++ x ∷ []
     → TakesGuestWhole settings m inst k p (texts.admit_ok inst id.number) (with_guests e h2 names xs)
 admitted settings e m inst k p id h2 names x xs s free within answers whole sets tells is items =
@@ -271,7 +266,7 @@ refused_as inst SegmentBounds = refl
 refused_as inst Memory = refl
 
 refused_engine : (settings : Settings) (e : WholeState) (m : Made) (h2 : HostState) (names : Names) (xs : List Guest) → StandsWhole settings e m
-    → AreNames (number_of names) (map (λ (y : made.Guest). y.name) m.guests) → xs ≡ e.guests
+    → names ≡ e.guest_names → xs ≡ e.guests
     → (w2 : World) → IsLed h2 w2 → Knows settings w2 m (map (λ (y : Guest). y.id.place) e.guests) → StandsWhole settings (with_guests e h2 names xs) m
 refused_engine settings e m h2 names xs s are items w2 is2 knows2 = record {
   world = w2;
@@ -279,7 +274,8 @@ refused_engine settings e m h2 names xs s are items w2 is2 knows2 = record {
   modules = s.modules;
   knows = subst (λ ys. Knows settings w2 m (map (λ (y : Guest). y.id.place) ys)) (sym items) knows2;
   module_names = s.module_names;
-  guest_names = are;
+  guest_names = are ∙ s.guest_names;
+  apart = subst AreApart (sym are) s.apart;
   guests = subst (λ ys. AreGuests 0 ys m.guests) (sym items) s.guests;
   invoked = s.invoked;
 }
@@ -289,7 +285,7 @@ places_refused settings w2 m2 places (Some fault) knows = knows
 places_refused settings w2 m2 places None knows = knows
 
 refused_stands : (settings : Settings) (e : WholeState) (m : Made) (named : NamedModule) (inst : List ℕ) (k : ℕ) (p : Params) (fault : ℕ) (h2 : HostState) (names : Names) (xs : List Guest)
-    → StandsWhole settings e m → slice_get m.modules k ≡ Some named → AreNames (number_of names) (map (λ (y : made.Guest). y.name) m.guests) → xs ≡ e.guests
+    → StandsWhole settings e m → slice_get m.modules k ≡ Some named → names ≡ e.guest_names → xs ≡ e.guests
     → (w2 : World) (m2 : Made) (reply : Reply) → reply ≡ texts.admit_refused inst fault → ReceivesGuest true settings m inst named.m p reply m2 → IsLed h2 w2
     → Knows settings w2 m2 (map (λ (y : Guest). y.id.place) e.guests)
     → TakesGuestWhole settings m inst k p reply (with_guests e h2 names xs)
@@ -300,12 +296,12 @@ refused_stands settings e m named inst k p fault h2 names xs s at are items w2 _
     (named, at, m, receiving.admission_wants scarce none, refused_engine settings e m h2 names xs s are items w2 is2 knows2)
 
 pub refused : (settings : Settings) (e : WholeState) (m : Made) (inst : List ℕ) (k : ℕ) (p : Params) (error : AdmitError) (h2 : HostState) (given names : Names) (xs : List Guest)
-    → StandsWhole settings e m → k < e.modules → number_of e.guest_names inst ≡ None → AnswersAdmit e.host k p (Err error) h2 → StaysWhole e.host.space h2.space
-    → ((other : List ℕ) → number_of given other ≡ update bytes_eq (number_of e.guest_names) inst (Some (length e.guests)) other)
-    → ((other : List ℕ) → number_of names other ≡ update bytes_eq (number_of given) inst None other)
+    → StandsWhole settings e m → k < e.modules → AnswersAdmit e.host k p (Err error) h2 → StaysWhole e.host.space h2.space
+    → given ≡ e.guest_names ++ inst ∷ []
+    → names ≡ take (length given - 1) given
     → xs ≡ e.guests
     → TakesGuestWhole settings m inst k p (texts.admit_refused inst (admit_number error)) (with_guests e h2 names xs)
-refused settings e m inst k p error h2 given names xs s within free answers whole sets clears items =
+refused settings e m inst k p error h2 given names xs s within answers whole sets clears items =
     let w = s.world in
     let did = answers w s.is.0 in
     let there = there_at m.modules k (subst (λ n. k < n) s.modules within) in
@@ -313,7 +309,7 @@ refused settings e m inst k p error h2 given names xs s within free answers whol
     let led : IsLed h2 did.1 = (did.4, reached_on w did.1 (events.admit k p) reached (did.0, did.3)) in
     let follows = guests_follow reached.frames reached.slots reached.tax reached.events w reached.happen settings m (map (λ (y : Guest). y.id.place) e.guests) k there.0 inst p
     (fault_answer (fault_of error)) did.1 s.knows there.1 (subst (λ a. IsAdmit w k p a did.1) did.2 did.3) (whole_of e.host h2 w did.1 s.is.0 did.4 whole) in
-    let are = unnamed (number_of e.guest_names) (number_of given) (number_of names) (map (λ (y : made.Guest). y.name) m.guests) inst (Some (length e.guests)) s.guest_names free sets clears in
+    let are = taken_back e.guest_names given names inst sets clears in
     subst (λ r. TakesGuestWhole settings m inst k p r (with_guests e h2 names xs)) (refused_as inst error)
     (refused_stands settings e m there.0 inst k p (admit_number error) h2 names xs s there.1 are items did.1 follows.0 (admit_reply inst (fault_answer (fault_of error))) (refused_as inst error)
     follows.1 led (places_refused settings did.1 follows.0 (map (λ (y : Guest). y.id.place) e.guests) (fault_of error) follows.2))

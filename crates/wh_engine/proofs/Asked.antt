@@ -18,7 +18,6 @@ use Rattle.wh_host.specs.declared.error.HostError.TheVariants.{NoInstance, Invok
 use Rattle.wh_script_model.specs.Following.{Knows, StaysWhole}
 use Rattle.wh_script_model.specs.Laws.{FollowsCommand}
 use Rattle.wh_engine.specs.declared.parts.Guest.{Guest}
-use Rattle.wh_engine.specs.Names.{AreNames, number_of}
 use Rattle.wh_engine.specs.Standing.{WholeState, IsLed, StandsWhole}
 use Rattle.wh_engine.specs.Obeying.{IsNamed}
 use Rattle.wh_engine.proofs.Instances.{TouchesCalls, nothing, calls_of, names_stay, guests_stay, guest_at, placed_at}
@@ -42,6 +41,7 @@ stands_on settings e m m2 h2 w2 s is2 knows2 nothing = record {
   knows = knows2;
   module_names = s.module_names;
   guest_names = s.guest_names;
+  apart = s.apart;
   guests = s.guests;
   invoked = s.invoked;
 }
@@ -51,7 +51,8 @@ stands_on settings e m m2 h2 w2 s is2 knows2 (calls_of i g calls at) = record {
   modules = s.modules;
   knows = knows2;
   module_names = s.module_names;
-  guest_names = subst (AreNames (number_of e.guest_names)) (sym (names_stay m.guests i g (record g { calls = calls }) at refl)) s.guest_names;
+  guest_names = s.guest_names ∙ sym (names_stay m.guests i g (record g { calls = calls }) at refl);
+  apart = s.apart;
   guests = guests_stay 0 e.guests m.guests i g calls s.guests at;
   invoked = s.invoked;
 }

@@ -23,7 +23,6 @@ use Rattle.wh_engine.specs.declared.parts.Guest.{Guest}
 use Rattle.wh_engine.specs.declared.parts.Invoked.{Invoked}
 use Rattle.wh_engine.specs.declared.parts.Reception.{Reception}
 use Rattle.wh_engine.specs.declared.parts.Reception.TheVariants.{TurnedDown, TakenOn}
-use Rattle.wh_engine.specs.Names.{AreNames, number_of}
 use Rattle.wh_engine.specs.Standing.{WholeState, IsLed, StandsWhole, AreGuests, IsInvokedAs, reception_of, EngineState, StandsForScript, whole_on, LeavesOut, is_settled, AreInvoked}
 use Rattle.wh_engine.specs.Obeying.{TakesInvoke}
 use Rattle.wh_engine.proofs.Asked.{whole_of, id_of, own_number}
@@ -90,9 +89,9 @@ called_stands settings e m m1 m2 h2 w2 calls x v s b entry entries is is2 knows2
   is = is2;
   modules = s.modules ∙ ap (λ (ms : List made.NamedModule). length ms) (sym (b.modules ∙ touched_modules m m1 b.touches));
   knows = knows2;
-  module_names = subst (λ ms. AreNames (number_of e.module_names) (map (λ (n : made.NamedModule). n.name) ms)) (sym (b.modules ∙ touched_modules m m1 b.touches)) s.module_names;
-  guest_names = subst (λ gs. AreNames (number_of e.guest_names) (map (λ (g : made.Guest). g.name) gs)) (sym b.guests)
-      (subst (AreNames (number_of e.guest_names)) (sym (touched_names m m1 b.touches)) s.guest_names);
+  module_names = s.module_names ∙ ap (λ ms. map (λ (n : made.NamedModule). n.name) ms) (sym (b.modules ∙ touched_modules m m1 b.touches));
+  guest_names = s.guest_names ∙ sym (touched_names m m1 b.touches) ∙ ap (λ gs. map (λ (g : made.Guest). g.name) gs) (sym b.guests);
+  apart = s.apart;
   guests = subst (AreGuests 0 e.guests) (sym b.guests) (touched_guests e.guests m m1 b.touches s.guests);
   invoked = subst (λ vs. AreInvoked 1 calls vs) (sym entry) (subst (λ xs. AreInvoked 1 xs (m.invoked ++ v ∷ [])) (sym entries) (one_more 1 e.invoked m.invoked x v s.invoked is));
 }

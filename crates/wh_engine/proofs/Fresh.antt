@@ -13,7 +13,7 @@ use Rattle.wh_space.specs.Arrivals.{IsNew}
 use Rattle.std.specs.List.{AllZip}
 use Rattle.wh_host_model.specs.Host.Worlds.{Loaded, World}
 use Rattle.wh_script_model.specs.Following.{AreSame, IsFollowed, IsPlaced, Knows}
-use Rattle.wh_engine.specs.Names.{AreNames, number_of}
+use Rattle.wh_names.specs.Places.{AreApart}
 use Rattle.wh_engine.specs.declared.parts.Guest.{Guest}
 use Rattle.wh_engine.specs.Standing.{EngineState, StandsForScript, AreGuests, StandsWhole, WholeState, whole_on, LeavesOut, is_over, is_settled, none_there, AreInvoked}
 
@@ -25,11 +25,8 @@ many : {A : Type 0} (n : ℕ) (x : A) → length (replicate n x) ≡ n
 many zero x = refl
 many (suc n) x = let k = many n x in omega (arith, k)
 
-pub no_names : (f : List ℕ → Option ℕ) → ((name : List ℕ) → f name ≡ None) → AreNames f []
-no_names f none = record {
-  found = λ name k e. absurd (cc (none name, e));
-  only = λ name k e. absurd (cc e);
-}
+none_apart : AreApart []
+none_apart name i k has also = absurd (cc has)
 
 knows_none : (settings : Settings) (w : World) (tax : Tax) → tax.num ≡ settings.num → tax.den ≡ settings.den → w.modules ≡ [] → w.tenants ≡ [] → IsNew w.space settings.frames settings.slots tax → Knows settings w nothing_made []
 knows_none settings w tax num den modules tenants new = record {
@@ -45,21 +42,22 @@ knows_none settings w tax num den modules tenants new = record {
   placed = subst (λ ts. AllZip IsPlaced [] ts) (sym tenants) tt;
 }
 
-fresh_whole : (settings : Settings) (tax : Tax) (e : WholeState) → tax.num ≡ settings.num → tax.den ≡ settings.den → IsNewHost e.host settings.frames settings.slots tax → ((name : List ℕ) → number_of e.module_names name ≡ None)
-    → ((name : List ℕ) → number_of e.guest_names name ≡ None) → e.guests ≡ [] → e.invoked ≡ [] → e.modules ≡ 0 → StandsWhole settings e nothing_made
+fresh_whole : (settings : Settings) (tax : Tax) (e : WholeState) → tax.num ≡ settings.num → tax.den ≡ settings.den → IsNewHost e.host settings.frames settings.slots tax → e.module_names ≡ []
+    → e.guest_names ≡ [] → e.guests ≡ [] → e.invoked ≡ [] → e.modules ≡ 0 → StandsWhole settings e nothing_made
 fresh_whole settings tax e num den new modules guests none no_call zero_many = record {
   world = new.0;
   is = (new.1, new.2);
   modules = zero_many;
   knows = subst (λ xs. Knows settings new.0 nothing_made (map (λ (x : Guest). x.id.place) xs)) (sym none) (knows_none settings new.0 tax num den new.3 new.4 new.5);
-  module_names = no_names (number_of e.module_names) modules;
-  guest_names = no_names (number_of e.guest_names) guests;
+  module_names = modules;
+  guest_names = guests;
+  apart = subst AreApart (sym guests) none_apart;
   guests = subst (λ xs. AreGuests 0 xs []) (sym none) tt;
   invoked = subst (λ xs. AreInvoked 1 xs []) (sym no_call) tt;
 }
 
 pub fresh : (settings : Settings) (tax : Tax) (e : EngineState) → tax.num ≡ settings.num → tax.den ≡ settings.den → IsNewHost e.host settings.frames settings.slots tax
-    → ((name : List ℕ) → number_of e.module_names name ≡ None) → ((name : List ℕ) → number_of e.guest_names name ≡ None) → e.guests.items ≡ [] → e.invoked.items ≡ [] → e.modules ≡ 0
+    → e.module_names ≡ [] → e.guest_names ≡ [] → e.guests.items ≡ [] → e.invoked.items ≡ [] → e.modules ≡ 0
     → e.admitted ≡ 0 → e.asked ≡ 0 → StandsForScript settings e nothing_made
 fresh settings tax e num den new modules guests none no_call zero_many no_guest none_asked = record {
   guests = [];

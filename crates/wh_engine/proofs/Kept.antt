@@ -1,6 +1,5 @@
 -- Modules that a script brings.
-use Rattle.std.proofs.Common.{arith, ◌≡◌, ℕ, ◌+◌, ◌<◌, true, List, [], ◌∷◌, ◌++◌, map, length, bytes_eq, Some, None, Result, Ok, Err, refl, ap, sym, subst, ◌∙◌}
-use Rattle.std.specs.Map.{update}
+use Rattle.std.proofs.Common.{arith, ◌≡◌, ℕ, ◌+◌, ◌-◌, ◌<◌, true, List, [], ◌∷◌, ◌++◌, map, take, length, Result, Ok, Err, refl, ap, sym, subst, ◌∙◌}
 use Rattle.wh_host.proofs.Hosts.{reached_on}
 use Rattle.wh_host_model.specs.Host.Events as events
 use Rattle.wh_host_model.specs.Host.Worlds.{World}
@@ -16,12 +15,11 @@ use Rattle.wh_host.specs.declared.error.ModuleError.{ModuleError}
 use Rattle.wh_host.specs.declared.parts.ModuleId.{ModuleId}
 use Rattle.wh_script_model.specs.Following.{Knows}
 use Rattle.wh_script_model.specs.Replies.{SaysModule}
-use Rattle.wh_engine.specs.Names.{AreNames, number_of}
-use Rattle.wh_engine.specs.declared.names.Names.{Names}
+use Rattle.wh_names.specs.declared.names.Names.{Names}
 use Rattle.wh_engine.specs.declared.parts.Guest.{Guest}
 use Rattle.wh_engine.specs.Standing.{WholeState, IsLed, StandsWhole, EngineState, StandsForScript, whole_on}
 use Rattle.wh_script_model.proofs.Commands.{modules_follow}
-use Rattle.wh_engine.proofs.Named.{named_next, unnamed}
+use Rattle.wh_engine.proofs.Named.{taken_back}
 use Rattle.wh_engine.specs.Obeying.{TakesModule}
 
 abbrev label : NamedModule → List ℕ
@@ -52,10 +50,6 @@ law_of settings e m name bytes h2 r reply s answers says =
     (map (λ (x : Guest). x.id.place) e.guests) name bytes did.0 did.1 reply s.knows did.3 (says did.0 did.2) in
     (follows.0, did.1, follows.1, (did.4, reached_on s.world did.1 (events.load bytes) reached (did.0, did.3)), follows.2)
 
-labelled : (ms : List NamedModule) → length (map label ms) ≡ length ms
-labelled [] = refl
-labelled (x ∷ ms) = let e = labelled ms in omega (arith, e)
-
 -- the engine with another host and other names of modules
 abbrev pub with_modules : WholeState → HostState → Names → ℕ → WholeState
 with_modules e h names k = record e { host = h; module_names = names; modules = k }
@@ -63,15 +57,15 @@ with_modules e h names k = record e { host = h; module_names = names; modules = 
 ok_says : (name : List ℕ) (id : ModuleId) (answer : LoadAnswer) → IsLoadAnswer (Ok id) answer → SaysModule name answer (module_ok name)
 ok_says name id answer is = subst (λ a. SaysModule name a (module_ok name)) (sym is) refl
 
-kept_stands : (settings : Settings) (e : WholeState) (m : Made) (name bytes : List ℕ) (h2 : HostState) (names : Names) (k : ℕ) → StandsWhole settings e m → number_of e.module_names name ≡ None
-    → ((other : List ℕ) → number_of names other ≡ update bytes_eq (number_of e.module_names) name (Some e.modules) other)
+kept_stands : (settings : Settings) (e : WholeState) (m : Made) (name bytes : List ℕ) (h2 : HostState) (names : Names) (k : ℕ) → StandsWhole settings e m
+    → names ≡ e.module_names ++ name ∷ []
     → (e.modules < most_modules → k ≡ e.modules + 1)
     → (m2 : Made) (w2 : World) (reply : Reply) → reply ≡ module_ok name → ReceivesModule true m name bytes reply m2 → IsLed h2 w2
     → Knows settings w2 m2 (map (λ (x : Guest). x.id.place) e.guests)
     → TakesModuleWhole settings m name bytes reply (with_modules e h2 names k)
-kept_stands settings e m name bytes h2 names k s free sets counts _ w2 _ is (module_isnt_kept turns_down) is2 knows2 = absurd (cc is)
-kept_stands settings e m name bytes h2 names k s free sets counts _ w2 _ is (module_is_wanting scarce wants) is2 knows2 = absurd (cc is)
-kept_stands settings e m name bytes h2 names k s free sets counts _ w2 _ is (module_is_kept {m = spelled} accepted few) is2 knows2 =
+kept_stands settings e m name bytes h2 names k s sets counts _ w2 _ is (module_isnt_kept turns_down) is2 knows2 = absurd (cc is)
+kept_stands settings e m name bytes h2 names k s sets counts _ w2 _ is (module_is_wanting scarce wants) is2 knows2 = absurd (cc is)
+kept_stands settings e m name bytes h2 names k s sets counts _ w2 _ is (module_is_kept {m = spelled} accepted few) is2 knows2 =
     let new : NamedModule = record { name = name; m = spelled } in
     let after : Made = record m { modules = m.modules ++ new ∷ [] } in
     let k_is : k ≡ e.modules + 1 = counts (subst (λ n. n < most_modules) (sym s.modules) few) in (
@@ -82,30 +76,31 @@ kept_stands settings e m name bytes h2 names k s free sets counts _ w2 _ is (mod
         is = is2;
         modules = k_is ∙ ap (λ n. n + 1) s.modules ∙ sym (one_longer m.modules new);
         knows = knows2;
-        module_names = subst (AreNames (number_of names)) (sym (labels_end m.modules new))
-            (named_next (number_of e.module_names) (number_of names) (map label m.modules) name e.modules s.module_names free (s.modules ∙ sym (labelled m.modules)) sets);
+        module_names = sets ∙ ap (λ (ls : List (List ℕ)). ls ++ name ∷ []) s.module_names ∙ sym (labels_end m.modules new);
         guest_names = s.guest_names;
+        apart = s.apart;
         guests = s.guests;
         invoked = s.invoked;
       },
     )
 
 -- other names of the same modules
-pub with_names : (settings : Settings) (e : WholeState) (m : Made) (h2 : HostState) (names : Names) (w2 : World) → StandsWhole settings e m → AreNames (number_of names) (map label m.modules)
+pub with_names : (settings : Settings) (e : WholeState) (m : Made) (h2 : HostState) (names : Names) (w2 : World) → StandsWhole settings e m → names ≡ e.module_names
     → IsLed h2 w2 → Knows settings w2 m (map (λ (x : Guest). x.id.place) e.guests) → StandsWhole settings (with_modules e h2 names e.modules) m
 with_names settings e m h2 names w2 s are is2 knows2 = record {
   world = w2;
   is = is2;
   modules = s.modules;
   knows = knows2;
-  module_names = are;
+  module_names = are ∙ s.module_names;
   guest_names = s.guest_names;
+  apart = s.apart;
   guests = s.guests;
   invoked = s.invoked;
 }
 
 none_stands : (settings : Settings) (e : WholeState) (m : Made) (name bytes : List ℕ) (h2 : HostState) (names : Names) (why : Refusal) → StandsWhole settings e m
-    → AreNames (number_of names) (map label m.modules)
+    → names ≡ e.module_names
     → (m2 : Made) (w2 : World) (reply : Reply) → reply ≡ module_refused name why → ReceivesModule true m name bytes reply m2 → IsLed h2 w2
     → Knows settings w2 m2 (map (λ (x : Guest). x.id.place) e.guests)
     → TakesModuleWhole settings m name bytes reply (with_modules e h2 names e.modules)
@@ -116,26 +111,25 @@ none_stands settings e m name bytes h2 names why s are _ w2 _ is (module_is_want
     (m, module_is_wanting scarce wants, with_names settings e m h2 names w2 s are is2 knows2)
 
 -- it was kept
-pub takes_kept : (settings : Settings) (e : WholeState) (m : Made) (name bytes : List ℕ) (h2 : HostState) (names : Names) (k : ℕ) (id : ModuleId) → StandsWhole settings e m → number_of e.module_names name ≡ None
+pub takes_kept : (settings : Settings) (e : WholeState) (m : Made) (name bytes : List ℕ) (h2 : HostState) (names : Names) (k : ℕ) (id : ModuleId) → StandsWhole settings e m
     → AnswersLoad e.host bytes (Ok id) h2
-    → ((other : List ℕ) → number_of names other ≡ update bytes_eq (number_of e.module_names) name (Some e.modules) other)
+    → names ≡ e.module_names ++ name ∷ []
     → (e.modules < most_modules → k ≡ e.modules + 1)
     → TakesModuleWhole settings m name bytes (module_ok name) (with_modules e h2 names k)
-takes_kept settings e m name bytes h2 names k id s free answers sets counts =
+takes_kept settings e m name bytes h2 names k id s answers sets counts =
     let got = law_of settings e m name bytes h2 (Ok id) (module_ok name) s answers (λ answer is. ok_says name id answer is) in
-    kept_stands settings e m name bytes h2 names k s free sets counts got.0 got.1 (module_ok name) refl got.2 got.3 got.4
+    kept_stands settings e m name bytes h2 names k s sets counts got.0 got.1 (module_ok name) refl got.2 got.3 got.4
 
 -- it wasn't, and has no name again
 pub takes_none : (settings : Settings) (e : WholeState) (m : Made) (name bytes : List ℕ) (h2 : HostState) (given names : Names) (error : ModuleError) (why : Refusal) → StandsWhole settings e m
-    → number_of e.module_names name ≡ None
     → AnswersLoad e.host bytes (Err error) h2
-    → ((other : List ℕ) → number_of given other ≡ update bytes_eq (number_of e.module_names) name (Some e.modules) other)
-    → ((other : List ℕ) → number_of names other ≡ update bytes_eq (number_of given) name None other)
+    → given ≡ e.module_names ++ name ∷ []
+    → names ≡ take (length given - 1) given
     → ((answer : LoadAnswer) → IsLoadAnswer (Err error) answer → SaysModule name answer (module_refused name why))
     → TakesModuleWhole settings m name bytes (module_refused name why) (with_modules e h2 names e.modules)
-takes_none settings e m name bytes h2 given names error why s free answers sets clears says =
+takes_none settings e m name bytes h2 given names error why s answers sets clears says =
     let got = law_of settings e m name bytes h2 (Err error) (module_refused name why) s answers says in
-    let are = unnamed (number_of e.module_names) (number_of given) (number_of names) (map label m.modules) name (Some e.modules) s.module_names free sets clears in
+    let are = taken_back e.module_names given names name sets clears in
     none_stands settings e m name bytes h2 names why s are got.0 got.1 (module_refused name why) refl got.2 got.3 got.4
 
 -- ---- and instances and calls are kept as they were

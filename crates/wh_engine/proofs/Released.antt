@@ -21,7 +21,6 @@ use Rattle.wh_host.specs.declared.error.HostError.TheVariants.{NoInstance, Invok
 use Rattle.wh_script_model.specs.Following.{Knows, StaysWhole}
 use Rattle.wh_script_model.specs.Replies.{release_reply}
 use Rattle.wh_script_model.proofs.CommandsEnding.{releases_follow}
-use Rattle.wh_engine.specs.Names.{AreNames, number_of}
 use Rattle.wh_engine.specs.declared.parts.Guest.{Guest}
 use Rattle.wh_engine.specs.Standing.{WholeState, IsLed, StandsWhole, AreGuests, IsGuest, EngineState, StandsForScript, whole_on}
 use Rattle.wh_engine.specs.Obeying.{IsNamed, ObeysCommand}
@@ -110,9 +109,9 @@ named_at (h ∷ gs) (suc i) g e = named_at gs i g e
 -- one name, one number
 one_place : (settings : Settings) (e : WholeState) (m : Made) (name : List ℕ) (i j : ℕ) (g h : made.Guest) → StandsWhole settings e m → HasGuest m name i g → HasGuest m name j h → j ≡ i
 one_place settings e m name i j g h s a b =
-    let first = s.guest_names.only name i (named_at m.guests i g a.0 ∙ ap (λ n. Some n) a.1) in
-    let second = s.guest_names.only name j (named_at m.guests j h b.0 ∙ ap (λ n. Some n) b.1) in
-    same_Some j i (sym second ∙ first)
+    s.apart name j i
+    (ap (λ (ns : List (List ℕ)). slice_get ns j) s.guest_names ∙ named_at m.guests j h b.0 ∙ ap (λ n. Some n) b.1)
+    (ap (λ (ns : List (List ℕ)). slice_get ns i) s.guest_names ∙ named_at m.guests i g a.0 ∙ ap (λ n. Some n) a.1)
 
 abbrev pub with_gone : WholeState → HostState → ℕ → Guest → WholeState
 with_gone e h i x = record e { host = h; guests = slice_set e.guests i (record x { is_released = true }) }
@@ -136,7 +135,8 @@ gone_stands settings files line m e name output h2 x i g s has at _ w2 _ eq (ans
         modules = s.modules;
         knows = subst (Knows settings w2 _) (sym (places_stay e.guests i x at)) knows2;
         module_names = s.module_names;
-        guest_names = subst (AreNames (number_of e.guest_names)) (sym (names_stay m.guests j h (record h { is_released = true }) also.0 refl)) s.guest_names;
+        guest_names = s.guest_names ∙ sym (names_stay m.guests j h (record h { is_released = true }) also.0 refl);
+        apart = s.apart;
         guests = subst (λ k. AreGuests 0 (slice_set e.guests k (record x { is_released = true })) (slice_set m.guests j (record h { is_released = true }))) same
             (gone_stay 0 e.guests m.guests j x h s.guests here also.0);
         invoked = s.invoked;

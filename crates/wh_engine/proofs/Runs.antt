@@ -30,7 +30,6 @@ use Rattle.wh_script_model.proofs.Drains.{drains_begin, drains_end, moves_follow
 use Rattle.wh_engine.specs.declared.engine.Engine.{Engine}
 use Rattle.wh_engine.specs.declared.parts.Guest.{Guest}
 use Rattle.wh_engine.specs.Draining.{AllRest, DeviceServesWell, DeviceStaysTrue, HasServed, RunsEach, StaysSo}
-use Rattle.wh_engine.specs.Names.{AreNames, number_of}
 use Rattle.wh_engine.specs.Standing.{AreGuests, EngineState, IsGuest, IsLed, StandsForScript, engine_on, LeavesOut, WholeState, whole_on, is_over}
 use Rattle.wh_engine.proofs.Asked.{whole_of}
 use Rattle.wh_engine.proofs.Instances.{placed_at}
@@ -190,7 +189,8 @@ ran_so settings m e h2 w2 s led known rest =
             modules = s.stands.modules;
             knows = end.2;
             module_names = s.stands.module_names;
-            guest_names = subst (AreNames (number_of e.guest_names)) (sym (names_run m.guests end.0 end.1)) s.stands.guest_names;
+            guest_names = s.stands.guest_names ∙ sym (names_run m.guests end.0 end.1);
+            apart = s.stands.apart;
             guests = run_keeps 0 s.guests m.guests end.0 end.1 s.stands.guests;
             invoked = s.stands.invoked;
           }),
@@ -243,6 +243,7 @@ stays_so e h2 moves keeps settings m s =
           (whole_of e.host h2 w did.0 s.stands.is.0 did.2 (keeps_whole e.host.space h2.space keeps))).0 s.stands.knows;
       module_names = s.stands.module_names;
       guest_names = s.stands.guest_names;
+      apart = s.stands.apart;
       guests = s.stands.guests;
       invoked = s.stands.invoked;
     })

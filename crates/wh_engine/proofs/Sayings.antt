@@ -24,7 +24,6 @@ use Rattle.wh_script_model.proofs.Drains.{saying_follows}
 use Rattle.wh_script_model.proofs.Said.{starts_well}
 use Rattle.wh_engine.specs.declared.parts.Guest.{Guest}
 use Rattle.wh_engine.specs.declared.parts.Invoked.{Invoked}
-use Rattle.wh_engine.specs.Names.{AreNames, number_of}
 use Rattle.wh_engine.specs.Standing.{EngineState, StandsForScript, IsGuest, AreGuests, IsInvokedAs, AreInvoked, LeavesOut, none_there, keeps_it, leaves_it, StandsWhole, WholeState, whole_on, was_final, is_over, is_settled}
 use Rattle.wh_engine.specs.Saying.{IsFaultless, ShowsCalls, AddsLines, SaysStartOf, HasItsCall, SaysCallOf, SaysAllStarts, SaysAllCalls, SaysAll, IsLookedUp}
 use Rattle.wh_engine.proofs.Instances.{placed_at}
@@ -287,7 +286,8 @@ starts_are_said settings e m xs between text now s well steps left =
           knows = subst (Knows settings s.stands.world (record m { guests = d.said })) (sym d.placed)
               (saying_follows settings s.stands.world m (places_of all) d.lines d.said m.invoked s.stands.knows d.says);
           module_names = s.stands.module_names;
-          guest_names = subst (AreNames (number_of e.guest_names)) (sym (names_said m.guests d.said d.lines d.says)) s.stands.guest_names;
+          guest_names = s.stands.guest_names ∙ sym (names_said m.guests d.said d.lines d.says);
+          apart = s.stands.apart;
           guests = d.are;
           invoked = s.stands.invoked;
         };
@@ -426,6 +426,7 @@ calls_are_said settings e m xs between text now s well steps left =
           };
           module_names = s.stands.module_names;
           guest_names = s.stands.guest_names;
+          apart = s.stands.apart;
           guests = s.stands.guests;
           invoked = d.are;
         };

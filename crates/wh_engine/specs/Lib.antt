@@ -1,4 +1,3 @@
-pub mod Names
 pub mod Finding
 pub mod Standing
 pub mod Obeying

@@ -10,9 +10,9 @@ use Rattle.wh_replies.specs.View.{status_of}
 use Rattle.wh_replies.specs.declared.call.Status.{Status}
 use Rattle.wh_script_model.specs.Following.{Knows}
 use Rattle.wh_script_model.specs.Said.{is_final}
-use Rattle.wh_engine.specs.Names.{AreNames, number_of}
+use Rattle.wh_names.specs.Places.{AreApart}
 use Rattle.wh_engine.specs.declared.engine.Engine.{Engine}
-use Rattle.wh_engine.specs.declared.names.Names.{Names}
+use Rattle.wh_names.specs.declared.names.Names.{Names}
 use Rattle.wh_engine.specs.declared.parts.Guest.{Guest}
 use Rattle.wh_engine.specs.declared.parts.Invoked.{Invoked}
 use Rattle.wh_engine.specs.declared.parts.Reception.{Reception}
@@ -122,15 +122,16 @@ AreInvoked number xs vs = ⊥
 abbrev pub IsLed : HostState → World → Type 0
 IsLed h w = IsHost h w × IsReached w
 
--- All that was made stands for the script: the host on which it runs knows it, each name has its number, and what was
--- kept of instances and of calls is so.
+-- All that was made stands for the script: the host on which it runs knows it, the names are those of the script, and
+-- what was kept of instances and of calls is so. No two instances have one name.
 pub record StandsWhole (settings : Settings) (e : WholeState) (m : Made) : Type 0 where
   pub world : World
   pub is : IsLed e.host world
   pub modules : e.modules ≡ length m.modules
   pub knows : Knows settings world m (map (λ (x : Guest). x.id.place) e.guests)
-  pub module_names : AreNames (number_of e.module_names) (map (λ (n : made.NamedModule). n.name) m.modules)
-  pub guest_names : AreNames (number_of e.guest_names) (map (λ (g : made.Guest). g.name) m.guests)
+  pub module_names : e.module_names ≡ map (λ (n : made.NamedModule). n.name) m.modules
+  pub guest_names : e.guest_names ≡ map (λ (g : made.Guest). g.name) m.guests
+  pub apart : AreApart e.guest_names
   pub guests : AreGuests 0 e.guests m.guests
   pub invoked : AreInvoked 1 e.invoked m.invoked
 

@@ -7,9 +7,9 @@ ghost use Rattle.wh_host_model.specs.Lines.Settings.{Settings};
 ghost use Rattle.wh_host.specs.Hosting.{HostState, IsNewHost};
 ghost use Rattle.wh_engine.specs.Standing.{StandsForScript, engine_on};
 
-use crate::names::Names;
 use crate::parts::{Guest, Invoked};
 use std::alloc::Global;
+use wh_names::Names;
 
 /// What a script has made, as far as lines to come depend on it. The host on which it was made comes with each request.
 pub struct Engine {

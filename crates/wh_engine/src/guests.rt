@@ -5,7 +5,7 @@ ghost use Rattle.wh_commands.specs.Found.{params_of};
 ghost use Rattle.wh_host_model.specs.Lines.Made.{Made};
 ghost use Rattle.wh_host_model.specs.Lines.Settings.{Settings};
 ghost use Rattle.wh_replies.specs.View.{reply_of};
-ghost use Rattle.wh_engine.specs.Names.{number_of};
+ghost use Rattle.wh_names.specs.Places.{place_of};
 ghost use Rattle.wh_engine.specs.Standing.{StandsForScript, engine_on};
 ghost use Rattle.wh_engine.specs.Obeying.{IsNoted, TakesInvoke, TakesGuest};
 
@@ -33,7 +33,7 @@ impl Engine {
         of: usize,
         given: Given,
     ) -> Result<Reply<'a>, AllocError>
-        requires free { number_of self.old.guest_names inst.now ≡ None }
+        requires free { place_of self.old.guest_names inst.now ≡ None }
         requires there { of < self.old.modules }
         ensures ok { IfOk result (λ reply. (settings : Settings) (m : Made)
             → StandsForScript settings (engine_on host.old.host self.old) m
@@ -49,7 +49,7 @@ impl Engine {
         };
         let name = String::from_str(alloc, inst)?;
         self.guests.reserve(1)?;
-        self.guest_names.add(alloc, inst, self.admitted)?;
+        self.guest_names.add(alloc, inst)?;
         let params = Params {
             shares: given.shares,
             min: given.min,
@@ -76,7 +76,7 @@ impl Engine {
                 })
             }
             Err(error) => {
-                self.guest_names.remove(inst);
+                self.guest_names.remove_last();
                 Ok(Reply::AdmitRefused {
                     inst,
                     fault: error.number(),

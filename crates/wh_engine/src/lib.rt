@@ -8,7 +8,6 @@ mod fault;
 mod finding;
 mod guests;
 mod modules;
-mod names;
 mod naming;
 mod parts;
 mod releasing;

@@ -8,7 +8,7 @@ ghost use Rattle.wh_host_model.specs.Lines.Settings.{Settings};
 ghost use Rattle.wh_host.specs.Loading.{IsLoadAnswer};
 ghost use Rattle.wh_replies.specs.View.{reply_of, why_of};
 ghost use Rattle.wh_script_model.specs.Replies.{SaysModule};
-ghost use Rattle.wh_engine.specs.Names.{number_of};
+ghost use Rattle.wh_names.specs.Places.{place_of};
 ghost use Rattle.wh_engine.specs.Standing.{StandsForScript, engine_on};
 ghost use Rattle.wh_engine.specs.Obeying.{TakesModule};
 
@@ -68,7 +68,7 @@ impl Engine {
         name: &'a str,
         bytes: &[u8],
     ) -> Result<Reply<'a>, AllocError>
-        requires free { number_of self.old.module_names name.now ≡ None }
+        requires free { place_of self.old.module_names name.now ≡ None }
         ensures ok { IfOk result (λ reply. (settings : Settings) (m : Made)
             → StandsForScript settings (engine_on host.old.host self.old) m
             → TakesModule settings m name.now bytes.now (reply_of reply)
@@ -78,14 +78,14 @@ impl Engine {
             → StandsForScript settings (engine_on host.new.host self.new) m) }
         ensures device { host.new.device ≡ host.old.device }
     {
-        self.module_names.add(alloc, name, self.modules)?;
+        self.module_names.add(alloc, name)?;
         match host.load(alloc, bytes) {
             Ok(_) => {
                 self.modules = self.modules.saturating_add(1);
                 Ok(Reply::ModuleOk { name })
             }
             Err(error) => {
-                self.module_names.remove(name);
+                self.module_names.remove_last();
                 let why = refusal_of(error);
                 Ok(Reply::ModuleRefused { name, why })
             }

@@ -1,11 +1,7 @@
-use Rattle.std.proofs.Common.{arith, ◌≡◌, ◌∙◌, ◌++◌, ◌∷◌, [], List, Some, None, false, ap, sym, subst, refl}
-use Rattle.std.specs.Map.{update}
-use Rattle.std.proofs.Common.{bytes_eq}
+use Rattle.std.proofs.Common.{arith, ◌≡◌, ◌∙◌, ◌++◌, ◌∷◌, [], List, None, false, ap, sym, subst, refl}
 use Rattle.wh_host.specs.Paging.{IsGoing, Tells}
-use Rattle.wh_engine.specs.Names.{number_of}
 use Rattle.wh_engine.specs.declared.parts.Guest.{Guest}
 use Rattle.wh_engine.proofs.Admitted.{admitted, guest_again, refused, refused_again}
-use Rattle.wh_engine.proofs.Named.{same_names}
 use Rattle.wh_engine.proofs.Refitted.{err_then, refitted}
 use Rattle.wh_engine.proofs.Whole.{keeps_whole}
 use Rattle.wh_engine.specs.Standing.{engine_on, whole_on}
@@ -14,14 +10,12 @@ use Rattle.wh_engine.proofs.engine.Engine.admit.Goals as goal
 pub returns-in_err-reserve-clause-err : goal.returns-in_err-reserve-clause-err
 returns-in_err-reserve-clause-err g c =
     err_then c.from_residual-in_err-reserve.result (λ settings m s.
-    refitted settings (engine_on c.args.host.now.host c.args.self.now) m c.args.self.now.module_names c.args.self.now.guest_names c.reserve.new.self c.args.self.now.invoked s s.stands.module_names s.stands.guest_names
-    c.reserve.ensures.items refl)
+    refitted settings (engine_on c.args.host.now.host c.args.self.now) m c.args.self.now.module_names c.args.self.now.guest_names c.reserve.new.self c.args.self.now.invoked s refl refl c.reserve.ensures.items refl)
 
 pub returns-in_err-add-clause-err : goal.returns-in_err-add-clause-err
 returns-in_err-add-clause-err g c =
     err_then c.from_residual-in_err-add.result (λ settings m s.
-    refitted settings (engine_on c.args.host.now.host c.args.self.now) m c.args.self.now.module_names c.add.new.self c.reserve.new.self c.args.self.now.invoked s s.stands.module_names
-    (same_names (number_of c.args.self.now.guest_names) (number_of c.add.new.self) _ s.stands.guest_names c.in_err-add.ensures.err)
+    refitted settings (engine_on c.args.host.now.host c.args.self.now) m c.args.self.now.module_names c.add.new.self c.reserve.new.self c.args.self.now.invoked s refl c.in_err-add.ensures.err
     c.reserve.ensures.items refl)
 
 pub returns-in-Ok-clause-ok : goal.returns-in-Ok-clause-ok
@@ -33,16 +27,16 @@ returns-in-Ok-clause-ok g c settings m s =
     (admitted settings (whole_on e s.guests s.invoked) m c.args.inst.now c.args.of _ c.in-Ok.id c.admit.new.self.host c.add.new.self
     x
     (s.guests ++ x ∷ []) s.stands c.requires.free c.requires.there c.in-Ok.ensures.admits (keeps_whole c.args.host.now.host.space c.admit.new.self.host.space c.in-Ok.ensures.backing)
-    (λ other. subst (λ n. number_of c.add.new.self other ≡ update bytes_eq (number_of c.args.self.now.guest_names) c.args.inst.now (Some n) other) s.admitted (c.in_ok-add.ensures.ok other))
+    c.in_ok-add.ensures.ok
     (subst (λ h. Tells h c.can_go_on-has_start.result (λ w. IsGoing w c.in-Ok.id)) c.host.ensures c.can_go_on-has_start.ensures) (record { id = refl; name = c.in_ok-name.ensures.ok; live = refl; unsaid = refl })
     refl)
 
 pub returns-in-Err-clause-ok : goal.returns-in-Err-clause-ok
 returns-in-Err-clause-ok g c settings m s =
     let e = engine_on c.args.host.now.host c.args.self.now in
-    let got = refused_again settings e m c.args.inst.now c.args.of _ _ c.admit.new.self.host c.remove.new.self c.reserve.new.self s c.reserve.ensures.items
-    (refused settings (whole_on e s.guests s.invoked) m c.args.inst.now c.args.of _ c.in-Err.error c.admit.new.self.host c.add.new.self c.remove.new.self s.guests s.stands c.requires.there c.requires.free
+    let got = refused_again settings e m c.args.inst.now c.args.of _ _ c.admit.new.self.host c.remove_last.new.self c.reserve.new.self s c.reserve.ensures.items
+    (refused settings (whole_on e s.guests s.invoked) m c.args.inst.now c.args.of _ c.in-Err.error c.admit.new.self.host c.add.new.self c.remove_last.new.self s.guests s.stands c.requires.there
     c.in-Err.ensures.admits (keeps_whole c.args.host.now.host.space c.admit.new.self.host.space c.in-Err.ensures.backing)
-    (λ other. subst (λ n. number_of c.add.new.self other ≡ update bytes_eq (number_of c.args.self.now.guest_names) c.args.inst.now (Some n) other) s.admitted (c.in_ok-add.ensures.ok other))
-    c.remove.ensures refl) in
+    c.in_ok-add.ensures.ok
+    c.remove_last.ensures refl) in
     rw (sym c.number.ensures) at got

@@ -1,6 +1,5 @@
 use Rattle.wh_engine.proofs.LookedUp.{guest_named}
-use Rattle.wh_engine.specs.Names.{number_of}
 use Rattle.wh_engine.proofs.engine.Engine.guest_number.Goals as goal
 
 pub returns-clause-named : goal.returns-clause-named
-returns-clause-named c settings m h s = guest_named (number_of c.args.self.now.guest_names) m c.args.name.now _ s.stands.guest_names c.get.ensures
+returns-clause-named c settings m h s = guest_named c.args.self.now.guest_names m c.args.name.now _ s.stands.guest_names c.place.ensures

@@ -16,7 +16,7 @@ use Rattle.wh_engine.proofs.engine.Engine.invoke.Goals.{in-Ok, in-Err}
 pub returns-in_err-reserve-clause-err : goal.returns-in_err-reserve-clause-err
 returns-in_err-reserve-clause-err g c =
     err_then c.from_residual.result (λ settings m s.
-    refitted settings (engine_on c.args.host.now.host c.args.self.now) m c.args.self.now.module_names c.args.self.now.guest_names c.args.self.now.guests c.reserve.new.self s s.stands.module_names s.stands.guest_names
+    refitted settings (engine_on c.args.host.now.host c.args.self.now) m c.args.self.now.module_names c.args.self.now.guest_names c.args.self.now.guests c.reserve.new.self s refl refl
     refl c.reserve.ensures.items)
 
 -- it isn't kept any more

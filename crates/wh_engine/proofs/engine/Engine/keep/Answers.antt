@@ -1,8 +1,6 @@
 use Rattle.std.proofs.Common.{arith, refl}
 use Rattle.wh_engine.proofs.Kept.{module_again, takes_kept, takes_none}
-use Rattle.wh_engine.proofs.Named.{same_names}
 use Rattle.wh_engine.proofs.Refitted.{err_then, refitted}
-use Rattle.wh_engine.specs.Names.{number_of}
 use Rattle.wh_engine.specs.Standing.{engine_on, whole_on}
 use Rattle.wh_engine.proofs.engine.Engine.keep.Goals as goal
 
@@ -10,18 +8,18 @@ pub returns-in_err-add-clause-err : goal.returns-in_err-add-clause-err
 returns-in_err-add-clause-err g c =
     err_then c.from_residual.result (λ settings m s.
     refitted settings (engine_on c.args.host.now.host c.args.self.now) m c.add.new.self c.args.self.now.guest_names c.args.self.now.guests c.args.self.now.invoked s
-    (same_names (number_of c.args.self.now.module_names) (number_of c.add.new.self) _ s.stands.module_names c.in_err-add.ensures.err) s.stands.guest_names refl refl)
+    c.in_err-add.ensures.err refl refl refl)
 
 pub returns-in-Ok-clause-ok : goal.returns-in-Ok-clause-ok
 returns-in-Ok-clause-ok g c settings m s =
     let e = engine_on c.args.host.now.host c.args.self.now in
     module_again settings e m c.args.name.now c.args.bytes.now c.load.new.self.host c.add.new.self c.saturating_add-self.result _ s
-    (takes_kept settings (whole_on e s.guests s.invoked) m c.args.name.now c.args.bytes.now c.load.new.self.host c.add.new.self c.saturating_add-self.result c.in-Ok.field-0 s.stands c.requires.free c.in-Ok.ensures.loads c.in_ok-add.ensures.ok
+    (takes_kept settings (whole_on e s.guests s.invoked) m c.args.name.now c.args.bytes.now c.load.new.self.host c.add.new.self c.saturating_add-self.result c.in-Ok.field-0 s.stands c.in-Ok.ensures.loads c.in_ok-add.ensures.ok
     (λ few. let n = c.saturating_add-self.ensures in omega (arith, few, n)))
 
 pub returns-in-Err-clause-ok : goal.returns-in-Err-clause-ok
 returns-in-Err-clause-ok g c settings m s =
     let e = engine_on c.args.host.now.host c.args.self.now in
-    module_again settings e m c.args.name.now c.args.bytes.now c.load.new.self.host c.remove.new.self c.args.self.now.modules _ s
-    (takes_none settings (whole_on e s.guests s.invoked) m c.args.name.now c.args.bytes.now c.load.new.self.host c.add.new.self c.remove.new.self c.in-Err.error _ s.stands c.requires.free c.in-Err.ensures.loads
-    c.in_ok-add.ensures.ok c.remove.ensures (λ answer is. c.refusal_of-why.ensures c.args.name.now answer is))
+    module_again settings e m c.args.name.now c.args.bytes.now c.load.new.self.host c.remove_last.new.self c.args.self.now.modules _ s
+    (takes_none settings (whole_on e s.guests s.invoked) m c.args.name.now c.args.bytes.now c.load.new.self.host c.add.new.self c.remove_last.new.self c.in-Err.error _ s.stands c.in-Err.ensures.loads
+    c.in_ok-add.ensures.ok c.remove_last.ensures (λ answer is. c.refusal_of-why.ensures c.args.name.now answer is))

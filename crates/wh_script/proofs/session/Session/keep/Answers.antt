@@ -3,7 +3,6 @@ use Rattle.wh_engine.proofs.Sayings.{on_ok_then}
 use Rattle.wh_script.specs.Answering.{Obeys}
 use Rattle.std.proofs.Common.{None}
 use Rattle.wh_replies.specs.View.{reply_of}
-use Rattle.wh_engine.specs.Names.{number_of}
 use Rattle.wh_engine.proofs.LookedUp.{module_named}
 use Rattle.wh_script.proofs.Obeyed.{module_came, is_wanted}
 use Rattle.wh_engine.specs.Standing.{engine_on}
@@ -17,7 +16,7 @@ returns-in-Ok-clause-obeys g c =
     on_ok_then c.reply.result c.reply.ensures.said (λ said files asked names brings.
     subst (λ x. Obeys files c.args.number asked e text x text2) (sym c.reply.ensures.engine)
     (module_came files c.args.number asked c.args.name.now c.args.bytes.now (reply_of c.in-Ok.reply) e (engine_on c.keep.new.host.host c.keep.new.self) text text2
-    (λ settings m s. module_named (number_of e.module_names) m c.args.name.now None s.stands.module_names (sym c.requires.free)) names brings c.in-Ok.ensures.ok said))
+    (λ settings m s. module_named e.module_names m c.args.name.now None s.stands.module_names (sym c.requires.free)) names brings c.in-Ok.ensures.ok said))
 
 pub returns-in-Err-clause-obeys : goal.returns-in-Err-clause-obeys
 returns-in-Err-clause-obeys g c =

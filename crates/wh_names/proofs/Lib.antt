@@ -1,0 +1,4 @@
+pub mod Cutting
+pub mod Chained
+pub mod Places
+pub mod Indexed

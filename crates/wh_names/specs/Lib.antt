@@ -1,0 +1,5 @@
+pub mod Places
+pub mod Hash
+pub mod Chains
+pub mod Texts
+pub mod Index
