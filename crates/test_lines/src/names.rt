@@ -8,6 +8,7 @@ use wh_names::Names;
 
 // How many names come, and how many of them stay when the last ones go.
 const NAMES: usize = 3000;
+
 const LEFT: usize = 1200;
 
 // The first name of the list that has another place among the names, if there is one.

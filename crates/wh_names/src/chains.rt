@@ -1,6 +1,6 @@
 // Chains through the names, by which a name is found.
 
-ghost use Rattle.std.specs.Prelude.{◌≡◌, ℕ, ◌+◌, ◌-◌, ◌^◌, ◌<◌, OnOk, length, vec_len, vec_capacity};
+ghost use Rattle.std.specs.Prelude.{◌≡◌, ℕ, ◌+◌, ◌-◌, ◌^◌, ◌<◌, length, vec_len, vec_capacity};
 ghost use Rattle.wh_names.specs.Chains.{AreChains};
 
 use std::alloc::Global;

@@ -1,6 +1,6 @@
 // Names as their caller sees them.
 
-ghost use Rattle.std.specs.Prelude.{◌≡◌, ℕ, ◌+◌, ◌-◌, ◌^◌, ◌<◌, ◌≤◌, ◌∷◌, ◌++◌, [], None, OnErr, OnOk, length, slice_index, take, vec_len, vec_capacity};
+ghost use Rattle.std.specs.Prelude.{◌≡◌, ℕ, ◌+◌, ◌-◌, ◌^◌, ◌<◌, ◌∷◌, ◌++◌, [], None, OnErr, OnOk, length, slice_index, take, vec_len, vec_capacity};
 ghost use Rattle.wh_names.specs.Index.{IsIndex};
 ghost use Rattle.wh_names.specs.Places.{place_of};
 

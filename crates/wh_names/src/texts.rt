@@ -1,6 +1,6 @@
 // Texts one behind the other.
 
-ghost use Rattle.std.specs.Prelude.{◌≡◌, ◌+◌, ◌-◌, ◌<◌, ◌≤◌, ◌∷◌, ◌++◌, [], Some, OnErr, OnOk, length, slice_get, slice_index, take};
+ghost use Rattle.std.specs.Prelude.{◌≡◌, ◌-◌, ◌<◌, ◌≤◌, ◌∷◌, ◌++◌, [], Some, OnErr, OnOk, length, slice_get, slice_index, take};
 
 use std::alloc::{AllocError, Global};
 use std::marker::Model;

@@ -1,4 +1,4 @@
-use Rattle.std.proofs.Common.{arith, ◌≡◌, ◌∷◌, ◌++◌, [], ◌%◌, ◌∙◌, List, ℕ, None, length, ap, sym, subst}
+use Rattle.std.proofs.Common.{arith, ◌≡◌, ◌∷◌, ◌++◌, [], ◌%◌, ◌∙◌, None, length, ap, sym, subst}
 use Rattle.std.proofs.lemmas.List.{length_push}
 use Rattle.wh_names.specs.Hash.{hash_of}
 use Rattle.wh_names.specs.Index.{IsIndex}

@@ -1,4 +1,4 @@
-use Rattle.std.proofs.Common.{arith, ◌≡◌, ◌<◌, ◌≤◌, ◌∷◌, ◌∙◌, length, get_or, slice_get, ap, sym}
+use Rattle.std.proofs.Common.{arith, ◌≡◌, ◌<◌, ◌∷◌, ◌∙◌, length, get_or, slice_get, ap, sym}
 use Rattle.std.proofs.lemmas.List.{get_or_read}
 use Rattle.wh_names.proofs.Cutting.{many, read, within}
 use Rattle.wh_names.proofs.texts.Texts.get.Goals as goal
