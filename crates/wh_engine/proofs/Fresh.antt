@@ -1,5 +1,5 @@
 -- An engine on a new host.
-use Rattle.std.proofs.Common.{arith, ◌≡◌, ◌∙◌, ℕ, zero, suc, List, [], length, replicate, map, Option, None, refl, sym, ap, subst}
+use Rattle.std.proofs.Common.{arith, ◌≡◌, ◌∙◌, ℕ, zero, suc, [], length, replicate, map, refl, sym, ap, subst}
 use Rattle.wh_host_model.specs.declared.Tax.{Tax}
 use Rattle.wh_host_model.specs.declared.states.Slot.TheVariants.{Vacant}
 use Rattle.wh_host_model.specs.Frames.{tally}

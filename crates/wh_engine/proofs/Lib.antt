@@ -2,6 +2,7 @@ pub mod Admitted
 pub mod Again
 pub mod Asked
 pub mod Called
+pub mod Ended
 pub mod Found
 pub mod Fresh
 pub mod Instances

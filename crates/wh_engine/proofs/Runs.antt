@@ -29,7 +29,7 @@ use Rattle.wh_script_model.specs.Laws.{AllServed}
 use Rattle.wh_script_model.proofs.Drains.{drains_begin, drains_end, moves_follow}
 use Rattle.wh_engine.specs.declared.engine.Engine.{Engine}
 use Rattle.wh_engine.specs.declared.parts.Guest.{Guest}
-use Rattle.wh_engine.specs.Draining.{AllRest, DeviceServesWell, DeviceStaysTrue, HasServed, RunsEach, StaysSo}
+use Rattle.wh_engine.specs.Draining.{AllRest, DeviceMayFail, DeviceServesWell, DeviceStaysTrue, HasServed, RunsEach, StaysSo}
 use Rattle.wh_engine.specs.Standing.{AreGuests, EngineState, IsGuest, IsLed, StandsForScript, engine_on, LeavesOut, WholeState, whole_on, is_over}
 use Rattle.wh_engine.proofs.Asked.{whole_of}
 use Rattle.wh_engine.proofs.Instances.{placed_at}
@@ -54,6 +54,13 @@ true_on keeps honest faults left now on =
     subst (λ o. DeviceStaysTrue keeps honest o now.device) (sym on.came.left_it)
     (subst (λ o. DeviceStaysTrue keeps honest (Some on.came.before) o) (sym on.has)
     (record { was_honest = s.was_honest; goes_on = s.goes_on; stays_honest = s.stays_honest }))
+
+-- and calls of it may have failed
+pub may_fail_on : {D : Type 0} (keeps honest : D → Type 0) (faults : D → List SwapError) (left now : LeftState D) → ComesOn keeps honest faults left now
+    → DeviceMayFail faults left.device now.device
+may_fail_on keeps honest faults left now on =
+    subst (λ o. DeviceMayFail faults o now.device) (sym on.came.left_it)
+    (subst (λ o. DeviceMayFail faults (Some on.came.before) o) (sym on.has) (on.came.more, on.came.serves.added))
 
 served_by_it : {D : Type 0} (keeps honest : D → Type 0) (faults : D → List SwapError) (left now : LeftState D) (on : ComesOn keeps honest faults left now)
     → DeviceServesWell honest faults left.device now.device → HasServed (honest on.device) (faults on.came.before) (faults on.device)
@@ -225,6 +232,10 @@ ran_each keeps honest faults e left now on none rest well settings m s =
     let whole = whole_of h h2 w w2 s.stands.is.0 did.2 (whole_moves h.space h2.space c.whole before none) in
     let known = works_known settings w w2 m places s.stands.is.1 works whole (drains_begin settings w m places s.stands.knows) in
     ran_so settings m (engine_on h e) h2 w2 s (did.2, known.0) known.1 rest
+
+-- pages alone have moved before
+pub runs_after : (e e1 e2 : EngineState) → StaysSo e e1 → RunsEach e1 e2 → RunsEach e e2
+runs_after e e1 e2 stays runs settings m s = runs settings m (stays settings m s)
 
 -- ---- pages move
 

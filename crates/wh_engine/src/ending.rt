@@ -1,6 +1,6 @@
 // What has ended, so that nothing is said of it any more.
 
-ghost use Rattle.std.specs.Prelude.{◌≡◌, not};
+ghost use Rattle.std.specs.Prelude.{◌≡◌, false, not};
 ghost use Rattle.std.specs.List.{filter};
 ghost use Rattle.wh_replies.specs.View.{status_of};
 ghost use Rattle.wh_script_model.specs.Said as said_spec;
@@ -30,17 +30,21 @@ fn was_final(said: Option<Status>) -> bool
 }
 
 // Whether an instance is released, and its start was said to have ended, if it has one.
-fn is_over(guest: &Guest) -> bool
+pub(crate) fn is_over(guest: &Guest) -> bool
     ensures { result ≡ standing.is_over guest.now }
 {
     guest.is_released && (!guest.has_start || was_final(guest.said))
 }
 
-// Lets instances go of which no line is to come.
-pub(crate) fn forget_guests(guests: &mut Vec<Guest>)
+// Lets instances go of which no line is to come, where there may be some.
+pub(crate) fn forget_guests(guests: &mut Vec<Guest>, has_some: bool)
+    requires none { has_some ≡ false
+        → filter (λ x. not (standing.is_over x)) guests.old.items ≡ guests.old.items }
     ensures { guests.new.items ≡ filter (λ x. not (standing.is_over x)) guests.old.items }
 {
-    guests.retain(|guest| !is_over(guest));
+    if has_some {
+        guests.retain(|guest| !is_over(guest));
+    }
 }
 
 // Lets calls go that were said to have ended.

@@ -68,8 +68,8 @@ impl Engine {
     }
 
     /// Runs the calls of all instances, in turns of so many charges by so many workers, until none can go on. Where none can
-    /// from the beginning, no thread is started; and no more workers than instances that can, since each of these has one
-    /// turn out at most.
+    /// from the beginning, no epoch begins and no thread is started; and no more workers than instances that can, since each of
+    /// these has one turn out at most.
     ///
     /// # Errors
     /// `Memory` where room was refused, and `Threads` where a thread couldn't be started; some calls may have run then.
@@ -108,6 +108,7 @@ impl Engine {
         if ids.is_empty() {
             return Ok(());
         }
+        self.epoch(host);
         let manner = Manner {
             hasher: manner.hasher,
             quantum: manner.quantum,

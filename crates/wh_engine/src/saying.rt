@@ -9,7 +9,7 @@ ghost use Rattle.wh_instance.specs.Tenancy.{suspension_of};
 ghost use Rattle.wh_engine.specs.Saying.{IsFaultless, IsFoundAt, IsInvokedNow, IsReturnedSo, IsSaidAs, IsStatusAt, SaysAll, SaysAllCalls, SaysAllStarts, SaysCallOf, SaysOf, SaysStartOf};
 ghost use Rattle.wh_engine.specs.Standing.{engine_on};
 
-use crate::ending::{forget_calls, forget_guests};
+use crate::ending::{forget_calls, forget_guests, is_over};
 use crate::engine::Engine;
 use crate::finding::place_of;
 use crate::parts::{Guest, Invoked, Reception};
@@ -195,10 +195,12 @@ impl Engine {
         ensures { OnOk result (SaysAllStarts (engine_on host.now self.old) (string_bytes text.old)
             (engine_on host.now self.new) (string_bytes text.new)) }
     {
+        let mut has_ended = false;
         for at in 0..self.guests.len() {
             say_start(host, &mut self.guests[at], text)?;
+            has_ended = has_ended | is_over(&self.guests[at]);
         }
-        forget_guests(&mut self.guests);
+        forget_guests(&mut self.guests, has_ended);
         Ok(())
     }
 

@@ -4,18 +4,15 @@ use Rattle.wh_host_model.specs.Lines.Texts.{Reply, reply_text}
 use Rattle.wh_host_model.specs.Lines.Made.{Made, NoGuest}
 use Rattle.wh_host_model.specs.Lines.Drains.{Drains}
 use Rattle.wh_script_model.proofs.Said.{runs_well, says_well, all_said, drained_guest}
-use Rattle.wh_engine.specs.Draining.{RunsEach, StaysSo}
+use Rattle.wh_engine.specs.Draining.{RunsEach}
 use Rattle.wh_engine.specs.Saying.{SaysAll}
 use Rattle.wh_engine.specs.Standing.{EngineState}
 use Rattle.wh_script.specs.Answering.{HasDrained, Complains}
 use Rattle.wh_script.proofs.Speaking.{adds_one, adds_more}
 
-pub stays_so : (e : EngineState) → StaysSo e e
-stays_so e settings m s = s
-
-pub has_drained : (e e1 e2 e3 : EngineState) (text text2 : List ℕ) → StaysSo e e1 → RunsEach e1 e2 → SaysAll e2 text e3 text2 → HasDrained e text e3 text2
-has_drained e e1 e2 e3 text text2 stays runs says settings m s =
-    let ran = runs settings m (stays settings m s.0) in
+pub has_drained : (e e2 e3 : EngineState) (text text2 : List ℕ) → RunsEach e e2 → SaysAll e2 text e3 text2 → HasDrained e text e3 text2
+has_drained e e2 e3 text text2 runs says settings m s =
+    let ran = runs settings m s.0 in
     let m1 : Made = record m { guests = ran.0 } in
     let well = runs_well m ran.0 s.1 ran.1 in
     let said = says settings m1 ran.2 well in

@@ -7,7 +7,7 @@ ghost use Rattle.wh_host_model.specs.Lines.Settings as lines;
 ghost use Rattle.wh_host_model.specs.Lines.Texts.{error, reply_text};
 ghost use Rattle.wh_replies.specs.View.{reply_of};
 ghost use Rattle.wh_settings.specs.View.{settings_of};
-ghost use Rattle.wh_engine.specs.Draining.{DeviceMayFail, DeviceServesWell, DeviceStaysTrue, RunsEach, RunsTurns, StaysSo, StopsOnlyOpen, StopsRun};
+ghost use Rattle.wh_engine.specs.Draining.{DeviceMayFail, DeviceServesWell, DeviceStaysTrue, RunsEach, RunsTurns, StopsOnlyOpen, StopsRun};
 ghost use Rattle.wh_engine.specs.Obeying.{IsModuleNamed, IsNamed};
 ghost use Rattle.wh_engine.specs.Standing.{StandsForScript, engine_on};
 ghost use Rattle.wh_script.specs.Answering.{HasDrained, Complains};
@@ -247,26 +247,11 @@ impl<
         ensures open { IfErr result
             (StopsOnlyOpen (engine_on self.old.host.host self.old.engine)) }
     {
-        self.begin_epoch();
         self.run(rt)?;
         let Ok(()) = self.engine.say(self.host.host(), &mut self.text) else {
             return Err(ScriptFault::Memory);
         };
         Ok(())
-    }
-
-    // Begins a new epoch where some call can go on.
-    fn begin_epoch(&mut self)
-        ensures stands { StaysSo (engine_on self.old.host.host self.old.engine)
-            (engine_on self.new.host.host self.new.engine) }
-        ensures config { self.new.config ≡ self.old.config }
-        ensures device { self.new.host.device ≡ self.old.host.device }
-        ensures books { self.new.host.books ≡ self.old.host.books }
-        ensures text { self.new.text ≡ self.old.text }
-    {
-        if self.engine.can_go_on(self.host.host()) {
-            self.engine.epoch(&mut self.host);
-        }
     }
 
     // Runs all calls until none can go on, in the manner of the settings.

@@ -1,4 +1,4 @@
-use Rattle.std.proofs.Common.{arith, ◌≡◌, ◌∙◌, ◌++◌, ◌∷◌, [], List, None, false, ap, sym, subst, refl}
+use Rattle.std.proofs.Common.{arith, ◌∙◌, ◌++◌, ◌∷◌, [], List, None, false, ap, sym, subst, refl}
 use Rattle.wh_host.specs.Paging.{IsGoing, Tells}
 use Rattle.wh_engine.specs.declared.parts.Guest.{Guest}
 use Rattle.wh_engine.proofs.Admitted.{admitted, guest_again, refused, refused_again}

@@ -1,10 +1,10 @@
-use Rattle.std.proofs.Common.{arith, ◌≡◌, ◌<◌, length, subst}
+use Rattle.std.proofs.Common.{arith, ◌≡◌, ◌<◌, length, subst, sym}
 use Rattle.wh_scheduler.specs.InHand.{left_of}
-use Rattle.wh_engine.specs.Draining.{AllRest, SomeGoes}
+use Rattle.wh_engine.specs.Draining.{AllRest, DeviceMayFail, DeviceServesWell, DeviceStaysTrue, SomeGoes}
 use Rattle.wh_engine.specs.Standing.{engine_on}
 use Rattle.wh_engine.proofs.Opened.{goes_open, only_open}
 use Rattle.wh_engine.proofs.Resting.{no_items, some_items}
-use Rattle.wh_engine.proofs.Runs.{ran_at_once, ran_each, true_on}
+use Rattle.wh_engine.proofs.Runs.{may_fail_on, ran_at_once, ran_each, runs_after, true_on}
 use Rattle.wh_engine.proofs.Turned.{no_turns, whole_turns}
 use Rattle.wh_engine.proofs.engine.Engine.run.Goals as goal
 
@@ -16,10 +16,14 @@ returns-then-is_empty-clause-runs g c well =
     (subst (λ h. AllRest h c.args.self.now.guests.items) c.host.ensures (c.in-Ok.ensures.none (no_items c.in-Ok.ids.items none)))
 
 pub returns-clause-runs : goal.returns-clause-runs
-returns-clause-runs g c =
-    ran_each g.D.SwapDev.keeps g.D.SwapDev.honest g.D.SwapDev.faults c.args.self.now (left_of c.args.host.now) (left_of c.run-served.new.self)
+returns-clause-runs g c well =
+    let e = c.args.self.now in
+    let now = c.run-served.new.self in
+    runs_after (engine_on c.args.host.now.host e) (engine_on c.epoch.new.host.host e) (engine_on now.host e) c.epoch.ensures.stands
+    (ran_each g.D.SwapDev.keeps g.D.SwapDev.honest g.D.SwapDev.faults e (left_of c.epoch.new.host) (left_of now)
     c.run-served.ensures.came c.known.ensures.together.none_out
-    (subst (λ h. AllRest h c.args.self.now.guests.items) c.host-2.ensures c.if-can_go_on.ensures)
+    (subst (λ h. AllRest h e.guests.items) c.host-2.ensures c.if-can_go_on.ensures)
+    (subst (λ o. DeviceServesWell g.D.SwapDev.honest g.D.SwapDev.faults o now.device) (sym c.epoch.ensures.device) well))
 
 pub returns-in-Err-clause-transcript : goal.returns-in-Err-clause-transcript
 returns-in-Err-clause-transcript g c same = absurd (c.stops_by.ensures.others same)
@@ -48,17 +52,36 @@ returns-then-is_empty-clause-turns g c = no_turns c.args.manner.quantum c.args.h
 
 pub returns-in-Err-clause-device : goal.returns-in-Err-clause-device
 returns-in-Err-clause-device g c =
-    true_on g.D.SwapDev.keeps g.D.SwapDev.honest g.D.SwapDev.faults (left_of c.args.host.now) (left_of c.run-served.new.self) c.run-served.ensures.came
+    subst (λ o. DeviceStaysTrue g.D.SwapDev.keeps g.D.SwapDev.honest o c.run-served.new.self.device) c.epoch.ensures.device
+    (true_on g.D.SwapDev.keeps g.D.SwapDev.honest g.D.SwapDev.faults (left_of c.epoch.new.host) (left_of c.run-served.new.self) c.run-served.ensures.came)
+
+pub returns-in-Err-clause-faults : goal.returns-in-Err-clause-faults
+returns-in-Err-clause-faults g c =
+    subst (λ o. DeviceMayFail g.D.SwapDev.faults o c.run-served.new.self.device) c.epoch.ensures.device
+    (may_fail_on g.D.SwapDev.keeps g.D.SwapDev.honest g.D.SwapDev.faults (left_of c.epoch.new.host) (left_of c.run-served.new.self) c.run-served.ensures.came)
 
 pub returns-then-can_go_on-clause-device : goal.returns-then-can_go_on-clause-device
 returns-then-can_go_on-clause-device g c =
-    true_on g.D.SwapDev.keeps g.D.SwapDev.honest g.D.SwapDev.faults (left_of c.args.host.now) (left_of c.run-served.new.self) c.run-served.ensures.came
+    subst (λ o. DeviceStaysTrue g.D.SwapDev.keeps g.D.SwapDev.honest o c.run-served.new.self.device) c.epoch.ensures.device
+    (true_on g.D.SwapDev.keeps g.D.SwapDev.honest g.D.SwapDev.faults (left_of c.epoch.new.host) (left_of c.run-served.new.self) c.run-served.ensures.came)
+
+pub returns-then-can_go_on-clause-faults : goal.returns-then-can_go_on-clause-faults
+returns-then-can_go_on-clause-faults g c =
+    subst (λ o. DeviceMayFail g.D.SwapDev.faults o c.run-served.new.self.device) c.epoch.ensures.device
+    (may_fail_on g.D.SwapDev.keeps g.D.SwapDev.honest g.D.SwapDev.faults (left_of c.epoch.new.host) (left_of c.run-served.new.self) c.run-served.ensures.came)
 
 pub returns-clause-device : goal.returns-clause-device
 returns-clause-device g c =
-    true_on g.D.SwapDev.keeps g.D.SwapDev.honest g.D.SwapDev.faults (left_of c.args.host.now) (left_of c.run-served.new.self) c.run-served.ensures.came
+    subst (λ o. DeviceStaysTrue g.D.SwapDev.keeps g.D.SwapDev.honest o c.run-served.new.self.device) c.epoch.ensures.device
+    (true_on g.D.SwapDev.keeps g.D.SwapDev.honest g.D.SwapDev.faults (left_of c.epoch.new.host) (left_of c.run-served.new.self) c.run-served.ensures.came)
+
+pub returns-clause-faults : goal.returns-clause-faults
+returns-clause-faults g c =
+    subst (λ o. DeviceMayFail g.D.SwapDev.faults o c.run-served.new.self.device) c.epoch.ensures.device
+    (may_fail_on g.D.SwapDev.keeps g.D.SwapDev.honest g.D.SwapDev.faults (left_of c.epoch.new.host) (left_of c.run-served.new.self) c.run-served.ensures.came)
 
 pub returns-clause-turns : goal.returns-clause-turns
 returns-clause-turns g c =
     let s = c.run-served.ensures in
-    whole_turns c.args.manner.quantum c.args.host.now.books.turns c.run-served.new.self.books.turns c.run-served.result c.in_default-end_of.ensures s.handed s.once s.grown s.turns
+    let grown = whole_turns c.args.manner.quantum c.epoch.new.host.books.turns c.run-served.new.self.books.turns c.run-served.result c.in_default-end_of.ensures s.handed s.once s.grown s.turns in
+    rw c.epoch.ensures.books at grown

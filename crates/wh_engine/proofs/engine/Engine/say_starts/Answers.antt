@@ -1,9 +1,12 @@
-use Rattle.std.proofs.Common.{arith, refl, ap, sym, subst, ◌∙◌, string_bytes}
+use Rattle.std.proofs.Common.{arith, ◌≡◌, ◌<◌, length, slice_set, refl, ap, sym, subst, ◌∙◌, string_bytes}
 use Rattle.std.proofs.lemmas.List.{length-set}
+use Rattle.std.proofs.lemmas.Option.{same_Some, slice_get_within}
+use Rattle.wh_host_model.proofs.Space.Putting.{set_same}
 use Rattle.std.specs.Vec.{with_item}
 use Rattle.wh_engine.specs.Saying.{SaysStartOf}
-use Rattle.wh_engine.specs.Standing.{StandsForScript, engine_on}
+use Rattle.wh_engine.specs.Standing.{StandsForScript, engine_on, is_over}
 use Rattle.wh_engine.proofs.Asked.{guest_there}
+use Rattle.wh_engine.proofs.Ended.{all_stay, none_before, none_over_more}
 use Rattle.wh_engine.proofs.OneByOne.{all_changed, next_changed, none_changed}
 use Rattle.wh_engine.proofs.Sayings.{with_starts, starts_are_said}
 use Rattle.wh_engine.proofs.engine.Engine.say_starts.Goals as goal
@@ -12,19 +15,37 @@ pub loop-at-init : goal.loop-at-init
 loop-at-init c = record {
   same = refl;
   many = refl;
+  none_over = λ e. none_before c.args.self.now.guests.items;
   so_far = none_changed (SaysStartOf c.args.host.now) c.args.self.now.guests.items (string_bytes c.args.text.now);
 }
 
 pub loop-at-preserved : goal.loop-at-preserved
 loop-at-preserved c =
     let l = c.loop-at in
-    let read = guest_there l.self.guests.items l.at c.index_mut.result.now (omega arith) c.index_mut.ensures.value in
+    let within : l.at < length l.self.guests.items = omega arith in
+    let changed = slice_set l.self.guests.items l.at c.say_start.new.guest in
+    let read = guest_there l.self.guests.items l.at c.index_mut.result.now within c.index_mut.ensures.value in
+    let many = length-set l.self.guests.items l.at c.say_start.new.guest in
+    let now_there = guest_there changed l.at c.index.result.now (omega (arith, within, many)) c.index.ensures in
+    let same : c.index.result.now ≡ c.say_start.new.guest =
+    same_Some _ _ (sym now_there ∙ set_same l.self.guests.items l.at c.say_start.new.guest within) in
     record {
       same = ap (λ e. with_starts e (with_item l.self.guests l.at c.say_start.new.guest)) l.invariant.same;
-      many = length-set l.self.guests.items l.at c.say_start.new.guest ∙ l.invariant.many;
+      many = many ∙ l.invariant.many;
+      none_over = none_over_more l.self.guests.items l.at c.say_start.new.guest l.has_ended c.is_over.result within l.invariant.none_over
+          (c.is_over.ensures ∙ ap is_over same);
       so_far = next_changed (SaysStartOf c.args.host.now) c.args.self.now.guests.items l.self.guests.items l.at (string_bytes c.args.text.now) (string_bytes l.text) (string_bytes c.say_start.new.text)
           c.index_mut.result.now c.say_start.new.guest l.invariant.so_far read c.in_ok-say_start.ensures;
     }
+
+pub forget_guests-requires : goal.forget_guests-requires
+forget_guests-requires c e =
+    let l = c.loop-at in
+    let none = l.invariant.none_over e in
+    all_stay l.self.guests.items (λ k x at.
+    let within = slice_get_within l.self.guests.items k x at in
+    let many = l.invariant.many in
+    none.none k x (omega (arith, within, many)) at)
 
 pub returns : goal.returns
 returns c settings m s well =

@@ -1,30 +1,24 @@
 use Rattle.std.proofs.Common.{◌∙◌, Err, IfErr, subst, sym, ap, string_bytes}
 use Rattle.std.proofs.lemmas.Result.{err_from_is_err_and}
-use Rattle.wh_engine.specs.Draining.{DeviceServesWell, StopsOnlyOpen}
+use Rattle.wh_engine.specs.Draining.{StopsOnlyOpen}
 use Rattle.wh_engine.specs.Saying.{SaysAll}
 use Rattle.wh_engine.specs.Standing.{engine_on}
-use Rattle.wh_engine.proofs.Opened.{only_open_before}
 use Rattle.wh_script.proofs.Drained.{has_drained}
 use Rattle.wh_script.proofs.session.Session.drain.Goals as goal
 
 pub returns-in_err-run-clause-open : goal.returns-in_err-run-clause-open
 returns-in_err-run-clause-open g c =
     let before = c.args.self.now in
-    let epoch = c.begin_epoch.new.self in
     let e = engine_on before.host.host before.engine in
     let p = err_from_is_err_and c.from_residual.result c.from_residual.ensures.1 in
-    subst (λ r. IfErr r (StopsOnlyOpen e)) (sym (p.1 ∙ ap Err p.2))
-    (only_open_before e (engine_on epoch.host.host epoch.engine) c.in_err-run.field-0.0 c.begin_epoch.ensures.stands c.in_err-run.ensures.open)
+    subst (λ r. IfErr r (StopsOnlyOpen e)) (sym (p.1 ∙ ap Err p.2)) c.in_err-run.ensures.open
 
 pub returns-clause-drains : goal.returns-clause-drains
 returns-clause-drains g c same =
-    let honest = g.D.SwapDev.honest in
-    let faults = g.D.SwapDev.faults in
-    let epoch = c.begin_epoch.new.self in
+    let before = c.args.self.now in
     let ran = c.run.new.self in
     let text2 = string_bytes c.say.new.text in
-    let runs = c.in_ok-run.ensures.runs (subst (λ o. DeviceServesWell honest faults o ran.host.device) (sym c.begin_epoch.ensures.device) same) in
     let here = subst (λ h. SaysAll (engine_on h ran.engine) (string_bytes ran.text) (engine_on h c.say.new.self) text2) c.host.ensures c.in-Ok.ensures in
     let said = subst (λ t. SaysAll (engine_on ran.host.host ran.engine) (string_bytes t) (engine_on ran.host.host c.say.new.self) text2) c.run.ensures.text here in
-    has_drained (engine_on c.args.self.now.host.host c.args.self.now.engine) (engine_on epoch.host.host epoch.engine) (engine_on ran.host.host ran.engine) (engine_on ran.host.host c.say.new.self)
-    (string_bytes c.args.self.now.text) text2 c.begin_epoch.ensures.stands runs (subst (λ t. SaysAll (engine_on ran.host.host ran.engine) (string_bytes t) (engine_on ran.host.host c.say.new.self) text2) c.begin_epoch.ensures.text said)
+    has_drained (engine_on before.host.host before.engine) (engine_on ran.host.host ran.engine) (engine_on ran.host.host c.say.new.self)
+    (string_bytes before.text) text2 (c.in_ok-run.ensures.runs same) said
