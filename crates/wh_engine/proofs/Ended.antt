@@ -1,5 +1,5 @@
 -- Instances of which lines are to come.
-use Rattle.std.proofs.Common.{arith, ◌≡◌, ◌∙◌, ℕ, zero, suc, ◌+◌, ◌<◌, ◌||◌, List, [], ◌∷◌, length, slice_get, slice_set, Bool, true, false, not, cond, Some, refl, sym, ap, inl, inr}
+use Rattle.std.proofs.Common.{arith, ◌≡◌, ◌∙◌, ℕ, suc, ◌+◌, ◌<◌, ◌||◌, List, [], ◌∷◌, length, slice_get, slice_set, Bool, true, false, not, cond, Some, refl, sym, ap, inl, inr}
 use Rattle.std.specs.List.{filter}
 use Rattle.std.proofs.lemmas.Bool.{cases_eq}
 use Rattle.std.proofs.lemmas.Option.{same_Some}

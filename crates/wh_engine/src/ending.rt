@@ -38,7 +38,7 @@ pub(crate) fn is_over(guest: &Guest) -> bool
 
 // Lets instances go of which no line is to come, where there may be some.
 pub(crate) fn forget_guests(guests: &mut Vec<Guest>, has_some: bool)
-    requires none { has_some ≡ false
+    requires { has_some ≡ false
         → filter (λ x. not (standing.is_over x)) guests.old.items ≡ guests.old.items }
     ensures { guests.new.items ≡ filter (λ x. not (standing.is_over x)) guests.old.items }
 {

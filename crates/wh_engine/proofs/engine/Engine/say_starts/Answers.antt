@@ -32,8 +32,8 @@ loop-at-preserved c =
     record {
       same = ap (λ e. with_starts e (with_item l.self.guests l.at c.say_start.new.guest)) l.invariant.same;
       many = many ∙ l.invariant.many;
-      none_over = none_over_more l.self.guests.items l.at c.say_start.new.guest l.has_ended c.is_over.result within l.invariant.none_over
-          (c.is_over.ensures ∙ ap is_over same);
+      none_over = none_over_more l.self.guests.items l.at c.say_start.new.guest l.has_ended c.is_over-has_ended.result within l.invariant.none_over
+          (c.is_over-has_ended.ensures ∙ ap is_over same);
       so_far = next_changed (SaysStartOf c.args.host.now) c.args.self.now.guests.items l.self.guests.items l.at (string_bytes c.args.text.now) (string_bytes l.text) (string_bytes c.say_start.new.text)
           c.index_mut.result.now c.say_start.new.guest l.invariant.so_far read c.in_ok-say_start.ensures;
     }
