@@ -1,0 +1,87 @@
+//! What a host tells.
+
+ghost use Rattle.std.specs.Prelude.{◌≡◌};
+ghost use Rattle.wolqedir.specs.Serving.{Serves, TellsReport, TellsStatus, TellsTaken};
+ghost use Rattle.wolqedir.specs.Shapes.{id_of};
+
+use crate::codes::{DONE, NONE, UNKNOWN, of_host};
+use crate::handle::Handle;
+use crate::rooms::lay;
+use crate::shapes::{Instance, Status, named, shown};
+use std::alloc::Global;
+
+/// How far the call at this place of an instance is, where its start is at 0.
+///
+/// It answers NONE, or UNKNOWN where there is no such instance or no such call.
+#[unsafe(no_mangle)]
+pub extern "C" fn wq_status_of(
+    alloc: Global,
+    handle: &mut Handle,
+    instance: &Instance,
+    call: u32,
+    status: &mut Status,
+) -> u32
+    ensures { Serves handle.old.slot.held
+        (TellsStatus (id_of instance.now) call status.old result status.new) result
+        handle.new.slot.held (status.new ≡ status.old) }
+{
+    let Some(hand) = handle.take(alloc) else {
+        return NONE;
+    };
+    let told = hand.status(named(instance), call);
+    handle.put(hand);
+    let Some((far, charges)) = told else {
+        return UNKNOWN;
+    };
+    *status = shown(far, charges);
+    DONE
+}
+
+/// Copies as many bytes as there is room for of what the instance had put out that was released last, and tells how many bytes
+/// that is; none before the first release.
+///
+/// It answers NONE or 0.
+#[unsafe(no_mangle)]
+pub extern "C" fn wq_taken(
+    alloc: Global,
+    handle: &mut Handle,
+    room: &mut [u8],
+    len: &mut usize,
+) -> u32
+    ensures { Serves handle.old.slot.held (TellsTaken room.old room.new len.new result) result
+        handle.new.slot.held ((room.new ≡ room.old) × (len.new ≡ len.old)) }
+{
+    let Some(hand) = handle.take(alloc) else {
+        return NONE;
+    };
+    lay(hand.output(), room, len);
+    handle.put(hand);
+    DONE
+}
+
+/// Copies as many bytes as there is room for of the report of the host, and tells how many bytes that has.
+///
+/// It answers NONE, or H7 where there is no room for the report.
+#[unsafe(no_mangle)]
+pub extern "C" fn wq_report_of(
+    alloc: Global,
+    handle: &mut Handle,
+    room: &mut [u8],
+    len: &mut usize,
+) -> u32
+    ensures { Serves handle.old.slot.held (TellsReport room.old room.new len.old len.new result)
+        result handle.new.slot.held ((room.new ≡ room.old) × (len.new ≡ len.old)) }
+{
+    let Some(hand) = handle.take(alloc) else {
+        return NONE;
+    };
+    let report = hand.report(alloc);
+    handle.put(hand);
+    match report {
+        Ok(text) => {
+            lay(text.as_bytes(), room, len);
+            DONE
+        }
+        Err(error) => of_host(error),
+    }
+}
