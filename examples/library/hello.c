@@ -4,13 +4,21 @@
 #include <stdio.h>
 #include <stdlib.h>
 
-/* Prints why it can't go on, and ends. */
-static void must(const char *what, wq_code code) {
+/* No arguments. A pointer is never null, also where nothing is behind it. */
+static const int64_t none[1];
+
+/* Prints the sentence for a code. */
+static void tell(FILE *to, const char *what, wq_code code) {
   uint8_t room[128];
   size_t len = 0;
-  if (code == WQ_DONE) return;
   if (wq_code_text(code, room, sizeof room, &len) != WQ_DONE || len > sizeof room) len = 0;
-  fprintf(stderr, "%s: code %#x: %.*s\n", what, (unsigned)code, (int)len, (const char *)room);
+  fprintf(to, "%s: %.*s\n", what, (int)len, (const char *)room);
+}
+
+/* Prints why it can't go on, and ends. */
+static void must(const char *what, wq_code code) {
+  if (code == WQ_DONE) return;
+  tell(stderr, what, code);
   exit(1);
 }
 
@@ -67,9 +75,9 @@ int main(int count, char **words) {
   must("new", wq_host_new(&host, 1024, 4096, 3, 4));
   size_t hello = load(&host, count > 1 ? words[1] : "examples/hello.wasm");
   wq_instance a = admit(&host, hello, 40, 2), b = admit(&host, hello, 1, 2);
-  must("invoke", wq_invoke(&host, &a, (const uint8_t *)"run", 3, NULL, 0, 1000, &call));
+  must("invoke", wq_invoke(&host, &a, (const uint8_t *)"run", 3, none, 0, 1000, &call));
   run(&host, "a", &a, call);
-  must("invoke", wq_invoke(&host, &b, (const uint8_t *)"run", 3, NULL, 0, 3, &call));
+  must("invoke", wq_invoke(&host, &b, (const uint8_t *)"run", 3, none, 0, 3, &call));
   run(&host, "b", &b, call);
   must("refuel", wq_refuel(&host, &b, 1000));
   run(&host, "b", &b, call);
@@ -78,7 +86,8 @@ int main(int count, char **words) {
   printf("%.*s", (int)(len < sizeof report ? len : sizeof report), (const char *)report);
   release(&host, "a", &a);
   release(&host, "b", &b);
+  tell(stdout, "b again", wq_release(&host, &b, &len));
   wq_host_free(&host);
-  printf("behind the end: code %u\n", (unsigned)wq_scan(&host));
-  return 0;
+  wq_host_free(&host);
+  return wq_scan(&host) == WQ_NONE ? 0 : 1;
 }

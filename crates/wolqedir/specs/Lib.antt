@@ -4,3 +4,4 @@ pub mod Holding
 pub mod Rooms
 pub mod Serving
 pub mod Shapes
+pub mod Texts

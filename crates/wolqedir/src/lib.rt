@@ -17,3 +17,4 @@ mod running;
 mod shapes;
 mod slot;
 mod telling;
+mod texts;

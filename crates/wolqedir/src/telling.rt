@@ -3,11 +3,13 @@
 ghost use Rattle.std.specs.Prelude.{◌≡◌};
 ghost use Rattle.wolqedir.specs.Serving.{Serves, TellsReport, TellsStatus, TellsTaken};
 ghost use Rattle.wolqedir.specs.Shapes.{id_of};
+ghost use Rattle.wolqedir.specs.Texts.{TellsText};
 
 use crate::codes::{DONE, NONE, UNKNOWN, of_host};
 use crate::handle::Handle;
 use crate::rooms::lay;
 use crate::shapes::{Instance, Status, named, shown};
+use crate::texts::sentence;
 use std::alloc::Global;
 
 /// How far the call at this place of an instance is, where its start is at 0.
@@ -83,5 +85,21 @@ pub extern "C" fn wq_report_of(
             DONE
         }
         Err(error) => of_host(error),
+    }
+}
+
+/// Copies as many bytes as there is room for of a sentence for a code, and tells how many bytes it has.
+///
+/// It answers UNKNOWN where there is no such code.
+#[unsafe(no_mangle)]
+pub extern "C" fn wq_code_text(code: u32, room: &mut [u8], len: &mut usize) -> u32
+    ensures { TellsText code room.old room.new len.old len.new result }
+{
+    match sentence(code) {
+        Some(text) => {
+            lay(text.as_bytes(), room, len);
+            DONE
+        }
+        None => UNKNOWN,
     }
 }

@@ -1,0 +1,26 @@
+-- Which codes there are, and what is told of one.
+use Rattle.std.specs.Prelude.{◌≡◌, ◌⊎◌, ◌<◌, ◌≤◌, ◌/◌, ◌%◌, ℕ, List, length}
+use Rattle.wolqedir.specs.Codes.{unknown_code}
+use Rattle.wolqedir.specs.Rooms.{laid_in}
+
+-- how many numbers a family has
+abbrev pub most_number : ℕ → ℕ
+most_number 1 = 13
+most_number 2 = 11
+most_number 3 = 3
+most_number 4 = 2
+most_number 5 = 9
+most_number 6 = 8
+most_number 7 = 10
+most_number 8 = 3
+most_number other = 0
+
+-- it is one of the library's own, or a family with one of its numbers
+abbrev pub IsCode : ℕ → Type 0
+IsCode code = (code < 8) ⊎ ((1 ≤ code % 256) × (code % 256 ≤ most_number (code / 256)))
+
+-- A sentence is copied for a code; for none that is answered, and what could be written is as it was.
+abbrev pub TellsText : ℕ → (room room2 : List ℕ) → (len len2 answer : ℕ) → Type 0
+TellsText code room room2 len len2 answer =
+    (IsCode code × (text : List ℕ) × (answer ≡ 0) × (room2 ≡ laid_in text room) × (len2 ≡ length text))
+    ⊎ ((¬ (IsCode code)) × (answer ≡ unknown_code) × (room2 ≡ room) × (len2 ≡ len))
