@@ -1,6 +1,6 @@
 -- What an export does: the handle before and after, the code, and what is written for the caller.
-use Rattle.std.specs.Prelude.{◌≡◌, ◌⊎◌, ℕ, ℤ, ⊤, List, length, option_map, Option, Some, None, Result, Ok, Err, IfOk, IfErr, OnOk, OnErr, IfSome, IfNone, IsSome, IsUtf8, ◌+◌}
-use Rattle.std.specs.Global.{String, string_bytes}
+use Rattle.std.specs.Prelude.{◌≡◌, ◌⊎◌, ℕ, ℤ, ⊤, List, length, option_map, Option, Some, None, Result, Ok, Err, IfOk, IfErr, OnOk, OnErr, IfSome, IfNone, IsSome, IsUtf8, String, string_bytes, ◌+◌}
+use Rattle.std.specs.Global.{Global}
 use Rattle.wh_host_model.specs.declared.plain.InstId.{InstId}
 use Rattle.wh_host_model.specs.Hash.{fnv64}
 use Rattle.wh_host_model.specs.Owners.{Params}
@@ -69,7 +69,7 @@ Tells told (Err e) before after = after ≡ before
 
 pub record Loads (bytes : List ℕ) (number number2 code : ℕ) (h h2 : HandState) : Type 0 where
   pub answer : Result ModuleId ModuleError
-  pub code : code ≡ code_by module_error_code answer
+  pub answered : code ≡ code_by module_error_code answer
   pub loads : AnswersLoad h.host bytes answer h2.host
   pub err : OnErr answer (h2 ≡ h)
   pub backing : KeepsBacking h.host.space h2.host.space
@@ -78,7 +78,7 @@ pub record Loads (bytes : List ℕ) (number number2 code : ℕ) (h h2 : HandStat
 
 pub record Admits (of : ℕ) (p : Params) (instance instance2 : Instance) (code : ℕ) (h h2 : HandState) : Type 0 where
   pub answer : Result InstId AdmitError
-  pub code : code ≡ code_by admit_error_code answer
+  pub answered : code ≡ code_by admit_error_code answer
   pub admits : AnswersAdmit h.host of p answer h2.host
   pub err : OnErr answer (h2 ≡ h)
   pub backing : KeepsBacking h.host.space h2.host.space
@@ -91,7 +91,7 @@ pub record Admits (of : ℕ) (p : Params) (instance instance2 : Instance) (code 
 pub record Invokes (id : InstId) (name : List ℕ) (args : List ℤ) (fuel call call2 code : ℕ) (h h2 : HandState) : Type 0
   where
     pub answer : Result ℕ HostError
-    pub code : code ≡ code_by host_error_code answer
+    pub answered : code ≡ code_by host_error_code answer
     pub asks : AnswersInvoke h.host id name args fuel answer h2.host
     pub err : OnErr answer (h2 ≡ h)
     pub backing : KeepsBacking h.host.space h2.host.space
@@ -99,17 +99,17 @@ pub record Invokes (id : InstId) (name : List ℕ) (args : List ℤ) (fuel call 
     pub told : Tells (λ at. at) answer call call2
 
 -- of the present call of an instance
-pub record Asks (asks : World → CallAnswer → World → Type 0) (code : ℕ) (h h2 : HandState) : Type 0 where
+pub record Asks (request : World → CallAnswer → World → Type 0) (code : ℕ) (h h2 : HandState) : Type 0 where
   pub answer : Result Unit HostError
-  pub code : code ≡ code_by host_error_code answer
-  pub asks : AnswersCall h.host asks answer h2.host
+  pub answered : code ≡ code_by host_error_code answer
+  pub asks : AnswersCall h.host request answer h2.host
   pub err : OnErr answer (h2 ≡ h)
   pub backing : KeepsBacking h.host.space h2.host.space
   pub output : h2.output ≡ h.output
 
 pub record Releases (id : InstId) (len len2 code : ℕ) (h h2 : HandState) : Type 0 where
   pub answer : Result Unit HostError
-  pub code : code ≡ code_by host_error_code answer
+  pub answered : code ≡ code_by host_error_code answer
   pub goes : AnswersReleaseHere h id answer h2
   pub err : OnErr answer (h2 ≡ h)
   pub backing : KeepsBacking h.host.space h2.host.space
@@ -119,7 +119,7 @@ pub record Releases (id : InstId) (len len2 code : ℕ) (h h2 : HandState) : Typ
 -- ---- what goes on
 
 pub record Runs (charges : ℕ) (progress : Progress) (code : ℕ) (h h2 : HandState) : Type 0 where
-  pub code : code ≡ 0
+  pub answered : code ≡ 0
   pub ran : Ran
   pub runs : RunsAll h.host charges ran h2.host
   pub whole : IsAsWhole h.host.space h2.host.space
@@ -133,7 +133,7 @@ scan_code None = large_code
 
 pub record Scans (code : ℕ) (h h2 : HandState) : Type 0 where
   pub offered : Option ℕ
-  pub code : code ≡ scan_code offered
+  pub answered : code ≡ scan_code offered
   pub moves : MovesOnly h.host h2.host
   pub backing : KeepsBacking h.host.space h2.host.space
   pub done : CanScan h.host.space → IsSome offered
@@ -146,7 +146,7 @@ pub record Scans (code : ℕ) (h h2 : HandState) : Type 0 where
   pub output : h2.output ≡ h.output
 
 pub record BeginsEpoch (code : ℕ) (h h2 : HandState) : Type 0 where
-  pub code : code ≡ 0
+  pub answered : code ≡ 0
   pub moves : MovesOnly h.host h2.host
   pub clears : Epochs h.host.space h2.host.space
   pub backing : KeepsBacking h.host.space h2.host.space
@@ -169,16 +169,16 @@ pub record TellsStatus (id : InstId) (at : ℕ) (status : Status) (code : ℕ) (
 
 -- the output of the instance that was released last
 pub record TellsTaken (room room2 : List ℕ) (len2 code : ℕ) (h h2 : HandState) : Type 0 where
-  pub code : code ≡ 0
+  pub answered : code ≡ 0
   pub same : h2 ≡ h
-  pub room : room2 ≡ laid_in h.output room
-  pub len : len2 ≡ length h.output
+  pub laid : room2 ≡ laid_in h.output room
+  pub counted : len2 ≡ length h.output
 
 pub record TellsReport (room room2 : List ℕ) (len len2 code : ℕ) (h h2 : HandState) : Type 0 where
-  pub answer : Result String HostError
-  pub code : code ≡ code_by host_error_code answer
+  pub answer : Result (String Global) HostError
+  pub answered : code ≡ code_by host_error_code answer
   pub same : h2 ≡ h
   pub ok : IfOk answer (λ text. ReportsHost h.host (string_bytes text))
   pub err : IfErr answer (λ error. error ≡ Memory)
-  pub room : Tells (λ text. laid_in (string_bytes text) room) answer room room2
-  pub len : Tells (λ text. length (string_bytes text)) answer len len2
+  pub laid : Tells (λ text. laid_in (string_bytes text) room) answer room room2
+  pub counted : Tells (λ text. length (string_bytes text)) answer len len2

@@ -1,5 +1,6 @@
 -- What C reads and writes, and what it stands for.
 use Rattle.std.specs.Prelude.{ℕ, Bool, true, false, List, Option, Some, None}
+use Rattle.wh_model.specs.declared.ValType.{ValType}
 use Rattle.wh_model.specs.declared.ValType.TheVariants.{I32, I64}
 use Rattle.wh_host_model.specs.declared.plain.InstId.{InstId}
 use Rattle.wh_host_model.specs.Owners as owners
@@ -43,10 +44,13 @@ abbrev pub progress_as : Ran → Progress
 progress_as ran = record { charges = ran.charges; goes_on = flag ran.goes_on }
 
 -- a result has 32 or 64 bits, and 0 bits are none
+abbrev pub type_bits : ValType → ℕ
+type_bits I32 = 32
+type_bits I64 = 64
+
 abbrev pub bits_of : Option CallValue → ℕ
 bits_of None = 0
-bits_of (Some (record { of = I32; word = word })) = 32
-bits_of (Some (record { of = I64; word = word })) = 64
+bits_of (Some value) = type_bits value.of
 
 abbrev pub word_of : Option CallValue → ℕ
 word_of None = 0

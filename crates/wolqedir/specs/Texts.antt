@@ -1,19 +1,11 @@
 -- Which codes there are, and what is told of one.
-use Rattle.std.specs.Prelude.{◌≡◌, ◌⊎◌, ◌<◌, ◌≤◌, ◌/◌, ◌%◌, ℕ, List, length}
+use Rattle.std.specs.Prelude.{◌≡◌, ◌⊎◌, ◌<◌, ◌≤◌, ◌/◌, ◌%◌, ℕ, List, [], ◌∷◌, get_or, length}
 use Rattle.wolqedir.specs.Codes.{unknown_code}
 use Rattle.wolqedir.specs.Rooms.{laid_in}
 
--- how many numbers a family has
+-- how many numbers a family has, the first of which is 1
 abbrev pub most_number : ℕ → ℕ
-most_number 1 = 13
-most_number 2 = 11
-most_number 3 = 3
-most_number 4 = 2
-most_number 5 = 9
-most_number 6 = 8
-most_number 7 = 10
-most_number 8 = 3
-most_number other = 0
+most_number family = get_or (0 ∷ 13 ∷ 11 ∷ 3 ∷ 2 ∷ 9 ∷ 8 ∷ 10 ∷ 3 ∷ []) family 0
 
 -- it is one of the library's own, or a family with one of its numbers
 abbrev pub IsCode : ℕ → Type 0

@@ -37,6 +37,20 @@ fn tell_place(answer: Result<u32, HostError>, call: &mut u32) -> u32
     }
 }
 
+// Tells how many bytes an instance had put out that was let go, or says why it wasn't.
+fn tell_length(answer: Result<(), HostError>, count: usize, len: &mut usize) -> u32
+    ensures code { result ≡ code_by host_error_code answer }
+    ensures told { Tells (λ _. count) answer len.old len.new }
+{
+    match answer {
+        Ok(()) => {
+            *len = count;
+            DONE
+        }
+        Err(error) => of_host(error),
+    }
+}
+
 // These arguments, as a host takes them.
 fn widened(alloc: Global, args: &[i64]) -> Result<Vec<i128>, AllocError>
     ensures { IfOk result (λ wide. wide.items ≡ args.now) }
@@ -159,9 +173,7 @@ pub extern "C" fn wq_release(
         return NONE;
     };
     let answer = hand.release(alloc, named(instance));
-    if answer.is_ok() {
-        *len = hand.output().len();
-    }
+    let count = hand.output().len();
     handle.put(hand);
-    code_of(answer)
+    tell_length(answer, count, len)
 }

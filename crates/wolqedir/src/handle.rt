@@ -1,6 +1,6 @@
 //! The handle that C keeps.
 
-ghost use Rattle.std.specs.Prelude.{◌≡◌, ◌≢◌, true, false, Some, None, IfSome, IfNone, IsSome};
+ghost use Rattle.std.specs.Prelude.{◌≡◌, ◌≢◌, true, false, Some, None, IfSome, IfNone, IsNone, IsSome};
 
 use crate::slot::Slot;
 use std::alloc::Global;
@@ -16,7 +16,7 @@ pub struct Handle {
     /// Where the host lies.
     pub slot: Slot,
     ghost filled: { full ≢ 0 → IsSome slot.held },
-    ghost empty: { full ≡ 0 → slot.held ≡ None },
+    ghost empty: { full ≡ 0 → IsNone slot.held },
 }
 
 impl Handle {

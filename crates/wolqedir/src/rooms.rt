@@ -9,8 +9,10 @@ pub fn lay(bytes: &[u8], room: &mut [u8], len: &mut usize)
     ensures len { len.new ≡ length bytes.now }
 {
     *len = bytes.len();
-    let most = bytes.len().min(room.len());
-    for at in 0..most {
-        room[at] = bytes[at];
+    if bytes.len() <= room.len() {
+        let (front, _) = room.split_at_mut(bytes.len());
+        front.copy_from_slice(bytes);
+    } else {
+        room.copy_from_slice(&bytes[..room.len()]);
     }
 }

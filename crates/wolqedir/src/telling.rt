@@ -32,11 +32,13 @@ pub extern "C" fn wq_status_of(
     };
     let told = hand.status(named(instance), call);
     handle.put(hand);
-    let Some((far, charges)) = told else {
-        return UNKNOWN;
-    };
-    *status = shown(far, charges);
-    DONE
+    match told {
+        Some((far, charges)) => {
+            *status = shown(far, charges);
+            DONE
+        }
+        None => UNKNOWN,
+    }
 }
 
 /// Copies as many bytes as there is room for of what the instance had put out that was released last, and tells how many bytes
