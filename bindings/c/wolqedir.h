@@ -144,6 +144,12 @@ wq_code wq_epoch(wq_host *host);
 /* The report, as lines of text (docs/guide/script.md). H7. */
 wq_code wq_report_of(wq_host *host, uint8_t *room, size_t cap, size_t *len);
 
+/* The calls of an instance in the order of their coming, the first of which is the start, as words. Of each: the index of its
+ * function, or 2^64 - 1 for none; its fuel in all; the pieces of data segments that it wrote; its charges; the kind of its
+ * status, or 0 where it hasn't ended; 1 where it has a result, else 0; the result, or the number of its trap, else 0; how many
+ * arguments it has; and these. It replays: an owner can make the calls again elsewhere, and compare. WQ_MEMORY, H1, H7. */
+wq_code wq_transcript_of(wq_host *host, const wq_instance *instance, uint64_t *room, size_t cap, size_t *len);
+
 /* A sentence for a code, in English, with no NUL. WQ_UNKNOWN. */
 wq_code wq_code_text(wq_code code, uint8_t *room, size_t cap, size_t *len);
 

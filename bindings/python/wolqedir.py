@@ -60,6 +60,20 @@ class Ran(NamedTuple):
     goes_on: bool
 
 
+class Entry(NamedTuple):
+    """A call of a transcript: the index of its function, if it has one; its arguments and its fuel in all; the pieces of data
+    segments that it wrote, and its charges; `kind` is one of KINDS, or open; `result` is the word that it returned, or the number
+    of its trap."""
+
+    function: Optional[int]
+    args: list
+    fuel: int
+    pieces: int
+    charges: int
+    kind: str
+    result: Optional[int]
+
+
 class Refused(Exception):
     """Why a host doesn't do what is asked. `fault` is the name that scripts show, as A4, or None for a code of the library's
     own."""
@@ -87,6 +101,7 @@ EXPORTS = {
     "wq_scan": [HOST],
     "wq_epoch": [HOST],
     "wq_report_of": [HOST, BYTES, c_size_t, LENGTH],
+    "wq_transcript_of": [HOST, IT, POINTER(c_uint64), c_size_t, LENGTH],
     "wq_code_text": [c_uint32, BYTES, c_size_t, LENGTH],
 }
 
@@ -123,15 +138,15 @@ def fault_of(code):
     return f"{FAMILIES[code >> 8]}{code & 255}" if 0 < code >> 8 < len(FAMILIES) else None
 
 
-def laid(call):
-    """The bytes that a call lays into a room: first it tells how many there are. What it answers beside the room is raised."""
-    room, length, cap = octets(b""), c_size_t(), 0
+def laid(call, kind=c_uint8):
+    """What a call lays into a room, as a list: first it tells how many items there are. What it refuses is raised."""
+    room, length, cap = array(kind, []), c_size_t(), 0
     while True:
         if code := call(room, cap, byref(length)):
             raise Refused(code)
         if length.value <= cap:
-            return bytes(room[: length.value])
-        room, cap = (c_uint8 * length.value)(), length.value
+            return room[: length.value]
+        room, cap = (kind * length.value)(), length.value
 
 
 def code_text(code):
@@ -217,7 +232,7 @@ class Host:
         """Lets an instance go: the bytes that it had put out."""
         length = c_size_t()
         self.must(lib.wq_release(self.handle, instance, byref(length)))
-        return laid(lambda room, cap, into: lib.wq_taken(self.handle, room, cap, into))
+        return bytes(laid(lambda room, cap, into: lib.wq_taken(self.handle, room, cap, into)))
 
     def scan(self):
         """Merges equal pages. No instance sees it."""
@@ -229,4 +244,16 @@ class Host:
 
     def report(self):
         """The report, as lines of text."""
-        return laid(lambda room, cap, into: lib.wq_report_of(self.handle, room, cap, into)).decode()
+        return bytes(laid(lambda room, cap, into: lib.wq_report_of(self.handle, room, cap, into))).decode()
+
+    def transcript(self, instance):
+        """The calls of an instance in the order of their coming, the first of which is the start."""
+        words = laid(lambda room, cap, into: lib.wq_transcript_of(self.handle, instance, room, cap, into), c_uint64)
+        calls = []
+        while words:
+            function, fuel, pieces, charges, kind, count, word, n = words[:8]
+            result = word if kind == 7 or count else None
+            function = None if function == MOST else function
+            calls.append(Entry(function, words[8 : 8 + n], fuel, pieces, charges, KINDS.get(kind, "open"), result))
+            words = words[8 + n :]
+        return calls

@@ -5,3 +5,4 @@ pub mod Rooms
 pub mod Serving
 pub mod Shapes
 pub mod Texts
+pub mod Transcribed

@@ -48,7 +48,7 @@ Serves held does code held2 untouched =
     ((held ≡ None) × IsLeft held none_code code held2 untouched)
     ⊎ ((h : HandState) × (h2 : HandState) × (held ≡ Some h) × (held2 ≡ Some h2) × does h h2)
 
--- Or it is left so for want of room, before the host was asked.
+-- Or it is left so for want of room.
 abbrev pub ServesWithRoom : Option HandState → (HandState → HandState → Type 0) → ℕ → Option HandState → Type 0 → Type 0
 ServesWithRoom held does code held2 untouched =
     IsLeft held memory_code code held2 untouched ⊎ Serves held does code held2 untouched

@@ -18,3 +18,4 @@ mod shapes;
 mod slot;
 mod telling;
 mod texts;
+mod transcripts;

@@ -1,15 +1,17 @@
 //! What a host tells.
 
 ghost use Rattle.std.specs.Prelude.{◌≡◌};
-ghost use Rattle.wolqedir.specs.Serving.{Serves, TellsReport, TellsStatus, TellsTaken};
+ghost use Rattle.wolqedir.specs.Serving.{Serves, ServesWithRoom, TellsReport, TellsStatus, TellsTaken};
 ghost use Rattle.wolqedir.specs.Shapes.{id_of};
 ghost use Rattle.wolqedir.specs.Texts.{TellsText};
+ghost use Rattle.wolqedir.specs.Transcribed.{TellsTranscript};
 
-use crate::codes::{DONE, NONE, UNKNOWN, of_host};
+use crate::codes::{DONE, MEMORY, NONE, UNKNOWN, of_host};
 use crate::handle::Handle;
 use crate::rooms::lay;
 use crate::shapes::{Instance, Status, named, shown};
 use crate::texts::sentence;
+use crate::transcripts::words_of;
 use std::alloc::Global;
 
 /// How far the call at this place of an instance is, where its start is at 0.
@@ -86,6 +88,41 @@ pub extern "C" fn wq_report_of(
             lay(text.as_bytes(), room, len);
             DONE
         }
+        Err(error) => of_host(error),
+    }
+}
+
+/// Copies as many words as there is room for of the transcript of an instance, and tells how many words it has: for each of its
+/// calls in the order of their coming, the first of which is the start, the index of its function or 2^64 - 1 for none; its
+/// fuel in all; the pieces of data segments that it wrote; its charges; the kind of its status, 0 where it hasn't ended; 1 where
+/// it has a result, else 0; the result, or the number of its trap, else 0; how many arguments it has; and these.
+///
+/// It answers NONE, a code of the family H, or MEMORY where there is no room for the words.
+#[unsafe(no_mangle)]
+pub extern "C" fn wq_transcript_of(
+    alloc: Global,
+    handle: &mut Handle,
+    instance: &Instance,
+    room: &mut [u64],
+    len: &mut usize,
+) -> u32
+    ensures { ServesWithRoom handle.old.slot.held
+        (TellsTranscript (id_of instance.now) room.old room.new len.old len.new result) result
+        handle.new.slot.held ((room.new ≡ room.old) × (len.new ≡ len.old)) }
+{
+    let Some(hand) = handle.take(alloc) else {
+        return NONE;
+    };
+    let transcript = hand.transcript(alloc, named(instance));
+    handle.put(hand);
+    match transcript {
+        Ok(transcript) => match words_of(alloc, transcript.calls()) {
+            Ok(words) => {
+                lay(&words, room, len);
+                DONE
+            }
+            Err(_) => MEMORY,
+        },
         Err(error) => of_host(error),
     }
 }
