@@ -1,0 +1,7 @@
+mod Together
+mod Sums
+mod Events
+mod Turned
+mod Line
+mod Going
+mod Asked

@@ -1,0 +1,7 @@
+pub mod Charging
+pub mod Running
+pub mod Runs
+pub mod Lining
+pub mod InHand
+pub mod Stored
+pub mod Releasing
