@@ -25,7 +25,7 @@ use Rattle.wh_host.specs.Paging.{IsGoing, Tells}
 use Rattle.wh_host.specs.Releasing.{AnswersRelease}
 use Rattle.wh_hand.specs.InHand.{IsInHand}
 use Rattle.wh_hand.specs.Lining.{GoesOn, IsToSettle, KeepsOthersGoing, Lists, StandsIn}
-use Rattle.wh_hand.proofs.Going.{Leads, SameOthers, goes_in, keeps_others, others_come, others_of_all, others_set, same_all, to_settle, told_here}
+use Rattle.wh_hand.proofs.Goers.{Leads, SameOthers, goes_in, keeps_others, others_come, others_of_all, others_set, same_all, to_settle, told_here}
 use Rattle.wh_hand.proofs.Together.{together_on}
 
 -- who stands in the line but the one that was asked is as before; and no more are there

@@ -2,6 +2,7 @@ mod Together
 mod Sums
 mod Events
 mod Turned
-mod Line
-mod Going
+mod Standing
+mod Goers
 mod Asked
+mod Steps

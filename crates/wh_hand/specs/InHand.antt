@@ -29,4 +29,4 @@ pub record IsInHand (h : HostState) (held : List (List ℕ)) (line : List InstId
   pub together : AreTogether h.space held
   pub lists : Lists h line
   pub few : h.live ≤ most_instances
-  pub room : most_instances ≤ room
+  pub enough : most_instances ≤ room

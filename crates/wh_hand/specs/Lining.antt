@@ -1,5 +1,5 @@
 -- The line of those that can go on.
-use Rattle.std.specs.Prelude.{◌≡◌, ◌≢◌, ◌⊎◌, Bool, List, [], ◌∷◌}
+use Rattle.std.specs.Prelude.{◌≡◌, ◌≢◌, ◌==◌, ◌||◌, ◌⊎◌, Bool, not, List, [], ◌∷◌}
 use Rattle.std.specs.Bool.{MatchBool}
 use Rattle.wh_host_model.specs.declared.plain.InstId.{InstId}
 use Rattle.wh_host_model.specs.Host.Worlds.{World}
@@ -32,6 +32,10 @@ pub record IsToSettle (h : HostState) (line : List InstId) (id : InstId) (stands
   pub all : (other : InstId) → other ≢ id → GoesOn h other → StandsIn line other
   pub once : StandOnce line
   pub here : MatchBool stands (StandsIn line id) (¬ (StandsIn line id))
+
+-- it is another one
+abbrev pub differs : InstId → InstId → Bool
+differs id other = not (other.place == id.place) || not (other.number == id.number)
 
 -- the line without one of them
 pub record IsWithout (line : List InstId) (id : InstId) (line2 : List InstId) : Type 0 where

@@ -97,8 +97,8 @@ fn offer_one(host: &mut Host, id: InstId, number: u64)
     let _ = host.offer(&FnvHash, id, page, hash);
 }
 
-// Offers the next page of one of those that can go on.
-fn offer_next(host: &mut Host, line: &VecDeque<InstId>, pace: &mut Pace)
+// A turn took so many charges. Offers the next page of one of those that can go on, where it is time for that.
+fn offer_next(host: &mut Host, line: &VecDeque<InstId>, pace: &mut Pace, taken: u64)
     ensures runs { RunsOn host.old 0 0 host.new }
     ensures others { KeepsGoing host.old host.new }
     ensures live { host.new.live ≡ host.old.live }
@@ -107,6 +107,9 @@ fn offer_next(host: &mut Host, line: &VecDeque<InstId>, pace: &mut Pace)
     ensures whole { IsAsWhole host.old.space host.new.space }
 {
     host.known();
+    if !pace.count(taken) {
+        return;
+    }
     let Some((at, number)) = pace.next_offer(line.len()) else {
         return;
     };
@@ -145,12 +148,11 @@ pub fn advance(
     let Some(id) = line.pop_front() else {
         return None;
     };
+    host.known();
     make_ready(host, device, page, id);
     let taken = counted_turn(host, id, most.min(QUANTUM));
     settle(line, host, id, false);
-    if pace.count(taken) {
-        offer_next(host, line, pace);
-    }
+    offer_next(host, line, pace, taken);
     Some(taken)
 }
 
@@ -164,7 +166,8 @@ pub fn begin_epoch(host: &mut Host, pace: &mut Pace)
     ensures whole { IsAsWhole host.old.space host.new.space }
 {
     host.known();
-    if pace.begins_epoch() {
-        host.epoch();
+    if !pace.begins_epoch() {
+        return;
     }
+    host.epoch();
 }

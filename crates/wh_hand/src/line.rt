@@ -1,8 +1,8 @@
 // Who can go on.
 
-ghost use Rattle.std.specs.Prelude.{◌≡◌, ◌≤◌};
+ghost use Rattle.std.specs.Prelude.{◌≡◌, ◌≤◌, filter};
 ghost use Rattle.std.specs.VecDeque.{deque_capacity};
-ghost use Rattle.wh_hand.specs.Lining.{IsToSettle, IsWithout, Lists};
+ghost use Rattle.wh_hand.specs.Lining.{IsToSettle, Lists, differs};
 
 use std::collections::VecDeque;
 use wh_host::Host;
@@ -13,10 +13,10 @@ pub const MOST_INSTANCES: usize = 4096;
 
 // Takes an instance out of the line.
 fn leave(line: &mut VecDeque<InstId>, id: InstId)
-    ensures without { IsWithout line.old.items id line.new.items }
+    ensures items { line.new.items ≡ filter (differs id) line.old.items }
     ensures room { deque_capacity line.new ≡ deque_capacity line.old }
 {
-    line.retain(|other| *other != id);
+    line.retain(|other| other.place != id.place || other.number != id.number);
 }
 
 /// The line is right of all instances but this one, which stands there or not. It is put at its end where it can go on now, and

@@ -16,7 +16,7 @@ use Rattle.wh_host.specs.Hosting.{HostState, IsHost, resident_at}
 use Rattle.wh_host.specs.Paging.{IsGoing, Tells}
 use Rattle.wh_host.proofs.Hosts.{one_value, same_or_not, some_within}
 use Rattle.wh_hand.specs.Lining.{GoesOn, IsToSettle, IsWithout, KeepsGoing, KeepsOthersGoing, Lists, StandOnce, StandsIn}
-use Rattle.wh_hand.proofs.Line.{LiesAt, few_stand, id_is, once_more, same_id, stands_before, stands_either, stands_last}
+use Rattle.wh_hand.proofs.Standing.{LiesAt, few_stand, id_is, once_more, same_id, stands_before, stands_either, stands_last}
 
 -- ---- the same can go on in whatever host of the definitions it stands for
 
@@ -37,9 +37,9 @@ going_each h w w2 id st st2 going =
     let back = st2.there id.number g.0 g.1 in
     let same : back.0 ≡ f.0 = one_value back.0 f.0 (sym back.1 ∙ ap (resident_at h.residents) g.2 ∙ at) in
     let calls : RepresentsEach f.0.tenant.journal.open_calls g.0.open_calls =
-        subst (λ (x : Resident). RepresentsEach x.tenant.journal.open_calls g.0.open_calls) same back.2.is.open_calls in
+    subst (λ (x : Resident). RepresentsEach x.tenant.journal.open_calls g.0.open_calls) same back.2.is.open_calls in
     let stands : g.0.stands_for ≡ t.stands_for =
-        back.2.is.stands_for ∙ ap (λ (x : Resident). suspension_of x.tenant.stands_for) same ∙ sym f.2.is.stands_for in
+    back.2.is.stands_for ∙ ap (λ (x : Resident). suspension_of x.tenant.stands_for) same ∙ sym f.2.is.stands_for in
     let some : g.0.open_calls ≢ [] = (λ none. going.2.0 (none_each f.0.tenant.journal.open_calls t.open_calls g.0.open_calls f.2.is.open_calls calls none)) in
     (g.0, (g.1, g.2), (some, subst (λ (o : Option Suspension). (o ≡ None) ⊎ (o ≡ Some for_frame)) (sym stands) going.2.1))
 
@@ -57,9 +57,10 @@ abbrev pub SameAll : World → World → Type 0
 SameAll w w2 = (id : InstId) (t : Tenant) → (IsLive w id t → IsLive w2 id t) × (IsLive w2 id t → IsLive w id t)
 
 pub same_all : (w w2 : World) → w2.tenants ≡ w.tenants → SameAll w w2
-same_all w w2 same id t =
-    (λ live. (ap (λ (ts : List (Option Tenant)). get_or ts id.number None) same ∙ live.0, live.1),
-        λ live. (ap (λ (ts : List (Option Tenant)). get_or ts id.number None) (sym same) ∙ live.0, live.1))
+same_all w w2 same id t = (
+  λ live. (ap (λ (ts : List (Option Tenant)). get_or ts id.number None) same ∙ live.0, live.1),
+  λ live. (ap (λ (ts : List (Option Tenant)). get_or ts id.number None) (sym same) ∙ live.0, live.1),
+)
 
 pub others_of_all : (id : InstId) (w w2 : World) → SameAll w w2 → SameOthers id w w2
 others_of_all id w w2 all other ne t = all other t
@@ -69,18 +70,20 @@ pub others_set : (w : World) (id : InstId) (t : Tenant) (o : Option Tenant) (s :
     → ((u : Tenant) → o ≡ Some u → u.place ≡ t.place) → SameOthers id w (with_tenant w id.number o s)
 others_set w id t o s live placed other ne u =
     ⊎_elim
-    (λ (e : other.number ≡ id.number).
-        (λ (there : IsLive w other u).
-            absurd (let same : u ≡ t = one_value u t (sym there.0 ∙ ap (tenant w) e ∙ live.0) in
-            ne (id_is other id (sym there.1 ∙ ap (λ (z : Tenant). z.place) same ∙ live.1) e)),
-        λ (there : IsLive (with_tenant w id.number o s) other u).
-            absurd (let within = some_within w.tenants id.number t live.0 in
-            let is : o ≡ Some u = sym (get_or-set_same w.tenants id.number o None within) ∙ ap (λ (n : ℕ). get_or (slice_set w.tenants id.number o) n None) (sym e) ∙ there.0 in
-            ne (id_is other id (sym there.1 ∙ placed u is ∙ live.1) e))))
+    (λ (e : other.number ≡ id.number). (
+      λ (there : IsLive w other u).
+          absurd (let same : u ≡ t = one_value u t (sym there.0 ∙ ap (tenant w) e ∙ live.0) in
+          ne (id_is other id (sym there.1 ∙ ap (λ (z : Tenant). z.place) same ∙ live.1) e)),
+      λ (there : IsLive (with_tenant w id.number o s) other u).
+          absurd (let within = some_within w.tenants id.number t live.0 in
+          let is : o ≡ Some u = sym (get_or-set_same w.tenants id.number o None within) ∙ ap (λ (n : ℕ). get_or (slice_set w.tenants id.number o) n None) (sym e) ∙ there.0 in
+          ne (id_is other id (sym there.1 ∙ placed u is ∙ live.1) e)),
+    ))
     (λ (e : other.number ≢ id.number).
-        (let same : get_or (slice_set w.tenants id.number o) other.number None ≡ get_or w.tenants other.number None = get_or-set_other w.tenants id.number other.number o None e in
-        (λ (there : IsLive w other u). (same ∙ there.0, there.1),
-            λ (there : IsLive (with_tenant w id.number o s) other u). (sym same ∙ there.0, there.1))))
+    (let same : get_or (slice_set w.tenants id.number o) other.number None ≡ get_or w.tenants other.number None = get_or-set_other w.tenants id.number other.number o None e in (
+      λ (there : IsLive w other u). (same ∙ there.0, there.1),
+      λ (there : IsLive (with_tenant w id.number o s) other u). (sym same ∙ there.0, there.1),
+    )))
     (same_or_not other.number id.number)
 
 behind : (ts : List (Option Tenant)) (n : ℕ) (o : Option Tenant) → n ≢ length ts → get_or (ts ++ o ∷ []) n None ≡ get_or ts n None
@@ -102,15 +105,16 @@ pub others_come : (w : World) (id : InstId) (t : Tenant) (s : Space) → id.numb
     → SameOthers id w (record w { tenants = w.tenants ++ Some t ∷ []; space = s })
 others_come w id t s next placed other ne u =
     ⊎_elim
-    (λ (e : other.number ≡ length w.tenants).
-        (λ (there : IsLive w other u).
-            absurd (let bad : None ≡ Some u = sym (past w.tenants) ∙ ap (λ (n : ℕ). get_or w.tenants n None) (sym e) ∙ there.0 in cc bad),
-        λ there.
-            absurd (let is : Some t ≡ Some u = sym (last_is w.tenants (Some t)) ∙ ap (λ (n : ℕ). get_or (w.tenants ++ Some t ∷ []) n None) (sym e) ∙ there.0 in
-            ne (id_is other id (sym there.1 ∙ ap (λ (z : Tenant). z.place) (sym (one_value t u is)) ∙ placed) (e ∙ sym next)))))
+    (λ (e : other.number ≡ length w.tenants). (
+      λ (there : IsLive w other u).
+          absurd (let bad : None ≡ Some u = sym (past w.tenants) ∙ ap (λ (n : ℕ). get_or w.tenants n None) (sym e) ∙ there.0 in cc bad),
+      λ there.
+          absurd (let is : Some t ≡ Some u = sym (last_is w.tenants (Some t)) ∙ ap (λ (n : ℕ). get_or (w.tenants ++ Some t ∷ []) n None) (sym e) ∙ there.0 in
+          ne (id_is other id (sym there.1 ∙ ap (λ (z : Tenant). z.place) (sym (one_value t u is)) ∙ placed) (e ∙ sym next))),
+    ))
     (λ (e : other.number ≢ length w.tenants).
-        (let same = behind w.tenants other.number (Some t) e in
-        (λ (there : IsLive w other u). (same ∙ there.0, there.1), λ there. (sym same ∙ there.0, there.1))))
+    (let same = behind w.tenants other.number (Some t) e in
+    (λ (there : IsLive w other u). (same ∙ there.0, there.1), λ there. (sym same ∙ there.0, there.1))))
     (same_or_not other.number (length w.tenants))
 
 -- ---- and what the code stands for
@@ -119,24 +123,26 @@ abbrev pub Leads : HostState → (World → World → Type 0) → HostState → 
 Leads h R h2 = (w : World) → IsHost h w → (w2 : World) × R w w2 × IsHost h2 w2
 
 pub keeps_others : (h h2 : HostState) (id : InstId) → (w : World) × IsHost h w → Leads h (SameOthers id) h2 → KeepsOthersGoing h id h2
-keeps_others h h2 id some leads other ne =
-    (λ (goes : GoesOn h other).
-        (let x = leads goes.0 goes.1 in
-        (x.0, x.2, (goes.2.0, (x.1 other ne goes.2.0).0 goes.2.1, goes.2.2))),
-    λ (goes : GoesOn h2 other).
-        (let x = leads some.0 some.1 in
-        let there = goes_in h2 x.0 other x.2 goes in
-        (some.0, some.1, (there.0, (x.1 other ne there.0).1 there.1, there.2))))
+keeps_others h h2 id some leads other ne = (
+  λ (goes : GoesOn h other).
+      (let x = leads goes.0 goes.1 in
+      (x.0, x.2, (goes.2.0, (x.1 other ne goes.2.0).0 goes.2.1, goes.2.2))),
+  λ (goes : GoesOn h2 other).
+      (let x = leads some.0 some.1 in
+      let there = goes_in h2 x.0 other x.2 goes in
+      (some.0, some.1, (there.0, (x.1 other ne there.0).1 there.1, there.2))),
+)
 
 pub keeps_all : (h h2 : HostState) → (w : World) × IsHost h w → Leads h SameAll h2 → KeepsGoing h h2
-keeps_all h h2 some leads id =
-    (λ (goes : GoesOn h id).
-        (let x = leads goes.0 goes.1 in
-        (x.0, x.2, (goes.2.0, (x.1 id goes.2.0).0 goes.2.1, goes.2.2))),
-    λ (goes : GoesOn h2 id).
-        (let x = leads some.0 some.1 in
-        let there = goes_in h2 x.0 id x.2 goes in
-        (some.0, some.1, (there.0, (x.1 id there.0).1 there.1, there.2))))
+keeps_all h h2 some leads id = (
+  λ (goes : GoesOn h id).
+      (let x = leads goes.0 goes.1 in
+      (x.0, x.2, (goes.2.0, (x.1 id goes.2.0).0 goes.2.1, goes.2.2))),
+  λ (goes : GoesOn h2 id).
+      (let x = leads some.0 some.1 in
+      let there = goes_in h2 x.0 id x.2 goes in
+      (some.0, some.1, (there.0, (x.1 id there.0).1 there.1, there.2))),
+)
 
 pub keeps_itself : (h : HostState) → KeepsGoing h h
 keeps_itself h id = (λ goes. goes, λ goes. goes)
@@ -233,10 +239,10 @@ pub room_to_settle : (h : HostState) (line : List InstId) (id : InstId) → (w :
 room_to_settle h line id some s tells =
     let w = some.0 in
     let lies : (x : InstId) → GoesOn h x → LiesAt w.tenants x = (λ x goes.
-        (let g = goes_in h w x some.1 goes in record { t = g.0; live = g.1.0; place = g.1.1 })) in
+    (let g = goes_in h w x some.1 goes in record { t = g.0; live = g.1.0; place = g.1.1 })) in
     let all : (x : InstId) → StandsIn (id ∷ line) x → LiesAt w.tenants x = (λ x is. ⊎_elim
-        (λ (same : id ≡ x). lies x (subst (GoesOn h) same (goes_is h id some tells)))
-        (λ (there : StandsIn line x). lies x (s.goes x (λ (same : x ≡ id). s.here (subst (StandsIn line) same there)) there)) is) in
+    (λ (same : id ≡ x). lies x (subst (GoesOn h) same (goes_is h id some tells)))
+    (λ (there : StandsIn line x). lies x (s.goes x (λ (same : x ≡ id). s.here (subst (StandsIn line) same there)) there)) is) in
     let few : length (id ∷ line) ≤ live_count w.tenants = few_stand w.tenants (id ∷ line) (s.here, s.once) all in
     let live = some.1.live in
     omega (arith, few, live)

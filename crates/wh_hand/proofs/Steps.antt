@@ -1,0 +1,127 @@
+-- The steps of a run, and the whole of it.
+use Rattle.std.proofs.Common.{◌≡◌, ◌≢◌, ◌≤◌, ◌<◌, ◌^◌, ℕ, ◌+◌, ◌-◌, ◌⊎◌, inl, inr, ⊎_elim, Bool, true, false, List, [], ◌∷◌, ◌++◌, Option, Some, None, Result, Ok, Err, refl, sym, ap, subst, ◌∙◌, arith}
+use Rattle.std.specs.Bool.{MatchBool}
+use Rattle.std.specs.Prelude.{IfErr}
+use Rattle.std.proofs.lemmas.List.Sums.{sum_by-append}
+use Rattle.wh_host_model.specs.declared.plain.InstId.{InstId}
+use Rattle.wh_host_model.specs.declared.plain.SwapError.{SwapError}
+use Rattle.wh_host_model.specs.declared.plain.TurnEnd.{TurnEnd}
+use Rattle.wh_host_model.specs.Host.Worlds.{Tenant, World}
+use Rattle.wh_host_model.specs.Host.Happens.{AwaitsFrame, IsTurn, OnlyMoves, of_none, of_one}
+use Rattle.wh_host.specs.Hosting.{HostState, IsHost, IsReached}
+use Rattle.wh_host.specs.Paging.{IsGoing, MovesOnly, MovesWith, Tells, provide_fault}
+use Rattle.wh_host.specs.Showing.{StandsByEvents}
+use Rattle.wh_host.proofs.Hosts.{one_value, turn_stays}
+use Rattle.wh_hand.specs.declared.running.Ran.{Ran}
+use Rattle.wh_hand.specs.Lining.{GoesOn, KeepsGoing, KeepsOthersGoing, Lists, StandsIn}
+use Rattle.wh_hand.specs.Running.{IsRun, RunsAll, RunsTo, SomeGoes, most_turns, turn_count, turns_in}
+use Rattle.wh_hand.specs.Runs.{LeavesOf, RunsOn}
+use Rattle.wh_hand.proofs.Events.{on_both, only_moves, reached_by, runs_both}
+use Rattle.wh_hand.proofs.Goers.{SameOthers, goes_in, keeps_all, keeps_others, others_of_all, others_set, same_all}
+
+-- ---- moves
+
+pub moved_keeps : (h h2 : HostState) → (w : World) × IsHost h w → MovesOnly h h2 → KeepsGoing h h2
+moved_keeps h h2 some moves =
+    keeps_all h h2 some (λ w st. (let x = moves w st in (x.0, same_all w x.0 (ap (λ (z : World). z.tenants) x.1.2), x.2)))
+
+-- a device without faults
+pub provided_well : (h h2 : HostState) (id : InstId) (result : Result ℕ SwapError) (none : List SwapError) → none ≡ []
+    → IfErr result (λ fault. none ≡ fault ∷ none) → MovesWith h id AwaitsFrame (provide_fault result) h2 → MovesWith h id AwaitsFrame None h2
+provided_well h h2 id (Ok left) none is err moves = moves
+provided_well h h2 id (Err fault) none is err moves =
+    absurd (let bad : [] ≡ fault ∷ none = sym is ∙ err in cc bad)
+
+pub provided_moves : (h h2 : HostState) (id : InstId) → MovesWith h id AwaitsFrame None h2 → MovesOnly h h2
+provided_moves h h2 id moves w st = let x = moves w st in (x.0, only_moves w x.0 id x.1, x.2)
+
+-- ---- a turn
+
+turn_others : (w w2 : World) (id : InstId) (q : ℕ) (answer : TurnEnd) → IsTurn w id q answer w2 → SameOthers id w w2
+turn_others w w2 id q answer (of_none none) = others_of_all id w w (same_all w w refl)
+turn_others w w2 id q answer (of_one {t = t} {t2 = t2} {s2 = s2} live turn) =
+    others_set w id t (Some t2) s2 live
+    (λ u is. ap (λ (z : Tenant). z.place) (sym (one_value t2 u is)) ∙ (turn_stays q w.space s2 t t2 answer turn).place)
+
+pub turned_keeps : (h h2 : HostState) (id : InstId) (q : ℕ) (answer : TurnEnd) → (w : World) × IsHost h w
+    → ((w : World) → IsHost h w → (w2 : World) × IsTurn w id q answer w2 × IsHost h2 w2) → KeepsOthersGoing h id h2
+turned_keeps h h2 id q answer some turns =
+    keeps_others h h2 id some (λ w st. (let x = turns w st in (x.0, turn_others w x.0 id q answer x.1, x.2)))
+
+-- ---- who goes
+
+-- nobody stands in the line
+pub nobody_goes : (h : HostState) → Lists h [] → (w : World) → IsHost h w → ¬ (SomeGoes w)
+nobody_goes h lists w st some = lists.all some.0 (w, st, some.1)
+
+-- somebody does, or nobody
+pub goes_by_line : (h : HostState) (line : List InstId) (told : Bool) → Lists h line → (told ≡ true → line ≢ []) → (told ≡ false → line ≡ [])
+    → Tells h told SomeGoes
+goes_by_line h [] true lists some none w st = absurd (some refl refl)
+goes_by_line h (id ∷ line) true lists some none w st = (id, goes_in h w id st (lists.goes id (inl refl)))
+goes_by_line h line false lists some none w st = nobody_goes h (subst (Lists h) (none refl) lists) w st
+
+-- ---- a turn with what belongs to it
+
+pub on_three : (a b c d : HostState) (n k : ℕ) → RunsOn a 0 0 b → RunsOn b n k c → RunsOn c 0 0 d → RunsOn a n k d
+on_three a b c d n k f g m =
+    let all : RunsOn a (0 + n + 0) (0 + k + 0) d = on_both a c d (0 + n) 0 (0 + k) 0 (on_both a b c 0 n 0 k f g) m in
+    let charges : 0 + n + 0 ≡ n = omega arith in
+    let turns : 0 + k + 0 ≡ k = omega arith in
+    subst (λ x. RunsOn a x k d) charges (subst (λ x. RunsOn a (0 + n + 0) x d) turns all)
+
+-- ---- turns one after the other
+
+pub on_more : (a b c : HostState) (given left taken k : ℕ) → left ≤ given → taken ≤ left → RunsOn a (given - left) k b → RunsOn b taken 1 c
+    → RunsOn a (given - (left - taken)) (k + 1) c
+on_more a b c given left taken k few within f g =
+    let same : given - left + taken ≡ given - (left - taken) = omega (arith, few, within) in
+    subst (λ x. RunsOn a x (k + 1) c) same (on_both a b c (given - left) taken k 1 f g)
+
+pub leaves_none : (a b : HostState) (given k : ℕ) → RunsOn a (given - 0) k b → LeavesOf a given 0 b
+leaves_none a b given k f w st = let x = f w st in (x.0, x.1, inl refl, x.3)
+
+pub leaves_rest : (a b : HostState) (given left k : ℕ) → RunsOn a (given - left) k b → ((w : World) → IsHost b w → ¬ (SomeGoes w)) → LeavesOf a given left b
+leaves_rest a b given left k f none w st = let x = f w st in (x.0, x.1, inr (inl (none x.0 x.3)), x.3)
+
+pub leaves_many : (a b : HostState) (given left k : ℕ) → most_turns ≤ k → RunsOn a (given - left) k b → LeavesOf a given left b
+leaves_many a b given left k many f w st =
+    let x = f w st in
+    let turns = x.2 in
+    (x.0, x.1, inr (inr (omega (arith, many, turns))), x.3)
+
+-- ---- a whole run
+
+pub run_is : (a b c : HostState) (given left : ℕ) (goes : Bool) → left ≤ given → RunsOn a 0 0 b → LeavesOf b given left c → Tells c goes SomeGoes
+    → RunsAll a given (record { charges = given - left; goes_on = goes }) c
+run_is a b c given left goes few f g tells w st reached =
+    let x = f w st in
+    let y = g x.0 x.3 in
+    let none : 0 + (given - left) ≡ given - left = omega arith in
+    let both : RunsTo w (0 + (given - left)) y.0 = runs_both w x.0 y.0 0 (given - left) x.1 y.1 in
+    let counts = both.counted in
+    let runs : RunsTo w (given - left) y.0 = record {
+      events = x.1.events ++ y.1.events;
+      happen = both.happen;
+      own = both.own;
+      counted = omega (arith, counts, none);
+      modules = both.modules;
+      places = both.places;
+    } in
+    let turns = sum_by-append turn_count x.1.events y.1.events in (
+      y.0,
+      record {
+        runs = runs;
+        reached = reached_by w y.0 (x.1.events ++ y.1.events) reached both.happen;
+        within = omega arith;
+        over = tells y.0 y.3;
+        uses = λ on. ⊎_elim
+            (λ (all : left ≡ 0). inl (omega (arith, all)))
+            (λ more. ⊎_elim
+            (λ (rest : ¬ (SomeGoes y.0)). absurd (rest (subst (λ z. MatchBool z (SomeGoes y.0) (¬ (SomeGoes y.0))) on (tells y.0 y.3))))
+            (λ (many : most_turns ≤ turns_in y.1.events). inr (omega (arith, many, turns)))
+            more)
+            y.2;
+      },
+      y.3,
+    )
