@@ -1,5 +1,5 @@
 -- What a request leaves.
-use Rattle.std.proofs.Common.{◌≡◌, ◌≢◌, ◌≤◌, ◌<◌, ℕ, ℤ, ◌+◌, inl, inr, ⊎_elim, ◌⊎◌, List, [], ◌∷◌, ◌++◌, length, get_or, Bool, Option, Some, None, Result, Ok, refl, sym, ap, subst, ◌∙◌, arith}
+use Rattle.std.proofs.Common.{◌≡◌, ◌≢◌, ◌≤◌, ◌<◌, ℕ, ℤ, ◌+◌, inl, inr, ⊎_elim, ◌⊎◌, List, [], ◌∷◌, ◌++◌, length, get_or, Bool, Option, Some, None, Result, Ok, Err, refl, sym, ap, subst, ◌∙◌, arith}
 use Rattle.std.specs.Global.{Vec}
 use Rattle.wh_host_model.specs.declared.plain.InstId.{InstId}
 use Rattle.wh_host_model.specs.Space.Parts.{Space}
@@ -15,6 +15,7 @@ use Rattle.wh_host.specs.Showing.{StandsByEvents}
 use Rattle.wh_host.proofs.Hosts.{as_many, one_fewer, one_more, reached_on}
 use Rattle.wh_admit.specs.declared.error.AdmitError.{AdmitError}
 use Rattle.wh_host.specs.declared.error.HostError.{HostError}
+use Rattle.wh_host.specs.declared.error.HostError.TheVariants.{NoInstance, Invoke, NoCall, Memory}
 use Rattle.wh_host.specs.declared.error.ModuleError.{ModuleError}
 use Rattle.wh_host.specs.declared.parts.ModuleId.{ModuleId}
 use Rattle.wh_host.specs.Admitting.{AnswersAdmit}
@@ -25,7 +26,8 @@ use Rattle.wh_host.specs.Paging.{IsGoing, Tells}
 use Rattle.wh_host.specs.Releasing.{AnswersRelease}
 use Rattle.wh_hand.specs.InHand.{IsInHand}
 use Rattle.wh_hand.specs.Lining.{GoesOn, IsToSettle, KeepsOthersGoing, Lists, StandsIn}
-use Rattle.wh_hand.proofs.Goers.{Leads, SameOthers, goes_in, keeps_others, others_come, others_of_all, others_set, same_all, to_settle, told_here}
+use Rattle.wh_hand.specs.Releasing.{AnswersReleaseHere}
+use Rattle.wh_hand.proofs.Goers.{Leads, SameAll, SameOthers, goes_in, keeps_all, keeps_others, lists_on, others_come, others_of_all, others_set, same_all, to_settle, told_here}
 use Rattle.wh_hand.proofs.Together.{together_on}
 
 -- who stands in the line but the one that was asked is as before; and no more are there
@@ -226,3 +228,37 @@ comer_in_hand h h2 k p id held line line2 room room2 a leads keeps lists enough 
   few = comer_few h h2 k p id a.led leads;
   room = enough;
 }
+
+-- ---- a module comes
+
+loaded_all : (w w2 : World) (bytes : List ℕ) (answer : LoadAnswer) → IsLoad w bytes answer w2 → SameAll w w2
+loaded_all w w2 bytes answer (is_loaded loads) = same_all w w2 (ap (λ (z : World). z.tenants) loads.after)
+loaded_all w w2 bytes answer (isnt_loaded fault) = same_all w w refl
+loaded_all w w2 bytes answer (no_memory_to_load want) = same_all w w refl
+
+pub loaded_in_hand : (h h2 : HostState) (bytes : List ℕ) (result : Result ModuleId ModuleError) (held : List (List ℕ)) (line : List InstId) (room : ℕ)
+    → IsInHand h held line room → AnswersLoad h bytes result h2 → KeepsBacking h.space h2.space → IsInHand h2 held line room
+loaded_in_hand h h2 bytes result held line room a answers keeps =
+    let none : InstId = record { place = 0; number = 0 } in
+    let leads = load_leads h h2 bytes result none answers in
+    record {
+      led = led_on h h2 (Asked (load bytes) none) (load bytes) (λ w w2 x. x.happens) leads a.led;
+      together = together_on h.space h2.space held keeps a.together;
+      lists = lists_on h h2 line
+          (keeps_all h h2 (a.led.0, a.led.1) (λ w st. (let x = answers w st in (x.1, loaded_all w x.1 bytes x.0 x.3, x.4)))) a.lists;
+      few = asked_few h h2 (load bytes) none a.led a.few leads;
+      enough = a.enough;
+    }
+
+-- ---- an instance goes
+
+pub release_here : (h h2 : HostState) (id : InstId) (output : Vec ℕ) (before : List ℕ) → AnswersRelease h id (Ok output) h2
+    → AnswersReleaseHere (record { host = h; output = before }) id (Ok tt) (record { host = h2; output = output.items })
+release_here h h2 id output before answers w st = let x = answers w st in (x.0, x.1, x.2, x.3, x.4)
+
+pub release_err : (h h2 : HostState) (id : InstId) (e : HostError) (before : List ℕ) → AnswersRelease h id (Err e) h2
+    → AnswersReleaseHere (record { host = h; output = before }) id (Err e) (record { host = h2; output = before })
+release_err h h2 id NoInstance before answers w st = let x = answers w st in (x.0, x.1, x.2, x.3, x.4)
+release_err h h2 id (Invoke e) before answers w st = absurd (answers w st).2
+release_err h h2 id NoCall before answers w st = absurd (answers w st).2
+release_err h h2 id Memory before answers w st = absurd (answers w st).2

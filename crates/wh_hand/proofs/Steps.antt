@@ -1,23 +1,28 @@
 -- The steps of a run, and the whole of it.
 use Rattle.std.proofs.Common.{◌≡◌, ◌≢◌, ◌≤◌, ◌<◌, ◌^◌, ℕ, ◌+◌, ◌-◌, ◌⊎◌, inl, inr, ⊎_elim, Bool, true, false, List, [], ◌∷◌, ◌++◌, Option, Some, None, Result, Ok, Err, refl, sym, ap, subst, ◌∙◌, arith}
 use Rattle.std.specs.Bool.{MatchBool}
-use Rattle.std.specs.Prelude.{IfErr}
+use Rattle.std.specs.Prelude.{IfErr, IfNone, IfSome}
 use Rattle.std.proofs.lemmas.List.Sums.{sum_by-append}
 use Rattle.wh_host_model.specs.declared.plain.InstId.{InstId}
 use Rattle.wh_host_model.specs.declared.plain.SwapError.{SwapError}
 use Rattle.wh_host_model.specs.declared.plain.TurnEnd.{TurnEnd}
 use Rattle.wh_host_model.specs.Host.Worlds.{Tenant, World}
-use Rattle.wh_host_model.specs.Host.Happens.{AwaitsFrame, IsTurn, OnlyMoves, of_none, of_one}
+use Rattle.wh_host_model.specs.Host.Events.{Event, epoch}
+use Rattle.wh_host_model.specs.Host.Happens.{AwaitsFrame, Happens, IsTurn, OnlyMoves, of_none, of_one}
+use Rattle.wh_host.specs.Backing.{KeepsBacking}
 use Rattle.wh_host.specs.Hosting.{HostState, IsHost, IsReached}
 use Rattle.wh_host.specs.Paging.{IsGoing, MovesOnly, MovesWith, Tells, provide_fault}
 use Rattle.wh_host.specs.Showing.{StandsByEvents}
 use Rattle.wh_host.proofs.Hosts.{one_value, turn_stays}
 use Rattle.wh_hand.specs.declared.running.Ran.{Ran}
+use Rattle.wh_hand.specs.InHand.{IsInHand}
 use Rattle.wh_hand.specs.Lining.{GoesOn, KeepsGoing, KeepsOthersGoing, Lists, StandsIn}
-use Rattle.wh_hand.specs.Running.{IsRun, RunsAll, RunsTo, SomeGoes, most_turns, turn_count, turns_in}
+use Rattle.wh_hand.specs.Running.{IsOwn, IsRun, RunsAll, RunsTo, SomeGoes, most_turns, turn_count, turns_in}
+use Rattle.wh_hand.specs.Moved.{IsMoved}
 use Rattle.wh_hand.specs.Runs.{LeavesOf, RunsOn}
-use Rattle.wh_hand.proofs.Events.{on_both, only_moves, reached_by, runs_both}
-use Rattle.wh_hand.proofs.Goers.{SameOthers, goes_in, keeps_all, keeps_others, others_of_all, others_set, same_all}
+use Rattle.wh_hand.proofs.Events.{live_on, on_both, on_itself, on_moved, only_moves, reached_by, runs_both}
+use Rattle.wh_hand.proofs.Goers.{SameOthers, goes_in, keeps_all, keeps_others, lists_on, others_of_all, others_set, same_all}
+use Rattle.wh_hand.proofs.Together.{together_on}
 
 -- ---- moves
 
@@ -34,6 +39,22 @@ provided_well h h2 id (Err fault) none is err moves =
 
 pub provided_moves : (h h2 : HostState) (id : InstId) → MovesWith h id AwaitsFrame None h2 → MovesOnly h h2
 provided_moves h h2 id moves w st = let x = moves w st in (x.0, only_moves w x.0 id x.1, x.2)
+
+-- nothing has moved
+pub moved_itself : (h : HostState) → IsMoved h h
+moved_itself h = record {
+  runs = on_itself h;
+  goes = λ id. (λ goes. goes, λ goes. goes);
+  live = refl;
+  backing = record { pass = refl; frames = refl; slots = refl; tax = refl };
+}
+
+-- pages have, in one event
+pub moved_by : (h h2 : HostState) (e : Event) → IsOwn e → ((w w2 : World) → OnlyMoves w w2 → Happens w e w2) → (w : World) × IsHost h w
+    → MovesOnly h h2 → KeepsBacking h.space h2.space → IsMoved h h2
+moved_by h h2 e own happens some moves backing =
+    let runs = on_moved h h2 e own happens moves in
+    record { runs = runs; goes = moved_keeps h h2 some moves; live = live_on h h2 0 0 some runs; backing = backing }
 
 -- ---- a turn
 
@@ -125,3 +146,30 @@ run_is a b c given left goes few f g tells w st reached =
       },
       y.3,
     )
+
+-- ---- the hand
+
+pub led_by_runs : (h h2 : HostState) (n k : ℕ) → RunsOn h n k h2 → StandsByEvents h → StandsByEvents h2
+led_by_runs h h2 n k f led =
+    let x = f led.0 led.1 in (x.0, x.3, reached_by led.0 x.0 x.1.events led.2 x.1.happen)
+
+pub moved_in_hand : (h h2 : HostState) (held : List (List ℕ)) (line : List InstId) (room : ℕ) → IsInHand h held line room → IsMoved h h2
+    → IsInHand h2 held line room
+moved_in_hand h h2 held line room a moved = record {
+  led = led_by_runs h h2 0 0 moved.runs a.led;
+  together = together_on h.space h2.space held moved.backing a.together;
+  lists = lists_on h h2 line moved.goes a.lists;
+  few = (let few = a.few in let live = moved.live in omega (arith, few, live));
+  enough = a.enough;
+}
+
+-- a request that concerns pages alone
+pub only_moved_in_hand : (h h2 : HostState) (held : List (List ℕ)) (line : List InstId) (room : ℕ) → IsInHand h held line room → MovesOnly h h2
+    → KeepsBacking h.space h2.space → IsInHand h2 held line room
+only_moved_in_hand h h2 held line room a moves backing =
+    moved_in_hand h h2 held line room a (moved_by h h2 epoch tt (λ w w2 only. only) (a.led.0, a.led.1) moves backing)
+
+-- a turn was had, or nobody could have one
+pub led_by_turn : (h h2 : HostState) (taken : Option ℕ) → IfNone taken (h2 ≡ h) → IfSome taken (λ n. RunsOn h n 1 h2) → StandsByEvents h → StandsByEvents h2
+led_by_turn h h2 None same f led = subst StandsByEvents (sym same) led
+led_by_turn h h2 (Some n) same f led = led_by_runs h h2 n 1 f led

@@ -1,14 +1,16 @@
 // The next turn, and what belongs to it.
 
-ghost use Rattle.std.specs.Prelude.{◌≡◌, ◌≤◌, ℕ, List, IfNone, IfSome};
+ghost use Rattle.std.specs.Prelude.{◌≡◌, ◌≤◌, IfNone, IfSome};
 ghost use Rattle.std.specs.VecDeque.{deque_capacity};
 ghost use Rattle.wh_reclaim.specs.Together.{AreTogether};
 ghost use Rattle.wh_reclaim.specs.Whole.{IsAsWhole};
 ghost use Rattle.wh_swap.specs.Memory.{memory_held};
+ghost use Rattle.wh_host.specs.Backing.{KeepsBacking};
 ghost use Rattle.wh_host.specs.Hosting.{IsHost};
 ghost use Rattle.wh_host_model.specs.Host.Worlds.{World};
 ghost use Rattle.wh_hand.specs.Lining.{KeepsGoing, KeepsOthersGoing, Lists};
 ghost use Rattle.wh_hand.specs.Running.{SomeGoes};
+ghost use Rattle.wh_hand.specs.Moved.{IsMoved};
 ghost use Rattle.wh_hand.specs.Runs.{RunsOn, charges_between};
 
 use crate::line::settle;
@@ -43,9 +45,7 @@ fn counted_turn(host: &mut Host, id: InstId, q: u64) -> u64
     ensures few { result ≤ q }
     ensures others { KeepsOthersGoing host.old id host.new }
     ensures live { host.new.live ≡ host.old.live }
-    ensures together { (held : List (List ℕ)) → AreTogether host.old.space held
-        → AreTogether host.new.space held }
-    ensures whole { IsAsWhole host.old.space host.new.space }
+    ensures backing { KeepsBacking host.old.space host.new.space }
 {
     host.known();
     let call = host.present_call(id);
@@ -79,12 +79,7 @@ fn page_of(number: u64, size: u32) -> Option<u32> {
 
 // Offers a page of this instance for sharing, that which goes with this number, where it is alone on a frame.
 fn offer_one(host: &mut Host, id: InstId, number: u64)
-    ensures runs { RunsOn host.old 0 0 host.new }
-    ensures others { KeepsGoing host.old host.new }
-    ensures live { host.new.live ≡ host.old.live }
-    ensures together { (held : List (List ℕ)) → AreTogether host.old.space held
-        → AreTogether host.new.space held }
-    ensures whole { IsAsWhole host.old.space host.new.space }
+    ensures { IsMoved host.old host.new }
 {
     host.known();
     let Some(page) = page_of(number, host.size_at(id.place)) else {
@@ -99,12 +94,7 @@ fn offer_one(host: &mut Host, id: InstId, number: u64)
 
 // A turn took so many charges. Offers the next page of one of those that can go on, where it is time for that.
 fn offer_next(host: &mut Host, line: &VecDeque<InstId>, pace: &mut Pace, taken: u64)
-    ensures runs { RunsOn host.old 0 0 host.new }
-    ensures others { KeepsGoing host.old host.new }
-    ensures live { host.new.live ≡ host.old.live }
-    ensures together { (held : List (List ℕ)) → AreTogether host.old.space held
-        → AreTogether host.new.space held }
-    ensures whole { IsAsWhole host.old.space host.new.space }
+    ensures { IsMoved host.old host.new }
 {
     host.known();
     if !pace.count(taken) {
@@ -158,12 +148,7 @@ pub fn advance(
 
 /// Begins a new epoch, where it is time for one.
 pub fn begin_epoch(host: &mut Host, pace: &mut Pace)
-    ensures runs { RunsOn host.old 0 0 host.new }
-    ensures others { KeepsGoing host.old host.new }
-    ensures live { host.new.live ≡ host.old.live }
-    ensures together { (held : List (List ℕ)) → AreTogether host.old.space held
-        → AreTogether host.new.space held }
-    ensures whole { IsAsWhole host.old.space host.new.space }
+    ensures { IsMoved host.old host.new }
 {
     host.known();
     if !pace.begins_epoch() {
