@@ -17,7 +17,7 @@ use Rattle.wh_hand.specs.Runs.{RunsOn, charges_between}
 use Rattle.wh_hand.proofs.Sums.{live_by_places}
 use Rattle.wh_hand.proofs.Turned.{Counts, turn_counts}
 
-all_both : (P : Event → Type 0) (xs ys : List Event) → AllByRecursion P xs → AllByRecursion P ys → AllByRecursion P (xs ++ ys)
+pub all_both : (P : Event → Type 0) (xs ys : List Event) → AllByRecursion P xs → AllByRecursion P ys → AllByRecursion P (xs ++ ys)
 all_both P [] ys a b = b
 all_both P (x ∷ xs) ys a b = (a.0, all_both P xs ys a.1 b)
 

@@ -1,5 +1,6 @@
 -- Who can go on, before and after.
 use Rattle.std.proofs.Common.{◌≡◌, ◌≢◌, ◌≤◌, ◌<◌, ℕ, zero, suc, ◌+◌, ◌⊎◌, inl, inr, ⊎_elim, Bool, true, false, List, [], ◌∷◌, ◌++◌, length, map, get_or, slice_set, Option, Some, None, refl, sym, ap, subst, ◌∙◌, arith}
+use mathlib.Core.Bool.{beq}
 use Rattle.std.specs.Bool.{MatchBool}
 use Rattle.std.proofs.lemmas.List.{get_or-set_other, get_or-set_same}
 use Rattle.wh_host_model.specs.declared.plain.InstId.{InstId}
@@ -188,6 +189,20 @@ to_settle_first h h2 line id lists keeps = record {
 }
 
 -- ---- it is settled
+
+pub told_same : (a b : Bool) → beq a b ≡ true → a ≡ b
+told_same true true e = refl
+told_same true false e = absurd (cc e)
+told_same false true e = absurd (cc e)
+told_same false false e = refl
+
+pub told_not : (a b : Bool) → beq a b ≡ false → b ≡ true → a ≡ false
+told_not true b e is = absurd (let bad : true ≡ false = sym (ap (beq true) is) ∙ e in cc bad)
+told_not false b e is = refl
+
+pub told_so : (a b : Bool) → beq a b ≡ false → b ≡ false → a ≡ true
+told_so true b e is = refl
+told_so false b e is = absurd (let bad : true ≡ false = sym (ap (beq false) is) ∙ e in cc bad)
 
 goes_is : (h : HostState) (id : InstId) → (w : World) × IsHost h w → Tells h true (λ w. IsGoing w id) → GoesOn h id
 goes_is h id some tells = (some.0, some.1, tells some.0 some.1)

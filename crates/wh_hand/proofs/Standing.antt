@@ -78,25 +78,25 @@ module _ (id : InstId) where
 
   out_of : (ids : List InstId) → Out ids (others_of ids)
   out_of [] = record { gone = λ is. is; others = λ other ne is. is; no_more = λ other is. is }
-  out_of (x ∷ ids) = by_test (differs id x) refl where
-    by_test : (b : Bool) → differs id x ≡ b → Out (x ∷ ids) (others_of (x ∷ ids))
-    by_test true e = subst (Out (x ∷ ids)) (sym (kept_first x ids e)) (record {
-      gone = λ is. ⊎_elim (λ (same : x ≡ id). (let bad : true ≡ false = sym e ∙ ap (differs id) same ∙ differs_itself in cc bad)) (out_of ids).gone is;
-      others = λ other ne is. ⊎_elim (λ (a : x ≡ other). inl a) (λ a. inr ((out_of ids).others other ne a)) is;
-      no_more = λ other is. ⊎_elim (λ (a : x ≡ other). inl a) (λ a. inr ((out_of ids).no_more other a)) is;
+  out_of (x ∷ ids) = by_test (differs id x) refl (out_of ids) where
+    by_test : (b : Bool) → differs id x ≡ b → Out ids (others_of ids) → Out (x ∷ ids) (others_of (x ∷ ids))
+    by_test true e rest = subst (Out (x ∷ ids)) (sym (kept_first x ids e)) (record {
+      gone = λ is. ⊎_elim (λ (same : x ≡ id). (let bad : true ≡ false = sym e ∙ ap (differs id) same ∙ differs_itself in cc bad)) rest.gone is;
+      others = λ other ne is. ⊎_elim (λ (a : x ≡ other). inl a) (λ a. inr (rest.others other ne a)) is;
+      no_more = λ other is. ⊎_elim (λ (a : x ≡ other). inl a) (λ a. inr (rest.no_more other a)) is;
     })
-    by_test false e = subst (Out (x ∷ ids)) (sym (gone_first x ids e)) (record {
-      gone = (out_of ids).gone;
-      others = λ other ne is. ⊎_elim (λ (a : x ≡ other). absurd (ne (sym a ∙ differs_other x e))) (λ a. (out_of ids).others other ne a) is;
-      no_more = λ other is. inr ((out_of ids).no_more other is);
+    by_test false e rest = subst (Out (x ∷ ids)) (sym (gone_first x ids e)) (record {
+      gone = rest.gone;
+      others = λ other ne is. ⊎_elim (λ (a : x ≡ other). absurd (ne (sym a ∙ differs_other x e))) (λ a. rest.others other ne a) is;
+      no_more = λ other is. inr (rest.no_more other is);
     })
 
   once_out : (ids : List InstId) → StandOnce ids → StandOnce (others_of ids)
   once_out [] once = tt
-  once_out (x ∷ ids) once = by_test (differs id x) refl where
-    by_test : (b : Bool) → differs id x ≡ b → StandOnce (others_of (x ∷ ids))
-    by_test true e = subst StandOnce (sym (kept_first x ids e)) (λ is. once.0 ((out_of ids).no_more x is), once_out ids once.1)
-    by_test false e = subst StandOnce (sym (gone_first x ids e)) (once_out ids once.1)
+  once_out (x ∷ ids) once = by_test (differs id x) refl (once_out ids once.1) where
+    by_test : (b : Bool) → differs id x ≡ b → StandOnce (others_of ids) → StandOnce (others_of (x ∷ ids))
+    by_test true e rest = subst StandOnce (sym (kept_first x ids e)) (λ is. once.0 ((out_of ids).no_more x is), rest)
+    by_test false e rest = subst StandOnce (sym (gone_first x ids e)) (rest)
 
   pub without : (ids : List InstId) → IsWithout ids id (filter (differs id) ids)
   without ids = record {

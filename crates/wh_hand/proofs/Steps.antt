@@ -1,16 +1,20 @@
 -- The steps of a run, and the whole of it.
-use Rattle.std.proofs.Common.{◌≡◌, ◌≢◌, ◌≤◌, ◌<◌, ◌^◌, ℕ, ◌+◌, ◌-◌, ◌⊎◌, inl, inr, ⊎_elim, Bool, true, false, List, [], ◌∷◌, ◌++◌, Option, Some, None, Result, Ok, Err, refl, sym, ap, subst, ◌∙◌, arith}
+use Rattle.std.proofs.Common.{◌≡◌, ◌≢◌, ◌≤◌, ◌<◌, ◌^◌, ℕ, ◌+◌, ◌-◌, ◌⊎◌, inl, inr, ⊎_elim, Bool, true, false, List, [], ◌∷◌, ◌++◌, length, get_or, replicate, suc, ◌==◌, not, option_to_list, Option, Some, None, Result, Ok, Err, refl, sym, ap, subst, ◌∙◌, arith, rules}
 use Rattle.std.specs.Bool.{MatchBool}
 use Rattle.std.specs.Prelude.{IfErr, IfNone, IfSome}
 use Rattle.std.proofs.lemmas.List.Sums.{sum_by-append}
+use Rattle.wh_host_model.specs.declared.Tax.{Tax}
 use Rattle.wh_host_model.specs.declared.plain.InstId.{InstId}
 use Rattle.wh_host_model.specs.declared.plain.SwapError.{SwapError}
 use Rattle.wh_host_model.specs.declared.plain.TurnEnd.{TurnEnd}
 use Rattle.wh_host_model.specs.Host.Worlds.{Tenant, World}
+use Rattle.wh_host_model.specs.Host.Admission.{live_count}
 use Rattle.wh_host_model.specs.Host.Events.{Event, epoch}
 use Rattle.wh_host_model.specs.Host.Happens.{AwaitsFrame, Happens, IsTurn, OnlyMoves, of_none, of_one}
+use Rattle.wh_reclaim.specs.Together.{AreTogether}
+use Rattle.wh_reclaim.proofs.Together.{new_together}
 use Rattle.wh_host.specs.Backing.{KeepsBacking}
-use Rattle.wh_host.specs.Hosting.{HostState, IsHost, IsReached}
+use Rattle.wh_host.specs.Hosting.{HostState, IsHost, IsNewHost, IsReached}
 use Rattle.wh_host.specs.Paging.{IsGoing, MovesOnly, MovesWith, Tells, provide_fault}
 use Rattle.wh_host.specs.Showing.{StandsByEvents}
 use Rattle.wh_host.proofs.Hosts.{one_value, turn_stays}
@@ -75,12 +79,29 @@ turned_keeps h h2 id q answer some turns =
 pub nobody_goes : (h : HostState) → Lists h [] → (w : World) → IsHost h w → ¬ (SomeGoes w)
 nobody_goes h lists w st some = lists.all some.0 (w, st, some.1)
 
+-- nor can one be taken out of it
+pub nobody_in : (h : HostState) (line : List InstId) (n : ℕ) → n ≡ 0 → n ≡ length line → Lists h line → (w : World) → IsHost h w → ¬ (SomeGoes w)
+nobody_in h [] n zero long lists = nobody_goes h lists
+nobody_in h (id ∷ line) n zero long lists = absurd (omega (arith, zero, long))
+
 -- somebody does, or nobody
-pub goes_by_line : (h : HostState) (line : List InstId) (told : Bool) → Lists h line → (told ≡ true → line ≢ []) → (told ≡ false → line ≡ [])
-    → Tells h told SomeGoes
-goes_by_line h [] true lists some none w st = absurd (some refl refl)
-goes_by_line h (id ∷ line) true lists some none w st = (id, goes_in h w id st (lists.goes id (inl refl)))
-goes_by_line h line false lists some none w st = nobody_goes h (subst (Lists h) (none refl) lists) w st
+pub told_by_line : (h : HostState) (line : List InstId) (n : ℕ) (empty : Bool) → n ≡ length line → empty ≡ (n == 0) → Lists h line
+    → Tells h (not empty) SomeGoes
+told_by_line h [] n empty long is lists =
+    let yes : empty ≡ true = is ∙ ap (λ k. k == 0) long in
+    subst (λ b. Tells h (not b) SomeGoes) (sym yes) (nobody_goes h lists)
+told_by_line h (id ∷ line) n empty long is lists =
+    let some : (suc (length line) == 0) ≡ false = grind rules in
+    let no : empty ≡ false = is ∙ ap (λ k. k == 0) long ∙ some in
+    subst (λ b. Tells h (not b) SomeGoes) (sym no) (λ w st. (id, goes_in h w id st (lists.goes id (inl refl))))
+
+-- ---- the first one
+
+pub first_is : (line rest : List InstId) (o : Option InstId) (id : InstId) → line ≡ option_to_list o ++ rest → o ≡ Some id → line ≡ id ∷ rest
+first_is line rest o id are is = are ∙ ap (λ (x : Option InstId). option_to_list x ++ rest) is
+
+pub none_is : (line rest : List InstId) (o : Option InstId) → line ≡ option_to_list o ++ rest → o ≡ None → rest ≡ line
+none_is line rest o are is = sym (are ∙ ap (λ (x : Option InstId). option_to_list x ++ rest) is)
 
 -- ---- a turn with what belongs to it
 
@@ -173,3 +194,23 @@ only_moved_in_hand h h2 held line room a moves backing =
 pub led_by_turn : (h h2 : HostState) (taken : Option ℕ) → IfNone taken (h2 ≡ h) → IfSome taken (λ n. RunsOn h n 1 h2) → StandsByEvents h → StandsByEvents h2
 led_by_turn h h2 None same f led = subst StandsByEvents (sym same) led
 led_by_turn h h2 (Some n) same f led = led_by_runs h h2 n 1 f led
+
+-- a new one
+pub new_in_hand : (h : HostState) (frames slots : ℕ) (tax : Tax) (held : List (List ℕ)) (line : List InstId) (room : ℕ) → IsNewHost h frames slots tax
+    → held ≡ replicate slots [] → line ≡ [] → 4096 ≤ room → IsInHand h held line room
+new_in_hand h frames slots tax held line room new empty nobody enough =
+    let w = new.0 in
+    let st = new.1 in
+    let alone : AreTogether h.space (replicate slots []) =
+    subst (λ s. AreTogether s (replicate slots [])) (sym st.space) (new_together w.space frames slots tax new.5) in
+    let none : (id : InstId) → ¬ (GoesOn h id) = (λ id goes.
+    (let g = goes_in h w id st goes in
+    let bad : None ≡ Some g.0 = ap (λ (ts : List (Option Tenant)). get_or ts id.number None) (sym new.4) ∙ g.1.0 in cc bad)) in
+    let lists : Lists h [] = record { goes = λ id is. absurd is; all = λ id goes. absurd (none id goes); once = tt } in
+    record {
+      led = (w, st, new.2);
+      together = subst (AreTogether h.space) (sym empty) alone;
+      lists = subst (Lists h) (sym nobody) lists;
+      few = (let live = st.live in let same = ap live_count new.4 in omega (arith, live, same));
+      enough = enough;
+    }
