@@ -1,0 +1,116 @@
+-- Runs that are put together.
+use Rattle.std.proofs.Common.{◌≡◌, ◌≢◌, ℕ, ◌+◌, ◌≤◌, inl, inr, List, [], ◌∷◌, ◌++◌, map, Option, Some, None, refl, sym, ap, subst, ◌∙◌, arith}
+use Rattle.std.specs.List.{AllByRecursion}
+use Rattle.std.proofs.lemmas.List.Sums.{sum_by-append}
+use Rattle.wh_host_model.specs.declared.plain.InstId.{InstId}
+use Rattle.wh_host_model.specs.declared.plain.TurnEnd.{TurnEnd}
+use Rattle.wh_host_model.specs.Host.Worlds.{Tenant, World, empty_world}
+use Rattle.wh_host_model.specs.Host.Events.{Event, turn, provide, epoch}
+use Rattle.wh_host_model.specs.Host.Happens.{AllHappen, AwaitsFrame, Happens, IsTurn, MovesPages, OnlyMoves, moved, has_failed}
+use Rattle.wh_host.specs.Hosting.{HostState, IsHost, IsReached}
+use Rattle.wh_host.specs.Carried.{IsPresentCall}
+use Rattle.wh_host.specs.Paging.{MovesOnly, MovesWith}
+use Rattle.wh_host.specs.Telling.{TellsChargesOf}
+use Rattle.wh_hand.specs.Charging.{charged, charges_by}
+use Rattle.wh_hand.specs.Running.{IsOwn, RunsTo, place_of, turn_count, turns_in}
+use Rattle.wh_hand.specs.Runs.{RunsOn, charges_between}
+use Rattle.wh_hand.proofs.Sums.{live_by_places}
+use Rattle.wh_hand.proofs.Turned.{Counts, turn_counts}
+
+pub all_both : (P : Event → Type 0) (xs ys : List Event) → AllByRecursion P xs → AllByRecursion P ys → AllByRecursion P (xs ++ ys)
+all_both P [] ys a b = b
+all_both P (x ∷ xs) ys a b = (a.0, all_both P xs ys a.1 b)
+
+pub happen_both : (w w2 w3 : World) (es fs : List Event) → AllHappen w es w2 → AllHappen w2 fs w3 → AllHappen w (es ++ fs) w3
+happen_both w w2 w3 [] fs a b = subst (λ (z : World). AllHappen z fs w3) a b
+happen_both w w2 w3 (e ∷ es) fs a b = (a.0, a.1, happen_both a.0 w2 w3 es fs a.2 b)
+
+pub reached_by : (w w2 : World) (events : List Event) → IsReached w → AllHappen w events w2 → IsReached w2
+reached_by w w2 events r happen = record {
+  frames = r.frames;
+  slots = r.slots;
+  tax = r.tax;
+  events = r.events ++ events;
+  happen = happen_both (empty_world r.frames r.slots r.tax) w w2 r.events events r.happen happen;
+}
+
+-- ---- from one host of the definitions to another
+
+abbrev pub runs_itself : (w : World) → RunsTo w 0 w
+runs_itself w = record { events = []; happen = refl; own = tt; counted = omega arith; modules = refl; places = refl }
+
+abbrev pub runs_both : (w w2 w3 : World) (m n : ℕ) → RunsTo w m w2 → RunsTo w2 n w3 → RunsTo w (m + n) w3
+runs_both w w2 w3 m n a b = record {
+  events = a.events ++ b.events;
+  happen = happen_both w w2 w3 a.events b.events a.happen b.happen;
+  own = all_both IsOwn a.events b.events a.own b.own;
+  counted = (let x = a.counted in let y = b.counted in omega (arith, x, y));
+  modules = b.modules ∙ a.modules;
+  places = b.places ∙ a.places;
+}
+
+-- events that move pages alone
+abbrev pub runs_moved : (w w2 : World) (e : Event) → IsOwn e → Happens w e w2 → OnlyMoves w w2 → RunsTo w 0 w2
+runs_moved w w2 e own happens moves = record {
+  events = e ∷ [];
+  happen = (w2, happens, refl);
+  own = (own, tt);
+  counted = (let same = ap charged moves.2 in omega (arith, same));
+  modules = ap (λ (z : World). z.modules) moves.2;
+  places = ap (λ (z : World). map place_of z.tenants) moves.2;
+}
+
+pub only_moves : (w w2 : World) (id : InstId) → MovesPages w id AwaitsFrame None w2 → OnlyMoves w w2
+only_moves w w2 id (moved {s2 = s2} alone none) = (s2, alone, refl)
+only_moves w w2 id (has_failed {e = e} alone some live awaits) = absurd (cc some)
+
+-- ---- between what they stand for
+
+pub on_itself : (h : HostState) → RunsOn h 0 0 h
+on_itself h w st = (w, runs_itself w, omega arith, st)
+
+pub on_both : (h h2 h3 : HostState) (m n a b : ℕ) → RunsOn h m a h2 → RunsOn h2 n b h3 → RunsOn h (m + n) (a + b) h3
+on_both h h2 h3 m n a b f g w st =
+    let x = f w st in
+    let y = g x.0 x.3 in
+    let turns = sum_by-append turn_count x.1.events y.1.events in
+    (y.0, runs_both w x.0 y.0 m n x.1 y.1, omega (arith, turns, x.2, y.2), y.3)
+
+pub on_moved : (h h2 : HostState) (e : Event) → IsOwn e → ((w w2 : World) → OnlyMoves w w2 → Happens w e w2) → MovesOnly h h2 → RunsOn h 0 0 h2
+on_moved h h2 e own happens moves w st =
+    let x = moves w st in
+    (x.0, runs_moved w x.0 e own (happens w x.0 x.1) x.1, omega arith, x.2)
+
+pub on_provided : (h h2 : HostState) (id : InstId) → MovesWith h id AwaitsFrame None h2 → RunsOn h 0 0 h2
+on_provided h h2 id moves w st =
+    let x = moves w st in
+    (x.0, runs_moved w x.0 (provide id None) refl x.1 (only_moves w x.0 id x.1), omega arith, x.2)
+
+-- one turn
+pub turned_to : (h h2 : HostState) (id : InstId) (q call : ℕ) (answer : TurnEnd) (before after : Option ℕ) (w w2 : World)
+    → IsHost h w → IsHost h2 w2 → IsTurn w id q answer w2
+    → IsPresentCall h id call → TellsChargesOf h id call before → TellsChargesOf h2 id call after → Counts w q (charges_between before after) w2
+turned_to h h2 id q call answer before after w w2 st st2 turned present told told2 =
+    turn_counts w w2 id q call answer before after turned (λ t live. present w st t live) (told w st) (told2 w2 st2)
+
+pub on_turned : (h h2 : HostState) (id : InstId) (q call : ℕ) (answer : TurnEnd) (before after : Option ℕ) → 1 ≤ q
+    → ((w : World) → IsHost h w → (w2 : World) × IsTurn w id q answer w2 × IsHost h2 w2)
+    → IsPresentCall h id call → TellsChargesOf h id call before → TellsChargesOf h2 id call after → RunsOn h (charges_between before after) 1 h2
+on_turned h h2 id q call answer before after some turns present told told2 w st =
+    let x = turns w st in
+    let c = turned_to h h2 id q call answer before after w x.0 st x.2 x.1 present told told2 in
+    let r : RunsTo w (charges_between before after) x.0 = record {
+      events = turn id q ∷ [];
+      happen = (x.0, (answer, x.1), refl);
+      own = (some, tt);
+      counted = c.taken.charges;
+      modules = c.taken.modules;
+      places = c.taken.places;
+    } in
+    (x.0, r, omega arith, x.2)
+
+-- as many instances are there
+pub live_on : (h h2 : HostState) (n turns : ℕ) → (w : World) × IsHost h w → RunsOn h n turns h2 → h2.live ≡ h.live
+live_on h h2 n turns some f =
+    let x = f some.0 some.1 in
+    x.3.live ∙ live_by_places x.0.tenants some.0.tenants x.1.places ∙ sym some.1.live
