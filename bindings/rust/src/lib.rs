@@ -112,6 +112,52 @@ pub struct Progress {
     pub goes_on: bool,
 }
 
+/// A call of a transcript.
+#[derive(Clone, Debug, PartialEq, Eq)]
+pub struct Entry {
+    /// The index of its function. A start may have none.
+    pub function: Option<u32>,
+    /// Its arguments, an i32 in the low 32 bits.
+    pub args: Vec<u64>,
+    /// Its fuel in all.
+    pub fuel: u64,
+    /// How many pieces of data segments it wrote.
+    pub pieces: u64,
+    pub charges: u64,
+    pub end: End,
+}
+
+/// How a call has ended, if it has.
+#[derive(Clone, Copy, Debug, PartialEq, Eq)]
+pub enum End {
+    Open,
+    /// With a result, an i32 in the low 32 bits, or none.
+    Returned(Option<u64>),
+    /// By the trap of this number.
+    Trapped(u8),
+    Cancelled,
+    Dead,
+}
+
+impl Entry {
+    /// The first call of these words, and the words behind it.
+    fn read(words: &[u64]) -> Option<(Entry, &[u64])> {
+        let (head, rest) = words.split_first_chunk::<8>()?;
+        let [function, fuel, pieces, charges, kind, results, word, count] = *head;
+        let count = usize::try_from(count).ok().filter(|count| *count <= rest.len())?;
+        let (args, rest) = rest.split_at(count);
+        let end = match kind {
+            6 => End::Returned((results == 1).then_some(word)),
+            7 => End::Trapped(word as u8),
+            8 => End::Cancelled,
+            9 => End::Dead,
+            _ => End::Open,
+        };
+        let function = u32::try_from(function).ok();
+        Some((Entry { function, args: args.to_vec(), fuel, pieces, charges, end }, rest))
+    }
+}
+
 /// A host. It stays on its thread: that it may go to another one isn't proved.
 pub struct Host {
     handle: sys::Handle,
@@ -267,6 +313,32 @@ impl Host {
     pub fn epoch(&mut self) {
         // SAFETY: as in `load`. The code is 0, since the handle holds a host.
         let _ = unsafe { sys::wq_epoch(&mut self.handle) };
+    }
+
+    /// The calls of an instance in the order of their coming, the first of which is the start.
+    ///
+    /// # Errors
+    /// `Ask`; `Memory`.
+    pub fn transcript(&mut self, instance: Instance) -> Result<Vec<Entry>, Error> {
+        let mut words = Vec::new();
+        loop {
+            let mut len = 0;
+            let cap = words.len();
+            // SAFETY: as in `load`; the room is initialised up to its length.
+            answer(unsafe { sys::wq_transcript_of(&mut self.handle, &instance, words.as_mut_ptr(), cap, &mut len) })?;
+            if len <= cap {
+                words.truncate(len);
+                break;
+            }
+            words.resize(len, 0);
+        }
+        let mut calls = Vec::new();
+        let mut rest = words.as_slice();
+        while let Some((call, behind)) = Entry::read(rest) {
+            calls.push(call);
+            rest = behind;
+        }
+        Ok(calls)
     }
 
     /// The report.
