@@ -8,11 +8,11 @@ from driven import MOST, ROOT, generate, wolqedir
 from wolqedir import Host, Refused
 
 GUIDE = os.path.join(ROOT, "docs", "guide", "script.md")
-# The longest body: 257 times i32.const 0.
-HIGH = bytes.fromhex("0061736d01000000010401600000030201000a") + bytes.fromhex("8904018604 00".replace(" ", "")) + bytes.fromhex("4100") * 257 + b"\x0b"
-# What no call of the library meets: a scan of a host whose frames and slots are 2^32 together, for which there is no room; and
+# A body of 257 times i32.const 0.
+HIGH = bytes.fromhex("0061736d01000000010401600000030201000a870401840400") + bytes.fromhex("4100") * 257 + b"\x0b"
+# What no refusal has: that it was done. What no call of the library meets: a scan of a host whose frames and slots are 2^32 together, for which there is no room; and
 # faults of the swap device, which lies in memory.
-UNMET = {"7", "S1", "S2", "S3"}
+UNMET = {"0", "7", "S1", "S2", "S3"}
 
 
 def named(code):
