@@ -1,5 +1,5 @@
 -- What an export does: the handle before and after, the code, and what is written for the caller.
-use Rattle.std.specs.Prelude.{◌≡◌, ◌⊎◌, ℕ, ℤ, ⊤, List, length, option_map, Option, Some, None, Result, Ok, Err, IfOk, IfErr, OnOk, OnErr, IfSome, IfNone, IsSome, IsUtf8, String, string_bytes, ◌+◌}
+use Rattle.std.specs.Prelude.{◌≡◌, ◌≢◌, ◌⊎◌, ℕ, ℤ, ⊤, List, length, option_map, Option, Some, None, Result, Ok, Err, IfOk, IfErr, OnOk, OnErr, IfSome, IfNone, IsSome, IsUtf8, String, string_bytes, ◌+◌}
 use Rattle.std.specs.Global.{Global}
 use Rattle.wh_host_model.specs.declared.plain.InstId.{InstId}
 use Rattle.wh_host_model.specs.Hash.{fnv64}
@@ -42,13 +42,15 @@ use Rattle.wolqedir.specs.Shapes.{instance_of, progress_as, status_of}
 abbrev pub IsLeft : Option HandState → ℕ → ℕ → Option HandState → (untouched : Type 0) → Type 0
 IsLeft held wanted code held2 untouched = (code ≡ wanted) × (held2 ≡ held) × untouched
 
--- The handle holds no host, and is left so; or it holds one, and then one to which this has led.
+-- At any code but 0 the handle holds what it held, and what could be written for the caller is as it was. It held no host, and
+-- that is answered; or it held one, and holds one to which this has led.
 abbrev pub Serves : Option HandState → (HandState → HandState → Type 0) → ℕ → Option HandState → Type 0 → Type 0
 Serves held does code held2 untouched =
-    ((held ≡ None) × IsLeft held none_code code held2 untouched)
-    ⊎ ((h : HandState) × (h2 : HandState) × (held ≡ Some h) × (held2 ≡ Some h2) × does h h2)
+    (code ≢ 0 → (held2 ≡ held) × untouched)
+    × (((held ≡ None) × (code ≡ none_code))
+    ⊎ ((h : HandState) × (h2 : HandState) × (held ≡ Some h) × (held2 ≡ Some h2) × does h h2))
 
--- Or it is left so for want of room.
+-- Or it is left for want of room.
 abbrev pub ServesWithRoom : Option HandState → (HandState → HandState → Type 0) → ℕ → Option HandState → Type 0 → Type 0
 ServesWithRoom held does code held2 untouched =
     IsLeft held memory_code code held2 untouched ⊎ Serves held does code held2 untouched
