@@ -10,8 +10,8 @@ from wolqedir import Host, Refused
 GUIDE = os.path.join(ROOT, "docs", "guide", "script.md")
 # A body of 257 times i32.const 0.
 HIGH = bytes.fromhex("0061736d01000000010401600000030201000a870401840400") + bytes.fromhex("4100") * 257 + b"\x0b"
-# What no refusal has: that it was done. What no call of the library meets: a scan of a host whose frames and slots are 2^32 together, for which there is no room; and
-# faults of the swap device, which lies in memory.
+# That it was done; a scan of a host whose frames and slots are 2^32 together, for which there is no room; and faults of the swap
+# device, which lies in memory.
 UNMET = {"0", "7", "S1", "S2", "S3"}
 
 
@@ -35,7 +35,8 @@ def sentences():
 
 def codes():
     """All codes that there are, by the header."""
-    return [*range(8), *(256 * family + number for family, most in enumerate([0, 13, 11, 3, 2, 9, 8, 10, 3]) for number in range(1, most + 1))]
+    families = enumerate([0, 13, 11, 3, 2, 9, 8, 10, 3])
+    return [*range(8), *(256 * family + number for family, most in families for number in range(1, most + 1))]
 
 
 def texts():

@@ -52,7 +52,8 @@ def gather(given, folder):
 def sanitizers(folder):
     """The flags of the sanitizers, if gcc has them."""
     flags = ["-fsanitize=address,undefined"]
-    ran = subprocess.run(["gcc", *flags, "-x", "c", "-", "-o", folder + "/empty"], input=b"int main(void) { return 0; }\n", stderr=subprocess.DEVNULL)
+    words = ["gcc", *flags, "-x", "c", "-", "-o", folder + "/empty"]
+    ran = subprocess.run(words, input=b"int main(void) { return 0; }\n", stderr=subprocess.DEVNULL)
     return flags if ran.returncode == 0 else []
 
 
@@ -69,7 +70,10 @@ def examples(folder):
     for words, settings in (
         ([program], {}),
         (cargo, {"WOLQEDIR_LIB": folder, "CARGO_TARGET_DIR": folder + "/target"}),
-        (["python3", "examples/library/hello.py"], {"WOLQEDIR_SO": folder + "/libwolqedir.so", "PYTHONPATH": ROOT + "/bindings/python"}),
+        (
+            ["python3", "examples/library/hello.py"],
+            {"WOLQEDIR_SO": folder + "/libwolqedir.so", "PYTHONPATH": ROOT + "/bindings/python"},
+        ),
     ):
         got = run(words, env={**os.environ, **settings})
         if got != wanted:
@@ -85,7 +89,8 @@ def plain(line):
 def replies(program, script, folder):
     """What wasmhost answers a script."""
     with open(folder + "/settings", "w") as file:
-        file.write("".join(f'{key} = "{value}"\n' if isinstance(value, str) else f"{key} = {value}\n" for key, value in script.settings.items()))
+        for key, value in script.settings.items():
+            file.write(f'{key} = "{value}"\n' if isinstance(value, str) else f"{key} = {value}\n")
     text = "".join(line + "\n" for line, _ in script.lines)
     printed = run([program, "--workers", "1", "--settings", folder + "/settings"], input=text, cwd=folder)
     return [plain(line) for line in printed.splitlines() if not line.startswith("#")]

@@ -4,6 +4,8 @@ import re
 
 from driven import ROOT, wolqedir
 
+EXPORT = r'#\[unsafe\(no_mangle\)\]\s*pub extern "C" fn (\w+)\((.*?)\)\s*(?:->|ensures|\{)'
+
 
 def read(*path):
     with open(os.path.join(ROOT, *path)) as file:
@@ -27,7 +29,7 @@ def exported():
     found = {}
     for name in sorted(os.listdir(folder)):
         text = re.sub(r"//.*", "", read(folder, name))
-        for export, inside in re.findall(r'#\[unsafe\(no_mangle\)\]\s*pub extern "C" fn (\w+)\((.*?)\)\s*(?:->|ensures|\{)', text, re.DOTALL):
+        for export, inside in re.findall(EXPORT, text, re.DOTALL):
             found[export] = sum(map(width, parameters(inside)))
     return found
 
@@ -41,7 +43,7 @@ def same():
     exports = exported()
     header = re.sub(r"/\*.*?\*/", "", read("bindings", "c", "wolqedir.h"), flags=re.DOTALL)
     for where, found in (
-        ("bindings/c/wolqedir.h", declared(header, r"^(?:wq_code|void) (wq_\w+)\((.*?)\);".replace("^", r"(?m:^)"))),
+        ("bindings/c/wolqedir.h", declared(header, r"(?m:^)(?:wq_code|void) (wq_\w+)\((.*?)\);")),
         ("bindings/rust/src/sys.rs", declared(read("bindings", "rust", "src", "sys.rs"), r"pub fn (wq_\w+)\((.*?)\)")),
         ("bindings/python/wolqedir.py", {name: len(types) for name, types in wolqedir.EXPORTS.items()}),
     ):

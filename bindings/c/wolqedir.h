@@ -8,8 +8,8 @@
  * standard gives the same calls alone on a flat memory. A call that answers a code other than WQ_DONE has changed nothing.
  *
  * Handles. A wq_host is one word and a tag, which the library alone writes. WQ_HOST_NONE, all bytes 0, holds no host. Don't
- * copy one while it holds a host, and don't change it. Every function but wq_host_new and wq_code_text answers WQ_NONE for a
- * handle that holds none: calls before wq_host_new, calls after wq_host_free, and a second wq_host_free do no harm.
+ * copy one while it holds a host, and don't change it. Calls before wq_host_new and after wq_host_free answer WQ_NONE and do
+ * nothing, and so does a second wq_host_free; wq_host_new answers WQ_FULL where the handle holds a host.
  *
  * Pointers. Every pointer is valid for what it says, aligned, and not null, also where a length is 0; what a call may write
  * overlaps nothing else that it is given. Nothing is kept: bytes are copied in and out, and are yours again when the call
@@ -23,7 +23,7 @@
  * handler, nor in the child of a fork of a process with threads.
  *
  * Memory. malloc and realloc align blocks to 16 bytes, and may answer NULL: the call then answers a code, and the host is as
- * it was. wq_run, wq_scan, wq_epoch, wq_status_of, wq_taken, wq_refuel, wq_retry and wq_cancel take no memory. A host takes
+ * it was. wq_run, wq_scan, wq_epoch, wq_status_of, wq_taken, wq_refuel, wq_retry, wq_cancel and wq_release take no memory. A host takes
  * room for all its frames and slots when it is made; what isn't used costs addresses and no memory.
  */
 #ifndef WOLQEDIR_H

@@ -69,6 +69,12 @@ extern "C" {
     pub fn wq_scan(host: *mut Handle) -> u32;
     pub fn wq_epoch(host: *mut Handle) -> u32;
     pub fn wq_report_of(host: *mut Handle, room: *mut u8, cap: usize, len: *mut usize) -> u32;
-    pub fn wq_transcript_of(host: *mut Handle, instance: *const crate::Instance, room: *mut u64, cap: usize, len: *mut usize) -> u32;
+    pub fn wq_transcript_of(
+        host: *mut Handle,
+        instance: *const crate::Instance,
+        room: *mut u64,
+        cap: usize,
+        len: *mut usize,
+    ) -> u32;
     pub fn wq_code_text(code: u32, room: *mut u8, cap: usize, len: *mut usize) -> u32;
 }

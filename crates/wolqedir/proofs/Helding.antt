@@ -3,7 +3,7 @@ use Rattle.std.proofs.Common.{◌≡◌, ◌≢◌, ℕ, Option, Some, None, IsS
 use Rattle.std.specs.Prelude.{⊤}
 use Rattle.wh_hand.specs.InHand.{HandState}
 use Rattle.wolqedir.specs.Codes.{code_by}
-use Rattle.wolqedir.specs.Serving.{Tells}
+use Rattle.wolqedir.specs.Serving.{TellsCaller}
 
 pub is_held : (held : Option HandState) → IsSome held → (h : HandState) × (held ≡ Some h)
 is_held (Some h) is = (h, refl)
@@ -14,7 +14,7 @@ pub same_held : {held held2 : Option HandState} {h h2 : HandState} → held ≡ 
 same_held is is2 same = is2 ∙ ap Some same ∙ sym is
 
 -- an error has written nothing
-pub untold : {A B E : Type 0} (told : A → B) (before after : B) (answer : Result A E) → Tells told answer before after → OnErr answer (after ≡ before)
+pub untold : {A B E : Type 0} (told : A → B) (before after : B) (answer : Result A E) → TellsCaller told answer before after → OnErr answer (after ≡ before)
 untold told before after (Ok a) tells = tt
 untold told before after (Err e) tells = tells
 

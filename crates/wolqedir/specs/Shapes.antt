@@ -48,9 +48,9 @@ abbrev pub type_bits : ValType → ℕ
 type_bits I32 = 32
 type_bits I64 = 64
 
-abbrev pub bits_of : Option CallValue → ℕ
-bits_of None = 0
-bits_of (Some value) = type_bits value.of
+abbrev pub bits_of_result : Option CallValue → ℕ
+bits_of_result None = 0
+bits_of_result (Some value) = type_bits value.of
 
 abbrev pub word_of : Option CallValue → ℕ
 word_of None = 0
@@ -70,13 +70,13 @@ standing_code (Some Frame) = 0
 standing_code (Some (Device e)) = swap_code e
 
 -- how far a call is that has taken so many charges
-abbrev pub status_of : CallStatus → ℕ → Status
-status_of Waiting charges = record { kind = 1; code = 0; bits = 0; value = 0; charges = charges }
-status_of (Present stands taken) charges =
+abbrev pub shown_status : CallStatus → ℕ → Status
+shown_status Waiting charges = record { kind = 1; code = 0; bits = 0; value = 0; charges = charges }
+shown_status (Present stands taken) charges =
     record { kind = standing_kind stands; code = standing_code stands; bits = 0; value = 0; charges = charges }
-status_of (Returned value taken) charges =
-    record { kind = 6; code = 0; bits = bits_of value; value = word_of value; charges = charges }
-status_of (Trapped trap taken) charges =
+shown_status (Returned value taken) charges =
+    record { kind = 6; code = 0; bits = bits_of_result value; value = word_of value; charges = charges }
+shown_status (Trapped trap taken) charges =
     record { kind = 7; code = trap_code trap; bits = 0; value = 0; charges = charges }
-status_of (Cancelled taken) charges = record { kind = 8; code = 0; bits = 0; value = 0; charges = charges }
-status_of Dead charges = record { kind = 9; code = 0; bits = 0; value = 0; charges = charges }
+shown_status (Cancelled taken) charges = record { kind = 8; code = 0; bits = 0; value = 0; charges = charges }
+shown_status Dead charges = record { kind = 9; code = 0; bits = 0; value = 0; charges = charges }

@@ -11,7 +11,7 @@ use Rattle.wh_host.specs.Showing.{ShowsInstance}
 use Rattle.wh_hand.specs.InHand.{HandState}
 use Rattle.wolqedir.specs.Codes.{code_by, host_error_code}
 use Rattle.wolqedir.specs.Rooms.{laid_in}
-use Rattle.wolqedir.specs.Serving.{Tells}
+use Rattle.wolqedir.specs.Serving.{TellsCaller}
 
 -- a function's index; none is 2^64 - 1
 abbrev pub func_word : Option ℕ → ℕ
@@ -29,19 +29,19 @@ end_words Dead = 9 ∷ 0 ∷ 0 ∷ []
 
 -- its function, its fuel in all, the pieces of data that it wrote, its charges, how it has ended, and its arguments behind
 -- their number
-abbrev pub call_words : JournalCallState → List ℕ
-call_words c =
+abbrev pub entry_words : JournalCallState → List ℕ
+entry_words c =
     (func_word c.func ∷ c.fuel ∷ c.pieces ∷ c.charges ∷ []) ++ end_words c.end ++ (length c.words ∷ c.words)
 
 abbrev pub all_words : List JournalCallState → List ℕ
-all_words calls = flat_map call_words calls
+all_words calls = flat_map entry_words calls
 
 -- what is told of an instance: its calls
-pub record TellsTranscript (id : InstId) (room room2 : List ℕ) (len len2 code : ℕ) (h h2 : HandState) : Type 0 where
+pub record ExportTellsTranscript (id : InstId) (room room2 : List ℕ) (len len2 code : ℕ) (h h2 : HandState) : Type 0 where
   pub answer : Result TranscriptState HostError
   pub answered : code ≡ code_by host_error_code answer
   pub same : h2 ≡ h
   pub shows : ShowsInstance h.host id answer
   pub replays : IfOk answer (λ shown. IsReplayable shown)
-  pub laid : Tells (λ shown. laid_in (all_words shown.calls) room) answer room room2
-  pub counted : Tells (λ shown. length (all_words shown.calls)) answer len len2
+  pub laid : TellsCaller (λ shown. laid_in (all_words shown.calls) room) answer room room2
+  pub counted : TellsCaller (λ shown. length (all_words shown.calls)) answer len len2

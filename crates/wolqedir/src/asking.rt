@@ -3,7 +3,7 @@
 ghost use Rattle.std.specs.Prelude.{◌≡◌, IfOk, ⊤};
 ghost use Rattle.wh_host_model.specs.Host.Happens.{IsCancel, IsRefuel, IsRetry};
 ghost use Rattle.wolqedir.specs.Codes.{code_by, host_error_code};
-ghost use Rattle.wolqedir.specs.Serving.{Asks, Invokes, Releases, Serves, ServesNamed, Tells};
+ghost use Rattle.wolqedir.specs.Serving.{ExportAsks, ExportInvokes, ExportReleases, ServesHandle, ServesNamed, TellsCaller};
 ghost use Rattle.wolqedir.specs.Shapes.{id_of};
 
 use crate::codes::{DONE, MEMORY, NAME, NONE, of_host};
@@ -26,7 +26,7 @@ fn code_of(answer: Result<(), HostError>) -> u32
 // Tells the place of a call that was taken, or says why it wasn't.
 fn tell_place(answer: Result<u32, HostError>, call: &mut u32) -> u32
     ensures code { result ≡ code_by host_error_code answer }
-    ensures told { Tells (λ at. at) answer call.old call.new }
+    ensures told { TellsCaller (λ at. at) answer call.old call.new }
 {
     match answer {
         Ok(at) => {
@@ -40,7 +40,7 @@ fn tell_place(answer: Result<u32, HostError>, call: &mut u32) -> u32
 // Tells how many bytes an instance had put out that was let go, or says why it wasn't.
 fn tell_length(answer: Result<(), HostError>, count: usize, len: &mut usize) -> u32
     ensures code { result ≡ code_by host_error_code answer }
-    ensures told { Tells (λ _. count) answer len.old len.new }
+    ensures told { TellsCaller (λ _. count) answer len.old len.new }
 {
     match answer {
         Ok(()) => {
@@ -67,7 +67,8 @@ fn widened(alloc: Global, args: &[i64]) -> Result<Vec<i128>, AllocError>
 ///
 /// An argument is a number in the bits of its type, signed or unsigned; an i64 above 2^63 - 1 is given by its signed reading.
 ///
-/// It answers NAME where the name isn't UTF-8, MEMORY where there is no room for a copy of the arguments, NONE, or a code of the family H.
+/// It answers NAME where the name isn't UTF-8, MEMORY where there is no room for a copy of the arguments, NONE, or a code of the
+/// family H.
 #[unsafe(no_mangle)]
 pub extern "C" fn wq_invoke(
     alloc: Global,
@@ -79,7 +80,7 @@ pub extern "C" fn wq_invoke(
     call: &mut u32,
 ) -> u32
     ensures { ServesNamed name.now handle.old.slot.held
-        (Invokes (id_of instance.now) name.now args.now fuel call.old call.new result)
+        (ExportInvokes (id_of instance.now) name.now args.now fuel call.old call.new result)
         result handle.new.slot.held (call.new ≡ call.old) }
 {
     let Ok(name) = str::from_utf8(name) else {
@@ -107,8 +108,8 @@ pub extern "C" fn wq_refuel(
     instance: &Instance,
     fuel: u64,
 ) -> u32
-    ensures { Serves handle.old.slot.held
-        (Asks (λ w answer w2. IsRefuel w (id_of instance.now) fuel answer w2) result) result
+    ensures { ServesHandle handle.old.slot.held
+        (ExportAsks (λ w answer w2. IsRefuel w (id_of instance.now) fuel answer w2) result) result
         handle.new.slot.held ⊤ }
 {
     let Some(mut hand) = handle.take(alloc) else {
@@ -124,8 +125,8 @@ pub extern "C" fn wq_refuel(
 /// It answers NONE, H1, or H8 where it doesn't stand for one.
 #[unsafe(no_mangle)]
 pub extern "C" fn wq_retry(alloc: Global, handle: &mut Handle, instance: &Instance) -> u32
-    ensures { Serves handle.old.slot.held
-        (Asks (λ w answer w2. IsRetry w (id_of instance.now) answer w2) result) result
+    ensures { ServesHandle handle.old.slot.held
+        (ExportAsks (λ w answer w2. IsRetry w (id_of instance.now) answer w2) result) result
         handle.new.slot.held ⊤ }
 {
     let Some(mut hand) = handle.take(alloc) else {
@@ -142,8 +143,8 @@ pub extern "C" fn wq_retry(alloc: Global, handle: &mut Handle, instance: &Instan
 /// It answers NONE, H1, or H8 where no call is open.
 #[unsafe(no_mangle)]
 pub extern "C" fn wq_cancel(alloc: Global, handle: &mut Handle, instance: &Instance) -> u32
-    ensures { Serves handle.old.slot.held
-        (Asks (λ w answer w2. IsCancel w (id_of instance.now) answer w2) result) result
+    ensures { ServesHandle handle.old.slot.held
+        (ExportAsks (λ w answer w2. IsCancel w (id_of instance.now) answer w2) result) result
         handle.new.slot.held ⊤ }
 {
     let Some(mut hand) = handle.take(alloc) else {
@@ -165,8 +166,8 @@ pub extern "C" fn wq_release(
     instance: &Instance,
     len: &mut usize,
 ) -> u32
-    ensures { Serves handle.old.slot.held
-        (Releases (id_of instance.now) len.old len.new result) result handle.new.slot.held
+    ensures { ServesHandle handle.old.slot.held
+        (ExportReleases (id_of instance.now) len.old len.new result) result handle.new.slot.held
         (len.new ≡ len.old) }
 {
     let Some(mut hand) = handle.take(alloc) else {

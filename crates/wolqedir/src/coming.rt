@@ -3,7 +3,7 @@
 ghost use Rattle.std.specs.Prelude.{◌≡◌, IfOk, OnErr, Result};
 ghost use Rattle.wh_admit.specs.Views.{view_params};
 ghost use Rattle.wolqedir.specs.Codes.{code_by, admit_error_code, module_error_code};
-ghost use Rattle.wolqedir.specs.Serving.{Admits, Loads, Serves, ServesWithRoom, Tells};
+ghost use Rattle.wolqedir.specs.Serving.{ExportAdmits, ExportLoads, ServesHandle, ServesWithRoom, TellsCaller};
 ghost use Rattle.wolqedir.specs.Shapes.{given_by, instance_of};
 
 use crate::codes::{DONE, MEMORY, NONE, of_admit, of_module};
@@ -31,7 +31,7 @@ fn given(alloc: Global, params: &Params, inputs: &[u64]) -> Result<wh_hand::Para
 // Tells the number of a module that was kept, or says why it wasn't.
 fn tell_module(answer: Result<ModuleId, ModuleError>, number: &mut usize) -> u32
     ensures code { result ≡ code_by module_error_code answer }
-    ensures told { Tells (λ id. id.number) answer number.old number.new }
+    ensures told { TellsCaller (λ id. id.number) answer number.old number.new }
 {
     match answer {
         Ok(id) => {
@@ -45,7 +45,7 @@ fn tell_module(answer: Result<ModuleId, ModuleError>, number: &mut usize) -> u32
 // Tells the name of an instance that was admitted, or says why it wasn't.
 fn tell_instance(answer: Result<InstId, AdmitError>, instance: &mut Instance) -> u32
     ensures code { result ≡ code_by admit_error_code answer }
-    ensures told { Tells instance_of answer instance.old instance.new }
+    ensures told { TellsCaller instance_of answer instance.old instance.new }
 {
     match answer {
         Ok(id) => {
@@ -66,8 +66,8 @@ pub extern "C" fn wq_load(
     bytes: &[u8],
     number: &mut usize,
 ) -> u32
-    ensures { Serves handle.old.slot.held
-        (Loads bytes.now number.old number.new result) result handle.new.slot.held
+    ensures { ServesHandle handle.old.slot.held
+        (ExportLoads bytes.now number.old number.new result) result handle.new.slot.held
         (number.new ≡ number.old) }
 {
     let Some(mut hand) = handle.take(alloc) else {
@@ -92,7 +92,7 @@ pub extern "C" fn wq_admit(
     instance: &mut Instance,
 ) -> u32
     ensures { ServesWithRoom handle.old.slot.held
-        (Admits of (given_by params.now inputs.now) instance.old instance.new result) result
+        (ExportAdmits of (given_by params.now inputs.now) instance.old instance.new result) result
         handle.new.slot.held (instance.new ≡ instance.old) }
 {
     let Ok(params) = given(alloc, params, inputs) else {

@@ -1,7 +1,7 @@
 //! Runs, and what memory does meanwhile.
 
 ghost use Rattle.std.specs.Prelude.{◌≡◌, ⊤};
-ghost use Rattle.wolqedir.specs.Serving.{BeginsEpoch, Runs, Scans, Serves};
+ghost use Rattle.wolqedir.specs.Serving.{ExportBeginsEpoch, ExportRuns, ExportScans, ServesHandle};
 
 use crate::codes::{DONE, LARGE, NONE};
 use crate::handle::Handle;
@@ -19,7 +19,7 @@ pub extern "C" fn wq_run(
     charges: u64,
     progress: &mut Progress,
 ) -> u32
-    ensures { Serves handle.old.slot.held (Runs charges progress.new result) result
+    ensures { ServesHandle handle.old.slot.held (ExportRuns charges progress.new result) result
         handle.new.slot.held (progress.new ≡ progress.old) }
 {
     let Some(mut hand) = handle.take(alloc) else {
@@ -35,7 +35,7 @@ pub extern "C" fn wq_run(
 /// It answers NONE, or LARGE where frames and slots are 2^32 together or more; nothing is done then.
 #[unsafe(no_mangle)]
 pub extern "C" fn wq_scan(alloc: Global, handle: &mut Handle) -> u32
-    ensures { Serves handle.old.slot.held (Scans result) result
+    ensures { ServesHandle handle.old.slot.held (ExportScans result) result
         handle.new.slot.held ⊤ }
 {
     let Some(mut hand) = handle.take(alloc) else {
@@ -54,7 +54,7 @@ pub extern "C" fn wq_scan(alloc: Global, handle: &mut Handle) -> u32
 /// It answers NONE or 0.
 #[unsafe(no_mangle)]
 pub extern "C" fn wq_epoch(alloc: Global, handle: &mut Handle) -> u32
-    ensures { Serves handle.old.slot.held (BeginsEpoch result) result
+    ensures { ServesHandle handle.old.slot.held (ExportBeginsEpoch result) result
         handle.new.slot.held ⊤ }
 {
     let Some(mut hand) = handle.take(alloc) else {

@@ -1,7 +1,7 @@
 //! What C reads and writes, field by field.
 
 ghost use Rattle.std.specs.Prelude.{◌≡◌};
-ghost use Rattle.wolqedir.specs.Shapes.{bits_of, id_of, instance_of, progress_as, standing_code, standing_kind, status_of, word_of};
+ghost use Rattle.wolqedir.specs.Shapes.{bits_of_result, id_of, instance_of, progress_as, standing_code, standing_kind, shown_status, word_of};
 
 use crate::codes::{of_swap, of_trap};
 use wh_hand::{CallStatus, CallValue, InstId, Ran, Suspension};
@@ -84,7 +84,7 @@ pub fn name_of(id: InstId) -> Instance
 
 // How many bits a result has.
 fn result_bits(value: Option<CallValue>) -> u32
-    ensures { result ≡ bits_of value }
+    ensures { result ≡ bits_of_result value }
 {
     match value {
         None => 0,
@@ -127,7 +127,7 @@ fn standing(stands_for: Option<Suspension>) -> (u32, u32)
 
 /// How far a call is that has taken so many charges.
 pub fn shown(status: CallStatus, charges: u64) -> Status
-    ensures { result ≡ status_of status charges }
+    ensures { result ≡ shown_status status charges }
 {
     let (kind, code, value) = match status {
         CallStatus::Waiting => (1, 0, None),

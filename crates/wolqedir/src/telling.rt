@@ -1,10 +1,10 @@
 //! What a host tells.
 
 ghost use Rattle.std.specs.Prelude.{◌≡◌};
-ghost use Rattle.wolqedir.specs.Serving.{Serves, ServesWithRoom, TellsReport, TellsStatus, TellsTaken};
+ghost use Rattle.wolqedir.specs.Serving.{ServesHandle, ServesWithRoom, ExportTellsReport, ExportTellsStatus, ExportTellsTaken};
 ghost use Rattle.wolqedir.specs.Shapes.{id_of};
 ghost use Rattle.wolqedir.specs.Texts.{TellsText};
-ghost use Rattle.wolqedir.specs.Transcribed.{TellsTranscript};
+ghost use Rattle.wolqedir.specs.Transcribed.{ExportTellsTranscript};
 
 use crate::codes::{DONE, MEMORY, NONE, UNKNOWN, of_host};
 use crate::handle::Handle;
@@ -25,8 +25,8 @@ pub extern "C" fn wq_status_of(
     call: u32,
     status: &mut Status,
 ) -> u32
-    ensures { Serves handle.old.slot.held
-        (TellsStatus (id_of instance.now) call status.old result status.new) result
+    ensures { ServesHandle handle.old.slot.held
+        (ExportTellsStatus (id_of instance.now) call status.old result status.new) result
         handle.new.slot.held (status.new ≡ status.old) }
 {
     let Some(hand) = handle.take(alloc) else {
@@ -54,7 +54,7 @@ pub extern "C" fn wq_taken(
     room: &mut [u8],
     len: &mut usize,
 ) -> u32
-    ensures { Serves handle.old.slot.held (TellsTaken room.old room.new len.new result) result
+    ensures { ServesHandle handle.old.slot.held (ExportTellsTaken room.old room.new len.new result) result
         handle.new.slot.held ((room.new ≡ room.old) × (len.new ≡ len.old)) }
 {
     let Some(hand) = handle.take(alloc) else {
@@ -75,7 +75,7 @@ pub extern "C" fn wq_report_of(
     room: &mut [u8],
     len: &mut usize,
 ) -> u32
-    ensures { Serves handle.old.slot.held (TellsReport room.old room.new len.old len.new result)
+    ensures { ServesHandle handle.old.slot.held (ExportTellsReport room.old room.new len.old len.new result)
         result handle.new.slot.held ((room.new ≡ room.old) × (len.new ≡ len.old)) }
 {
     let Some(hand) = handle.take(alloc) else {
@@ -107,7 +107,7 @@ pub extern "C" fn wq_transcript_of(
     len: &mut usize,
 ) -> u32
     ensures { ServesWithRoom handle.old.slot.held
-        (TellsTranscript (id_of instance.now) room.old room.new len.old len.new result) result
+        (ExportTellsTranscript (id_of instance.now) room.old room.new len.old len.new result) result
         handle.new.slot.held ((room.new ≡ room.old) × (len.new ≡ len.old)) }
 {
     let Some(hand) = handle.take(alloc) else {

@@ -1,7 +1,7 @@
 //! A sentence for each code.
 
 ghost use Rattle.std.specs.Prelude.{◌≡◌, MatchOption, length};
-ghost use Rattle.wolqedir.specs.Texts.{IsCode, most_number};
+ghost use Rattle.wolqedir.specs.Texts.{IsLibraryCode, most_number};
 
 // The library's own codes: 0 to 7.
 const OWN: [&str; 8] = [
@@ -122,7 +122,7 @@ fn sentences(family: u32) -> &'static [&'static str]
 
 /// The sentence for a code, if it is one.
 pub fn sentence(code: u32) -> Option<&'static str>
-    ensures { MatchOption result (¬ IsCode code) (λ _. IsCode code) }
+    ensures { MatchOption result (¬ IsLibraryCode code) (λ _. IsLibraryCode code) }
 {
     if code < 8 {
         return Some(OWN[code as usize]);

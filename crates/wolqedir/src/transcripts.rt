@@ -1,7 +1,7 @@
 //! Transcripts as words.
 
 ghost use Rattle.std.specs.Prelude.{◌≡◌, ◌++◌, IfOk, OnOk};
-ghost use Rattle.wolqedir.specs.Transcribed.{all_words, call_words, end_words, func_word};
+ghost use Rattle.wolqedir.specs.Transcribed.{all_words, entry_words, end_words, func_word};
 
 use std::alloc::{AllocError, Global};
 use wh_journal::{CallEnd, JournalCall};
@@ -32,7 +32,7 @@ fn words_of_end(end: CallEnd) -> [u64; 3]
 
 // Puts the words of a call behind others.
 fn push_call(words: &mut Vec<u64>, call: &JournalCall) -> Result<(), AllocError>
-    ensures { OnOk result (words.new.items ≡ words.old.items ++ call_words call.now) }
+    ensures { OnOk result (words.new.items ≡ words.old.items ++ entry_words call.now) }
 {
     let args = call.words();
     let head = [

@@ -1,6 +1,6 @@
 use Rattle.std.proofs.Common.{inr, Some, ap, sym, ◌∙◌, subst}
 use Rattle.wh_host.specs.Asking.{AnswersInvoke}
-use Rattle.wolqedir.specs.Serving.{Invokes}
+use Rattle.wolqedir.specs.Serving.{ExportInvokes}
 use Rattle.wolqedir.specs.Codes.{host_error_code}
 use Rattle.wolqedir.proofs.Helding.{left_at, same_held, untold}
 use Rattle.wolqedir.proofs.asking.wq_invoke.Goals as goal
@@ -16,7 +16,7 @@ returns c = inr (
       _,
       c.in-Some.ensures.some ∙ ap Some (sym c.deref_mut.ensures.value),
       c.put.ensures,
-      subst (λ id. Invokes id c.args.name.now c.args.args.now c.args.fuel c.args.call.now c.tell_place.new.call c.tell_place.result c.deref_mut.result.now c.invoke-answer.new.self) c.named.ensures (record {
+      subst (λ id. ExportInvokes id c.args.name.now c.args.args.now c.args.fuel c.args.call.now c.tell_place.new.call c.tell_place.result c.deref_mut.result.now c.invoke-answer.new.self) c.named.ensures (record {
         answer = c.invoke-answer.result;
         answered = c.tell_place.ensures.code;
         asks = subst (λ name. AnswersInvoke c.deref_mut.result.now.host c.named.result name c.args.args.now c.args.fuel c.invoke-answer.result c.invoke-answer.new.self.host) c.in-Ok.ensures.cases.0

@@ -1,6 +1,6 @@
 use Rattle.std.proofs.Common.{inr, Some, ap, sym, ◌∙◌, subst}
 use Rattle.wh_host_model.specs.Host.Happens.{IsRefuel}
-use Rattle.wolqedir.specs.Serving.{Asks}
+use Rattle.wolqedir.specs.Serving.{ExportAsks}
 use Rattle.wolqedir.specs.Codes.{host_error_code}
 use Rattle.wolqedir.proofs.Helding.{left_at, nothing, same_held}
 use Rattle.wolqedir.proofs.asking.wq_refuel.Goals as goal
@@ -14,7 +14,7 @@ returns c = (
     _,
     c.in-Some.ensures.some ∙ ap Some (sym c.deref_mut.ensures.value),
     c.put.ensures,
-    subst (λ id. Asks (λ w answer w2. IsRefuel w id c.args.fuel answer w2) c.code_of.result c.deref_mut.result.now c.refuel-answer.new.self) c.named.ensures (record {
+    subst (λ id. ExportAsks (λ w answer w2. IsRefuel w id c.args.fuel answer w2) c.code_of.result c.deref_mut.result.now c.refuel-answer.new.self) c.named.ensures (record {
       answer = c.refuel-answer.result;
       answered = c.code_of.ensures;
       asks = c.refuel-answer.ensures.asks;

@@ -1,5 +1,5 @@
 use Rattle.std.proofs.Common.{inr, Some, ap, sym, ◌∙◌, subst}
-use Rattle.wolqedir.specs.Serving.{Admits}
+use Rattle.wolqedir.specs.Serving.{ExportAdmits}
 use Rattle.wolqedir.specs.Codes.{admit_error_code}
 use Rattle.wolqedir.proofs.Helding.{left_at, same_held, untold}
 use Rattle.wolqedir.proofs.coming.wq_admit.Goals as goal
@@ -13,7 +13,7 @@ returns c = inr (
     _,
     c.in-Some.ensures.some ∙ ap Some (sym c.deref_mut.ensures.value),
     c.put.ensures,
-    subst (λ p. Admits c.args.of p c.args.instance.now c.tell_instance.new.instance c.tell_instance.result c.deref_mut.result.now c.admit-answer.new.self) c.in-Ok.ensures (record {
+    subst (λ p. ExportAdmits c.args.of p c.args.instance.now c.tell_instance.new.instance c.tell_instance.result c.deref_mut.result.now c.admit-answer.new.self) c.in-Ok.ensures (record {
       answer = c.admit-answer.result;
       answered = c.tell_instance.ensures.code;
       admits = c.admit-answer.ensures.admits;

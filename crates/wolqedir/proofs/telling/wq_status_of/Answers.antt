@@ -1,5 +1,5 @@
 use Rattle.std.proofs.Common.{inr, Some, None, ap, sym, refl, ◌∙◌, subst}
-use Rattle.wolqedir.specs.Serving.{TellsStatus}
+use Rattle.wolqedir.specs.Serving.{ExportTellsStatus}
 use Rattle.wolqedir.proofs.Helding.{same_held}
 use Rattle.wolqedir.proofs.telling.wq_status_of.Goals as goal
 
@@ -11,7 +11,7 @@ returns-in-Some-told c = (
     _,
     c.in-Some.ensures.some ∙ ap Some (sym c.deref.ensures),
     c.put.ensures,
-    subst (λ id. TellsStatus id c.args.call c.args.status.now 0 c.shown.result c.deref.result.now c.in-Some.hand.value) c.named.ensures (record {
+    subst (λ id. ExportTellsStatus id c.args.call c.args.status.now 0 c.shown.result c.deref.result.now c.in-Some.hand.value) c.named.ensures (record {
       same = sym c.deref.ensures;
       told = Some (c.in-Some-told.far, c.in-Some-told.charges);
       tells = c.in-Some-told.ensures.tells;
@@ -29,7 +29,7 @@ returns-in-None c = (
     _,
     c.in-Some.ensures.some ∙ ap Some (sym c.deref.ensures),
     c.put.ensures,
-    subst (λ id. TellsStatus id c.args.call c.args.status.now 6 c.args.status.now c.deref.result.now c.in-Some.hand.value) c.named.ensures (record {
+    subst (λ id. ExportTellsStatus id c.args.call c.args.status.now 6 c.args.status.now c.deref.result.now c.in-Some.hand.value) c.named.ensures (record {
       same = sym c.deref.ensures;
       told = None;
       tells = c.in-None.ensures.tells;

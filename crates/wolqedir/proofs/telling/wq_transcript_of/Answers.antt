@@ -1,6 +1,6 @@
 use Rattle.std.proofs.Common.{inr, Some, Ok, Err, ap, sym, refl, ◌∙◌, length, subst}
 use Rattle.wolqedir.specs.Rooms.{laid_in}
-use Rattle.wolqedir.specs.Transcribed.{TellsTranscript, all_words}
+use Rattle.wolqedir.specs.Transcribed.{ExportTellsTranscript, all_words}
 use Rattle.wolqedir.proofs.Helding.{same_held}
 use Rattle.wolqedir.proofs.telling.wq_transcript_of.Goals as goal
 
@@ -14,7 +14,7 @@ returns-in-Ok-words_of c =
         _,
         c.in-Some.ensures.some ∙ ap Some (sym c.deref.ensures),
         c.put.ensures,
-        subst (λ id. TellsTranscript id c.args.room.now c.lay.new.room c.args.len.now c.lay.new.len 0 c.deref.result.now c.in-Some.hand.value) c.named.ensures (record {
+        subst (λ id. ExportTellsTranscript id c.args.room.now c.lay.new.room c.args.len.now c.lay.new.len 0 c.deref.result.now c.in-Some.hand.value) c.named.ensures (record {
           answer = Ok c.in-Ok.transcript;
           answered = refl;
           same = sym c.deref.ensures;
@@ -34,7 +34,7 @@ returns c = inr (
     _,
     c.in-Some.ensures.some ∙ ap Some (sym c.deref.ensures),
     c.put.ensures,
-    subst (λ id. TellsTranscript id c.args.room.now c.args.room.now c.args.len.now c.args.len.now c.of_host.result c.deref.result.now c.in-Some.hand.value) c.named.ensures (record {
+    subst (λ id. ExportTellsTranscript id c.args.room.now c.args.room.now c.args.len.now c.args.len.now c.of_host.result c.deref.result.now c.in-Some.hand.value) c.named.ensures (record {
       answer = Err c.in-Err.error;
       answered = c.of_host.ensures;
       same = sym c.deref.ensures;

@@ -47,10 +47,10 @@ module _ {M : Type 1} {𝓤 : Ura M} (𝓛 : Logic 𝓤) (at_mem : Memory → SP
   abbrev at_slot : Ptr → Global → Option (E.row.Denot) → List Val → Ghost
   at_slot p al h us = ((tt, tt, tt, (record { at = p; alloc = al; held = h }, tt), (us, tt)), tt)
 
-  abbrev Runs : Ghost → SProp 𝓤
-  Runs z = WpFn 𝓤 H 𝓣.C 𝓣.Λ code.function (z.0.4.0 ++ []) ((walk_of 𝓛 F.ended stayed (F.clauses 𝓛 at_mem run)).post z)
+  abbrev ExportRuns : Ghost → SProp 𝓤
+  ExportRuns z = WpFn 𝓤 H 𝓣.C 𝓣.Λ code.function (z.0.4.0 ++ []) ((walk_of 𝓛 F.ended stayed (F.clauses 𝓛 at_mem run)).post z)
 
-  walk : (p : Ptr) (al : Global) (h : Option (E.row.Denot)) (us : List Val) → IsSome h → ent 𝓤 (on_entry 𝓛 F.signature tt tt (at_slot p al h us).0.3 (us, tt)) (Runs (at_slot p al h us))
+  walk : (p : Ptr) (al : Global) (h : Option (E.row.Denot)) (us : List Val) → IsSome h → ent 𝓤 (on_entry 𝓛 F.signature tt tt (at_slot p al h us).0.3 (us, tt)) (ExportRuns (at_slot p al h us))
   walk p al None us is = absurd (true≢false (sym is))
   walk p al (Some x) us _ =
       let z = at_slot p al (Some x) us in
