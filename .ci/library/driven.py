@@ -167,6 +167,28 @@ class Driven(Session):
         self.drain()
         self.host.report()
 
+    def transcripts(self):
+        """Looks whether the transcript of each instance tells of its calls what their statuses do. How many calls that are."""
+        count = 0
+        for held in self.held:
+            if held.is_gone:
+                continue
+            entries = self.host.transcript(held.instance)
+            told = [self.host.status(held.instance, place) for place in range(len(entries))]
+            for entry, status in zip(entries, told):
+                ended = status.kind if status.kind in ("returned", "trapped", "cancelled", "dead") else "open"
+                trap = int(status.fault[1:]) if status.kind == "trapped" else None
+                result = trap if status.value is None else status.value
+                assert (entry.kind, entry.charges) == (ended, status.charges), (entry, status)
+                assert entry.result == result or (entry.result - result) % 2**32 == 0, (entry, status)
+                assert entry.charges <= entry.fuel, entry
+            try:
+                self.host.status(held.instance, len(entries))
+                raise AssertionError(entries)
+            except wolqedir.Refused:
+                count += len(entries)
+        return count
+
     def traps(self):
         """The codes of the traps of calls that can be asked."""
         for call in self.starts + self.calls:

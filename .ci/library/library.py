@@ -97,8 +97,8 @@ def replies(program, script, folder):
 
 
 def sessions(program, folder):
-    """Random scripts get of the library what they get of wasmhost, and of the second model. How many replies that are, and which
-    codes came."""
+    """Random scripts get of the library what they get of wasmhost, and of the second model. How many replies that are, how many
+    calls the transcripts in the end have, and which codes came."""
     from driven import MOST, Driven, generate
 
     for path, contents in generate.FILES.items():
@@ -106,7 +106,7 @@ def sessions(program, folder):
         if contents is not None and "/" not in path:
             with open(target, "wb") as file:
                 file.write(contents)
-    settings, count, codes = generate.random_settings(40), 0, set()
+    settings, count, calls, codes = generate.random_settings(40), 0, 0, set()
     for seed in range(1, SCRIPTS + 1):
         script, chosen = generate.Script(seed, settings).make(), random.Random(seed)
         driven = Driven(script.settings, generate.FILES, lambda: chosen.choice([1, 2, 7, 100, 1000, 5000, MOST]))
@@ -116,12 +116,13 @@ def sessions(program, folder):
             codes.update(driven.traps())
         got += driven.end()
         codes.update(driven.codes, driven.traps())
+        calls += driven.transcripts()
         driven.host.close()
         model = [plain(reply) for _, told in script.lines for reply in told] + [plain(reply) for reply in script.session.end()]
         wanted = model if program is None else replies(program, script, folder)
         assert got == model == wanted, (seed, [pair for pair in zip(got, model, wanted) if len(set(pair)) > 1][:3])
         count += len(got)
-    return count, codes
+    return count, calls, codes
 
 
 def main(archive=None, program=ROOT + "/crates/wasmhost/out/wasmhost"):
@@ -136,8 +137,8 @@ def main(archive=None, program=ROOT + "/crates/wasmhost/out/wasmhost"):
 
         print(f"{names.same()} exports are declared alike for C, Rust and Python, and {codes.texts()} codes have their sentences")
         print(f"the examples in C, Rust and Python print what they should, that in C {examples(folder)}")
-        count, seen = sessions(os.path.abspath(program) if program else None, folder)
-        print(f"{SCRIPTS} random scripts, {count} replies: the library and wasmhost agree")
+        count, calls, seen = sessions(os.path.abspath(program) if program else None, folder)
+        print(f"{SCRIPTS} random scripts, {count} replies: the library and wasmhost agree; {calls} calls of transcripts have their statuses")
         refused, wanting = refusals.all_refused()
         print(f"{refused} requests for memory refused in turn: each time a code, and the host as before")
         met = {codes.named(code) for code in seen} | wanting | codes.met()
