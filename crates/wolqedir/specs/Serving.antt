@@ -25,7 +25,7 @@ use Rattle.wh_host.specs.Paging.{MovesOnly}
 use Rattle.wh_host.specs.Reporting.{ReportsHost}
 use Rattle.wh_host.specs.Sharing.{CanScan}
 use Rattle.wh_host.specs.Telling.{TellsChargesOf, TellsOf}
-use Rattle.wh_hand.specs.InHand.{HandState}
+use Rattle.wh_hand.specs.InHand.{HandState, IsSoundInHand}
 use Rattle.wh_hand.specs.Releasing.{AnswersReleaseHere}
 use Rattle.wh_hand.specs.Running.{RunsAll}
 use Rattle.wh_hand.specs.declared.running.Ran.{Ran}
@@ -43,12 +43,13 @@ abbrev pub IsLeft : Option HandState → ℕ → ℕ → Option HandState → (u
 IsLeft held wanted code held2 untouched = (code ≡ wanted) × (held2 ≡ held) × untouched
 
 -- At any code but 0 the handle holds what it held, and what could be written for the caller is as it was. It held no host, and
--- that is answered; or it held one, and holds one to which this has led.
+-- that is answered; or it held one, and holds one to which this has led, and to which events alone lead.
 abbrev pub ServesHandle : Option HandState → (HandState → HandState → Type 0) → ℕ → Option HandState → Type 0 → Type 0
 ServesHandle held does code held2 untouched =
     (code ≢ 0 → (held2 ≡ held) × untouched)
     × (((held ≡ None) × (code ≡ none_code))
-    ⊎ ((h : HandState) × (h2 : HandState) × (held ≡ Some h) × (held2 ≡ Some h2) × does h h2))
+    ⊎ ((h : HandState) × (h2 : HandState) × (held ≡ Some h) × (held2 ≡ Some h2) × IsSoundInHand h2.host
+    × does h h2))
 
 -- Or it is left for want of room.
 abbrev pub ServesWithRoom : Option HandState → (HandState → HandState → Type 0) → ℕ → Option HandState → Type 0 → Type 0

@@ -1,6 +1,7 @@
 //! The handle that C keeps.
 
 ghost use Rattle.std.specs.Prelude.{◌≡◌, ◌≢◌, true, false, Some, None, IfSome, IfNone, IsNone, IsSome};
+ghost use Rattle.wh_hand.specs.InHand.{IsSoundInHand};
 
 use crate::slot::Slot;
 use std::alloc::Global;
@@ -61,11 +62,13 @@ impl Handle {
         Some(slot.into_parts().into_box())
     }
 
-    /// Puts a host in.
+    /// Puts a host in. Events alone lead to it, as to each.
     pub fn put(&mut self, hand: Box<Hand>)
         requires { self.old.slot.held ≡ None }
-        ensures { self.new.slot.held ≡ Some hand.value }
+        ensures held { self.new.slot.held ≡ Some hand.value }
+        ensures sound { IsSoundInHand hand.value.host }
     {
+        hand.known();
         *self = Handle::of(hand);
     }
 }

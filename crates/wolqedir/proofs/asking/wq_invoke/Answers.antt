@@ -10,12 +10,13 @@ pub returns : goal.returns
 returns c = inr (
   c.in-Ok.ensures.cases.1,
   inr (
-    λ other. (same_held (c.in-Some.ensures.some ∙ ap Some (sym c.deref_mut.ensures.value)) c.put.ensures (left_at host_error_code c.invoke-answer.result c.tell_place.ensures.code c.invoke-answer.ensures.err other), left_at host_error_code c.invoke-answer.result c.tell_place.ensures.code (untold _ _ _ c.invoke-answer.result c.tell_place.ensures.told) other),
+    λ other. (same_held (c.in-Some.ensures.some ∙ ap Some (sym c.deref_mut.ensures.value)) c.put.ensures.held (left_at host_error_code c.invoke-answer.result c.tell_place.ensures.code c.invoke-answer.ensures.err other), left_at host_error_code c.invoke-answer.result c.tell_place.ensures.code (untold _ _ _ c.invoke-answer.result c.tell_place.ensures.told) other),
     inr (
       c.deref_mut.result.now,
       _,
       c.in-Some.ensures.some ∙ ap Some (sym c.deref_mut.ensures.value),
-      c.put.ensures,
+      c.put.ensures.held,
+      c.put.ensures.sound,
       subst (λ id. ExportInvokes id c.args.name.now c.args.args.now c.args.fuel c.args.call.now c.tell_place.new.call c.tell_place.result c.deref_mut.result.now c.invoke-answer.new.self) c.named.ensures (record {
         answer = c.invoke-answer.result;
         answered = c.tell_place.ensures.code;

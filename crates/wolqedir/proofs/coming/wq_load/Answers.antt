@@ -6,12 +6,13 @@ use Rattle.wolqedir.proofs.coming.wq_load.Goals as goal
 -- the host that was taken out and lent is the one that was held
 pub returns : goal.returns
 returns c = (
-  λ other. (same_held (c.in-Some.ensures.some ∙ ap Some (sym c.deref_mut.ensures.value)) c.put.ensures (left_at module_error_code c.load-answer.result c.tell_module.ensures.code c.load-answer.ensures.err other), left_at module_error_code c.load-answer.result c.tell_module.ensures.code (untold _ _ _ c.load-answer.result c.tell_module.ensures.told) other),
+  λ other. (same_held (c.in-Some.ensures.some ∙ ap Some (sym c.deref_mut.ensures.value)) c.put.ensures.held (left_at module_error_code c.load-answer.result c.tell_module.ensures.code c.load-answer.ensures.err other), left_at module_error_code c.load-answer.result c.tell_module.ensures.code (untold _ _ _ c.load-answer.result c.tell_module.ensures.told) other),
   inr (
     c.deref_mut.result.now,
     _,
     c.in-Some.ensures.some ∙ ap Some (sym c.deref_mut.ensures.value),
-    c.put.ensures,
+    c.put.ensures.held,
+    c.put.ensures.sound,
     record {
       answer = c.load-answer.result;
       answered = c.tell_module.ensures.code;

@@ -9,7 +9,8 @@ returns c = (
     c.deref_mut.result.now,
     _,
     c.in-Some.ensures.some ∙ ap Some (sym c.deref_mut.ensures.value),
-    c.put.ensures,
+    c.put.ensures.held,
+    c.put.ensures.sound,
     record {
       answered = refl;
       moves = c.epoch.ensures.moves;

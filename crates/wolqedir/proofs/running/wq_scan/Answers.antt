@@ -10,7 +10,8 @@ returns-in-Some-offered c = (
     c.deref_mut.result.now,
     _,
     c.in-Some.ensures.some ∙ ap Some (sym c.deref_mut.ensures.value),
-    c.put.ensures,
+    c.put.ensures.held,
+    c.put.ensures.sound,
     record {
       offered = Some c.in-Some-offered.field-0;
       answered = refl;
@@ -29,12 +30,13 @@ returns-in-Some-offered c = (
 
 pub returns-in-None : goal.returns-in-None
 returns-in-None c = (
-  λ _. (same_held (c.in-Some.ensures.some ∙ ap Some (sym c.deref_mut.ensures.value)) c.put.ensures c.in-None.ensures.none, tt),
+  λ _. (same_held (c.in-Some.ensures.some ∙ ap Some (sym c.deref_mut.ensures.value)) c.put.ensures.held c.in-None.ensures.none, tt),
   inr (
     c.deref_mut.result.now,
     _,
     c.in-Some.ensures.some ∙ ap Some (sym c.deref_mut.ensures.value),
-    c.put.ensures,
+    c.put.ensures.held,
+    c.put.ensures.sound,
     record {
       offered = None;
       answered = refl;

@@ -10,7 +10,8 @@ returns-in-Ok c = (
     c.deref.result.now,
     _,
     c.in-Some.ensures.some ∙ ap Some (sym c.deref.ensures),
-    c.put.ensures,
+    c.put.ensures.held,
+    c.put.ensures.sound,
     record {
       answer = Ok c.in-Ok.text;
       answered = refl;
@@ -25,12 +26,13 @@ returns-in-Ok c = (
 
 pub returns-in-Err : goal.returns-in-Err
 returns-in-Err c = (
-  λ _. (same_held (c.in-Some.ensures.some ∙ ap Some (sym c.deref.ensures)) c.put.ensures (sym c.deref.ensures), (refl, refl)),
+  λ _. (same_held (c.in-Some.ensures.some ∙ ap Some (sym c.deref.ensures)) c.put.ensures.held (sym c.deref.ensures), (refl, refl)),
   inr (
     c.deref.result.now,
     _,
     c.in-Some.ensures.some ∙ ap Some (sym c.deref.ensures),
-    c.put.ensures,
+    c.put.ensures.held,
+    c.put.ensures.sound,
     record {
       answer = Err c.in-Err.error;
       answered = c.of_host.ensures;

@@ -10,7 +10,8 @@ returns-in-Some-told c = (
     c.deref.result.now,
     _,
     c.in-Some.ensures.some ∙ ap Some (sym c.deref.ensures),
-    c.put.ensures,
+    c.put.ensures.held,
+    c.put.ensures.sound,
     subst (λ id. ExportTellsStatus id c.args.call c.args.status.now 0 c.shown.result c.deref.result.now c.in-Some.hand.value) c.named.ensures (record {
       same = sym c.deref.ensures;
       told = Some (c.in-Some-told.far, c.in-Some-told.charges);
@@ -23,12 +24,13 @@ returns-in-Some-told c = (
 
 pub returns-in-None : goal.returns-in-None
 returns-in-None c = (
-  λ _. (same_held (c.in-Some.ensures.some ∙ ap Some (sym c.deref.ensures)) c.put.ensures (sym c.deref.ensures), refl),
+  λ _. (same_held (c.in-Some.ensures.some ∙ ap Some (sym c.deref.ensures)) c.put.ensures.held (sym c.deref.ensures), refl),
   inr (
     c.deref.result.now,
     _,
     c.in-Some.ensures.some ∙ ap Some (sym c.deref.ensures),
-    c.put.ensures,
+    c.put.ensures.held,
+    c.put.ensures.sound,
     subst (λ id. ExportTellsStatus id c.args.call c.args.status.now 6 c.args.status.now c.deref.result.now c.in-Some.hand.value) c.named.ensures (record {
       same = sym c.deref.ensures;
       told = None;

@@ -9,7 +9,8 @@ returns c = (
     c.deref.result.now,
     _,
     c.in-Some.ensures.some ∙ ap Some (sym c.deref.ensures),
-    c.put.ensures,
+    c.put.ensures.held,
+    c.put.ensures.sound,
     record {
       answered = refl;
       same = sym c.deref.ensures;

@@ -13,7 +13,8 @@ returns-in-Ok-words_of c =
         c.deref.result.now,
         _,
         c.in-Some.ensures.some ∙ ap Some (sym c.deref.ensures),
-        c.put.ensures,
+        c.put.ensures.held,
+        c.put.ensures.sound,
         subst (λ id. ExportTellsTranscript id c.args.room.now c.lay.new.room c.args.len.now c.lay.new.len 0 c.deref.result.now c.in-Some.hand.value) c.named.ensures (record {
           answer = Ok c.in-Ok.transcript;
           answered = refl;
@@ -28,12 +29,13 @@ returns-in-Ok-words_of c =
 
 pub returns : goal.returns
 returns c = inr (
-  λ _. (same_held (c.in-Some.ensures.some ∙ ap Some (sym c.deref.ensures)) c.put.ensures (sym c.deref.ensures), (refl, refl)),
+  λ _. (same_held (c.in-Some.ensures.some ∙ ap Some (sym c.deref.ensures)) c.put.ensures.held (sym c.deref.ensures), (refl, refl)),
   inr (
     c.deref.result.now,
     _,
     c.in-Some.ensures.some ∙ ap Some (sym c.deref.ensures),
-    c.put.ensures,
+    c.put.ensures.held,
+    c.put.ensures.sound,
     subst (λ id. ExportTellsTranscript id c.args.room.now c.args.room.now c.args.len.now c.args.len.now c.of_host.result c.deref.result.now c.in-Some.hand.value) c.named.ensures (record {
       answer = Err c.in-Err.error;
       answered = c.of_host.ensures;
