@@ -1,6 +1,6 @@
 use Rattle.wh_hand.specs.InHand.{HandState}
 use Rattle.wh_host.specs.Admitting.{AnswersAdmit}
-use Rattle.std.specs.Prelude.{Ok}
+use Rattle.std.specs.Prelude.{Ok, Err}
 use Rattle.std.proofs.Common.{◌≤◌, sym, subst}
 use Rattle.std.specs.VecDeque.{deque_capacity}
 use Rattle.wh_admit.specs.Views.{view_params}
@@ -34,3 +34,8 @@ pub returns-clause-admits : goal.returns-clause-admits
 returns-clause-admits c =
     subst (λ (z : HandState). AnswersAdmit z.host c.args.of.number (view_params c.args.params) (Ok c.in-Ok.id) c.admit.new.self) c.self.view_is
     c.in-Ok.ensures.admits
+
+pub returns-in-Err-clause-admits : goal.returns-in-Err-clause-admits
+returns-in-Err-clause-admits c =
+    subst (λ (z : HandState). AnswersAdmit z.host c.args.of.number (view_params c.args.params) (Err c.in-Err.error) c.admit.new.self) c.self.view_is
+    c.in-Err.ensures.admits
