@@ -1,11 +1,11 @@
 -- What a request leaves.
-use Rattle.std.proofs.Common.{◌≡◌, ◌≢◌, ◌≤◌, ◌<◌, ℕ, ℤ, ◌+◌, inl, inr, ⊎_elim, ◌⊎◌, List, [], ◌∷◌, ◌++◌, length, get_or, Bool, Option, Some, None, Result, Ok, Err, refl, sym, ap, subst, ◌∙◌, arith}
+use Rattle.std.proofs.Common.{◌≡◌, ◌≢◌, ◌≤◌, ◌<◌, ℕ, ℤ, ◌+◌, inl, inr, ⊎_elim, ◌⊎◌, List, [], ◌∷◌, ◌++◌, length, get_or, Bool, false, Option, Some, None, Result, Ok, Err, refl, sym, ap, subst, ◌∙◌, arith}
 use Rattle.std.specs.Global.{Vec}
 use Rattle.wh_host_model.specs.declared.plain.InstId.{InstId}
 use Rattle.wh_host_model.specs.Space.Parts.{Space}
 use Rattle.wh_host_model.specs.Host.Worlds.{Rest, Tenant, World, tenant, with_tenant}
 use Rattle.wh_host_model.specs.Owners.{Entry, Params, AdmitFault, instances, most_instances}
-use Rattle.wh_host_model.specs.Host.Admission.{live_count, MeetsFault}
+use Rattle.wh_host_model.specs.Host.Admission.{live_count, LetsIn, MeetsFault, rest_of}
 use Rattle.wh_host_model.specs.Host.Answers.{Closes, faces_next, is_dead}
 use Rattle.wh_host_model.specs.Host.Calls.{Cancels, ends, Refuels, has_more, Retries, may_try}
 use Rattle.wh_host_model.specs.Host.Events.{Event, load, admit, invoke, refuel, cancel, retry, release}
@@ -66,12 +66,12 @@ invoked_asked w w2 id name given fuel answer (has_no_instance none) = nothing_as
 invoked_asked w w2 id name given fuel answer (isnt_invoked live loaded first) = nothing_asked (invoke id name given fuel) id w (answer, isnt_invoked live loaded first)
 invoked_asked w w2 id name given fuel answer (no_memory_to_invoke live loaded none) = nothing_asked (invoke id name given fuel) id w (answer, no_memory_to_invoke live loaded none)
 
-refuels_place : (t t2 : Tenant) (n : ℕ) → Refuels t n t2 → t2.place ≡ t.place
-refuels_place t t2 n (has_more calls stands) = refl
+refuels_place : (t : Tenant) (n : ℕ) (t2 : Tenant) → Refuels t n t2 → t2.place ≡ t.place
+refuels_place t n t2 (has_more calls stands) = refl
 
 pub refueled_asked : (w w2 : World) (id : InstId) (n : ℕ) (answer : CallAnswer) → IsRefuel w id n answer w2 → Asked (refuel id n) id w w2
 refueled_asked w w2 id n answer (is_refueled {t = t} {t2 = t2} live refuels) =
-    one_asked (refuel id n) id w t t2 w.space live (refuels_place t t2 n refuels) (answer, is_refueled live refuels)
+    one_asked (refuel id n) id w t t2 w.space live (refuels_place t n t2 refuels) (answer, is_refueled live refuels)
 refueled_asked w w2 id n answer (no_one_to_refuel none) = nothing_asked (refuel id n) id w (answer, no_one_to_refuel none)
 refueled_asked w w2 id n answer (no_call_to_refuel live none) = nothing_asked (refuel id n) id w (answer, no_call_to_refuel live none)
 
@@ -124,15 +124,30 @@ past : (ts : List (Option Tenant)) → get_or ts (length ts) None ≡ None
 past [] = refl
 past (t ∷ ts) = past ts
 
+-- as it comes
+abbrev comer : (w : World) (k : ℕ) (p : Params) (id : InstId) (w2 : World) → LetsIn w k p id.place id.number w2 → Tenant
+comer w k p id w2 lets = record {
+  place = id.place;
+  of = k;
+  params = p;
+  inst = lets.inst;
+  rest = rest_of lets.s;
+  doing = lets.doing;
+  ended = lets.ended;
+  open_calls = lets.open_calls;
+  stands_for = None;
+  dead = false;
+}
+
 pub admitted_comes : (w w2 : World) (k : ℕ) (p : Params) (id : InstId) → IsAdmit w k p (admit_ok id) w2 → Comes k p id w w2
 admitted_comes w w2 k p id (is_admitted lets) = record {
   happens = (admit_ok id, is_admitted lets);
-  others = subst (SameOthers id w) (sym lets.after) (others_come w id _ lets.space lets.next refl);
+  others = subst (SameOthers id w) (sym lets.after) (others_come w id (comer w k p id w2 lets) lets.space lets.next refl);
   new = λ t live. (let bad : None ≡ Some t = sym (past w.tenants) ∙ ap (λ (n : ℕ). get_or w.tenants n None) (sym lets.next) ∙ live.0 in cc bad);
   few =
       let less : live_count w.tenants < most_instances = few_before w k p lets.no_fault in
-      let more = one_more w.tenants _ in
-      let same = ap (λ (z : World). live_count z.tenants) lets.after in
+      let more = one_more w.tenants (comer w k p id w2 lets) in
+      let same : live_count w2.tenants ≡ live_count (w.tenants ++ Some (comer w k p id w2 lets) ∷ []) = ap (λ (z : World). live_count z.tenants) lets.after in
       omega (arith, less, more, same);
 }
 
@@ -193,7 +208,7 @@ asked_in_hand h h2 e id held line line2 room room2 a leads keeps lists enough = 
   together = together_on h.space h2.space held keeps a.together;
   lists = lists;
   few = asked_few h h2 e id a.led a.few leads;
-  room = enough;
+  enough = enough;
 }
 
 -- ---- and an admission
@@ -226,7 +241,7 @@ comer_in_hand h h2 k p id held line line2 room room2 a leads keeps lists enough 
   together = together_on h.space h2.space held keeps a.together;
   lists = lists;
   few = comer_few h h2 k p id a.led leads;
-  room = enough;
+  enough = enough;
 }
 
 -- ---- a module comes

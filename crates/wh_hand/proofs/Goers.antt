@@ -3,8 +3,13 @@ use Rattle.std.proofs.Common.{◌≡◌, ◌≢◌, ◌≤◌, ◌<◌, ℕ, zer
 use mathlib.Core.Bool.{beq}
 use Rattle.std.specs.Bool.{MatchBool}
 use Rattle.std.proofs.lemmas.List.{get_or-set_other, get_or-set_same}
+use Rattle.std.specs.Prelude.{IfErr, IfOk, Result, Ok, Err}
+use Rattle.wh_model.specs.declared.memory.Need.{Need}
 use Rattle.wh_host_model.specs.declared.plain.InstId.{InstId}
-use Rattle.wh_host_model.specs.Space.Parts.{Space}
+use Rattle.wh_host_model.specs.declared.plain.SwapError.{SwapError}
+use Rattle.wh_host_model.specs.Space.Laws.{IsProvided}
+use Rattle.wh_host_model.specs.Space.Parts.{Space, wants}
+use Rattle.wh_host_model.specs.Space.Ready.{Ready}
 use Rattle.wh_host_model.specs.Host.Worlds.{Suspension, for_frame, Tenant, World, tenant, with_tenant}
 use Rattle.wh_host_model.specs.Owners.{Entry}
 use Rattle.wh_host_model.specs.Host.Admission.{live_count}
@@ -14,9 +19,9 @@ use Rattle.wh_journal.specs.Calls.{JournalCallState}
 use Rattle.wh_instance.specs.Tenancy.{RepresentsEach, suspension_of}
 use Rattle.wh_host.specs.declared.parts.Resident.{Resident}
 use Rattle.wh_host.specs.Hosting.{HostState, IsHost, resident_at}
-use Rattle.wh_host.specs.Paging.{IsGoing, Tells}
+use Rattle.wh_host.specs.Paging.{IsGoing, MovesOnly, Tells, WaitsFor}
 use Rattle.wh_host.proofs.Hosts.{one_value, same_or_not, some_within}
-use Rattle.wh_hand.specs.Lining.{GoesOn, IsToSettle, IsWithout, KeepsGoing, KeepsOthersGoing, Lists, StandOnce, StandsIn}
+use Rattle.wh_hand.specs.Lining.{GoesOn, IsReadyFor, IsToSettle, IsWithout, KeepsGoing, KeepsOthersGoing, Lists, StandOnce, StandsIn}
 use Rattle.wh_hand.proofs.Standing.{LiesAt, few_stand, id_is, once_more, same_id, stands_before, stands_either, stands_last}
 
 -- ---- the same can go on in whatever host of the definitions it stands for
@@ -261,3 +266,42 @@ room_to_settle h line id some s tells =
     let few : length (id ∷ line) ≤ live_count w.tenants = few_stand w.tenants (id ∷ line) (s.here, s.once) all in
     let live = some.1.live in
     omega (arith, few, live)
+
+-- ---- a step that is made ready
+
+-- what an instance stands for is the same in whatever host of the definitions it stands for
+record Stands (w2 : World) (id : InstId) (o : Option Suspension) : Type 0 where
+  u : Tenant
+  live : IsLive w2 id u
+  same : u.stands_for ≡ o
+
+stands_each : (h : HostState) (w w2 : World) (id : InstId) (t : Tenant) → IsHost h w → IsHost h w2 → IsLive w id t → Stands w2 id t.stands_for
+stands_each h w w2 id t st st2 live =
+    let f = st.there id.number t live.0 in
+    let at : resident_at h.residents id.place ≡ Some f.0 = ap (resident_at h.residents) (sym live.1) ∙ f.1 in
+    let g = st2.all id.place id.number f.0 at f.2.number in
+    let back = st2.there id.number g.0 g.1 in
+    let same : back.0 ≡ f.0 = one_value back.0 f.0 (sym back.1 ∙ ap (resident_at h.residents) g.2 ∙ at) in
+    record {
+      u = g.0;
+      live = (g.1, g.2);
+      same = back.2.is.stands_for ∙ ap (λ (x : Resident). suspension_of x.tenant.stands_for) same ∙ sym f.2.is.stands_for;
+    }
+
+provided_ready : (s s2 : Space) (place : ℕ) (need : Need) (result : Result ℕ SwapError) (none : List SwapError) → none ≡ []
+    → IfErr result (λ fault. none ≡ fault ∷ none) → IfOk result (λ left. IsProvided s place need left s2) → Ready s2 place need
+provided_ready s s2 place need (Ok left) none is err ok = ok.ready
+provided_ready s s2 place need (Err fault) none is err ok = absurd (let bad : [] ≡ fault ∷ none = sym is ∙ err in cc bad)
+
+pub made_ready : (h h2 : HostState) (id : InstId) (result : Result ℕ SwapError) (none : List SwapError) → none ≡ [] → (w : World) × IsHost h w → MovesOnly h h2
+    → IfErr result (λ fault. none ≡ fault ∷ none)
+    → ((need : Need) → WaitsFor h id need → IfOk result (λ left. IsProvided h.space id.place need left h2.space)) → IsReadyFor h2 id
+made_ready h h2 id result none is some moves err right w st t live awaits need wanted =
+    let x = moves some.0 some.1 in
+    let there = stands_each h2 w x.0 id t st x.2 live in
+    let was = (same_all some.0 x.0 (ap (λ (z : World). z.tenants) x.1.2) id there.u).1 there.live in
+    let space : w.space ≡ x.1.0 = sym st.space ∙ x.2.space ∙ ap (λ (z : World). z.space) x.1.2 in
+    let wants_it : wants some.0.space id.place ≡ Some need =
+    sym (x.1.1.0 id.place).wants ∙ ap (λ (z : Space). wants z id.place) (sym space) ∙ wanted in
+    let waits : WaitsFor h id need = (some.0, some.1, (there.u, was, there.same ∙ awaits), wants_it) in
+    subst (λ (z : Space). Ready z id.place need) st.space (provided_ready h.space h2.space id.place need result none is err (right need waits))

@@ -1,6 +1,7 @@
 mod Together
 mod Sums
 mod Events
+mod Getting
 mod Turned
 mod Standing
 mod Goers

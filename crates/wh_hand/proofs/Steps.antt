@@ -21,10 +21,10 @@ use Rattle.wh_host.proofs.Hosts.{one_value, turn_stays}
 use Rattle.wh_hand.specs.declared.running.Ran.{Ran}
 use Rattle.wh_hand.specs.InHand.{IsInHand}
 use Rattle.wh_hand.specs.Lining.{GoesOn, KeepsGoing, KeepsOthersGoing, Lists, StandsIn}
-use Rattle.wh_hand.specs.Running.{IsOwn, IsRun, RunsAll, RunsTo, SomeGoes, most_turns, turn_count, turns_in}
+use Rattle.wh_hand.specs.Running.{EventGetsOn, IsOwn, IsRun, RunsAll, RunsTo, SomeGoes, most_turns, turn_count, turns_in}
 use Rattle.wh_hand.specs.Moved.{IsMoved}
 use Rattle.wh_hand.specs.Runs.{LeavesOf, RunsOn}
-use Rattle.wh_hand.proofs.Events.{live_on, on_both, on_itself, on_moved, only_moves, reached_by, runs_both}
+use Rattle.wh_hand.proofs.Events.{live_moved, on_both, on_itself, on_moved, only_moves, reached_by, runs_both}
 use Rattle.wh_hand.proofs.Goers.{SameOthers, goes_in, keeps_all, keeps_others, lists_on, others_of_all, others_set, same_all}
 use Rattle.wh_hand.proofs.Together.{together_on}
 
@@ -54,11 +54,14 @@ moved_itself h = record {
 }
 
 -- pages have, in one event
-pub moved_by : (h h2 : HostState) (e : Event) → IsOwn e → ((w w2 : World) → OnlyMoves w w2 → Happens w e w2) → (w : World) × IsHost h w
-    → MovesOnly h h2 → KeepsBacking h.space h2.space → IsMoved h h2
-moved_by h h2 e own happens some moves backing =
-    let runs = on_moved h h2 e own happens moves in
-    record { runs = runs; goes = moved_keeps h h2 some moves; live = live_on h h2 0 0 some runs; backing = backing }
+pub moved_by : (h h2 : HostState) (e : Event) → IsOwn e → ((w w2 : World) → OnlyMoves w w2 → Happens w e w2) → ((w w2 : World) → EventGetsOn w e w2)
+    → (w : World) × IsHost h w → MovesOnly h h2 → KeepsBacking h.space h2.space → IsMoved h h2
+moved_by h h2 e own happens quiet some moves backing = record {
+  runs = on_moved h h2 e own happens quiet moves;
+  goes = moved_keeps h h2 some moves;
+  live = live_moved h h2 some moves;
+  backing = backing;
+}
 
 -- ---- a turn
 
@@ -121,14 +124,14 @@ on_more a b c given left taken k few within f g =
     subst (λ x. RunsOn a x (k + 1) c) same (on_both a b c (given - left) taken k 1 f g)
 
 pub leaves_none : (a b : HostState) (given k : ℕ) → RunsOn a (given - 0) k b → LeavesOf a given 0 b
-leaves_none a b given k f w st = let x = f w st in (x.0, x.1, inl refl, x.3)
+leaves_none a b given k f w st reached = let x = f w st reached in (x.0, x.1, inl refl, x.3)
 
 pub leaves_rest : (a b : HostState) (given left k : ℕ) → RunsOn a (given - left) k b → ((w : World) → IsHost b w → ¬ (SomeGoes w)) → LeavesOf a given left b
-leaves_rest a b given left k f none w st = let x = f w st in (x.0, x.1, inr (inl (none x.0 x.3)), x.3)
+leaves_rest a b given left k f none w st reached = let x = f w st reached in (x.0, x.1, inr (inl (none x.0 x.3)), x.3)
 
 pub leaves_many : (a b : HostState) (given left k : ℕ) → most_turns ≤ k → RunsOn a (given - left) k b → LeavesOf a given left b
-leaves_many a b given left k many f w st =
-    let x = f w st in
+leaves_many a b given left k many f w st reached =
+    let x = f w st reached in
     let turns = x.2 in
     (x.0, x.1, inr (inr (omega (arith, many, turns))), x.3)
 
@@ -137,14 +140,15 @@ leaves_many a b given left k many f w st =
 pub run_is : (a b c : HostState) (given left : ℕ) (goes : Bool) → left ≤ given → RunsOn a 0 0 b → LeavesOf b given left c → Tells c goes SomeGoes
     → RunsAll a given (record { charges = given - left; goes_on = goes }) c
 run_is a b c given left goes few f g tells w st reached =
-    let x = f w st in
-    let y = g x.0 x.3 in
+    let x = f w st reached in
+    let y = g x.0 x.3 (reached_by w x.0 x.1.events reached x.1.happen) in
     let none : 0 + (given - left) ≡ given - left = omega arith in
     let both : RunsTo w (0 + (given - left)) y.0 = runs_both w x.0 y.0 0 (given - left) x.1 y.1 in
     let counts = both.counted in
     let runs : RunsTo w (given - left) y.0 = record {
       events = x.1.events ++ y.1.events;
       happen = both.happen;
+      gets_on = both.gets_on;
       own = both.own;
       counted = omega (arith, counts, none);
       modules = both.modules;
@@ -172,7 +176,7 @@ run_is a b c given left goes few f g tells w st reached =
 
 pub led_by_runs : (h h2 : HostState) (n k : ℕ) → RunsOn h n k h2 → StandsByEvents h → StandsByEvents h2
 led_by_runs h h2 n k f led =
-    let x = f led.0 led.1 in (x.0, x.3, reached_by led.0 x.0 x.1.events led.2 x.1.happen)
+    let x = f led.0 led.1 led.2 in (x.0, x.3, reached_by led.0 x.0 x.1.events led.2 x.1.happen)
 
 pub moved_in_hand : (h h2 : HostState) (held : List (List ℕ)) (line : List InstId) (room : ℕ) → IsInHand h held line room → IsMoved h h2
     → IsInHand h2 held line room
@@ -188,7 +192,7 @@ moved_in_hand h h2 held line room a moved = record {
 pub only_moved_in_hand : (h h2 : HostState) (held : List (List ℕ)) (line : List InstId) (room : ℕ) → IsInHand h held line room → MovesOnly h h2
     → KeepsBacking h.space h2.space → IsInHand h2 held line room
 only_moved_in_hand h h2 held line room a moves backing =
-    moved_in_hand h h2 held line room a (moved_by h h2 epoch tt (λ w w2 only. only) (a.led.0, a.led.1) moves backing)
+    moved_in_hand h h2 held line room a (moved_by h h2 epoch tt (λ w w2 only. only) (λ w w2. tt) (a.led.0, a.led.1) moves backing)
 
 -- a turn was had, or nobody could have one
 pub led_by_turn : (h h2 : HostState) (taken : Option ℕ) → IfNone taken (h2 ≡ h) → IfSome taken (λ n. RunsOn h n 1 h2) → StandsByEvents h → StandsByEvents h2

@@ -1,8 +1,12 @@
 -- The line of those that can go on.
-use Rattle.std.specs.Prelude.{◌≡◌, ◌≢◌, ◌==◌, ◌||◌, ◌⊎◌, Bool, not, List, [], ◌∷◌}
+use Rattle.std.specs.Prelude.{◌≡◌, ◌≢◌, ◌==◌, ◌||◌, ◌⊎◌, Bool, not, List, [], ◌∷◌, Some}
 use Rattle.std.specs.Bool.{MatchBool}
 use Rattle.wh_host_model.specs.declared.plain.InstId.{InstId}
-use Rattle.wh_host_model.specs.Host.Worlds.{World}
+use Rattle.wh_model.specs.declared.memory.Need.{Need}
+use Rattle.wh_host_model.specs.Space.Parts.{wants}
+use Rattle.wh_host_model.specs.Space.Ready.{Ready}
+use Rattle.wh_host_model.specs.Host.Happens.{AwaitsFrame, IsLive}
+use Rattle.wh_host_model.specs.Host.Worlds.{Tenant, World}
 use Rattle.wh_host.specs.Hosting.{HostState, IsHost}
 use Rattle.wh_host.specs.Paging.{IsGoing}
 
@@ -52,3 +56,9 @@ KeepsGoing h h2 = (id : InstId) → (GoesOn h id → GoesOn h2 id) × (GoesOn h2
 abbrev pub KeepsOthersGoing : HostState → InstId → HostState → Type 0
 KeepsOthersGoing h id h2 =
     (other : InstId) → other ≢ id → (GoesOn h other → GoesOn h2 other) × (GoesOn h2 other → GoesOn h other)
+
+-- where its present call stands for a frame, the bytes of its next step are ready
+abbrev pub IsReadyFor : HostState → InstId → Type 0
+IsReadyFor h id =
+    (w : World) → IsHost h w → (t : Tenant) → IsLive w id t → AwaitsFrame t → (need : Need)
+    → wants w.space id.place ≡ Some need → Ready w.space id.place need

@@ -1,19 +1,19 @@
 -- Parts of a run.
 use Rattle.std.specs.Prelude.{◌≡◌, ◌-◌, ◌≤◌, ◌⊎◌, ℕ, Option, Some, None}
 use Rattle.wh_host_model.specs.Host.Worlds.{World}
-use Rattle.wh_host.specs.Hosting.{HostState, IsHost}
+use Rattle.wh_host.specs.Hosting.{HostState, IsHost, IsReached}
 use Rattle.wh_hand.specs.Running.{RunsTo, SomeGoes, most_turns, turns_in}
 
--- for whatever host it stands, that runs on for so many charges, and so many turns at least
+-- for whatever host it stands to which events alone lead, that runs on for so many charges, and so many turns at least
 abbrev pub RunsOn : HostState → (charges turns : ℕ) → HostState → Type 0
 RunsOn h charges turns h2 =
-    (w : World) → IsHost h w
+    (w : World) → IsHost h w → IsReached w
     → (w2 : World) × (r : RunsTo w charges w2) × (turns ≤ turns_in r.events) × IsHost h2 w2
 
 -- of the charges that were given so many are left: none, or nobody can go on, or there were very many turns
 abbrev pub LeavesOf : HostState → (given left : ℕ) → HostState → Type 0
 LeavesOf h given left h2 =
-    (w : World) → IsHost h w
+    (w : World) → IsHost h w → IsReached w
     → (w2 : World) × (r : RunsTo w (given - left) w2)
     × ((left ≡ 0) ⊎ ((¬ (SomeGoes w2)) ⊎ (most_turns ≤ turns_in r.events))) × IsHost h2 w2
 

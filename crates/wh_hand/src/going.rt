@@ -8,7 +8,7 @@ ghost use Rattle.wh_swap.specs.Memory.{memory_held};
 ghost use Rattle.wh_host.specs.Backing.{KeepsBacking};
 ghost use Rattle.wh_host.specs.Hosting.{IsHost};
 ghost use Rattle.wh_host_model.specs.Host.Worlds.{World};
-ghost use Rattle.wh_hand.specs.Lining.{KeepsGoing, KeepsOthersGoing, Lists};
+ghost use Rattle.wh_hand.specs.Lining.{GoesOn, IsReadyFor, KeepsGoing, KeepsOthersGoing, Lists};
 ghost use Rattle.wh_hand.specs.Running.{SomeGoes};
 ghost use Rattle.wh_hand.specs.Moved.{IsMoved};
 ghost use Rattle.wh_hand.specs.Runs.{RunsOn, charges_between};
@@ -38,9 +38,11 @@ fn charges_of_turn(before: Option<u64>, after: Option<u64>) -> u64
     after.saturating_sub(before)
 }
 
-// Gives an instance a turn of q charges: how many were taken.
+// Gives an instance that can go on a turn of q charges: how many were taken.
 fn counted_turn(host: &mut Host, id: InstId, q: u64) -> u64
-    requires { 1 ≤ q }
+    requires charges { 1 ≤ q }
+    requires goes { GoesOn host.old id }
+    requires ready { IsReadyFor host.old id }
     ensures runs { RunsOn host.old result 1 host.new }
     ensures few { result ≤ q }
     ensures others { KeepsOthersGoing host.old id host.new }
@@ -63,6 +65,7 @@ fn make_ready(host: &mut Host, device: &mut MemSwap, page: &mut Buf, id: InstId)
     ensures live { host.new.live ≡ host.old.live }
     ensures together { AreTogether host.new.space (memory_held device.new) }
     ensures whole { IsAsWhole host.old.space host.new.space }
+    ensures ready { IsReadyFor host.new id }
 {
     host.known();
     let _ = host.provide(device, id, page);

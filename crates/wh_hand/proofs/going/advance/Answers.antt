@@ -1,4 +1,4 @@
-use Rattle.std.proofs.Common.{◌≡◌, ◌≤◌, ◌∷◌, sym, subst, arith}
+use Rattle.std.proofs.Common.{◌≡◌, ◌≤◌, ◌∷◌, inl, refl, sym, subst, arith}
 use Rattle.wh_hand.specs.Lining.{Lists}
 use Rattle.wh_hand.proofs.Goers.{keeps_then, lists_on, to_settle_first}
 use Rattle.wh_hand.proofs.Steps.{first_is, nobody_in, none_is, on_three}
@@ -43,3 +43,11 @@ returns-clause-whole c =
     let d = c.counted_turn-taken.new.host.space in
     let e = c.offer_next.new.host.space in
     whole_both a d e (whole_both a b d c.make_ready.ensures.whole (whole_by b d c.counted_turn-taken.ensures.backing)) (whole_by d e c.offer_next.ensures.backing)
+
+pub counted_turn-taken-requires-clause-goes : goal.counted_turn-taken-requires-clause-goes
+counted_turn-taken-requires-clause-goes c =
+    let line = c.args.line.now.items in
+    let id = c.in-Some.id in
+    let first = first_is line c.pop_front.new.self.items c.pop_front.result id c.pop_front.ensures.items c.in-Some.is in
+    let lists = subst (Lists c.args.host.now) first c.requires.lists in
+    (c.make_ready.ensures.others id).0 (lists.goes id (inl refl))

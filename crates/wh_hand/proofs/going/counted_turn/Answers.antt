@@ -1,6 +1,6 @@
 use Rattle.std.proofs.Common.{sym, subst, arith}
 use Rattle.wh_hand.specs.Runs.{RunsOn}
-use Rattle.wh_hand.proofs.Events.{live_on, on_turned, turned_to}
+use Rattle.wh_hand.proofs.Events.{live_turned, on_turned, turned_to}
 use Rattle.wh_hand.proofs.Steps.{turned_keeps}
 use Rattle.wh_hand.proofs.going.counted_turn.Goals as goal
 
@@ -8,7 +8,7 @@ pub returns-clause-runs : goal.returns-clause-runs
 returns-clause-runs c =
     subst (λ n. RunsOn c.args.host.now n 1 c.turn.new.self) (sym c.charges_of_turn.ensures)
     (on_turned c.args.host.now c.turn.new.self c.args.id c.args.q c.present_call-call.result c.turn.result c.charges-before.result c.charges-after.result
-    c.requires c.turn.ensures.turns c.present_call-call.ensures c.charges-before.ensures c.charges-after.ensures)
+    c.requires.charges c.requires.goes c.requires.ready c.turn.ensures.turns c.present_call-call.ensures c.charges-before.ensures c.charges-after.ensures)
 
 pub returns-clause-few : goal.returns-clause-few
 returns-clause-few c =
@@ -26,6 +26,5 @@ returns-clause-others c =
 
 pub returns-clause-live : goal.returns-clause-live
 returns-clause-live c =
-    live_on c.args.host.now c.turn.new.self _ 1 c.known.ensures
-    (on_turned c.args.host.now c.turn.new.self c.args.id c.args.q c.present_call-call.result c.turn.result c.charges-before.result c.charges-after.result
-    c.requires c.turn.ensures.turns c.present_call-call.ensures c.charges-before.ensures c.charges-after.ensures)
+    live_turned c.args.host.now c.turn.new.self c.args.id c.args.q c.present_call-call.result c.turn.result c.charges-before.result c.charges-after.result
+    c.known.ensures c.turn.ensures.turns c.present_call-call.ensures c.charges-before.ensures c.charges-after.ensures

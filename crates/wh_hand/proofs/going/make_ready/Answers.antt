@@ -2,7 +2,8 @@ use Rattle.std.proofs.Common.{[], refl}
 use Rattle.wh_host_model.specs.Host.Happens.{AwaitsFrame}
 use Rattle.wh_host.specs.Paging.{MovesWith}
 use Rattle.std.specs.Prelude.{None}
-use Rattle.wh_hand.proofs.Events.{live_on, on_provided}
+use Rattle.wh_hand.proofs.Goers.{made_ready}
+use Rattle.wh_hand.proofs.Events.{live_moved, on_provided}
 use Rattle.wh_hand.proofs.Steps.{moved_keeps, provided_moves, provided_well}
 use Rattle.wh_hand.proofs.going.make_ready.Goals as goal
 
@@ -18,4 +19,9 @@ returns-clause-others c =
 
 pub returns-clause-live : goal.returns-clause-live
 returns-clause-live c =
-    live_on c.args.host.now c.provide.new.self 0 0 c.known.ensures (on_provided c.args.host.now c.provide.new.self c.args.id (well c))
+    live_moved c.args.host.now c.provide.new.self c.known.ensures (provided_moves c.args.host.now c.provide.new.self c.args.id (well c))
+
+pub returns-clause-ready : goal.returns-clause-ready
+returns-clause-ready c =
+    made_ready c.args.host.now c.provide.new.self c.args.id c.provide.result [] refl c.known.ensures
+    (provided_moves c.args.host.now c.provide.new.self c.args.id (well c)) c.provide.ensures.err c.provide.ensures.right

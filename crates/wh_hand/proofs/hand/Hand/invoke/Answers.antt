@@ -1,3 +1,6 @@
+use Rattle.wh_hand.specs.InHand.{HandState}
+use Rattle.wh_host.specs.Asking.{AnswersInvoke}
+use Rattle.std.specs.Prelude.{Ok}
 use Rattle.std.proofs.Common.{◌≤◌, sym, subst}
 use Rattle.std.specs.VecDeque.{deque_capacity}
 use Rattle.wh_host_model.specs.Host.Events.{invoke}
@@ -26,3 +29,8 @@ invariant_of-self-2 c =
     asked_in_hand i.host c.invoke.new.self (invoke c.args.id c.args.name.now c.args.given.now c.args.fuel) c.args.id (memory_held i.device) i.line.items c.settle.new.line.items (deque_capacity i.line) (deque_capacity c.settle.new.line) a
     (invoke_leads i.host c.invoke.new.self c.args.id c.args.name.now c.args.given.now c.args.fuel c.invoke.result c.invoke.ensures.asks)
     c.invoke.ensures.backing c.settle.ensures.lists (subst (λ n. 4096 ≤ n) (sym c.settle.ensures.room) a.enough)
+
+pub returns-clause-asks : goal.returns-clause-asks
+returns-clause-asks c =
+    subst (λ (z : HandState). AnswersInvoke z.host c.args.id c.args.name.now c.args.given.now c.args.fuel (Ok c.in-Ok.at) c.invoke.new.self) c.self.view_is
+    c.in-Ok.ensures.asks

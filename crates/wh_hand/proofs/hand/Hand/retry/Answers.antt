@@ -1,3 +1,7 @@
+use Rattle.wh_hand.specs.InHand.{HandState}
+use Rattle.wh_host.specs.Asking.{AnswersCall}
+use Rattle.wh_host_model.specs.Host.Happens.{IsRetry}
+use Rattle.std.specs.Prelude.{Ok}
 use Rattle.std.proofs.Common.{◌≤◌, sym, subst}
 use Rattle.std.specs.VecDeque.{deque_capacity}
 use Rattle.wh_host_model.specs.Host.Events.{retry}
@@ -26,3 +30,8 @@ invariant_of-self-2 c =
     asked_in_hand i.host c.retry.new.self (retry c.args.id) c.args.id (memory_held i.device) i.line.items c.settle.new.line.items (deque_capacity i.line) (deque_capacity c.settle.new.line) a
     (retry_leads i.host c.retry.new.self c.args.id c.retry.result c.retry.ensures.asks)
     c.retry.ensures.backing c.settle.ensures.lists (subst (λ n. 4096 ≤ n) (sym c.settle.ensures.room) a.enough)
+
+pub returns-clause-asks : goal.returns-clause-asks
+returns-clause-asks c =
+    subst (λ (z : HandState). AnswersCall z.host (λ w answer w2. IsRetry w c.args.id answer w2) (Ok tt) c.retry.new.self) c.self.view_is
+    c.in-Ok.ensures.asks
