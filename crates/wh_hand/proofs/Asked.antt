@@ -1,16 +1,16 @@
 -- What a request leaves.
-use Rattle.std.proofs.Common.{◌≡◌, ◌≢◌, ◌≤◌, ◌<◌, ℕ, ℤ, ◌+◌, inl, inr, ⊎_elim, ◌⊎◌, List, [], ◌∷◌, ◌++◌, length, get_or, Bool, false, Option, Some, None, Result, Ok, Err, refl, sym, ap, subst, ◌∙◌, arith}
+use Rattle.std.proofs.Common.{◌≡◌, ◌≤◌, ◌<◌, ℕ, ℤ, List, [], ◌∷◌, ◌++◌, length, get_or, Bool, false, Option, Some, None, Result, Ok, Err, refl, sym, ap, subst, ◌∙◌, arith}
 use Rattle.std.specs.Global.{Vec}
 use Rattle.wh_host_model.specs.declared.plain.InstId.{InstId}
 use Rattle.wh_host_model.specs.Space.Parts.{Space}
-use Rattle.wh_host_model.specs.Host.Worlds.{Rest, Tenant, World, tenant, with_tenant}
+use Rattle.wh_host_model.specs.Host.Worlds.{Rest, Tenant, World, with_tenant}
 use Rattle.wh_host_model.specs.Owners.{Entry, Params, AdmitFault, instances, most_instances}
 use Rattle.wh_host_model.specs.Host.Admission.{live_count, LetsIn, MeetsFault, rest_of}
 use Rattle.wh_host_model.specs.Host.Answers.{Closes, faces_next, is_dead}
 use Rattle.wh_host_model.specs.Host.Calls.{Cancels, ends, Refuels, has_more, Retries, may_try}
 use Rattle.wh_host_model.specs.Host.Events.{Event, load, admit, invoke, refuel, cancel, retry, release}
-use Rattle.wh_host_model.specs.Host.Happens.{Happens, IsLive, LoadAnswer, AdmitAnswer, InvokeAnswer, CallAnswer, IsLoad, IsAdmit, IsInvoke, IsRefuel, IsCancel, IsRetry, IsRelease, is_loaded, isnt_loaded, no_memory_to_load, is_admitted, isnt_admitted, no_memory_to_admit, admit_ok, is_invoked, has_no_instance, isnt_invoked, no_memory_to_invoke, is_refueled, no_one_to_refuel, no_call_to_refuel, is_cancelled, no_one_to_cancel, no_call_to_cancel, is_retried, no_one_to_retry, no_fault_to_retry, is_released, no_one_to_release}
-use Rattle.wh_host.specs.Hosting.{HostState, IsHost, IsReached}
+use Rattle.wh_host_model.specs.Host.Happens.{Happens, IsLive, LoadAnswer, InvokeAnswer, CallAnswer, IsLoad, IsAdmit, IsInvoke, IsRefuel, IsCancel, IsRetry, IsRelease, is_loaded, isnt_loaded, no_memory_to_load, is_admitted, admit_ok, is_invoked, has_no_instance, isnt_invoked, no_memory_to_invoke, is_refueled, no_one_to_refuel, no_call_to_refuel, is_cancelled, no_one_to_cancel, no_call_to_cancel, is_retried, no_one_to_retry, no_fault_to_retry, is_released, no_one_to_release}
+use Rattle.wh_host.specs.Hosting.{HostState, IsHost}
 use Rattle.wh_host.specs.Showing.{StandsByEvents}
 use Rattle.wh_host.proofs.Hosts.{as_many, one_fewer, one_more, reached_on}
 use Rattle.wh_admit.specs.declared.error.AdmitError.{AdmitError}
@@ -25,7 +25,7 @@ use Rattle.wh_host.specs.Loading.{AnswersLoad}
 use Rattle.wh_host.specs.Paging.{IsGoing, Tells}
 use Rattle.wh_host.specs.Releasing.{AnswersRelease}
 use Rattle.wh_hand.specs.InHand.{IsInHand}
-use Rattle.wh_hand.specs.Lining.{GoesOn, IsToSettle, KeepsOthersGoing, Lists, StandsIn}
+use Rattle.wh_hand.specs.Lining.{IsToSettle, Lists}
 use Rattle.wh_hand.specs.Releasing.{AnswersReleaseHere}
 use Rattle.wh_hand.proofs.Goers.{Leads, SameAll, SameOthers, goes_in, keeps_all, keeps_others, lists_on, others_come, others_of_all, others_set, same_all, to_settle, told_here}
 use Rattle.wh_hand.proofs.Together.{together_on}

@@ -1,19 +1,19 @@
 -- Runs that are put together.
-use Rattle.std.proofs.Common.{◌≡◌, ◌≢◌, ℕ, ◌+◌, ◌≤◌, inl, inr, List, [], ◌∷◌, ◌++◌, map, Option, Some, None, refl, sym, ap, subst, ◌∙◌, arith}
+use Rattle.std.proofs.Common.{◌≡◌, ℕ, ◌+◌, ◌≤◌, List, [], ◌∷◌, ◌++◌, map, Option, None, refl, sym, ap, subst, ◌∙◌, arith}
 use Rattle.std.specs.List.{AllByRecursion}
 use Rattle.std.proofs.lemmas.List.Sums.{sum_by-append}
 use Rattle.wh_host_model.specs.declared.plain.InstId.{InstId}
 use Rattle.wh_host_model.specs.declared.plain.TurnEnd.{TurnEnd}
 use Rattle.wh_host_model.specs.Host.Admission.{live_count}
-use Rattle.wh_host_model.specs.Host.Worlds.{Tenant, World, empty_world}
-use Rattle.wh_host_model.specs.Host.Events.{Event, turn, provide, epoch}
+use Rattle.wh_host_model.specs.Host.Worlds.{World, empty_world}
+use Rattle.wh_host_model.specs.Host.Events.{Event, turn, provide}
 use Rattle.wh_host_model.specs.Host.Happens.{AllHappen, AwaitsFrame, Happens, IsTurn, MovesPages, OnlyMoves, moved, has_failed}
 use Rattle.wh_host.specs.Hosting.{HostState, IsHost, IsReached}
 use Rattle.wh_host.specs.Carried.{IsPresentCall}
 use Rattle.wh_host.specs.Paging.{MovesOnly, MovesWith}
 use Rattle.wh_host.specs.Telling.{TellsChargesOf}
-use Rattle.wh_hand.specs.Charging.{charged, charges_by}
-use Rattle.wh_hand.specs.Running.{AllGetOn, EventGetsOn, IsOwn, RunsTo, place_of, turn_count, turns_in}
+use Rattle.wh_hand.specs.Charging.{charged}
+use Rattle.wh_hand.specs.Running.{AllGetOn, EventGetsOn, IsOwn, RunsTo, place_of, turn_count}
 use Rattle.wh_hand.specs.Runs.{RunsOn, charges_between}
 use Rattle.wh_hand.specs.Lining.{GoesOn, IsReadyFor}
 use Rattle.wh_hand.proofs.Sums.{live_by_places}

@@ -1,5 +1,5 @@
 -- A turn of an instance that can go on gets it on.
-use Rattle.std.proofs.Common.{◌≡◌, ◌≢◌, ◌≤◌, ◌<◌, ℕ, zero, suc, ◌+◌, ◌⊎◌, ⊎_elim, List, [], ◌∷◌, ◌++◌, length, map, slice_get, Option, Some, None, refl, sym, ap, subst, ◌∙◌, arith, length-append}
+use Rattle.std.proofs.Common.{◌≡◌, ◌≢◌, ◌≤◌, ◌<◌, ℕ, zero, suc, ◌+◌, ⊎_elim, List, [], ◌∷◌, length, map, Option, Some, None, refl, sym, ap, subst, ◌∙◌, arith, length-append}
 use Rattle.std.proofs.lemmas.List.{get_or-set_same}
 use Rattle.wh_model.specs.declared.memory.Need.{Need}
 use Rattle.wh_model.specs.Execution.Store.{Instance}
@@ -12,14 +12,14 @@ use Rattle.wh_host_model.specs.declared.plain.SwapError.{SwapError}
 use Rattle.wh_host_model.specs.declared.plain.TurnEnd.{TurnEnd}
 use Rattle.wh_host_model.specs.Space.Parts.{Space, wants}
 use Rattle.wh_host_model.specs.Space.Ready.{Ready}
-use Rattle.wh_host_model.specs.Host.Worlds.{Rest, Doing, Suspension, for_frame, for_device, Tenant, World, journal, store_in, tenant, with_tenant}
+use Rattle.wh_host_model.specs.Host.Worlds.{Rest, Doing, Suspension, for_frame, for_device, Tenant, World, store_in}
 use Rattle.wh_host_model.specs.Owners.{Entry}
 use Rattle.wh_host_model.specs.Host.Turns.{Upshot, to_go_on, Proceeds, returns, traps, writes_all, uses_fuel, waits, waits_to_write, has_had_its_turn}
 use Rattle.wh_host_model.specs.Host.Answers.{at_frame, ended_by, gone_further, Closes, faces_next, is_dead, Turn, is_idle, has_ended, has_no_fuel, has_no_frame, can_go_on, keeps_its_fault}
 use Rattle.wh_host_model.specs.Host.Events.{turn}
 use Rattle.wh_host_model.specs.Host.Happens.{AwaitsFrame, IsLive, IsTurn, of_none, of_one}
 use Rattle.wh_host_model.specs.Host.Standing.{CanGoOn, FirstStandsDuly, NextAsks, a_piece, a_step, StandsRightly}
-use Rattle.wh_host_model.specs.Host.Taking.{HasGoneOn, IsStepReady, charge_is_ready, piece_is_ready}
+use Rattle.wh_host_model.specs.Host.Taking.{IsStepReady, charge_is_ready, piece_is_ready}
 use Rattle.wh_host_model.proofs.Host.Holding.{suspensions_are_right}
 use Rattle.wh_host_model.proofs.Host.Stopping.{is_settled}
 use Rattle.wh_host_model.proofs.Host.Taken.{ready_steps_are_taken}

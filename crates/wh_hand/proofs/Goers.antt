@@ -1,5 +1,5 @@
 -- Who can go on, before and after.
-use Rattle.std.proofs.Common.{◌≡◌, ◌≢◌, ◌≤◌, ◌<◌, ℕ, zero, suc, ◌+◌, ◌⊎◌, inl, inr, ⊎_elim, Bool, true, false, List, [], ◌∷◌, ◌++◌, length, map, get_or, slice_set, Option, Some, None, refl, sym, ap, subst, ◌∙◌, arith}
+use Rattle.std.proofs.Common.{◌≡◌, ◌≢◌, ◌≤◌, ◌<◌, ℕ, zero, suc, ◌⊎◌, inr, ⊎_elim, Bool, true, false, List, [], ◌∷◌, ◌++◌, length, get_or, slice_set, Option, Some, None, refl, sym, ap, subst, ◌∙◌, arith}
 use mathlib.Core.Bool.{beq}
 use Rattle.std.specs.Bool.{MatchBool}
 use Rattle.std.proofs.lemmas.List.{get_or-set_other, get_or-set_same}
@@ -14,15 +14,14 @@ use Rattle.wh_host_model.specs.Host.Worlds.{Suspension, for_frame, Tenant, World
 use Rattle.wh_host_model.specs.Owners.{Entry}
 use Rattle.wh_host_model.specs.Host.Admission.{live_count}
 use Rattle.wh_host_model.specs.Host.Happens.{IsLive}
-use Rattle.wh_host_model.specs.Host.Standing.{CanGoOn}
 use Rattle.wh_journal.specs.Calls.{JournalCallState}
 use Rattle.wh_instance.specs.Tenancy.{RepresentsEach, suspension_of}
 use Rattle.wh_host.specs.declared.parts.Resident.{Resident}
 use Rattle.wh_host.specs.Hosting.{HostState, IsHost, resident_at}
 use Rattle.wh_host.specs.Paging.{IsGoing, MovesOnly, Tells, WaitsFor}
 use Rattle.wh_host.proofs.Hosts.{one_value, same_or_not, some_within}
-use Rattle.wh_hand.specs.Lining.{GoesOn, IsReadyFor, IsToSettle, IsWithout, KeepsGoing, KeepsOthersGoing, Lists, StandOnce, StandsIn}
-use Rattle.wh_hand.proofs.Standing.{LiesAt, few_stand, id_is, once_more, same_id, stands_before, stands_either, stands_last}
+use Rattle.wh_hand.specs.Lining.{GoesOn, IsReadyFor, IsToSettle, KeepsGoing, KeepsOthersGoing, Lists, StandsIn}
+use Rattle.wh_hand.proofs.Standing.{IsWithout, LiesAt, few_stand, id_is, once_more, same_id, stands_before, stands_either, stands_last}
 
 -- ---- the same can go on in whatever host of the definitions it stands for
 
@@ -149,12 +148,6 @@ keeps_all h h2 some leads id = (
       let there = goes_in h2 x.0 id x.2 goes in
       (some.0, some.1, (there.0, (x.1 id there.0).1 there.1, there.2))),
 )
-
-pub keeps_itself : (h : HostState) → KeepsGoing h h
-keeps_itself h id = (λ goes. goes, λ goes. goes)
-
-pub keeps_both : (a b c : HostState) → KeepsGoing a b → KeepsGoing b c → KeepsGoing a c
-keeps_both a b c f g id = (λ goes. (g id).0 ((f id).0 goes), λ goes. (f id).1 ((g id).1 goes))
 
 pub keeps_then : (a b c : HostState) (id : InstId) → KeepsGoing a b → KeepsOthersGoing b id c → KeepsOthersGoing a id c
 keeps_then a b c id f g other ne = (λ goes. (g other ne).0 ((f other).0 goes), λ goes. (f other).1 ((g other ne).1 goes))

@@ -1,14 +1,12 @@
 -- The line, as one is taken out of it and put at its end.
-use Rattle.std.proofs.Common.{◌≡◌, ◌≢◌, ◌≤◌, ◌<◌, ℕ, zero, suc, ◌+◌, ◌⊎◌, inl, inr, ⊎_elim, Bool, true, false, List, [], ◌∷◌, ◌++◌, length, get_or, slice_set, Option, Some, None, refl, sym, ap, subst, ◌∙◌, arith, rules}
+use Rattle.std.proofs.Common.{◌≡◌, ◌≢◌, ◌≤◌, ℕ, ◌⊎◌, inl, inr, ⊎_elim, Bool, true, false, List, [], ◌∷◌, ◌++◌, length, get_or, slice_set, Option, Some, None, refl, sym, ap, subst, ◌∙◌, arith, rules}
 use Rattle.std.proofs.lemmas.List.{get_or-set_other}
 use Rattle.std.specs.List.{filter}
 use Rattle.wh_host_model.specs.declared.plain.InstId.{InstId}
-use Rattle.wh_host_model.specs.Host.Worlds.{Tenant, World}
+use Rattle.wh_host_model.specs.Host.Worlds.{Tenant}
 use Rattle.wh_host_model.specs.Host.Admission.{live_count}
-use Rattle.wh_host.specs.Hosting.{HostState, IsHost}
-use Rattle.wh_host.specs.Paging.{IsGoing, Tells}
 use Rattle.wh_host.proofs.Hosts.{one_fewer, one_value, same_or_not}
-use Rattle.wh_hand.specs.Lining.{GoesOn, IsToSettle, IsWithout, StandOnce, StandsIn, differs}
+use Rattle.wh_hand.specs.Lining.{StandOnce, StandsIn, differs}
 
 -- ---- ids
 
@@ -53,6 +51,13 @@ once_more (x ∷ ids) last once new = (
 )
 
 -- ---- one is taken out
+
+-- the line without one of them
+pub record IsWithout (line : List InstId) (id : InstId) (line2 : List InstId) : Type 0 where
+  pub gone : ¬ (StandsIn line2 id)
+  pub others : (other : InstId) → other ≢ id → StandsIn line other → StandsIn line2 other
+  pub no_more : (other : InstId) → StandsIn line2 other → StandsIn line other
+  pub once : StandOnce line → StandOnce line2
 
 module _ (id : InstId) where
   abbrev others_of : List InstId → List InstId

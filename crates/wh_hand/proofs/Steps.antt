@@ -1,5 +1,5 @@
 -- The steps of a run, and the whole of it.
-use Rattle.std.proofs.Common.{◌≡◌, ◌≢◌, ◌≤◌, ◌<◌, ◌^◌, ℕ, ◌+◌, ◌-◌, ◌⊎◌, inl, inr, ⊎_elim, Bool, true, false, List, [], ◌∷◌, ◌++◌, length, get_or, replicate, suc, ◌==◌, not, option_to_list, Option, Some, None, Result, Ok, Err, refl, sym, ap, subst, ◌∙◌, arith, rules}
+use Rattle.std.proofs.Common.{◌≡◌, ◌≤◌, ℕ, ◌+◌, ◌-◌, inl, inr, ⊎_elim, Bool, true, false, List, [], ◌∷◌, ◌++◌, length, get_or, replicate, suc, ◌==◌, not, option_to_list, Option, Some, None, Result, Ok, Err, refl, sym, ap, subst, ◌∙◌, arith, rules}
 use Rattle.std.specs.Bool.{MatchBool}
 use Rattle.std.specs.Prelude.{IfErr, IfNone, IfSome}
 use Rattle.std.proofs.lemmas.List.Sums.{sum_by-append}
@@ -14,14 +14,13 @@ use Rattle.wh_host_model.specs.Host.Happens.{AwaitsFrame, Happens, IsTurn, OnlyM
 use Rattle.wh_reclaim.specs.Together.{AreTogether}
 use Rattle.wh_reclaim.proofs.Together.{new_together}
 use Rattle.wh_host.specs.Backing.{KeepsBacking}
-use Rattle.wh_host.specs.Hosting.{HostState, IsHost, IsNewHost, IsReached}
-use Rattle.wh_host.specs.Paging.{IsGoing, MovesOnly, MovesWith, Tells, provide_fault}
+use Rattle.wh_host.specs.Hosting.{HostState, IsHost, IsNewHost}
+use Rattle.wh_host.specs.Paging.{MovesOnly, MovesWith, Tells, provide_fault}
 use Rattle.wh_host.specs.Showing.{StandsByEvents}
 use Rattle.wh_host.proofs.Hosts.{one_value, turn_stays}
-use Rattle.wh_hand.specs.declared.running.Ran.{Ran}
 use Rattle.wh_hand.specs.InHand.{IsInHand}
-use Rattle.wh_hand.specs.Lining.{GoesOn, KeepsGoing, KeepsOthersGoing, Lists, StandsIn}
-use Rattle.wh_hand.specs.Running.{EventGetsOn, IsOwn, IsRun, RunsAll, RunsTo, SomeGoes, most_turns, turn_count, turns_in}
+use Rattle.wh_hand.specs.Lining.{GoesOn, KeepsGoing, KeepsOthersGoing, Lists}
+use Rattle.wh_hand.specs.Running.{EventGetsOn, IsOwn, RunsAll, RunsTo, SomeGoes, most_turns, turn_count, turns_in}
 use Rattle.wh_hand.specs.Moved.{IsMoved}
 use Rattle.wh_hand.specs.Runs.{LeavesOf, RunsOn}
 use Rattle.wh_hand.proofs.Events.{live_moved, on_both, on_itself, on_moved, only_moves, reached_by, runs_both}

@@ -41,13 +41,6 @@ pub record IsToSettle (h : HostState) (line : List InstId) (id : InstId) (stands
 abbrev pub differs : InstId → InstId → Bool
 differs id other = not (other.place == id.place) || not (other.number == id.number)
 
--- the line without one of them
-pub record IsWithout (line : List InstId) (id : InstId) (line2 : List InstId) : Type 0 where
-  pub gone : ¬ (StandsIn line2 id)
-  pub others : (other : InstId) → other ≢ id → StandsIn line other → StandsIn line2 other
-  pub no_more : (other : InstId) → StandsIn line2 other → StandsIn line other
-  pub once : StandOnce line → StandOnce line2
-
 -- the same can go on in both
 abbrev pub KeepsGoing : HostState → HostState → Type 0
 KeepsGoing h h2 = (id : InstId) → (GoesOn h id → GoesOn h2 id) × (GoesOn h2 id → GoesOn h id)

@@ -1,5 +1,5 @@
 -- Parts of a run.
-use Rattle.std.specs.Prelude.{◌≡◌, ◌-◌, ◌≤◌, ◌⊎◌, ℕ, Option, Some, None}
+use Rattle.std.specs.Prelude.{◌≡◌, ◌-◌, ◌≤◌, ◌⊎◌, ℕ, Option, Some}
 use Rattle.wh_host_model.specs.Host.Worlds.{World}
 use Rattle.wh_host.specs.Hosting.{HostState, IsHost, IsReached}
 use Rattle.wh_hand.specs.Running.{RunsTo, SomeGoes, most_turns, turns_in}

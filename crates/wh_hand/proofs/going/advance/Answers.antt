@@ -1,4 +1,4 @@
-use Rattle.std.proofs.Common.{◌≡◌, ◌≤◌, ◌∷◌, inl, refl, sym, subst, arith}
+use Rattle.std.proofs.Common.{inl, refl, sym, subst}
 use Rattle.wh_hand.specs.Lining.{Lists}
 use Rattle.wh_hand.proofs.Goers.{keeps_then, lists_on, to_settle_first}
 use Rattle.wh_hand.proofs.Steps.{first_is, nobody_in, none_is, on_three}

@@ -1,4 +1,4 @@
-use Rattle.std.proofs.Common.{◌≡◌, ◌∷◌, [], ◌++◌, true, false, sym, subst, arith}
+use Rattle.std.proofs.Common.{sym, subst, arith}
 use Rattle.std.specs.List.{filter}
 use Rattle.wh_host.specs.Paging.{IsGoing, Tells}
 use Rattle.wh_hand.specs.Lining.{IsToSettle, Lists, differs}

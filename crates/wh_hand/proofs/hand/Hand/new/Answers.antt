@@ -1,4 +1,3 @@
-use Rattle.std.proofs.Common.{refl}
 use Rattle.wh_hand.proofs.Steps.{new_in_hand}
 use Rattle.wh_hand.proofs.hand.Hand.new.Goals as goal
 
