@@ -10,10 +10,16 @@ shown = [
     ("docs/guide/compiling-rust.md", "examples/rust/words.rs", "rust"),
     ("docs/guide/compiling-cpp.md", "examples/cpp/shapes.cpp", "cpp"),
 ]
+printed = [("docs/guide/library.md", "examples/library/hello.stdout")]
 others = [
     (page, program)
     for page, program, language in shown
     if f"```{language}\n{(root / program).read_text()}```" not in (root / page).read_text()
+]
+others += [
+    (page, output)
+    for page, output in printed
+    if "".join("    " + line + "\n" for line in (root / output).read_text().splitlines()) not in (root / page).read_text()
 ]
 for page, program in others:
     print(f"{page} has another program than {program}")

@@ -35,7 +35,7 @@ use Rattle.wh_script_model.specs.Replies.{admit_reply}
 use Rattle.wh_script_model.specs.Laws.{places_after}
 use Rattle.wh_script_model.proofs.CommandsGuests.{guests_follow}
 use Rattle.wh_replies.specs.View.{status_of}
-use Rattle.wh_names.specs.Places.{place_of, AreApart}
+use Rattle.wh_names.specs.Places.{place_of_name, AreNamedOnce}
 use Rattle.wh_names.specs.declared.names.Names.{Names}
 use Rattle.wh_names.proofs.Places.{apart_more}
 use Rattle.wh_engine.specs.declared.parts.Guest.{Guest}
@@ -195,7 +195,7 @@ pub record IsNewGuest (x : Guest) (inst : List ℕ) (own : InstId) : Type 0 wher
   pub unsaid : x.said ≡ None
 
 new_stands : (settings : Settings) (e : WholeState) (m : Made) (named : NamedModule) (inst : List ℕ) (k : ℕ) (p : Params) (id : InstId) (h2 : HostState) (names : Names) (x : Guest) (xs : List Guest)
-    → (s : StandsWhole settings e m) → place_of e.guest_names inst ≡ None → slice_get m.modules k ≡ Some named
+    → (s : StandsWhole settings e m) → place_of_name e.guest_names inst ≡ None → slice_get m.modules k ≡ Some named
     → names ≡ e.guest_names ++ inst ∷ []
     → Tells h2 x.has_start (λ z. IsGoing z id) → IsNewGuest x inst id → xs ≡ e.guests ++ x ∷ []
     → (w2 : World) → LetsIn s.world k p id.place id.number w2
@@ -229,7 +229,7 @@ new_stands settings e m named inst k p id h2 names x xs s free at sets tells is 
             ∙ ap (λ (y : InstId). map (λ (z : Guest). z.id.place) e.guests ++ y.place ∷ []) is.id)) knows2;
         module_names = s.module_names;
         guest_names = sets ∙ ap (λ (ls : List (List ℕ)). ls ++ inst ∷ []) s.guest_names ∙ sym (map_end (λ (y : made.Guest). y.name) m.guests g);
-        apart = subst AreApart (sym sets) (apart_more e.guest_names inst s.apart free);
+        apart = subst AreNamedOnce (sym sets) (apart_more e.guest_names inst s.apart free);
         guests = subst (λ ys. AreGuests 0 ys (m.guests ++ g ∷ [])) (sym items) (guests_end 0 e.guests m.guests x g s.guests at_end);
         invoked = s.invoked;
       },
@@ -237,7 +237,7 @@ new_stands settings e m named inst k p id h2 names x xs s free at sets tells is 
 
 -- it is admitted
 pub admitted : (settings : Settings) (e : WholeState) (m : Made) (inst : List ℕ) (k : ℕ) (p : Params) (id : InstId) (h2 : HostState) (names : Names) (x : Guest) (xs : List Guest)
-    → StandsWhole settings e m → place_of e.guest_names inst ≡ None → k < e.modules → AnswersAdmit e.host k p (Ok id) h2 → StaysWhole e.host.space h2.space
+    → StandsWhole settings e m → place_of_name e.guest_names inst ≡ None → k < e.modules → AnswersAdmit e.host k p (Ok id) h2 → StaysWhole e.host.space h2.space
     → names ≡ e.guest_names ++ inst ∷ []
     → Tells h2 x.has_start (λ z. IsGoing z id) → IsNewGuest x inst id → xs ≡ e.guests ++ x ∷ []
     → TakesGuestWhole settings m inst k p (texts.admit_ok inst id.number) (with_guests e h2 names xs)
@@ -275,7 +275,7 @@ refused_engine settings e m h2 names xs s are items w2 is2 knows2 = record {
   knows = subst (λ ys. Knows settings w2 m (map (λ (y : Guest). y.id.place) ys)) (sym items) knows2;
   module_names = s.module_names;
   guest_names = are ∙ s.guest_names;
-  apart = subst AreApart (sym are) s.apart;
+  apart = subst AreNamedOnce (sym are) s.apart;
   guests = subst (λ ys. AreGuests 0 ys m.guests) (sym items) s.guests;
   invoked = s.invoked;
 }

@@ -13,7 +13,7 @@ use Rattle.wh_space.specs.Arrivals.{IsNew}
 use Rattle.std.specs.List.{AllZip}
 use Rattle.wh_host_model.specs.Host.Worlds.{Loaded, World}
 use Rattle.wh_script_model.specs.Following.{AreSame, IsFollowed, IsPlaced, Knows}
-use Rattle.wh_names.specs.Places.{AreApart}
+use Rattle.wh_names.specs.Places.{AreNamedOnce}
 use Rattle.wh_engine.specs.declared.parts.Guest.{Guest}
 use Rattle.wh_engine.specs.Standing.{EngineState, StandsForScript, AreGuests, StandsWhole, WholeState, whole_on, LeavesOut, is_over, is_settled, none_there, AreInvoked}
 
@@ -25,7 +25,7 @@ many : {A : Type 0} (n : ℕ) (x : A) → length (replicate n x) ≡ n
 many zero x = refl
 many (suc n) x = let k = many n x in omega (arith, k)
 
-none_apart : AreApart []
+none_apart : AreNamedOnce []
 none_apart name i k has also = absurd (cc has)
 
 knows_none : (settings : Settings) (w : World) (tax : Tax) → tax.num ≡ settings.num → tax.den ≡ settings.den → w.modules ≡ [] → w.tenants ≡ [] → IsNew w.space settings.frames settings.slots tax → Knows settings w nothing_made []
@@ -51,7 +51,7 @@ fresh_whole settings tax e num den new modules guests none no_call zero_many = r
   knows = subst (λ xs. Knows settings new.0 nothing_made (map (λ (x : Guest). x.id.place) xs)) (sym none) (knows_none settings new.0 tax num den new.3 new.4 new.5);
   module_names = modules;
   guest_names = guests;
-  apart = subst AreApart (sym guests) none_apart;
+  apart = subst AreNamedOnce (sym guests) none_apart;
   guests = subst (λ xs. AreGuests 0 xs []) (sym none) tt;
   invoked = subst (λ xs. AreInvoked 1 xs []) (sym no_call) tt;
 }

@@ -3,7 +3,7 @@ use Rattle.std.proofs.Common.{◌≡◌, ◌∙◌, ℕ, zero, suc, List, [], �
 use Rattle.std.proofs.lemmas.Option.{same_Some}
 use Rattle.wh_host_model.specs.Lines.Made as made
 use Rattle.wh_host_model.specs.Lines.Made.{NamedModule, Made, HasModule, HasGuest, NoGuest, NoModule}
-use Rattle.wh_names.specs.Places.{place_of}
+use Rattle.wh_names.specs.Places.{place_of_name}
 use Rattle.wh_names.proofs.Places.{found, none_there}
 use Rattle.wh_engine.specs.Obeying.{IsModuleNamed, IsNamed}
 
@@ -23,14 +23,14 @@ module_label n = n.name
 abbrev guest_label : made.Guest → List ℕ
 guest_label g = g.name
 
-pub module_named : (names : List (List ℕ)) (m : Made) (name : List ℕ) (o : Option ℕ) → names ≡ map (λ (n : NamedModule). n.name) m.modules → o ≡ place_of names name
+pub module_named : (names : List (List ℕ)) (m : Made) (name : List ℕ) (o : Option ℕ) → names ≡ map (λ (n : NamedModule). n.name) m.modules → o ≡ place_of_name names name
     → MatchOption o (NoModule m name) (λ k. IsModuleNamed m k name)
 module_named names m name None are e =
     λ spelled has. none_there names name (sym e) has.0 (ap (λ (ns : List (List ℕ)). slice_get ns has.0) are ∙ goes_to module_label m.modules has.0 _ has.1)
 module_named names m name (Some k) are e =
     came_from module_label m.modules k name (ap (λ (ns : List (List ℕ)). slice_get ns k) (sym are) ∙ found names name k (sym e))
 
-pub guest_named : (names : List (List ℕ)) (m : Made) (name : List ℕ) (o : Option ℕ) → names ≡ map (λ (g : made.Guest). g.name) m.guests → o ≡ place_of names name
+pub guest_named : (names : List (List ℕ)) (m : Made) (name : List ℕ) (o : Option ℕ) → names ≡ map (λ (g : made.Guest). g.name) m.guests → o ≡ place_of_name names name
     → MatchOption o (NoGuest m name) (λ k. IsNamed m k name)
 guest_named names m name None are e =
     λ i g has. none_there names name (sym e) i (ap (λ (ns : List (List ℕ)). slice_get ns i) are ∙ goes_to guest_label m.guests i g has.0 ∙ ap (λ n. Some n) has.1)

@@ -4,7 +4,7 @@ use Rattle.std.specs.Global.{Vec}
 use Rattle.wh_host_model.specs.Lines.Settings.{Settings}
 use Rattle.wh_host_model.specs.Lines.Made.{Made}
 use Rattle.wh_names.specs.declared.names.Names.{Names}
-use Rattle.wh_names.specs.Places.{AreApart}
+use Rattle.wh_names.specs.Places.{AreNamedOnce}
 use Rattle.wh_engine.specs.declared.parts.Guest.{Guest}
 use Rattle.wh_engine.specs.declared.parts.Invoked.{Invoked}
 use Rattle.wh_engine.specs.Standing.{EngineState, StandsForScript, LeavesOut, is_over, is_settled}
@@ -27,7 +27,7 @@ refitted settings e m ms gs xs vs s modules guests same calls = record {
     knows = s.stands.knows;
     module_names = modules ∙ s.stands.module_names;
     guest_names = guests ∙ s.stands.guest_names;
-    apart = subst AreApart (sym guests) s.stands.apart;
+    apart = subst AreNamedOnce (sym guests) s.stands.apart;
     guests = s.stands.guests;
     invoked = s.stands.invoked;
   };

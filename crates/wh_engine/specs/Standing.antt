@@ -10,7 +10,7 @@ use Rattle.wh_replies.specs.View.{status_of}
 use Rattle.wh_replies.specs.declared.call.Status.{Status}
 use Rattle.wh_script_model.specs.Following.{Knows}
 use Rattle.wh_script_model.specs.Said.{is_final}
-use Rattle.wh_names.specs.Places.{AreApart}
+use Rattle.wh_names.specs.Places.{AreNamedOnce}
 use Rattle.wh_engine.specs.declared.engine.Engine.{Engine}
 use Rattle.wh_names.specs.declared.names.Names.{Names}
 use Rattle.wh_engine.specs.declared.parts.Guest.{Guest}
@@ -131,7 +131,7 @@ pub record StandsWhole (settings : Settings) (e : WholeState) (m : Made) : Type 
   pub knows : Knows settings world m (map (λ (x : Guest). x.id.place) e.guests)
   pub module_names : e.module_names ≡ map (λ (n : made.NamedModule). n.name) m.modules
   pub guest_names : e.guest_names ≡ map (λ (g : made.Guest). g.name) m.guests
-  pub apart : AreApart e.guest_names
+  pub apart : AreNamedOnce e.guest_names
   pub guests : AreGuests 0 e.guests m.guests
   pub invoked : AreInvoked 1 e.invoked m.invoked
 

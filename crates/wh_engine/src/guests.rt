@@ -5,7 +5,7 @@ ghost use Rattle.wh_commands.specs.Found.{params_of};
 ghost use Rattle.wh_host_model.specs.Lines.Made.{Made};
 ghost use Rattle.wh_host_model.specs.Lines.Settings.{Settings};
 ghost use Rattle.wh_replies.specs.View.{reply_of};
-ghost use Rattle.wh_names.specs.Places.{place_of};
+ghost use Rattle.wh_names.specs.Places.{place_of_name};
 ghost use Rattle.wh_engine.specs.Standing.{StandsForScript, engine_on};
 ghost use Rattle.wh_engine.specs.Obeying.{IsNoted, TakesInvoke, TakesGuest};
 
@@ -33,7 +33,7 @@ impl Engine {
         of: usize,
         given: Given,
     ) -> Result<Reply<'a>, AllocError>
-        requires free { place_of self.old.guest_names inst.now ≡ None }
+        requires free { place_of_name self.old.guest_names inst.now ≡ None }
         requires there { of < self.old.modules }
         ensures ok { IfOk result (λ reply. (settings : Settings) (m : Made)
             → StandsForScript settings (engine_on host.old.host self.old) m

@@ -8,7 +8,7 @@ ghost use Rattle.wh_host_model.specs.Lines.Settings.{Settings};
 ghost use Rattle.wh_host.specs.Loading.{IsLoadAnswer};
 ghost use Rattle.wh_replies.specs.View.{reply_of, why_of};
 ghost use Rattle.wh_script_model.specs.Replies.{SaysModule};
-ghost use Rattle.wh_names.specs.Places.{place_of};
+ghost use Rattle.wh_names.specs.Places.{place_of_name};
 ghost use Rattle.wh_engine.specs.Standing.{StandsForScript, engine_on};
 ghost use Rattle.wh_engine.specs.Obeying.{TakesModule};
 
@@ -68,7 +68,7 @@ impl Engine {
         name: &'a str,
         bytes: &[u8],
     ) -> Result<Reply<'a>, AllocError>
-        requires free { place_of self.old.module_names name.now ≡ None }
+        requires free { place_of_name self.old.module_names name.now ≡ None }
         ensures ok { IfOk result (λ reply. (settings : Settings) (m : Made)
             → StandsForScript settings (engine_on host.old.host self.old) m
             → TakesModule settings m name.now bytes.now (reply_of reply)

@@ -4,7 +4,7 @@ ghost use Rattle.std.specs.Prelude.{◌≡◌, MatchOption};
 ghost use Rattle.wh_host_model.specs.Lines.Made.{Made, NoGuest, NoModule};
 ghost use Rattle.wh_host_model.specs.Lines.Settings.{Settings};
 ghost use Rattle.wh_host.specs.Hosting.{HostState};
-ghost use Rattle.wh_names.specs.Places.{place_of};
+ghost use Rattle.wh_names.specs.Places.{place_of_name};
 ghost use Rattle.wh_engine.specs.Obeying.{IsModuleNamed, IsNamed};
 ghost use Rattle.wh_engine.specs.Standing.{StandsForScript, engine_on};
 
@@ -13,7 +13,7 @@ use crate::engine::Engine;
 impl Engine {
     /// The number of the module of this name, if there is one.
     pub fn module_number(&self, name: &str) -> Option<usize>
-        ensures number { result ≡ place_of self.now.module_names name.now }
+        ensures number { result ≡ place_of_name self.now.module_names name.now }
         ensures named { (settings : Settings) (m : Made) (h : HostState)
             → StandsForScript settings (engine_on h self.now) m
             → MatchOption result (NoModule m name.now) (λ k. IsModuleNamed m k name.now) }
@@ -23,7 +23,7 @@ impl Engine {
 
     /// The number of the instance of this name, if there is one, released or not.
     pub fn guest_number(&self, name: &str) -> Option<usize>
-        ensures number { result ≡ place_of self.now.guest_names name.now }
+        ensures number { result ≡ place_of_name self.now.guest_names name.now }
         ensures named { (settings : Settings) (m : Made) (h : HostState)
             → StandsForScript settings (engine_on h self.now) m
             → MatchOption result (NoGuest m name.now) (λ k. IsNamed m k name.now) }

@@ -2,20 +2,20 @@
 use Rattle.std.proofs.Common.{arith, ◌≡◌, ◌∙◌, ℕ, ◌+◌, ◌<◌, List, [], ◌∷◌, ◌++◌, length, take, get_or, slice_set, refl, sym, ap, inl, inr}
 use Rattle.std.proofs.lemmas.Bool.{cases_eq, cases_lt}
 use Rattle.std.proofs.lemmas.List.{get_or-set_same, get_or-set_other, length-set, get_or_append_left, get_or_push, length_push, get_or-take, length-take-le}
-use Rattle.wh_names.specs.Chains.{LeadsOn, AreChains}
+use Rattle.wh_names.specs.Chains.{LeadsToName, AreNameChains}
 
-leads_as : (f : ℕ → ℕ) (b c p q k l : ℕ) → b ≡ c → p ≡ q → k ≡ l → LeadsOn f c q l → LeadsOn f b p k
+leads_as : (f : ℕ → ℕ) (b c p q k l : ℕ) → b ≡ c → p ≡ q → k ≡ l → LeadsToName f c q l → LeadsToName f b p k
 leads_as f b c p q k l bucket place link leads = rw (bucket, place, link) leads
 
 -- the link to the last of n + 1 names
-leads_to : (f : ℕ → ℕ) (b n : ℕ) → f n ≡ b → LeadsOn f b (n + 1) (n + 1)
+leads_to : (f : ℕ → ℕ) (b n : ℕ) → f n ≡ b → LeadsToName f b (n + 1) (n + 1)
 leads_to f b n of = record {
   there = λ k e. let same : k ≡ n = omega arith in (omega arith, ap f same ∙ of);
   nearest = λ k low high is. absurd (omega arith);
 }
 
 -- a link past a name of another bucket, which comes or goes
-leads_past : (f : ℕ → ℕ) (b n link : ℕ) → ¬ (f n ≡ b) → LeadsOn f b n link → LeadsOn f b (n + 1) link
+leads_past : (f : ℕ → ℕ) (b n link : ℕ) → ¬ (f n ≡ b) → LeadsToName f b n link → LeadsToName f b (n + 1) link
 leads_past f b n link other leads = record {
   there = λ k e. let was = leads.there k e in let less = was.0 in (omega (arith, less), was.1);
   nearest = λ k low high is. elim (cases_lt k n) [
@@ -24,7 +24,7 @@ leads_past f b n link other leads = record {
   ];
 }
 
-leads_before : (f : ℕ → ℕ) (b n link : ℕ) → ¬ (f n ≡ b) → LeadsOn f b (n + 1) link → LeadsOn f b n link
+leads_before : (f : ℕ → ℕ) (b n link : ℕ) → ¬ (f n ≡ b) → LeadsToName f b (n + 1) link → LeadsToName f b n link
 leads_before f b n link other leads = record {
   there = λ k e. let was = leads.there k e in let less = was.0 in elim (cases_lt k n) [
     | inl below ↦ (below, was.1)
@@ -35,7 +35,7 @@ leads_before f b n link other leads = record {
 
 -- no name is in empty buckets
 pub unchained : (f : ℕ → ℕ) (heads links : List ℕ) → ((bucket : ℕ) → get_or heads bucket 0 ≡ 0) → length links ≡ 0
-    → AreChains f heads links
+    → AreNameChains f heads links
 unchained f heads links empty none = record {
   from_head = λ bucket less. record {
     there = λ k e. let is = empty bucket in absurd (omega (arith, is, e));
@@ -45,8 +45,8 @@ unchained f heads links empty none = record {
 }
 
 -- names of the same buckets
-pub alike : (f g : ℕ → ℕ) (heads links : List ℕ) → ((k : ℕ) → k < length links → f k ≡ g k) → AreChains f heads links
-    → AreChains g heads links
+pub alike : (f g : ℕ → ℕ) (heads links : List ℕ) → ((k : ℕ) → k < length links → f k ≡ g k) → AreNameChains f heads links
+    → AreNameChains g heads links
 alike f g heads links same chains = record {
   from_head = λ bucket less. let old = chains.from_head bucket less in record {
     there = λ k e. let was = old.there k e in (was.0, sym (same k was.0) ∙ was.1);
@@ -64,8 +64,8 @@ alike f g heads links same chains = record {
 
 -- ---- one more
 
-pub pushed : (f : ℕ → ℕ) (heads links : List ℕ) (b : ℕ) → b < length heads → f (length links) ≡ b → AreChains f heads links
-    → AreChains f (slice_set heads b (length links + 1)) (links ++ get_or heads b 0 ∷ [])
+pub pushed : (f : ℕ → ℕ) (heads links : List ℕ) (b : ℕ) → b < length heads → f (length links) ≡ b → AreNameChains f heads links
+    → AreNameChains f (slice_set heads b (length links + 1)) (links ++ get_or heads b 0 ∷ [])
 pushed f heads links b within at chains =
     let n = length links in
     let heads2 = slice_set heads b (n + 1) in
@@ -93,7 +93,7 @@ pushed f heads links b within at chains =
 -- ---- one fewer
 
 pub popped : (f : ℕ → ℕ) (heads links : List ℕ) (b n : ℕ) → length links ≡ n + 1 → b < length heads → f n ≡ b
-    → AreChains f heads links → AreChains f (slice_set heads b (get_or links n 0)) (take n links)
+    → AreNameChains f heads links → AreNameChains f (slice_set heads b (get_or links n 0)) (take n links)
 popped f heads links b n all within at chains =
     let heads2 = slice_set heads b (get_or links n 0) in
     let links2 = take n links in

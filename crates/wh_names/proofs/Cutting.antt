@@ -2,16 +2,16 @@
 use Rattle.std.proofs.Common.{arith, ◌≡◌, ◌∙◌, ℕ, zero, suc, ◌+◌, ◌-◌, ◌<◌, ◌≤◌, List, [], ◌∷◌, ◌++◌, length, take, drop, get_or, slice_get, Some, refl, sym, ap}
 use Rattle.std.specs.List.{slice_range}
 use Rattle.std.proofs.lemmas.List.{drop_at, take_all, drop-append-le, take-append-le, length-drop, length-append, length-take-le, drop-take, take-take}
-use Rattle.wh_names.specs.Texts.{cut, AreEnds}
+use Rattle.wh_names.specs.Texts.{cut_texts, AreEnds}
 
 -- there are as many texts as ends
-pub many : (bytes : List ℕ) (start : ℕ) (ends : List ℕ) → length (cut bytes start ends) ≡ length ends
+pub many : (bytes : List ℕ) (start : ℕ) (ends : List ℕ) → length (cut_texts bytes start ends) ≡ length ends
 many bytes start [] = refl
 many bytes start (end ∷ ends) = let e = many bytes end ends in omega (arith, e)
 
 -- the text at a place goes from the end before to its own
 pub read : (bytes : List ℕ) (start : ℕ) (ends : List ℕ) (k : ℕ) → k < length ends
-    → slice_get (cut bytes start ends) k ≡ Some (slice_range bytes (get_or (start ∷ ends) k 0) (get_or ends k 0))
+    → slice_get (cut_texts bytes start ends) k ≡ Some (slice_range bytes (get_or (start ∷ ends) k 0) (get_or ends k 0))
 read bytes start [] k less = absurd (omega arith)
 read bytes start (end ∷ ends) zero less = refl
 read bytes start (end ∷ ends) (suc k) less = read bytes end ends k (omega arith)
@@ -57,10 +57,10 @@ same_range bytes text start end rise less =
     ∙ take-append-le (end - start) (drop start bytes) text (omega (arith, length-drop start bytes))
 
 pub cut_more : (bytes text : List ℕ) (start : ℕ) (ends : List ℕ) → AreEnds (length bytes) start ends
-    → cut (bytes ++ text) start (ends ++ (length bytes + length text) ∷ []) ≡ cut bytes start ends ++ text ∷ []
+    → cut_texts (bytes ++ text) start (ends ++ (length bytes + length text) ∷ []) ≡ cut_texts bytes start ends ++ text ∷ []
 cut_more bytes text start [] are = ap (λ x. x ∷ []) (last_range bytes text start are)
 cut_more bytes text start (end ∷ ends) are =
-    ap (λ x. x ∷ cut (bytes ++ text) end (ends ++ (length bytes + length text) ∷ []))
+    ap (λ x. x ∷ cut_texts (bytes ++ text) end (ends ++ (length bytes + length text) ∷ []))
     (same_range bytes text start end are.0 (starts_within (length bytes) end ends are.1))
     ∙ ap (λ xs. slice_range bytes start end ∷ xs) (cut_more bytes text end ends are.1)
 
@@ -73,7 +73,7 @@ ends_take whole start [] (suc k) are less = absurd (omega arith)
 ends_take whole start (end ∷ ends) (suc k) are less = (are.0, ends_take whole end ends k are.1 (omega arith))
 
 pub cut_take : (bytes : List ℕ) (start : ℕ) (ends : List ℕ) (k : ℕ)
-    → cut bytes start (take k ends) ≡ take k (cut bytes start ends)
+    → cut_texts bytes start (take k ends) ≡ take k (cut_texts bytes start ends)
 cut_take bytes start ends zero = refl
 cut_take bytes start [] (suc k) = refl
 cut_take bytes start (end ∷ ends) (suc k) = ap (λ xs. slice_range bytes start end ∷ xs) (cut_take bytes end ends k)
@@ -88,10 +88,10 @@ short_range bytes whole start end rise less =
 
 -- bytes behind the last end don't count
 pub cut_short : (bytes : List ℕ) (whole start : ℕ) (ends : List ℕ) → AreEnds whole start ends
-    → cut (take whole bytes) start ends ≡ cut bytes start ends
+    → cut_texts (take whole bytes) start ends ≡ cut_texts bytes start ends
 cut_short bytes whole start [] are = refl
 cut_short bytes whole start (end ∷ ends) are =
-    ap (λ x. x ∷ cut (take whole bytes) end ends)
+    ap (λ x. x ∷ cut_texts (take whole bytes) end ends)
     (short_range bytes whole start end are.0 (starts_within whole end ends are.1))
     ∙ ap (λ xs. slice_range bytes start end ∷ xs) (cut_short bytes whole end ends are.1)
 
@@ -108,7 +108,7 @@ ends_after bytes text ends bytes2 ends2 end are longer more at =
 
 pub cut_after : (bytes text ends bytes2 ends2 : List ℕ) (end : ℕ) → AreEnds (length bytes) 0 ends
     → bytes2 ≡ bytes ++ text → ends2 ≡ ends ++ end ∷ [] → end ≡ length bytes + length text
-    → cut bytes2 0 ends2 ≡ cut bytes 0 ends ++ text ∷ []
+    → cut_texts bytes2 0 ends2 ≡ cut_texts bytes 0 ends ++ text ∷ []
 cut_after bytes text ends bytes2 ends2 end are longer more at =
     let ends_are : ends2 ≡ ends ++ (length bytes + length text) ∷ [] = more ∙ ap (λ n. ends ++ n ∷ []) at in
     rw (longer, ends_are) (cut_more bytes text 0 ends are)
@@ -125,7 +125,7 @@ ends_left bytes ends bytes2 ends2 k start are less at shorter fewer =
 
 pub cut_left : (bytes ends bytes2 ends2 : List ℕ) (k start : ℕ) → AreEnds (length bytes) 0 ends → k ≤ length ends
     → start ≡ get_or (0 ∷ ends) k 0 → bytes2 ≡ take start bytes → ends2 ≡ take k ends
-    → cut bytes2 0 ends2 ≡ take k (cut bytes 0 ends)
+    → cut_texts bytes2 0 ends2 ≡ take k (cut_texts bytes 0 ends)
 cut_left bytes ends bytes2 ends2 k start are less at shorter fewer =
     let short : bytes2 ≡ take (get_or (0 ∷ ends) k 0) bytes = shorter ∙ ap (λ n. take n bytes) at in
     rw (short, fewer) (cut_short bytes (get_or (0 ∷ ends) k 0) 0 (take k ends)

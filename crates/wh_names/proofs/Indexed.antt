@@ -3,7 +3,7 @@ use Rattle.std.proofs.Common.{arith, ◌≡◌, ◌≢◌, ◌∙◌, ℕ, ◌+�
 use Rattle.std.proofs.lemmas.Bool.{cases_lt}
 use Rattle.std.proofs.lemmas.List.{get_or_append_left, get_or_push, length_push, get_or-take, length-take-le}
 use Rattle.std.proofs.lemmas.Option.{get_or_from_slice_get, slice_get_past}
-use Rattle.wh_names.specs.Chains.{LeadsOn, AreChains}
+use Rattle.wh_names.specs.Chains.{LeadsToName, AreNameChains}
 use Rattle.wh_names.specs.Hash.{hash_of, bucket_at}
 use Rattle.wh_names.specs.Index.{IsIndex}
 use Rattle.wh_names.specs.declared.chains.Chains.{Chains}
@@ -16,7 +16,7 @@ bucket_there names n k name has = ap (λ x. hash_of x % n) (get_or_from_slice_ge
 
 -- Where no name from a place on is the one, none is from the link on which leads on from there.
 pub without_from : (names : List (List ℕ)) (name : List ℕ) (n bucket place link : ℕ)
-    → LeadsOn (bucket_at names n) bucket place link → bucket ≡ hash_of name % n
+    → LeadsToName (bucket_at names n) bucket place link → bucket ≡ hash_of name % n
     → ((k : ℕ) → place ≤ k → slice_get names k ≢ Some name) → (k : ℕ) → link ≤ k → slice_get names k ≢ Some name
 without_from names name n bucket place link leads falls none k low has =
     elim (cases_lt k place) [
@@ -25,7 +25,7 @@ without_from names name n bucket place link leads falls none k low has =
     ]
 
 -- a link leads to no later place than that from which it leads on
-pub leads_down : (f : ℕ → ℕ) (bucket place link : ℕ) → LeadsOn f bucket place link → link ≤ place
+pub leads_down : (f : ℕ → ℕ) (bucket place link : ℕ) → LeadsToName f bucket place link → link ≤ place
 leads_down f bucket place link leads =
     elim (cases_lt 0 link) [
       | inl some ↦
@@ -36,7 +36,7 @@ leads_down f bucket place link leads =
     ]
 
 -- a link that leads on from within all names leads to one of them, of the bucket
-pub there_from : (names : List (List ℕ)) (n bucket place link : ℕ) → LeadsOn (bucket_at names n) bucket place link
+pub there_from : (names : List (List ℕ)) (n bucket place link : ℕ) → LeadsToName (bucket_at names n) bucket place link
     → place ≤ length names → (k : ℕ) → link ≡ k + 1 → (k < length names) × (bucket_at names n k ≡ bucket)
 there_from names n bucket place link leads few k e =
     let was = leads.there k e in
@@ -52,7 +52,7 @@ pub index_more : (names : List (List ℕ)) (name : List ℕ) (c c2 : Chains) →
     → length names < length c.heads.items → length c2.heads.items ≡ length c.heads.items
     → length c2.links.items ≡ length c.links.items + 1
     → ((bucket_of : ℕ → ℕ) → bucket_of (length c.links.items) ≡ hash_of name % length c.heads.items
-    → AreChains bucket_of c.heads.items c.links.items → AreChains bucket_of c2.heads.items c2.links.items)
+    → AreNameChains bucket_of c.heads.items c.links.items → AreNameChains bucket_of c2.heads.items c2.links.items)
     → IsIndex (names ++ name ∷ []) c2
 index_more names name c c2 index room heads links pushes =
     let n = length c.heads.items in
@@ -69,7 +69,7 @@ index_more names name c c2 index room heads links pushes =
     record {
       buckets = omega (arith, long, heads, room);
       links = omega (arith, long, links, many);
-      chains = subst (λ m. AreChains (bucket_at more m) c2.heads.items c2.links.items) (sym heads) chains;
+      chains = subst (λ m. AreNameChains (bucket_at more m) c2.heads.items c2.links.items) (sym heads) chains;
     }
 
 -- the last of n + 1 names goes
@@ -77,7 +77,7 @@ pub index_fewer : (names : List (List ℕ)) (name : List ℕ) (n : ℕ) (c c2 : 
     → length names ≡ n + 1 → slice_get names n ≡ Some name → length c2.heads.items ≡ length c.heads.items
     → length c2.links.items ≡ length c.links.items - 1
     → ((bucket_of : ℕ → ℕ) → bucket_of (length c.links.items - 1) ≡ hash_of name % length c.heads.items
-    → AreChains bucket_of c.heads.items c.links.items → AreChains bucket_of c2.heads.items c2.links.items)
+    → AreNameChains bucket_of c.heads.items c.links.items → AreNameChains bucket_of c2.heads.items c2.links.items)
     → IsIndex (take n names) c2
 index_fewer names name n c c2 index all last heads links pops =
     let m = length c.heads.items in
@@ -96,5 +96,5 @@ index_fewer names name n c c2 index all last heads links pops =
     record {
       buckets = omega (arith, short, heads, roomy, all);
       links = omega (arith, short, links, place);
-      chains = subst (λ k. AreChains (bucket_at few k) c2.heads.items c2.links.items) (sym heads) chains;
+      chains = subst (λ k. AreNameChains (bucket_at few k) c2.heads.items c2.links.items) (sym heads) chains;
     }

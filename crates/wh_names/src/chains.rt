@@ -1,7 +1,7 @@
 // Chains through the names, by which a name is found.
 
 ghost use Rattle.std.specs.Prelude.{◌≡◌, ℕ, ◌+◌, ◌-◌, ◌^◌, ◌<◌, length, vec_len, vec_capacity};
-ghost use Rattle.wh_names.specs.Chains.{AreChains};
+ghost use Rattle.wh_names.specs.Chains.{AreNameChains};
 
 use std::alloc::Global;
 
@@ -32,8 +32,8 @@ impl Chains {
         requires room { vec_len self.old.links < vec_capacity self.old.links }
         requires bucket { bucket < length self.old.heads.items }
         ensures chains { (bucket_of : ℕ → ℕ) → bucket_of (length self.old.links.items) ≡ bucket
-            → AreChains bucket_of self.old.heads.items self.old.links.items
-            → AreChains bucket_of self.new.heads.items self.new.links.items }
+            → AreNameChains bucket_of self.old.heads.items self.old.links.items
+            → AreNameChains bucket_of self.new.heads.items self.new.links.items }
         ensures heads { length self.new.heads.items ≡ length self.old.heads.items }
         ensures links { length self.new.links.items ≡ length self.old.links.items + 1 }
         ensures capacity { vec_capacity self.new.links ≡ vec_capacity self.old.links }
@@ -48,8 +48,8 @@ impl Chains {
         requires last { 0 < length self.old.links.items }
         requires bucket { bucket < length self.old.heads.items }
         ensures chains { (bucket_of : ℕ → ℕ) → bucket_of (length self.old.links.items - 1) ≡ bucket
-            → AreChains bucket_of self.old.heads.items self.old.links.items
-            → AreChains bucket_of self.new.heads.items self.new.links.items }
+            → AreNameChains bucket_of self.old.heads.items self.old.links.items
+            → AreNameChains bucket_of self.new.heads.items self.new.links.items }
         ensures heads { length self.new.heads.items ≡ length self.old.heads.items }
         ensures links { length self.new.links.items ≡ length self.old.links.items - 1 }
     {

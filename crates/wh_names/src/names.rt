@@ -2,7 +2,7 @@
 
 ghost use Rattle.std.specs.Prelude.{◌≡◌, ℕ, ◌+◌, ◌-◌, ◌^◌, ◌<◌, ◌∷◌, ◌++◌, [], None, OnErr, OnOk, length, slice_index, take, vec_len, vec_capacity};
 ghost use Rattle.wh_names.specs.Index.{IsIndex};
-ghost use Rattle.wh_names.specs.Places.{place_of};
+ghost use Rattle.wh_names.specs.Places.{place_of_name};
 
 use crate::chains::Chains;
 use crate::hash::bucket_of;
@@ -24,11 +24,11 @@ impl Model for Names {
 
     ghost Value = { List (List ℕ) };
 
-    ghost use Rattle.wh_names.specs.Index.{IsIndexed};
+    ghost use Rattle.wh_names.specs.Index.{AreFoundByHash};
 
     ghost view = { λ a. a.texts };
 
-    ghost invariant = { IsIndexed };
+    ghost invariant = { AreFoundByHash };
 }
 
 // Makes the chains anew, with buckets that are empty and room for the links.
@@ -85,7 +85,7 @@ impl Names {
 
     /// The place of a name, if it is there: how many names were added before it.
     pub fn place(&self, name: &str) -> Option<usize>
-        ensures { result ≡ place_of self.now name.now }
+        ensures { result ≡ place_of_name self.now name.now }
     {
         if self.texts.len() == 0 {
             return None;
@@ -109,7 +109,7 @@ impl Names {
     /// A growth of memory was refused, or there would be more than 2^32 - 1 names or bytes of names. All names are as they
     /// were.
     pub fn add(&mut self, alloc: Global, name: &str) -> Result<(), AllocError>
-        requires { place_of self.old name.now ≡ None }
+        requires { place_of_name self.old name.now ≡ None }
         ensures ok { OnOk result (self.new ≡ self.old ++ name.now ∷ []) }
         ensures err { OnErr result (self.new ≡ self.old) }
     {

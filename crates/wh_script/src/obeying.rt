@@ -7,7 +7,7 @@ ghost use Rattle.wh_host_model.specs.Lines.Commands as asked_of;
 ghost use Rattle.wh_host_model.specs.Lines.Texts.{release_ok, reply_text};
 ghost use Rattle.wh_commands.specs.Found.{Says, params_of};
 ghost use Rattle.wh_engine.specs.Draining.{StaysSo, StopsScan};
-ghost use Rattle.wh_names.specs.Places.{place_of};
+ghost use Rattle.wh_names.specs.Places.{place_of_name};
 ghost use Rattle.wh_engine.specs.Standing.{engine_on};
 ghost use Rattle.wh_script.specs.Answering.{AddsReport, IsNoInvoke, Obeys};
 
@@ -119,7 +119,7 @@ impl<
 
     /// Keeps the module of these bytes under a free name.
     fn keep(&mut self, name: &str, bytes: &[u8], number: u64) -> Result<(), ScriptFault>
-        requires free { place_of self.old.engine.module_names name.now ≡ None }
+        requires free { place_of_name self.old.engine.module_names name.now ≡ None }
         ensures obeys { OnOk result ((files : Files) (asked : asked_of.Command) → NamesModule asked
             name.now → BringsBytes files asked bytes.now → Obeys files number asked
             (engine_on self.old.host.host self.old.engine) (string_bytes self.old.text)

@@ -1,5 +1,5 @@
 use Rattle.std.proofs.Common.{◌≡◌, length, vec_capacity}
-use Rattle.wh_names.specs.Chains.{AreChains}
+use Rattle.wh_names.specs.Chains.{AreNameChains}
 use Rattle.wh_names.specs.Hash.{bucket_at}
 use Rattle.wh_names.proofs.names.rebuild.Given as goal
 
@@ -9,5 +9,5 @@ invariant-loop-place l = record {
   links : length l.chains.links.items ≡ l.place;
   heads : length l.chains.heads.items ≡ length l.fn.chains.heads.items;
   capacity : vec_capacity l.chains.links ≡ vec_capacity l.fn.chains.links;
-  chains : AreChains (bucket_at l.texts (length l.fn.chains.heads.items)) l.chains.heads.items l.chains.links.items;
+  chains : AreNameChains (bucket_at l.texts (length l.fn.chains.heads.items)) l.chains.heads.items l.chains.links.items;
 }

@@ -2,7 +2,7 @@ use Rattle.std.proofs.Common.{arith, ◌≡◌, ◌∷◌, ◌++◌, [], ◌%◌
 use Rattle.std.proofs.lemmas.List.{length_push}
 use Rattle.wh_names.specs.Hash.{hash_of}
 use Rattle.wh_names.specs.Index.{IsIndex}
-use Rattle.wh_names.specs.Places.{place_of, AreApart}
+use Rattle.wh_names.specs.Places.{place_of_name, AreNamedOnce}
 use Rattle.wh_names.proofs.Indexed.{index_more}
 use Rattle.wh_names.proofs.Places.{apart_more}
 use Rattle.wh_names.proofs.names.Names.add.Goals as goal
@@ -18,10 +18,10 @@ invariant_of-self-2 c =
     let more : c.add.new.self ≡ names ++ name ∷ [] =
     c.in_ok-add.ensures.ok ∙ ap (λ x. names ++ x ∷ []) c.as_bytes-2.ensures.value in
     let long = ap length more ∙ length_push names name in
-    let free : place_of names name ≡ None = ap (λ xs. place_of xs name) c.self.view_is ∙ c.requires in
+    let free : place_of_name names name ≡ None = ap (λ xs. place_of_name xs name) c.self.view_is ∙ c.requires in
     record {
       few = omega (arith, long);
-      apart = subst AreApart (sym more) (apart_more names name c.self.invariant.apart free);
+      apart = subst AreNamedOnce (sym more) (apart_more names name c.self.invariant.apart free);
       index = subst (λ xs. IsIndex xs c.push.new.self) (sym more)
           (index_more names name chains c.push.new.self c.in_ok-make_room.ensures.index c.in_ok-make_room.ensures.buckets
           c.push.ensures.heads c.push.ensures.links (λ f at are. c.push.ensures.chains f (at ∙ sym falls) are));

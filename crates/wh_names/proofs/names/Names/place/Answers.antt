@@ -4,9 +4,9 @@ use Rattle.std.proofs.lemmas.Bool.Decides.{Decides-eqb}
 use Rattle.std.proofs.lemmas.List.{get_or_read}
 use Rattle.std.proofs.lemmas.Option.{same_Some}
 use Rattle.std.proofs.lemmas.Slice.Eq.{slice_eq-Decides}
-use Rattle.wh_names.specs.Chains.{LeadsOn}
+use Rattle.wh_names.specs.Chains.{LeadsToName}
 use Rattle.wh_names.specs.Hash.{hash_of, bucket_at}
-use Rattle.wh_names.specs.Places.{place_of}
+use Rattle.wh_names.specs.Places.{place_of_name}
 use Rattle.wh_names.proofs.Indexed.{without_from, without_past, there_from, leads_down}
 use Rattle.wh_names.proofs.Places.{place_is, place_none}
 use Rattle.wh_names.proofs.names.Names.place.Goals as goal
@@ -26,7 +26,7 @@ loop-before-init c =
     let within : b < length heads = omega (arith, falls, roomy) in
     let read : c.index-link.result.now ≡ get_or heads b 0 =
     get_or_read heads b c.index-link.result.now within c.index-link.ensures 0 in
-    let leads = subst (λ l. LeadsOn (bucket_at names (length heads)) b (length links) l) (sym read)
+    let leads = subst (λ l. LeadsToName (bucket_at names (length heads)) b (length links) l) (sym read)
     (index.chains.from_head b within) in
     record {
       there = there_from names (length heads) b (length links) c.index-link.result.now leads (omega (arith, many));
@@ -45,7 +45,7 @@ returns-then-eq c =
     let name = c.args.name.now in
     let same : c.get.result.now ≡ name = (slice_eq-Decides Decides-eqb _ _ _ c.eq.ensures).0 c.if-eq.true ∙ c.as_bytes-name.ensures.value in
     sym (place_is names name c.in-Some.before c.self.invariant.apart (c.get.ensures ∙ ap (λ x. Some x) same))
-    ∙ ap (λ xs. place_of xs name) c.self.view_is
+    ∙ ap (λ xs. place_of_name xs name) c.self.view_is
 
 pub index-link-requires-in-Some : goal.index-link-requires-in-Some
 index-link-requires-in-Some c =
@@ -86,9 +86,9 @@ loop-before-preserved c =
     let falls : b ≡ hash_of name % length heads = cc (c.bucket_of-bucket.ensures, c.as_bytes-name.ensures.value, all) in
     let read : c.index-link-in-Some.result.now ≡ get_or links before 0 =
     get_or_read links before c.index-link-in-Some.result.now within c.index-link-in-Some.ensures 0 in
-    let of_name = subst (λ l. LeadsOn (bucket_at names (length heads)) (bucket_at names (length heads) before) before l)
+    let of_name = subst (λ l. LeadsToName (bucket_at names (length heads)) (bucket_at names (length heads) before) before l)
     (sym read) (index.chains.from_name before within) in
-    let leads = subst (λ k. LeadsOn (bucket_at names (length heads)) k before c.index-link-in-Some.result.now) was.1 of_name in
+    let leads = subst (λ k. LeadsToName (bucket_at names (length heads)) k before c.index-link-in-Some.result.now) was.1 of_name in
     let other : c.get.result.now ≢ name =
     λ same.
     let holds = (slice_eq-Decides Decides-eqb _ _ _ c.eq.ensures).1 (same ∙ sym c.as_bytes-name.ensures.value) in
@@ -111,4 +111,4 @@ returns c =
     let name = c.args.name.now in
     let no_link : c.loop-before.link ≡ 0 = omega arith in
     sym (place_none names name (λ k. c.loop-before.invariant.without k (omega (arith, no_link))))
-    ∙ ap (λ xs. place_of xs name) c.self.view_is
+    ∙ ap (λ xs. place_of_name xs name) c.self.view_is

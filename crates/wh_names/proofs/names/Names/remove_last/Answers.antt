@@ -2,7 +2,7 @@ use Rattle.std.proofs.Common.{arith, ◌≡◌, ◌+◌, ◌-◌, ◌%◌, ◌�
 use Rattle.std.proofs.lemmas.List.{length-take}
 use Rattle.wh_names.specs.Hash.{hash_of}
 use Rattle.wh_names.specs.Index.{IsIndex}
-use Rattle.wh_names.specs.Places.{AreApart}
+use Rattle.wh_names.specs.Places.{AreNamedOnce}
 use Rattle.wh_names.proofs.Indexed.{index_fewer}
 use Rattle.wh_names.proofs.Places.{apart_take}
 use Rattle.wh_names.proofs.names.Names.remove_last.Goals as goal
@@ -23,7 +23,7 @@ invariant_of-self c =
     let few = c.self.invariant.few in
     record {
       few = omega (arith, short, few);
-      apart = subst AreApart (sym fewer) (apart_take names last c.self.invariant.apart);
+      apart = subst AreNamedOnce (sym fewer) (apart_take names last c.self.invariant.apart);
       index = subst (λ xs. IsIndex xs c.pop.new.self) (sym fewer)
           (index_fewer names name last chains c.pop.new.self c.self.invariant.index one_more c.get.ensures c.pop.ensures.heads
           c.pop.ensures.links (λ f was are. c.pop.ensures.chains f (was ∙ sym falls) are));

@@ -1,0 +1,149 @@
+#!/usr/bin/env python3
+"""Builds the library and tries it from C, Rust and Python: `python3 .ci/library/library.py [ARCHIVE [WASMHOST]]`, behind `rt ci`,
+whose proofs `rt lib` takes up. ARCHIVE is another libwolqedir.a than that which `rt lib` makes, and WASMHOST another program than
+crates/wasmhost/out/wasmhost.
+
+It needs gcc, cargo and python3, and ends with the name of the one that is missing. The examples are built, under the sanitizers
+where gcc has them, and have to print examples/library/hello.stdout; random scripts get of the library what they get of wasmhost;
+each code comes; and where a request for memory is refused, the host is as it was."""
+import os
+import random
+import re
+import shutil
+import subprocess
+import sys
+import tempfile
+
+HERE = os.path.dirname(os.path.abspath(__file__))
+ROOT = os.path.dirname(os.path.dirname(HERE))
+SCRIPTS = 300
+
+
+def run(words, **how):
+    """Runs a command that has to go well: what it printed."""
+    ran = subprocess.run(words, **{"cwd": ROOT, "stdout": subprocess.PIPE, "text": True, **how})
+    if ran.returncode != 0:
+        sys.exit(f"{' '.join(words)}: status {ran.returncode}\n{ran.stdout}")
+    return ran.stdout
+
+
+def tools():
+    """Says which tool is missing."""
+    for tool in ("gcc", "cargo", "python3"):
+        if shutil.which(tool) is None:
+            sys.exit(f"the library can't be tried: {tool} is missing")
+
+
+def gather(given, folder):
+    """Puts the archive, and the C of the toolchain's heap, into a folder, and makes a shared library of both: one that passes
+    requests for memory on, but for those that it is told to refuse."""
+    crate = os.path.join(ROOT, "crates", "wolqedir")
+    if given is None:
+        run(["rt", "lib"], cwd=crate)
+    kit = os.path.dirname(os.path.dirname(os.path.realpath(shutil.which("rt"))))
+    shutil.copy(given or os.path.join(crate, "out", "libwolqedir.a"), os.path.join(folder, "libwolqedir.a"))
+    shutil.copy(os.path.join(kit, "c", "liblibc_c.a"), folder)
+    parts = ["-Wl,--whole-archive", folder + "/libwolqedir.a", "-Wl,--no-whole-archive", folder + "/liblibc_c.a"]
+    shared = ["gcc", "-shared", "-fPIC", "-O1", "-o"]
+    run([*shared, folder + "/libwolqedir.so", *parts])
+    run([*shared, folder + "/refusing.so", HERE + "/refuse.c", *parts, "-Wl,--wrap=malloc,--wrap=realloc"])
+
+
+def sanitizers(folder):
+    """The flags of the sanitizers, if gcc has them."""
+    flags = ["-fsanitize=address,undefined"]
+    words = ["gcc", *flags, "-x", "c", "-", "-o", folder + "/empty"]
+    ran = subprocess.run(words, input=b"int main(void) { return 0; }\n", stderr=subprocess.DEVNULL)
+    return flags if ran.returncode == 0 else []
+
+
+def examples(folder):
+    """The examples print what was worked out by hand."""
+    flags = sanitizers(folder)
+    program = folder + "/hello"
+    libraries = [folder + "/libwolqedir.a", folder + "/liblibc_c.a"]
+    warned = ["gcc", "-std=c11", "-Wall", "-Wextra", "-Werror", "-g", "-O1"]
+    run([*warned, *flags, "-Ibindings/c", "examples/library/hello.c", *libraries, "-o", program])
+    cargo = ["cargo", "run", "-q", "--offline", "--release", "--manifest-path", "bindings/rust/Cargo.toml", "--example", "hello"]
+    with open(ROOT + "/examples/library/hello.stdout") as file:
+        wanted = file.read()
+    for words, settings in (
+        ([program], {}),
+        (cargo, {"WOLQEDIR_LIB": folder, "CARGO_TARGET_DIR": folder + "/target"}),
+        (
+            ["python3", "examples/library/hello.py"],
+            {"WOLQEDIR_SO": folder + "/libwolqedir.so", "PYTHONPATH": ROOT + "/bindings/python"},
+        ),
+    ):
+        got = run(words, env={**os.environ, **settings})
+        if got != wanted:
+            sys.exit(f"{' '.join(words)} printed\n{got}in place of\n{wanted}")
+    return "under the sanitizers" if flags else "without sanitizers, which gcc lacks"
+
+
+def plain(line):
+    """A reply without the place of a fault, of which the library says nothing."""
+    return re.sub(r"( refused [DVL]\d+) .*", r"\1", line)
+
+
+def replies(program, script, folder):
+    """What wasmhost answers a script."""
+    with open(folder + "/settings", "w") as file:
+        for key, value in script.settings.items():
+            file.write(f'{key} = "{value}"\n' if isinstance(value, str) else f"{key} = {value}\n")
+    text = "".join(line + "\n" for line, _ in script.lines)
+    printed = run([program, "--workers", "1", "--settings", folder + "/settings"], input=text, cwd=folder)
+    return [plain(line) for line in printed.splitlines() if not line.startswith("#")]
+
+
+def sessions(program, folder):
+    """Random scripts get of the library what they get of wasmhost, and of the second model. How many replies that are, how many
+    calls the transcripts in the end have, and which codes came."""
+    from driven import MOST, Driven, generate
+
+    generate.FILES.pop("too/great")  # It stands for a file for which there is no memory.
+    for path, contents in generate.FILES.items():
+        with open(os.path.join(folder, path), "wb") as file:
+            file.write(contents)
+    settings, count, calls, codes = generate.random_settings(40), 0, 0, set()
+    for seed in range(1, SCRIPTS + 1):
+        script, chosen = generate.Script(seed, settings).make(), random.Random(seed)
+        driven = Driven(script.settings, generate.FILES, lambda: chosen.choice([1, 2, 7, 100, 1000, 5000, MOST]))
+        got = []
+        for line, _ in script.lines:
+            got += driven.line(line.encode())
+            codes.update(driven.traps())
+        got += driven.end()
+        codes.update(driven.codes, driven.traps())
+        calls += driven.transcripts()
+        driven.host.close()
+        model = [plain(reply) for _, told in script.lines for reply in told] + [plain(reply) for reply in script.session.end()]
+        wanted = model if program is None else replies(program, script, folder)
+        assert got == model == wanted, (seed, [pair for pair in zip(got, model, wanted) if len(set(pair)) > 1][:3])
+        count += len(got)
+    return count, calls, codes
+
+
+def main(archive=None, program=ROOT + "/crates/wasmhost/out/wasmhost"):
+    tools()
+    with tempfile.TemporaryDirectory() as folder:
+        gather(os.path.abspath(archive) if archive else None, folder)
+        os.environ["WOLQEDIR_SO"] = folder + "/refusing.so"
+        sys.path.insert(0, HERE)
+        import codes
+        import names
+        import refusals
+
+        print(f"{names.same()} exports are declared alike for C, Rust and Python, and {codes.texts()} codes have their sentences")
+        print(f"the examples in C, Rust and Python print what they should, that in C {examples(folder)}")
+        count, calls, seen = sessions(os.path.abspath(program) if program else None, folder)
+        print(f"{SCRIPTS} random scripts, {count} replies: the library and wasmhost agree; {calls} calls of transcripts have their statuses")
+        refused, wanting = refusals.all_refused()
+        print(f"{refused} requests for memory refused in turn: each time a code, and the host as before")
+        met = {codes.named(code) for code in seen} | wanting | codes.met()
+        lacking = {codes.named(code) for code in codes.codes()} - met - codes.UNMET
+        assert not lacking, f"codes that never came: {sorted(lacking)}"
+        print(f"{len(met)} codes came, and nothing was done at any but 0")
+
+
+main(*(word or None for word in sys.argv[1:]))

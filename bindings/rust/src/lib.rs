@@ -1,0 +1,368 @@
+//! A host of many WebAssembly instances on one memory, each of which gets what it would get alone.
+//!
+//! Safe words for the library `wolqedir`, whose exports are proved (`docs/guide/library.md`); this crate isn't. Set
+//! `WOLQEDIR_LIB` to a folder with `libwolqedir.a` and `liblibc_c.a`.
+mod error;
+mod sys;
+
+pub use error::{code_text, Error};
+
+use error::answer;
+use std::marker::PhantomData;
+use std::ptr;
+
+/// An instance, as it was admitted. Its number is never given again.
+#[repr(C)]
+#[derive(Clone, Copy, Debug, PartialEq, Eq, Hash)]
+pub struct Instance {
+    place: u64,
+    number: u64,
+}
+
+impl Instance {
+    /// How many instances were admitted before it.
+    pub fn number(self) -> u64 {
+        self.number
+    }
+}
+
+/// The number of a module in its host.
+#[derive(Clone, Copy, Debug, PartialEq, Eq, Hash)]
+pub struct Module(usize);
+
+/// What its owner gives an instance.
+#[derive(Clone, Copy, Debug)]
+pub struct Params<'a> {
+    /// Its shares of memory, 1 to 1000000.
+    pub shares: u64,
+    /// How many frames of 4096 bytes it is promised, from 2.
+    pub min: u64,
+    /// How many it may have, to 65536.
+    pub max: u64,
+    /// How many charges its start may take.
+    pub fuel: u64,
+    /// The value of the host's global `salt`.
+    pub salt: u64,
+    /// The value of the host's global `base`.
+    pub base: u32,
+    /// The words of its input.
+    pub inputs: &'a [u64],
+}
+
+/// How many frames and slots a host has, and the tax on frames on which no page was touched.
+#[derive(Clone, Copy, Debug)]
+pub struct Settings {
+    /// Frames of 4096 bytes.
+    pub frames: u32,
+    /// Pages that may be swapped to memory.
+    pub slots: u32,
+    /// The numerator and the denominator of the tax.
+    pub tax: (u32, u32),
+}
+
+impl Default for Settings {
+    fn default() -> Settings {
+        Settings { frames: 1024, slots: 4096, tax: (3, 4) }
+    }
+}
+
+/// A result.
+#[derive(Clone, Copy, Debug, PartialEq, Eq)]
+pub enum Value {
+    I32(u32),
+    I64(u64),
+}
+
+/// How far a call is.
+#[derive(Clone, Copy, Debug, PartialEq, Eq)]
+pub enum State {
+    /// Another call of the instance comes first.
+    Waiting,
+    /// It goes on by `run`.
+    Going,
+    /// It has used its fuel.
+    Fuel,
+    /// Its next step waits for memory, which `run` makes ready.
+    Frame,
+    /// The swap device has failed, by this code.
+    Device(u32),
+    /// It has returned, with a result or none.
+    Returned(Option<Value>),
+    /// It has trapped, by this code; `code_text` has a sentence for it.
+    Trapped(u32),
+    /// It was cancelled.
+    Cancelled,
+    /// It did nothing behind a start that failed.
+    Dead,
+}
+
+/// How far a call is, and what it took.
+#[derive(Clone, Copy, Debug, PartialEq, Eq)]
+pub struct Status {
+    pub state: State,
+    pub charges: u64,
+}
+
+/// What a run came to.
+#[derive(Clone, Copy, Debug, PartialEq, Eq)]
+pub struct Progress {
+    /// How many charges all calls together took.
+    pub charges: u64,
+    /// Whether a call can go on.
+    pub goes_on: bool,
+}
+
+/// A call of a transcript.
+#[derive(Clone, Debug, PartialEq, Eq)]
+pub struct Entry {
+    /// The index of its function. A start may have none.
+    pub function: Option<u32>,
+    /// Its arguments, an i32 in the low 32 bits.
+    pub args: Vec<u64>,
+    /// Its fuel in all.
+    pub fuel: u64,
+    /// How many pieces of data segments it wrote.
+    pub pieces: u64,
+    pub charges: u64,
+    pub end: End,
+}
+
+/// How a call has ended, if it has.
+#[derive(Clone, Copy, Debug, PartialEq, Eq)]
+pub enum End {
+    Open,
+    /// With a result, an i32 in the low 32 bits, or none.
+    Returned(Option<u64>),
+    /// By the trap of this number.
+    Trapped(u8),
+    Cancelled,
+    Dead,
+}
+
+impl Entry {
+    /// The first call of these words, and the words behind it.
+    fn read(words: &[u64]) -> Option<(Entry, &[u64])> {
+        let (head, rest) = words.split_first_chunk::<8>()?;
+        let [function, fuel, pieces, charges, kind, results, word, count] = *head;
+        let count = usize::try_from(count).ok().filter(|count| *count <= rest.len())?;
+        let (args, rest) = rest.split_at(count);
+        let end = match kind {
+            6 => End::Returned((results == 1).then_some(word)),
+            7 => End::Trapped(word as u8),
+            8 => End::Cancelled,
+            9 => End::Dead,
+            _ => End::Open,
+        };
+        let function = u32::try_from(function).ok();
+        Some((Entry { function, args: args.to_vec(), fuel, pieces, charges, end }, rest))
+    }
+}
+
+/// A host. It stays on its thread: that it may go to another one isn't proved.
+pub struct Host {
+    handle: sys::Handle,
+}
+
+impl Host {
+    /// A new host.
+    ///
+    /// # Errors
+    /// `Tax`; `Memory`.
+    pub fn new(settings: Settings) -> Result<Host, Error> {
+        let mut handle = sys::Handle { full: 0, at: ptr::null_mut(), owner: PhantomData };
+        let Settings { frames, slots, tax: (num, den) } = settings;
+        // SAFETY: all bytes 0 is a handle without a host, and nobody else has it.
+        answer(unsafe { sys::wq_host_new(&mut handle, frames, slots, num, den) })?;
+        Ok(Host { handle })
+    }
+
+    /// Keeps a module.
+    ///
+    /// # Errors
+    /// `Decode`, `Valid`, `Link`, `Module`.
+    pub fn load(&mut self, bytes: &[u8]) -> Result<Module, Error> {
+        let mut number = 0;
+        // SAFETY: here and below, the handle is ours alone, slices are as long as they say, and the rest can be read and written.
+        answer(unsafe { sys::wq_load(&mut self.handle, bytes.as_ptr(), bytes.len(), &mut number) })?;
+        Ok(Module(number))
+    }
+
+    /// Admits an instance of a module.
+    ///
+    /// # Errors
+    /// `Admit`; `Memory`.
+    pub fn admit(&mut self, module: Module, params: Params<'_>) -> Result<Instance, Error> {
+        let Params { shares, min, max, fuel, salt, base, inputs } = params;
+        let given = sys::Given { shares, min, max, fuel, salt, base };
+        let mut instance = Instance { place: 0, number: 0 };
+        // SAFETY: as in `load`.
+        answer(unsafe {
+            sys::wq_admit(&mut self.handle, module.0, &given, inputs.as_ptr(), inputs.len(), &mut instance)
+        })?;
+        Ok(instance)
+    }
+
+    /// Asks for a call, and runs nothing: its place among the calls of the instance, of which the start is 0. An argument is a
+    /// number in the bits of its type, signed or unsigned.
+    ///
+    /// # Errors
+    /// `Ask`; `Memory`.
+    pub fn invoke(&mut self, instance: Instance, name: &str, args: &[i64], fuel: u64) -> Result<u32, Error> {
+        let mut call = 0;
+        // SAFETY: as in `load`.
+        answer(unsafe {
+            sys::wq_invoke(
+                &mut self.handle,
+                &instance,
+                name.as_ptr(),
+                name.len(),
+                args.as_ptr(),
+                args.len(),
+                fuel,
+                &mut call,
+            )
+        })?;
+        Ok(call)
+    }
+
+    /// Lets all calls go on, until none can or they have taken so many charges together.
+    pub fn run(&mut self, charges: u64) -> Progress {
+        let mut progress = sys::Progress::default();
+        // SAFETY: as in `load`. The code is 0, since the handle holds a host.
+        let _ = unsafe { sys::wq_run(&mut self.handle, charges, &mut progress) };
+        Progress { charges: progress.charges, goes_on: progress.goes_on != 0 }
+    }
+
+    /// How far a call is. `&mut`, since a call of the library takes the host out of its handle and puts it back.
+    ///
+    /// # Errors
+    /// `Unknown`.
+    pub fn status(&mut self, instance: Instance, call: u32) -> Result<Status, Error> {
+        let mut status = sys::Status::default();
+        // SAFETY: as in `load`.
+        answer(unsafe { sys::wq_status_of(&mut self.handle, &instance, call, &mut status) })?;
+        let state = match status.kind {
+            1 => State::Waiting,
+            2 => State::Going,
+            3 => State::Fuel,
+            4 => State::Frame,
+            5 => State::Device(status.code),
+            6 => State::Returned(match status.bits {
+                32 => Some(Value::I32(status.value as u32)),
+                64 => Some(Value::I64(status.value)),
+                _ => None,
+            }),
+            7 => State::Trapped(status.code),
+            8 => State::Cancelled,
+            _ => State::Dead,
+        };
+        Ok(Status { state, charges: status.charges })
+    }
+
+    /// Gives the present call of an instance so much more fuel.
+    ///
+    /// # Errors
+    /// `Ask`.
+    pub fn refuel(&mut self, instance: Instance, fuel: u64) -> Result<(), Error> {
+        // SAFETY: as in `load`.
+        answer(unsafe { sys::wq_refuel(&mut self.handle, &instance, fuel) })
+    }
+
+    /// Lets the present call try again where the swap device has failed.
+    ///
+    /// # Errors
+    /// `Ask`.
+    pub fn retry(&mut self, instance: Instance) -> Result<(), Error> {
+        // SAFETY: as in `load`.
+        answer(unsafe { sys::wq_retry(&mut self.handle, &instance) })
+    }
+
+    /// Ends the present call of an instance where it is.
+    ///
+    /// # Errors
+    /// `Ask`.
+    pub fn cancel(&mut self, instance: Instance) -> Result<(), Error> {
+        // SAFETY: as in `load`.
+        answer(unsafe { sys::wq_cancel(&mut self.handle, &instance) })
+    }
+
+    /// Lets an instance go: the bytes that it had put out.
+    ///
+    /// # Errors
+    /// `Ask`.
+    pub fn release(&mut self, instance: Instance) -> Result<Vec<u8>, Error> {
+        let mut len = 0;
+        // SAFETY: as in `load`.
+        answer(unsafe { sys::wq_release(&mut self.handle, &instance, &mut len) })?;
+        let mut output = vec![0; len];
+        // SAFETY: as in `load`.
+        answer(unsafe { sys::wq_taken(&mut self.handle, output.as_mut_ptr(), output.len(), &mut len) })?;
+        Ok(output)
+    }
+
+    /// Merges equal pages. No instance sees it.
+    ///
+    /// # Errors
+    /// `Large`.
+    pub fn scan(&mut self) -> Result<(), Error> {
+        // SAFETY: as in `load`.
+        answer(unsafe { sys::wq_scan(&mut self.handle) })
+    }
+
+    /// Marks all pages as not touched.
+    pub fn epoch(&mut self) {
+        // SAFETY: as in `load`. The code is 0, since the handle holds a host.
+        let _ = unsafe { sys::wq_epoch(&mut self.handle) };
+    }
+
+    /// The calls of an instance in the order of their coming, the first of which is the start.
+    ///
+    /// # Errors
+    /// `Ask`; `Memory`.
+    pub fn transcript(&mut self, instance: Instance) -> Result<Vec<Entry>, Error> {
+        let mut words = Vec::new();
+        loop {
+            let mut len = 0;
+            let cap = words.len();
+            // SAFETY: as in `load`; the room is initialised up to its length.
+            answer(unsafe { sys::wq_transcript_of(&mut self.handle, &instance, words.as_mut_ptr(), cap, &mut len) })?;
+            if len <= cap {
+                words.truncate(len);
+                break;
+            }
+            words.resize(len, 0);
+        }
+        let mut calls = Vec::new();
+        let mut rest = words.as_slice();
+        while let Some((call, behind)) = Entry::read(rest) {
+            calls.push(call);
+            rest = behind;
+        }
+        Ok(calls)
+    }
+
+    /// The report.
+    ///
+    /// # Errors
+    /// `Ask`.
+    pub fn report(&mut self) -> Result<String, Error> {
+        let mut text = vec![0; 4096];
+        loop {
+            let mut len = 0;
+            // SAFETY: as in `load`; the room is initialised up to its length.
+            answer(unsafe { sys::wq_report_of(&mut self.handle, text.as_mut_ptr(), text.len(), &mut len) })?;
+            if len <= text.len() {
+                text.truncate(len);
+                return Ok(String::from_utf8_lossy(&text).into_owned());
+            }
+            text.resize(len, 0);
+        }
+    }
+}
+
+impl Drop for Host {
+    fn drop(&mut self) {
+        // SAFETY: the handle is ours alone, and isn't used again.
+        unsafe { sys::wq_host_free(&mut self.handle) }
+    }
+}

@@ -1,0 +1,80 @@
+//! The exports, as `bindings/c/wolqedir.h` declares them.
+use std::marker::PhantomData;
+
+/// A host, or none; the library alone writes it.
+#[repr(C)]
+pub struct Handle {
+    pub full: u32,
+    pub at: *mut u8,
+    pub owner: PhantomData<*mut ()>,
+}
+
+#[repr(C)]
+#[derive(Clone, Copy)]
+pub struct Given {
+    pub shares: u64,
+    pub min: u64,
+    pub max: u64,
+    pub fuel: u64,
+    pub salt: u64,
+    pub base: u32,
+}
+
+#[repr(C)]
+#[derive(Clone, Copy, Default)]
+pub struct Progress {
+    pub charges: u64,
+    pub goes_on: u32,
+}
+
+#[repr(C)]
+#[derive(Clone, Copy, Default)]
+pub struct Status {
+    pub kind: u32,
+    pub code: u32,
+    pub bits: u32,
+    pub value: u64,
+    pub charges: u64,
+}
+
+extern "C" {
+    pub fn wq_host_new(host: *mut Handle, frames: u32, slots: u32, tax_num: u32, tax_den: u32) -> u32;
+    pub fn wq_host_free(host: *mut Handle);
+    pub fn wq_load(host: *mut Handle, bytes: *const u8, len: usize, module: *mut usize) -> u32;
+    pub fn wq_admit(
+        host: *mut Handle,
+        module: usize,
+        params: *const Given,
+        inputs: *const u64,
+        n: usize,
+        instance: *mut crate::Instance,
+    ) -> u32;
+    pub fn wq_invoke(
+        host: *mut Handle,
+        instance: *const crate::Instance,
+        name: *const u8,
+        len: usize,
+        args: *const i64,
+        n: usize,
+        fuel: u64,
+        call: *mut u32,
+    ) -> u32;
+    pub fn wq_run(host: *mut Handle, charges: u64, progress: *mut Progress) -> u32;
+    pub fn wq_status_of(host: *mut Handle, instance: *const crate::Instance, call: u32, status: *mut Status) -> u32;
+    pub fn wq_refuel(host: *mut Handle, instance: *const crate::Instance, fuel: u64) -> u32;
+    pub fn wq_retry(host: *mut Handle, instance: *const crate::Instance) -> u32;
+    pub fn wq_cancel(host: *mut Handle, instance: *const crate::Instance) -> u32;
+    pub fn wq_release(host: *mut Handle, instance: *const crate::Instance, len: *mut usize) -> u32;
+    pub fn wq_taken(host: *mut Handle, room: *mut u8, cap: usize, len: *mut usize) -> u32;
+    pub fn wq_scan(host: *mut Handle) -> u32;
+    pub fn wq_epoch(host: *mut Handle) -> u32;
+    pub fn wq_report_of(host: *mut Handle, room: *mut u8, cap: usize, len: *mut usize) -> u32;
+    pub fn wq_transcript_of(
+        host: *mut Handle,
+        instance: *const crate::Instance,
+        room: *mut u64,
+        cap: usize,
+        len: *mut usize,
+    ) -> u32;
+    pub fn wq_code_text(code: u32, room: *mut u8, cap: usize, len: *mut usize) -> u32;
+}

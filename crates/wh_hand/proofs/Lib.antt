@@ -1,0 +1,9 @@
+mod Together
+mod Sums
+mod Events
+mod Getting
+mod Turned
+mod Standing
+mod Goers
+mod Asked
+mod Steps

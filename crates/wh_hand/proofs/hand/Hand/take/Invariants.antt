@@ -1,0 +1,10 @@
+use Rattle.std.proofs.Common.{◌≡◌, ◌-◌, ◌≤◌}
+use Rattle.wh_reclaim.specs.Whole.{IsAsWhole}
+use Rattle.wh_hand.specs.Runs.{RunsPart}
+use Rattle.wh_hand.proofs.hand.Hand.take.Given as goal
+
+-- so many charges were taken in so many turns
+abbrev pub invariant-loop-turns : goal.invariant-loop-turns
+invariant-loop-turns l =
+    RunsPart l.fn.self.host (l.fn.charges - l.left) l.turns l.self.host × (l.left ≤ l.fn.charges)
+    × IsAsWhole l.fn.self.host.space l.self.host.space × (l.self.output ≡ l.fn.self.output)

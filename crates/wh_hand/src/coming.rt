@@ -1,0 +1,59 @@
+//! How modules and instances come to a hand.
+
+ghost use Rattle.std.specs.Prelude.{◌≡◌, ℕ, IfOk, OnErr};
+ghost use Rattle.wh_admit.specs.Views.{view_params};
+ghost use Rattle.wh_host_model.specs.Host.Worlds.{promised};
+ghost use Rattle.wh_host_model.specs.Space.Places.{Enters};
+ghost use Rattle.wh_host.specs.Admitting.{AnswersAdmit};
+ghost use Rattle.wh_host.specs.Backing.{KeepsBacking};
+ghost use Rattle.wh_host.specs.Loading.{AnswersLoad};
+
+use crate::hand::Hand;
+use crate::line::settle;
+use std::alloc::Global;
+use wh_host::{AdmitError, ModuleError, ModuleId, Params};
+use wh_host_model::InstId;
+
+impl Hand {
+    /// Keeps the module that these bytes spell, and the bytes: its number, counted from 0.
+    ///
+    /// # Errors
+    /// Those of `Host::load`: `Bytes` with the fault of the bytes, `ModulesFull` where 1024 modules are kept, `Memory` where
+    /// room is refused; the first of them that holds. The host is as it was then.
+    pub fn load(&mut self, alloc: Global, bytes: &[u8]) -> Result<ModuleId, ModuleError>
+        ensures loads { AnswersLoad self.old.host bytes.now result self.new.host }
+        ensures err { OnErr result (self.new ≡ self.old) }
+        ensures backing { KeepsBacking self.old.host.space self.new.host.space }
+        ensures output { self.new.output ≡ self.old.output }
+    {
+        self.host.load(alloc, bytes)
+    }
+
+    /// Admits an instance of a module, with what its owner gives it. All that it will ever need is reserved now. Its start runs
+    /// by `run`, before its calls.
+    ///
+    /// # Errors
+    /// Those of `Host::admit`: the first fault, in the order of their numbers; `Memory` where room is refused, or where
+    /// 2^64 - 1 instances were admitted. The host is as it was then.
+    pub fn admit(
+        &mut self,
+        alloc: Global,
+        of: ModuleId,
+        params: Params,
+    ) -> Result<InstId, AdmitError>
+        ensures admits { AnswersAdmit self.old.host of.number (view_params params) result
+            self.new.host }
+        ensures err { OnErr result (self.new ≡ self.old) }
+        ensures backing { KeepsBacking self.old.host.space self.new.host.space }
+        ensures memory { IfOk result (λ id. (size : ℕ) × Enters self.old.host.space id.place
+            (promised id.number (view_params params)) size self.new.host.space) }
+        ensures output { self.new.output ≡ self.old.output }
+    {
+        let id = match self.host.admit(alloc, of, params) {
+            Ok(id) => id,
+            Err(error) => return Err(error),
+        };
+        settle(&mut self.line, &self.host, id, false);
+        Ok(id)
+    }
+}

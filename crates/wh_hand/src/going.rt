@@ -1,0 +1,161 @@
+// The next turn, and what belongs to it.
+
+ghost use Rattle.std.specs.Prelude.{◌≡◌, ◌≤◌, IfNone, IfSome};
+ghost use Rattle.std.specs.VecDeque.{deque_capacity};
+ghost use Rattle.wh_reclaim.specs.Together.{AreTogether};
+ghost use Rattle.wh_reclaim.specs.Whole.{IsAsWhole};
+ghost use Rattle.wh_swap.specs.Memory.{memory_held};
+ghost use Rattle.wh_host.specs.Backing.{KeepsBacking};
+ghost use Rattle.wh_host.specs.Hosting.{IsHost};
+ghost use Rattle.wh_host_model.specs.Host.Worlds.{World};
+ghost use Rattle.wh_hand.specs.Lining.{MayGoOn, IsReadyFor, KeepsGoing, KeepsOthersGoing, Lists};
+ghost use Rattle.wh_hand.specs.Running.{AnyGoesOn};
+ghost use Rattle.wh_hand.specs.Moved.{IsMoved};
+ghost use Rattle.wh_hand.specs.Runs.{RunsPart, charges_taken};
+
+use crate::line::settle;
+use crate::pace::Pace;
+use std::collections::VecDeque;
+use wh_host::Host;
+use wh_host_model::InstId;
+use wh_kernels::{FnvHash, PageHash};
+use wh_reclaim::Buf;
+use wh_swap::MemSwap;
+
+// How many charges a turn has at most.
+const QUANTUM: u64 = 1000;
+
+// How many charges lie between those of a call before and after.
+fn charges_of_turn(before: Option<u64>, after: Option<u64>) -> u64
+    ensures { result ≡ charges_taken before after }
+{
+    let Some(before) = before else {
+        return 0;
+    };
+    let Some(after) = after else {
+        return 0;
+    };
+    after.saturating_sub(before)
+}
+
+// Gives an instance that can go on a turn of q charges: how many were taken.
+fn counted_turn(host: &mut Host, id: InstId, q: u64) -> u64
+    requires charges { 1 ≤ q }
+    requires goes { MayGoOn host.old id }
+    requires ready { IsReadyFor host.old id }
+    ensures runs { RunsPart host.old result 1 host.new }
+    ensures few { result ≤ q }
+    ensures others { KeepsOthersGoing host.old id host.new }
+    ensures live { host.new.live ≡ host.old.live }
+    ensures backing { KeepsBacking host.old.space host.new.space }
+{
+    host.known();
+    let call = host.present_call(id);
+    let before = host.charges(id, call);
+    let _ = host.turn(id, q);
+    let after = host.charges(id, call);
+    charges_of_turn(before, after)
+}
+
+// Makes the next step of an instance ready, where its present call stands for a frame.
+fn make_ready(host: &mut Host, device: &mut MemSwap, page: &mut Buf, id: InstId)
+    requires together { AreTogether host.old.space (memory_held device.old) }
+    ensures runs { RunsPart host.old 0 0 host.new }
+    ensures others { KeepsGoing host.old host.new }
+    ensures live { host.new.live ≡ host.old.live }
+    ensures together { AreTogether host.new.space (memory_held device.new) }
+    ensures whole { IsAsWhole host.old.space host.new.space }
+    ensures ready { IsReadyFor host.new id }
+{
+    host.known();
+    let _ = host.provide(device, id, page);
+}
+
+// The page of an instance with so many pages of 65536 bytes that goes with this number, if it has one.
+fn page_of(number: u64, size: u32) -> Option<u32> {
+    let pages = u64::from(size) * 16;
+    if pages == 0 || pages > u64::from(u32::MAX) {
+        return None;
+    }
+    Some((number % pages) as u32)
+}
+
+// Offers a page of this instance for sharing, that which goes with this number, where it is alone on a frame.
+fn offer_one(host: &mut Host, id: InstId, number: u64)
+    ensures { IsMoved host.old host.new }
+{
+    host.known();
+    let Some(page) = page_of(number, host.size_at(id.place)) else {
+        return;
+    };
+    let Some(sample) = host.sample(id, page) else {
+        return;
+    };
+    let hash = FnvHash.hash(&sample.bytes);
+    let _ = host.offer(&FnvHash, id, page, hash);
+}
+
+// A turn took so many charges. Offers the next page of one of those that can go on, where it is time for that.
+fn offer_next(host: &mut Host, line: &VecDeque<InstId>, pace: &mut Pace, taken: u64)
+    ensures { IsMoved host.old host.new }
+{
+    host.known();
+    if !pace.count(taken) {
+        return;
+    }
+    let Some((at, number)) = pace.next_offer(line.len()) else {
+        return;
+    };
+    let Some(id) = line.get(at) else {
+        return;
+    };
+    offer_one(host, *id, number);
+}
+
+/// Gives whoever is first in the line a turn, of so many charges at most: how many were taken. Its next step is made ready
+/// before, where it stands for a frame; it goes to the end of the line, if it can go on; and for each 32 turns a page is offered.
+/// `None`, and nothing is done, where nobody can go on.
+pub fn advance(
+    host: &mut Host,
+    device: &mut MemSwap,
+    page: &mut Buf,
+    line: &mut VecDeque<InstId>,
+    pace: &mut Pace,
+    most: u64,
+) -> Option<u64>
+    requires most { 1 ≤ most }
+    requires together { AreTogether host.old.space (memory_held device.old) }
+    requires lists { Lists host.old line.old.items }
+    requires few { host.old.live ≤ 4096 }
+    requires room { 4096 ≤ deque_capacity line.old }
+    ensures none { IfNone result ((w : World) → IsHost host.old w → ¬ AnyGoesOn w) }
+    ensures same { IfNone result (host.new ≡ host.old) }
+    ensures runs { IfSome result (λ taken. RunsPart host.old taken 1 host.new) }
+    ensures within { IfSome result (λ taken. taken ≤ most) }
+    ensures together { AreTogether host.new.space (memory_held device.new) }
+    ensures lists { Lists host.new line.new.items }
+    ensures live { host.new.live ≡ host.old.live }
+    ensures room { 4096 ≤ deque_capacity line.new }
+    ensures whole { IsAsWhole host.old.space host.new.space }
+{
+    let Some(id) = line.pop_front() else {
+        return None;
+    };
+    host.known();
+    make_ready(host, device, page, id);
+    let taken = counted_turn(host, id, most.min(QUANTUM));
+    settle(line, host, id, false);
+    offer_next(host, line, pace, taken);
+    Some(taken)
+}
+
+/// Begins a new epoch, where it is time for one.
+pub fn begin_epoch(host: &mut Host, pace: &mut Pace)
+    ensures { IsMoved host.old host.new }
+{
+    host.known();
+    if !pace.begins_epoch() {
+        return;
+    }
+    host.epoch();
+}

@@ -1,0 +1,107 @@
+//! The hand.
+
+ghost use Rattle.std.specs.Prelude.{◌≡◌, [], IfOk};
+ghost use Rattle.wh_host.specs.Hosting.{IsNewHost};
+ghost use Rattle.wh_hand.specs.InHand.{IsSoundByEvents};
+
+use crate::line::MOST_INSTANCES;
+use crate::pace::Pace;
+use std::alloc::{AllocError, Global};
+use std::collections::VecDeque;
+use std::marker::Model;
+use wh_host::Host;
+use wh_host_model::{InstId, Tax};
+use wh_reclaim::Buf;
+use wh_swap::MemSwap;
+
+/// A host in one hand, with all that it needs: a swap device in memory, room for a page, and who can go on. Contracts see the
+/// host, and the output of the instance that was released last.
+///
+/// Of each it is known that events alone lead to its host, since its device is in memory and reads right.
+pub struct Hand {
+    pub(crate) host: Host,
+    pub(crate) device: MemSwap,
+    // Room for the bytes of a page that moves.
+    pub(crate) page: Buf,
+    // Who can go on, each once, in the order of their turns. There is room for all instances of a host.
+    pub(crate) line: VecDeque<InstId>,
+    pub(crate) pace: Pace,
+    // What the instance had put out that was released last.
+    pub(crate) output: Vec<u8>,
+}
+
+// Written out, so that letting one go is one call, and not one for each part of its parts.
+impl Drop for Hand {
+    fn drop(self) {
+        let Hand {
+            host: _,
+            device: _,
+            page: _,
+            line: _,
+            pace: _,
+            output: _,
+        } = self;
+    }
+}
+
+impl Model for Hand {
+    ghost use Rattle.std.specs.VecDeque.{deque_capacity};
+    ghost use Rattle.wh_swap.specs.Memory.{memory_held};
+    ghost use Rattle.wh_hand.specs.InHand.{HandState, IsInOneHand};
+
+    ghost Value = { HandState };
+
+    ghost use Rattle.wh_hand.specs.Stored.{stored_hand};
+
+    ghost coded = { stored_hand };
+
+    ghost view = { λ a. record { host = a.host; output = a.output.items } };
+
+    ghost invariant = { λ a. IsInOneHand a.host (memory_held a.device) a.line.items
+        (deque_capacity a.line) };
+}
+
+impl Hand {
+    /// A host with so many frames of 4096 bytes and so many slots in memory, without modules and instances. Room for all frames
+    /// is reserved now.
+    ///
+    /// # Errors
+    /// Where room is refused.
+    pub fn new(alloc: Global, frames: u32, slots: u32, tax: Tax) -> Result<Hand, AllocError>
+        ensures host { IfOk result (λ hand. IsNewHost hand.host frames slots tax) }
+        ensures output { IfOk result (λ hand. hand.output ≡ []) }
+    {
+        let Ok(host) = Host::new(alloc, frames, slots, tax) else {
+            return Err(AllocError);
+        };
+        let device = MemSwap::new(alloc, slots)?;
+        let Ok(page) = Box::new(alloc, [0; 4096]) else {
+            return Err(AllocError);
+        };
+        let line = VecDeque::with_capacity(alloc, MOST_INSTANCES)?;
+        Ok(Hand {
+            host,
+            device,
+            page,
+            line,
+            pace: Pace::new(),
+            output: Vec::new(alloc),
+        })
+    }
+
+    /// What always holds: events alone lead to the host, and no page of it is on its way to swap or back. So the laws of all
+    /// runs hold of each call of each instance.
+    #[inline(always)]
+    pub fn known(&self)
+        ensures { IsSoundByEvents self.now.host }
+    {
+        let _ = &self.host;
+    }
+
+    /// The output of the instance that was released last; nothing before the first release.
+    pub fn output(&self) -> &[u8]
+        ensures { result.now ≡ self.now.output }
+    {
+        self.output.as_slice()
+    }
+}

@@ -1,0 +1,35 @@
+//! How instances go.
+
+ghost use Rattle.std.specs.Prelude.{◌≡◌, OnErr, OnOk};
+ghost use Rattle.wh_host_model.specs.Space.Places.{Exits};
+ghost use Rattle.wh_host.specs.Backing.{KeepsBacking};
+ghost use Rattle.wh_hand.specs.Releasing.{AnswersReleaseHere};
+
+use crate::hand::Hand;
+use crate::line::settle;
+use std::alloc::Global;
+use wh_host::HostError;
+use wh_host_model::InstId;
+
+impl Hand {
+    /// Lets an instance go, whatever its calls are. Its output lies in the hand from then on until the next release. Its memory
+    /// is free, and its number is never used again; its place is.
+    ///
+    /// # Errors
+    /// `NoInstance`. Nothing is done then, and the output is the one before.
+    pub fn release(&mut self, alloc: Global, id: InstId) -> Result<(), HostError>
+        ensures goes { AnswersReleaseHere self.old id result self.new }
+        ensures err { OnErr result (self.new ≡ self.old) }
+        ensures backing { KeepsBacking self.old.host.space self.new.host.space }
+        ensures memory { OnOk result (Exits self.old.host.space id.place self.new.host.space) }
+    {
+        let stands = self.host.can_go_on(id);
+        let output = match self.host.release(alloc, id) {
+            Ok(output) => output,
+            Err(error) => return Err(error),
+        };
+        settle(&mut self.line, &self.host, id, stands);
+        self.output = output;
+        Ok(())
+    }
+}

@@ -1,0 +1,19 @@
+-- What a slot owns: what a box does, or nothing.
+use base.Fml.{Fml, ftrue}
+use base.Stored.{Coded}
+use denote.RawPtr.{Ptr}
+use Rattle.std.specs.Coded.{coded_option}
+use Rattle.std.specs.Prelude.{Option, Some, None}
+use Rattle.std.specs.Box.Ownership.{box_owns}
+use Rattle.std.specs.Global.{Global}
+use Rattle.std_heap.specs.contracts.GlobalAllocator.TheImpl.{ghosts}
+use Rattle.wh_hand.specs.contracts.hand.Hand.{the_row}
+
+-- Where a host is held, its box lies at the pointer and is owned; where none is, nothing is.
+abbrev pub slot_owns : Global → Ptr → Option the_row.Denot → Fml
+slot_owns alloc at None = ftrue
+slot_owns alloc at (Some x) = box_owns (ghosts.dealloc_token alloc) the_row at x
+
+-- what is held can be stored as a host can
+abbrev pub held_coded : Coded (Option the_row.Denot)
+held_coded = coded_option the_row.coded

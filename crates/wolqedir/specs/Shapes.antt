@@ -1,0 +1,82 @@
+-- What C reads and writes, and what it stands for.
+use Rattle.std.specs.Prelude.{ℕ, Bool, true, false, List, Option, Some, None}
+use Rattle.wh_model.specs.declared.ValType.{ValType}
+use Rattle.wh_model.specs.declared.ValType.TheVariants.{I32, I64}
+use Rattle.wh_host_model.specs.declared.plain.InstId.{InstId}
+use Rattle.wh_host_model.specs.Owners as owners
+use Rattle.wh_instance.specs.declared.stages.CallStatus.{CallStatus}
+use Rattle.wh_instance.specs.declared.stages.CallStatus.TheVariants.{Returned, Trapped, Cancelled, Dead, Waiting, Present}
+use Rattle.wh_instance.specs.declared.stages.CallValue.{CallValue}
+use Rattle.wh_instance.specs.declared.stages.Suspension.{Suspension}
+use Rattle.wh_instance.specs.declared.stages.Suspension.TheVariants.{Fuel, Frame, Device}
+use Rattle.wh_hand.specs.declared.running.Ran.{Ran}
+use Rattle.wolqedir.specs.declared.shapes.Instance.{Instance}
+use Rattle.wolqedir.specs.declared.shapes.Params.{Params}
+use Rattle.wolqedir.specs.declared.shapes.Progress.{Progress}
+use Rattle.wolqedir.specs.declared.shapes.Status.{Status}
+use Rattle.wolqedir.specs.Codes.{swap_code, trap_code}
+
+-- the instance that C names, and its name for C
+abbrev pub id_of : Instance → InstId
+id_of x = record { place = x.place; number = x.number }
+
+abbrev pub instance_of : InstId → Instance
+instance_of id = record { place = id.place; number = id.number }
+
+-- what its owner gives an instance, with these words as its input
+abbrev pub given_by : Params → List ℕ → owners.Params
+given_by p inputs = record {
+  shares = p.shares;
+  min = p.min;
+  max = p.max;
+  fuel = p.fuel;
+  base = p.base;
+  salt = p.salt;
+  inputs = inputs;
+}
+
+-- what a run came to
+abbrev pub flag : Bool → ℕ
+flag true = 1
+flag false = 0
+
+abbrev pub progress_as : Ran → Progress
+progress_as ran = record { charges = ran.charges; goes_on = flag ran.goes_on }
+
+-- a result has 32 or 64 bits, and 0 bits are none
+abbrev pub type_bits : ValType → ℕ
+type_bits I32 = 32
+type_bits I64 = 64
+
+abbrev pub bits_of_result : Option CallValue → ℕ
+bits_of_result None = 0
+bits_of_result (Some value) = type_bits value.of
+
+abbrev pub word_of : Option CallValue → ℕ
+word_of None = 0
+word_of (Some value) = value.word
+
+-- the present call goes on, or stands for fuel, for a frame, or for the device, with the fault's code
+abbrev pub standing_kind : Option Suspension → ℕ
+standing_kind None = 2
+standing_kind (Some Fuel) = 3
+standing_kind (Some Frame) = 4
+standing_kind (Some (Device e)) = 5
+
+abbrev pub standing_code : Option Suspension → ℕ
+standing_code None = 0
+standing_code (Some Fuel) = 0
+standing_code (Some Frame) = 0
+standing_code (Some (Device e)) = swap_code e
+
+-- how far a call is that has taken so many charges
+abbrev pub shown_status : CallStatus → ℕ → Status
+shown_status Waiting charges = record { kind = 1; code = 0; bits = 0; value = 0; charges = charges }
+shown_status (Present stands taken) charges =
+    record { kind = standing_kind stands; code = standing_code stands; bits = 0; value = 0; charges = charges }
+shown_status (Returned value taken) charges =
+    record { kind = 6; code = 0; bits = bits_of_result value; value = word_of value; charges = charges }
+shown_status (Trapped trap taken) charges =
+    record { kind = 7; code = trap_code trap; bits = 0; value = 0; charges = charges }
+shown_status (Cancelled taken) charges = record { kind = 8; code = 0; bits = 0; value = 0; charges = charges }
+shown_status Dead charges = record { kind = 9; code = 0; bits = 0; value = 0; charges = charges }

@@ -1,0 +1,74 @@
+//! The handle that C keeps.
+
+ghost use Rattle.std.specs.Prelude.{◌≡◌, ◌≢◌, true, false, Some, None, IfSome, IfNone, IsNone, IsSome};
+ghost use Rattle.wh_hand.specs.InHand.{IsSoundByEvents};
+
+use crate::slot::Slot;
+use std::alloc::Global;
+use std::mem;
+use wh_hand::Hand;
+use wh_sealing::Parts;
+
+/// A host, or none. All bytes 0 is none.
+#[repr(C)]
+#[derive(Drop)]
+pub struct Handle {
+    full: u32,
+    /// Where the host lies.
+    pub slot: Slot,
+    ghost filled: { full ≢ 0 → IsSome slot.held },
+    ghost empty: { full ≡ 0 → IsNone slot.held },
+}
+
+impl Handle {
+    // One without a host.
+    fn empty(alloc: Global) -> Handle
+        ensures { result.slot.held ≡ None }
+    {
+        Handle {
+            full: 0,
+            slot: Slot::empty(alloc),
+        }
+    }
+
+    // One with this host.
+    fn of(hand: Box<Hand>) -> Handle
+        ensures { result.slot.held ≡ Some hand.value }
+    {
+        Handle {
+            full: 1,
+            slot: Slot::of_parts(Parts::of(hand)),
+        }
+    }
+
+    /// Whether it holds a host.
+    pub fn is_full(&self) -> bool
+        ensures full { result ≡ true → IsSome self.now.slot.held }
+        ensures empty { result ≡ false → self.now.slot.held ≡ None }
+    {
+        self.full != 0
+    }
+
+    /// Takes the host out; `None` where there is none.
+    pub fn take(&mut self, alloc: Global) -> Option<Box<Hand>>
+        ensures some { IfSome result (λ hand. self.old.slot.held ≡ Some hand.value) }
+        ensures emptied { self.new.slot.held ≡ None }
+        ensures none { IfNone result (self.old.slot.held ≡ None) }
+    {
+        if self.full == 0 {
+            return None;
+        }
+        let Handle { full: _, slot } = mem::replace(self, Handle::empty(alloc));
+        Some(slot.into_parts().into_box())
+    }
+
+    /// Puts a host in. Events alone lead to it, as to each.
+    pub fn put(&mut self, hand: Box<Hand>)
+        requires { self.old.slot.held ≡ None }
+        ensures held { self.new.slot.held ≡ Some hand.value }
+        ensures sound { IsSoundByEvents hand.value.host }
+    {
+        hand.known();
+        *self = Handle::of(hand);
+    }
+}

@@ -1,0 +1,160 @@
+//! What C reads and writes, field by field.
+
+ghost use Rattle.std.specs.Prelude.{◌≡◌};
+ghost use Rattle.wolqedir.specs.Shapes.{bits_of_result, id_of, instance_of, progress_as, standing_code, standing_kind, shown_status, word_of};
+
+use crate::codes::{of_swap, of_trap};
+use wh_hand::{CallStatus, CallValue, InstId, Ran, Suspension};
+use wh_model::ValType;
+
+/// An instance, as it was admitted.
+#[repr(C)]
+#[derive(Drop)]
+pub struct Instance {
+    /// Its place.
+    pub place: usize,
+    /// How many instances were admitted before it.
+    pub number: u64,
+}
+
+/// What the owner of an instance gives it, but for the words of its input.
+#[repr(C)]
+#[derive(Drop)]
+pub struct Params {
+    /// Its shares of memory, 1 to 1000000.
+    pub shares: u64,
+    /// How many frames of 4096 bytes it may keep in any case; 2 to `max`.
+    pub min: u64,
+    /// To how many frames of 4096 bytes its memory may come, up to 65536.
+    pub max: u64,
+    /// How many charges its start may take.
+    pub fuel: u64,
+    /// The value of the host's global `salt`.
+    pub salt: u64,
+    /// The value of the host's global `base`.
+    pub base: u32,
+}
+
+/// What a run came to.
+#[repr(C)]
+#[derive(Drop)]
+pub struct Progress {
+    /// How many charges were taken.
+    pub charges: u64,
+    /// 1 where a call can go on, else 0.
+    pub goes_on: u32,
+}
+
+/// How far a call is.
+#[repr(C)]
+#[derive(Drop)]
+pub struct Status {
+    /// 1 waits behind another call, 2 goes on, 3 stands for fuel, 4 for a frame, 5 for the swap device; 6 has returned,
+    /// 7 trapped, 8 was cancelled, 9 did nothing behind a start that failed.
+    pub kind: u32,
+    /// The code of the trap, or of the device's fault; else 0.
+    pub code: u32,
+    /// How many bits the result has, 32 or 64; 0 where there is none.
+    pub bits: u32,
+    /// The result, an i32 in the low 32 bits; else 0.
+    pub value: u64,
+    /// How many charges it has taken.
+    pub charges: u64,
+}
+
+/// The instance that C names.
+pub fn named(instance: &Instance) -> InstId
+    ensures { result ≡ id_of instance.now }
+{
+    InstId {
+        place: instance.place,
+        number: instance.number,
+    }
+}
+
+/// The name of an instance for C.
+pub fn name_of(id: InstId) -> Instance
+    ensures { result ≡ instance_of id }
+{
+    Instance {
+        place: id.place,
+        number: id.number,
+    }
+}
+
+// How many bits a result has.
+fn result_bits(value: Option<CallValue>) -> u32
+    ensures { result ≡ bits_of_result value }
+{
+    match value {
+        None => 0,
+        Some(
+            CallValue {
+                of: ValType::I32,
+                ..
+            },
+        ) => 32,
+        Some(
+            CallValue {
+                of: ValType::I64,
+                ..
+            },
+        ) => 64,
+    }
+}
+
+// The word of a result.
+fn result_word(value: Option<CallValue>) -> u64
+    ensures { result ≡ word_of value }
+{
+    match value {
+        None => 0,
+        Some(value) => value.word,
+    }
+}
+
+// The kind of a call that waits for its next turn or stands for something, and the code of its fault.
+fn standing(stands_for: Option<Suspension>) -> (u32, u32)
+    ensures { result ≡ (standing_kind stands_for, standing_code stands_for) }
+{
+    match stands_for {
+        None => (2, 0),
+        Some(Suspension::Fuel) => (3, 0),
+        Some(Suspension::Frame) => (4, 0),
+        Some(Suspension::Device(error)) => (5, of_swap(error)),
+    }
+}
+
+/// How far a call is that has taken so many charges.
+pub fn shown(status: CallStatus, charges: u64) -> Status
+    ensures { result ≡ shown_status status charges }
+{
+    let (kind, code, value) = match status {
+        CallStatus::Waiting => (1, 0, None),
+        CallStatus::Present { stands_for, .. } => {
+            let (kind, code) = standing(stands_for);
+            (kind, code, None)
+        }
+        CallStatus::Returned { value, .. } => (6, 0, value),
+        CallStatus::Trapped { trap, .. } => (7, of_trap(trap), None),
+        CallStatus::Cancelled { .. } => (8, 0, None),
+        CallStatus::Dead => (9, 0, None),
+    };
+    Status {
+        kind,
+        code,
+        bits: result_bits(value),
+        value: result_word(value),
+        charges,
+    }
+}
+
+/// What a run came to, for C.
+pub fn progress_of(ran: Ran) -> Progress
+    ensures { result ≡ progress_as ran }
+{
+    Progress {
+        charges: ran.charges,
+        goes_on: u32::from(ran.goes_on),
+    }
+}

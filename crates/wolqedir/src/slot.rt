@@ -1,0 +1,66 @@
+//! Where a host lies, or none, in a form that C can hold: its type names no other type.
+
+ghost use Rattle.std.specs.Prelude.{◌≡◌, Option, Some, None, IsSome};
+ghost use Rattle.wh_hand.specs.InHand.{HandState};
+ghost use Rattle.wolqedir.specs.Held.{held_coded, slot_owns};
+
+use std::alloc::Global;
+use std::marker::Model;
+use std::ptr;
+use wh_hand::Hand;
+use wh_sealing::Parts;
+
+/// What C sees of what lies at a pointer: nothing.
+#[repr(C)]
+pub struct Opaque {
+    private: u8,
+}
+
+/// A host, or none. Letting one go that is full would lose the host: `Handle` never does.
+#[repr(C)]
+#[derive(Drop)]
+pub struct Slot {
+    at: *mut Opaque,
+    alloc: Global,
+    /// The host.
+    pub ghost held: { Option HandState } by { held_coded },
+}
+
+impl Model for Slot {
+    ghost also_owns = { λ s. slot_owns s.alloc s.at s.held };
+}
+
+impl Slot {
+    /// One without a host.
+    pub fn empty(alloc: Global) -> Slot
+        ensures { result.held ≡ None }
+    {
+        Slot {
+            at: ptr::null_mut(),
+            alloc,
+        }
+    }
+
+    /// One with the host of these parts.
+    pub fn of_parts(parts: Parts<Hand, Global>) -> Slot
+        ensures { result.held ≡ Some parts.value }
+    {
+        let Parts { ptr, alloc } = parts;
+        Slot {
+            at: ptr as *mut Opaque,
+            alloc,
+        }
+    }
+
+    /// The parts of the host.
+    pub fn into_parts(self) -> Parts<Hand, Global>
+        requires { IsSome self.held }
+        ensures { self.held ≡ Some result.value }
+    {
+        let Slot { at, alloc } = self;
+        Parts {
+            ptr: at as *mut Hand,
+            alloc,
+        }
+    }
+}
