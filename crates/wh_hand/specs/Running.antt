@@ -69,7 +69,7 @@ pub record RunsByEvents (w : World) (charges : ℕ) (w2 : World) : Type 0 where
 abbrev pub AnyGoesOn : World → Type 0
 AnyGoesOn w = (id : InstId) × IsGoing w id
 
--- more turns than any run has
+-- so many turns a run has at most
 abbrev pub most_turns : ℕ
 most_turns = 2 ^ 64 - 1
 
