@@ -1,7 +1,7 @@
 #!/usr/bin/env python3
-"""Builds the library and tries it from C, Rust and Python: `python3 .ci/library/library.py [ARCHIVE [WASMHOST]]`, behind `rt ci`,
-whose proofs `rt lib` takes up. ARCHIVE is another libwolqedir.a than that which `rt lib` makes, and WASMHOST another program than
-crates/wasmhost/out/wasmhost.
+"""Builds the library and tries it from C, Rust and Python: `python3 .ci/library/library.py [ARCHIVE [WASMHOST]]`, by hand, behind
+`rt run` in crates/wasmhost. By itself it calls `rt lib`, which proves all that lies beneath: an hour. ARCHIVE is another
+libwolqedir.a than that which `rt lib` makes, and WASMHOST another program than crates/wasmhost/out/wasmhost.
 
 It needs gcc, cargo and python3, and ends with the name of the one that is missing. The examples are built, under the sanitizers
 where gcc has them, and have to print examples/library/hello.stdout; random scripts get of the library what they get of wasmhost;
