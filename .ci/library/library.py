@@ -1,7 +1,6 @@
 #!/usr/bin/env python3
-"""Builds the library and tries it from C, Rust and Python: `python3 .ci/library/library.py [ARCHIVE [WASMHOST]]`, by hand, behind
-`rt run` in crates/wasmhost. By itself it calls `rt lib`, which proves all that lies beneath: an hour. ARCHIVE is another
-libwolqedir.a than that which `rt lib` makes, and WASMHOST another program than crates/wasmhost/out/wasmhost.
+"""Builds the library and tries it from C, Rust and Python, behind `rt ci`: `python3 .ci/library/library.py [ARCHIVE [WASMHOST]]`.
+ARCHIVE is another libwolqedir.a than that which archive.py gives, and WASMHOST another program than crates/wasmhost/out/wasmhost.
 
 It needs gcc, cargo and python3, and ends with the name of the one that is missing. The examples are built, under the sanitizers
 where gcc has them, and have to print examples/library/hello.stdout; random scripts get of the library what they get of wasmhost;
@@ -37,12 +36,10 @@ def tools():
 def gather(given, folder):
     """Puts the archive, and the C of the toolchain's heap, into a folder, and makes a shared library of both: one that passes
     requests for memory on, but for those that it is told to refuse."""
-    crate = os.path.join(ROOT, "crates", "wolqedir")
-    if given is None:
-        run(["rt", "lib"], cwd=crate)
-    kit = os.path.dirname(os.path.dirname(os.path.realpath(shutil.which("rt"))))
-    shutil.copy(given or os.path.join(crate, "out", "libwolqedir.a"), os.path.join(folder, "libwolqedir.a"))
-    shutil.copy(os.path.join(kit, "c", "liblibc_c.a"), folder)
+    from archive import KIT, archive
+
+    shutil.copy(given or archive(), os.path.join(folder, "libwolqedir.a"))
+    shutil.copy(os.path.join(KIT, "c", "liblibc_c.a"), folder)
     parts = ["-Wl,--whole-archive", folder + "/libwolqedir.a", "-Wl,--no-whole-archive", folder + "/liblibc_c.a"]
     shared = ["gcc", "-shared", "-fPIC", "-O1", "-o"]
     run([*shared, folder + "/libwolqedir.so", *parts])
@@ -126,10 +123,10 @@ def sessions(program, folder):
 
 def main(archive=None, program=ROOT + "/crates/wasmhost/out/wasmhost"):
     tools()
+    sys.path.insert(0, HERE)
     with tempfile.TemporaryDirectory() as folder:
         gather(os.path.abspath(archive) if archive else None, folder)
         os.environ["WOLQEDIR_SO"] = folder + "/refusing.so"
-        sys.path.insert(0, HERE)
         import codes
         import names
         import refusals

@@ -3,7 +3,7 @@
 ghost use Rattle.std.specs.Prelude.{◌≡◌, true, OnOk};
 ghost use Rattle.wh_host_model.specs.Space.Parts.{Occupant, occupant_at};
 ghost use Rattle.wh_reclaim.specs.Together.{AreTogether};
-ghost use Rattle.wh_swap.specs.Memory.{memory_held};
+ghost use Rattle.wh_swap.specs.MemorySwaps.{memory_held};
 
 use crate::clock::since;
 use anyhow::{Context, Result, anyhow, ensure};
@@ -82,14 +82,14 @@ impl Pool {
 
     /// A new epoch.
     pub fn epoch(&mut self) {
-        self.memory.known();
+        self.memory.invariant();
         self.memory.new_epoch();
     }
 
     // Writes a number at the beginning of a page, where it is ready; else it gives what is wanted.
     fn store(&mut self, place: usize, page: u32, number: u64) -> Result<Option<Need>> {
         let at = 4096 * u64::from(page);
-        self.memory.known();
+        self.memory.invariant();
         match self.memory.store(place, at, &number.to_le_bytes()) {
             Got::Value => Ok(None),
             Got::NotReady(need) => Ok(Some(need)),
@@ -139,7 +139,7 @@ impl Pool {
         let need = self.store(place as usize, page, number)?;
         ensure!(need.is_none(), "a store isn't ready");
         self.look(place)?;
-        self.memory.known();
+        self.memory.invariant();
         self.memory.end(place as usize);
         Ok(())
     }

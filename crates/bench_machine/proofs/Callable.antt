@@ -4,13 +4,13 @@ use Rattle.wh_model.specs.Validity.Typing.{Context}
 use Rattle.wh_model.specs.Execution.Store.{Instance, Store}
 use Rattle.wh_model.specs.Execution.Instance.{Parameters}
 use Rattle.wh_syntax.specs.View.{view_module}
-use Rattle.wh_bodies.specs.Views.{view_side}
-use Rattle.wh_validate.specs.Soundness.{IsChecked}
+use Rattle.wh_bodies.specs.View.{view_side}
+use Rattle.wh_validate.specs.CheckedBodies.{IsChecked}
 use Rattle.wh_imports.specs.LinkedState.{LinkedState}
 use Rattle.wh_imports.specs.Resolving.{IsResolved}
 use Rattle.wh_control.specs.declared.store.Store as code_store
 use Rattle.wh_control.specs.Storage.{RepresentsStore}
-use Rattle.wh_machine.specs.Runs.{linked_parts, RepresentsInstance}
+use Rattle.wh_machine.specs.MachineRuns.{linked_parts, RepresentsInstance}
 use Rattle.wh_initial.proofs.Instances.{instance_of}
 use Rattle.wh_initial.specs.declared.outcome.Instantiated.{Instantiated}
 use Rattle.wh_initial.specs.Begins.{Instantiates, first_store}
@@ -38,5 +38,5 @@ represented l sound resolved p i b flat limit same =
     let s : Store = first_store (view_module l.valid.decoded) p b.globals b.elements in
     record {
       instance = instance_of l sound resolved p b.inst b.globals b.elements b.segments b.prepares;
-      store = subst (λ n. RepresentsStore sound.context b.inst i.store flat n (record s { bytes = flat })) (sym same) (other_bytes flat (b.stands_for sound.context sound.valid.context));
+      store = subst (λ n. RepresentsStore sound.context b.inst i.store flat n (record s { bytes = flat })) (sym same) (other_bytes flat (b.represents sound.context sound.valid.context));
     }

@@ -2,7 +2,7 @@
 
 use anyhow::{Result, ensure};
 use std::alloc::Global;
-use wh_explain::{Code, Name, Refusal, explain_module};
+use wh_explain::{FaultCode, Name, Refusal, explain_module};
 
 // Modules written by hand, each with the fault, what is wrong, and where.
 const MODULES: [(&[u8], &str); 51] = [
@@ -264,7 +264,7 @@ const MODULES: [(&[u8], &str); 51] = [
 fn told(alloc: Global, refusal: &Refusal) -> Result<String> {
     let error = refusal.error;
     let place = refusal.place;
-    Ok(format!(in alloc; "{} {}; {refusal}; {place}", Code(error), Name(error))?)
+    Ok(format!(in alloc; "{} {}; {refusal}; {place}", FaultCode(error), Name(error))?)
 }
 
 /// What is said of a module.

@@ -27,7 +27,7 @@ use Rattle.wh_host_model.proofs.Space.Slotting.{slot_taken, vacant_there}
 use Rattle.wh_host_model.specs.Space.States.{page_at}
 use Rattle.wh_host.specs.declared.transit.Eviction.{Eviction}
 use Rattle.wh_host.specs.declared.transit.Fetch.{Fetch}
-use Rattle.wh_host.specs.Carried.{EndsEvict}
+use Rattle.wh_host.specs.TicketsOut.{EndsEvict}
 use Rattle.wh_host.specs.Rolls.{IsRollOf, RollState}
 use Rattle.wh_host.specs.declared.parts.ModuleId.{ModuleId}
 use Rattle.wh_host.specs.Hosting.{HostState, IsHost, IsNewHost}

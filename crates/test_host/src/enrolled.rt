@@ -51,7 +51,7 @@ pub fn open_most(alloc: Global) -> Result<()> {
     open_calls(&mut host, alloc)
 }
 
-// Whether it is the endless module's instance with a call open that stands for fuel, behind the start.
+// Whether it is the endless module's instance with a call open that waits for fuel, behind the start.
 fn is_endless(enrolled: &Enrolled, id: InstId, of: ModuleId) -> bool {
     let params = &enrolled.params;
     enrolled.id == id
@@ -59,7 +59,7 @@ fn is_endless(enrolled: &Enrolled, id: InstId, of: ModuleId) -> bool {
         && (params.min, params.max) == (3, 16)
         && (enrolled.calls, enrolled.open_calls) == (2, 1)
         && !enrolled.dead
-        && enrolled.stands_for == Some(Suspension::Fuel)
+        && enrolled.waiting_for == Some(Suspension::Fuel)
 }
 
 // Whether a roll lists the endless module alone, and that one instance of the two.

@@ -38,7 +38,7 @@ pub enum Step {
     Returned(usize, u32, u64),
     /// It returned nothing, behind so many.
     Done(usize, u32, u64),
-    /// It stands for a device that failed so, behind so many.
+    /// It waits for a device that failed so, behind so many.
     Failed(usize, u32, SwapError, u64),
     /// It has trapped, whatever its charges.
     Trapped(usize, u32, Trap),
@@ -156,10 +156,10 @@ fn done(charges: u64) -> Option<CallStatus> {
     })
 }
 
-// One that stands for a device that failed so, behind so many.
+// One that waits for a device that failed so, behind so many.
 fn failed(fault: SwapError, charges: u64) -> Option<CallStatus> {
     Some(CallStatus::Present {
-        stands_for: Some(Suspension::Device(fault)),
+        waiting_for: Some(Suspension::Device(fault)),
         charges,
     })
 }

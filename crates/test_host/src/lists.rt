@@ -121,7 +121,7 @@ fn turn(rig: &mut Rig, pair: &mut Pair) -> Result<TurnEnd> {
 
 // An open call goes on to its end, on the host and on the flat memory. No ticket is out.
 fn end_calls(rig: &mut Rig, alloc: Global, pair: &mut Pair) -> Result<()> {
-    let failed = matches!(pair.stands_for(rig)?, Some(Suspension::Device(_)));
+    let failed = matches!(pair.waiting_for(rig)?, Some(Suspension::Device(_)));
     ensure!(
         rig.retry(pair.id).is_ok() == failed,
         "another try isn't as the call stands"

@@ -105,7 +105,7 @@ const REFUSED: &[Step] = &[
 
 /// The call is the present one, stands for nothing, and has taken no charge.
 const PRESENT: CallStatus = CallStatus::Present {
-    stands_for: None,
+    waiting_for: None,
     charges: 0,
 };
 
@@ -153,7 +153,7 @@ const TOLD_OF_ENDS: &[Step] = &[
         0,
         1,
         Some(CallStatus::Present {
-            stands_for: Some(Suspension::Fuel),
+            waiting_for: Some(Suspension::Fuel),
             charges: 5,
         }),
     ),

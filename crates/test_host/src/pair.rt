@@ -93,10 +93,10 @@ impl Pair {
     }
 
     /// For what the present call stands.
-    pub fn stands_for(&self, rig: &Rig) -> Result<Option<Suspension>> {
+    pub fn waiting_for(&self, rig: &Rig) -> Result<Option<Suspension>> {
         let at = self.flat.present_at()?;
         match rig.status(self.id, at) {
-            Some(CallStatus::Present { stands_for, .. }) => Ok(stands_for),
+            Some(CallStatus::Present { waiting_for, .. }) => Ok(waiting_for),
             _ => Ok(None),
         }
     }
@@ -108,7 +108,7 @@ impl Pair {
             if self.flat.open() == 0 {
                 return Ok(());
             }
-            match self.stands_for(rig)? {
+            match self.waiting_for(rig)? {
                 Some(Suspension::Fuel) => {
                     rig.refuel(self.id, 6)?;
                     ensure!(self.flat.refuel(6), "fuel is for a call");

@@ -138,7 +138,7 @@ impl Rig {
         self.host.cancel(id)
     }
 
-    /// Another try, where the present call stands for a device fault.
+    /// Another try, where the present call waits for a device fault.
     pub fn retry(&mut self, id: InstId) -> Result<(), HostError> {
         self.host.retry(id)
     }
@@ -153,7 +153,7 @@ impl Rig {
         self.host.call_status(id, at)
     }
 
-    /// Whether the present call stands for a frame.
+    /// Whether the present call waits for a frame.
     pub fn awaits_frame(&self, id: InstId) -> bool {
         self.host.awaits_frame(id)
     }

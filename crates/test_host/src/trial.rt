@@ -150,10 +150,10 @@ impl Trial {
     }
 
     // The number of an event: every other time one that may help a call which stands for this.
-    fn some_kind(&mut self, stands_for: Option<Suspension>) -> u32 {
+    fn some_kind(&mut self, waiting_for: Option<Suspension>) -> u32 {
         let any = self.random.below(48);
         let helping = self.random.below(15);
-        match (stands_for, self.random.below(2)) {
+        match (waiting_for, self.random.below(2)) {
             (Some(Suspension::Frame), 0) => 26 + helping,
             (Some(Suspension::Fuel), 0) => 44,
             (Some(Suspension::Device(_)), 0) => 46,
@@ -168,7 +168,7 @@ impl Trial {
             let came = self.admitted(rig, alloc)?;
             return self.put_back(place, came);
         };
-        let kind = self.some_kind(pair.stands_for(rig)?);
+        let kind = self.some_kind(pair.waiting_for(rig)?);
         let stays = kind != 47 || self.random.below(2) != 0;
         if !stays {
             more(&mut self.counts.released);
@@ -314,7 +314,7 @@ impl Trial {
             Err(fault) => {
                 more(&mut self.counts.faults);
                 let kept = Some(Suspension::Device(fault));
-                ensure!(pair.stands_for(rig)? == kept, "the fault is lost");
+                ensure!(pair.waiting_for(rig)? == kept, "the fault is lost");
                 Ok(())
             }
         }
@@ -341,7 +341,7 @@ impl Trial {
     }
 
     fn retry(&mut self, rig: &mut Rig, pair: &Pair) -> Result<()> {
-        let failed = matches!(pair.stands_for(rig)?, Some(Suspension::Device(_)));
+        let failed = matches!(pair.waiting_for(rig)?, Some(Suspension::Device(_)));
         ensure!(
             rig.retry(pair.id).is_ok() == failed,
             "another try isn't as the call stands"

@@ -3,7 +3,7 @@
 use crate::tables::agree;
 use anyhow::{Result, ensure};
 use std::alloc::Global;
-use wh_commands::{Command, Given, LineError, parse};
+use wh_commands::{AdmitParams, Command, LineError, parse};
 
 // Lines, each with the verb of its command.
 const SHORT: [(&[u8], &str); 8] = [
@@ -48,7 +48,7 @@ fn reads_module(alloc: Global) -> bool {
     }
 }
 
-fn are_given(given: &Given) -> bool {
+fn are_given(given: &AdmitParams) -> bool {
     (given.shares, given.min, given.max, given.fuel) == (100, 2, 16, 0)
         && (given.base, given.salt) == (0xFFFF_FFFF, 0xFFFF_FFFF_FFFF_FFFF)
         && given.inputs.as_slice() == [10, 0xFFFF_FFFF_FFFF_FFFF].as_slice()

@@ -6,8 +6,8 @@ use std::alloc::{AllocError, Global};
 use wh_host_model::Tax;
 use wh_model::ValType;
 use wh_replies::{
-    Call, Caller, Place, Refusal, Reply, Row, Status, signed_value, write_frames, write_released,
-    write_reply, write_row, write_shared, write_slots,
+    Call, Caller, FaultPlace, ModuleRefusal, Reply, Row, Status, signed_value, write_frames,
+    write_released, write_reply, write_row, write_shared, write_slots,
 };
 
 const REPLIES: [Reply<'static>; 7] = [
@@ -15,9 +15,9 @@ const REPLIES: [Reply<'static>; 7] = [
     Reply::ModuleOk { name: "m" },
     Reply::ModuleRefused {
         name: "m",
-        why: Refusal::Invalid {
+        why: ModuleRefusal::Invalid {
             kind: 1,
-            place: Place::Instr { func: 0, instr: 4 },
+            place: FaultPlace::Instr { func: 0, instr: 4 },
         },
     },
     Reply::AdmitRefused {

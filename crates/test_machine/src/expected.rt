@@ -13,7 +13,7 @@ enum Ending {
     Done,
     /// It traps, by the number of the trap.
     Trap(u8),
-    /// It stands for fuel.
+    /// It waits for fuel.
     Fuel,
 }
 

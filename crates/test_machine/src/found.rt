@@ -13,7 +13,7 @@ pub enum Found {
     Refused(CallError),
     /// No function is exported under this name, or it takes other arguments.
     NoCall,
-    /// No call stands for fuel.
+    /// No call waits for fuel.
     NotStanding,
 }
 

@@ -30,7 +30,7 @@ impl Tally {
 pub struct Trial {
     /// Its name.
     pub name: String,
-    /// What the call has taken that stands for fuel.
+    /// What the call has taken that waits for fuel.
     taken: Option<u64>,
     /// How many lines agree.
     pub tally: Tally,
@@ -132,7 +132,7 @@ impl Trial {
         Found::Ended(outcome, charges)
     }
 
-    /// Calls an exported function with this fuel; a call that stands for fuel is given up.
+    /// Calls an exported function with this fuel; a call that waits for fuel is given up.
     fn call(
         &mut self,
         instance: &mut Instance,

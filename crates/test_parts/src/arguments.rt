@@ -1,4 +1,4 @@
-//! The numbers that `wh_arguments` takes as arguments of functions, and the words that a call has of them.
+//! The numbers that `wh_instance` takes as arguments of functions, and the words that a call has of them.
 
 ghost use Rattle.std.specs.Prelude.{IfOk};
 ghost use Rattle.wh_instance.specs.Invoked.{IsSomeTenant};
@@ -6,10 +6,9 @@ ghost use Rattle.wh_instance.specs.Invoked.{IsSomeTenant};
 use crate::tables::agree;
 use anyhow::{Result, ensure};
 use std::alloc::Global;
-use wh_arguments::takes;
 use wh_imports::Linked;
 use wh_initial::{Parameters, instantiate};
-use wh_instance::Tenant;
+use wh_instance::{HostInstance, takes};
 use wh_load::load;
 use wh_machine::Machine;
 
@@ -67,7 +66,7 @@ fn wrongly_taken(linked: &Linked) -> Option<usize> {
 }
 
 // An instance of the module.
-fn begin(alloc: Global, linked: &Linked) -> Result<Tenant>
+fn begin(alloc: Global, linked: &Linked) -> Result<HostInstance>
     ensures { IfOk result (λ tenant. IsSomeTenant linked.now tenant) }
 {
     ensure!(linked.module().segments.len() <= 1024, "too many segments");
@@ -79,7 +78,7 @@ fn begin(alloc: Global, linked: &Linked) -> Result<Tenant>
     };
     let begun = instantiate(alloc, linked, parameters)?;
     let machine = Machine::new(alloc)?;
-    Ok(Tenant::new(alloc, linked, begun, machine, 0)?)
+    Ok(HostInstance::new(alloc, linked, begun, machine, 0)?)
 }
 
 // Whether a call of `f` has these words.

@@ -3,27 +3,27 @@
 use crate::tables::{agree, first_other};
 use anyhow::{Result, ensure};
 use std::alloc::{AllocError, Global};
-use wh_content::{Entry, Table};
+use wh_content::{ContentEntry, Table};
 use wh_host_model::Mark;
 
-const HINT: Entry = Entry::Hint {
+const HINT: ContentEntry = ContentEntry::Hint {
     frame: 1,
     place: 8,
     page: 9,
 };
 
-const SHARED: Entry = Entry::Shared {
+const SHARED: ContentEntry = ContentEntry::Shared {
     frame: 2,
     sharers: 2,
 };
 
-const OTHER: Entry = Entry::Hint {
+const OTHER: ContentEntry = ContentEntry::Hint {
     frame: 0,
     place: 5,
     page: 6,
 };
 
-const NEWER: Entry = Entry::Hint {
+const NEWER: ContentEntry = ContentEntry::Hint {
     frame: 2,
     place: 0,
     page: 1,
@@ -31,7 +31,7 @@ const NEWER: Entry = Entry::Hint {
 
 // Under 7 in a table without entries; under 3, 7, 11 and 15, of which the first three have one and fall into one bucket
 // of 4; and under 3, 7 and 11 once the one in the middle of the chain is gone.
-const BY_HASH: [Option<Entry>; 8] = [
+const BY_HASH: [Option<ContentEntry>; 8] = [
     None,
     Some(HINT),
     Some(SHARED),
@@ -43,7 +43,7 @@ const BY_HASH: [Option<Entry>; 8] = [
 ];
 
 // Of one frame: under its old hash and its new one, once it is shared, and once no page shares it any more.
-const OF_ONE_FRAME: [Option<Entry>; 4] = [None, Some(NEWER), Some(SHARED), None];
+const OF_ONE_FRAME: [Option<ContentEntry>; 4] = [None, Some(NEWER), Some(SHARED), None];
 
 // What there is of a frame without an entry, of one that a single page shares, and of one that none shares any more.
 const MARKS: [Mark; 3] = [
@@ -52,7 +52,7 @@ const MARKS: [Mark; 3] = [
     Mark::Plain,
 ];
 
-fn found_by_hash(alloc: Global) -> Result<(Mark, [Option<Entry>; 8]), AllocError> {
+fn found_by_hash(alloc: Global) -> Result<(Mark, [Option<ContentEntry>; 8]), AllocError> {
     let mut table = Table::new(alloc, 4)?;
     let mark = table.mark(3);
     let at_first = table.look(7);
@@ -66,7 +66,7 @@ fn found_by_hash(alloc: Global) -> Result<(Mark, [Option<Entry>; 8]), AllocError
     Ok((mark, found))
 }
 
-fn found_of_one_frame(alloc: Global) -> Result<([Mark; 2], [Option<Entry>; 4]), AllocError> {
+fn found_of_one_frame(alloc: Global) -> Result<([Mark; 2], [Option<ContentEntry>; 4]), AllocError> {
     let mut table = Table::new(alloc, 3)?;
     table.set_hint(2, 1, 0, 0);
     table.set_hint(2, 2, 0, 1);

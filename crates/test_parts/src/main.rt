@@ -40,8 +40,8 @@ fn main(rt: HostRuntime) -> Result<()> {
     println!(rt; "wh_tables: {lists} random lists")?;
     tell(&rt, "wh_content", content::check(alloc)?)?;
     tell(&rt, "wh_swap", swap::check(alloc)?)?;
-    tell(&rt, "wh_tax", tax::check()?)?;
+    tell(&rt, "wh_reclaim", tax::check()?)?;
     tell(&rt, "wh_admit", admit::check(alloc)?)?;
-    tell(&rt, "wh_arguments", arguments::check(alloc)?)?;
+    tell(&rt, "wh_instance", arguments::check(alloc)?)?;
     Ok(())
 }

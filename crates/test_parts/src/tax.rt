@@ -1,11 +1,12 @@
-//! Who gives up a page by `wh_tax`: worked examples.
+//! Who gives up a page by `wh_reclaim`: worked examples.
 
 ghost use Rattle.std.specs.Prelude.{◌≤◌};
 
 use crate::tables::{agree, first_other};
 use anyhow::Result;
 use std::cmp::Ordering;
-use wh_tax::{Claim, Tax, cmp_rho, victim, weight};
+use wh_host_model::{Claim, Tax};
+use wh_reclaim::{cmp_rho, victim, weight};
 
 // What a busy instance and an idle one weigh under a tax.
 const WEIGHTS: [u64; 2] = [100, 200];

@@ -1,4 +1,4 @@
-//! Calls: what they come to, what they are charged, and calls that stand for fuel.
+//! Calls: what they come to, what they are charged, and calls that wait for fuel.
 
 use crate::running::expect_all;
 use std::test::Fail;
@@ -149,7 +149,7 @@ const CANCEL: &[(&str, &str)] = &[
     ("", "call 1 cancelled charges 3\ncall 2 fuel charges 0\n"),
 ];
 
-/// Where there is no call to give fuel to, to end or to try again. One that stands for fuel isn't tried again.
+/// Where there is no call to give fuel to, to end or to try again. One that waits for fuel isn't tried again.
 const NO_CALL: &[(&str, &str)] = &[
     ("load m loop", "module m ok\n"),
     ("admit a m 100 2 16 0 0 0", "admit a ok 0\n"),

@@ -3,7 +3,7 @@
 use crate::running::expect_all;
 use std::test::Fail;
 
-/// Calls that stand for fuel, wait, have ended or were refused, and a start that stands for fuel: each has one last line. What
+/// Calls that wait for fuel, wait, have ended or were refused, and a start that waits for fuel: each has one last line. What
 /// is asked of a released instance is refused after any number of drains, and its name stays taken.
 const LIVES: &[(&str, &str)] = &[
     ("load m loop", "module m ok\n"),

@@ -10,7 +10,7 @@ use crate::arrivals::{enter, let_go};
 use crate::steps::{Begin, Found, Key, Step};
 use anyhow::Result;
 use std::alloc::Global;
-use wh_content::Entry;
+use wh_content::ContentEntry;
 use wh_host_model::Offer;
 use wh_kernels::{ConstantHash, FnvHash, PageHash};
 use wh_model::{Got, Need};
@@ -90,7 +90,7 @@ fn paired(memory: &mut Memory, place: u32, page: u32, hash: u64) -> bool {
         return false;
     };
     let Some(
-        Entry::Hint {
+        ContentEntry::Hint {
             frame: shared,
             place: other_place,
             page: other_page,
@@ -148,9 +148,9 @@ fn must_leave(memory: &mut Memory, place: u32, page: PageOf) -> bool {
 }
 
 // Whether the hint of a page is found, which stands alone on its frame.
-fn is_hint_of(memory: &Memory, entry: Option<Entry>, place: u32, page: u32) -> bool {
+fn is_hint_of(memory: &Memory, entry: Option<ContentEntry>, place: u32, page: u32) -> bool {
     match memory.private_frame(place, page) {
-        Some(frame) => entry == Some(Entry::Hint { frame, place, page }),
+        Some(frame) => entry == Some(ContentEntry::Hint { frame, place, page }),
         None => false,
     }
 }

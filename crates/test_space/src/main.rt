@@ -1,9 +1,10 @@
 //! Tests the memory on which all instances lie.
 //!
 //! First it does the same to four memories on shared frames and to four flat ones, and compares all that is seen: 10000 random
-//! loads, stores, growths and offers, with pages offered under their own hash alone, and again under others' too; each list once
-//! under FNV-1a and once under the hash that is 0 for each page. Every 250 steps all bytes are compared, and the sums of frames;
-//! and every 1000, where all hashes were right, all pages are offered, and the frames in use counted.
+//! loads, stores, growths and offers, and between them what two do at once beside the memory, which is then laid back. Pages are
+//! offered under their own hash alone, and again under others' too; each list once under FNV-1a and once under the hash that is 0
+//! for each page. Every 250 steps all bytes are compared, and the sums of frames; and every 1000, where all hashes were right, all
+//! pages are offered, and the frames in use counted.
 //!
 //! Then it goes through tables that were worked out by hand: what is done, row by row, and what has to come of it.
 //!
@@ -13,6 +14,7 @@
 
 mod access;
 mod arrivals;
+mod beside;
 mod ground;
 mod leaving;
 mod offers;
@@ -45,7 +47,7 @@ fn take_steps<H: PageHash>(
     trial.begin(alloc)?;
     for step in 0..STEPS {
         trial
-            .step(hasher, astray)
+            .step(alloc, hasher, astray)
             .context(format_args!("step {step}"))?;
         if step % 250 == 249 {
             trial.compare()?;
@@ -76,6 +78,10 @@ fn look(counts: &Counts) -> Result<()> {
     ensure!(
         counts.merged > 50 && counts.not_ready > 100,
         "too few pages were merged, or stores refused: {counts:?}"
+    );
+    ensure!(
+        counts.laid > 100 && counts.not_beside > 100,
+        "too little was done beside the memory: {counts:?}"
     );
     Ok(())
 }

@@ -96,7 +96,7 @@ fn stored<D: SwapDev>(memory: &mut Memory, device: &D, place: usize, at: u64, by
     requires { AreTogether memory.old (D.held device.now) }
     ensures { AreTogether memory.new (D.held device.now) }
 {
-    memory.known();
+    memory.invariant();
     let _ = device;
     memory.store(place, at, &[byte])
 }

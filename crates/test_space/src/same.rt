@@ -15,6 +15,7 @@ pub fn load<V: LinearMem, F: LinearMem>(
     quickly: bool,
 ) -> Result<()>
     requires { count ≤ 4096 }
+    ensures { V.keeps view.old view.new }
 {
     let mut seen = [7; 4096];
     let mut wanted = [7; 4096];
@@ -32,6 +33,35 @@ pub fn load<V: LinearMem, F: LinearMem>(
     Ok(())
 }
 
+// Reads so many bytes of both, and says whether it could be done at once. Else it looks that they aren't read.
+pub fn load_if_ready<V: LinearMem, F: LinearMem>(
+    view: &mut V,
+    flat: &mut F,
+    at: u64,
+    count: usize,
+    quickly: bool,
+) -> Result<bool>
+    requires { count ≤ 4096 }
+    ensures { V.keeps view.old view.new }
+{
+    let need = Need {
+        at,
+        length: count,
+        writes: false,
+    };
+    let end = at.saturating_add(count as u64);
+    if view.is_ready(need) || end > 65536 * u64::from(flat.size()) {
+        load(view, flat, at, count, quickly)?;
+        return Ok(true);
+    }
+    let mut seen = [7; 4096];
+    ensure!(
+        view.load(at, &mut seen[..count]) == Got::NotReady(need),
+        "a load at {at} wasn't ready and is done"
+    );
+    Ok(false)
+}
+
 // Writes these bytes to both, and says whether it could be done at once. Where no frame is free for it the flat one is left as
 // it is, too.
 pub fn store<V: LinearMem, F: LinearMem>(
@@ -42,6 +72,7 @@ pub fn store<V: LinearMem, F: LinearMem>(
     quickly: bool,
 ) -> Result<bool>
     requires { length given.now ≤ 4096 }
+    ensures { V.keeps view.old view.new }
 {
     if quickly && view.quick_store(at, given) {
         ensure!(
@@ -73,7 +104,9 @@ pub fn store<V: LinearMem, F: LinearMem>(
 }
 
 // Adds so many pages of 65536 bytes to both.
-pub fn grow<V: LinearMem, F: LinearMem>(view: &mut V, flat: &mut F, pages: u32) -> Result<()> {
+pub fn grow<V: LinearMem, F: LinearMem>(view: &mut V, flat: &mut F, pages: u32) -> Result<()>
+    ensures { V.keeps view.old view.new }
+{
     let grown = view.grow(pages);
     ensure!(flat.grow(pages) == grown, "a growth came to {grown:?}");
     ensure!(flat.size() == view.size(), "the sizes differ");

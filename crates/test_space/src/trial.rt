@@ -16,13 +16,14 @@ use wh_scan::{offer, scan_all, take};
 use wh_space::{Memory, Promise, View};
 
 // How many memories there are, how many frames they have together, and how many pages of 4096 bytes each may have.
-const PLACES: u32 = 4;
+pub const PLACES: u32 = 4;
 
 const FRAMES: u32 = 96;
 
-const MAX: u32 = 48;
+pub const MAX: u32 = 48;
 
-// How often each answer of an offer came, and how often a store found no frame.
+// How often each answer of an offer came, how often a store found no frame, how often what two have written was laid back, and
+// how often something couldn't be done beside the memory.
 #[derive(Clone, Copy, Debug, Default)]
 pub struct Counts {
     pub skipped: u32,
@@ -32,14 +33,42 @@ pub struct Counts {
     pub merged: u32,
     pub false_match: u32,
     pub not_ready: u32,
+    pub laid: u32,
+    pub not_beside: u32,
 }
 
 // The memories, by place.
 pub struct Trial {
-    memory: Memory,
-    flats: Vec<FlatMemory>,
-    random: Random,
+    pub memory: Memory,
+    pub flats: Vec<FlatMemory>,
+    pub random: Random,
     pub counts: Counts,
+}
+
+// A place in a memory of so many pages of 65536 bytes, often near the end of a page of 4096; now and then it is beyond.
+pub fn some_place(random: &mut Random, size: u32) -> u64 {
+    let page = random.below(size.min(4) * 16 + 1);
+    let near = 4090 + random.below(6);
+    let any = random.below(4096);
+    let offset = match random.below(4) {
+        0 => near,
+        1 => any,
+        _ => 0,
+    };
+    4096 * u64::from(page) + u64::from(offset)
+}
+
+// How many bytes to read or write: a whole page, some of it, those of a number, or none.
+pub fn some_count(random: &mut Random) -> usize
+    ensures { result ≤ 4096 }
+{
+    let few = random.below(9) as usize;
+    let any = random.below(4097) as usize;
+    match random.below(4) {
+        0 => any,
+        1 | 2 => few,
+        _ => 4096,
+    }
 }
 
 impl Trial {
@@ -83,38 +112,13 @@ impl Trial {
     }
 
     // Does one thing. Where `astray`, pages are offered under the hashes of others, too.
-    pub fn step<H: PageHash>(&mut self, hasher: &H, astray: bool) -> Result<()> {
+    pub fn step<H: PageHash>(&mut self, alloc: Global, hasher: &H, astray: bool) -> Result<()> {
         match self.random.below(64) {
             0 => self.grow(),
-            1..16 => self.load(),
+            1 => self.run_beside(alloc),
+            2..16 => self.load(),
             16..40 => self.store(),
             _ => self.offer(hasher, astray),
-        }
-    }
-
-    // A place in a memory of so many pages of 65536 bytes, often near the end of a page of 4096; now and then it is beyond.
-    fn some_place(&mut self, size: u32) -> u64 {
-        let page = self.random.below(size.min(4) * 16 + 1);
-        let near = 4090 + self.random.below(6);
-        let any = self.random.below(4096);
-        let offset = match self.random.below(4) {
-            0 => near,
-            1 => any,
-            _ => 0,
-        };
-        4096 * u64::from(page) + u64::from(offset)
-    }
-
-    // How many bytes to read or write: a whole page, some of it, those of a number, or none.
-    fn some_count(&mut self) -> usize
-        ensures { result ≤ 4096 }
-    {
-        let few = self.random.below(9) as usize;
-        let any = self.random.below(4097) as usize;
-        match self.random.below(4) {
-            0 => any,
-            1 | 2 => few,
-            _ => 4096,
         }
     }
 
@@ -122,8 +126,8 @@ impl Trial {
         let place = self.random.below(PLACES) as usize;
         let quickly = self.random.below(2) == 0;
         let flat_size = self.size(place)?;
-        let at = self.some_place(flat_size);
-        let count = self.some_count();
+        let at = some_place(&mut self.random, flat_size);
+        let count = some_count(&mut self.random);
         let flat = self.flats.get_mut(place).context("nobody is there")?;
         let mut view = View {
             memory: &mut self.memory,
@@ -137,8 +141,8 @@ impl Trial {
         let place = self.random.below(PLACES) as usize;
         let quickly = self.random.below(2) == 0;
         let flat_size = self.size(place)?;
-        let at = self.some_place(flat_size);
-        let count = self.some_count();
+        let at = some_place(&mut self.random, flat_size);
+        let count = some_count(&mut self.random);
         let given = [self.random.below(3) as u8; 4096];
         let flat = self.flats.get_mut(place).context("nobody is there")?;
         let mut view = View {

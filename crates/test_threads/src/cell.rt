@@ -1,7 +1,7 @@
 //! A cell with a swap device in memory: what is asked of it, what is counted, and calls that threads run.
 
 ghost use Rattle.std.specs.Prelude.{◌≡◌, ◌-◌, ◌^◌, ◌<◌, [], replicate};
-ghost use Rattle.wh_swap.specs.Memory.{memory_held};
+ghost use Rattle.wh_swap.specs.MemorySwaps.{memory_held};
 
 use std::alloc::Global;
 use std::marker::Brand;
@@ -10,14 +10,16 @@ use std::sync::Wait;
 use std::sync::ledger::Ledger;
 use std::test::Fail;
 use std::thread::Threads;
-use wh_cell::{Fittings, HostCell, Locked, Owner, Ties};
+use wh_cell::{CellAgreements, CellParts, HostCell, Locked, Owner};
 use wh_host::{CallStatus, CallValue, Host, ModuleId, Params};
 use wh_host_model::{InstId, Tax, TurnEnd};
 use wh_kernels::FnvHash;
 use wh_model::ValType;
-use wh_scheduler::{Manner, OwnedHost, run_calls};
+use wh_scheduler::{OwnedHost, RunConfig, run_calls};
 use wh_swap::MemSwap;
-use wh_threads::{Message, Order, Shares, Worker, hand_out, open_channel, pass_for, receive_turn};
+use wh_threads::{
+    Message, ReceivedTurn, Shares, Worker, dispatch, open_channel, pass_for, receive_turn,
+};
 
 /// `s` stores a byte, and `l` loads one.
 pub const BYTES: [u8; 63] = [
@@ -29,7 +31,7 @@ pub const BYTES: [u8; 63] = [
 
 // A cell, its owner's right and its shares.
 #[derive(Drop)]
-struct Begun<T: Ledger, C: Ledger, O: Ledger, E: Ledger, B: Ties> {
+struct Begun<T: Ledger, C: Ledger, O: Ledger, E: Ledger, B: CellAgreements> {
     cell: HostCell<MemSwap, T, C, O, E, B>,
     owner: Owner<MemSwap, B>,
     shares: Shares<T, C, O, E>,
@@ -49,24 +51,24 @@ pub fn given(alloc: Global) -> Params {
 }
 
 // A cell of a new host with four frames and 64 slots.
-fn begin_cell<T: Ledger, C: Ledger, O: Ledger, E: Ledger, B: Ties>(
+fn begin_cell<T: Ledger, C: Ledger, O: Ledger, E: Ledger, B: CellAgreements>(
     alloc: Global,
-    fittings: Fittings<MemSwap>,
+    cell_parts: CellParts<MemSwap>,
 ) -> Result<Begun<T, C, O, E, B>, Fail>
-    requires empty { memory_held fittings.device ≡ replicate 64 [] }
-    requires owned { fittings.to_owner ≡ B.to_owner }
-    requires backed { fittings.to_device ≡ B.to_device }
-    requires turns { (fittings.turns.name ≡ T.name) × (fittings.turns.parts ≡ T.parts)
+    requires empty { memory_held cell_parts.device ≡ replicate 64 [] }
+    requires owned { cell_parts.to_owner ≡ B.to_owner }
+    requires backed { cell_parts.to_device ≡ B.to_device }
+    requires turns { (cell_parts.turns.name ≡ T.name) × (cell_parts.turns.parts ≡ T.parts)
         × (64 < T.parts) }
-    requires charges { (fittings.charges.name ≡ C.name) × (fittings.charges.parts ≡ C.parts)
+    requires charges { (cell_parts.charges.name ≡ C.name) × (cell_parts.charges.parts ≡ C.parts)
         × (64 < C.parts) }
-    requires offers { (fittings.offers.name ≡ O.name) × (fittings.offers.parts ≡ O.parts)
+    requires offers { (cell_parts.offers.name ≡ O.name) × (cell_parts.offers.parts ≡ O.parts)
         × (1 < O.parts) }
-    requires evictions { (fittings.evictions.name ≡ E.name)
-        × (fittings.evictions.parts ≡ E.parts) × (1 < E.parts) }
+    requires evictions { (cell_parts.evictions.name ≡ E.name)
+        × (cell_parts.evictions.parts ≡ E.parts) × (1 < E.parts) }
 {
     let host = Host::new(alloc, 4, 64, Tax { num: 0, den: 1 })?;
-    let (cell, owner, shares) = HostCell::new(alloc, host, fittings)?;
+    let (cell, owner, shares) = HostCell::new(alloc, host, cell_parts)?;
     Ok(Begun {
         cell,
         owner,
@@ -75,7 +77,7 @@ fn begin_cell<T: Ledger, C: Ledger, O: Ledger, E: Ledger, B: Ties>(
 }
 
 // Two instances, with these calls of each: stores of 7 to three pages, and loads of them.
-fn ask_locked<T: Ledger, C: Ledger, O: Ledger, E: Ledger, B: Ties>(
+fn ask_locked<T: Ledger, C: Ledger, O: Ledger, E: Ledger, B: CellAgreements>(
     alloc: Global,
     locked: &mut Locked<MemSwap, T, C, O, E, B>,
     owner: &mut Owner<MemSwap, B>,
@@ -95,7 +97,7 @@ fn ask_locked<T: Ledger, C: Ledger, O: Ledger, E: Ledger, B: Ties>(
 }
 
 // The same, under the lock of the cell.
-fn asked<T: Ledger, C: Ledger, O: Ledger, E: Ledger, B: Ties, R: Wait>(
+fn asked<T: Ledger, C: Ledger, O: Ledger, E: Ledger, B: CellAgreements, R: Wait>(
     rt: &R,
     alloc: Global,
     begun: &mut Begun<T, C, O, E, B>,
@@ -105,7 +107,7 @@ fn asked<T: Ledger, C: Ledger, O: Ledger, E: Ledger, B: Ties, R: Wait>(
 }
 
 // How far a call is.
-fn status<T: Ledger, C: Ledger, O: Ledger, E: Ledger, B: Ties, R: Wait>(
+fn status<T: Ledger, C: Ledger, O: Ledger, E: Ledger, B: CellAgreements, R: Wait>(
     rt: &R,
     begun: &Begun<T, C, O, E, B>,
     id: InstId,
@@ -119,29 +121,29 @@ fn status<T: Ledger, C: Ledger, O: Ledger, E: Ledger, B: Ties, R: Wait>(
 type Turned = (TurnEnd, u128, u64, Option<CallStatus>);
 
 // One turn of this worker, which can count one more.
-fn turn_locked<T: Ledger, C: Ledger, O: Ledger, E: Ledger, B: Ties>(
+fn turn_locked<T: Ledger, C: Ledger, O: Ledger, E: Ledger, B: CellAgreements>(
     locked: &mut Locked<MemSwap, T, C, O, E, B>,
     owner: &mut Owner<MemSwap, B>,
     worker: &mut Worker<T, C>,
-    order: Order,
+    order: ReceivedTurn,
 ) -> Turned
     requires room { worker.old.tally.turns < 2 ^ 64 - 1 }
 {
     let id = order.instance();
     let end = locked.turn(order, worker);
-    locked.meet(owner);
+    locked.sync_owner(owner);
     let charged = locked.books().charges.low();
     let status = locked.host().call_status(id, 1);
     (end, worker.tally().charges, charged, status)
 }
 
 // The same, under the lock of the cell.
-fn turn_by<T: Ledger, C: Ledger, O: Ledger, E: Ledger, B: Ties, R: Wait>(
+fn turn_by<T: Ledger, C: Ledger, O: Ledger, E: Ledger, B: CellAgreements, R: Wait>(
     rt: &R,
     cell: &HostCell<MemSwap, T, C, O, E, B>,
     owner: &mut Owner<MemSwap, B>,
     worker: &mut Worker<T, C>,
-    order: Order,
+    order: ReceivedTurn,
 ) -> Turned
     requires room { worker.old.tally.turns < 2 ^ 64 - 1 }
 {
@@ -150,7 +152,7 @@ fn turn_by<T: Ledger, C: Ledger, O: Ledger, E: Ledger, B: Ties, R: Wait>(
 }
 
 // One turn of 1000 charges of the first worker, to which its share is lent: it is handed out, received and run.
-fn turn_of<T: Ledger, C: Ledger, O: Ledger, E: Ledger, B: Ties, R: Wait>(
+fn turn_of<T: Ledger, C: Ledger, O: Ledger, E: Ledger, B: CellAgreements, R: Wait>(
     rt: &R,
     alloc: Global,
     begun: Begun<T, C, O, E, B>,
@@ -164,42 +166,42 @@ fn turn_of<T: Ledger, C: Ledger, O: Ledger, E: Ledger, B: Ties, R: Wait>(
     let Shares { all } = shares;
     let mut lender = all;
     let mut worker = lender.lend_worker(0);
-    let (outlet, inlet, first) = open_channel(alloc, 1)?;
+    let (sender, receiver, first) = open_channel(alloc, 1)?;
     let mut slip = first;
-    let mut theirs = pass_for(&outlet, &mut slip);
+    let mut theirs = pass_for(&sender, &mut slip);
     let message = Message::Turn {
         number: 0,
         instance: id,
         quantum: 1000,
     };
-    if worker.is_full() || !hand_out(rt, &outlet, &mut slip, message) {
+    if worker.is_full() || !dispatch(rt, &sender, &mut slip, message) {
         return Ok((TurnEnd::Idle, 0, 0, None));
     }
-    match receive_turn(rt, &inlet, &mut theirs) {
+    match receive_turn(rt, &receiver, &mut theirs) {
         Some(order) => Ok(turn_by(rt, &cell, &mut owner, &mut worker, order)),
         None => Ok((TurnEnd::Idle, 0, 0, None)),
     }
 }
 
 // One turn of one worker on a new cell that was asked.
-fn one_turn<T: Ledger, C: Ledger, O: Ledger, E: Ledger, B: Ties, R: Wait>(
+fn one_turn<T: Ledger, C: Ledger, O: Ledger, E: Ledger, B: CellAgreements, R: Wait>(
     rt: &R,
     alloc: Global,
-    fittings: Fittings<MemSwap>,
+    cell_parts: CellParts<MemSwap>,
 ) -> Result<Turned, Fail>
-    requires empty { memory_held fittings.device ≡ replicate 64 [] }
-    requires owned { fittings.to_owner ≡ B.to_owner }
-    requires backed { fittings.to_device ≡ B.to_device }
-    requires turns { (fittings.turns.name ≡ T.name) × (fittings.turns.parts ≡ T.parts)
+    requires empty { memory_held cell_parts.device ≡ replicate 64 [] }
+    requires owned { cell_parts.to_owner ≡ B.to_owner }
+    requires backed { cell_parts.to_device ≡ B.to_device }
+    requires turns { (cell_parts.turns.name ≡ T.name) × (cell_parts.turns.parts ≡ T.parts)
         × (64 < T.parts) }
-    requires charges { (fittings.charges.name ≡ C.name) × (fittings.charges.parts ≡ C.parts)
+    requires charges { (cell_parts.charges.name ≡ C.name) × (cell_parts.charges.parts ≡ C.parts)
         × (64 < C.parts) }
-    requires offers { (fittings.offers.name ≡ O.name) × (fittings.offers.parts ≡ O.parts)
+    requires offers { (cell_parts.offers.name ≡ O.name) × (cell_parts.offers.parts ≡ O.parts)
         × (1 < O.parts) }
-    requires evictions { (fittings.evictions.name ≡ E.name)
-        × (fittings.evictions.parts ≡ E.parts) × (1 < E.parts) }
+    requires evictions { (cell_parts.evictions.name ≡ E.name)
+        × (cell_parts.evictions.parts ≡ E.parts) × (1 < E.parts) }
 {
-    let mut begun = begin_cell::<T, C, O, E, B>(alloc, fittings)?;
+    let mut begun = begin_cell::<T, C, O, E, B>(alloc, cell_parts)?;
     let [a, _] = asked(rt, alloc, &mut begun)?;
     turn_of(rt, alloc, begun, a)
 }
@@ -208,9 +210,9 @@ fn one_turn<T: Ledger, C: Ledger, O: Ledger, E: Ledger, B: Ties, R: Wait>(
 fn a_turn_is_counted(rt: HostRuntime) -> Result<(), Fail> {
     let alloc = rt.alloc();
     let device = MemSwap::new(alloc, 64)?;
-    let fittings = Fittings::new(alloc, device)?;
+    let cell_parts = CellParts::new(alloc, device)?;
     let (end, tally, book, status) = one_turn::<Brand, Brand, Brand, Brand, Brand, HostRuntime>(
-        &rt, alloc, fittings,
+        &rt, alloc, cell_parts,
     )?;
     assert_eq!(rt; end, TurnEnd::Ended);
     let Some(CallStatus::Returned { value, charges }) = status else {
@@ -229,10 +231,10 @@ fn run_turns<
     C: Ledger + Send + 'static,
     O: Ledger + Send + 'static,
     E: Ledger + Send + 'static,
-    B: Ties + Send + 'static,
+    B: CellAgreements + Send + 'static,
     R: Threads + Wait + Copy + Send + 'static,
 >(rt: R, alloc: Global, begun: &mut Begun<T, C, O, E, B>, ids: &[InstId]) -> u64 {
-    let manner = Manner {
+    let manner = RunConfig {
         hasher: FnvHash,
         quantum: 2,
         workers: 2,
@@ -253,7 +255,7 @@ fn counted_turns<T: Ledger, C: Ledger, O: Ledger, E: Ledger>(shares: &Shares<T, 
 }
 
 // How far the loads of these instances are.
-fn loads<T: Ledger, C: Ledger, O: Ledger, E: Ledger, B: Ties, R: Wait>(
+fn loads<T: Ledger, C: Ledger, O: Ledger, E: Ledger, B: CellAgreements, R: Wait>(
     rt: &R,
     alloc: Global,
     begun: &Begun<T, C, O, E, B>,
@@ -275,7 +277,7 @@ fn run_begun<
     C: Ledger + Send + 'static,
     O: Ledger + Send + 'static,
     E: Ledger + Send + 'static,
-    B: Ties + Send + 'static,
+    B: CellAgreements + Send + 'static,
     R: Threads + Wait + Copy + Send + 'static,
 >(
     rt: R,
@@ -295,26 +297,26 @@ fn all_run<
     C: Ledger + Send + 'static,
     O: Ledger + Send + 'static,
     E: Ledger + Send + 'static,
-    B: Ties + Send + 'static,
+    B: CellAgreements + Send + 'static,
     R: Threads + Wait + Copy + Send + 'static,
 >(
     rt: R,
     alloc: Global,
-    fittings: Fittings<MemSwap>,
+    cell_parts: CellParts<MemSwap>,
 ) -> Result<(Vec<Option<CallStatus>>, bool, u64), Fail>
-    requires empty { memory_held fittings.device ≡ replicate 64 [] }
-    requires owned { fittings.to_owner ≡ B.to_owner }
-    requires backed { fittings.to_device ≡ B.to_device }
-    requires turns { (fittings.turns.name ≡ T.name) × (fittings.turns.parts ≡ T.parts)
+    requires empty { memory_held cell_parts.device ≡ replicate 64 [] }
+    requires owned { cell_parts.to_owner ≡ B.to_owner }
+    requires backed { cell_parts.to_device ≡ B.to_device }
+    requires turns { (cell_parts.turns.name ≡ T.name) × (cell_parts.turns.parts ≡ T.parts)
         × (64 < T.parts) }
-    requires charges { (fittings.charges.name ≡ C.name) × (fittings.charges.parts ≡ C.parts)
+    requires charges { (cell_parts.charges.name ≡ C.name) × (cell_parts.charges.parts ≡ C.parts)
         × (64 < C.parts) }
-    requires offers { (fittings.offers.name ≡ O.name) × (fittings.offers.parts ≡ O.parts)
+    requires offers { (cell_parts.offers.name ≡ O.name) × (cell_parts.offers.parts ≡ O.parts)
         × (1 < O.parts) }
-    requires evictions { (fittings.evictions.name ≡ E.name)
-        × (fittings.evictions.parts ≡ E.parts) × (1 < E.parts) }
+    requires evictions { (cell_parts.evictions.name ≡ E.name)
+        × (cell_parts.evictions.parts ≡ E.parts) × (1 < E.parts) }
 {
-    let mut begun = begin_cell::<T, C, O, E, B>(alloc, fittings)?;
+    let mut begun = begin_cell::<T, C, O, E, B>(alloc, cell_parts)?;
     run_begun(rt, alloc, &mut begun)
 }
 
@@ -335,9 +337,9 @@ fn expect_seven(rt: &impl Abort, status: Option<CallStatus>, what: &str) {
 fn workers_run_all_calls(rt: HostRuntime) -> Result<(), Fail> {
     let alloc = rt.alloc();
     let device = MemSwap::new(alloc, 64)?;
-    let fittings = Fittings::new(alloc, device)?;
+    let cell_parts = CellParts::new(alloc, device)?;
     let (all, are_counted, evictions) = all_run::<Brand, Brand, Brand, Brand, Brand, HostRuntime>(
-        rt, alloc, fittings,
+        rt, alloc, cell_parts,
     )?;
     assert_eq!(rt; all.len(), 6);
     for status in &all {
@@ -351,24 +353,24 @@ fn workers_run_all_calls(rt: HostRuntime) -> Result<(), Fail> {
 }
 
 // A new host with 64 frames and 256 slots, in its owner's hand.
-pub fn begin_owned<T: Ledger, C: Ledger, O: Ledger, E: Ledger, B: Ties>(
+pub fn begin_owned<T: Ledger, C: Ledger, O: Ledger, E: Ledger, B: CellAgreements>(
     alloc: Global,
-    fittings: Fittings<MemSwap>,
+    cell_parts: CellParts<MemSwap>,
 ) -> Result<OwnedHost<MemSwap, T, C, O, E, B>, Fail>
-    requires empty { memory_held fittings.device ≡ replicate 256 [] }
-    requires owned { fittings.to_owner ≡ B.to_owner }
-    requires backed { fittings.to_device ≡ B.to_device }
-    requires turns { (fittings.turns.name ≡ T.name) × (fittings.turns.parts ≡ T.parts)
+    requires empty { memory_held cell_parts.device ≡ replicate 256 [] }
+    requires owned { cell_parts.to_owner ≡ B.to_owner }
+    requires backed { cell_parts.to_device ≡ B.to_device }
+    requires turns { (cell_parts.turns.name ≡ T.name) × (cell_parts.turns.parts ≡ T.parts)
         × (64 < T.parts) }
-    requires charges { (fittings.charges.name ≡ C.name) × (fittings.charges.parts ≡ C.parts)
+    requires charges { (cell_parts.charges.name ≡ C.name) × (cell_parts.charges.parts ≡ C.parts)
         × (64 < C.parts) }
-    requires offers { (fittings.offers.name ≡ O.name) × (fittings.offers.parts ≡ O.parts)
+    requires offers { (cell_parts.offers.name ≡ O.name) × (cell_parts.offers.parts ≡ O.parts)
         × (1 < O.parts) }
-    requires evictions { (fittings.evictions.name ≡ E.name)
-        × (fittings.evictions.parts ≡ E.parts) × (1 < E.parts) }
+    requires evictions { (cell_parts.evictions.name ≡ E.name)
+        × (cell_parts.evictions.parts ≡ E.parts) × (1 < E.parts) }
 {
     let host = Host::new(alloc, 64, 256, Tax { num: 0, den: 1 })?;
-    Ok(OwnedHost::new(alloc, host, fittings)?)
+    Ok(OwnedHost::new(alloc, host, cell_parts)?)
 }
 
 // Whether each of so many workers has run a turn.
@@ -388,7 +390,7 @@ fn each_has_worked<T: Ledger, C: Ledger, O: Ledger, E: Ledger>(
 
 // Each instance is asked for 200 stores and a load of what they stored: the last load. So there are turns for several stints
 // of workers.
-fn ask_each<T: Ledger, C: Ledger, O: Ledger, E: Ledger, B: Ties>(
+fn ask_each<T: Ledger, C: Ledger, O: Ledger, E: Ledger, B: CellAgreements>(
     alloc: Global,
     owned: &mut OwnedHost<MemSwap, T, C, O, E, B>,
     ids: &[InstId],
@@ -411,7 +413,7 @@ fn run_rounds<
     C: Ledger + Send + 'static,
     O: Ledger + Send + 'static,
     E: Ledger + Send + 'static,
-    B: Ties + Send + 'static,
+    B: CellAgreements + Send + 'static,
     R: Threads + Wait + Copy + Send + 'static,
 >(
     rt: R,
@@ -419,7 +421,7 @@ fn run_rounds<
     owned: &mut OwnedHost<MemSwap, T, C, O, E, B>,
     ids: &[InstId],
 ) -> Result<Option<(InstId, u32)>, Fail> {
-    let manner = Manner {
+    let manner = RunConfig {
         hasher: FnvHash,
         quantum: 1,
         workers: 4,
@@ -439,7 +441,7 @@ fn run_rounds<
 }
 
 // Eight instances of one module on a host in its owner's hand.
-fn eight<T: Ledger, C: Ledger, O: Ledger, E: Ledger, B: Ties>(
+fn eight<T: Ledger, C: Ledger, O: Ledger, E: Ledger, B: CellAgreements>(
     alloc: Global,
     owned: &mut OwnedHost<MemSwap, T, C, O, E, B>,
 ) -> Result<Vec<InstId>, Fail> {
@@ -457,7 +459,7 @@ fn work_on<
     C: Ledger + Send + 'static,
     O: Ledger + Send + 'static,
     E: Ledger + Send + 'static,
-    B: Ties + Send + 'static,
+    B: CellAgreements + Send + 'static,
     R: Threads + Wait + Copy + Send + 'static,
 >(
     rt: R,
@@ -477,22 +479,22 @@ fn all_work<
     C: Ledger + Send + 'static,
     O: Ledger + Send + 'static,
     E: Ledger + Send + 'static,
-    B: Ties + Send + 'static,
+    B: CellAgreements + Send + 'static,
     R: Threads + Wait + Copy + Send + 'static,
->(rt: R, alloc: Global, fittings: Fittings<MemSwap>) -> Result<Option<CallStatus>, Fail>
-    requires empty { memory_held fittings.device ≡ replicate 256 [] }
-    requires owned { fittings.to_owner ≡ B.to_owner }
-    requires backed { fittings.to_device ≡ B.to_device }
-    requires turns { (fittings.turns.name ≡ T.name) × (fittings.turns.parts ≡ T.parts)
+>(rt: R, alloc: Global, cell_parts: CellParts<MemSwap>) -> Result<Option<CallStatus>, Fail>
+    requires empty { memory_held cell_parts.device ≡ replicate 256 [] }
+    requires owned { cell_parts.to_owner ≡ B.to_owner }
+    requires backed { cell_parts.to_device ≡ B.to_device }
+    requires turns { (cell_parts.turns.name ≡ T.name) × (cell_parts.turns.parts ≡ T.parts)
         × (64 < T.parts) }
-    requires charges { (fittings.charges.name ≡ C.name) × (fittings.charges.parts ≡ C.parts)
+    requires charges { (cell_parts.charges.name ≡ C.name) × (cell_parts.charges.parts ≡ C.parts)
         × (64 < C.parts) }
-    requires offers { (fittings.offers.name ≡ O.name) × (fittings.offers.parts ≡ O.parts)
+    requires offers { (cell_parts.offers.name ≡ O.name) × (cell_parts.offers.parts ≡ O.parts)
         × (1 < O.parts) }
-    requires evictions { (fittings.evictions.name ≡ E.name)
-        × (fittings.evictions.parts ≡ E.parts) × (1 < E.parts) }
+    requires evictions { (cell_parts.evictions.name ≡ E.name)
+        × (cell_parts.evictions.parts ≡ E.parts) × (1 < E.parts) }
 {
-    let mut owned = begin_owned::<T, C, O, E, B>(alloc, fittings)?;
+    let mut owned = begin_owned::<T, C, O, E, B>(alloc, cell_parts)?;
     work_on(rt, alloc, &mut owned)
 }
 
@@ -500,8 +502,8 @@ fn all_work<
 fn each_worker_runs_turns(rt: HostRuntime) -> Result<(), Fail> {
     let alloc = rt.alloc();
     let device = MemSwap::new(alloc, 256)?;
-    let fittings = Fittings::new(alloc, device)?;
-    let last = all_work::<Brand, Brand, Brand, Brand, Brand, HostRuntime>(rt, alloc, fittings)?;
+    let cell_parts = CellParts::new(alloc, device)?;
+    let last = all_work::<Brand, Brand, Brand, Brand, Brand, HostRuntime>(rt, alloc, cell_parts)?;
     expect_seven(
         &rt,
         last,

@@ -1,7 +1,7 @@
 //! Turns and offers go on while the swap device is called, and each worker gets turns.
 
 ghost use Rattle.std.specs.Prelude.{◌≡◌, ◌≢◌, ◌+◌, ◌<◌, ⊤, [], length, get_or, replicate, slice_set, IfOk, IsOk, OnOk};
-ghost use Rattle.wh_swap.specs.Memory.{memory_held, memory_writes};
+ghost use Rattle.wh_swap.specs.MemorySwaps.{memory_held, memory_writes};
 
 use std::alloc::{AllocError, Global};
 use std::marker::Brand;
@@ -11,11 +11,11 @@ use std::sync::{Arc, Wait};
 use std::test::Fail;
 use std::thread;
 use std::thread::Threads;
-use wh_cell::{Fittings, HostCell, Locked, Owner, Ties};
+use wh_cell::{CellAgreements, CellParts, HostCell, Locked, Owner};
 use wh_host::{CallStatus, Host, Params};
 use wh_host_model::{InstId, SwapError, Tax};
 use wh_kernels::FnvHash;
-use wh_scheduler::{Manner, OwnedHost, run_calls};
+use wh_scheduler::{OwnedHost, RunConfig, run_calls};
 use wh_swap::{MemSwap, SwapDev};
 use wh_threads::Shares;
 
@@ -117,7 +117,7 @@ fn given(alloc: Global) -> Params {
 }
 
 // One instance stores 1 to 5 on five pages, another goes on forever.
-fn ask_locked<T: Ledger, C: Ledger, O: Ledger, E: Ledger, B: Ties>(
+fn ask_locked<T: Ledger, C: Ledger, O: Ledger, E: Ledger, B: CellAgreements>(
     alloc: Global,
     locked: &mut Locked<GatedSwap, T, C, O, E, B>,
     owner: &mut Owner<GatedSwap, B>,
@@ -134,7 +134,7 @@ fn ask_locked<T: Ledger, C: Ledger, O: Ledger, E: Ledger, B: Ties>(
 }
 
 // The same, under the lock of the cell.
-fn ask<T: Ledger, C: Ledger, O: Ledger, E: Ledger, B: Ties, R: Wait>(
+fn ask<T: Ledger, C: Ledger, O: Ledger, E: Ledger, B: CellAgreements, R: Wait>(
     rt: &R,
     alloc: Global,
     cell: &HostCell<GatedSwap, T, C, O, E, B>,
@@ -145,7 +145,7 @@ fn ask<T: Ledger, C: Ledger, O: Ledger, E: Ledger, B: Ties, R: Wait>(
 }
 
 // The charges and the offers in the books.
-fn counted<T: Ledger, C: Ledger, O: Ledger, E: Ledger, B: Ties, R: Wait>(
+fn counted<T: Ledger, C: Ledger, O: Ledger, E: Ledger, B: CellAgreements, R: Wait>(
     rt: &R,
     cell: &HostCell<GatedSwap, T, C, O, E, B>,
 ) -> (u64, u64) {
@@ -154,7 +154,7 @@ fn counted<T: Ledger, C: Ledger, O: Ledger, E: Ledger, B: Ties, R: Wait>(
 }
 
 // Whether charges and offers grow while the device is called.
-fn both_grow<T: Ledger, C: Ledger, O: Ledger, E: Ledger, B: Ties, R: Wait>(
+fn both_grow<T: Ledger, C: Ledger, O: Ledger, E: Ledger, B: CellAgreements, R: Wait>(
     rt: &R,
     cell: &HostCell<GatedSwap, T, C, O, E, B>,
     gate: &Gate,
@@ -185,7 +185,7 @@ fn returned_on(host: &Host, id: InstId) -> u32 {
 }
 
 // The same, under the lock of the cell.
-fn returned<T: Ledger, C: Ledger, O: Ledger, E: Ledger, B: Ties, R: Wait>(
+fn returned<T: Ledger, C: Ledger, O: Ledger, E: Ledger, B: CellAgreements, R: Wait>(
     rt: &R,
     cell: &HostCell<GatedSwap, T, C, O, E, B>,
     id: InstId,
@@ -208,7 +208,7 @@ fn run_all<
     C: Ledger + Send + 'static,
     O: Ledger + Send + 'static,
     E: Ledger + Send + 'static,
-    B: Ties + Send + 'static,
+    B: CellAgreements + Send + 'static,
     R: Threads + Wait + Copy + Send + 'static,
 >(
     rt: R,
@@ -218,7 +218,7 @@ fn run_all<
     ids: [InstId; 2],
 ) -> bool {
     let mut shares = shares;
-    let manner = Manner {
+    let manner = RunConfig {
         hasher: FnvHash,
         quantum: 10,
         workers: 2,
@@ -230,7 +230,7 @@ fn run_all<
 }
 
 // Looks whether charges and offers grow, cancels the call that goes on forever, and lets the device go on.
-fn look_on<T: Ledger, C: Ledger, O: Ledger, E: Ledger, B: Ties, R: Wait>(
+fn look_on<T: Ledger, C: Ledger, O: Ledger, E: Ledger, B: CellAgreements, R: Wait>(
     rt: &R,
     cell: &HostCell<GatedSwap, T, C, O, E, B>,
     owner: &mut Owner<GatedSwap, B>,
@@ -252,7 +252,7 @@ fn look_beside<
     C: Ledger + Send + 'static,
     O: Ledger + Send + 'static,
     E: Ledger + Send + 'static,
-    B: Ties + Send + 'static,
+    B: CellAgreements + Send + 'static,
     R: Threads + Wait + Copy + Send + 'static,
 >(
     rt: R,
@@ -281,24 +281,24 @@ fn look_on_new<
     C: Ledger + Send + 'static,
     O: Ledger + Send + 'static,
     E: Ledger + Send + 'static,
-    B: Ties + Send + 'static,
+    B: CellAgreements + Send + 'static,
     R: Threads + Wait + Copy + Send + 'static,
->(rt: R, alloc: Global, gate: &Gate, fittings: Fittings<GatedSwap>) -> Result<Seen, Fail>
-    requires empty { memory_held fittings.device.memory ≡ replicate 64 [] }
-    requires owned { fittings.to_owner ≡ B.to_owner }
-    requires backed { fittings.to_device ≡ B.to_device }
-    requires turns { (fittings.turns.name ≡ T.name) × (fittings.turns.parts ≡ T.parts)
+>(rt: R, alloc: Global, gate: &Gate, cell_parts: CellParts<GatedSwap>) -> Result<Seen, Fail>
+    requires empty { memory_held cell_parts.device.memory ≡ replicate 64 [] }
+    requires owned { cell_parts.to_owner ≡ B.to_owner }
+    requires backed { cell_parts.to_device ≡ B.to_device }
+    requires turns { (cell_parts.turns.name ≡ T.name) × (cell_parts.turns.parts ≡ T.parts)
         × (64 < T.parts) }
-    requires charges { (fittings.charges.name ≡ C.name) × (fittings.charges.parts ≡ C.parts)
+    requires charges { (cell_parts.charges.name ≡ C.name) × (cell_parts.charges.parts ≡ C.parts)
         × (64 < C.parts) }
-    requires offers { (fittings.offers.name ≡ O.name) × (fittings.offers.parts ≡ O.parts)
+    requires offers { (cell_parts.offers.name ≡ O.name) × (cell_parts.offers.parts ≡ O.parts)
         × (1 < O.parts) }
-    requires evictions { (fittings.evictions.name ≡ E.name)
-        × (fittings.evictions.parts ≡ E.parts) × (1 < E.parts) }
+    requires evictions { (cell_parts.evictions.name ≡ E.name)
+        × (cell_parts.evictions.parts ≡ E.parts) × (1 < E.parts) }
 {
     let host = Host::new(alloc, 4, 64, Tax { num: 0, den: 1 })?;
     let (cell, mut owner, shares) = HostCell::<GatedSwap, T, C, O, E, B>::new(
-        alloc, host, fittings,
+        alloc, host, cell_parts,
     )?;
     look_beside(rt, alloc, gate, &cell, &mut owner, shares)
 }
@@ -320,8 +320,8 @@ fn see<R: AllocGlobal + Threads + Wait + Copy + Send + 'static>(
 ) -> Result<Seen, Fail> {
     let alloc = rt.alloc();
     let device = gated(alloc, gate)?;
-    let fittings = Fittings::new(alloc, device)?;
-    look_on_new::<Brand, Brand, Brand, Brand, Brand, R>(rt, alloc, gate, fittings)
+    let cell_parts = CellParts::new(alloc, device)?;
+    look_on_new::<Brand, Brand, Brand, Brand, Brand, R>(rt, alloc, gate, cell_parts)
 }
 
 #[test]
@@ -348,7 +348,7 @@ fn run_loops<
     C: Ledger + Send + 'static,
     O: Ledger + Send + 'static,
     E: Ledger + Send + 'static,
-    B: Ties + Send + 'static,
+    B: CellAgreements + Send + 'static,
     R: Threads + Wait + Copy + Send + 'static,
 >(rt: R, alloc: Global, owned: &mut OwnedHost<MemSwap, T, C, O, E, B>) -> Result<(u64, u64), Fail> {
     let loops = owned.load(alloc, &LOOPS)?;
@@ -356,7 +356,7 @@ fn run_loops<
     let b = owned.admit(alloc, loops, given(alloc))?;
     let _ = owned.invoke(alloc, a, "f", &[], 50000)?;
     let _ = owned.invoke(alloc, b, "f", &[], 50000)?;
-    let manner = Manner {
+    let manner = RunConfig {
         hasher: FnvHash,
         quantum: 1,
         workers: 2,
@@ -375,23 +375,23 @@ fn run_evenly<
     C: Ledger + Send + 'static,
     O: Ledger + Send + 'static,
     E: Ledger + Send + 'static,
-    B: Ties + Send + 'static,
+    B: CellAgreements + Send + 'static,
     R: Threads + Wait + Copy + Send + 'static,
->(rt: R, alloc: Global, fittings: Fittings<MemSwap>) -> Result<(u64, u64), Fail>
-    requires empty { memory_held fittings.device ≡ replicate 64 [] }
-    requires owned { fittings.to_owner ≡ B.to_owner }
-    requires backed { fittings.to_device ≡ B.to_device }
-    requires turns { (fittings.turns.name ≡ T.name) × (fittings.turns.parts ≡ T.parts)
+>(rt: R, alloc: Global, cell_parts: CellParts<MemSwap>) -> Result<(u64, u64), Fail>
+    requires empty { memory_held cell_parts.device ≡ replicate 64 [] }
+    requires owned { cell_parts.to_owner ≡ B.to_owner }
+    requires backed { cell_parts.to_device ≡ B.to_device }
+    requires turns { (cell_parts.turns.name ≡ T.name) × (cell_parts.turns.parts ≡ T.parts)
         × (64 < T.parts) }
-    requires charges { (fittings.charges.name ≡ C.name) × (fittings.charges.parts ≡ C.parts)
+    requires charges { (cell_parts.charges.name ≡ C.name) × (cell_parts.charges.parts ≡ C.parts)
         × (64 < C.parts) }
-    requires offers { (fittings.offers.name ≡ O.name) × (fittings.offers.parts ≡ O.parts)
+    requires offers { (cell_parts.offers.name ≡ O.name) × (cell_parts.offers.parts ≡ O.parts)
         × (1 < O.parts) }
-    requires evictions { (fittings.evictions.name ≡ E.name)
-        × (fittings.evictions.parts ≡ E.parts) × (1 < E.parts) }
+    requires evictions { (cell_parts.evictions.name ≡ E.name)
+        × (cell_parts.evictions.parts ≡ E.parts) × (1 < E.parts) }
 {
     let host = Host::new(alloc, 4, 64, Tax { num: 0, den: 1 })?;
-    let mut owned: OwnedHost<MemSwap, T, C, O, E, B> = OwnedHost::new(alloc, host, fittings)?;
+    let mut owned: OwnedHost<MemSwap, T, C, O, E, B> = OwnedHost::new(alloc, host, cell_parts)?;
     run_loops(rt, alloc, &mut owned)
 }
 
@@ -399,9 +399,9 @@ fn run_evenly<
 fn both_workers_get_turns(rt: HostRuntime) -> Result<(), Fail> {
     let alloc = rt.alloc();
     let device = MemSwap::new(alloc, 64)?;
-    let fittings = Fittings::new(alloc, device)?;
+    let cell_parts = CellParts::new(alloc, device)?;
     let (first, second) = run_evenly::<Brand, Brand, Brand, Brand, Brand, HostRuntime>(
-        rt, alloc, fittings,
+        rt, alloc, cell_parts,
     )?;
     assert!(rt; first > 0 && second > 0);
     assert!(rt; first.saturating_add(second) >= 100_000);

@@ -1,7 +1,7 @@
 //! A pass over all pages of a host in its owner's hand: what it counts, and what it leaves on frames.
 
 ghost use Rattle.std.specs.Prelude.{◌≡◌, ◌<◌, [], replicate};
-ghost use Rattle.wh_swap.specs.Memory.{memory_held};
+ghost use Rattle.wh_swap.specs.MemorySwaps.{memory_held};
 
 use crate::cell::{BYTES, begin_owned, given};
 use std::alloc::Global;
@@ -10,9 +10,9 @@ use std::sync::Wait;
 use std::sync::ledger::Ledger;
 use std::test::Fail;
 use std::thread::Threads;
-use wh_cell::{Fittings, Ties};
+use wh_cell::{CellAgreements, CellParts};
 use wh_kernels::FnvHash;
-use wh_scheduler::{Manner, OwnedHost};
+use wh_scheduler::{OwnedHost, RunConfig};
 use wh_swap::MemSwap;
 
 // Two instances with a page of WebAssembly each. Both store 7 at the same place, and one of them 9 elsewhere too.
@@ -21,7 +21,7 @@ fn store_apart<
     C: Ledger + Send + 'static,
     O: Ledger + Send + 'static,
     E: Ledger + Send + 'static,
-    B: Ties + Send + 'static,
+    B: CellAgreements + Send + 'static,
     R: Threads + Wait + Copy + Send + 'static,
 >(rt: R, alloc: Global, owned: &mut OwnedHost<MemSwap, T, C, O, E, B>) -> Result<(), Fail> {
     let bytes = owned.load(alloc, &BYTES)?;
@@ -30,7 +30,7 @@ fn store_apart<
     let _ = owned.invoke(alloc, a, "s", &[4096, 7], 1000)?;
     let _ = owned.invoke(alloc, b, "s", &[4096, 7], 1000)?;
     let _ = owned.invoke(alloc, b, "s", &[8192, 9], 1000)?;
-    let manner = Manner {
+    let manner = RunConfig {
         hasher: FnvHash,
         quantum: 100,
         workers: 1,
@@ -55,7 +55,7 @@ fn pass<
     C: Ledger + Send + 'static,
     O: Ledger + Send + 'static,
     E: Ledger + Send + 'static,
-    B: Ties + Send + 'static,
+    B: CellAgreements + Send + 'static,
     R: Threads + Wait,
 >(rt: &R, alloc: Global, owned: &mut OwnedHost<MemSwap, T, C, O, E, B>) -> Result<Passed, Fail> {
     let (books, shares) = owned.counts();
@@ -78,22 +78,22 @@ fn passes<
     C: Ledger + Send + 'static,
     O: Ledger + Send + 'static,
     E: Ledger + Send + 'static,
-    B: Ties + Send + 'static,
+    B: CellAgreements + Send + 'static,
     R: Threads + Wait + Copy + Send + 'static,
->(rt: R, alloc: Global, fittings: Fittings<MemSwap>) -> Result<(Passed, Passed), Fail>
-    requires empty { memory_held fittings.device ≡ replicate 256 [] }
-    requires owned { fittings.to_owner ≡ B.to_owner }
-    requires backed { fittings.to_device ≡ B.to_device }
-    requires turns { (fittings.turns.name ≡ T.name) × (fittings.turns.parts ≡ T.parts)
+>(rt: R, alloc: Global, cell_parts: CellParts<MemSwap>) -> Result<(Passed, Passed), Fail>
+    requires empty { memory_held cell_parts.device ≡ replicate 256 [] }
+    requires owned { cell_parts.to_owner ≡ B.to_owner }
+    requires backed { cell_parts.to_device ≡ B.to_device }
+    requires turns { (cell_parts.turns.name ≡ T.name) × (cell_parts.turns.parts ≡ T.parts)
         × (64 < T.parts) }
-    requires charges { (fittings.charges.name ≡ C.name) × (fittings.charges.parts ≡ C.parts)
+    requires charges { (cell_parts.charges.name ≡ C.name) × (cell_parts.charges.parts ≡ C.parts)
         × (64 < C.parts) }
-    requires offers { (fittings.offers.name ≡ O.name) × (fittings.offers.parts ≡ O.parts)
+    requires offers { (cell_parts.offers.name ≡ O.name) × (cell_parts.offers.parts ≡ O.parts)
         × (1 < O.parts) }
-    requires evictions { (fittings.evictions.name ≡ E.name)
-        × (fittings.evictions.parts ≡ E.parts) × (1 < E.parts) }
+    requires evictions { (cell_parts.evictions.name ≡ E.name)
+        × (cell_parts.evictions.parts ≡ E.parts) × (1 < E.parts) }
 {
-    let mut owned = begin_owned::<T, C, O, E, B>(alloc, fittings)?;
+    let mut owned = begin_owned::<T, C, O, E, B>(alloc, cell_parts)?;
     let none = pass(&rt, alloc, &mut owned)?;
     store_apart(rt, alloc, &mut owned)?;
     let all = pass(&rt, alloc, &mut owned)?;
@@ -104,9 +104,9 @@ fn passes<
 fn a_pass_counts_each_page(rt: HostRuntime) -> Result<(), Fail> {
     let alloc = rt.alloc();
     let device = MemSwap::new(alloc, 256)?;
-    let fittings = Fittings::new(alloc, device)?;
+    let cell_parts = CellParts::new(alloc, device)?;
     let (none, all) = passes::<Brand, Brand, Brand, Brand, Brand, HostRuntime>(
-        rt, alloc, fittings,
+        rt, alloc, cell_parts,
     )?;
     assert_eq!(rt; none.offered, Some(0));
     assert_eq!(rt; none.in_book, 0);

@@ -1,7 +1,7 @@
 //! What a host in its owner's hand shows of an instance, beside what was asked of it.
 
 ghost use Rattle.std.specs.Prelude.{◌≡◌, ◌<◌, [], replicate};
-ghost use Rattle.wh_swap.specs.Memory.{memory_held};
+ghost use Rattle.wh_swap.specs.MemorySwaps.{memory_held};
 
 use crate::cell::{BYTES, begin_owned, given};
 use std::alloc::Global;
@@ -10,12 +10,12 @@ use std::sync::ledger::Ledger;
 use std::sync::{Arc, Wait};
 use std::test::Fail;
 use std::thread::Threads;
-use wh_cell::{Fittings, Ties};
+use wh_cell::{CellAgreements, CellParts};
 use wh_host::{CallStatus, Transcript};
 use wh_host_model::InstId;
 use wh_journal::CallEnd;
 use wh_kernels::FnvHash;
-use wh_scheduler::{Manner, OwnedHost};
+use wh_scheduler::{OwnedHost, RunConfig};
 use wh_swap::MemSwap;
 use wh_transcript::{Ending, RequestedCall, Requests, TranscriptFault, check_transcript};
 
@@ -119,14 +119,14 @@ fn run_two<
     C: Ledger + Send + 'static,
     O: Ledger + Send + 'static,
     E: Ledger + Send + 'static,
-    B: Ties + Send + 'static,
+    B: CellAgreements + Send + 'static,
     R: Threads + Wait + Copy + Send + 'static,
 >(rt: R, alloc: Global, owned: &mut OwnedHost<MemSwap, T, C, O, E, B>) -> Result<InstId, Fail> {
     let bytes = owned.load(alloc, &BYTES)?;
     let id = owned.admit(alloc, bytes, given(alloc))?;
     let _ = owned.invoke(alloc, id, "s", &[4096, 7], 1000)?;
     let _ = owned.invoke(alloc, id, "l", &[4096], 1000)?;
-    let manner = Manner {
+    let manner = RunConfig {
         hasher: FnvHash,
         quantum: 3,
         workers: 2,
@@ -140,7 +140,7 @@ fn run_two<
 type Shown = ([Option<TranscriptFault>; 4], usize, bool);
 
 // What the host shows of the instance behind such a run.
-fn look<T: Ledger, C: Ledger, O: Ledger, E: Ledger, B: Ties>(
+fn look<T: Ledger, C: Ledger, O: Ledger, E: Ledger, B: CellAgreements>(
     alloc: Global,
     owned: &OwnedHost<MemSwap, T, C, O, E, B>,
     id: InstId,
@@ -170,22 +170,22 @@ fn show<
     C: Ledger + Send + 'static,
     O: Ledger + Send + 'static,
     E: Ledger + Send + 'static,
-    B: Ties + Send + 'static,
+    B: CellAgreements + Send + 'static,
     R: Threads + Wait + Copy + Send + 'static,
->(rt: R, alloc: Global, fittings: Fittings<MemSwap>) -> Result<Shown, Fail>
-    requires empty { memory_held fittings.device ≡ replicate 256 [] }
-    requires owned { fittings.to_owner ≡ B.to_owner }
-    requires backed { fittings.to_device ≡ B.to_device }
-    requires turns { (fittings.turns.name ≡ T.name) × (fittings.turns.parts ≡ T.parts)
+>(rt: R, alloc: Global, cell_parts: CellParts<MemSwap>) -> Result<Shown, Fail>
+    requires empty { memory_held cell_parts.device ≡ replicate 256 [] }
+    requires owned { cell_parts.to_owner ≡ B.to_owner }
+    requires backed { cell_parts.to_device ≡ B.to_device }
+    requires turns { (cell_parts.turns.name ≡ T.name) × (cell_parts.turns.parts ≡ T.parts)
         × (64 < T.parts) }
-    requires charges { (fittings.charges.name ≡ C.name) × (fittings.charges.parts ≡ C.parts)
+    requires charges { (cell_parts.charges.name ≡ C.name) × (cell_parts.charges.parts ≡ C.parts)
         × (64 < C.parts) }
-    requires offers { (fittings.offers.name ≡ O.name) × (fittings.offers.parts ≡ O.parts)
+    requires offers { (cell_parts.offers.name ≡ O.name) × (cell_parts.offers.parts ≡ O.parts)
         × (1 < O.parts) }
-    requires evictions { (fittings.evictions.name ≡ E.name)
-        × (fittings.evictions.parts ≡ E.parts) × (1 < E.parts) }
+    requires evictions { (cell_parts.evictions.name ≡ E.name)
+        × (cell_parts.evictions.parts ≡ E.parts) × (1 < E.parts) }
 {
-    let mut owned = begin_owned::<T, C, O, E, B>(alloc, fittings)?;
+    let mut owned = begin_owned::<T, C, O, E, B>(alloc, cell_parts)?;
     let id = run_two(rt, alloc, &mut owned)?;
     look(alloc, &owned, id)
 }
@@ -194,9 +194,9 @@ fn show<
 fn a_transcript_is_of_its_requests(rt: HostRuntime) -> Result<(), Fail> {
     let alloc = rt.alloc();
     let device = MemSwap::new(alloc, 256)?;
-    let fittings = Fittings::new(alloc, device)?;
+    let cell_parts = CellParts::new(alloc, device)?;
     let (compared, calls, is_sum) = show::<Brand, Brand, Brand, Brand, Brand, HostRuntime>(
-        rt, alloc, fittings,
+        rt, alloc, cell_parts,
     )?;
     let [as_asked, other_argument, other_result, too_few] = compared;
     assert_eq!(rt; as_asked, None);

@@ -14,9 +14,9 @@ use std::thread;
 use std::thread::Threads;
 use wh_host_model::InstId;
 use wh_threads::{
-    BlankPact, Bond, Books, Change, Half, Help, Helper, Inlet, Matter, Message, Order, Progress,
-    Shares, Slip, Tally, Turns, Worker, hand_out, left_over, open_channel, pass_for, put_back,
-    receive, receive_turn,
+    AgreedValue, AgreementHalf, AgreementId, BlankAgreement, Books, Change, Help, HelpOutcome,
+    Helper, Message, ReceivedTurn, Shares, Slip, Tally, TurnReceiver, Turns, Worker, dispatch,
+    left_over, open_channel, pass_for, put_back, receive, receive_turn,
 };
 use wh_workers::{Crew, Jobs, Next, Supply, serve};
 
@@ -28,21 +28,21 @@ fn instance(number: u64) -> InstId {
 // The turn that comes next is counted, which took so many charges.
 fn count_next<T: Ledger, C: Ledger, O: Ledger, E: Ledger, R: Wait>(
     rt: &R,
-    inlet: &Inlet,
+    receiver: &TurnReceiver,
     slip: &mut Slip,
     books: &mut Books<T, C, O, E>,
     worker: &mut Worker<T, C>,
     taken: u32,
 )
-    requires channel { IsSeatAt (receives_on inlet.now) slip.old }
+    requires channel { IsSeatAt (receives_on receiver.now) slip.old }
     requires hand { view slip.old ≡ traffic 1 [] (view slip.old).received }
-    ensures channel { IsSeatAt (receives_on inlet.now) slip.new }
+    ensures channel { IsSeatAt (receives_on receiver.now) slip.new }
     ensures hand { view slip.new ≡ traffic 1 [] (view slip.new).received }
 {
     if worker.is_full() {
         return;
     }
-    match receive_turn(rt, inlet, slip) {
+    match receive_turn(rt, receiver, slip) {
         Some(order) => books.turn(worker, order, taken),
         None => {}
     }
@@ -55,14 +55,14 @@ fn count_two<T: Ledger, C: Ledger, O: Ledger, E: Ledger, R: Wait>(
     books: &mut Books<T, C, O, E>,
     worker: &mut Worker<T, C>,
 ) -> Result<bool, AllocError> {
-    let (outlet, inlet, first) = open_channel(alloc, 4)?;
+    let (sender, receiver, first) = open_channel(alloc, 4)?;
     let mut slip = first;
-    let mut theirs = pass_for(&outlet, &mut slip);
-    let is_first_out = hand_out(rt, &outlet, &mut slip, turn(0));
-    let is_second_out = hand_out(rt, &outlet, &mut slip, turn(1));
+    let mut theirs = pass_for(&sender, &mut slip);
+    let is_first_out = dispatch(rt, &sender, &mut slip, turn(0));
+    let is_second_out = dispatch(rt, &sender, &mut slip, turn(1));
     if is_first_out && is_second_out {
-        count_next(rt, &inlet, &mut theirs, books, worker, 7);
-        count_next(rt, &inlet, &mut theirs, books, worker, 4_000_000_000);
+        count_next(rt, &receiver, &mut theirs, books, worker, 7);
+        count_next(rt, &receiver, &mut theirs, books, worker, 4_000_000_000);
     }
     Ok(is_first_out && is_second_out)
 }
@@ -133,17 +133,17 @@ fn turn(number: u64) -> Message {
 
 #[test]
 fn messages_are_handed_over(rt: HostRuntime) -> Result<(), Fail> {
-    let (outlet, inlet, first) = open_channel(rt.alloc(), 4)?;
+    let (sender, receiver, first) = open_channel(rt.alloc(), 4)?;
     let mut slip = first;
-    let mut theirs = pass_for(&outlet, &mut slip);
-    assert!(rt; hand_out(&rt, &outlet, &mut slip, turn(0)));
-    assert!(rt; hand_out(&rt, &outlet, &mut slip, turn(1)));
-    assert!(rt; hand_out(&rt, &outlet, &mut slip, Message::Last));
-    assert_eq!(rt; receive(&rt, &inlet, &mut theirs), Some(turn(0)));
-    assert_eq!(rt; receive(&rt, &inlet, &mut theirs), Some(turn(1)));
-    put_back(&outlet, &mut slip, theirs);
-    assert_eq!(rt; left_over(&rt, &inlet, &mut slip), Some(Message::Last));
-    assert_eq!(rt; left_over(&rt, &inlet, &mut slip), None);
+    let mut theirs = pass_for(&sender, &mut slip);
+    assert!(rt; dispatch(&rt, &sender, &mut slip, turn(0)));
+    assert!(rt; dispatch(&rt, &sender, &mut slip, turn(1)));
+    assert!(rt; dispatch(&rt, &sender, &mut slip, Message::Last));
+    assert_eq!(rt; receive(&rt, &receiver, &mut theirs), Some(turn(0)));
+    assert_eq!(rt; receive(&rt, &receiver, &mut theirs), Some(turn(1)));
+    put_back(&sender, &mut slip, theirs);
+    assert_eq!(rt; left_over(&rt, &receiver, &mut slip), Some(Message::Last));
+    assert_eq!(rt; left_over(&rt, &receiver, &mut slip), None);
     Ok(())
 }
 
@@ -160,7 +160,7 @@ impl Model for NumberMatter {
     ghost view = { λ _. 0 };
 }
 
-impl Matter for NumberMatter {
+impl AgreedValue for NumberMatter {
     ghost nothing = { 0 };
 }
 
@@ -177,25 +177,31 @@ impl Change<NumberMatter> for Added {
 }
 
 // Both know 3, and then 5; one half goes through another thread, and both know 12.
-fn agree_on<B: Bond + Send + 'static, R: Threads>(
+fn agree_on<B: AgreementId + Send + 'static, R: Threads>(
     rt: &R,
-    blank: BlankPact<NumberMatter>,
-) -> Result<(Half<B, NumberMatter>, Half<B, NumberMatter>), AllocError>
+    blank: BlankAgreement<NumberMatter>,
+) -> Result<
+    (
+        AgreementHalf<B, NumberMatter>,
+        AgreementHalf<B, NumberMatter>,
+    ),
+    AllocError,
+>
     requires { blank ≡ B.table }
     ensures { IfOk result (λ r. r.0 ≡ r.1) }
 {
     let (pact, mut first, mut second) = blank.open::<B, Added>(&Added { amount: 3 });
     pact.settle(&mut first, &mut second, &Added { amount: 2 });
-    let child = thread::spawn(rt, move || -> Half<B, NumberMatter> { second })?;
+    let child = thread::spawn(rt, move || -> AgreementHalf<B, NumberMatter> { second })?;
     let mut back = child.join(rt);
     pact.settle(&mut first, &mut back, &Added { amount: 7 });
     Ok((first, back))
 }
 
 // The same, and both halves are let go.
-fn agree_once<B: Bond + Send + 'static, R: Threads>(
+fn agree_once<B: AgreementId + Send + 'static, R: Threads>(
     rt: &R,
-    blank: BlankPact<NumberMatter>,
+    blank: BlankAgreement<NumberMatter>,
 ) -> Result<bool, AllocError>
     requires { blank ≡ B.table }
 {
@@ -205,7 +211,7 @@ fn agree_once<B: Bond + Send + 'static, R: Threads>(
 
 #[test]
 fn two_holders_agree(rt: HostRuntime) -> Result<(), Fail> {
-    let blank = BlankPact::new(rt.alloc())?;
+    let blank = BlankAgreement::new(rt.alloc())?;
     assert!(rt; agree_once::<Brand, HostRuntime>(&rt, blank)?);
     Ok(())
 }
@@ -229,11 +235,11 @@ impl<T: Ledger, C: Ledger, O: Ledger, E: Ledger> Drop for Desk<T, C, O, E> {
 }
 
 impl<T: Ledger, C: Ledger, O: Ledger, E: Ledger> Turns<T, C> for Desk<T, C, O, E> {
-    fn await_place<R: Wait>(&self, _rt: &R) {}
+    fn acquire_turn_lock<R: Wait>(&self, _rt: &R) {}
 
-    fn leave_place(&self) {}
+    fn release_turn_lock(&self) {}
 
-    fn run<R: Wait>(&self, rt: &R, order: Order, worker: &mut Worker<T, C>) {
+    fn run<R: Wait>(&self, rt: &R, order: ReceivedTurn, worker: &mut Worker<T, C>) {
         self.both.wait(rt);
         let mut books = self.books.lock(rt);
         let taken = order.quantum();
@@ -249,13 +255,13 @@ impl<T: Ledger, C: Ledger, O: Ledger, E: Ledger> Turns<T, C> for Desk<T, C, O, E
 }
 
 impl<T: Ledger, C: Ledger, O: Ledger, E: Ledger> Help<O> for Desk<T, C, O, E> {
-    fn help<R: Wait>(&self, rt: &R, helper: &mut Helper<O>) -> Progress {
+    fn help<R: Wait>(&self, rt: &R, helper: &mut Helper<O>) -> HelpOutcome {
         let mut books = self.books.lock(rt);
         books.offer(helper);
         if helper.count() < 3 {
-            return Progress::Did;
+            return HelpOutcome::Did;
         }
-        Progress::Ended
+        HelpOutcome::Ended
     }
 
     fn bell(&self) -> &Condvar {
@@ -329,13 +335,13 @@ impl<T: Ledger, C: Ledger, O: Ledger, E: Ledger> Drop for Evicts<T, C, O, E> {
 }
 
 impl<T: Ledger, C: Ledger, O: Ledger, E: Ledger> Help<E> for Evicts<T, C, O, E> {
-    fn help<R: Wait>(&self, rt: &R, helper: &mut Helper<E>) -> Progress {
+    fn help<R: Wait>(&self, rt: &R, helper: &mut Helper<E>) -> HelpOutcome {
         if helper.count() > 0 {
-            return Progress::Waits;
+            return HelpOutcome::Waits;
         }
         let mut books = self.books.lock(rt);
         books.evict(helper, 1);
-        Progress::Did
+        HelpOutcome::Did
     }
 
     fn bell(&self) -> &Condvar {

@@ -19,7 +19,7 @@ static KINDS: [&str; 3] = ["module", "settings", "script"];
 
 /// What a command line asks for.
 #[derive(Clone, Copy, Debug)]
-pub struct Arguments<'a> {
+pub struct CheckArguments<'a> {
     /// What the file is looked at as.
     pub kind: Kind,
     /// The path of the file.
@@ -66,13 +66,13 @@ fn matches_of<'a>(alloc: Global, words: &'a [String]) -> Result<ArgMatches<'a>, 
 }
 
 /// What these matches ask for. The parser let none through without both words.
-fn arguments_of<'a>(matches: &ArgMatches<'a>) -> Arguments<'a> {
+fn arguments_of<'a>(matches: &ArgMatches<'a>) -> CheckArguments<'a> {
     let kind = match matches.get_str("KIND") {
         Some("settings") => Kind::Settings,
         Some("script") => Kind::Script,
         _ => Kind::Module,
     };
-    Arguments {
+    CheckArguments {
         kind,
         file: matches.get_str("FILE").unwrap_or(""),
         is_json: matches.get_flag("json"),
@@ -82,8 +82,8 @@ fn arguments_of<'a>(matches: &ArgMatches<'a>) -> Arguments<'a> {
 /// What these words ask for. The first one is the program's name.
 ///
 /// # Errors
-/// Words that the program doesn't accept, `--help` among them, and want of memory to read them.
-pub fn read_args<'a>(alloc: Global, words: &'a [String]) -> Result<Arguments<'a>, Error> {
+/// Words that the program doesn't accept, `--help` among them, and out of memory to read them.
+pub fn read_args<'a>(alloc: Global, words: &'a [String]) -> Result<CheckArguments<'a>, Error> {
     let matches = matches_of(alloc, words)?;
     Ok(arguments_of(&matches))
 }

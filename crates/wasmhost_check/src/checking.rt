@@ -1,6 +1,6 @@
 //! Files, and the verdicts on them.
 
-use crate::arguments::{Arguments, Kind};
+use crate::arguments::{CheckArguments, Kind};
 use std::fs::File;
 use std::io;
 use std::io::{BufReader, Read, Write};
@@ -22,7 +22,7 @@ fn bytes_of(rt: &(impl Files + AllocGlobal), path: &str, most: usize) -> io::Res
 /// Writes the verdict on a module: whether it is accepted.
 fn check_module(
     rt: &(impl Files + AllocGlobal),
-    given: Arguments<'_>,
+    given: CheckArguments<'_>,
     output: &mut impl Write,
 ) -> io::Result<bool> {
     let bytes = bytes_of(rt, given.file, MOST_MODULE_BYTES)?;
@@ -38,7 +38,7 @@ fn check_module(
 /// Writes the verdict on settings: whether they are accepted.
 fn check_settings(
     rt: &(impl Files + AllocGlobal),
-    given: Arguments<'_>,
+    given: CheckArguments<'_>,
     output: &mut impl Write,
 ) -> io::Result<bool> {
     let bytes = bytes_of(rt, given.file, MOST_SETTINGS_BYTES)?;
@@ -58,7 +58,7 @@ fn check_settings(
 /// Writes the verdict on a script: whether each of its lines is accepted.
 fn check_script(
     rt: &(impl Files + AllocGlobal),
-    given: Arguments<'_>,
+    given: CheckArguments<'_>,
     output: &mut impl Write,
 ) -> io::Result<bool> {
     let mut reader = BufReader::new(rt.alloc(), File::open(rt, given.file)?)?;
@@ -77,7 +77,7 @@ fn check_script(
 /// Where the file can't be read, the verdict can't be written, or a growth of memory is refused.
 pub fn check(
     rt: &(impl Files + AllocGlobal),
-    given: Arguments<'_>,
+    given: CheckArguments<'_>,
     output: &mut impl Write,
 ) -> io::Result<bool> {
     match given.kind {

@@ -2,7 +2,7 @@
 //! script, in sentences or as JSON.
 //!
 //! It ends with status 0 where the file is accepted; with 1 where it isn't; with 2 and a text on standard error where the
-//! command line isn't accepted, the file can't be read, the verdict can't be written, or memory is wanted.
+//! command line isn't accepted, the file can't be read, the verdict can't be written, or memory runs out.
 #![tactic(auto)]
 
 mod arguments;

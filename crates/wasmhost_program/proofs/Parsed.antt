@@ -23,7 +23,7 @@ use Rattle.clap.proofs.SimpleLemmas.{is_false, is_nil, plain_fields}
 use Rattle.clap.proofs.TakesLemmas.{each_rule}
 use Rattle.clap.proofs.WalkLemmas.{both, first_value-rows}
 use Rattle.wasmhost_program.specs.Accepted.{command_line, script_rule, settings_rule, workers_rule}
-use Rattle.wasmhost_program.specs.Found.{FindsIn}
+use Rattle.wasmhost_program.specs.ParsedArguments.{FindsIn}
 
 -- ---- the command has three arguments, and nothing in it excludes anything
 

@@ -3,8 +3,8 @@ use Rattle.std.proofs.Common.{◌≡◌, ◌∙◌, ℕ, true, List, [], Option,
 use Rattle.std.specs.Prelude.{IfSome, ⊤}
 use Rattle.clap.specs.Words.{Text}
 use Rattle.wh_host_model.specs.declared.plain.SwapError.{SwapError}
-use Rattle.wh_host_model.specs.Lines.Answers.{Files}
-use Rattle.wh_host_model.specs.Lines.Settings.{Settings}
+use Rattle.wh_script_model.specs.Answers.{Files}
+use Rattle.wh_script_model.specs.Settings.{Settings}
 use Rattle.wh_engine.specs.declared.fault.ScriptFault.{ScriptFault}
 use Rattle.wh_engine.specs.declared.fault.ScriptFault.TheVariants.{Settings as NoSettings, Script, Output, Swap, Memory, Threads, Transcript}
 use Rattle.wh_engine.specs.Draining.{HasServed}
@@ -13,11 +13,11 @@ use Rattle.wh_swap.specs.Written.{HasReadRight, page_faults}
 use Rattle.wh_script.proofs.Runs.{begins_nothing}
 use Rattle.wasmhost_program.specs.Accepted.{MeansArguments, line_faults}
 use Rattle.wasmhost_program.specs.declared.arguments.Arguments.{Arguments}
-use Rattle.wasmhost_program.specs.Written.{HasServedSo, IsFaultOfDevice, IsFaultOfSettings, KnownFiles, RunsAsked, RunsScript, RunsWith, EndsSo, EndsWith, is_accepted, has_run, has_no_swap, has_no_settings, wants_memory}
+use Rattle.wasmhost_program.specs.ProgramOutput.{HasServedSo, IsFaultOfDevice, IsFaultOfSettings, KnownFiles, RunsAsked, RunsScript, RunsWith, EndsSo, EndsWith, is_accepted, has_run, has_no_swap, has_no_settings, wants_memory}
 
 -- ---- nothing was read and written
 
--- memory was wanted before the script
+-- memory ran out before the script
 pub no_memory : (known : KnownFiles) (files : Files) (settings : Settings) (script : Option Text) (input before : Option (List ℕ))
     → RunsScript known files settings script input input before before (Err Memory)
 no_memory known files settings None input before = begins_nothing settings files input input before

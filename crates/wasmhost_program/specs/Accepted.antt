@@ -6,8 +6,8 @@ use Rattle.clap.specs.declared.builder.value_parser.ValueParser.TheVariants.{Uns
 use Rattle.clap.specs.declared.error.Error.{Error}
 use Rattle.clap.specs.declared.error.kind.ErrorKind.TheVariants.{OutOfMemory}
 use Rattle.wasmhost_program.specs.declared.arguments.Arguments.{Arguments}
-use Rattle.wasmhost_program.specs.declared.arguments.Refused.{Refused}
-use Rattle.wasmhost_program.specs.declared.arguments.Refused.TheVariants.{Memory, Line}
+use Rattle.wasmhost_program.specs.declared.arguments.ArgumentsError.{ArgumentsError}
+use Rattle.wasmhost_program.specs.declared.arguments.ArgumentsError.TheVariants.{Memory, Line}
 
 -- `--settings FILE`
 abbrev pub settings_rule : Rule
@@ -50,11 +50,11 @@ pub record MeansArguments (words : List Text) (a : Arguments) : Type 0 where
   pub script : option_map (λ s. s.now) a.script ≡ given_in words (codes "SCRIPT")
 
 -- why a parser's error refuses a line
-abbrev pub RefusesBy : Error → Refused → Type 0
+abbrev pub RefusesBy : Error → ArgumentsError → Type 0
 RefusesBy error Memory = kind_of error ≡ OutOfMemory
 RefusesBy error (Line shown) = (shown ≡ error) × (kind_of error ≢ OutOfMemory)
 
 -- A line is refused for one of these faults; or there was no memory to read it.
-abbrev pub IsRefusedBy : Kinds → Refused → Type 0
+abbrev pub IsRefusedBy : Kinds → ArgumentsError → Type 0
 IsRefusedBy faults Memory = ⊤
 IsRefusedBy faults (Line shown) = IsAmong (kind_of shown) faults

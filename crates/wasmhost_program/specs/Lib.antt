@@ -1,4 +1,4 @@
 pub mod Accepted
-pub mod Found
+pub mod ParsedArguments
 pub mod Laws
-pub mod Written
+pub mod ProgramOutput

@@ -3,7 +3,7 @@
 ghost use Rattle.std.specs.Prelude.{◌≡◌, IfErr, IfOk, List, OnOk, [], codes, false, map, string_bytes};
 ghost use Rattle.clap.specs.Words.{FailsBy, Text, app_of, found_of, one_text, rule_of};
 ghost use Rattle.wasmhost_program.specs.Accepted.{MeansArguments, CountsWorkers, IsRefusedBy, RefusesBy, command_line, line_faults, script_rule, settings_rule, workers_rule};
-ghost use Rattle.wasmhost_program.specs.Found.{FindsIn};
+ghost use Rattle.wasmhost_program.specs.ParsedArguments.{FindsIn};
 
 use clap::builder::ValueParser;
 use clap::error::ErrorKind;
@@ -13,21 +13,21 @@ use wh_settings::Workers;
 
 /// Why a command line isn't accepted.
 #[derive(Debug, Drop)]
-pub enum Refused {
+pub enum ArgumentsError {
     /// There was no memory to read it.
     Memory,
     /// It isn't one of this program, or asks for help: the parser's text.
     Line(Error),
 }
 
-impl From<Error> for Refused {
+impl From<Error> for ArgumentsError {
     ghost from_gives = { RefusesBy };
 
-    fn from(error: Error) -> Refused {
+    fn from(error: Error) -> ArgumentsError {
         if error.kind() == ErrorKind::OutOfMemory {
-            return Refused::Memory;
+            return ArgumentsError::Memory;
         }
-        Refused::Line(error)
+        ArgumentsError::Line(error)
     }
 }
 
@@ -116,7 +116,7 @@ fn arguments_of<'a>(matches: &ArgMatches<'a>) -> Arguments<'a>
 ///
 /// # Errors
 /// `Line` for words that the program doesn't accept, `--help` among them; `Memory` where there is none to read them.
-pub fn read_args<'a>(alloc: Global, words: &'a [String]) -> Result<Arguments<'a>, Refused>
+pub fn read_args<'a>(alloc: Global, words: &'a [String]) -> Result<Arguments<'a>, ArgumentsError>
     ensures accepts { OnOk result (line_faults (map string_bytes words.entry.now) ≡ []) }
     ensures asks { IfOk result (MeansArguments (map string_bytes words.entry.now)) }
     ensures refuses { IfErr result (IsRefusedBy (line_faults (map string_bytes words.entry.now))) }

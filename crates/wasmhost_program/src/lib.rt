@@ -14,9 +14,9 @@ mod laws;
 mod program;
 mod swap_file;
 
-pub use arguments::{Arguments, Refused, read_args};
+pub use arguments::{Arguments, ArgumentsError, read_args};
 pub use files::{Folder, SystemFiles};
 pub use laws::lines_are_read;
-pub use program::{ANSWERED, NOT_ACCEPTED, Outcome, STOPPED, answer, run};
+pub use program::{ANSWERED, NOT_ACCEPTED, ProgramOutcome, STOPPED, answer, run};
 pub use swap_file::Lockable;
 pub use wh_script::{FileError, Source};

@@ -7,9 +7,9 @@ ghost use Rattle.wh_engine.specs.declared.fault.ScriptFault.TheVariants.{Memory,
 ghost use Rattle.wh_script.specs.Starting.{IsEmptyDevice};
 ghost use Rattle.wh_settings.specs.View.{settings_of};
 ghost use Rattle.wh_swap.specs.Written.{HasReadRight, page_faults, page_held};
-ghost use Rattle.wasmhost_program.specs.Written.{EndsWith, HasServedSo, IsFaultOfDevice, IsFaultOfSettings, ReadsSettings, RunsAsked, RunsScript, RunsWith};
+ghost use Rattle.wasmhost_program.specs.ProgramOutput.{EndsWith, HasServedSo, IsFaultOfDevice, IsFaultOfSettings, ReadsSettings, RunsAsked, RunsScript, RunsWith};
 
-use crate::arguments::{Arguments, Refused, read_args};
+use crate::arguments::{Arguments, ArgumentsError, read_args};
 use crate::errors::Errors;
 use crate::files::{Folder, LateFile, LateInput, SystemFiles, read_at_most};
 use crate::swap_file::{Lockable, SwapFile, open_swap_file};
@@ -84,7 +84,7 @@ fn settings_of_file<S: Folder>(
 
 /// What came of a command line.
 #[derive(Drop)]
-pub struct Outcome<F> {
+pub struct ProgramOutcome<F> {
     /// The status: 0 to 2.
     pub status: u8,
     /// The device to which pages were swapped, where the settings name a file for it.
@@ -286,7 +286,7 @@ pub fn answer<
     input: &mut R,
     output: &mut W,
     errors: &mut impl Write,
-) -> Outcome<E::File>
+) -> ProgramOutcome<E::File>
 where
     E::File: Lockable + Send + 'static,
     ensures status { result.status ≤ 2 }
@@ -298,10 +298,10 @@ where
 {
     let (outcome, swap) = match read_args(rt.alloc(), words) {
         Ok(given) => run_given(rt, folder, given, input, output),
-        Err(Refused::Memory) => (Err(ScriptFault::Memory), None),
-        Err(Refused::Line(error)) => {
+        Err(ArgumentsError::Memory) => (Err(ScriptFault::Memory), None),
+        Err(ArgumentsError::Line(error)) => {
             let _ = write!(errors, "{error}");
-            return Outcome {
+            return ProgramOutcome {
                 status: NOT_ACCEPTED,
                 swap: None,
             };
@@ -311,7 +311,7 @@ where
         Ok(()) => ANSWERED,
         Err(fault) => stop(errors, fault),
     };
-    Outcome { status, swap }
+    ProgramOutcome { status, swap }
 }
 
 /// Runs the program, with the words, the streams and the files of this process.

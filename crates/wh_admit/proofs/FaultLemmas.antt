@@ -8,9 +8,9 @@ use Rattle.wh_host_model.specs.Owners.{Params, given_of, AdmitFault, no_module, 
 use Rattle.wh_admit.specs.declared.room.Room.{Room}
 use Rattle.wh_admit.specs.declared.error.AdmitError.{AdmitError}
 use Rattle.wh_admit.specs.declared.error.AdmitError.TheVariants.{NoModule, Shares, MinMax, Frames, Swap, Instances, MemoryMin, SegmentBounds, Memory}
-use Rattle.wh_admit.specs.Faults.{fault_of}
-use Rattle.wh_admit.specs.Numbers.{AreShares, AreFrames, HasNumbers, RefusesNumbers}
-use Rattle.wh_admit.specs.Beginning.{RefusesBeginning}
+use Rattle.wh_admit.specs.AdmitErrors.{fault_of}
+use Rattle.wh_admit.specs.AdmissionNumbers.{AreShares, AreFrames, HasNumbers, RefusesNumbers}
+use Rattle.wh_admit.specs.AdmittedStart.{RefusesBeginning}
 
 -- a module is given, and an instance of it comes to this
 abbrev pub ComesTo : Option Module → Params → Beginning → Type 0

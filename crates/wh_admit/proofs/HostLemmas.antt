@@ -11,11 +11,11 @@ use Rattle.wh_initial.specs.Begins.{first_store}
 use Rattle.wh_admit.specs.declared.room.Room.{Room}
 use Rattle.wh_admit.specs.declared.outcome.Admitted.{Admitted}
 use Rattle.wh_admit.specs.declared.error.AdmitError.{AdmitError}
-use Rattle.wh_admit.specs.Faults.{fault_of}
-use Rattle.wh_admit.specs.Numbers.{HasNumbers, RefusesNumbers}
-use Rattle.wh_admit.specs.Beginning.{BeginsAs, RefusesBeginning}
-use Rattle.wh_admit.specs.Standing.{IsModuleAt, StandsForHost}
-use Rattle.wh_admit.specs.Admitting.{MeetsNone, RefusesFor, RefusesAdmission}
+use Rattle.wh_admit.specs.AdmitErrors.{fault_of}
+use Rattle.wh_admit.specs.AdmissionNumbers.{HasNumbers, RefusesNumbers}
+use Rattle.wh_admit.specs.AdmittedStart.{BeginsAs, RefusesBeginning}
+use Rattle.wh_admit.specs.RepresentedHost.{IsModuleAt, RepresentsHost}
+use Rattle.wh_admit.specs.AdmissionFaults.{MeetsNone, RefusesFor, RefusesAdmission}
 use Rattle.wh_admit.proofs.FaultLemmas.{ComesTo, MeetsHere, NoneBelow, RefusesHere, below_nine, past_all, refuses_numbers, refuses_beginning}
 
 module _ (w : World) (k : ℕ) (p : Params) (room : Room) where
@@ -45,7 +45,7 @@ module _ (w : World) (k : ℕ) (p : Params) (room : Room) where
   to_number None far none = far
   to_number (Some m) is none = absurd (cc none)
 
-  pub from_host : (o : Option Module) → StandsForHost w k o room → (f : AdmitFault) → MeetsFault w k p f
+  pub from_host : (o : Option Module) → RepresentsHost w k o room → (f : AdmitFault) → MeetsFault w k p f
       → MeetsHere o room p f
   from_host o st no_module met = from_number o st.is_module met
   from_host o st shares met = met
@@ -56,7 +56,7 @@ module _ (w : World) (k : ℕ) (p : Params) (room : Room) where
   from_host o st memory met = from_module o memory_min st.is_module met
   from_host o st segments met = from_module o segment_bounds st.is_module met
 
-  pub to_host : (o : Option Module) → StandsForHost w k o room → (f : AdmitFault) → MeetsHere o room p f
+  pub to_host : (o : Option Module) → RepresentsHost w k o room → (f : AdmitFault) → MeetsHere o room p f
       → MeetsFault w k p f
   to_host o st no_module met = to_number o st.is_module met
   to_host o st shares met = met

@@ -8,7 +8,7 @@ use Rattle.wh_host_model.specs.Space.Parts.{empty_space}
 use Rattle.wh_host_model.specs.Host.Worlds.{Tenant, World, Loaded, resting}
 use Rattle.wh_host_model.specs.Host.Admission.{live_count}
 use Rattle.wh_admit.specs.declared.room.Room.{Room}
-use Rattle.wh_admit.specs.Standing.{IsRoomLeft, StandsForSome}
+use Rattle.wh_admit.specs.RepresentedHost.{IsRoomLeft, RepresentsSome}
 
 -- a host without a tax, and an instance of which nothing is known
 abbrev no_tax : Tax
@@ -24,7 +24,7 @@ someone = record {
   doing = resting;
   ended = [];
   open_calls = [];
-  stands_for = None;
+  waiting_for = None;
   dead = false;
 }
 
@@ -58,7 +58,7 @@ room_left modules room = record {
   live = sym (counted room.live);
 }
 
-pub stands_for_some : StandsForSome
+pub stands_for_some : RepresentsSome
 unfolding host_with
 stands_for_some None room = (host_with [] room, 0, record { is_module = omega arith; room_left = room_left [] room })
 stands_for_some (Some m) room =

@@ -1,6 +1,6 @@
-pub mod Views
-pub mod Faults
-pub mod Standing
-pub mod Numbers
-pub mod Beginning
-pub mod Admitting
+pub mod View
+pub mod AdmitErrors
+pub mod RepresentedHost
+pub mod AdmissionNumbers
+pub mod AdmittedStart
+pub mod AdmissionFaults

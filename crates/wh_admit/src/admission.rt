@@ -3,10 +3,10 @@
 ghost use Rattle.std.specs.Prelude.{OnOk, IfOk, IfErr};
 ghost use Rattle.std.specs.Option.{option_copied};
 ghost use Rattle.wh_syntax.specs.View.{view_module};
-ghost use Rattle.wh_admit.specs.Views.{view_params, linked_module};
-ghost use Rattle.wh_admit.specs.Numbers.{AreShares, AreFrames, HasNumbers, RefusesNumbers};
-ghost use Rattle.wh_admit.specs.Beginning.{BeginsAs, BeginsAdmitted, RefusesBeginning};
-ghost use Rattle.wh_admit.specs.Admitting.{MeetsNone, RefusesAdmission};
+ghost use Rattle.wh_admit.specs.View.{view_params, linked_module};
+ghost use Rattle.wh_admit.specs.AdmissionNumbers.{AreShares, AreFrames, HasNumbers, RefusesNumbers};
+ghost use Rattle.wh_admit.specs.AdmittedStart.{BeginsAs, BeginsAdmitted, RefusesBeginning};
+ghost use Rattle.wh_admit.specs.AdmissionFaults.{MeetsNone, RefusesAdmission};
 
 use crate::error::AdmitError;
 use crate::limits::{FRAMES_OF_PAGE, LEAST_FRAMES, MOST_FRAMES, MOST_INSTANCES, MOST_SHARES};
@@ -102,7 +102,7 @@ pub fn admit(
     // It begins as the definition of instantiation says.
     ensures begins { IfOk result
         (BeginsAdmitted (linked_module (option_copied linked.entry)) (view_params params)) }
-    // The fault that is named is the first that it meets; where memory is wanted it meets none.
+    // The fault that is named is the first that it meets; where memory runs out it meets none.
     ensures err { IfErr result
         (RefusesAdmission (linked_module (option_copied linked.entry)) room (view_params params)) }
 {

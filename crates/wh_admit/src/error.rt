@@ -2,7 +2,7 @@
 
 ghost use Rattle.std.specs.Prelude.{◌≡◌};
 ghost use Rattle.wh_admit.specs.declared.error.AdmitError.TheVariants.{Memory};
-ghost use Rattle.wh_admit.specs.Faults.{admit_number, begin_error};
+ghost use Rattle.wh_admit.specs.AdmitErrors.{admit_number, begin_error};
 
 use std::alloc::AllocError;
 use thiserror::Error;

@@ -9,17 +9,17 @@ use Rattle.wh_model.specs.Execution.Replay.{with_pieces}
 use Rattle.wh_model.proofs.Fragments.{fragments_write}
 use Rattle.wh_syntax.specs.declared.module.Data.{Data}
 use Rattle.wh_syntax.specs.View.{view_module, view_data}
-use Rattle.wh_bodies.specs.Views.{view_side}
-use Rattle.wh_validate.specs.Soundness.{IsChecked}
+use Rattle.wh_bodies.specs.View.{view_side}
+use Rattle.wh_validate.specs.CheckedBodies.{IsChecked}
 use Rattle.wh_imports.specs.LinkedState.{LinkedState}
 use Rattle.wh_imports.specs.Resolving.{IsResolved}
 use Rattle.wh_control.specs.declared.store.Store as code_store
 use Rattle.wh_control.specs.Storage.{RepresentsStore}
-use Rattle.wh_machine.specs.Runs.{linked_parts, RepresentsInstance}
+use Rattle.wh_machine.specs.MachineRuns.{linked_parts, RepresentsInstance}
 use Rattle.wh_initial.proofs.Instances.{instance_of}
 use Rattle.wh_initial.specs.declared.outcome.Instantiated.{Instantiated}
 use Rattle.wh_initial.specs.Begins.{Instantiates, first_store}
-use Rattle.wh_alone.specs.Alone.{ArePieces, written_over}
+use Rattle.wh_alone.specs.ModuleCalls.{ArePieces, written_over}
 use Rattle.wh_alone.proofs.Lists.{with_pieces_bytes}
 
 inits_of : (segments : List Data) → map (λ (d : model.Data). d.init) (map view_data segments) ≡ map (λ (d : Data). d.init.items) segments
@@ -58,7 +58,7 @@ stands_written l sound resolved p i b flat flat2 zeros written =
     let m = view_module l.valid.decoded in
     let s = first_store m p b.globals b.elements in
     let within : Within (length s.bytes) b.segments = subst (λ n. Within n b.segments) (sym (length-replicate (first_size m.memories * 65536) 0)) b.segments_within in
-    let begun = b.stands_for sound.context sound.valid.context in
+    let begun = b.represents sound.context sound.valid.context in
     let same : flat ≡ s.bytes = zeros ∙ ap (λ n. replicate (n * 65536) 0) b.pages in
     let all : flat2 ≡ written_over s.bytes b.segments = written ∙ ap (λ z. written_over z b.segments) same in
     let whole : with_pieces s (fragments b.segments) ≡ record s { bytes = flat2 } = fragments_write s b.segments within ∙ with_pieces_bytes s b.segments ∙ ap (λ z. let t : Store = record s { bytes = z } in t) (sym all) in

@@ -6,7 +6,7 @@ use Rattle.wh_model.specs.Execution.Configuration.{Config}
 use Rattle.wh_model.specs.Execution.Reduction.{After}
 use Rattle.wh_model.proofs.Chains.{after_joins}
 use Rattle.wh_model.proofs.Taken.{takes_after}
-use Rattle.wh_machine.specs.States.{CallState, Setting}
+use Rattle.wh_machine.specs.CallStates.{CallState, Setting}
 use Rattle.wh_call.specs.declared.calling.RunEnd.{RunEnd}
 use Rattle.wh_call.specs.declared.calling.RunEnd.TheVariants as run
 use Rattle.wh_call.specs.Ends.{HasStoreIn, EndsWithin, TakesTo}
@@ -14,7 +14,7 @@ use Rattle.wh_flatmem.specs.FlatMemoryState.{FlatMemoryState}
 use Rattle.wh_imports.specs.LinkedState.{LinkedState}
 use Rattle.wh_alone.specs.declared.outcome.Outcome.{Outcome}
 use Rattle.wh_alone.specs.declared.outcome.Outcome.TheVariants.{Returned, Trapped, OutOfFuel}
-use Rattle.wh_alone.specs.Kept.{Kept, flat_setting, run_end, IsAnswered, EndsBy}
+use Rattle.wh_alone.specs.InstanceStates.{Kept, flat_setting, run_end, IsAnswered, EndsBy}
 
 -- ---- ways that lead there
 

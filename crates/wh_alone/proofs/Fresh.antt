@@ -9,10 +9,10 @@ use Rattle.wh_model.specs.Execution.Histories.{none_yet, one_more}
 use Rattle.wh_model.specs.Execution.Replay.{Call, with_pieces, has_written, Standing, idle, running}
 use Rattle.wh_syntax.specs.View.{view_module}
 use Rattle.wh_machine.specs.Opening.{IsOwnCall}
-use Rattle.wh_alone.specs.Kept.{Kept, HasStore}
+use Rattle.wh_alone.specs.InstanceStates.{Kept, HasStore}
 use Rattle.wh_alone.specs.Journal.{IsAtStanding}
 use Rattle.wh_alone.specs.Stages.{stage_at_first}
-use Rattle.wh_alone.specs.Beginnings.{written_start, open_start, IsFresh}
+use Rattle.wh_alone.specs.FirstStages.{written_start, open_start, IsFresh}
 
 -- ---- what an owner gives
 

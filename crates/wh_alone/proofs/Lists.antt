@@ -5,7 +5,7 @@ use Rattle.wh_model.specs.Execution.Instance.{Piece, Within}
 use Rattle.wh_model.specs.Execution.Replay.{with_pieces}
 use Rattle.wh_model.proofs.Fragments.{length-written}
 use Rattle.wh_call.proofs.Lists.{drop_at}
-use Rattle.wh_alone.specs.Alone.{written_over}
+use Rattle.wh_alone.specs.ModuleCalls.{written_over}
 
 pub written_step : (bytes : List ℕ) (ps : List Piece) (i : ℕ) (p : Piece) → slice_get ps i ≡ Some p → written_over bytes (drop i ps) ≡ written_over (written bytes p.at p.items) (drop (i + 1) ps)
 written_step bytes ps i p e = ap (written_over bytes) (drop_at ps i p e)

@@ -18,7 +18,7 @@ use Rattle.wh_control.specs.Represents.{bits_of, result_of, IsFunc}
 use Rattle.wh_control.proofs.Jumps.{all_at}
 use Rattle.wh_control.specs.Parts.{funcs_in}
 use Rattle.wh_machine.specs.Opening.{IsOwnCall}
-use Rattle.wh_machine.specs.Runs.{linked_parts, IsInstanceOf}
+use Rattle.wh_machine.specs.MachineRuns.{linked_parts, IsInstanceOf}
 use Rattle.wh_machine.proofs.Opened.{own_of}
 use Rattle.wh_imports.specs.LinkedState.{LinkedState}
 use Rattle.wh_alone.specs.declared.outcome.Outcome.{Outcome}
@@ -26,7 +26,7 @@ use Rattle.wh_alone.specs.declared.outcome.Outcome.TheVariants.{Returned, Trappe
 use Rattle.wh_alone.specs.declared.outcome.Stage.{Stage}
 use Rattle.wh_alone.specs.declared.outcome.Stage.TheVariants as stages
 use Rattle.wh_call.specs.Arguments.{HasCall}
-use Rattle.wh_alone.specs.Kept.{Kept, HasStore, EndsBy, ContinuesTo, InvocationEnds}
+use Rattle.wh_alone.specs.InstanceStates.{Kept, HasStore, EndsBy, ContinuesTo, InvocationEnds}
 use Rattle.wh_alone.specs.Journal.{IsOutcome, HasResults, ended_as, open_as, HasStarted, HasFailed, IsInvoked, IsUnderWay, IsStage, IsJournalOf, IsAtStanding, IsSomewhere, InstanceState, further, called_so, GoesOnWith, CallEnds, GivenUp}
 use Rattle.wh_alone.specs.Stages.{after_start, after_call, IsOpen}
 use Rattle.wh_alone.proofs.Journals.{all_join, change_last, add_last, started_then}

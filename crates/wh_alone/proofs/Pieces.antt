@@ -3,7 +3,7 @@ use Rattle.std.proofs.Common.{◌≡◌, ℕ, ◌+◌, ◌≤◌, List, length, 
 use Rattle.wh_model.specs.Execution.Store.{written}
 use Rattle.wh_model.specs.Execution.Instance.{Piece, Within}
 use Rattle.wh_syntax.specs.declared.module.Data.{Data}
-use Rattle.wh_alone.specs.Alone.{ArePieces, written_over}
+use Rattle.wh_alone.specs.ModuleCalls.{ArePieces, written_over}
 use Rattle.wh_call.proofs.Lists.{mapped_from, mapped_to}
 use Rattle.wh_alone.proofs.Lists.{within_at, written_step, length_kept}
 

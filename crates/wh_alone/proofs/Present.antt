@@ -9,7 +9,7 @@ use Rattle.wh_control.specs.Represents.{bits_of, result_of}
 use Rattle.wh_alone.specs.declared.outcome.Stage.{Stage}
 use Rattle.wh_alone.specs.declared.outcome.Stage.TheVariants as stages
 use Rattle.wh_call.specs.Ends.{CanCall}
-use Rattle.wh_alone.specs.Kept.{Kept, HasStore, StandsSomewhere, setting_in, state_in}
+use Rattle.wh_alone.specs.InstanceStates.{Kept, HasStore, RepresentsSomewhere, setting_in, state_in}
 use Rattle.wh_alone.specs.Journal.{InstanceState, IsInvoked, IsUnderWay, IsJournalOf, IsSomewhere, listed}
 
 same_call : {call call2 : Call} → Some call ≡ Some call2 → call ≡ call2
@@ -62,13 +62,13 @@ has_start k w none =
 
 -- ---- a call that is under way
 
-way_stands : {k : Kept} {inst : Instance} {s : Store} {ps : List Piece} {call : Call} {z : Standing} → IsUnderWay k inst s ps call z → StandsSomewhere k
+way_stands : {k : Kept} {inst : Instance} {s : Store} {ps : List Piece} {call : Call} {z : Standing} → IsUnderWay k inst s ps call z → RepresentsSomewhere k
 way_stands {inst = inst} way = record { out = result_of way.invocation.type; inst = inst; cfg = way.at; stands = way.machine; settled = way.settled }
 
-pub starting_stands : (k : Kept) → IsSomewhere (record { kept = k; stage = stages.Starting }) → StandsSomewhere k
+pub starting_stands : (k : Kept) → IsSomewhere (record { kept = k; stage = stages.Starting }) → RepresentsSomewhere k
 starting_stands k w = way_stands w.is_at.stage.3
 
-pub calling_stands : (k : Kept) → IsSomewhere (record { kept = k; stage = stages.Calling }) → StandsSomewhere k
+pub calling_stands : (k : Kept) → IsSomewhere (record { kept = k; stage = stages.Calling }) → RepresentsSomewhere k
 calling_stands k w = way_stands w.is_at.stage.4
 
 -- ---- what contracts see

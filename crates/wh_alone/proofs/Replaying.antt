@@ -14,16 +14,16 @@ use Rattle.wh_alone.specs.declared.outcome.Outcome.TheVariants.{Returned, Trappe
 use Rattle.wh_alone.specs.declared.outcome.CallResult.TheVariants as alone
 use Rattle.wh_alone.specs.declared.outcome.Stage.{Stage}
 use Rattle.wh_alone.specs.declared.outcome.Stage.TheVariants as stages
-use Rattle.wh_alone.specs.declared.outcome.Refused.{Refused}
-use Rattle.wh_alone.specs.declared.outcome.Refused.TheVariants as refusals
+use Rattle.wh_alone.specs.declared.outcome.CallRefusal.{CallRefusal}
+use Rattle.wh_alone.specs.declared.outcome.CallRefusal.TheVariants as refusals
 use Rattle.wh_model.specs.Linking.Accepting.{IsAccepted}
 use Rattle.wh_call.specs.Arguments.{HasCall}
-use Rattle.wh_alone.specs.Kept.{Kept, HasStore}
+use Rattle.wh_alone.specs.InstanceStates.{Kept, HasStore}
 use Rattle.wh_alone.specs.Journal.{InstanceState, IsOutcome, HasResults, ended_as, open_as, listed, IsStage, IsJournalOf, IsAtStanding, further, called_so, GoesOnWith, CallEnds}
 use Rattle.wh_alone.specs.Stages.{IsOpen, RefusesCall}
-use Rattle.wh_alone.specs.Beginnings.{written_start, open_start, IsFresh, BeginsInstance}
-use Rattle.wh_alone.specs.Runs.{CameTo, IsStopped, ShowsStore, RunsModule}
-use Rattle.wh_machine.specs.Runs.{IsInstanceOf}
+use Rattle.wh_alone.specs.FirstStages.{written_start, open_start, IsFresh, BeginsInstance}
+use Rattle.wh_alone.specs.ModuleRuns.{CameTo, IsStopped, ShowsStore, RunsModule}
+use Rattle.wh_machine.specs.MachineRuns.{IsInstanceOf}
 
 -- ---- a journal replays
 
@@ -160,7 +160,7 @@ has_returned {m} {p} {i} {result = result} b = by_outcome b.start.outcome refl b
     by_outcome dead e is = absurd is
     by_outcome pending e is = absurd is
 
-pub no_call : (bytes : List ℕ) (p : Parameters) (i : InstanceState) (func : ℕ) (args : List ℕ) (fuel n : ℕ) (result : Option ℕ) (m : Module) (e : Refused) → IsAccepted bytes m → Began m p i fuel (Returned result) n → RefusesCall i func args e → RunsModule bytes p func args fuel (alone.NoCall n) i
+pub no_call : (bytes : List ℕ) (p : Parameters) (i : InstanceState) (func : ℕ) (args : List ℕ) (fuel n : ℕ) (result : Option ℕ) (m : Module) (e : CallRefusal) → IsAccepted bytes m → Began m p i fuel (Returned result) n → RefusesCall i func args e → RunsModule bytes p func args fuel (alone.NoCall n) i
 no_call bytes p i func args fuel n result m e accepted b refuses =
     let h = has_returned b in
     let at = h.at_one in
@@ -176,7 +176,7 @@ no_call bytes p i func args fuel n result m e accepted b refuses =
       comes = (b.start, b.z, replays_at i m p (b.start ∷ []) None b.z at, shows at.store, result, b.came, never e is refuses at.store.0 at.inst at.store.1.instance);
     }
   where
-    never : (e : Refused) → i.stage ≡ stages.Idle → RefusesCall i func args e → (c : _) (inst : Instance) → IsInstanceOf i.kept.linked c inst → ¬ (HasCall inst func args)
+    never : (e : CallRefusal) → i.stage ≡ stages.Idle → RefusesCall i func args e → (c : _) (inst : Instance) → IsInstanceOf i.kept.linked c inst → ¬ (HasCall inst func args)
     never refusals.Busy is r = absurd (subst IsOpen is r)
     never refusals.Dead is r = absurd (cc (is, r))
     never refusals.NoCall is r = r.1

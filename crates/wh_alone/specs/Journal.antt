@@ -11,12 +11,12 @@ use Rattle.wh_model.specs.Execution.Replay as model
 use Rattle.wh_model.specs.Execution.Replay.{Call, returned, stopped, cancelled, dead, pending, with_pieces, Invocation, Standing, idle, running, store_at, fails, IsJournal}
 use Rattle.wh_syntax.specs.View.{view_module}
 use Rattle.wh_control.specs.Represents.{bits_of, result_of}
-use Rattle.wh_machine.specs.Runs.{linked_parts, IsSettledIn}
+use Rattle.wh_machine.specs.MachineRuns.{linked_parts, IsSettledIn}
 use Rattle.wh_alone.specs.declared.outcome.Outcome.{Outcome}
 use Rattle.wh_alone.specs.declared.outcome.Outcome.TheVariants.{Returned, Trapped, OutOfFuel}
 use Rattle.wh_alone.specs.declared.outcome.Stage.{Stage}
 use Rattle.wh_alone.specs.declared.outcome.Stage.TheVariants.{Fresh, Starting, Idle, Calling, Dead}
-use Rattle.wh_alone.specs.Kept.{Kept, HasStore, StandsAt}
+use Rattle.wh_alone.specs.InstanceStates.{Kept, HasStore, RepresentsAt}
 
 -- what contracts see of an instance
 pub record InstanceState : Type 0 where
@@ -72,7 +72,7 @@ pub record IsInvoked (inst : Instance) (s : Store) (ps : List Piece) (call : Cal
   pub no_args : call.args ≡ []
   pub invocation : Invocation inst (with_pieces s ps) call at
 
--- the call has taken all its fuel, a charged reduction is next, and the machine stands for where it is
+-- the call has taken all its fuel, a charged reduction is next, and the machine represents where it is
 pub record IsUnderWay (k : Kept) (inst : Instance) (s : Store) (ps : List Piece) (call : Call) (z : Standing) : Type 0
   where
     pub first : Config
@@ -84,7 +84,7 @@ pub record IsUnderWay (k : Kept) (inst : Instance) (s : Store) (ps : List Piece)
     pub invocation : Invocation inst (with_pieces s ps) call first
     pub after : After inst first call.charges at
     pub next : IsNext inst at
-    pub machine : StandsAt k (result_of invocation.type) inst at
+    pub machine : RepresentsAt k (result_of invocation.type) inst at
     pub runs : k.machine.running ≡ true
     pub settled : IsSettledIn (linked_parts k.linked) k.machine
 

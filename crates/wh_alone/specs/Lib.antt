@@ -1,7 +1,7 @@
-pub mod Alone
+pub mod ModuleCalls
 pub mod Stored
-pub mod Kept
+pub mod InstanceStates
 pub mod Journal
 pub mod Stages
-pub mod Beginnings
-pub mod Runs
+pub mod FirstStages
+pub mod ModuleRuns

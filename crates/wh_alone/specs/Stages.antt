@@ -7,12 +7,12 @@ use Rattle.wh_alone.specs.declared.outcome.Outcome.TheVariants.{Returned, Trappe
 use Rattle.wh_alone.specs.declared.outcome.Stage.{Stage}
 use Rattle.wh_alone.specs.declared.outcome.Stage.TheVariants as stages
 use Rattle.wh_alone.specs.declared.outcome.Stage.TheVariants.{Fresh, Starting, Idle, Calling}
-use Rattle.wh_alone.specs.declared.outcome.Refused.{Refused}
-use Rattle.wh_alone.specs.declared.outcome.Refused.TheVariants.{Busy, Dead, NoCall}
+use Rattle.wh_alone.specs.declared.outcome.CallRefusal.{CallRefusal}
+use Rattle.wh_alone.specs.declared.outcome.CallRefusal.TheVariants.{Busy, Dead, NoCall}
 use Rattle.wh_call.specs.Arguments.{HasCall}
-use Rattle.wh_alone.specs.Kept.{Kept}
+use Rattle.wh_alone.specs.InstanceStates.{Kept}
 use Rattle.wh_alone.specs.Journal.{InstanceState}
-use Rattle.wh_machine.specs.Runs.{IsInstanceOf}
+use Rattle.wh_machine.specs.MachineRuns.{IsInstanceOf}
 
 -- a call is open: the start function, or another one
 abbrev pub IsOpen : Stage → Type 0
@@ -45,7 +45,7 @@ IsNoCall k func args =
     (c : Context) (inst : Instance) → IsInstanceOf k.linked c inst → ¬ (HasCall inst func args)
 
 -- why a function isn't called
-abbrev pub RefusesCall : InstanceState → ℕ → List ℕ → Refused → Type 0
+abbrev pub RefusesCall : InstanceState → ℕ → List ℕ → CallRefusal → Type 0
 RefusesCall i func args Busy = IsOpen i.stage
 RefusesCall i func args Dead = i.stage ≡ stages.Dead
 RefusesCall i func args NoCall = (i.stage ≡ Idle) × IsNoCall i.kept func args

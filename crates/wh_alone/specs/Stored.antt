@@ -9,7 +9,7 @@ use Rattle.wh_machine.specs.contracts.machine.Machine as machine_type
 use Rattle.wh_flatmem.specs.FlatMemoryState.{FlatMemoryState}
 use Rattle.wh_alone.specs.declared.outcome.Stage.{Stage}
 use Rattle.wh_alone.specs.contracts.outcome.Stage as stage_type
-use Rattle.wh_alone.specs.Kept.{Kept}
+use Rattle.wh_alone.specs.InstanceStates.{Kept}
 use Rattle.wh_alone.specs.Journal.{InstanceState}
 
 abbrev pub stored_flat : Coded FlatMemoryState

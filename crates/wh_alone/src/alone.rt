@@ -2,8 +2,8 @@
 
 ghost use Rattle.std.specs.Prelude.{IfOk, IfErr};
 ghost use Rattle.wh_initial.specs.Given.{view_parameters};
-ghost use Rattle.wh_alone.specs.Alone.{RefusesModule};
-ghost use Rattle.wh_alone.specs.Runs.{RunsModule};
+ghost use Rattle.wh_alone.specs.ModuleCalls.{RefusesModule};
+ghost use Rattle.wh_alone.specs.ModuleRuns.{RunsModule};
 
 use crate::instance::Instance;
 use crate::outcome::{CallError, CallResult, Outcome};

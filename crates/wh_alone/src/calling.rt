@@ -2,7 +2,7 @@
 
 ghost use Rattle.std.specs.Prelude.{◌≡◌};
 ghost use Rattle.wh_call.specs.Ends.{CanCall};
-ghost use Rattle.wh_alone.specs.Kept.{kept_of, setting_in, state_in, run_end, IsAnswered, StandsSomewhere, ContinuesTo, InvocationEnds};
+ghost use Rattle.wh_alone.specs.InstanceStates.{kept_of, setting_in, state_in, run_end, IsAnswered, RepresentsSomewhere, ContinuesTo, InvocationEnds};
 ghost use Rattle.wh_alone.specs.Stages.{stage_at_first, after_start, after_call};
 
 use crate::outcome::{Outcome, Stage};
@@ -24,7 +24,7 @@ fn outcome_of(end: RunEnd) -> Outcome
     }
 }
 
-/// Lets the call that a machine stands for run with this fuel; how it has ended, and how many charges were taken.
+/// Lets the call that a machine represents run with this fuel; how it has ended, and how many charges were taken.
 pub fn run_on(
     linked: &Linked,
     store: &mut Store,
@@ -32,7 +32,7 @@ pub fn run_on(
     memory: &mut FlatMemory,
     fuel: u64,
 ) -> (Outcome, u64)
-    requires { StandsSomewhere (kept_of linked.now store.old memory.old machine.old) }
+    requires { RepresentsSomewhere (kept_of linked.now store.old memory.old machine.old) }
     ensures { ContinuesTo (kept_of linked.now store.old memory.old machine.old) fuel result.0
         result.1 (kept_of linked.now store.new memory.new machine.new) }
 {

@@ -4,14 +4,14 @@ ghost use Rattle.std.specs.Prelude.{◌≡◌, true, false, IfOk, IfErr, IfSome,
 ghost use Rattle.wh_initial.specs.Given.{view_parameters};
 ghost use Rattle.wh_call.specs.Exports.{Exports, LacksFunc};
 ghost use Rattle.wh_alone.specs.Stored.{stored_plain};
-ghost use Rattle.wh_alone.specs.Alone.{RefusesModule};
-ghost use Rattle.wh_alone.specs.Kept.{kept_of};
+ghost use Rattle.wh_alone.specs.ModuleCalls.{RefusesModule};
+ghost use Rattle.wh_alone.specs.InstanceStates.{kept_of};
 ghost use Rattle.wh_alone.specs.Journal.{InstanceState, IsSomewhere, GoesOnWith, CallEnds, GivenUp};
 ghost use Rattle.wh_alone.specs.Stages.{IsOpen, RefusesCall};
-ghost use Rattle.wh_alone.specs.Beginnings.{BeginsInstance};
+ghost use Rattle.wh_alone.specs.FirstStages.{BeginsInstance};
 
 use crate::calling::{call, first_stage, run_on, stage_after_call, stage_after_start};
-use crate::outcome::{CallError, Outcome, Refused, Stage};
+use crate::outcome::{CallError, CallRefusal, Outcome, Stage};
 use crate::segments::write_segments;
 use crate::words::are_words;
 use std::alloc::Global;
@@ -100,18 +100,23 @@ impl Instance {
     /// `Busy` while the start function or another call hasn't ended; `Dead` where the start function has failed; `NoCall`
     /// where this isn't the index of one of the module's own functions, or these words aren't arguments of it: one for
     /// each parameter, below 2^32 for an i32.
-    pub fn call(&mut self, func: u32, args: &[u64], fuel: u64) -> Result<(Outcome, u64), Refused>
+    pub fn call(
+        &mut self,
+        func: u32,
+        args: &[u64],
+        fuel: u64,
+    ) -> Result<(Outcome, u64), CallRefusal>
         ensures ok { IfOk result (λ r. CallEnds self.old func args.now fuel r.0 r.1 self.new) }
         ensures err { IfErr result
             (λ e. RefusesCall self.old func args.now e × (self.new ≡ self.old)) }
     {
         match self.stage {
-            Stage::Fresh | Stage::Starting | Stage::Calling => return Err(Refused::Busy),
-            Stage::Dead => return Err(Refused::Dead),
+            Stage::Fresh | Stage::Starting | Stage::Calling => return Err(CallRefusal::Busy),
+            Stage::Dead => return Err(CallRefusal::Dead),
             Stage::Idle => {}
         }
         if !can_call(&self.linked, func, args) {
-            return Err(Refused::NoCall);
+            return Err(CallRefusal::NoCall);
         }
         let (outcome, charges) = call(
             &self.linked,

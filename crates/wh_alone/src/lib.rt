@@ -14,4 +14,4 @@ mod words;
 
 pub use alone::call_module;
 pub use instance::Instance;
-pub use outcome::{CallError, CallResult, Outcome, Refused, Stage};
+pub use outcome::{CallError, CallRefusal, CallResult, Outcome, Stage};

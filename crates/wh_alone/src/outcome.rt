@@ -36,7 +36,7 @@ pub enum Stage {
 
 /// Why a function isn't called. Nothing has changed.
 #[derive(Clone, Copy, Debug, PartialEq, Eq, Error)]
-pub enum Refused {
+pub enum CallRefusal {
     /// The start function, or another call, hasn't ended.
     #[error("a call hasn't ended")]
     Busy,

@@ -3,7 +3,7 @@
 ghost use Rattle.std.specs.Prelude.{◌≡◌, ◌<◌, List, length, slice_get, Some};
 ghost use Rattle.wh_model.specs.Execution.Instance.{Piece, Within};
 ghost use Rattle.wh_syntax.specs.declared.module.Data.{Data};
-ghost use Rattle.wh_alone.specs.Alone.{ArePieces, written_over};
+ghost use Rattle.wh_alone.specs.ModuleCalls.{ArePieces, written_over};
 
 use wh_flatmem::FlatMemory;
 use wh_syntax::Data;

@@ -9,12 +9,12 @@ use Rattle.wh_model.specs.Validity.Valid.{ValidBody}
 use Rattle.wh_model.specs.Validity.Heights.{operands, lowered, height_behind, greatest, body_height}
 use Rattle.wh_bodies.specs.declared.fault.BodyFault.{BodyFault}
 use Rattle.wh_bodies.specs.declared.table.BranchEntry.{BranchEntry}
-use Rattle.wh_bodies.specs.declared.marks.Mark.{Mark}
-use Rattle.wh_bodies.specs.Marks.{Marks, all_marks}
-use Rattle.wh_bodies.specs.Table.{Table, Target, within, base, laid, beside, one, nowhere, leads_to, entry_of, run_of, table_of}
+use Rattle.wh_bodies.specs.declared.marks.ConstructEnd.{ConstructEnd}
+use Rattle.wh_bodies.specs.ConstructEnds.{Marks, all_marks}
+use Rattle.wh_bodies.specs.SideTables.{Table, Target, within, base, laid, beside, one, nowhere, leads_to, entry_of, run_of, table_of}
 use Rattle.wh_bodies.specs.Opened.{targets_of}
-use Rattle.wh_bodies.specs.Stepping.{State, run}
-use Rattle.wh_bodies.specs.Starting.{nothing_known, body_label, started, whole_run}
+use Rattle.wh_bodies.specs.CheckSteps.{State, run}
+use Rattle.wh_bodies.specs.CheckEnds.{nothing_known, body_label, started, whole_run}
 use Rattle.wh_bodies.proofs.Follow.{ok_is}
 use Rattle.wh_bodies.proofs.Places.{own_marks, marks_over}
 use Rattle.wh_bodies.proofs.Running.{At, part_ends}
@@ -101,7 +101,7 @@ result_is (t ∷ u ∷ rs) h = absurd (omega arith)
 abbrev pub place_of : Context → FuncType → Body → Context
 place_of c f b = record c { locals = f.params ++ b.locals; result = slice_get f.results 0 }
 
-pub body_at : (of : Option ValType) (count : ℕ) (ms : List Mark) → At (started of count ms) (body_label of count ∷ []) 0 0 0
+pub body_at : (of : Option ValType) (count : ℕ) (ms : List ConstructEnd) → At (started of count ms) (body_label of count ∷ []) 0 0 0
 body_at of count ms = record { labels = refl; place = refl; before = refl; height = refl; floor = refl; within = omega arith }
 
 -- what a whole run shows
@@ -113,7 +113,7 @@ pub record Shown (c : Context) (f : FuncType) (b : Body) (last : State) : Type 0
 pub own_are : (code : Code) → (all_marks 0 (expression code)).done ≡ own_marks 0 code
 own_are code = ap (λ (m : Marks). m.done) (marks_over code (end_mark ∷ []) 0 (0 + length (flatten code)) refl) ∙ append-nil (own_marks 0 code)
 
-pub shown : (c : Context) (f : FuncType) (b : Body) (count : ℕ) (ms : List Mark) (last : State) → length f.results ≤ 1 → count ≡ length (expression b.code) → ms ≡ (all_marks 0 (expression b.code)).done → run (place_of c f b) 0 (expression b.code) (started (slice_get f.results 0) count ms) ≡ Ok last → Shown c f b last
+pub shown : (c : Context) (f : FuncType) (b : Body) (count : ℕ) (ms : List ConstructEnd) (last : State) → length f.results ≤ 1 → count ≡ length (expression b.code) → ms ≡ (all_marks 0 (expression b.code)).done → run (place_of c f b) 0 (expression b.code) (started (slice_get f.results 0) count ms) ≡ Ok last → Shown c f b last
 shown c f b count ms last few size marks e =
     let of = slice_get f.results 0 in
     let d = place_of c f b in

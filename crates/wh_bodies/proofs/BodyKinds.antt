@@ -14,13 +14,13 @@ use Rattle.wh_model.specs.declared.faults.ValidKind.TheVariants.{BadType, Align,
 use Rattle.wh_bodies.specs.declared.fault.BodyFault.{BodyFault}
 use Rattle.wh_bodies.specs.declared.table.BranchEntry.{BranchEntry}
 use Rattle.wh_bodies.specs.declared.labels.Label.{Label}
-use Rattle.wh_bodies.specs.declared.marks.Mark.{Mark}
-use Rattle.wh_bodies.specs.Faults.{follow, IsOfBody}
-use Rattle.wh_bodies.specs.Table.{leads_to, nowhere}
+use Rattle.wh_bodies.specs.declared.marks.ConstructEnd.{ConstructEnd}
+use Rattle.wh_bodies.specs.BodyFaults.{follow, IsOfBody}
+use Rattle.wh_bodies.specs.SideTables.{leads_to, nowhere}
 use Rattle.wh_bodies.specs.Known.{Known, topmost, take_any, is_wanted, take_one, give_one, fall, take_all, give_all, pass, agreed, selected, same_type}
-use Rattle.wh_bodies.specs.Stepping.{State, found, typed, aligned, type_to_write, load_exponent, store_exponent, fixed, straight, numeric, entry_to, branch, branch_if, same_operand, add_run, branch_table, plain_step, next_mark, known_inside, label_over, opened, finished, turned_at, turned, may_end, closed_construct, with_label, act, noted, step, at_instr, run}
-use Rattle.wh_bodies.specs.Marks.{all_marks}
-use Rattle.wh_bodies.specs.Starting.{started, whole_run}
+use Rattle.wh_bodies.specs.CheckSteps.{State, found, typed, aligned, type_to_write, load_exponent, store_exponent, fixed, straight, numeric, entry_to, branch, branch_if, same_operand, add_run, branch_table, plain_step, next_mark, known_inside, label_over, opened, finished, turned_at, turned, may_end, closed_construct, with_label, act, noted, step, at_instr, run}
+use Rattle.wh_bodies.specs.ConstructEnds.{all_marks}
+use Rattle.wh_bodies.specs.CheckEnds.{started, whole_run}
 use Rattle.wh_bodies.proofs.Constructs.{Act, Marked, Two}
 
 -- what goes wrong is of these kinds
@@ -191,7 +191,7 @@ in_plain c labels (conversion op) k pool = in_noted c (conversion op) k pool (in
 
 -- ---- constructs
 
-in_mark : (ms : List Mark) → Listed (next_mark ms)
+in_mark : (ms : List ConstructEnd) → Listed (next_mark ms)
 in_mark [] = tt
 in_mark (m ∷ ms) = tt
 

@@ -10,12 +10,12 @@ use Rattle.wh_model.specs.declared.faults.ValidKind.{ValidKind}
 use Rattle.wh_bodies.specs.declared.fault.BodyFault.{BodyFault}
 use Rattle.wh_bodies.specs.declared.table.BranchEntry.{BranchEntry}
 use Rattle.wh_bodies.specs.declared.labels.Label.{Label}
-use Rattle.wh_bodies.specs.declared.marks.Mark.{Mark}
-use Rattle.wh_bodies.specs.Faults.{follow}
+use Rattle.wh_bodies.specs.declared.marks.ConstructEnd.{ConstructEnd}
+use Rattle.wh_bodies.specs.BodyFaults.{follow}
 use Rattle.wh_bodies.specs.Known.{Known, Fit}
-use Rattle.wh_bodies.specs.Table.{base, laid, run_of}
+use Rattle.wh_bodies.specs.SideTables.{base, laid, run_of}
 use Rattle.wh_bodies.specs.Opened.{targets_of, around}
-use Rattle.wh_bodies.specs.Stepping.{State, may_end, noted, step, run, plain_step}
+use Rattle.wh_bodies.specs.CheckSteps.{State, may_end, noted, step, run, plain_step}
 use Rattle.wh_bodies.proofs.Follow.{ok_is}
 use Rattle.wh_bodies.proofs.OpsForward.{can_step}
 use Rattle.wh_bodies.proofs.Places.{mark, own_marks}
@@ -31,7 +31,7 @@ pub record Can (c : Context) (code : Code) (s : State) (after : List ValType) : 
   pub fit : Fit next.known after
 
 -- and shows what it shows
-pub can_ran : (c : Context) (code : Code) (ls : List Label) (p q h : ℕ) (ms : List Mark) (s : State) (after : List ValType) → At s ls p q h → s.marks ≡ own_marks p code ++ ms → (a : Can c code s after) → Ran c code ls p q h s a.next × (a.next.marks ≡ ms)
+pub can_ran : (c : Context) (code : Code) (ls : List Label) (p q h : ℕ) (ms : List ConstructEnd) (s : State) (after : List ValType) → At s ls p q h → s.marks ≡ own_marks p code ++ ms → (a : Can c code s after) → Ran c code ls p q h s a.next × (a.next.marks ≡ ms)
 can_ran c code ls p q h ms s after here marks a =
     let t = sound c code [] ls p q h 0 ms s a.next here marks (a.runs 0 []).1 in
     let same : t.next ≡ a.next = ok_is {E = BodyFault} t.next a.next t.runs in
@@ -39,7 +39,7 @@ can_ran c code ls p q h ms s after here marks a =
 
 -- ---- an instruction without a body
 
-pub record Plainly (c : Context) (op : Op) (ls : List Label) (p q h : ℕ) (ms : List Mark) (s : State) (after : List ValType) : Type 0 where
+pub record Plainly (c : Context) (op : Op) (ls : List Label) (p q h : ℕ) (ms : List ConstructEnd) (s : State) (after : List ValType) : Type 0 where
   pub next : State
   pub by : step c (single op) s ≡ Ok next
   pub at : At next ls p q h
@@ -49,7 +49,7 @@ pub record Plainly (c : Context) (op : Op) (ls : List Label) (p q h : ℕ) (ms :
 abbrev Step : Type 0
 Step = BranchEntry × Known × List BranchEntry
 
-can_plain : (c : Context) (op : Op) (ls : List Label) (p q h : ℕ) (ms : List Mark) (s : State) (a b below : List ValType) → At s ls p q h → s.marks ≡ ms → h ≤ 256 → height_behind (around ls c) (base (targets_of ls)) h op ≤ 256 → OpType (around ls c) op a b → Fit s.known (a ++ below)
+can_plain : (c : Context) (op : Op) (ls : List Label) (p q h : ℕ) (ms : List ConstructEnd) (s : State) (a b below : List ValType) → At s ls p q h → s.marks ≡ ms → h ≤ 256 → height_behind (around ls c) (base (targets_of ls)) h op ≤ 256 → OpType (around ls c) op a b → Fit s.known (a ++ below)
     → Plainly c op ls (p + 1) (q + length (run_of (targets_of ls) op)) (height_behind (around ls c) (base (targets_of ls)) h op) ms s (b ++ below)
 can_plain c op ls p q h ms s a b below here marks small room t fit =
     let high = here.height in
@@ -109,7 +109,7 @@ may_be_left : (t : Option ValType) → operand t ≡ [] → may_end Then t ≡ t
 may_be_left None e = refl
 may_be_left (Some t) e = cc
 
-pub can : (c : Context) (code : Code) (ls : List Label) (p q h : ℕ) (ms : List Mark) (s : State) (before after : List ValType) → At s ls p q h → s.marks ≡ own_marks p code ++ ms → greatest (around ls c) (base (targets_of ls)) h code ≤ 256 → Fit s.known before → HasType (around ls c) code before after → Can c code s after
+pub can : (c : Context) (code : Code) (ls : List Label) (p q h : ℕ) (ms : List ConstructEnd) (s : State) (before after : List ValType) → At s ls p q h → s.marks ≡ own_marks p code ++ ms → greatest (around ls c) (base (targets_of ls)) h code ≤ 256 → Fit s.known before → HasType (around ls c) code before after → Can c code s after
 can c nothing ls p q h ms s before after here marks low fit no_more = record { next = s; runs = λ number rest. (number, refl); fit = fit }
 can c (plain op code) ls p q h ms s before after here marks low fit (then_op a b floor t r) =
     let f = base (targets_of ls) in

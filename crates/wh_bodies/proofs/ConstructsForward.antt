@@ -13,12 +13,12 @@ use Rattle.wh_model.specs.declared.faults.ValidKind.TheVariants.{Arity}
 use Rattle.wh_bodies.specs.declared.fault.BodyFault.{BodyFault}
 use Rattle.wh_bodies.specs.declared.table.BranchEntry.{BranchEntry}
 use Rattle.wh_bodies.specs.declared.labels.Label.{Label}
-use Rattle.wh_bodies.specs.declared.marks.Mark.{Mark}
-use Rattle.wh_bodies.specs.Faults.{follow}
+use Rattle.wh_bodies.specs.declared.marks.ConstructEnd.{ConstructEnd}
+use Rattle.wh_bodies.specs.BodyFaults.{follow}
 use Rattle.wh_bodies.specs.Known.{Known, AgreeWithKnown, Fit, take_one, give_all}
-use Rattle.wh_bodies.specs.Table.{base, laid, nowhere, leads_to}
+use Rattle.wh_bodies.specs.SideTables.{base, laid, nowhere, leads_to}
 use Rattle.wh_bodies.specs.Opened.{targets_of}
-use Rattle.wh_bodies.specs.Stepping.{State, next_mark, label_over, known_inside, opened, turned, may_end, closed_construct, with_label, noted, step, at_instr, run}
+use Rattle.wh_bodies.specs.CheckSteps.{State, next_mark, label_over, known_inside, opened, turned, may_end, closed_construct, with_label, noted, step, at_instr, run}
 use Rattle.wh_bodies.proofs.Follow.{ok_is}
 use Rattle.wh_bodies.proofs.Knowing.{Stays, Passes, takes_one, above_none}
 use Rattle.wh_bodies.proofs.Forward.{can_take_one, can_give_all, can_finish}
@@ -41,7 +41,7 @@ can_open : (kind : Open) (t carries : Option ValType) (place : ℕ) (k : Known) 
 can_open kind t carries place k ls h = rw (le-leb (length k.types) 256 h) refl
 
 -- a construct opens, and nothing lies above its floor
-pub record Opening (c : Context) (i : Instr) (k : Known) (l : Label) (ls : List Label) (p q h1 : ℕ) (ms : List Mark) (s : State) : Type 0 where
+pub record Opening (c : Context) (i : Instr) (k : Known) (l : Label) (ls : List Label) (p q h1 : ℕ) (ms : List ConstructEnd) (s : State) : Type 0 where
   pub next : State
   pub is : step c i s ≡ Ok next
   pub known : next.known ≡ known_inside k
@@ -49,7 +49,7 @@ pub record Opening (c : Context) (i : Instr) (k : Known) (l : Label) (ls : List 
   pub marks : next.marks ≡ ms
   pub fit : Fit next.known []
 
-opening : (c : Context) (i : Instr) (k : Known) (l : Label) (ls : List Label) (p q h1 : ℕ) (e : BranchEntry) (ms : List Mark) (s n : State) → step c i s ≡ Ok n → Entered c [] k l ls p q h1 e ms s n → Opening c i k l ls p q h1 ms s
+opening : (c : Context) (i : Instr) (k : Known) (l : Label) (ls : List Label) (p q h1 : ℕ) (e : BranchEntry) (ms : List ConstructEnd) (s n : State) → step c i s ≡ Ok n → Entered c [] k l ls p q h1 e ms s n → Opening c i k l ls p q h1 ms s
 opening c i k l ls p q h1 e ms s n is en =
     let same : en.next ≡ n = ok_is {E = BodyFault} en.next n en.runs in
     record {
@@ -61,28 +61,28 @@ opening c i k l ls p q h1 e ms s n is en =
       fit = subst (λ (x : Known). Fit x []) (sym en.known) (fit_inside k);
     }
 
-pub can_block : (c : Context) (ls : List Label) (p q h : ℕ) (m : Mark) (ms : List Mark) (t : Option ValType) (s : State) → At s ls p q h → s.marks ≡ m ∷ ms → h ≤ 256 → Opening c (block_start t) s.known (label_at s.known Other t t (m.end + 1) h) ls p q h ms s
+pub can_block : (c : Context) (ls : List Label) (p q h : ℕ) (m : ConstructEnd) (ms : List ConstructEnd) (t : Option ValType) (s : State) → At s ls p q h → s.marks ≡ m ∷ ms → h ≤ 256 → Opening c (block_start t) s.known (label_at s.known Other t t (m.end + 1) h) ls p q h ms s
 can_block c ls p q h m ms t s here marks small =
     let two : Two = (known_inside s.known, label_over s.known Other t t (m.end + 1) ∷ s.labels) in
     let n : State = noted (with_label s ms two (leads_to m.end)) in
     let a = here.height in
     let is : step c (block_start t) s ≡ Ok n =
-    ap (λ (x : List Mark). follow {A = Act} {B = State} (follow {A = Marked} {B = Act} (next_mark x) (λ m. follow {A = Two} (opened Other t t (m.0.end + 1) s.known s.labels) (λ r. Ok (with_label s m.1 r (leads_to m.0.end))))) (λ r. Ok (noted r))) marks
+    ap (λ (x : List ConstructEnd). follow {A = Act} {B = State} (follow {A = Marked} {B = Act} (next_mark x) (λ m. follow {A = Two} (opened Other t t (m.0.end + 1) s.known s.labels) (λ r. Ok (with_label s m.1 r (leads_to m.0.end))))) (λ r. Ok (noted r))) marks
     ∙ ap (λ (x : Result Two ValidKind). follow {A = Act} {B = State} (follow {A = Two} {B = Act} x (λ r. Ok (with_label s ms r (leads_to m.end)))) (λ r. Ok (noted r))) (can_open Other t t (m.end + 1) s.known s.labels (omega arith)) in
     opening c (block_start t) s.known (label_at s.known Other t t (m.end + 1) h) ls p q h (leads_to m.end) ms s n is (enter_block c [] ls p q h 0 m ms t s n here marks (run_on c 0 (block_start t) [] s n is))
 
-pub can_loop : (c : Context) (ls : List Label) (p q h : ℕ) (m : Mark) (ms : List Mark) (t : Option ValType) (s : State) → At s ls p q h → s.marks ≡ m ∷ ms → h ≤ 256 → Opening c (loop_start t) s.known (label_at s.known Other t None p h) ls p q h ms s
+pub can_loop : (c : Context) (ls : List Label) (p q h : ℕ) (m : ConstructEnd) (ms : List ConstructEnd) (t : Option ValType) (s : State) → At s ls p q h → s.marks ≡ m ∷ ms → h ≤ 256 → Opening c (loop_start t) s.known (label_at s.known Other t None p h) ls p q h ms s
 can_loop c ls p q h m ms t s here marks small =
     let two : Two = (known_inside s.known, label_over s.known Other t None (length s.entries) ∷ s.labels) in
     let n : State = noted (with_label s ms two (leads_to m.end)) in
     let a = here.height in
     let is : step c (loop_start t) s ≡ Ok n =
-    ap (λ (x : List Mark). follow {A = Act} {B = State} (follow {A = Marked} {B = Act} (next_mark x) (λ m. follow {A = Two} (opened Other t None (length s.entries) s.known s.labels) (λ r. Ok (with_label s m.1 r (leads_to m.0.end))))) (λ r. Ok (noted r))) marks
+    ap (λ (x : List ConstructEnd). follow {A = Act} {B = State} (follow {A = Marked} {B = Act} (next_mark x) (λ m. follow {A = Two} (opened Other t None (length s.entries) s.known s.labels) (λ r. Ok (with_label s m.1 r (leads_to m.0.end))))) (λ r. Ok (noted r))) marks
     ∙ ap (λ (x : Result Two ValidKind). follow {A = Act} {B = State} (follow {A = Two} {B = Act} x (λ r. Ok (with_label s ms r (leads_to m.end)))) (λ r. Ok (noted r))) (can_open Other t None (length s.entries) s.known s.labels (omega arith)) in
     opening c (loop_start t) s.known (label_at s.known Other t None p h) ls p q h (leads_to m.end) ms s n is (enter_loop c [] ls p q h 0 m ms t s n here marks (run_on c 0 (loop_start t) [] s n is))
 
 -- an if takes its condition
-pub record Choosing (c : Context) (t : Option ValType) (m : Mark) (ls : List Label) (p q h : ℕ) (ms : List Mark) (s : State) (below : List ValType) : Type 0 where
+pub record Choosing (c : Context) (t : Option ValType) (m : ConstructEnd) (ls : List Label) (p q h : ℕ) (ms : List ConstructEnd) (s : State) (below : List ValType) : Type 0 where
   pub known : Known
   pub taken : Passes s.known known (I32 ∷ []) []
   pub floor : known.floor ≡ base (targets_of ls)
@@ -90,7 +90,7 @@ pub record Choosing (c : Context) (t : Option ValType) (m : Mark) (ls : List Lab
   pub fit : Fit known below
   pub opening : Opening c (if_start t) known (label_at known Then t t (m.end + 1) (lowered (base (targets_of ls)) h 1)) ls p q (lowered (base (targets_of ls)) h 1) ms s
 
-choosing : (c : Context) (t : Option ValType) (m : Mark) (ls : List Label) (p q h : ℕ) (ms : List Mark) (s n : State) (below : List ValType) (k : Known) → step c (if_start t) s ≡ Ok n → take_one s.known I32 ≡ Ok k → Fit k below → Chosen c [] t m ls p q h ms s n → Choosing c t m ls p q h ms s below
+choosing : (c : Context) (t : Option ValType) (m : ConstructEnd) (ls : List Label) (p q h : ℕ) (ms : List ConstructEnd) (s n : State) (below : List ValType) (k : Known) → step c (if_start t) s ≡ Ok n → take_one s.known I32 ≡ Ok k → Fit k below → Chosen c [] t m ls p q h ms s n → Choosing c t m ls p q h ms s below
 choosing c t m ls p q h ms s n below k is taken fit z = record {
   known = z.known;
   taken = z.taken;
@@ -100,7 +100,7 @@ choosing c t m ls p q h ms s n below k is taken fit z = record {
   opening = opening c (if_start t) z.known (label_at z.known Then t t (m.end + 1) (lowered (base (targets_of ls)) h 1)) ls p q (lowered (base (targets_of ls)) h 1) (leads_to m.other) ms s n is z.entered;
 }
 
-pub can_if : (c : Context) (ls : List Label) (p q h : ℕ) (m : Mark) (ms : List Mark) (t : Option ValType) (s : State) (below : List ValType) → At s ls p q h → s.marks ≡ m ∷ ms → h ≤ 256 → Fit s.known (I32 ∷ below) → Choosing c t m ls p q h ms s below
+pub can_if : (c : Context) (ls : List Label) (p q h : ℕ) (m : ConstructEnd) (ms : List ConstructEnd) (t : Option ValType) (s : State) (below : List ValType) → At s ls p q h → s.marks ≡ m ∷ ms → h ≤ 256 → Fit s.known (I32 ∷ below) → Choosing c t m ls p q h ms s below
 can_if c ls p q h m ms t s below here marks small fit =
     let g = can_take_one s.known I32 below fit in
     let k : Known = g.0 in
@@ -111,14 +111,14 @@ can_if c ls p q h m ms t s below here marks small fit =
     let low : length k.types ≤ 256 = w.stays.small (omega arith) in
     let is : step c (if_start t) s ≡ Ok n =
     ap (λ (x : Result Known ValidKind). follow {A = Act} {B = State} (follow {B = Act} x (λ k. follow {A = Marked} (next_mark s.marks) (λ m. follow {A = Two} (opened Then t t (m.0.end + 1) k s.labels) (λ r. Ok (with_label s m.1 r (leads_to m.0.other)))))) (λ r. Ok (noted r))) g.1
-    ∙ ap (λ (x : List Mark). follow {A = Act} {B = State} (follow {A = Marked} {B = Act} (next_mark x) (λ m. follow {A = Two} (opened Then t t (m.0.end + 1) k s.labels) (λ r. Ok (with_label s m.1 r (leads_to m.0.other))))) (λ r. Ok (noted r))) marks
+    ∙ ap (λ (x : List ConstructEnd). follow {A = Act} {B = State} (follow {A = Marked} {B = Act} (next_mark x) (λ m. follow {A = Two} (opened Then t t (m.0.end + 1) k s.labels) (λ r. Ok (with_label s m.1 r (leads_to m.0.other))))) (λ r. Ok (noted r))) marks
     ∙ ap (λ (x : Result Two ValidKind). follow {A = Act} {B = State} (follow {A = Two} {B = Act} x (λ r. Ok (with_label s ms r (leads_to m.other)))) (λ r. Ok (noted r))) (can_open Then t t (m.end + 1) k s.labels low) in
     choosing c t m ls p q h ms s n below k is g.1 g.2 (enter_if c [] ls p q h 0 m ms t s n here marks (run_on c 0 (if_start t) [] s n is))
 
 -- ---- closing
 
 -- a construct closes, and its result lies above what fitted beneath it
-pub record Closing (c : Context) (ls : List Label) (p q h : ℕ) (ms : List Mark) (s : State) (after : List ValType) : Type 0 where
+pub record Closing (c : Context) (ls : List Label) (p q h : ℕ) (ms : List ConstructEnd) (s : State) (after : List ValType) : Type 0 where
   pub next : State
   pub is : step c end_mark s ≡ Ok next
   pub at : At next ls p q h
@@ -141,7 +141,7 @@ can_close k b l ls below w floor dead st fit may room under_it =
       subst (λ xs. Fit g.0 (xs ++ below)) (operand_reversed l.result) g.2,
     )
 
-closing : (c : Context) (body : Code) (ls : List Label) (l : Label) (p q h1 : ℕ) (t : Option ValType) (k : Known) (ms : List Mark) (s b n : State) (after : List ValType) → step c end_mark b ≡ Ok n → Fit n.known after → Part c body [] ls l p q h1 t k ms s n → Closing c ls (p + length (flatten body) + 1) (q + length (laid c (targets_of (l ∷ ls)) p q h1 body).pool) (h1 + operands t) ms b after
+closing : (c : Context) (body : Code) (ls : List Label) (l : Label) (p q h1 : ℕ) (t : Option ValType) (k : Known) (ms : List ConstructEnd) (s b n : State) (after : List ValType) → step c end_mark b ≡ Ok n → Fit n.known after → Part c body [] ls l p q h1 t k ms s n → Closing c ls (p + length (flatten body) + 1) (q + length (laid c (targets_of (l ∷ ls)) p q h1 body).pool) (h1 + operands t) ms b after
 closing c body ls l p q h1 t k ms s b n after is fit part =
     let same : part.next ≡ n = ok_is {E = BodyFault} part.next n part.runs in
     record {
@@ -152,7 +152,7 @@ closing c body ls l p q h1 t k ms s b n after is fit part =
       fit = subst (λ (x : State). Fit x.known after) (sym same) fit;
     }
 
-pub can_end : (c : Context) (body : Code) (ls : List Label) (k : Known) (kind : Open) (t carries : Option ValType) (place p q h1 : ℕ) (ms : List Mark) (s b : State) (below : List ValType)
+pub can_end : (c : Context) (body : Code) (ls : List Label) (k : Known) (kind : Open) (t carries : Option ValType) (place p q h1 : ℕ) (ms : List ConstructEnd) (s b : State) (below : List ValType)
     → k.floor ≡ base (targets_of ls) → k.floor ≤ length k.types → length k.types ≡ h1 → s.known ≡ known_inside k → At s (label_at k kind t carries place h1 ∷ ls) p q h1 → Ran c body (label_at k kind t carries place h1 ∷ ls) p q h1 s b → b.marks ≡ ms → Fit b.known (operand t) → may_end kind t ≡ true → h1 + operands t ≤ 256 → Fit k below
     → Closing c ls (p + length (flatten body) + 1) (q + length (laid c (targets_of (label_at k kind t carries place h1 ∷ ls)) p q h1 body).pool) (h1 + operands t) ms b (operand t ++ below)
 can_end c body ls k kind t carries place p q h1 ms s b below floor w high known here r marks fit may room under_it =
@@ -168,7 +168,7 @@ can_end c body ls k kind t carries place p q h1 ms s b below floor w high known 
 
 -- ---- turning
 
-pub record Turning (c : Context) (k : Known) (l : Label) (ls : List Label) (p q low : ℕ) (ms : List Mark) (s : State) : Type 0 where
+pub record Turning (c : Context) (k : Known) (l : Label) (ls : List Label) (p q low : ℕ) (ms : List ConstructEnd) (s : State) : Type 0 where
   pub next : State
   pub is : step c else_mark s ≡ Ok next
   pub known : next.known ≡ known_inside k
@@ -176,7 +176,7 @@ pub record Turning (c : Context) (k : Known) (l : Label) (ls : List Label) (p q 
   pub marks : next.marks ≡ ms
   pub fit : Fit next.known []
 
-turning : (c : Context) (first : Code) (k : Known) (t : Option ValType) (ls : List Label) (p q low m : ℕ) (ms : List Mark) (s b n : State) → step c else_mark b ≡ Ok n → Turned c first [] k t ls p q low m ms s n → Turning c k (label_at k Other t t (m + 1) low) ls (p + 1 + length (flatten first) + 1) (q + length (laid c (targets_of (label_at k Then t t (m + 1) low ∷ ls)) (p + 1) q low first).pool) low ms b
+turning : (c : Context) (first : Code) (k : Known) (t : Option ValType) (ls : List Label) (p q low m : ℕ) (ms : List ConstructEnd) (s b n : State) → step c else_mark b ≡ Ok n → Turned c first [] k t ls p q low m ms s n → Turning c k (label_at k Other t t (m + 1) low) ls (p + 1 + length (flatten first) + 1) (q + length (laid c (targets_of (label_at k Then t t (m + 1) low ∷ ls)) (p + 1) q low first).pool) low ms b
 turning c first k t ls p q low m ms s b n is tn =
     let same : tn.next ≡ n = ok_is {E = BodyFault} tn.next n tn.runs in
     record {
@@ -188,7 +188,7 @@ turning c first k t ls p q low m ms s b n is tn =
       fit = subst (λ (x : Known). Fit x []) (sym tn.known) (fit_inside k);
     }
 
-pub can_turn : (c : Context) (first : Code) (k : Known) (t : Option ValType) (ls : List Label) (p q low m : ℕ) (ms : List Mark) (s b : State) → s.known ≡ known_inside k → length k.types ≡ low → At s (label_at k Then t t (m + 1) low ∷ ls) (p + 1) q low → Ran c first (label_at k Then t t (m + 1) low ∷ ls) (p + 1) q low s b → b.marks ≡ mark m m ∷ ms → Fit b.known (operand t)
+pub can_turn : (c : Context) (first : Code) (k : Known) (t : Option ValType) (ls : List Label) (p q low m : ℕ) (ms : List ConstructEnd) (s b : State) → s.known ≡ known_inside k → length k.types ≡ low → At s (label_at k Then t t (m + 1) low ∷ ls) (p + 1) q low → Ran c first (label_at k Then t t (m + 1) low ∷ ls) (p + 1) q low s b → b.marks ≡ mark m m ∷ ms → Fit b.known (operand t)
     → Turning c k (label_at k Other t t (m + 1) low) ls (p + 1 + length (flatten first) + 1) (q + length (laid c (targets_of (label_at k Then t t (m + 1) low ∷ ls)) (p + 1) q low first).pool) low ms b
 can_turn c first k t ls p q low m ms s b known high at r marks fit =
     let l = label_at k Then t t (m + 1) low in
@@ -198,7 +198,7 @@ can_turn c first k t ls p q low m ms s b known high at r marks fit =
     let turned_ok : turned b.known (l ∷ ls) ≡ Ok two = ap (λ (x : Result Known ValidKind). follow {B = Two} x (λ left. Ok (record left { dead = false }, record l { kind = Other } ∷ ls))) f.1 in
     let n : State = noted (with_label b ms two (leads_to m)) in
     let is : step c else_mark b ≡ Ok n =
-    ap (λ (x : List Mark). follow {A = Act} {B = State} (follow {A = Marked} {B = Act} (next_mark x) (λ m. follow {A = Two} (turned b.known b.labels) (λ r. Ok (with_label b m.1 r (leads_to m.0.end))))) (λ r. Ok (noted r))) marks
+    ap (λ (x : List ConstructEnd). follow {A = Act} {B = State} (follow {A = Marked} {B = Act} (next_mark x) (λ m. follow {A = Two} (turned b.known b.labels) (λ r. Ok (with_label b m.1 r (leads_to m.0.end))))) (λ r. Ok (noted r))) marks
     ∙ ap (λ (y : List Label). follow {A = Act} {B = State} (follow {A = Two} {B = Act} (turned b.known y) (λ r. Ok (with_label b ms r (leads_to m)))) (λ r. Ok (noted r))) r.labels
     ∙ ap (λ (y : Result Two ValidKind). follow {A = Act} {B = State} (follow {A = Two} {B = Act} y (λ r. Ok (with_label b ms r (leads_to m)))) (λ r. Ok (noted r))) turned_ok in
     turning c first k t ls p q low m ms s b n is (turn_to c first [] k t ls p q low m 0 ms s b n known high at r marks (run_on c 0 else_mark [] b n is))

@@ -4,10 +4,10 @@ use Rattle.wh_model.specs.Format.Syntax.{Instr, expression, Body}
 use Rattle.wh_model.specs.Validity.Typing.{Context}
 use Rattle.wh_model.specs.declared.faults.ValidKind.{ValidKind}
 use Rattle.wh_bodies.specs.declared.fault.BodyFault.{BodyFault}
-use Rattle.wh_bodies.specs.Faults.{follow, HasInstr}
-use Rattle.wh_bodies.specs.Marks.{all_marks}
-use Rattle.wh_bodies.specs.Stepping.{State, step, at_instr, run}
-use Rattle.wh_bodies.specs.Starting.{started, whole_run}
+use Rattle.wh_bodies.specs.BodyFaults.{follow, HasInstr}
+use Rattle.wh_bodies.specs.ConstructEnds.{all_marks}
+use Rattle.wh_bodies.specs.CheckSteps.{State, step, at_instr, run}
+use Rattle.wh_bodies.specs.CheckEnds.{started, whole_run}
 
 same_fault : {A : Type 0} (f g : BodyFault) → ◌≡◌ {A = Result A BodyFault} (Err f) (Err g) → f ≡ g
 same_fault f g e = cc

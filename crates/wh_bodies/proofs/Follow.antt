@@ -1,8 +1,8 @@
 -- What a chain of steps that passes went through.
 use Rattle.std.proofs.Common.{◌≡◌, refl, Result, Ok, Err, Option, Some, None, Bool, true, false, cond, IsTrue, rules}
 use Rattle.wh_model.specs.declared.faults.ValidKind.{ValidKind}
-use Rattle.wh_bodies.specs.Faults.{follow}
-use Rattle.wh_bodies.specs.Stepping.{found}
+use Rattle.wh_bodies.specs.BodyFaults.{follow}
+use Rattle.wh_bodies.specs.CheckSteps.{found}
 
 pub ok_is : {A E : Type 0} (x y : A) → ◌≡◌ {A = Result A E} (Ok x) (Ok y) → x ≡ y
 ok_is x y e = cc

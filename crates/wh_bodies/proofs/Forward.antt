@@ -9,9 +9,9 @@ use Rattle.wh_model.specs.declared.ValType.TheVariants.{I32, I64}
 use Rattle.wh_model.specs.Validity.Typing.{operand}
 use Rattle.wh_model.specs.declared.faults.ValidKind.{ValidKind}
 use Rattle.wh_model.specs.declared.faults.ValidKind.TheVariants.{Arity}
-use Rattle.wh_bodies.specs.Faults.{follow}
+use Rattle.wh_bodies.specs.BodyFaults.{follow}
 use Rattle.wh_bodies.specs.Known.{Known, above, Admits, AgreeWithKnown, Fit, same_type, topmost, take_any, is_wanted, take_one, give_one, fall, take_all, give_all, pass, agreed, selected}
-use Rattle.wh_bodies.specs.Stepping.{finished}
+use Rattle.wh_bodies.specs.CheckSteps.{finished}
 use Rattle.wh_bodies.proofs.Follow.{by_test}
 use Rattle.wh_bodies.proofs.Knowing.{above-front, above_none, popped, takes_one, takes_all, gives_one, falls}
 

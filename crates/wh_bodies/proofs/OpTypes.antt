@@ -21,7 +21,7 @@ use Rattle.wh_model.specs.Validity.Typing.{Context, OpType, load_type, store_typ
 use Rattle.wh_model.specs.Validity.Heights.{taken, given, no_type}
 use Rattle.wh_model.specs.declared.faults.ValidKind.{ValidKind}
 use Rattle.wh_model.specs.declared.faults.ValidKind.TheVariants.{Align}
-use Rattle.wh_bodies.specs.Stepping.{fixed, typed, load_exponent, store_exponent, aligned, type_to_write}
+use Rattle.wh_bodies.specs.CheckSteps.{fixed, typed, load_exponent, store_exponent, aligned, type_to_write}
 use Rattle.wh_bodies.proofs.Follow.{ok_is, found_ok, cond_ok}
 
 -- the instruction has this type, and takes and gives as many operands

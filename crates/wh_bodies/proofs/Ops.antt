@@ -12,11 +12,11 @@ use Rattle.wh_model.specs.declared.faults.ValidKind.{ValidKind}
 use Rattle.wh_model.specs.declared.faults.ValidKind.TheVariants.{BadType}
 use Rattle.wh_bodies.specs.declared.table.BranchEntry.{BranchEntry}
 use Rattle.wh_bodies.specs.declared.labels.Label.{Label}
-use Rattle.wh_bodies.specs.Faults.{follow}
+use Rattle.wh_bodies.specs.BodyFaults.{follow}
 use Rattle.wh_bodies.specs.Known.{Known, Admits, Fit, take_any, take_one, give_one, take_all, give_all, pass, fall, agreed, selected, same_type}
-use Rattle.wh_bodies.specs.Table.{Target, nowhere, leads_to, entry_of, run_of, branch_to, to_target}
+use Rattle.wh_bodies.specs.SideTables.{Target, nowhere, leads_to, entry_of, run_of, branch_to, to_target}
 use Rattle.wh_bodies.specs.Opened.{target_of, targets_of, around}
-use Rattle.wh_bodies.specs.Stepping.{found, fixed, straight, numeric, entry_to, branch, branch_if, same_operand, add_run, branch_table, plain_step}
+use Rattle.wh_bodies.specs.CheckSteps.{found, fixed, straight, numeric, entry_to, branch, branch_if, same_operand, add_run, branch_table, plain_step}
 use Rattle.wh_bodies.proofs.Follow.{ok_is, follow_ok, found_ok, cond_ok}
 use Rattle.wh_bodies.proofs.Knowing.{Stays, stays_on, Passes, pushed, popped, takes_one, takes_all, gives_all, take_then, take_then_give, falls, some_fit, same_types}
 use Rattle.wh_bodies.proofs.OpTypes.{Typed, call_typed, get_typed, set_typed, tee_typed, global_typed, written_typed, load_typed, store_typed, size_typed, grow_typed, nop_typed, i32_typed, i64_typed, test_typed, comparison_typed, unary_typed, binary_typed, conversion_typed}

@@ -15,11 +15,11 @@ use Rattle.wh_model.specs.declared.faults.ValidKind.{ValidKind}
 use Rattle.wh_model.specs.declared.faults.ValidKind.TheVariants.{BadType, Align}
 use Rattle.wh_bodies.specs.declared.table.BranchEntry.{BranchEntry}
 use Rattle.wh_bodies.specs.declared.labels.Label.{Label}
-use Rattle.wh_bodies.specs.Faults.{follow}
+use Rattle.wh_bodies.specs.BodyFaults.{follow}
 use Rattle.wh_bodies.specs.Known.{Known, Fit, take_one, take_all, give_all, pass, fall}
-use Rattle.wh_bodies.specs.Table.{Target, nowhere, leads_to}
+use Rattle.wh_bodies.specs.SideTables.{Target, nowhere, leads_to}
 use Rattle.wh_bodies.specs.Opened.{target_of, targets_of, around}
-use Rattle.wh_bodies.specs.Stepping.{found, fixed, straight, numeric, typed, aligned, type_to_write, load_exponent, store_exponent, entry_to, same_operand, add_run, plain_step}
+use Rattle.wh_bodies.specs.CheckSteps.{found, fixed, straight, numeric, typed, aligned, type_to_write, load_exponent, store_exponent, entry_to, same_operand, add_run, plain_step}
 use Rattle.wh_bodies.proofs.Knowing.{takes_one, takes_all}
 use Rattle.wh_bodies.proofs.Forward.{Goes, can_take, can_take_one, can_take_all, can_give_all, can_pass, can_select, can_fall, same_true}
 use Rattle.wh_bodies.proofs.Ops.{operand_reversed}

@@ -8,11 +8,11 @@ use Rattle.wh_model.specs.Validity.Typing.{Context, operand, HasType}
 use Rattle.wh_model.specs.Validity.Valid.{ValidBody}
 use Rattle.wh_model.specs.Validity.Heights.{operands, greatest, body_height}
 use Rattle.wh_bodies.specs.declared.fault.BodyFault.{BodyFault}
-use Rattle.wh_bodies.specs.declared.marks.Mark.{Mark}
-use Rattle.wh_bodies.specs.Marks.{all_marks}
+use Rattle.wh_bodies.specs.declared.marks.ConstructEnd.{ConstructEnd}
+use Rattle.wh_bodies.specs.ConstructEnds.{all_marks}
 use Rattle.wh_bodies.specs.Opened.{around}
-use Rattle.wh_bodies.specs.Stepping.{State, run}
-use Rattle.wh_bodies.specs.Starting.{nothing_known, body_label, started, whole_run}
+use Rattle.wh_bodies.specs.CheckSteps.{State, run}
+use Rattle.wh_bodies.specs.CheckEnds.{nothing_known, body_label, started, whole_run}
 use Rattle.wh_bodies.proofs.Places.{own_marks}
 use Rattle.wh_bodies.proofs.ConstructsForward.{run_on, can_end}
 use Rattle.wh_bodies.proofs.Complete.{can, can_ran}
@@ -25,7 +25,7 @@ few_operands (Some t) = omega arith
 pub goes_through : (d : Context) (code : Code) (of : Option ValType) (n : ℕ) → n ≡ length (flatten code) + 1 → greatest (around (body_label of n ∷ []) d) 0 0 code ≤ 256 → HasType (around (body_label of n ∷ []) d) code [] (operand of)
     → (last : State) × (run d 0 (expression code) (started of n (all_marks 0 (expression code)).done) ≡ Ok last)
 goes_through d code of n size low typed =
-    let ms : List Mark = (all_marks 0 (expression code)).done in
+    let ms : List ConstructEnd = (all_marks 0 (expression code)).done in
     let s = started of n ms in
     let l = body_label of n in
     let here = body_at of n ms in

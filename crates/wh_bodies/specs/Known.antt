@@ -6,7 +6,7 @@ use Rattle.wh_model.specs.declared.ValType.TheVariants.{I32, I64}
 use Rattle.wh_model.specs.declared.faults.ValidKind.{ValidKind}
 use Rattle.wh_model.specs.declared.faults.ValidKind.TheVariants.{BadType, Arity, Height}
 use Rattle.wh_bodies.specs.declared.operands.Operands.{Operands}
-use Rattle.wh_bodies.specs.Faults.{follow}
+use Rattle.wh_bodies.specs.BodyFaults.{follow}
 
 -- The types of all operands of the function, the topmost first, where None is any type. Those above the floor belong to
 -- the innermost sequence; where it is dead, any operands may lie between them and the floor.

@@ -1,9 +1,9 @@
-pub mod Faults
+pub mod BodyFaults
 pub mod Known
-pub mod Table
+pub mod SideTables
 pub mod Classes
-pub mod Stepping
-pub mod Marks
+pub mod CheckSteps
+pub mod ConstructEnds
 pub mod Opened
-pub mod Starting
-pub mod Views
+pub mod CheckEnds
+pub mod View

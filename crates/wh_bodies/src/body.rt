@@ -3,12 +3,12 @@
 ghost use Rattle.std.specs.Prelude.{◌≡◌, ◌≢◌, ◌+◌, ◌<◌, ◌≤◌, ◌^◌, ℕ, List, [], Option, Ok, Err, length, map, reverse, OnOk, IfOk, IfErr, IsTrue, ◌↔◌};
 ghost use Rattle.std.specs.List.{AllByRecursion};
 ghost use Rattle.wh_syntax.specs.Shown.{instr_of, InPool};
-ghost use Rattle.wh_bodies.specs.Stepping.{run};
-ghost use Rattle.wh_bodies.specs.Starting.{started, whole_run, RunsTo, RunsFrom};
-ghost use Rattle.wh_bodies.specs.Marks.{all_marks};
-ghost use Rattle.wh_bodies.specs.Faults.{IsOfBody, HasInstr};
-ghost use Rattle.wh_bodies.specs.Table.{table_of};
-ghost use Rattle.wh_bodies.specs.Views.{view_around, view_context, view_side, state_of};
+ghost use Rattle.wh_bodies.specs.CheckSteps.{run};
+ghost use Rattle.wh_bodies.specs.CheckEnds.{started, whole_run, RunsTo, RunsFrom};
+ghost use Rattle.wh_bodies.specs.ConstructEnds.{all_marks};
+ghost use Rattle.wh_bodies.specs.BodyFaults.{IsOfBody, HasInstr};
+ghost use Rattle.wh_bodies.specs.SideTables.{table_of};
+ghost use Rattle.wh_bodies.specs.View.{view_around, view_context, view_side, state_of};
 ghost use Rattle.wh_model.specs.Validity.Valid.{ValidBody};
 ghost use Rattle.wh_model.specs.Validity.Heights.{FitsBody};
 ghost use Rattle.wh_syntax.specs.View.{view_type, view_body};
@@ -16,7 +16,7 @@ ghost use Rattle.wh_syntax.specs.View.{view_type, view_body};
 use crate::context::{Around, Context};
 use crate::fault::BodyFault;
 use crate::labels::Label;
-use crate::marks::{Mark, all_marks};
+use crate::marks::{ConstructEnd, all_marks};
 use crate::operands::Operands;
 use crate::steps::{Checker, step};
 use crate::table::{BranchEntry, SideTable};
@@ -40,7 +40,7 @@ fn start(
     alloc: Global,
     of: Option<ValType>,
     count: u32,
-    marks: Vec<Mark>,
+    marks: Vec<ConstructEnd>,
 ) -> Result<Checker, ValidKind>
     ensures ok { IfOk result (λ c. state_of c ≡ started of count (reverse marks.items)) }
     ensures err { IfErr result (λ k. k ≡ ValidKind.Memory) }
@@ -177,7 +177,7 @@ pub fn check_body(
         (view_body body.now)
         → FitsBody (view_context context.now) (view_type func_type.now) (view_body body.now)
         → ⊥) }
-    // Another fault than want of memory is one of those that a body can have.
+    // Another fault than out of memory is one of those that a body can have.
     ensures kinds { IfErr result (λ e. e.kind ≢ ValidKind.Memory → IsOfBody e.kind) }
     // It names an instruction of the body.
     ensures place { IfErr result

@@ -2,7 +2,7 @@
 
 ghost use Rattle.std.specs.Prelude.{◌≡◌, ◌<◌, reverse};
 ghost use Rattle.wh_bodies.specs.Known.{known, same_type, take_one, take_any, give_one, fall, take_all, give_all, pass, agreed, selected};
-ghost use Rattle.wh_bodies.specs.Faults.{Checks, Yields};
+ghost use Rattle.wh_bodies.specs.BodyFaults.{Checks, Yields};
 
 use wh_model::{MOST_HEIGHT, ValType, ValidKind};
 

@@ -7,9 +7,9 @@ ghost use Rattle.wh_model.specs.declared.ValType.TheVariants.{I32};
 ghost use Rattle.wh_model.specs.Format.Syntax.{global_set, load, store, call, call_indirect};
 ghost use Rattle.wh_syntax.specs.Shown.{instr_of};
 ghost use Rattle.wh_bodies.specs.Known.{known, pass};
-ghost use Rattle.wh_bodies.specs.Stepping.{found, straight, control, memory, variable, numeric, load_exponent, store_exponent};
-ghost use Rattle.wh_bodies.specs.Views.{view_around};
-ghost use Rattle.wh_bodies.specs.Faults.{Checks};
+ghost use Rattle.wh_bodies.specs.CheckSteps.{found, straight, control, memory, variable, numeric, load_exponent, store_exponent};
+ghost use Rattle.wh_bodies.specs.View.{view_around};
+ghost use Rattle.wh_bodies.specs.BodyFaults.{Checks};
 
 use crate::context::Around;
 use crate::labels::take_operand;

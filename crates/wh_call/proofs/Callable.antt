@@ -11,15 +11,15 @@ use Rattle.wh_model.specs.Validity.Heights.{no_type}
 use Rattle.wh_model.specs.Execution.Store.{own, Instance}
 use Rattle.wh_syntax.specs.declared.module.FuncType.{FuncType}
 use Rattle.wh_syntax.specs.View.{view_module, view_type}
-use Rattle.wh_bodies.specs.Table.{Table}
-use Rattle.wh_bodies.specs.Views.{view_side, type_at}
-use Rattle.wh_validate.specs.Soundness.{Checked, IsChecked}
+use Rattle.wh_bodies.specs.SideTables.{Table}
+use Rattle.wh_bodies.specs.View.{view_side, type_at}
+use Rattle.wh_validate.specs.CheckedBodies.{Checked, IsChecked}
 use Rattle.wh_imports.specs.LinkedState.{LinkedState}
 use Rattle.wh_control.specs.Represents.{Func}
 use Rattle.wh_control.proofs.Calling.{own_at}
 use Rattle.wh_control.proofs.Entries.{Callee, of_host, of_module, callee}
 use Rattle.wh_control.specs.Parts.{ProgramParts, funcs_of, funcs_in, IsInstance}
-use Rattle.wh_machine.specs.Runs.{linked_parts, IsInstanceOf}
+use Rattle.wh_machine.specs.MachineRuns.{linked_parts, IsInstanceOf}
 use Rattle.wh_machine.proofs.Lookups.{parts_of, all_of}
 use Rattle.wh_call.specs.Arguments.{Arguments, HasCall, IsOwnType, LacksOwn}
 use Rattle.wh_call.proofs.Lists.{values_of, arguments_of, mapped_to}

@@ -14,8 +14,8 @@ use Rattle.wh_machine.specs.declared.machine.Machine.{Machine}
 use Rattle.wh_machine.specs.declared.machine.Stepped.{Stepped}
 use Rattle.wh_machine.specs.declared.machine.Stepped.TheVariants as steps
 use Rattle.wh_machine.specs.Executing.{calls_of, ended_calls}
-use Rattle.wh_machine.specs.Runs.{calls_in, RepresentsInstance, RepresentsMachine}
-use Rattle.wh_machine.specs.States.{CallState, Setting}
+use Rattle.wh_machine.specs.MachineRuns.{calls_in, RepresentsInstance, RepresentsMachine}
+use Rattle.wh_machine.specs.CallStates.{CallState, Setting}
 use Rattle.wh_machine.specs.Stepping.{IsRun}
 use Rattle.wh_call.specs.declared.calling.RunEnd.{RunEnd}
 use Rattle.wh_call.specs.declared.calling.RunEnd.TheVariants.{Returned, Trapped, OutOfFuel, NotReady}
@@ -28,7 +28,7 @@ store_there c funcs out m s (running s2 a ws) h = h.0
 store_there c funcs out m s (finished s2 vs) h = h.0
 store_there c funcs out m s (stopped s2 x) h = absurd h
 
--- what the machine stands for has the store of its instance
+-- what the machine represents has the store of its instance
 pub stands_with : {p : ProgramParts} {m : Machine} {k : stored.Store} {flat : List ℕ} {most : ℕ} {out : Option ValType} {inst : Instance} {cfg : Config} → RepresentsMachine p m k flat most out inst cfg → (c : Context) × RepresentsInstance p k flat most c inst (store_of cfg)
 stands_with {p} {m} {k} {flat} {most} {out} {inst} st =
     let same = ap store_of st.nested ∙ store_there st.context (funcs_in p) out (calls_in m) st.s st.focused st.calls in

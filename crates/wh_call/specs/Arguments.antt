@@ -6,7 +6,7 @@ use Rattle.wh_model.specs.Execution.Numbers.{bits}
 use Rattle.wh_model.specs.Validity.Typing.{Context}
 use Rattle.wh_model.specs.Execution.Store.{Value, own, Instance}
 use Rattle.wh_imports.specs.LinkedState.{LinkedState}
-use Rattle.wh_machine.specs.Runs.{IsInstanceOf}
+use Rattle.wh_machine.specs.MachineRuns.{IsInstanceOf}
 use Rattle.wh_machine.specs.Opening.{IsOwnCall}
 
 -- in each instance of the linked module the function of this index is its own, of this type

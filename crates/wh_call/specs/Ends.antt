@@ -11,8 +11,8 @@ use Rattle.wh_model.specs.Execution.Asking.{Asks}
 use Rattle.wh_model.specs.Execution.Taking.{Takes}
 use Rattle.wh_control.specs.Represents.{bits_of, result_of}
 use Rattle.wh_machine.specs.Opening.{IsOwnCall}
-use Rattle.wh_machine.specs.Runs.{RepresentsInstance, IsSettledIn}
-use Rattle.wh_machine.specs.States.{CallState, Setting, StandsFor}
+use Rattle.wh_machine.specs.MachineRuns.{RepresentsInstance, IsSettledIn}
+use Rattle.wh_machine.specs.CallStates.{CallState, Setting, RepresentsConfig}
 use Rattle.wh_call.specs.declared.calling.RunEnd.{RunEnd}
 use Rattle.wh_call.specs.declared.calling.RunEnd.TheVariants.{Returned, Trapped, OutOfFuel, NotReady}
 
@@ -32,11 +32,11 @@ pub record CanCall {M : Type 0} (w : Setting M) (state : CallState M) (func : �
   pub vs : List Value
   pub suits : IsOwnCall inst func args type body vs
 
--- so many charges lead to a configuration with this store, of which this holds, and the state stands for it
+-- so many charges lead to a configuration with this store, of which this holds, and the state represents it
 abbrev pub StopsAt : {M : Type 0} → Setting M → CallState M → Option ValType → Instance → (ℕ → Config → Type 0) → ℕ
     → Store → (Config → Type 0) → Type 0
 StopsAt w after out inst leads n s Is =
-    (c : Config) × leads n c × Is c × (s ≡ store_of c) × StandsFor w after out inst c
+    (c : Config) × leads n c × Is c × (s ≡ store_of c) × RepresentsConfig w after out inst c
     × (after.machine.running ≡ true) × IsSettledIn w.program after.machine
 
 -- the values are of the result's type, and in its range
@@ -63,10 +63,10 @@ EndsWithin w after out inst leads fuel (NotReady need) n s =
 abbrev pub TakesTo : {M : Type 0} → Setting M → Instance → M → Config → M → ℕ → Config → Type 0
 TakesTo w inst memory c memory2 n c2 = Takes w.bytes w.ready w.keeps inst memory c n memory2 c2
 
--- whatever configuration the state stands for comes to that, and what it leaves is of the same instance
+-- whatever configuration the state represents comes to that, and what it leaves is of the same instance
 abbrev pub RunEndsWithin : {M : Type 0} → Setting M → CallState M → ℕ → RunEnd → ℕ → CallState M → Type 0
 RunEndsWithin w before fuel end n after =
-    (out : Option ValType) (inst : Instance) (c : Config) → StandsFor w before out inst c
+    (out : Option ValType) (inst : Instance) (c : Config) → RepresentsConfig w before out inst c
     → (s : Store) × EndsWithin w after out inst (TakesTo w inst before.memory c after.memory) fuel end n s
     × HasStoreIn w after inst s
 

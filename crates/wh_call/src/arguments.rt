@@ -7,7 +7,7 @@ ghost use Rattle.wh_model.specs.Validity.Typing.{Context};
 ghost use Rattle.wh_model.specs.Execution.Store.{Instance};
 ghost use Rattle.wh_syntax.specs.View.{view_type};
 ghost use Rattle.wh_call.specs.Arguments.{Arguments, HasCall, IsOwnType, LacksOwn};
-ghost use Rattle.wh_machine.specs.Runs.{IsInstanceOf};
+ghost use Rattle.wh_machine.specs.MachineRuns.{IsInstanceOf};
 
 use wh_imports::Linked;
 use wh_model::ValType;

@@ -1,6 +1,6 @@
 //! Runs of calls, and how they end.
 
-ghost use Rattle.wh_machine.specs.States.{HasConfiguration, setting_of, call_state};
+ghost use Rattle.wh_machine.specs.CallStates.{HasConfiguration, setting_of, call_state};
 ghost use Rattle.wh_call.specs.Ends.{CanCall, RunEndsWithin, CallEndsWithin};
 
 use wh_imports::Linked;
@@ -22,7 +22,7 @@ pub enum RunEnd {
     NotReady(Need),
 }
 
-/// Lets the call that a machine stands for run with this fuel: how the run has ended, and how many charges were taken,
+/// Lets the call that a machine represents run with this fuel: how the run has ended, and how many charges were taken,
 /// that of a trap included.
 pub fn run_on<M: LinearMem>(
     linked: &Linked,

@@ -6,10 +6,10 @@ use Rattle.wh_host_model.specs.Host.Worlds.{Tenant, World, journal, tenant}
 use Rattle.wh_host_model.specs.Owners.{Entry}
 use Rattle.wh_journal.specs.Calls.{JournalCallState}
 use Rattle.wh_instance.specs.Tenancy.{RepresentsEach}
-use Rattle.wh_host.specs.declared.parts.Resident.{Resident}
-use Rattle.wh_host.specs.Hosting.{HostState, IsHost, IsResident, resident_at}
+use Rattle.wh_host.specs.declared.parts.InstanceEntry.{InstanceEntry}
+use Rattle.wh_host.specs.Hosting.{HostState, IsHost, IsEntryOf, entry_at}
 use Rattle.wh_cell.specs.Charging.{charges_in, charges_by, FitsBook, HasTaken}
-use Rattle.wh_cell.specs.Leaving.{FitsHost, HasTakenOn}
+use Rattle.wh_cell.specs.LeftByOwner.{FitsHost, HasTakenOn}
 use Rattle.wh_cell.proofs.Counted.{charges_at, fits_taken}
 
 -- what the code has of a journal
@@ -23,10 +23,10 @@ same_charges (c ∷ cs) [] h = absurd h
 same_charges (c ∷ cs) (e ∷ es) h =
     omega (arith, h.0.charges, same_charges cs es h.1, sum_by-cons charges_at e es, sum_by-cons (λ (x : JournalCallState). x.charges) c cs)
 
-abbrev resident_charges : Resident → ℕ
+abbrev resident_charges : InstanceEntry → ℕ
 resident_charges x = code_charges x.tenant.journal.ended + code_charges x.tenant.journal.open_calls
 
-tenant_charges : (h : HostState) (w : World) (i : ℕ) (t : Tenant) (x : Resident) → IsResident h.modules x w.space i t → charges_in (journal t) ≡ resident_charges x
+tenant_charges : (h : HostState) (w : World) (i : ℕ) (t : Tenant) (x : InstanceEntry) → IsEntryOf h.modules x w.space i t → charges_in (journal t) ≡ resident_charges x
 tenant_charges h w i t x r =
     let ended = same_charges x.tenant.journal.ended t.ended r.is.ended in
     let open_calls = same_charges x.tenant.journal.open_calls t.open_calls r.is.open_calls in
@@ -41,7 +41,7 @@ one_alike h w w2 i t st st2 live =
     let f = st.there i t live in
     let g = st2.all t.place i f.0 f.1 f.2.number in
     let back = st2.there i g.0 g.1 in
-    let same : back.0 ≡ f.0 = some_is back.0 f.0 (sym back.1 ∙ ap (resident_at h.residents) g.2 ∙ f.1) in
+    let same : back.0 ≡ f.0 = some_is back.0 f.0 (sym back.1 ∙ ap (entry_at h.entries) g.2 ∙ f.1) in
     (g.0, g.1, tenant_charges h w i t f.0 f.2 ∙ ap resident_charges (sym same) ∙ sym (tenant_charges h w2 i g.0 back.0 back.2))
 
 by_number : (h : HostState) (w w2 : World) (i : ℕ) → IsHost h w → IsHost h w2 → charges_by (tenant w i) ≡ charges_by (tenant w2 i)

@@ -11,15 +11,15 @@ use Rattle.wh_host.specs.declared.error.HostError.{HostError}
 use Rattle.wh_host.specs.declared.error.ModuleError.{ModuleError}
 use Rattle.wh_host.specs.declared.parts.ModuleId.{ModuleId}
 use Rattle.wh_host.specs.Admitting.{AnswersAdmit}
-use Rattle.wh_host.specs.Asking.{AnswersCall, AnswersInvoke}
-use Rattle.wh_host.specs.Carried.{IsPresentCall}
+use Rattle.wh_host.specs.CallRequests.{AnswersCall, AnswersInvoke}
+use Rattle.wh_host.specs.TicketsOut.{IsPresentCall}
 use Rattle.wh_host.specs.Hosting.{HostState, IsHost}
 use Rattle.wh_host.specs.Loading.{AnswersLoad}
 use Rattle.wh_host.specs.Releasing.{AnswersRelease}
 use Rattle.wh_host.specs.Telling.{TellsChargesOf}
 use Rattle.wh_cell.specs.Charging.{FitsBook}
 use Rattle.wh_cell.specs.Counted.{charges_between}
-use Rattle.wh_cell.specs.Leaving.{FitsHost, HasNoCharge, HasTakenOn}
+use Rattle.wh_cell.specs.LeftByOwner.{FitsHost, HasNoCharge, HasTakenOn}
 use Rattle.wh_cell.proofs.Alike.{fits_each, fits_on, taken_each}
 use Rattle.wh_cell.proofs.Counted.{fits_taken}
 use Rattle.wh_cell.proofs.Requested.{admit_fits, cancel_fits, invoke_fits, load_fits, refuel_fits, release_fits, retry_fits}

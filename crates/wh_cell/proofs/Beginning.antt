@@ -14,7 +14,7 @@ use Rattle.wh_host_model.proofs.Host.Lasting.{memory_stays_sound}
 use Rattle.wh_reclaim.proofs.Sending.{slot_whole}
 use Rattle.wh_host.specs.declared.transit.Eviction.{Eviction}
 use Rattle.wh_host.specs.declared.transit.Fetch.{Fetch}
-use Rattle.wh_host.specs.Carried.{bytes_to_write, slot_to_read, slot_to_write}
+use Rattle.wh_host.specs.TicketsOut.{bytes_to_write, slot_to_read, slot_to_write}
 use Rattle.wh_host.specs.Hosting.{HostState, IsHost}
 use Rattle.wh_host.specs.Paging.{IsAwaiting, Tells, WaitsFor}
 use Rattle.wh_cell.specs.Calling.{GoesOut, HasContent}

@@ -9,10 +9,10 @@ use Rattle.wh_host_model.specs.Space.Parts.{Space}
 use Rattle.wh_reclaim.specs.Together.{AreTogether}
 use Rattle.wh_reclaim.proofs.Together.{new_together}
 use Rattle.wh_host.specs.Hosting.{HostState, IsNewHost}
-use Rattle.wh_host.specs.Showing.{StandsByEvents}
+use Rattle.wh_host.specs.Showing.{RepresentsReached}
 use Rattle.wh_cell.specs.Charging.{charges_by}
 use Rattle.wh_cell.specs.Knowing.{KnownState, NoneOut, backs, known_of}
-use Rattle.wh_cell.specs.Leaving.{ComesFrom, FitsHost, HasNoCharge, LeftState, left_as}
+use Rattle.wh_cell.specs.LeftByOwner.{ComesFrom, FitsHost, HasNoCharge, LeftState, left_as}
 use Rattle.wh_cell.specs.Locking.{IsInStep, IsKept, LockedState}
 use Rattle.wh_cell.proofs.Asked.{fits_nothing}
 use Rattle.wh_cell.proofs.Followed.{left_now}
@@ -30,7 +30,7 @@ begun_kept {D} device page keeper s held together is =
     }
 
 pub begun_in_step : {D : Type 0} (held : D → List (List ℕ)) (keeps honest : D → Type 0) (faults : D → List SwapError) (l : LockedState D) (device : D) → HasNoCharge l.host → AreTogether l.host.space (held device)
-    → (honest device → StandsByEvents l.host) → l.books.charges ≡ 0 → l.known ≡ known_of (backs l.host.space device) → l.left ≡ record { host = l.host; device = l.known.device } → IsInStep held keeps honest faults l
+    → (honest device → RepresentsReached l.host) → l.books.charges ≡ 0 → l.known ≡ known_of (backs l.host.space device) → l.left ≡ record { host = l.host; device = l.known.device } → IsInStep held keeps honest faults l
 begun_in_step {D} held keeps honest faults l device none together led zero known is =
     let has : l.known.device ≡ Some device = ap (λ (k : KnownState D). k.device) known in
     let left : l.left ≡ left_as l.host device = is ∙ ap (λ (x : Option D). (let z : LeftState D = record { host = l.host; device = x } in z)) has in
@@ -65,5 +65,5 @@ new_uncharged h frames slots tax new = (new.0, new.1, ap (λ (ts : List (Option 
 pub new_agrees : (h : HostState) (frames slots : ℕ) (tax : Tax) → IsNewHost h frames slots tax → AreTogether h.space (replicate slots [])
 new_agrees h frames slots tax new = subst (λ s. AreTogether s (replicate slots [])) (sym new.1.space) (new_together new.0.space frames slots tax new.5)
 
-pub new_led : (h : HostState) (frames slots : ℕ) (tax : Tax) → IsNewHost h frames slots tax → StandsByEvents h
+pub new_led : (h : HostState) (frames slots : ℕ) (tax : Tax) → IsNewHost h frames slots tax → RepresentsReached h
 new_led h frames slots tax new = (new.0, new.1, new.2)

@@ -14,7 +14,7 @@ use Rattle.wh_host.specs.Backing.{KeepsBacking}
 use Rattle.wh_host.specs.Hosting.{HostState, IsHost}
 use Rattle.wh_host.specs.Paging.{MovesAnyhow, MovesOnly, MovesWith, provide_fault}
 use Rattle.wh_cell.specs.Going.{IsPartOf, fault_or_none}
-use Rattle.wh_cell.specs.Leaving.{ComesFrom, FitsHost, LeftState, ServesOn, WorksOn, WorksAnyhowOn, left_as}
+use Rattle.wh_cell.specs.LeftByOwner.{ComesFrom, FitsHost, LeftState, ServesOn, WorksOn, WorksAnyhowOn, left_as}
 use Rattle.wh_cell.proofs.Alike.{fits_on}
 use Rattle.wh_cell.proofs.Going.{anyhow_where_right, works_anyhow_by, works_anyhow_on, works_anyhow_to_itself, works_by, works_on, works_to_itself, works_within}
 use Rattle.wh_cell.proofs.Requested.{misread_fits, moves_fit, pages_fit}

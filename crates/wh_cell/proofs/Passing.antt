@@ -12,7 +12,7 @@ use Rattle.wh_host_model.specs.Space.Parts.{Slots, Space}
 use Rattle.wh_host_model.specs.Space.Tickets.{BeginsEvict, BeginsFetch, CommitsEvict, CommitsFetch, Reserves}
 use Rattle.wh_reclaim.specs.Together.{AreTogether}
 use Rattle.wh_reclaim.specs.Whole.{IsAsWhole}
-use Rattle.wh_host.specs.Carried.{EndsEvict}
+use Rattle.wh_host.specs.TicketsOut.{EndsEvict}
 use Rattle.wh_cell.specs.Knowing.{AgreesWith, KnownState, NoneOut, with_ticket, without_ticket}
 
 -- the slots hold these afterwards, and these tickets are out

@@ -11,8 +11,8 @@ use Rattle.wh_host_model.specs.Space.Parts.{Space}
 use Rattle.wh_host_model.specs.Host.Worlds.{Doing, Tenant, World, journal, for_device}
 use Rattle.wh_host_model.specs.Owners.{Entry, new_entry}
 use Rattle.wh_host_model.specs.Owners.{Params}
-use Rattle.wh_host_model.specs.Host.Calls.{TakesCall, more_fuel, Refuels, has_more, Cancels, Retries, may_try}
-use Rattle.wh_host_model.specs.Host.Calls as calls
+use Rattle.wh_host_model.specs.Host.OwnerCalls.{TakesCall, more_fuel, Refuels, has_more, Cancels, Retries, may_try}
+use Rattle.wh_host_model.specs.Host.OwnerCalls as calls
 use Rattle.wh_host_model.specs.Host.Admission.{StartsAs, writes, runs, ends}
 use Rattle.wh_host_model.specs.Host.Happens.{IsLoad, is_loaded, isnt_loaded, no_memory_to_load, LoadAnswer, IsAdmit, is_admitted, isnt_admitted, no_memory_to_admit, AdmitAnswer, IsInvoke, is_invoked, has_no_instance, isnt_invoked, no_memory_to_invoke, InvokeAnswer, CallAnswer, IsRefuel, is_refueled, no_one_to_refuel, no_call_to_refuel, IsCancel, is_cancelled, no_one_to_cancel, no_call_to_cancel, IsRetry, is_retried, no_one_to_retry, no_fault_to_retry, IsRelease, is_released, no_one_to_release, MovesPages, moved, has_failed, OnlyMoves}
 use Rattle.wh_host_model.specs.Host.Misreading.{IsMisread}
@@ -104,4 +104,4 @@ misread_fits w w2 total m f = subst (λ z. FitsBook z total) (sym m.2) (record {
 pub pages_fit : (w w2 : World) (id : InstId) (awaits : Tenant → Type 0) (fault : Option SwapError) (total : ℕ) → MovesPages w id awaits fault w2 → FitsBook w total → FitsBook w2 total
 pages_fit w w2 id awaits fault total (moved alone none) f = record { least = f.least; whole = f.whole }
 pages_fit w w2 id awaits fault total (has_failed {t = t} {e = e} {s2 = s2} alone is live waits) f =
-    fits_still w w2 total (taken_by_one w id.number 0 t (record t { stands_for = Some (for_device e) }) s2 live.0 (omega arith)) f
+    fits_still w w2 total (taken_by_one w id.number 0 t (record t { waiting_for = Some (for_device e) }) s2 live.0 (omega arith)) f

@@ -16,14 +16,14 @@ use Rattle.wh_host_model.specs.Space.Parts.{Space}
 use Rattle.wh_host_model.specs.Space.Tickets.{CommitsFetch}
 use Rattle.wh_reclaim.specs.Whole.{IsAsWhole}
 use Rattle.wh_host.specs.Backing.{KeepsBacking}
-use Rattle.wh_host.specs.Carried.{EndsEvict, evict_fault, fetch_fault}
+use Rattle.wh_host.specs.TicketsOut.{EndsEvict, evict_fault, fetch_fault}
 use Rattle.wh_host.specs.Hosting.{HostState, IsHost}
 use Rattle.wh_host.specs.Paging.{MovesAnyhow, MovesOnly, MovesWith, provide_fault}
-use Rattle.wh_host.specs.Showing.{StandsByEvents}
+use Rattle.wh_host.specs.Showing.{RepresentsReached}
 use Rattle.wh_cell.specs.Calling.{HasRead, HasWritten}
 use Rattle.wh_cell.specs.Going.{IsPartOf, call_faults, fault_or_none}
 use Rattle.wh_cell.specs.Knowing.{AgreesWith, KnownState, NoneOut, with_ticket, without_ticket}
-use Rattle.wh_cell.specs.Leaving.{ComesFrom, FitsHost, HasTakenOn, LeftState, WorksOn, left_as}
+use Rattle.wh_cell.specs.LeftByOwner.{ComesFrom, FitsHost, HasTakenOn, LeftState, WorksOn, left_as}
 use Rattle.wh_cell.specs.Locking.{BooksState, IsInStep, LockedState}
 use Rattle.wh_cell.proofs.Asked.{fits_turned}
 use Rattle.wh_cell.proofs.Followed.{comes_on_alone, comes_on_by, comes_on_provided, comes_on_still, fits_anyhow, fits_carried, fits_moved, left_now, works_anyhow_by_eviction, works_anyhow_by_fetch, works_by_eviction, works_by_fetch, works_by_moves, works_by_provision, works_by_turn}
@@ -88,7 +88,7 @@ module _ {D : Type 0} (held : D → List (List ℕ)) (keeps honest : D → Type 
       }
 
   -- what was asked of it, and who asked leaves it
-  pub asked_in_step : (l : LockedState D) (h2 : HostState) (left2 : LeftState D) → IsInStep held keeps honest faults l → (w : World) × IsHost h2 w → FitsHost h2 l.books.charges → (StandsByEvents l.host → StandsByEvents h2) → KeepsBacking l.host.space h2.space
+  pub asked_in_step : (l : LockedState D) (h2 : HostState) (left2 : LeftState D) → IsInStep held keeps honest faults l → (w : World) × IsHost h2 w → FitsHost h2 l.books.charges → (RepresentsReached l.host → RepresentsReached h2) → KeepsBacking l.host.space h2.space
       → left2 ≡ record { host = h2; device = l.known.device } → IsInStep held keeps honest faults (record l { host = h2; left = left2 })
   asked_in_step l h2 left2 s some fits led backing is =
       let now : left2 ≡ left_as h2 s.device = is ∙ ap (λ (x : Option D). (let z : LeftState D = record { host = h2; device = x } in z)) s.agrees.has in

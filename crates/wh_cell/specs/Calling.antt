@@ -11,7 +11,7 @@ use Rattle.wh_cell.specs.declared.moving.Begun.{Begun}
 use Rattle.wh_cell.specs.declared.moving.Begun.TheVariants.{Coming, Leaving, Neither}
 use Rattle.wh_cell.specs.Going.{call_faults}
 use Rattle.wh_cell.specs.Knowing.{KnownState, with_ticket}
-use Rattle.wh_cell.specs.Leaving.{ServesOn}
+use Rattle.wh_cell.specs.LeftByOwner.{ServesOn}
 
 module _ {D : Type 0} (held : D → List (List ℕ)) (keeps honest : D → Type 0) (faults : D → List SwapError) where
   -- it was asked to write these bytes to a slot, and answered so: the slot holds them, or nothing that is known
@@ -49,7 +49,7 @@ module _ {D : Type 0} (held : D → List (List ℕ)) where
   HasBegun known (Leaving eviction) known2 = GoesOut known eviction.ticket.slot to_write known2
   HasBegun known (Neither buf) known2 = known2 ≡ known
 
--- Where the present call of the instance stood for a frame, a provision has made its next step ready.
+-- Where the present call of the instance waited for a frame, a provision has made its next step ready.
 abbrev pub IsMadeReady : InstId → HostState → HostState → Type 0
 IsMadeReady id h h2 =
     (need : Need) → WaitsFor h id need → (gone : ℕ) × IsProvided h.space id.place need gone h2.space

@@ -3,9 +3,9 @@ use Rattle.std.specs.Prelude.{◌≡◌, ℕ, List, Option, Some}
 use Rattle.wh_host_model.specs.declared.plain.SwapError.{SwapError}
 use Rattle.wh_host_model.specs.Host.Worlds.{World}
 use Rattle.wh_host.specs.Hosting.{HostState, IsHost}
-use Rattle.wh_host.specs.Showing.{StandsByEvents}
+use Rattle.wh_host.specs.Showing.{RepresentsReached}
 use Rattle.wh_cell.specs.Knowing.{AgreesWith, KnownState, NoneOut, known_of}
-use Rattle.wh_cell.specs.Leaving.{ComesFrom, FitsHost, LeftState}
+use Rattle.wh_cell.specs.LeftByOwner.{ComesFrom, FitsHost, LeftState}
 
 -- how much was counted of each kind
 pub record BooksState : Type 0 where
@@ -34,7 +34,7 @@ pub record IsInStep {D : Type 0} (held : D → List (List ℕ)) (keeps honest : 
   pub fits : FitsHost l.host l.books.charges
   pub device : D
   pub agrees : AgreesWith held l.host.space l.known device
-  pub led : honest device → StandsByEvents l.host
+  pub led : honest device → RepresentsReached l.host
   pub came : ComesFrom keeps honest faults l.left device l.host
 
 -- what whoever has the lock of the device finds, who keeps it: it is as the host knows it, and no ticket is out

@@ -5,7 +5,7 @@ use Rattle.wh_host_model.specs.Space.Errands.{Errand, to_read, to_write}
 use Rattle.wh_host.specs.Hosting.{HostState}
 use Rattle.wh_host.specs.Stored.{stored_host}
 use Rattle.wh_cell.specs.Knowing.{BackingState, KnownState}
-use Rattle.wh_cell.specs.Leaving.{LeftState}
+use Rattle.wh_cell.specs.LeftByOwner.{LeftState}
 use Rattle.wh_cell.specs.Locking.{LockedState}
 
 abbrev pub stored_left : {D : Type 0} → Coded D → Coded (LeftState D)

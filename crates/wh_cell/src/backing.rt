@@ -3,17 +3,17 @@
 ghost use Rattle.std.specs.Prelude.{◌≡◌, Some};
 ghost use Rattle.wh_cell.specs.Knowing.{NoneOut, known_of};
 
+use crate::agreements::CellAgreements;
 use crate::keeper::Keeper;
-use crate::ties::Ties;
 use std::marker::Model;
 use wh_reclaim::Buf;
 use wh_swap::SwapDev;
 
-/// A swap device with who keeps it, and a buffer for the page of a call. It has a lock of its own, so that its calls are made
+/// Holds a swap device, its keeper, and a buffer for the page of a call. It has a lock of its own, so that its calls are made
 /// while others go on under the host's. Contracts see the device and the tickets for its slots.
 ///
 /// Its type keeps that no ticket is out while nobody has that lock, and that the host knows the device as it is.
-pub struct Backing<D: SwapDev, B: Ties> {
+pub struct Backing<D: SwapDev, B: CellAgreements> {
     pub(crate) device: D,
     // There is always one, but while a call is made.
     pub(crate) buf: Option<Buf>,
@@ -21,7 +21,7 @@ pub struct Backing<D: SwapDev, B: Ties> {
 }
 
 // Written out, so that letting one go is one call, and not one for each part of its parts.
-impl<D: SwapDev + Drop, B: Ties> Drop for Backing<D, B> {
+impl<D: SwapDev + Drop, B: CellAgreements> Drop for Backing<D, B> {
     fn drop(self) {
         let Backing {
             device: _,
@@ -31,7 +31,7 @@ impl<D: SwapDev + Drop, B: Ties> Drop for Backing<D, B> {
     }
 }
 
-impl<D: SwapDev, B: Ties> Model for Backing<D, B> {
+impl<D: SwapDev, B: CellAgreements> Model for Backing<D, B> {
     ghost use Rattle.wh_cell.specs.Knowing.{BackingState};
     ghost use Rattle.wh_cell.specs.Locking.{IsKept};
 
@@ -46,8 +46,8 @@ impl<D: SwapDev, B: Ties> Model for Backing<D, B> {
     ghost invariant = { λ b. IsKept b.device b.buf b.keeper };
 }
 
-impl<D: SwapDev + Drop, B: Ties> Backing<D, B> {
-    /// The device, when the host is done with.
+impl<D: SwapDev + Drop, B: CellAgreements> Backing<D, B> {
+    /// Returns the device, when the host is done.
     pub fn into_device(self) -> D
         ensures { result ≡ self.device }
     {
@@ -60,10 +60,10 @@ impl<D: SwapDev + Drop, B: Ties> Backing<D, B> {
     }
 }
 
-impl<D: SwapDev, B: Ties> Backing<D, B> {
-    /// What always holds where nobody has the device's lock: no ticket is out.
+impl<D: SwapDev, B: CellAgreements> Backing<D, B> {
+    /// Holds while nobody has the device's lock: no ticket is out.
     #[inline(always)]
-    pub fn known(&self)
+    pub fn invariant(&self)
         ensures { NoneOut self.now.out }
     {
         let _ = &self.buf;

@@ -4,19 +4,19 @@ ghost use Rattle.std.specs.Prelude.{◌≡◌, ◌<◌, ◌≤◌, IfOk};
 ghost use Rattle.std.specs.Sync.Mutex.{mutex_guard_value};
 ghost use Rattle.wh_reclaim.specs.Together.{AreTogether};
 ghost use Rattle.wh_host.specs.Rolls.{IsRollOf};
-ghost use Rattle.wh_host.specs.Showing.{StandsByEvents};
+ghost use Rattle.wh_host.specs.Showing.{RepresentsReached};
 ghost use Rattle.wh_threads.specs.Counting.{IsZero};
 ghost use Rattle.wh_cell.specs.Calling.{IsMadeReady};
-ghost use Rattle.wh_cell.specs.Leaving.{HasNoCharge, left_as};
+ghost use Rattle.wh_cell.specs.LeftByOwner.{HasNoCharge, left_as};
 ghost use Rattle.wh_cell.specs.Locking.{IsInStep};
 ghost use Rattle.wh_cell.specs.declared.moving.Moved.TheVariants.{Ready};
 
+use crate::agreements::CellAgreements;
 use crate::backing::Backing;
-use crate::keeper::DeviceMatter;
+use crate::keeper::AgreedDevice;
 use crate::locked::{Locked, Parts};
 use crate::moving::Moved;
-use crate::owner::{HostMatter, Owner};
-use crate::ties::Ties;
+use crate::owner::{AgreedHost, Owner};
 use std::alloc::{AllocError, Global};
 use std::sync::ledger::{Blank, Ledger};
 use std::sync::{Arc, Mutex, MutexGuard, Wait};
@@ -25,41 +25,41 @@ use wh_host::{Host, HostError, Roll};
 use wh_host_model::InstId;
 use wh_reclaim::Buf;
 use wh_swap::SwapDev;
-use wh_threads::{BlankPact, Helper, Shares};
+use wh_threads::{BlankAgreement, Helper, Shares};
 
 // What the handles of a cell share. Whoever takes both locks takes the device's first.
 #[derive(Drop)]
-struct Both<D: SwapDev, T: Ledger, C: Ledger, O: Ledger, E: Ledger, B: Ties> {
+struct Both<D: SwapDev, T: Ledger, C: Ledger, O: Ledger, E: Ledger, B: CellAgreements> {
     locked: Mutex<Locked<D, T, C, O, E, B>>,
     backing: Mutex<Backing<D, B>>,
 }
 
-/// A host under a lock, with the books of what threads count, and its swap device under another. Each thread has a handle of
-/// its own.
-pub struct HostCell<D: SwapDev, T: Ledger, C: Ledger, O: Ledger, E: Ledger, B: Ties> {
+/// Holds a host under a lock, with the books of what threads count, and its swap device under another. Each thread has its
+/// handle.
+pub struct HostCell<D: SwapDev, T: Ledger, C: Ledger, O: Ledger, E: Ledger, B: CellAgreements> {
     both: Arc<Both<D, T, C, O, E, B>, Global>,
 }
 
 // Written out, so that letting one go is one call, and not one for each part of its parts.
-impl<D: SwapDev + Drop, T: Ledger, C: Ledger, O: Ledger, E: Ledger, B: Ties> Drop
+impl<D: SwapDev + Drop, T: Ledger, C: Ledger, O: Ledger, E: Ledger, B: CellAgreements> Drop
     for HostCell<D, T, C, O, E, B> {
     fn drop(self) {
         let HostCell { both: _ } = self;
     }
 }
 
-/// What a host needs beside itself to lie under a lock: its device, a buffer for pages that come, and what is to name its
-/// ledgers and its pact.
+/// What a cell is built from beside its host: its device, a buffer for pages that come, and what is to name its ledgers and its
+/// agreements.
 #[derive(Drop)]
-pub struct Fittings<D> {
+pub struct CellParts<D> {
     /// The swap device.
     pub device: D,
     /// A buffer for a page.
     pub buf: Buf,
-    /// The pact between the lock and the host's owner.
-    pub to_owner: BlankPact<HostMatter<D>>,
-    /// The pact between the locks of the host and of its device.
-    pub to_device: BlankPact<DeviceMatter<D>>,
+    /// That between the lock and the host's owner.
+    pub to_owner: BlankAgreement<AgreedHost<D>>,
+    /// That between the locks of host and device.
+    pub to_device: BlankAgreement<AgreedDevice<D>>,
     /// The ledger of turns.
     pub turns: Blank,
     /// The ledger of charges.
@@ -70,21 +70,21 @@ pub struct Fittings<D> {
     pub evictions: Blank,
 }
 
-impl<D: Drop> Fittings<D> {
-    /// What a host needs with this device: new blanks with as many parts as 64 workers, a scanner and a reclaimer take.
+impl<D: Drop> CellParts<D> {
+    /// Returns the parts with `device`: new blanks with as many parts as 64 workers, a scanner and a reclaimer take.
     ///
     /// # Errors
     /// Where room was refused. The device is gone then.
-    pub fn new(alloc: Global, device: D) -> Result<Fittings<D>, AllocError>
+    pub fn new(alloc: Global, device: D) -> Result<CellParts<D>, AllocError>
         ensures device { IfOk result (λ f. f.device ≡ device) }
         ensures parts { IfOk result (λ f. (f.turns.parts ≡ 65) × (f.charges.parts ≡ 65)
             × (f.offers.parts ≡ 2) × (f.evictions.parts ≡ 2)) }
     {
-        Ok(Fittings {
+        Ok(CellParts {
             device,
             buf: Box::new(alloc, [0; 4096])?,
-            to_owner: BlankPact::new(alloc)?,
-            to_device: BlankPact::new(alloc)?,
+            to_owner: BlankAgreement::new(alloc)?,
+            to_device: BlankAgreement::new(alloc)?,
             turns: Blank::new(65),
             charges: Blank::new(65),
             offers: Blank::new(2),
@@ -93,7 +93,7 @@ impl<D: Drop> Fittings<D> {
     }
 }
 
-impl<D: SwapDev + Drop, T: Ledger, C: Ledger, O: Ledger, E: Ledger, B: Ties> HostCell<
+impl<D: SwapDev + Drop, T: Ledger, C: Ledger, O: Ledger, E: Ledger, B: CellAgreements> HostCell<
     D,
     T,
     C,
@@ -101,30 +101,30 @@ impl<D: SwapDev + Drop, T: Ledger, C: Ledger, O: Ledger, E: Ledger, B: Ties> Hos
     E,
     B,
 > {
-    /// Puts a host under a lock, none of whose calls took a charge yet: the cell, its owner's right, and shares that are all
-    /// zero. All memory for the cell is taken here.
+    /// Puts a host under a lock, none of whose calls took a charge yet. Returns the cell, its owner's right, and shares that
+    /// are all zero. All memory for the cell is taken here.
     ///
     /// # Errors
     /// Where room was refused.
     pub fn new(
         alloc: Global,
         host: Host,
-        fittings: Fittings<D>,
+        cell_parts: CellParts<D>,
     ) -> Result<(HostCell<D, T, C, O, E, B>, Owner<D, B>, Shares<T, C, O, E>), AllocError>
         requires uncharged { HasNoCharge host }
-        requires together { AreTogether host.space (D.held fittings.device) }
-        requires led { D.honest fittings.device → StandsByEvents host }
-        requires owned { fittings.to_owner ≡ B.to_owner }
-        requires backed { fittings.to_device ≡ B.to_device }
-        requires turns { (fittings.turns.name ≡ T.name) × (fittings.turns.parts ≡ T.parts)
+        requires together { AreTogether host.space (D.held cell_parts.device) }
+        requires led { D.honest cell_parts.device → RepresentsReached host }
+        requires owned { cell_parts.to_owner ≡ B.to_owner }
+        requires backed { cell_parts.to_device ≡ B.to_device }
+        requires turns { (cell_parts.turns.name ≡ T.name) × (cell_parts.turns.parts ≡ T.parts)
             × (64 < T.parts) }
-        requires charges { (fittings.charges.name ≡ C.name) × (fittings.charges.parts ≡ C.parts)
+        requires charges { (cell_parts.charges.name ≡ C.name) × (cell_parts.charges.parts ≡ C.parts)
             × (64 < C.parts) }
-        requires offers { (fittings.offers.name ≡ O.name) × (fittings.offers.parts ≡ O.parts)
+        requires offers { (cell_parts.offers.name ≡ O.name) × (cell_parts.offers.parts ≡ O.parts)
             × (1 < O.parts) }
-        requires evictions { (fittings.evictions.name ≡ E.name)
-            × (fittings.evictions.parts ≡ E.parts) × (1 < E.parts) }
-        ensures owner { IfOk result (λ r. r.1 ≡ left_as host fittings.device) }
+        requires evictions { (cell_parts.evictions.name ≡ E.name)
+            × (cell_parts.evictions.parts ≡ E.parts) × (1 < E.parts) }
+        ensures owner { IfOk result (λ r. r.1 ≡ left_as host cell_parts.device) }
         ensures shares { IfOk result (λ r. IsZero r.2) }
     {
         let Parts {
@@ -132,19 +132,19 @@ impl<D: SwapDev + Drop, T: Ledger, C: Ledger, O: Ledger, E: Ledger, B: Ties> Hos
             backing,
             owner,
             shares,
-        } = Locked::new(alloc, host, fittings)?;
-        let Ok(cell) = HostCell::around(alloc, locked, backing) else {
+        } = Locked::new(alloc, host, cell_parts)?;
+        let Ok(cell) = HostCell::from_parts(alloc, locked, backing) else {
             return Err(AllocError);
         };
         Ok((cell, owner, shares))
     }
 
-    /// Puts what was in one hand under the locks of a cell.
+    /// Puts both parts under the locks of a cell.
     ///
     /// # Errors
-    /// Where room was refused: then it is handed back. As with whatever has lain under a lock, whoever has both learns by `face`
-    /// that they agree, and its owner learns by `meet` what has become of it.
-    pub fn around(
+    /// Where room was refused: returns both. As with whatever has lain under a lock, whoever has both learns by `sync_device`
+    /// that they agree, and its owner by `sync_owner` what has become of it.
+    pub fn from_parts(
         alloc: Global,
         locked: Locked<D, T, C, O, E, B>,
         backing: Backing<D, B>,
@@ -162,7 +162,7 @@ impl<D: SwapDev + Drop, T: Ledger, C: Ledger, O: Ledger, E: Ledger, B: Ties> Hos
         }
     }
 
-    /// What lies under the locks, once this is the only handle: it waits for that.
+    /// Returns both parts, once this is the only handle: waits for that.
     pub fn into_parts<R: Wait>(self, rt: &R) -> (Locked<D, T, C, O, E, B>, Backing<D, B>) {
         let HostCell { mut both } = self;
         for _ in rt.forever() {
@@ -181,8 +181,15 @@ impl<D: SwapDev + Drop, T: Ledger, C: Ledger, O: Ledger, E: Ledger, B: Ties> Hos
     }
 }
 
-impl<D: SwapDev, T: Ledger, C: Ledger, O: Ledger, E: Ledger, B: Ties> HostCell<D, T, C, O, E, B> {
-    /// A further handle of the same cell, for another thread.
+impl<D: SwapDev, T: Ledger, C: Ledger, O: Ledger, E: Ledger, B: CellAgreements> HostCell<
+    D,
+    T,
+    C,
+    O,
+    E,
+    B,
+> {
+    /// Returns another handle, for another thread.
     ///
     /// # Errors
     /// Where there are as many handles as can be counted.
@@ -191,21 +198,20 @@ impl<D: SwapDev, T: Ledger, C: Ledger, O: Ledger, E: Ledger, B: Ties> HostCell<D
         Ok(HostCell { both })
     }
 
-    /// Waits for the lock. Whoever gets it finds a host to which events lead, and reads of a swap device that gave other bytes,
+    /// Acquires the lock. Whoever gets it finds a host to which events lead, and reads of a swap device that gave other bytes,
     /// if there were any; books whose charges fit its journals; that it agrees with its device as that was when its last call
     /// was settled; and that it came by work from the one that its owner left.
     pub fn lock<R: Wait>(&self, rt: &R) -> MutexGuard<'_, Locked<D, T, C, O, E, B>>
         ensures { IsInStep D.held D.keeps D.honest D.faults (mutex_guard_value result) }
     {
         let guard = self.both.locked.lock(rt);
-        guard.known();
+        guard.invariant();
         guard
     }
 
-    /// Brings the next step of an instance nearer that waits for a frame: a page comes from the device or leaves for it, and
-    /// while the device is called for that the host's lock is free. Where none has to, or where it is to be done at once, the step
-    /// is made ready under both locks. The reclaimer counts the pages that left. The answer is `Ready` only where a provision
-    /// has made it so.
+    /// Moves a page for the next step of an instance that waits for a frame: from the device or to it, and while the device is
+    /// called for that the host's lock is free. Where none has to, or at `at_once`, makes the step ready under both locks. The
+    /// reclaimer counts the pages that left. Returns `Ready` only where a provision has made it so.
     pub fn bring_nearer<R: Wait>(
         &self,
         rt: &R,
@@ -226,14 +232,14 @@ impl<D: SwapDev, T: Ledger, C: Ledger, O: Ledger, E: Ledger, B: Ties> HostCell<D
         }
         let mut locked = self.lock(rt);
         let provided = locked.provide(&mut backing, id, reclaimer);
-        locked.known();
+        locked.invariant();
         match provided {
             Ok(_) => Moved::Ready,
             Err(_) => Moved::Failed,
         }
     }
 
-    /// The roll of the host that lies under the lock: what is there at one moment.
+    /// Returns the roll of the host under the lock: what is there at one moment.
     ///
     /// # Errors
     /// Where memory was refused.

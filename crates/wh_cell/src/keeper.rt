@@ -4,20 +4,20 @@ ghost use Rattle.std.specs.Prelude.{◌≡◌, Some};
 ghost use Rattle.wh_host_model.specs.Space.Errands.{to_read, to_write};
 ghost use Rattle.wh_cell.specs.Knowing.{with_ticket, without_ticket};
 
-use crate::ties::{Ties, ToDevice};
+use crate::agreements::{CellAgreements, ToDevice};
 use std::marker::{Model, PhantomData};
 use std::snapshot::Snapshot;
 use wh_host::Host;
 use wh_swap::SwapDev;
-use wh_threads::{Change, Half, Matter, Pact};
+use wh_threads::{AgreedValue, Agreement, AgreementHalf, Change};
 
-/// What the locks of host and device agree on: the device as it was when its last call was settled, and the tickets that are
+/// Agreed on by the locks of host and device: the device as it was when its last call was settled, and the tickets that are
 /// out. It is a value of contracts alone: none is made.
-pub struct DeviceMatter<D> {
+pub struct AgreedDevice<D> {
     none: PhantomData<D>,
 }
 
-impl<D> Model for DeviceMatter<D> {
+impl<D> Model for AgreedDevice<D> {
     ghost use Rattle.wh_cell.specs.Knowing.{KnownState, no_device};
 
     ghost Value = { KnownState D };
@@ -29,7 +29,7 @@ impl<D> Model for DeviceMatter<D> {
     ghost view = { λ _. no_device };
 }
 
-impl<D> Matter for DeviceMatter<D> {
+impl<D> AgreedValue for AgreedDevice<D> {
     ghost use Rattle.wh_cell.specs.Knowing.{no_device};
 
     ghost nothing = { no_device };
@@ -42,7 +42,7 @@ pub struct Begins<D: SwapDev> {
     pub device: Snapshot<D>,
 }
 
-impl<D: SwapDev> Change<DeviceMatter<D>> for Begins<D> {
+impl<D: SwapDev> Change<AgreedDevice<D>> for Begins<D> {
     ghost use Rattle.wh_cell.specs.Knowing.{backs, known_of};
 
     ghost after = { λ c _. known_of (backs c.host.value.space c.device.value) };
@@ -54,7 +54,7 @@ struct GoesToWrite {
     slot: u32,
 }
 
-impl<D> Change<DeviceMatter<D>> for GoesToWrite {
+impl<D> Change<AgreedDevice<D>> for GoesToWrite {
     ghost use Rattle.wh_cell.specs.Knowing.{with_ticket};
     ghost use Rattle.wh_host_model.specs.Space.Errands.{to_write};
 
@@ -67,7 +67,7 @@ struct GoesToRead {
     slot: u32,
 }
 
-impl<D> Change<DeviceMatter<D>> for GoesToRead {
+impl<D> Change<AgreedDevice<D>> for GoesToRead {
     ghost use Rattle.wh_cell.specs.Knowing.{with_ticket};
     ghost use Rattle.wh_host_model.specs.Space.Errands.{to_read};
 
@@ -81,7 +81,7 @@ struct ComesBack<D: SwapDev> {
     device: Snapshot<D>,
 }
 
-impl<D: SwapDev> Change<DeviceMatter<D>> for ComesBack<D> {
+impl<D: SwapDev> Change<AgreedDevice<D>> for ComesBack<D> {
     ghost use Rattle.wh_cell.specs.Knowing.{without_ticket};
 
     ghost after = { λ c known. without_ticket known c.slot c.device.value };
@@ -93,7 +93,7 @@ struct IsNow<D: SwapDev> {
     device: Snapshot<D>,
 }
 
-impl<D: SwapDev> Change<DeviceMatter<D>> for IsNow<D> {
+impl<D: SwapDev> Change<AgreedDevice<D>> for IsNow<D> {
     ghost use Rattle.std.specs.Prelude.{Some};
 
     ghost after = { λ c known. record known { device = Some c.device.value } };
@@ -103,21 +103,22 @@ impl<D: SwapDev> Change<DeviceMatter<D>> for IsNow<D> {
 #[derive(Clone, Copy)]
 struct Same;
 
-impl<D> Change<DeviceMatter<D>> for Same {
+impl<D> Change<AgreedDevice<D>> for Same {
     ghost after = { λ _ known. known };
 }
 
-/// What lies under the host's lock of what both know.
-pub type Known<D, B> = Half<ToDevice<B>, DeviceMatter<D>>;
+/// Known under the host's lock of what both know.
+pub type DeviceHalf<D, B> = AgreementHalf<ToDevice<B>, AgreedDevice<D>>;
 
-/// Who has the device knows of the host what contracts see: which tickets are out. It takes no bytes but those of the pact.
+/// Keeps, beside the device, what contracts see of the host: which tickets are out. It takes no bytes but those of the
+/// agreement.
 #[derive(Drop)]
-pub struct Keeper<D, B: Ties> {
-    pact: Pact<ToDevice<B>, DeviceMatter<D>>,
-    half: Known<D, B>,
+pub struct Keeper<D, B: CellAgreements> {
+    agreement: Agreement<ToDevice<B>, AgreedDevice<D>>,
+    half: DeviceHalf<D, B>,
 }
 
-impl<D, B: Ties> Model for Keeper<D, B> {
+impl<D, B: CellAgreements> Model for Keeper<D, B> {
     ghost use Rattle.wh_cell.specs.Knowing.{KnownState};
 
     ghost Value = { KnownState D };
@@ -129,42 +130,45 @@ impl<D, B: Ties> Model for Keeper<D, B> {
     ghost view = { λ k. k.half };
 }
 
-impl<D: SwapDev, B: Ties> Keeper<D, B> {
-    // Who holds this half of the pact.
-    pub(crate) fn with(pact: Pact<ToDevice<B>, DeviceMatter<D>>, half: Known<D, B>) -> Keeper<D, B>
+impl<D: SwapDev, B: CellAgreements> Keeper<D, B> {
+    // Who holds this half of the agreement.
+    pub(crate) fn with(
+        agreement: Agreement<ToDevice<B>, AgreedDevice<D>>,
+        half: DeviceHalf<D, B>,
+    ) -> Keeper<D, B>
         ensures { result ≡ half }
     {
-        Keeper { pact, half }
+        Keeper { agreement, half }
     }
 
     // Whoever has both locks finds that both know the same.
-    pub(crate) fn agree(&mut self, known: &mut Known<D, B>)
+    pub(crate) fn agree(&mut self, known: &mut DeviceHalf<D, B>)
         ensures agreed { known.old ≡ self.old }
         ensures same { (self.new ≡ self.old) × (known.new ≡ self.old) }
     {
-        self.pact.settle(known, &mut self.half, &Same);
+        self.agreement.settle(known, &mut self.half, &Same);
     }
 
     // A ticket goes out for a slot that is to be written.
-    pub(crate) fn begin_write(&mut self, known: &mut Known<D, B>, slot: u32)
+    pub(crate) fn begin_write(&mut self, known: &mut DeviceHalf<D, B>, slot: u32)
         ensures keeper { self.new ≡ with_ticket self.old slot to_write }
         ensures known { known.new ≡ self.new }
     {
-        self.pact
+        self.agreement
             .settle(known, &mut self.half, &GoesToWrite { slot });
     }
 
     // One goes out for a slot that is to be read.
-    pub(crate) fn begin_read(&mut self, known: &mut Known<D, B>, slot: u32)
+    pub(crate) fn begin_read(&mut self, known: &mut DeviceHalf<D, B>, slot: u32)
         ensures keeper { self.new ≡ with_ticket self.old slot to_read }
         ensures known { known.new ≡ self.new }
     {
-        self.pact
+        self.agreement
             .settle(known, &mut self.half, &GoesToRead { slot });
     }
 
     // The ticket comes back, and the device is as it is now.
-    pub(crate) fn commit(&mut self, known: &mut Known<D, B>, slot: u32, device: &D)
+    pub(crate) fn commit(&mut self, known: &mut DeviceHalf<D, B>, slot: u32, device: &D)
         ensures keeper { self.new ≡ without_ticket self.old slot device.now }
         ensures known { known.new ≡ self.new }
     {
@@ -172,17 +176,17 @@ impl<D: SwapDev, B: Ties> Keeper<D, B> {
             slot,
             device: Snapshot::of(device),
         };
-        self.pact.settle(known, &mut self.half, &by);
+        self.agreement.settle(known, &mut self.half, &by);
     }
 
     // The device was called under both locks, and is as it is now.
-    pub(crate) fn settle(&mut self, known: &mut Known<D, B>, device: &D)
+    pub(crate) fn settle(&mut self, known: &mut DeviceHalf<D, B>, device: &D)
         ensures keeper { self.new ≡ record self.old { device = Some device.now } }
         ensures known { known.new ≡ self.new }
     {
         let by = IsNow {
             device: Snapshot::of(device),
         };
-        self.pact.settle(known, &mut self.half, &by);
+        self.agreement.settle(known, &mut self.half, &by);
     }
 }

@@ -1,6 +1,7 @@
 //! A host under a lock that threads share: what they count beside it, and what its owner knows of it.
 #![tactic(auto)]
 
+mod agreements;
 mod backing;
 mod cell;
 mod keeper;
@@ -10,12 +11,11 @@ mod owner;
 mod requests;
 mod showing;
 mod taken;
-mod ties;
 
+pub use agreements::{CellAgreements, ToDevice, ToOwner};
 pub use backing::Backing;
-pub use cell::{Fittings, HostCell};
-pub use keeper::{DeviceMatter, Keeper};
+pub use cell::{CellParts, HostCell};
+pub use keeper::{AgreedDevice, Keeper};
 pub use locked::{Locked, Parts};
 pub use moving::Moved;
-pub use owner::{HostMatter, Owner};
-pub use ties::{Ties, ToDevice, ToOwner};
+pub use owner::{AgreedHost, Owner};

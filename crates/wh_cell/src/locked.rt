@@ -13,22 +13,22 @@ ghost use Rattle.wh_host.specs.Hosting.{IsHost};
 ghost use Rattle.wh_host.specs.Left.{LeavesTurned};
 ghost use Rattle.wh_host.specs.Paging.{MovesAnyhow, MovesOnly, MovesWith, WaitsFor, provide_fault};
 ghost use Rattle.wh_host.specs.Sharing.{CanOffer};
-ghost use Rattle.wh_host.specs.Showing.{StandsByEvents};
+ghost use Rattle.wh_host.specs.Showing.{RepresentsReached};
 ghost use Rattle.wh_reclaim.specs.Together.{AreTogether};
 ghost use Rattle.wh_threads.specs.Counting.{IsZero, RanTurn, turns_of, charges_of};
 ghost use Rattle.wh_cell.specs.Counted.{CountsEvictions, CountsOn, evictions_of};
 ghost use Rattle.wh_cell.specs.Knowing.{known_of};
-ghost use Rattle.wh_cell.specs.Leaving.{HasNoCharge, HasTakenOn, left_as};
+ghost use Rattle.wh_cell.specs.LeftByOwner.{HasNoCharge, HasTakenOn, left_as};
 ghost use Rattle.wh_cell.specs.Locking.{IsInStep, now_of};
 ghost use Rattle.wh_cell.specs.Owning.{ComesOn};
 ghost use Rattle.wh_cell.specs.Scanned.{ScansLocked};
 
+use crate::agreements::{CellAgreements, ToDevice, ToOwner};
 use crate::backing::Backing;
-use crate::cell::Fittings;
-use crate::keeper::{Begins, Keeper, Known};
-use crate::owner::{HostMatter, LeavesAs, Owner};
+use crate::cell::CellParts;
+use crate::keeper::{Begins, DeviceHalf, Keeper};
+use crate::owner::{AgreedHost, LeavesAs, Owner};
 use crate::taken::counted_turn;
-use crate::ties::{Ties, ToDevice, ToOwner};
 use std::alloc::{AllocError, Global};
 use std::marker::Model;
 use std::snapshot::Snapshot;
@@ -37,7 +37,7 @@ use wh_host::Host;
 use wh_host_model::{InstId, Offer, SwapError, TurnEnd};
 use wh_kernels::PageHash;
 use wh_swap::SwapDev;
-use wh_threads::{Books, Half, Helper, Order, Shares, Worker};
+use wh_threads::{AgreementHalf, Books, Helper, ReceivedTurn, Shares, Worker};
 
 // So many pages left, by what a provision has answered.
 pub fn count_evictions<T: Ledger, C: Ledger, O: Ledger, E: Ledger>(
@@ -76,7 +76,7 @@ pub fn count_offers<T: Ledger, C: Ledger, O: Ledger, E: Ledger>(
 
 /// What a cell is put together from.
 #[derive(Drop)]
-pub struct Parts<D: SwapDev, T: Ledger, C: Ledger, O: Ledger, E: Ledger, B: Ties> {
+pub struct Parts<D: SwapDev, T: Ledger, C: Ledger, O: Ledger, E: Ledger, B: CellAgreements> {
     /// What is to lie under the host's lock.
     pub locked: Locked<D, T, C, O, E, B>,
     /// What is to lie under the device's.
@@ -87,21 +87,21 @@ pub struct Parts<D: SwapDev, T: Ledger, C: Ledger, O: Ledger, E: Ledger, B: Ties
     pub shares: Shares<T, C, O, E>,
 }
 
-/// What the lock lends: a host, what it knows of its swap device, the books of what threads count, and how the host's owner
-/// left it.
+/// Lent by the lock: a host, what it knows of its swap device, the books of what threads count, and how the host's owner left
+/// it.
 ///
 /// Its type keeps that events lead to the host; that the charges in the books fit the journals; that it agrees with its device
 /// on what each slot holds and which tickets are out, as that was when its last call was settled; and that the host came by
 /// work alone from the one that its owner left: turns, offers, pages that move.
-pub struct Locked<D: SwapDev, T: Ledger, C: Ledger, O: Ledger, E: Ledger, B: Ties> {
+pub struct Locked<D: SwapDev, T: Ledger, C: Ledger, O: Ledger, E: Ledger, B: CellAgreements> {
     pub(crate) host: Host,
     pub(crate) books: Books<T, C, O, E>,
-    pub(crate) known: Known<D, B>,
-    pub(crate) left: Half<ToOwner<B>, HostMatter<D>>,
+    pub(crate) known: DeviceHalf<D, B>,
+    pub(crate) left: AgreementHalf<ToOwner<B>, AgreedHost<D>>,
 }
 
 // Written out, so that letting one go is one call, and not one for each part of its parts.
-impl<D: SwapDev, T: Ledger, C: Ledger, O: Ledger, E: Ledger, B: Ties> Drop
+impl<D: SwapDev, T: Ledger, C: Ledger, O: Ledger, E: Ledger, B: CellAgreements> Drop
     for Locked<D, T, C, O, E, B> {
     fn drop(self) {
         let Locked {
@@ -113,7 +113,7 @@ impl<D: SwapDev, T: Ledger, C: Ledger, O: Ledger, E: Ledger, B: Ties> Drop
     }
 }
 
-impl<D: SwapDev, T: Ledger, C: Ledger, O: Ledger, E: Ledger, B: Ties> Model
+impl<D: SwapDev, T: Ledger, C: Ledger, O: Ledger, E: Ledger, B: CellAgreements> Model
     for Locked<D, T, C, O, E, B> {
     ghost use Rattle.wh_cell.specs.Locking.{IsInStep, LockedState};
 
@@ -148,7 +148,7 @@ impl<D: SwapDev, T: Ledger, C: Ledger, O: Ledger, E: Ledger, B: Ties> Model
     }) };
 }
 
-impl<D: SwapDev + Drop, T: Ledger, C: Ledger, O: Ledger, E: Ledger, B: Ties> Locked<
+impl<D: SwapDev + Drop, T: Ledger, C: Ledger, O: Ledger, E: Ledger, B: CellAgreements> Locked<
     D,
     T,
     C,
@@ -156,38 +156,38 @@ impl<D: SwapDev + Drop, T: Ledger, C: Ledger, O: Ledger, E: Ledger, B: Ties> Loc
     E,
     B,
 > {
-    /// What is to lie under the locks of a cell: a host, none of whose calls took a charge yet, and its device; its owner's
-    /// right; and shares that are all zero. All memory for the counts is taken here.
+    /// Returns the parts of a cell: a host, none of whose calls took a charge yet, and its device; its owner's right; and
+    /// shares that are all zero. All memory for the counts is taken here.
     ///
     /// # Errors
     /// Where room was refused.
     pub fn new(
         alloc: Global,
         host: Host,
-        fittings: Fittings<D>,
+        cell_parts: CellParts<D>,
     ) -> Result<Parts<D, T, C, O, E, B>, AllocError>
         requires uncharged { HasNoCharge host }
-        requires together { AreTogether host.space (D.held fittings.device) }
-        requires led { D.honest fittings.device → StandsByEvents host }
-        requires owned { fittings.to_owner ≡ B.to_owner }
-        requires backed { fittings.to_device ≡ B.to_device }
-        requires turns { (fittings.turns.name ≡ T.name) × (fittings.turns.parts ≡ T.parts)
+        requires together { AreTogether host.space (D.held cell_parts.device) }
+        requires led { D.honest cell_parts.device → RepresentsReached host }
+        requires owned { cell_parts.to_owner ≡ B.to_owner }
+        requires backed { cell_parts.to_device ≡ B.to_device }
+        requires turns { (cell_parts.turns.name ≡ T.name) × (cell_parts.turns.parts ≡ T.parts)
             × (64 < T.parts) }
-        requires charges { (fittings.charges.name ≡ C.name) × (fittings.charges.parts ≡ C.parts)
+        requires charges { (cell_parts.charges.name ≡ C.name) × (cell_parts.charges.parts ≡ C.parts)
             × (64 < C.parts) }
-        requires offers { (fittings.offers.name ≡ O.name) × (fittings.offers.parts ≡ O.parts)
+        requires offers { (cell_parts.offers.name ≡ O.name) × (cell_parts.offers.parts ≡ O.parts)
             × (1 < O.parts) }
-        requires evictions { (fittings.evictions.name ≡ E.name)
-            × (fittings.evictions.parts ≡ E.parts) × (1 < E.parts) }
+        requires evictions { (cell_parts.evictions.name ≡ E.name)
+            × (cell_parts.evictions.parts ≡ E.parts) × (1 < E.parts) }
         ensures host { IfOk result (λ parts. parts.locked.host ≡ host) }
-        ensures device { IfOk result (λ parts. parts.backing.device ≡ fittings.device) }
+        ensures device { IfOk result (λ parts. parts.backing.device ≡ cell_parts.device) }
         ensures agree { IfOk result (λ parts. parts.locked.known ≡ known_of parts.backing) }
         ensures books { IfOk result (λ parts. parts.locked.books
             ≡ record { turns = 0; charges = 0; offers = 0; evictions = 0 }) }
-        ensures owner { IfOk result (λ parts. parts.owner ≡ left_as host fittings.device) }
+        ensures owner { IfOk result (λ parts. parts.owner ≡ left_as host cell_parts.device) }
         ensures shares { IfOk result (λ parts. IsZero parts.shares) }
     {
-        let Fittings {
+        let CellParts {
             device,
             buf,
             to_owner,
@@ -196,19 +196,19 @@ impl<D: SwapDev + Drop, T: Ledger, C: Ledger, O: Ledger, E: Ledger, B: Ties> Loc
             charges,
             offers,
             evictions,
-        } = fittings;
+        } = cell_parts;
         let (books, shares) = Books::open(alloc, turns, charges, offers, evictions)?;
         let begins = Begins {
             host: Snapshot::of(&host),
             device: Snapshot::of(&device),
         };
-        let (pact, keeps, known) = to_device.open::<ToDevice<B>, Begins<D>>(&begins);
-        let keeper = Keeper::with(pact, keeps);
+        let (agreement, keeps, known) = to_device.open::<ToDevice<B>, Begins<D>>(&begins);
+        let keeper = Keeper::with(agreement, keeps);
         let leaves = LeavesAs {
             host: Snapshot::of(&host),
             known: Snapshot::of(&known),
         };
-        let (pact, mine, left) = to_owner.open::<ToOwner<B>, LeavesAs<D, B>>(&leaves);
+        let (agreement, mine, left) = to_owner.open::<ToOwner<B>, LeavesAs<D, B>>(&leaves);
         let locked = Locked {
             host,
             books,
@@ -223,29 +223,36 @@ impl<D: SwapDev + Drop, T: Ledger, C: Ledger, O: Ledger, E: Ledger, B: Ties> Loc
         Ok(Parts {
             locked,
             backing,
-            owner: Owner::with(pact, mine),
+            owner: Owner::with(agreement, mine),
             shares,
         })
     }
 }
 
-impl<D: SwapDev, T: Ledger, C: Ledger, O: Ledger, E: Ledger, B: Ties> Locked<D, T, C, O, E, B> {
-    /// What always holds of what the lock lends.
+impl<D: SwapDev, T: Ledger, C: Ledger, O: Ledger, E: Ledger, B: CellAgreements> Locked<
+    D,
+    T,
+    C,
+    O,
+    E,
+    B,
+> {
+    /// Holds of what the lock lends.
     #[inline(always)]
-    pub fn known(&self)
+    pub fn invariant(&self)
         ensures { IsInStep D.held D.keeps D.honest D.faults self.now }
     {
         let _ = &self.host;
     }
 
-    /// The host, to look at.
+    /// Returns the host.
     pub fn host(&self) -> &Host
         ensures { result.now ≡ self.now.host }
     {
         &self.host
     }
 
-    /// The books, to look at.
+    /// Returns the books.
     pub fn books(&self) -> &Books<T, C, O, E>
         ensures turns { result.now.turns ≡ self.now.books.turns }
         ensures charges { result.now.charges ≡ self.now.books.charges }
@@ -255,9 +262,9 @@ impl<D: SwapDev, T: Ledger, C: Ledger, O: Ledger, E: Ledger, B: Ties> Locked<D, 
         &self.books
     }
 
-    /// Runs a turn that was handed out: of its instance, and of as many charges at most as it says. The worker counts it, and so
-    /// do the books: one turn, and the charges by which the journal grew.
-    pub fn turn(&mut self, order: Order, worker: &mut Worker<T, C>) -> TurnEnd
+    /// Runs a dispatched turn: of its instance, and of as many charges at most as it says. The worker counts it, and so do the
+    /// books: one turn, and the charges by which the journal grew.
+    pub fn turn(&mut self, order: ReceivedTurn, worker: &mut Worker<T, C>) -> TurnEnd
         requires room { worker.old.tally.turns < 2 ^ 64 - 1 }
         ensures turns { (w : World) → IsHost self.old.host w
             → (w2 : World) × IsTurn w order.instance order.quantum result w2
@@ -280,8 +287,8 @@ impl<D: SwapDev, T: Ledger, C: Ledger, O: Ledger, E: Ledger, B: Ties> Locked<D, 
         end
     }
 
-    /// Offers a page of an instance for sharing, under any hash at all, and says what came of it. The scanner counts it, and so
-    /// do the books. No byte of any page changes.
+    /// Offers a page of an instance for sharing, under any hash at all. Returns the outcome. The scanner counts it, and so do
+    /// the books. No byte of any page changes.
     ///
     /// `None`, and nothing is done and nothing counted, where frames and slots are 2^32 together or more, or the place isn't
     /// below 2^32.
@@ -330,8 +337,8 @@ impl<D: SwapDev, T: Ledger, C: Ledger, O: Ledger, E: Ledger, B: Ties> Locked<D, 
     /// under the hash of its bytes as they are. Then as many frames are in use as there are distinct contents that aren't all
     /// zero, if the hash tells contents apart and was the hash before. No byte of any page changes.
     ///
-    /// How many pages were offered. The scanner counts these, and so do the books, as far as they can be counted in 64 bits. It
-    /// is done where frames and slots are fewer than 2^32 together; else the answer is `None`, and nothing has changed.
+    /// Returns how many pages were offered. The scanner counts these, and so do the books, as far as they can be counted in 64
+    /// bits. Returns `None`, and nothing has changed, where frames and slots are 2^32 together or more.
     pub fn scan<H: PageHash>(&mut self, hasher: &H, scanner: &mut Helper<O>) -> Option<u64>
         ensures scans { ScansLocked (H.hashes hasher.now) self.old scanner.old.count result self.new
             scanner.new.count }
@@ -342,9 +349,9 @@ impl<D: SwapDev, T: Ledger, C: Ledger, O: Ledger, E: Ledger, B: Ties> Locked<D, 
         offered
     }
 
-    /// Makes the next step of an instance ready where its present call stands for a frame, with calls of the swap device: how
-    /// many pages left for it. Whoever calls it has both locks. The reclaimer counts these pages, and so do the books, as far
-    /// as they can be counted in 64 bits.
+    /// Makes the next step of an instance ready where its present call waits for a frame, with calls of the swap device.
+    /// Returns how many pages left. Whoever calls it has both locks. The reclaimer counts these pages, and so do the books, as
+    /// far as they can be counted in 64 bits.
     ///
     /// # Errors
     /// That of the device's call that failed, which is kept with the present call. Nothing is counted then.
@@ -401,15 +408,15 @@ impl<D: SwapDev, T: Ledger, C: Ledger, O: Ledger, E: Ledger, B: Ties> Locked<D, 
         provided
     }
 
-    /// Whoever has both locks finds that the host knows the device as it is, and that no ticket is out. It changes nothing.
-    pub fn face(&mut self, backing: &mut Backing<D, B>)
+    /// Shows whoever has both locks that the host knows the device as it is, and no ticket is out. Changes nothing.
+    pub fn sync_device(&mut self, backing: &mut Backing<D, B>)
         ensures agreed { self.old.known ≡ known_of backing.old }
         ensures same { (self.new ≡ self.old) × (backing.new ≡ backing.old) }
     {
         backing.keeper.agree(&mut self.known);
     }
 
-    /// Whoever has the shares of all threads finds that the books are the sums of their counts, by kind. It changes nothing.
+    /// Shows whoever has the shares of all threads that the books are the sums of their counts, by kind. Changes nothing.
     pub fn agree(&mut self, shares: &mut Shares<T, C, O, E>)
         ensures turns { self.old.books.turns ≡ turns_of shares.old.tallies }
         ensures charges { self.old.books.charges ≡ charges_of shares.old.tallies }
@@ -422,8 +429,8 @@ impl<D: SwapDev, T: Ledger, C: Ledger, O: Ledger, E: Ledger, B: Ties> Locked<D, 
         self.books.agree(shares);
     }
 
-    /// The owner learns that the host came from the one that it left, and then knows it as it is.
-    pub fn meet(&mut self, owner: &mut Owner<D, B>)
+    /// Shows the owner that the host came from the one that it left, which it then knows as it is.
+    pub fn sync_owner(&mut self, owner: &mut Owner<D, B>)
         ensures came { ComesOn D.keeps D.honest D.faults owner.old (now_of self.old) }
         ensures knows { owner.new ≡ now_of self.new }
         ensures host { self.new.host ≡ self.old.host }

@@ -8,10 +8,10 @@ ghost use Rattle.wh_cell.specs.Counted.{CountsEvictions, evictions_at};
 ghost use Rattle.wh_cell.specs.Knowing.{NoneOut, known_of, without_ticket};
 ghost use Rattle.wh_cell.specs.declared.moving.Moved.TheVariants.{Ready};
 
+use crate::agreements::CellAgreements;
 use crate::backing::Backing;
 use crate::keeper::Keeper;
 use crate::locked::{Locked, count_evictions};
-use crate::ties::Ties;
 use std::sync::ledger::Ledger;
 use std::sync::{Mutex, Wait};
 use wh_host::{Eviction, Fetch};
@@ -20,11 +20,11 @@ use wh_reclaim::{Buf, EvictTicket, FetchTicket};
 use wh_swap::SwapDev;
 use wh_threads::Helper;
 
-/// What came of a move for the next step of an instance.
+/// The outcome of a move for the next step of an instance.
 #[derive(Clone, Copy, Debug, PartialEq, Eq)]
 pub enum Moved {
     /// A page has come, or has left.
-    Made,
+    PageMoved,
     /// A page was to leave, and was written meanwhile: it stays.
     Void,
     /// The device failed. The fault is kept with the call that waits.
@@ -48,7 +48,7 @@ fn moved_by_eviction(end: EvictEnd) -> Moved
     ensures { result ≢ Ready }
 {
     match end {
-        EvictEnd::Evicted => Moved::Made,
+        EvictEnd::Evicted => Moved::PageMoved,
         EvictEnd::Void => Moved::Void,
         EvictEnd::Failed => Moved::Failed,
     }
@@ -59,7 +59,7 @@ fn moved_by_fetch(end: FetchEnd) -> Moved
     ensures { result ≢ Ready }
 {
     match end {
-        FetchEnd::Fetched => Moved::Made,
+        FetchEnd::Fetched => Moved::PageMoved,
         FetchEnd::Void => Moved::Void,
         FetchEnd::Failed => Moved::Failed,
     }
@@ -86,7 +86,14 @@ fn write<D: SwapDev>(device: &mut D, ticket: &EvictTicket) -> Result<(), SwapErr
     device.write(ticket.slot(), ticket.bytes())
 }
 
-impl<D: SwapDev, T: Ledger, C: Ledger, O: Ledger, E: Ledger, B: Ties> Locked<D, T, C, O, E, B> {
+impl<D: SwapDev, T: Ledger, C: Ledger, O: Ledger, E: Ledger, B: CellAgreements> Locked<
+    D,
+    T,
+    C,
+    O,
+    E,
+    B,
+> {
     // The first page that lies in a slot of the next step of an instance begins to come, where its present call stands for a
     // frame; or the buffer is back.
     fn begin_fetch(&mut self, keeper: &mut Keeper<D, B>, id: InstId, buf: Buf) -> Result<Fetch, Buf>
@@ -109,7 +116,7 @@ impl<D: SwapDev, T: Ledger, C: Ledger, O: Ledger, E: Ledger, B: Ties> Locked<D, 
         }
     }
 
-    // A page begins to leave for the next step of an instance, where its present call stands for a frame and lacks one; or the
+    // A page begins to leave for the next step of an instance, where its present call waits for a frame and lacks one; or the
     // buffer is back.
     fn begin_eviction(
         &mut self,
@@ -198,7 +205,7 @@ impl<D: SwapDev, T: Ledger, C: Ledger, O: Ledger, E: Ledger, B: Ties> Locked<D, 
 }
 
 // A page begins to come, or to leave, under the host's lock.
-fn begin_under<D: SwapDev, T: Ledger, C: Ledger, O: Ledger, E: Ledger, B: Ties, R: Wait>(
+fn begin_under<D: SwapDev, T: Ledger, C: Ledger, O: Ledger, E: Ledger, B: CellAgreements, R: Wait>(
     rt: &R,
     locked: &Mutex<Locked<D, T, C, O, E, B>>,
     keeper: &mut Keeper<D, B>,
@@ -212,7 +219,7 @@ fn begin_under<D: SwapDev, T: Ledger, C: Ledger, O: Ledger, E: Ledger, B: Ties, 
 }
 
 // A page that comes: the device is called under its own lock alone.
-fn fetch<D: SwapDev, T: Ledger, C: Ledger, O: Ledger, E: Ledger, B: Ties, R: Wait>(
+fn fetch<D: SwapDev, T: Ledger, C: Ledger, O: Ledger, E: Ledger, B: CellAgreements, R: Wait>(
     rt: &R,
     locked: &Mutex<Locked<D, T, C, O, E, B>>,
     device: &mut D,
@@ -234,7 +241,7 @@ fn fetch<D: SwapDev, T: Ledger, C: Ledger, O: Ledger, E: Ledger, B: Ties, R: Wai
 }
 
 // A page that leaves: the device is called under its own lock alone.
-fn evict<D: SwapDev, T: Ledger, C: Ledger, O: Ledger, E: Ledger, B: Ties, R: Wait>(
+fn evict<D: SwapDev, T: Ledger, C: Ledger, O: Ledger, E: Ledger, B: CellAgreements, R: Wait>(
     rt: &R,
     locked: &Mutex<Locked<D, T, C, O, E, B>>,
     device: &mut D,
@@ -257,7 +264,7 @@ fn evict<D: SwapDev, T: Ledger, C: Ledger, O: Ledger, E: Ledger, B: Ties, R: Wai
 }
 
 // One move for the next step of an instance, if a page can begin to come or to leave.
-fn move_page<D: SwapDev, T: Ledger, C: Ledger, O: Ledger, E: Ledger, B: Ties, R: Wait>(
+fn move_page<D: SwapDev, T: Ledger, C: Ledger, O: Ledger, E: Ledger, B: CellAgreements, R: Wait>(
     rt: &R,
     locked: &Mutex<Locked<D, T, C, O, E, B>>,
     device: &mut D,
@@ -287,7 +294,7 @@ fn move_page<D: SwapDev, T: Ledger, C: Ledger, O: Ledger, E: Ledger, B: Ties, R:
     }
 }
 
-impl<D: SwapDev, B: Ties> Backing<D, B> {
+impl<D: SwapDev, B: CellAgreements> Backing<D, B> {
     // One move for the next step of an instance, if a page can begin to come or to leave. Its device call is made under this
     // lock alone.
     pub(crate) fn move_for<T: Ledger, C: Ledger, O: Ledger, E: Ledger, R: Wait>(

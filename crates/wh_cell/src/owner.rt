@@ -1,22 +1,22 @@
 //! Who may ask of a host that lies under a lock.
 
 ghost use Rattle.std.specs.Prelude.{◌≡◌};
-ghost use Rattle.wh_cell.specs.Leaving.{LeftState};
+ghost use Rattle.wh_cell.specs.LeftByOwner.{LeftState};
 
-use crate::keeper::Known;
-use crate::ties::{Ties, ToOwner};
+use crate::agreements::{CellAgreements, ToOwner};
+use crate::keeper::DeviceHalf;
 use std::marker::{Model, PhantomData};
 use std::snapshot::Snapshot;
 use wh_host::Host;
-use wh_threads::{Change, Half, Matter, Pact};
+use wh_threads::{AgreedValue, Agreement, AgreementHalf, Change};
 
-/// What an owner and the lock agree on: how the owner left the host. It is a value of contracts alone: none is made.
-pub struct HostMatter<D> {
+/// Agreed on by owner and lock: how the owner left the host. It is a value of contracts alone: none is made.
+pub struct AgreedHost<D> {
     none: PhantomData<D>,
 }
 
-impl<D> Model for HostMatter<D> {
-    ghost use Rattle.wh_cell.specs.Leaving.{LeftState, no_host};
+impl<D> Model for AgreedHost<D> {
+    ghost use Rattle.wh_cell.specs.LeftByOwner.{LeftState, no_host};
 
     ghost Value = { LeftState D };
 
@@ -27,33 +27,33 @@ impl<D> Model for HostMatter<D> {
     ghost view = { λ _. no_host };
 }
 
-impl<D> Matter for HostMatter<D> {
-    ghost use Rattle.wh_cell.specs.Leaving.{no_host};
+impl<D> AgreedValue for AgreedHost<D> {
+    ghost use Rattle.wh_cell.specs.LeftByOwner.{no_host};
 
     ghost nothing = { no_host };
 }
 
 // The host is left as it is now, with the device that it knows.
 #[derive(Drop)]
-pub struct LeavesAs<D, B: Ties> {
+pub struct LeavesAs<D, B: CellAgreements> {
     pub host: Snapshot<Host>,
-    pub known: Snapshot<Known<D, B>>,
+    pub known: Snapshot<DeviceHalf<D, B>>,
 }
 
-impl<D, B: Ties> Change<HostMatter<D>> for LeavesAs<D, B> {
+impl<D, B: CellAgreements> Change<AgreedHost<D>> for LeavesAs<D, B> {
     ghost after = { λ c _. record { host = c.host.value; device = c.known.value.device } };
 }
 
-/// The right to ask of a host that lies under a lock: contracts see how the host was left, and its device then. It takes few
-/// bytes and no memory.
+/// Allows requests to a host under a lock: contracts see how the host was left, and its device then. It takes few bytes and no
+/// memory.
 #[derive(Drop)]
-pub struct Owner<D, B: Ties> {
-    pact: Pact<ToOwner<B>, HostMatter<D>>,
-    half: Half<ToOwner<B>, HostMatter<D>>,
+pub struct Owner<D, B: CellAgreements> {
+    agreement: Agreement<ToOwner<B>, AgreedHost<D>>,
+    half: AgreementHalf<ToOwner<B>, AgreedHost<D>>,
 }
 
-impl<D, B: Ties> Model for Owner<D, B> {
-    ghost use Rattle.wh_cell.specs.Leaving.{LeftState};
+impl<D, B: CellAgreements> Model for Owner<D, B> {
+    ghost use Rattle.wh_cell.specs.LeftByOwner.{LeftState};
 
     ghost Value = { LeftState D };
 
@@ -64,23 +64,23 @@ impl<D, B: Ties> Model for Owner<D, B> {
     ghost view = { λ o. o.half };
 }
 
-impl<D, B: Ties> Owner<D, B> {
-    // Who holds this half of the pact.
+impl<D, B: CellAgreements> Owner<D, B> {
+    // Who holds this half of the agreement.
     pub(crate) fn with(
-        pact: Pact<ToOwner<B>, HostMatter<D>>,
-        half: Half<ToOwner<B>, HostMatter<D>>,
+        agreement: Agreement<ToOwner<B>, AgreedHost<D>>,
+        half: AgreementHalf<ToOwner<B>, AgreedHost<D>>,
     ) -> Owner<D, B>
         ensures { result ≡ half }
     {
-        Owner { pact, half }
+        Owner { agreement, half }
     }
 
     // Whoever has the lock too leaves the host as it is now. Both knew how it was left before.
     pub(crate) fn leave(
         &mut self,
-        left: &mut Half<ToOwner<B>, HostMatter<D>>,
+        left: &mut AgreementHalf<ToOwner<B>, AgreedHost<D>>,
         host: &Host,
-        known: &Known<D, B>,
+        known: &DeviceHalf<D, B>,
     )
         ensures agreed { self.old ≡ left.old }
         ensures owner { self.new ≡ record { host = host.now; device = known.now.device } }
@@ -90,6 +90,6 @@ impl<D, B: Ties> Owner<D, B> {
             host: Snapshot::of(host),
             known: Snapshot::of(known),
         };
-        self.pact.settle(&mut self.half, left, &by);
+        self.agreement.settle(&mut self.half, left, &by);
     }
 }

@@ -2,30 +2,37 @@
 //! came from the one that it left.
 
 ghost use Rattle.std.specs.Prelude.{◌≡◌, ℕ, IfOk, OnErr, OnOk};
-ghost use Rattle.wh_admit.specs.Views.{view_params};
+ghost use Rattle.wh_admit.specs.View.{view_params};
 ghost use Rattle.wh_host_model.specs.Host.Happens.{IsCancel, IsRefuel, IsRetry};
 ghost use Rattle.wh_host_model.specs.Host.Worlds.{promised};
 ghost use Rattle.wh_host_model.specs.Space.Places.{Enters, Exits};
 ghost use Rattle.wh_host_model.specs.Space.Stores.{ended};
 ghost use Rattle.wh_host.specs.Admitting.{AnswersAdmit};
-ghost use Rattle.wh_host.specs.Asking.{AnswersCall, AnswersInvoke};
+ghost use Rattle.wh_host.specs.CallRequests.{AnswersCall, AnswersInvoke};
 ghost use Rattle.wh_host.specs.Backing.{KeepsBacking};
 ghost use Rattle.wh_host.specs.Loading.{AnswersLoad};
 ghost use Rattle.wh_host.specs.Releasing.{AnswersRelease};
 ghost use Rattle.wh_cell.specs.Locking.{now_of};
 ghost use Rattle.wh_cell.specs.Owning.{ComesOn};
 
+use crate::agreements::CellAgreements;
 use crate::locked::Locked;
 use crate::owner::Owner;
-use crate::ties::Ties;
 use std::alloc::Global;
 use std::sync::ledger::Ledger;
 use wh_host::{AdmitError, HostError, ModuleError, ModuleId, Params};
 use wh_host_model::InstId;
 use wh_swap::SwapDev;
 
-impl<D: SwapDev, T: Ledger, C: Ledger, O: Ledger, E: Ledger, B: Ties> Locked<D, T, C, O, E, B> {
-    /// Keeps the module that these bytes spell, and the bytes: its number, counted from 0.
+impl<D: SwapDev, T: Ledger, C: Ledger, O: Ledger, E: Ledger, B: CellAgreements> Locked<
+    D,
+    T,
+    C,
+    O,
+    E,
+    B,
+> {
+    /// Keeps the module that `bytes` spell, and these. Returns its number, from 0.
     ///
     /// # Errors
     /// That of `Host::load`. The host is as it was then.
@@ -48,7 +55,7 @@ impl<D: SwapDev, T: Ledger, C: Ledger, O: Ledger, E: Ledger, B: Ties> Locked<D, 
         answer
     }
 
-    /// Admits an instance of a module, with what its owner gives it. All that it will ever need is reserved now.
+    /// Admits an instance of a module with `params`. All that it will ever need is reserved now.
     ///
     /// # Errors
     /// That of `Host::admit`. The host is as it was then.
@@ -75,8 +82,8 @@ impl<D: SwapDev, T: Ledger, C: Ledger, O: Ledger, E: Ledger, B: Ties> Locked<D, 
         answer
     }
 
-    /// Takes a call of the function that an instance's module exports by this name, with these arguments and so much fuel: its
-    /// place in the journal of the instance, where the start is 0. It is run by turns, behind the calls that are open.
+    /// Queues a call of the function that an instance's module exports as `name`, with arguments `given` and `fuel`, behind the
+    /// calls that are open; turns run it. Returns its place in the instance's journal, where the start is 0.
     ///
     /// # Errors
     /// That of `Host::invoke`. The host is as it was then.
@@ -102,7 +109,7 @@ impl<D: SwapDev, T: Ledger, C: Ledger, O: Ledger, E: Ledger, B: Ties> Locked<D, 
         answer
     }
 
-    /// Gives the present call of an instance so much more fuel; what passes 2^64 - 1 is lost.
+    /// Adds `fuel` to the present call of an instance; what passes 2^64 - 1 is lost.
     ///
     /// # Errors
     /// `NoInstance`; `NoCall` where no call is open. Nothing is done then.
@@ -128,7 +135,7 @@ impl<D: SwapDev, T: Ledger, C: Ledger, O: Ledger, E: Ledger, B: Ties> Locked<D, 
         answer
     }
 
-    /// Ends the present call of an instance where it is; what it has written stays.
+    /// Cancels the present call of an instance where it is; what it has written stays.
     ///
     /// # Errors
     /// `NoInstance`; `NoCall` where no call is open. Nothing is done then.
@@ -149,10 +156,10 @@ impl<D: SwapDev, T: Ledger, C: Ledger, O: Ledger, E: Ledger, B: Ties> Locked<D, 
         answer
     }
 
-    /// Lets the present call of an instance be tried again, if it stands for a device fault: it stands for a frame then.
+    /// Retries the present call of an instance, if it waits for a device: then it waits for a frame.
     ///
     /// # Errors
-    /// `NoInstance`; `NoCall` where it doesn't stand for one. Nothing is done then.
+    /// `NoInstance`; `NoCall` where it doesn't wait for one. Nothing is done then.
     pub fn retry(&mut self, owner: &mut Owner<D, B>, id: InstId) -> Result<(), HostError>
         ensures came { ComesOn D.keeps D.honest D.faults owner.old (now_of self.old) }
         ensures asks { AnswersCall self.old.host (λ w answer w2. IsRetry w id answer w2) result
@@ -169,7 +176,7 @@ impl<D: SwapDev, T: Ledger, C: Ledger, O: Ledger, E: Ledger, B: Ties> Locked<D, 
         answer
     }
 
-    /// Lets an instance go, whatever its calls are: its output.
+    /// Releases an instance, whatever its calls are. Returns its output.
     ///
     /// # Errors
     /// `NoInstance`. Nothing is done then.

@@ -5,16 +5,23 @@ ghost use Rattle.wh_host.specs.Rolls.{IsRollOf};
 ghost use Rattle.wh_host.specs.Showing.{ShowsInstance};
 ghost use Rattle.wh_transcript.specs.Transcripts.{IsReplayable};
 
+use crate::agreements::CellAgreements;
 use crate::locked::Locked;
-use crate::ties::Ties;
 use std::alloc::Global;
 use std::sync::ledger::Ledger;
 use wh_host::{HostError, Roll, Transcript};
 use wh_host_model::InstId;
 use wh_swap::SwapDev;
 
-impl<D: SwapDev, T: Ledger, C: Ledger, O: Ledger, E: Ledger, B: Ties> Locked<D, T, C, O, E, B> {
-    /// The roll of the host: its modules, and each live instance with its calls.
+impl<D: SwapDev, T: Ledger, C: Ledger, O: Ledger, E: Ledger, B: CellAgreements> Locked<
+    D,
+    T,
+    C,
+    O,
+    E,
+    B,
+> {
+    /// Returns the host's modules, and each live instance with its calls.
     ///
     /// # Errors
     /// `Memory` where room was refused.
@@ -24,7 +31,7 @@ impl<D: SwapDev, T: Ledger, C: Ledger, O: Ledger, E: Ledger, B: Ties> Locked<D, 
         self.host().roll(alloc)
     }
 
-    /// What the host shows of an instance. Its calls replay where the device has read right.
+    /// Returns the transcript of an instance. Its calls replay where the device has read right.
     ///
     /// # Errors
     /// `NoInstance`; `Memory` where room was refused.
@@ -33,7 +40,7 @@ impl<D: SwapDev, T: Ledger, C: Ledger, O: Ledger, E: Ledger, B: Ties> Locked<D, 
         ensures replays { IfSome self.now.known.device (λ device. D.honest device)
             → IfOk result (λ shown. IsReplayable shown) }
     {
-        self.known();
+        self.invariant();
         self.host().transcript(alloc, id)
     }
 }

@@ -4,7 +4,7 @@ ghost use Rattle.std.specs.Prelude.{◌≡◌, ◌<◌, ◌^◌};
 ghost use Rattle.wh_host_model.specs.Host.Happens.{IsTurn};
 ghost use Rattle.wh_host_model.specs.Host.Worlds.{World};
 ghost use Rattle.wh_cell.specs.Counted.{charges_between};
-ghost use Rattle.wh_cell.specs.Leaving.{HasTakenOn};
+ghost use Rattle.wh_cell.specs.LeftByOwner.{HasTakenOn};
 ghost use Rattle.wh_host.specs.Backing.{KeepsBacking};
 ghost use Rattle.wh_host.specs.Hosting.{IsHost};
 ghost use Rattle.wh_host.specs.Left.{LeavesTurned};
@@ -29,7 +29,7 @@ fn charges_of_turn(before: Option<u64>, after: Option<u64>) -> u32
     taken as u32
 }
 
-/// Gives an instance a turn of so many charges: how it ended, and how many it took.
+/// Gives an instance a turn of `quantum` charges. Returns its end, and its charges.
 pub fn counted_turn(host: &mut Host, id: InstId, quantum: u32) -> (TurnEnd, u32)
     ensures turns { (w : World) → IsHost host.old w
         → (w2 : World) × IsTurn w id quantum result.0 w2 × IsHost host.new w2 }
@@ -37,7 +37,7 @@ pub fn counted_turn(host: &mut Host, id: InstId, quantum: u32) -> (TurnEnd, u32)
     ensures backing { KeepsBacking host.old.space host.new.space }
     ensures memory { LeavesTurned id.place result.0 host.old.space host.new.space }
 {
-    host.known();
+    host.invariant();
     let call = host.present_call(id);
     let before = host.charges(id, call);
     let end = host.turn(id, u64::from(quantum));

@@ -1,7 +1,7 @@
 -- What words ask for.
 use Rattle.std.proofs.Common.{◌≡◌, ℕ, ◌<◌, List, [], ◌∷◌, ◌++◌, length, ap, sym, subst, ◌∙◌, arith, append_assoc, Bool, true, false, not, if◌then◌else◌}
 use Rattle.std.specs.List.{AllZip}
-use Rattle.wh_commands.specs.Left.{FirstIsNot}
+use Rattle.wh_commands.specs.WordsLeft.{FirstIsNot}
 
 pub not_such : (P : List ℕ → Type 0) (words left : List (List ℕ)) (word : List ℕ) → words ≡ word ∷ left → ¬ (P word)
     → FirstIsNot P words

@@ -11,8 +11,8 @@ use Rattle.std.specs.Str.Parse.{AllDigits, IsNumeral, digits_value, starts_with_
 use Rattle.std.proofs.lemmas.Bool.Decides.{nat_tests}
 use Rattle.std.proofs.lemmas.List.Elements.{recursion_from_All, All-from_recursion}
 use Rattle.std.proofs.lemmas.Str.Parse.{digit_from_value, digits_value_short, numerals_by_value, tells_digits, without_leading_plus_none}
-use Rattle.wh_host_model.specs.Script.{IsWord}
-use Rattle.wh_host_model.specs.Lines.Words.{without_minus, AreDigits, IsNumber, IsBits}
+use Rattle.wh_script_model.specs.Lines.{IsWord}
+use Rattle.wh_script_model.specs.Words.{without_minus, AreDigits, IsNumber, IsBits}
 
 -- ---- digits
 

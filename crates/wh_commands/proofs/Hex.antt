@@ -6,7 +6,7 @@ use Rattle.std.proofs.lemmas.List.Elements.{recursion_from_All, All-from_recursi
 use Rattle.std.specs.Int.{is_in_range}
 use Rattle.std.proofs.lemmas.Bool.{or_cases}
 use Rattle.std.proofs.lemmas.Bool.Decides.{nat_tests}
-use Rattle.wh_host_model.specs.Lines.Hex.{IsDigit, numeral, lower, upper, IsHex}
+use Rattle.wh_script_model.specs.Hex.{IsDigit, numeral, lower, upper, IsHex}
 
 -- a digit has one value
 one_value : (c n m : ℕ) → IsDigit c n → IsDigit c m → n ≡ m

@@ -6,9 +6,9 @@ use Rattle.std.specs.List.{AllZip}
 use Rattle.wh_model.specs.declared.ValType.{ValType}
 use Rattle.wh_model.specs.declared.ValType.TheVariants.{I32, I64}
 use Rattle.wh_host_model.specs.Owners.{Params}
-use Rattle.wh_host_model.specs.Lines.Hex.{IsHex}
-use Rattle.wh_host_model.specs.Lines.Words.{words_of, IsNumber, IsCount, IsBits}
-use Rattle.wh_host_model.specs.Lines.Commands.{Command, keep, load, admit, invoke, drain, refuel, cancel, retry, scan, report, release, verb, AreParams, Follow, AsksCommand}
+use Rattle.wh_script_model.specs.Hex.{IsHex}
+use Rattle.wh_script_model.specs.Words.{words_of, IsNumber, IsCount, IsBits}
+use Rattle.wh_script_model.specs.Commands.{Command, keep, load, admit, invoke, drain, refuel, cancel, retry, scan, report, release, verb, AreParams, Follow, AsksCommand}
 use Rattle.wh_commands.proofs.Hex.{one_hex}
 
 -- ---- numbers

@@ -2,10 +2,10 @@
 use Rattle.std.proofs.Common.{◌≡◌, ℕ, List, ◌∷◌, Result, Ok, Err, IfErr, IsErrAnd, subst, sym}
 use Rattle.wh_model.specs.declared.ValType.TheVariants.{I32, I64}
 use Rattle.wh_host_model.specs.Owners.{Params}
-use Rattle.wh_host_model.specs.Lines.Words.{IsBits}
-use Rattle.wh_host_model.specs.Lines.Commands.{AreParams}
-use Rattle.wh_commands.specs.Left.{FirstIsNot}
-use Rattle.wh_commands.specs.Found.{Refuses}
+use Rattle.wh_script_model.specs.Words.{IsBits}
+use Rattle.wh_script_model.specs.Commands.{AreParams}
+use Rattle.wh_commands.specs.WordsLeft.{FirstIsNot}
+use Rattle.wh_commands.specs.ParsedCommands.{Refuses}
 use Rattle.wh_commands.specs.declared.error.LineError.{LineError}
 use Rattle.wh_commands.specs.declared.error.LineError.TheVariants.{Syntax}
 use Rattle.wh_commands.proofs.Asking.{not_first}

@@ -1,16 +1,16 @@
 -- What a line asks for, by its first word and by what the words behind it were found to be.
 use Rattle.std.proofs.Common.{◌≡◌, ◌≢◌, ℕ, ℤ, List, [], ◌∷◌, ◌⊎◌, inl, inr, Result, Ok, Err, IfOk, IfErr, OnErr, refl, sym, subst, ◌∙◌}
 use Rattle.std.specs.Prelude.{codes}
-use Rattle.wh_host_model.specs.Script.{IsName}
+use Rattle.wh_script_model.specs.Lines.{IsName}
 use Rattle.wh_host_model.specs.Owners.{Params}
-use Rattle.wh_host_model.specs.Lines.Words.{words_of}
-use Rattle.wh_host_model.specs.Lines.Commands as lines
-use Rattle.wh_host_model.specs.Lines.Commands.{verb, Follow, AsksCommand, admit, invoke}
+use Rattle.wh_script_model.specs.Words.{words_of}
+use Rattle.wh_script_model.specs.Commands as lines
+use Rattle.wh_script_model.specs.Commands.{verb, Follow, AsksCommand, admit, invoke}
 use Rattle.wh_commands.specs.declared.command.Command.{Command}
 use Rattle.wh_commands.specs.declared.error.LineError.{LineError}
 use Rattle.wh_commands.specs.declared.error.LineError.TheVariants.{Syntax, NoName, NameTaken, File, Memory}
-use Rattle.wh_commands.specs.Left.{IsHexWord}
-use Rattle.wh_commands.specs.Found.{Says, FindsAsked, IsAskedBy, Refuses}
+use Rattle.wh_commands.specs.WordsLeft.{IsHexWord}
+use Rattle.wh_commands.specs.ParsedCommands.{Says, FindsAsked, IsAskedBy, Refuses}
 use Rattle.wh_commands.proofs.OneCommand.{by_line, by_keep, by_admit, by_invoke, one_follows}
 
 abbrev pub Parsed : Type 0

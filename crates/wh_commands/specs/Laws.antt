@@ -1,6 +1,6 @@
 -- What holds of the definitions alone.
 use Rattle.std.specs.Prelude.{◌≡◌, ℕ, List}
-use Rattle.wh_host_model.specs.Lines.Commands.{Command, AsksCommand}
+use Rattle.wh_script_model.specs.Commands.{Command, AsksCommand}
 
 -- a line asks for one command at most
 abbrev pub AsksOnce : Type 0

@@ -1,4 +1,4 @@
 pub mod Causes
-pub mod Found
+pub mod ParsedCommands
 pub mod Laws
-pub mod Left
+pub mod WordsLeft

@@ -2,7 +2,7 @@
 
 /// What the owner of an instance gives it, as a line says it.
 #[derive(Debug, Drop)]
-pub struct Given {
+pub struct AdmitParams {
     /// Its shares of memory.
     pub shares: u64,
     /// The least number of frames that it may keep.
@@ -43,7 +43,7 @@ pub enum Command<'a> {
         /// The name of the module.
         module: &'a str,
         /// What it is given.
-        given: Given,
+        given: AdmitParams,
     },
     /// `invoke INST EXPORT FUEL [ARG ..]`: call an exported function.
     Invoke {

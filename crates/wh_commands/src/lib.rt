@@ -9,7 +9,7 @@ mod reading;
 mod shapes;
 mod words;
 
-pub use command::{Command, Given};
+pub use command::{AdmitParams, Command};
 pub use error::LineError;
 pub use laws::one_command;
 pub use reading::parse;

@@ -3,8 +3,8 @@
 ghost use Rattle.std.specs.Prelude.{◌≡◌, ℕ, ℤ, IfSome, IfNone};
 ghost use Rattle.std.specs.Bool.{MatchBool};
 ghost use Rattle.wh_model.specs.declared.ValType.TheVariants.{I32, I64};
-ghost use Rattle.wh_host_model.specs.Lines.Words as spec;
-ghost use Rattle.wh_host_model.specs.Lines.Words.{AreDigits, IsNumber, IsCount, IsBits};
+ghost use Rattle.wh_script_model.specs.Words as spec;
+ghost use Rattle.wh_script_model.specs.Words.{AreDigits, IsNumber, IsCount, IsBits};
 
 use crate::shapes::text_of;
 

@@ -4,16 +4,16 @@ ghost use Rattle.std.specs.Prelude.{◌≡◌, ◌≢◌, ℕ, ℤ, List, [], �
 ghost use Rattle.std.specs.Bool.{MatchBool};
 ghost use Rattle.std.specs.List.{AllZip};
 ghost use Rattle.wh_model.specs.declared.ValType.TheVariants.{I64};
-ghost use Rattle.wh_host_model.specs.Script.{IsName, IsWord};
-ghost use Rattle.wh_host_model.specs.Lines.Hex.{IsHex};
+ghost use Rattle.wh_script_model.specs.Lines.{IsName, IsWord};
+ghost use Rattle.wh_script_model.specs.Hex.{IsHex};
 ghost use Rattle.wh_host_model.specs.Owners.{Params};
-ghost use Rattle.wh_host_model.specs.Lines.Words.{IsNumber, IsCount, IsBits};
-ghost use Rattle.wh_host_model.specs.Lines.Commands.{AreParams, Follow, AsksCommand};
-ghost use Rattle.wh_host_model.specs.Lines.Commands as lines;
-ghost use Rattle.wh_commands.specs.Left.{words_left, IsHexWord};
-ghost use Rattle.wh_commands.specs.Found.{params_of, Says, FindsAsked, IsAskedBy, Refuses};
+ghost use Rattle.wh_script_model.specs.Words.{IsNumber, IsCount, IsBits};
+ghost use Rattle.wh_script_model.specs.Commands.{AreParams, Follow, AsksCommand};
+ghost use Rattle.wh_script_model.specs.Commands as lines;
+ghost use Rattle.wh_commands.specs.WordsLeft.{words_left, IsHexWord};
+ghost use Rattle.wh_commands.specs.ParsedCommands.{params_of, Says, FindsAsked, IsAskedBy, Refuses};
 
-use crate::command::{Command, Given};
+use crate::command::{AdmitParams, Command};
 use crate::error::LineError;
 use crate::numbers::{i64_bits_in, number_in};
 use crate::words::{Words, words_in};
@@ -116,7 +116,7 @@ fn args(alloc: Global, words: Words<'_>) -> Result<Vec<i128>, LineError>
 }
 
 /// `SHARES MIN MAX FUEL BASE SALT [INPUT ..]`
-fn given(alloc: Global, words: Words<'_>) -> Result<Given, LineError>
+fn given(alloc: Global, words: Words<'_>) -> Result<AdmitParams, LineError>
     ensures ok { IfOk result (λ given. AreParams (words_left words.entry) (params_of given)) }
     ensures none { IfErr result (Refuses ((params : Params)
         × AreParams (words_left words.entry) params)) }
@@ -129,7 +129,7 @@ fn given(alloc: Global, words: Words<'_>) -> Result<Given, LineError>
     let base = words.next_i32_bits()?;
     let salt = words.next_i64_bits()?;
     let inputs = inputs(alloc, words)?;
-    Ok(Given {
+    Ok(AdmitParams {
         shares,
         min,
         max,

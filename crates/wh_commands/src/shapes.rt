@@ -4,9 +4,9 @@ ghost use Rattle.std.specs.Prelude.{◌≡◌, ℕ, List};
 ghost use Rattle.std.specs.Bool.{MatchBool};
 ghost use Rattle.std.specs.Char.{is_ascii_hexdigit};
 ghost use Rattle.std.specs.List.{AllPass};
-ghost use Rattle.wh_host_model.specs.Script as spec;
-ghost use Rattle.wh_host_model.specs.Script.{IsName, IsWord};
-ghost use Rattle.wh_host_model.specs.Lines.Hex.{IsHex};
+ghost use Rattle.wh_script_model.specs.Lines as spec;
+ghost use Rattle.wh_script_model.specs.Lines.{IsName, IsWord};
+ghost use Rattle.wh_script_model.specs.Hex.{IsHex};
 
 use memchr::memchr;
 

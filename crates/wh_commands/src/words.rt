@@ -3,9 +3,9 @@
 ghost use Rattle.std.specs.Prelude.{◌≡◌, ◌≢◌, ℕ, List, [], ◌∷◌, ◌++◌, IfSome, IfNone, IfOk, IfErr, OnOk, OnErr};
 ghost use Rattle.std.specs.List.{All};
 ghost use Rattle.wh_model.specs.declared.ValType.TheVariants.{I32, I64};
-ghost use Rattle.wh_host_model.specs.Script.{IsName, IsWord};
-ghost use Rattle.wh_host_model.specs.Lines.Words.{words_of, IsCount, IsBits};
-ghost use Rattle.wh_commands.specs.Left.{words_left, FirstIs, FirstIsNot, IsHexWord};
+ghost use Rattle.wh_script_model.specs.Lines.{IsName, IsWord};
+ghost use Rattle.wh_script_model.specs.Words.{words_of, IsCount, IsBits};
+ghost use Rattle.wh_commands.specs.WordsLeft.{words_left, FirstIs, FirstIsNot, IsHexWord};
 
 use crate::error::LineError;
 use crate::numbers::{count_in, i32_bits_in, i64_bits_in};

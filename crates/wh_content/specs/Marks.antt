@@ -3,15 +3,15 @@ use Rattle.std.specs.Prelude.{ℕ, ◌≡◌, List, slice_get}
 use Rattle.wh_host_model.specs.declared.states.Mark.{Mark}
 use Rattle.wh_host_model.specs.declared.states.Mark.TheVariants.{Hint, Sharers}
 use Rattle.wh_host_model.specs.Space.Sound.{HasHash}
-use Rattle.wh_content.specs.declared.entry.Entry.{Entry}
-use Rattle.wh_content.specs.declared.entry.Entry.TheVariants as entry
+use Rattle.wh_content.specs.declared.entry.ContentEntry.{ContentEntry}
+use Rattle.wh_content.specs.declared.entry.ContentEntry.TheVariants as entry
 
 -- the frame of an entry, and its mark, with the hash under which it was found
-abbrev pub frame_of_entry : Entry → ℕ
+abbrev pub frame_of_entry : ContentEntry → ℕ
 frame_of_entry (entry.Hint frame place page) = frame
 frame_of_entry (entry.Shared frame sharers) = frame
 
-abbrev pub mark_of_entry : ℕ → Entry → Mark
+abbrev pub mark_of_entry : ℕ → ContentEntry → Mark
 mark_of_entry hash (entry.Hint frame place page) = Hint hash place page
 mark_of_entry hash (entry.Shared frame sharers) = Sharers hash sharers
 

@@ -9,7 +9,7 @@ use wh_host_model::Mark;
 
 /// The entry under a hash.
 #[derive(Clone, Copy, Debug, PartialEq, Eq)]
-pub enum Entry {
+pub enum ContentEntry {
     /// A frame, and the page whose own it is, of the instance at a place.
     Hint { frame: u32, place: u32, page: u32 },
     /// A frame, and how many pages share it.
@@ -17,7 +17,7 @@ pub enum Entry {
 }
 
 // The entry of the frame with this mark, if it has one under this hash.
-pub fn entry_under(hash: u64, frame: u32, mark: Mark) -> Option<Entry>
+pub fn entry_under(hash: u64, frame: u32, mark: Mark) -> Option<ContentEntry>
     ensures frame { IfSome result (λ entry. frame_of_entry entry ≡ frame) }
     ensures mark { IfSome result (λ entry. mark_of_entry hash entry ≡ mark) }
     ensures none { IfNone result (¬ HasHash (Some mark) hash) }
@@ -27,8 +27,8 @@ pub fn entry_under(hash: u64, frame: u32, mark: Mark) -> Option<Entry>
             hash: own,
             place,
             page,
-        } if own == hash => Some(Entry::Hint { frame, place, page }),
-        Mark::Sharers { hash: own, count } if own == hash => Some(Entry::Shared {
+        } if own == hash => Some(ContentEntry::Hint { frame, place, page }),
+        Mark::Sharers { hash: own, count } if own == hash => Some(ContentEntry::Shared {
             frame,
             sharers: count,
         }),

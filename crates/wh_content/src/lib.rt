@@ -5,5 +5,5 @@ mod chains;
 mod entry;
 mod table;
 
-pub use entry::Entry;
+pub use entry::ContentEntry;
 pub use table::Table;

@@ -7,7 +7,7 @@ ghost use Rattle.wh_host_model.specs.Space.Sound.{HasHash};
 ghost use Rattle.wh_host_model.specs.declared.states.Mark.TheVariants.{Plain, Hint, Sharers};
 
 use crate::chains::Chains;
-use crate::entry::{Entry, entry_under, hash_of};
+use crate::entry::{ContentEntry, entry_under, hash_of};
 use std::alloc::{AllocError, Global};
 use std::marker::Model;
 use wh_host_model::Mark;
@@ -73,7 +73,7 @@ impl Table {
     }
 
     /// The entry under this hash, if there is one.
-    pub fn look(&self, hash: u64) -> Option<Entry>
+    pub fn look(&self, hash: u64) -> Option<ContentEntry>
         ensures found { IfSome result (λ entry.
             slice_get self.now (frame_of_entry entry) ≡ Some (mark_of_entry hash entry)) }
         ensures only { IfSome result (λ entry. IsOnlyWith self.now (frame_of_entry entry) hash) }

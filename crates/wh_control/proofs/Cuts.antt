@@ -2,7 +2,7 @@
 use Rattle.std.proofs.Common.{◌≡◌, ℕ, zero, suc, ◌-◌, ◌≤◌, List, [], ◌∷◌, ◌++◌, length, reverse, take, drop, replicate, Bool, true, false, refl, sym, ap, ◌∙◌, arith}
 use Rattle.std.proofs.lemmas.List.{reverse-append, length-reverse}
 use Rattle.wh_bodies.proofs.Lists.{reverse-take}
-use Rattle.wh_control.specs.Moves.{cut, words_carried}
+use Rattle.wh_control.specs.ControlSteps.{cut, words_carried}
 
 pub cut_none : (items : List ℕ) (height : ℕ) (b : Bool) → b ≡ false → reverse (take height items) ≡ cut (reverse items) (words_carried b) height
 cut_none items height b e = reverse-take height items ∙ ap (λ x. cut (reverse items) (words_carried x) height) (sym e)

@@ -1,6 +1,6 @@
 pub mod Layout
 pub mod Represents
-pub mod Moves
+pub mod ControlSteps
 pub mod Next
 pub mod Stored
 pub mod Storage

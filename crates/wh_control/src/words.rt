@@ -4,7 +4,7 @@ ghost use Rattle.std.specs.Prelude.{◌≡◌, ℕ, ◌+◌, ◌<◌, ◌≤◌,
 ghost use Rattle.std.specs.Coded.{coded_list, coded_ℕ};
 ghost use Rattle.std.specs.Vec.{vec_capacity};
 ghost use Rattle.wh_control.specs.Represents.{most_words};
-ghost use Rattle.wh_control.specs.Moves.{cut, words_carried};
+ghost use Rattle.wh_control.specs.ControlSteps.{cut, words_carried};
 
 use std::alloc::{AllocError, Global};
 use std::marker::Model;

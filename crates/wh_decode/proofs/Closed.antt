@@ -5,7 +5,7 @@ use Rattle.wh_model.specs.declared.faults.FaultKind.TheVariants.{Memory, Section
 use Rattle.wh_model.specs.declared.faults.DecodeError.{DecodeError}
 use Rattle.wh_leb.specs.Reading.{fail, Gives, closed_window, outer_fault}
 
--- want of memory is that outside too
+-- out of memory is that outside too
 outer_memory : (whole : Bool) (e : DecodeError) → e.kind ≡ Memory → (outer_fault whole e).kind ≡ Memory
 outer_memory whole e memory = rw memory refl
 

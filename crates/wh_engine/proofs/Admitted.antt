@@ -17,32 +17,32 @@ use Rattle.wh_host_model.specs.Owners.{Entry, start_entry}
 use Rattle.wh_host_model.specs.Owners.{Params, AdmitFault}
 use Rattle.wh_host_model.specs.Host.Admission.{StartsAs, writes, runs, ends, rest_of, LetsIn}
 use Rattle.wh_host_model.specs.Host.Happens.{AdmitAnswer, admit_ok, IsAdmit, is_admitted, isnt_admitted, no_memory_to_admit}
-use Rattle.wh_host_model.specs.Lines.Settings.{Settings}
-use Rattle.wh_host_model.specs.Lines.Texts as texts
-use Rattle.wh_host_model.specs.Lines.Texts.{Reply}
-use Rattle.wh_host_model.specs.Lines.Made as made
-use Rattle.wh_host_model.specs.Lines.Made.{Made, NamedModule}
-use Rattle.wh_host_model.specs.Lines.Receiving as receiving
-use Rattle.wh_host_model.specs.Lines.Receiving.{ReceivesGuest, first_outcome, new_guest}
+use Rattle.wh_script_model.specs.Settings.{Settings}
+use Rattle.wh_script_model.specs.Texts as texts
+use Rattle.wh_script_model.specs.Texts.{Reply}
+use Rattle.wh_script_model.specs.ScriptState as script
+use Rattle.wh_script_model.specs.ScriptState.{ScriptState, NamedModule}
+use Rattle.wh_script_model.specs.Receiving as receiving
+use Rattle.wh_script_model.specs.Receiving.{ReceivesInstance, first_outcome, new_instance}
 use Rattle.wh_host.specs.Hosting.{HostState, IsHost}
 use Rattle.wh_host.specs.Admitting.{AnswersAdmit, fault_answer}
 use Rattle.wh_host.specs.Paging.{IsGoing, Tells}
 use Rattle.wh_admit.specs.declared.error.AdmitError.{AdmitError}
 use Rattle.wh_admit.specs.declared.error.AdmitError.TheVariants.{NoModule, Shares, MinMax, Frames, Swap, Instances, MemoryMin, SegmentBounds, Memory}
-use Rattle.wh_admit.specs.Faults.{admit_number, fault_of}
-use Rattle.wh_script_model.specs.Following.{AreSame, IsFollowed, is_there, Knows, StaysWhole}
-use Rattle.wh_script_model.specs.Replies.{admit_reply}
-use Rattle.wh_script_model.specs.Laws.{places_after}
-use Rattle.wh_script_model.proofs.CommandsGuests.{guests_follow}
+use Rattle.wh_admit.specs.AdmitErrors.{admit_number, fault_of}
+use Rattle.wh_script_laws.specs.Following.{AreSame, IsFollowed, is_there, Knows, StaysWhole}
+use Rattle.wh_script_laws.specs.Replies.{admit_reply}
+use Rattle.wh_script_laws.specs.Laws.{places_after}
+use Rattle.wh_script_laws.proofs.CommandsInstances.{guests_follow}
 use Rattle.wh_replies.specs.View.{status_of}
-use Rattle.wh_names.specs.Places.{place_of_name, AreNamedOnce}
+use Rattle.wh_names.specs.NamePlaces.{place_of_name, AreNamedOnce}
 use Rattle.wh_names.specs.declared.names.Names.{Names}
 use Rattle.wh_names.proofs.Places.{apart_more}
-use Rattle.wh_engine.specs.declared.parts.Guest.{Guest}
-use Rattle.wh_engine.specs.Standing.{WholeState, IsLed, StandsWhole, AreGuests, IsGuest, EngineState, StandsForScript, whole_on, LeavesOut, is_over}
+use Rattle.wh_engine.specs.declared.parts.NamedInstance.{NamedInstance}
+use Rattle.wh_engine.specs.RepresentedScript.{WholeState, IsLed, RepresentsWhole, AreNamedInstances, IsNamedInstance, ScriptHostState, RepresentsScript, whole_on, LeavesOut, is_over}
 use Rattle.wh_engine.proofs.Asked.{whole_of}
 use Rattle.wh_engine.proofs.Named.{taken_back}
-use Rattle.wh_engine.specs.Obeying.{TakesGuest}
+use Rattle.wh_engine.specs.Obeying.{TakesInstance}
 use Rattle.wh_engine.proofs.Left.{one_more_kept}
 
 -- ---- whether there is a start
@@ -90,13 +90,13 @@ zip_end R (a ∷ []) [] x y h = absurd h.1
 zip_end R (a ∷ c ∷ xs) [] x y h = absurd h.1
 zip_end R (a ∷ xs) (b ∷ ys) x y h = zip_end R xs ys x y h.1
 
-guests_end : (k : ℕ) (xs : List Guest) (gs : List made.Guest) (x : Guest) (g : made.Guest) → AreGuests k xs gs → IsGuest (k + length xs) x g → AreGuests k (xs ++ x ∷ []) (gs ++ g ∷ [])
-guests_end k [] [] x g are is = let e : k + 0 ≡ k = omega arith in (subst (λ n. IsGuest n x g) e is, tt)
+guests_end : (k : ℕ) (xs : List NamedInstance) (gs : List script.NamedInstance) (x : NamedInstance) (g : script.NamedInstance) → AreNamedInstances k xs gs → IsNamedInstance (k + length xs) x g → AreNamedInstances k (xs ++ x ∷ []) (gs ++ g ∷ [])
+guests_end k [] [] x g are is = let e : k + 0 ≡ k = omega arith in (subst (λ n. IsNamedInstance n x g) e is, tt)
 guests_end k [] (h ∷ gs) x g are is = absurd are
 guests_end k (y ∷ xs) [] x g are is = absurd are
-guests_end k (y ∷ xs) (h ∷ gs) x g are is = let e : k + length (y ∷ xs) ≡ (k + 1) + length xs = omega arith in (are.0, guests_end (k + 1) xs gs x g are.1 (subst (λ n. IsGuest n x g) e is))
+guests_end k (y ∷ xs) (h ∷ gs) x g are is = let e : k + length (y ∷ xs) ≡ (k + 1) + length xs = omega arith in (are.0, guests_end (k + 1) xs gs x g are.1 (subst (λ n. IsNamedInstance n x g) e is))
 
-pub guests_long : (k : ℕ) (xs : List Guest) (gs : List made.Guest) → AreGuests k xs gs → length xs ≡ length gs
+pub guests_long : (k : ℕ) (xs : List NamedInstance) (gs : List script.NamedInstance) → AreNamedInstances k xs gs → length xs ≡ length gs
 guests_long k [] [] are = refl
 guests_long k [] (g ∷ gs) are = absurd are
 guests_long k (x ∷ xs) [] are = absurd are
@@ -136,7 +136,7 @@ tenant_of {k = k} {p = p} {place = place} l = record {
   doing = l.doing;
   ended = l.ended;
   open_calls = l.open_calls;
-  stands_for = None;
+  waiting_for = None;
   dead = false;
 }
 
@@ -147,10 +147,10 @@ comes_there : {w w2 : World} {k number place : ℕ} {p : Params} (l : LetsIn w k
 comes_there {w = w} {w2 = w2} {number = number} l =
     ap (λ ts. get_or ts number None) (tenants_after l) ∙ ap (λ n. get_or (w.tenants ++ Some (tenant_of l) ∷ []) n None) l.next ∙ get_or-append_seam w.tenants (Some (tenant_of l)) [] None
 
-calls_known : {w : World} {g : made.Guest} {t : Tenant} → IsFollowed AreSame w g (Some t) → g.calls ≡ journal_calls (journal t)
+calls_known : {w : World} {g : script.NamedInstance} {t : Tenant} → IsFollowed AreSame w g (Some t) → g.calls ≡ journal_calls (journal t)
 calls_known (is_there of_one same none) = same
 
-start_known : {w w2 : World} {k number place : ℕ} {p : Params} (l : LetsIn w k p place number w2) {g : made.Guest} → IsFollowed AreSame w2 g (Some (tenant_of l)) → g.m.start ≡ l.loaded.m.start
+start_known : {w w2 : World} {k number place : ℕ} {p : Params} (l : LetsIn w k p place number w2) {g : script.NamedInstance} → IsFollowed AreSame w2 g (Some (tenant_of l)) → g.m.start ≡ l.loaded.m.start
 start_known {w = w} {w2 = w2} {k = k} l {g} (is_there of_one same none) =
     let here : slice_get w2.modules k ≡ Some l.loaded = ap (λ (z : World). slice_get z.modules k) l.after ∙ l.is_loaded in
     let one : of_one.loaded ≡ l.loaded = same_Some of_one.loaded l.loaded (sym of_one.is_loaded ∙ here) in
@@ -160,7 +160,7 @@ open_of : {w w2 : World} {k number place : ℕ} {p : Params} (l : LetsIn w k p p
 open_of l going = let same : going.0 ≡ tenant_of l = same_Some going.0 (tenant_of l) (sym going.1.0 ∙ comes_there l) in subst (λ (t : Tenant). t.open_calls ≢ []) same going.2.0
 
 -- so it has a start where it can go on
-has_start : {w w2 : World} {k number place : ℕ} {p : Params} (l : LetsIn w k p place number w2) (gs : List made.Guest) (g : made.Guest) (pieces : List Piece) (h2 : HostState) (told : Bool)
+has_start : {w w2 : World} {k number place : ℕ} {p : Params} (l : LetsIn w k p place number w2) (gs : List script.NamedInstance) (g : script.NamedInstance) (pieces : List Piece) (h2 : HostState) (told : Bool)
     → AllZip (IsFollowed AreSame w2) (gs ++ g ∷ []) w2.tenants → g.calls ≡ (start_entry g.m.start p.fuel (first_outcome pieces g.m.start)).call ∷ []
     → IsHost h2 w2 → Tells h2 told (λ z. IsGoing z (record { place = place; number = number })) → (told ≡ true) ↔ ¬ (HasNone pieces g.m.start)
 has_start {w = w} {w2 = w2} {k = k} {number = number} {place = place} {p = p} l gs g pieces h2 told all calls is2 tells =
@@ -178,68 +178,68 @@ has_start {w = w} {w2 = w2} {k = k} {number = number} {place = place} {p = p} l 
 
 -- ---- the engine
 
-abbrev pub with_guests : WholeState → HostState → Names → List Guest → WholeState
-with_guests e h names xs = record e { host = h; guest_names = names; guests = xs }
+abbrev pub with_guests : WholeState → HostState → Names → List NamedInstance → WholeState
+with_guests e h names xs = record e { host = h; instance_names = names; instances = xs }
 
 -- an instance whose name is free, of the module of this number, got this reply
-abbrev pub TakesGuestWhole : Settings → Made → (name : List ℕ) (k : ℕ) (p : Params) → Reply → WholeState → Type 0
+abbrev pub TakesGuestWhole : Settings → ScriptState → (name : List ℕ) (k : ℕ) (p : Params) → Reply → WholeState → Type 0
 TakesGuestWhole settings m name k p reply e2 =
     (named : NamedModule) × (slice_get m.modules k ≡ Some named)
-    × (m2 : Made) × ReceivesGuest true settings m name named.m p reply m2 × StandsWhole settings e2 m2
+    × (m2 : ScriptState) × ReceivesInstance true settings m name named.m p reply m2 × RepresentsWhole settings e2 m2
 
 -- the new instance as the engine keeps it
-pub record IsNewGuest (x : Guest) (inst : List ℕ) (own : InstId) : Type 0 where
+pub record IsNewGuest (x : NamedInstance) (inst : List ℕ) (own : InstId) : Type 0 where
   pub id : x.id ≡ own
   pub name : string_bytes x.name ≡ inst
   pub live : x.is_released ≡ false
-  pub unsaid : x.said ≡ None
+  pub unsaid : x.last_printed ≡ None
 
-new_stands : (settings : Settings) (e : WholeState) (m : Made) (named : NamedModule) (inst : List ℕ) (k : ℕ) (p : Params) (id : InstId) (h2 : HostState) (names : Names) (x : Guest) (xs : List Guest)
-    → (s : StandsWhole settings e m) → place_of_name e.guest_names inst ≡ None → slice_get m.modules k ≡ Some named
-    → names ≡ e.guest_names ++ inst ∷ []
-    → Tells h2 x.has_start (λ z. IsGoing z id) → IsNewGuest x inst id → xs ≡ e.guests ++ x ∷ []
+new_stands : (settings : Settings) (e : WholeState) (m : ScriptState) (named : NamedModule) (inst : List ℕ) (k : ℕ) (p : Params) (id : InstId) (h2 : HostState) (names : Names) (x : NamedInstance) (xs : List NamedInstance)
+    → (s : RepresentsWhole settings e m) → place_of_name e.instance_names inst ≡ None → slice_get m.modules k ≡ Some named
+    → names ≡ e.instance_names ++ inst ∷ []
+    → Tells h2 x.has_start (λ z. IsGoing z id) → IsNewGuest x inst id → xs ≡ e.instances ++ x ∷ []
     → (w2 : World) → LetsIn s.world k p id.place id.number w2
-    → (m2 : Made) (reply : Reply) → reply ≡ texts.admit_ok inst id.number → ReceivesGuest true settings m inst named.m p reply m2 → IsLed h2 w2
-    → Knows settings w2 m2 (map (λ (y : Guest). y.id.place) e.guests ++ id.place ∷ [])
+    → (m2 : ScriptState) (reply : Reply) → reply ≡ texts.admit_ok inst id.number → ReceivesInstance true settings m inst named.m p reply m2 → IsLed h2 w2
+    → Knows settings w2 m2 (map (λ (y : NamedInstance). y.id.place) e.instances ++ id.place ∷ [])
     → TakesGuestWhole settings m inst k p reply (with_guests e h2 names xs)
 new_stands settings e m named inst k p id h2 names x xs s free at sets tells is items w2 lets _ _ eq (receiving.isnt_admitted fault first) is2 knows2 = absurd (cc eq)
-new_stands settings e m named inst k p id h2 names x xs s free at sets tells is items w2 lets _ _ eq (receiving.admission_wants scarce none) is2 knows2 = absurd (cc eq)
+new_stands settings e m named inst k p id h2 names x xs s free at sets tells is items w2 lets _ _ eq (receiving.admission_out_of_memory may_run_out none) is2 knows2 = absurd (cc eq)
 new_stands settings e m named inst k p id h2 names x xs s free at sets tells is items w2 lets _ _ eq (receiving.is_admitted {inst = own} {s = store} {pieces = pieces} none initial) is2 knows2 =
-    let g = new_guest inst named.m p own pieces in
-    let long : length e.guests ≡ length m.guests = guests_long 0 e.guests m.guests s.guests in
-    let number : id.number ≡ length m.guests = cc eq in
-    let place : x.id.number ≡ 0 + length e.guests = let a = ap (λ (y : InstId). y.number) is.id in omega (arith, a, number, long) in
-    let at_end : IsGuest (0 + length e.guests) x g = record {
+    let g = new_instance inst named.m p own pieces in
+    let long : length e.instances ≡ length m.instances = guests_long 0 e.instances m.instances s.instances in
+    let number : id.number ≡ length m.instances = cc eq in
+    let place : x.id.number ≡ 0 + length e.instances = let a = ap (λ (y : InstId). y.number) is.id in omega (arith, a, number, long) in
+    let at_end : IsNamedInstance (0 + length e.instances) x g = record {
       number = place;
       name = is.name;
-      starts = has_start lets m.guests g pieces h2 x.has_start knows2.guests refl is2.0 tells;
+      starts = has_start lets m.instances g pieces h2 x.has_start knows2.instances refl is2.0 tells;
       released = is.live;
-      said = ap (λ o. option_map status_of o) is.unsaid;
+      last_printed = ap (λ o. option_map status_of o) is.unsaid;
     } in (
       named,
       at,
-      record m { guests = m.guests ++ g ∷ [] },
+      record m { instances = m.instances ++ g ∷ [] },
       receiving.is_admitted none initial,
       record {
         world = w2;
         is = is2;
         modules = s.modules;
-        knows = subst (Knows settings w2 (record m { guests = m.guests ++ g ∷ [] }))
-            (sym (ap (λ ys. map (λ (y : Guest). y.id.place) ys) items ∙ map_end (λ (y : Guest). y.id.place) e.guests x
-            ∙ ap (λ (y : InstId). map (λ (z : Guest). z.id.place) e.guests ++ y.place ∷ []) is.id)) knows2;
+        knows = subst (Knows settings w2 (record m { instances = m.instances ++ g ∷ [] }))
+            (sym (ap (λ ys. map (λ (y : NamedInstance). y.id.place) ys) items ∙ map_end (λ (y : NamedInstance). y.id.place) e.instances x
+            ∙ ap (λ (y : InstId). map (λ (z : NamedInstance). z.id.place) e.instances ++ y.place ∷ []) is.id)) knows2;
         module_names = s.module_names;
-        guest_names = sets ∙ ap (λ (ls : List (List ℕ)). ls ++ inst ∷ []) s.guest_names ∙ sym (map_end (λ (y : made.Guest). y.name) m.guests g);
-        apart = subst AreNamedOnce (sym sets) (apart_more e.guest_names inst s.apart free);
-        guests = subst (λ ys. AreGuests 0 ys (m.guests ++ g ∷ [])) (sym items) (guests_end 0 e.guests m.guests x g s.guests at_end);
+        instance_names = sets ∙ ap (λ (ls : List (List ℕ)). ls ++ inst ∷ []) s.instance_names ∙ sym (map_end (λ (y : script.NamedInstance). y.name) m.instances g);
+        apart = subst AreNamedOnce (sym sets) (apart_more e.instance_names inst s.apart free);
+        instances = subst (λ ys. AreNamedInstances 0 ys (m.instances ++ g ∷ [])) (sym items) (guests_end 0 e.instances m.instances x g s.instances at_end);
         invoked = s.invoked;
       },
     )
 
 -- it is admitted
-pub admitted : (settings : Settings) (e : WholeState) (m : Made) (inst : List ℕ) (k : ℕ) (p : Params) (id : InstId) (h2 : HostState) (names : Names) (x : Guest) (xs : List Guest)
-    → StandsWhole settings e m → place_of_name e.guest_names inst ≡ None → k < e.modules → AnswersAdmit e.host k p (Ok id) h2 → StaysWhole e.host.space h2.space
-    → names ≡ e.guest_names ++ inst ∷ []
-    → Tells h2 x.has_start (λ z. IsGoing z id) → IsNewGuest x inst id → xs ≡ e.guests ++ x ∷ []
+pub admitted : (settings : Settings) (e : WholeState) (m : ScriptState) (inst : List ℕ) (k : ℕ) (p : Params) (id : InstId) (h2 : HostState) (names : Names) (x : NamedInstance) (xs : List NamedInstance)
+    → RepresentsWhole settings e m → place_of_name e.instance_names inst ≡ None → k < e.modules → AnswersAdmit e.host k p (Ok id) h2 → StaysWhole e.host.space h2.space
+    → names ≡ e.instance_names ++ inst ∷ []
+    → Tells h2 x.has_start (λ z. IsGoing z id) → IsNewGuest x inst id → xs ≡ e.instances ++ x ∷ []
     → TakesGuestWhole settings m inst k p (texts.admit_ok inst id.number) (with_guests e h2 names xs)
 admitted settings e m inst k p id h2 names x xs s free within answers whole sets tells is items =
     let w = s.world in
@@ -248,7 +248,7 @@ admitted settings e m inst k p id h2 names x xs s free within answers whole sets
     let entered = entered_as w did.1 k p id did.0 did.2 did.3 in
     let reached = s.is.1 in
     let led : IsLed h2 did.1 = (did.4, reached_on w did.1 (events.admit k p) reached (did.0, did.3)) in
-    let follows = guests_follow reached.frames reached.slots reached.tax reached.events w reached.happen settings m (map (λ (y : Guest). y.id.place) e.guests) k there.0 inst p
+    let follows = guests_follow reached.frames reached.slots reached.tax reached.events w reached.happen settings m (map (λ (y : NamedInstance). y.id.place) e.instances) k there.0 inst p
     (admit_ok id) did.1 s.knows there.1 (is_admitted entered.lets) (whole_of e.host h2 w did.1 s.is.0 did.4 whole) in
     new_stands settings e m there.0 inst k p id h2 names x xs s free there.1 sets tells is items did.1 entered.lets follows.0 (texts.admit_ok inst id.number) refl follows.1 led follows.2
 
@@ -265,41 +265,41 @@ refused_as inst MemoryMin = refl
 refused_as inst SegmentBounds = refl
 refused_as inst Memory = refl
 
-refused_engine : (settings : Settings) (e : WholeState) (m : Made) (h2 : HostState) (names : Names) (xs : List Guest) → StandsWhole settings e m
-    → names ≡ e.guest_names → xs ≡ e.guests
-    → (w2 : World) → IsLed h2 w2 → Knows settings w2 m (map (λ (y : Guest). y.id.place) e.guests) → StandsWhole settings (with_guests e h2 names xs) m
+refused_engine : (settings : Settings) (e : WholeState) (m : ScriptState) (h2 : HostState) (names : Names) (xs : List NamedInstance) → RepresentsWhole settings e m
+    → names ≡ e.instance_names → xs ≡ e.instances
+    → (w2 : World) → IsLed h2 w2 → Knows settings w2 m (map (λ (y : NamedInstance). y.id.place) e.instances) → RepresentsWhole settings (with_guests e h2 names xs) m
 refused_engine settings e m h2 names xs s are items w2 is2 knows2 = record {
   world = w2;
   is = is2;
   modules = s.modules;
-  knows = subst (λ ys. Knows settings w2 m (map (λ (y : Guest). y.id.place) ys)) (sym items) knows2;
+  knows = subst (λ ys. Knows settings w2 m (map (λ (y : NamedInstance). y.id.place) ys)) (sym items) knows2;
   module_names = s.module_names;
-  guest_names = are ∙ s.guest_names;
+  instance_names = are ∙ s.instance_names;
   apart = subst AreNamedOnce (sym are) s.apart;
-  guests = subst (λ ys. AreGuests 0 ys m.guests) (sym items) s.guests;
+  instances = subst (λ ys. AreNamedInstances 0 ys m.instances) (sym items) s.instances;
   invoked = s.invoked;
 }
 
-places_refused : (settings : Settings) (w2 : World) (m2 : Made) (places : List ℕ) (o : Option AdmitFault) → Knows settings w2 m2 (places_after places (fault_answer o)) → Knows settings w2 m2 places
+places_refused : (settings : Settings) (w2 : World) (m2 : ScriptState) (places : List ℕ) (o : Option AdmitFault) → Knows settings w2 m2 (places_after places (fault_answer o)) → Knows settings w2 m2 places
 places_refused settings w2 m2 places (Some fault) knows = knows
 places_refused settings w2 m2 places None knows = knows
 
-refused_stands : (settings : Settings) (e : WholeState) (m : Made) (named : NamedModule) (inst : List ℕ) (k : ℕ) (p : Params) (fault : ℕ) (h2 : HostState) (names : Names) (xs : List Guest)
-    → StandsWhole settings e m → slice_get m.modules k ≡ Some named → names ≡ e.guest_names → xs ≡ e.guests
-    → (w2 : World) (m2 : Made) (reply : Reply) → reply ≡ texts.admit_refused inst fault → ReceivesGuest true settings m inst named.m p reply m2 → IsLed h2 w2
-    → Knows settings w2 m2 (map (λ (y : Guest). y.id.place) e.guests)
+refused_stands : (settings : Settings) (e : WholeState) (m : ScriptState) (named : NamedModule) (inst : List ℕ) (k : ℕ) (p : Params) (fault : ℕ) (h2 : HostState) (names : Names) (xs : List NamedInstance)
+    → RepresentsWhole settings e m → slice_get m.modules k ≡ Some named → names ≡ e.instance_names → xs ≡ e.instances
+    → (w2 : World) (m2 : ScriptState) (reply : Reply) → reply ≡ texts.admit_refused inst fault → ReceivesInstance true settings m inst named.m p reply m2 → IsLed h2 w2
+    → Knows settings w2 m2 (map (λ (y : NamedInstance). y.id.place) e.instances)
     → TakesGuestWhole settings m inst k p reply (with_guests e h2 names xs)
 refused_stands settings e m named inst k p fault h2 names xs s at are items w2 _ _ eq (receiving.is_admitted none initial) is2 knows2 = absurd (cc eq)
 refused_stands settings e m named inst k p fault h2 names xs s at are items w2 _ _ eq (receiving.isnt_admitted own first) is2 knows2 =
     (named, at, m, receiving.isnt_admitted own first, refused_engine settings e m h2 names xs s are items w2 is2 knows2)
-refused_stands settings e m named inst k p fault h2 names xs s at are items w2 _ _ eq (receiving.admission_wants scarce none) is2 knows2 =
-    (named, at, m, receiving.admission_wants scarce none, refused_engine settings e m h2 names xs s are items w2 is2 knows2)
+refused_stands settings e m named inst k p fault h2 names xs s at are items w2 _ _ eq (receiving.admission_out_of_memory may_run_out none) is2 knows2 =
+    (named, at, m, receiving.admission_out_of_memory may_run_out none, refused_engine settings e m h2 names xs s are items w2 is2 knows2)
 
-pub refused : (settings : Settings) (e : WholeState) (m : Made) (inst : List ℕ) (k : ℕ) (p : Params) (error : AdmitError) (h2 : HostState) (given names : Names) (xs : List Guest)
-    → StandsWhole settings e m → k < e.modules → AnswersAdmit e.host k p (Err error) h2 → StaysWhole e.host.space h2.space
-    → given ≡ e.guest_names ++ inst ∷ []
+pub refused : (settings : Settings) (e : WholeState) (m : ScriptState) (inst : List ℕ) (k : ℕ) (p : Params) (error : AdmitError) (h2 : HostState) (given names : Names) (xs : List NamedInstance)
+    → RepresentsWhole settings e m → k < e.modules → AnswersAdmit e.host k p (Err error) h2 → StaysWhole e.host.space h2.space
+    → given ≡ e.instance_names ++ inst ∷ []
     → names ≡ take (length given - 1) given
-    → xs ≡ e.guests
+    → xs ≡ e.instances
     → TakesGuestWhole settings m inst k p (texts.admit_refused inst (admit_number error)) (with_guests e h2 names xs)
 refused settings e m inst k p error h2 given names xs s within answers whole sets clears items =
     let w = s.world in
@@ -307,47 +307,47 @@ refused settings e m inst k p error h2 given names xs s within answers whole set
     let there = there_at m.modules k (subst (λ n. k < n) s.modules within) in
     let reached = s.is.1 in
     let led : IsLed h2 did.1 = (did.4, reached_on w did.1 (events.admit k p) reached (did.0, did.3)) in
-    let follows = guests_follow reached.frames reached.slots reached.tax reached.events w reached.happen settings m (map (λ (y : Guest). y.id.place) e.guests) k there.0 inst p
+    let follows = guests_follow reached.frames reached.slots reached.tax reached.events w reached.happen settings m (map (λ (y : NamedInstance). y.id.place) e.instances) k there.0 inst p
     (fault_answer (fault_of error)) did.1 s.knows there.1 (subst (λ a. IsAdmit w k p a did.1) did.2 did.3) (whole_of e.host h2 w did.1 s.is.0 did.4 whole) in
-    let are = taken_back e.guest_names given names inst sets clears in
+    let are = taken_back e.instance_names given names inst sets clears in
     subst (λ r. TakesGuestWhole settings m inst k p r (with_guests e h2 names xs)) (refused_as inst error)
     (refused_stands settings e m there.0 inst k p (admit_number error) h2 names xs s there.1 are items did.1 follows.0 (admit_reply inst (fault_answer (fault_of error))) (refused_as inst error)
-    follows.1 led (places_refused settings did.1 follows.0 (map (λ (y : Guest). y.id.place) e.guests) (fault_of error) follows.2))
+    follows.1 led (places_refused settings did.1 follows.0 (map (λ (y : NamedInstance). y.id.place) e.instances) (fault_of error) follows.2))
 
 -- ---- what is kept then
 
-pub guest_again : (settings : Settings) (e : EngineState) (m : Made) (inst : List ℕ) (k : ℕ) (p : Params) (reply : Reply) (h2 : HostState) (names : Names) (x : Guest) (xs : Vec Guest) (count : ℕ)
-    (s : StandsForScript settings e m) → xs.items ≡ e.guests.items ++ x ∷ [] → count ≡ e.admitted + 1
-    → TakesGuestWhole settings m inst k p reply (with_guests (whole_on e s.guests s.invoked) h2 names (s.guests ++ x ∷ []))
-    → TakesGuest settings m inst k p reply (record e { host = h2; guest_names = names; guests = xs; admitted = count })
+pub guest_again : (settings : Settings) (e : ScriptHostState) (m : ScriptState) (inst : List ℕ) (k : ℕ) (p : Params) (reply : Reply) (h2 : HostState) (names : Names) (x : NamedInstance) (xs : Vec NamedInstance) (count : ℕ)
+    (s : RepresentsScript settings e m) → xs.items ≡ e.instances.items ++ x ∷ [] → count ≡ e.admitted + 1
+    → TakesGuestWhole settings m inst k p reply (with_guests (whole_on e s.instances s.invoked) h2 names (s.instances ++ x ∷ []))
+    → TakesInstance settings m inst k p reply (record e { host = h2; instance_names = names; instances = xs; admitted = count })
 guest_again settings e m inst k p reply h2 names x xs count s items counts takes = (
   takes.0,
   takes.1,
   takes.2,
   takes.3,
   record {
-    guests = s.guests ++ x ∷ [];
+    instances = s.instances ++ x ∷ [];
     invoked = s.invoked;
-    kept = subst (λ ys. LeavesOut is_over ys (s.guests ++ x ∷ [])) (sym items) (one_more_kept x s.kept);
+    kept = subst (λ ys. LeavesOut is_over ys (s.instances ++ x ∷ [])) (sym items) (one_more_kept x s.kept);
     pending = s.pending;
-    admitted = counts ∙ ap (λ n. n + 1) s.admitted ∙ sym (length-append s.guests (x ∷ []));
+    admitted = counts ∙ ap (λ n. n + 1) s.admitted ∙ sym (length-append s.instances (x ∷ []));
     asked = s.asked;
     stands = takes.4;
   },
 )
 
-pub refused_again : (settings : Settings) (e : EngineState) (m : Made) (inst : List ℕ) (k : ℕ) (p : Params) (reply : Reply) (h2 : HostState) (names : Names) (xs : Vec Guest)
-    (s : StandsForScript settings e m) → xs.items ≡ e.guests.items → TakesGuestWhole settings m inst k p reply (with_guests (whole_on e s.guests s.invoked) h2 names s.guests)
-    → TakesGuest settings m inst k p reply (record e { host = h2; guest_names = names; guests = xs })
+pub refused_again : (settings : Settings) (e : ScriptHostState) (m : ScriptState) (inst : List ℕ) (k : ℕ) (p : Params) (reply : Reply) (h2 : HostState) (names : Names) (xs : Vec NamedInstance)
+    (s : RepresentsScript settings e m) → xs.items ≡ e.instances.items → TakesGuestWhole settings m inst k p reply (with_guests (whole_on e s.instances s.invoked) h2 names s.instances)
+    → TakesInstance settings m inst k p reply (record e { host = h2; instance_names = names; instances = xs })
 refused_again settings e m inst k p reply h2 names xs s items takes = (
   takes.0,
   takes.1,
   takes.2,
   takes.3,
   record {
-    guests = s.guests;
+    instances = s.instances;
     invoked = s.invoked;
-    kept = subst (λ ys. LeavesOut is_over ys s.guests) (sym items) s.kept;
+    kept = subst (λ ys. LeavesOut is_over ys s.instances) (sym items) s.kept;
     pending = s.pending;
     admitted = s.admitted;
     asked = s.asked;

@@ -4,22 +4,22 @@ use Rattle.std.specs.List.{filter}
 use Rattle.std.proofs.lemmas.Bool.{cases_eq}
 use Rattle.std.proofs.lemmas.Option.{same_Some}
 use Rattle.wh_host_model.proofs.Space.Putting.{set_same, set_other}
-use Rattle.wh_engine.specs.declared.parts.Guest.{Guest}
-use Rattle.wh_engine.specs.Standing.{is_over}
+use Rattle.wh_engine.specs.declared.parts.NamedInstance.{NamedInstance}
+use Rattle.wh_engine.specs.RepresentedScript.{is_over}
 
 -- none of the first so many is over
-pub record NoneOver (xs : List Guest) (count : ℕ) : Type 0 where
-  pub none : (k : ℕ) (x : Guest) → k < count → slice_get xs k ≡ Some x → is_over x ≡ false
+pub record NoneOver (xs : List NamedInstance) (count : ℕ) : Type 0 where
+  pub none : (k : ℕ) (x : NamedInstance) → k < count → slice_get xs k ≡ Some x → is_over x ≡ false
 
 neither : (a b : Bool) → (a || b) ≡ false → (a ≡ false) × (b ≡ false)
 neither false b e = (refl, e)
 neither true b e = absurd (cc e)
 
-pub none_before : (xs : List Guest) → NoneOver xs 0
+pub none_before : (xs : List NamedInstance) → NoneOver xs 0
 none_before xs = record { none = λ k x less at. absurd (omega (arith, less)) }
 
 -- one more was looked at
-pub none_over_more : (xs : List Guest) (at : ℕ) (y : Guest) (any last : Bool) → at < length xs → (any ≡ false → NoneOver xs at)
+pub none_over_more : (xs : List NamedInstance) (at : ℕ) (y : NamedInstance) (any last : Bool) → at < length xs → (any ≡ false → NoneOver xs at)
     → last ≡ is_over y → (any || last) ≡ false → NoneOver (slice_set xs at y) (at + 1)
 none_over_more xs at y any last within before looked e =
     let split = neither any last e in
@@ -34,7 +34,7 @@ none_over_more xs at y any last within before looked e =
     }
 
 -- where none is over, all stay
-pub all_stay : (xs : List Guest) → ((k : ℕ) (x : Guest) → slice_get xs k ≡ Some x → is_over x ≡ false)
+pub all_stay : (xs : List NamedInstance) → ((k : ℕ) (x : NamedInstance) → slice_get xs k ≡ Some x → is_over x ≡ false)
     → filter (λ x. not (is_over x)) xs ≡ xs
 all_stay [] none = refl
 all_stay (x ∷ xs) none =

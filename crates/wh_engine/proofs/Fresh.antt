@@ -6,16 +6,16 @@ use Rattle.wh_host_model.specs.Frames.{tally}
 use Rattle.wh_host_model.specs.Pages.{zero_page}
 use Rattle.wh_host_model.specs.Space.Errands.{is_ticket, tickets}
 use Rattle.wh_host_model.specs.Space.Parts.{Space, minima, spreads}
-use Rattle.wh_host_model.specs.Lines.Made.{NamedModule, nothing_made}
-use Rattle.wh_host_model.specs.Lines.Settings.{Settings}
+use Rattle.wh_script_model.specs.ScriptState.{NamedModule, empty_script}
+use Rattle.wh_script_model.specs.Settings.{Settings}
 use Rattle.wh_host.specs.Hosting.{IsNewHost}
 use Rattle.wh_space.specs.Arrivals.{IsNew}
 use Rattle.std.specs.List.{AllZip}
 use Rattle.wh_host_model.specs.Host.Worlds.{Loaded, World}
-use Rattle.wh_script_model.specs.Following.{AreSame, IsFollowed, IsPlaced, Knows}
-use Rattle.wh_names.specs.Places.{AreNamedOnce}
-use Rattle.wh_engine.specs.declared.parts.Guest.{Guest}
-use Rattle.wh_engine.specs.Standing.{EngineState, StandsForScript, AreGuests, StandsWhole, WholeState, whole_on, LeavesOut, is_over, is_settled, none_there, AreInvoked}
+use Rattle.wh_script_laws.specs.Following.{AreSame, IsFollowed, IsPlaced, Knows}
+use Rattle.wh_names.specs.NamePlaces.{AreNamedOnce}
+use Rattle.wh_engine.specs.declared.parts.NamedInstance.{NamedInstance}
+use Rattle.wh_engine.specs.RepresentedScript.{ScriptHostState, RepresentsScript, AreNamedInstances, RepresentsWhole, WholeState, whole_on, LeavesOut, is_over, is_settled, none_there, AreInvoked}
 
 none_vacant : (n : ℕ) → tally is_ticket (replicate n Vacant) ≡ 0
 none_vacant zero = refl
@@ -28,7 +28,7 @@ many (suc n) x = let k = many n x in omega (arith, k)
 none_apart : AreNamedOnce []
 none_apart name i k has also = absurd (cc has)
 
-knows_none : (settings : Settings) (w : World) (tax : Tax) → tax.num ≡ settings.num → tax.den ≡ settings.den → w.modules ≡ [] → w.tenants ≡ [] → IsNew w.space settings.frames settings.slots tax → Knows settings w nothing_made []
+knows_none : (settings : Settings) (w : World) (tax : Tax) → tax.num ≡ settings.num → tax.den ≡ settings.den → w.modules ≡ [] → w.tenants ≡ [] → IsNew w.space settings.frames settings.slots tax → Knows settings w empty_script []
 knows_none settings w tax num den modules tenants new = record {
   frames = ap (λ (s : Space). length s.pool.frames) new.is ∙ many settings.frames zero_page;
   slots = ap (λ (s : Space). length s.slots.uses) new.is ∙ many settings.slots Vacant;
@@ -38,33 +38,33 @@ knows_none settings w tax num den modules tenants new = record {
   minima = ap (λ (s : Space). minima s) new.is;
   spreads = ap (λ (s : Space). spreads s) new.is;
   modules = subst (λ ls. AllZip (λ (n : NamedModule) (l : Loaded). n.m ≡ l.m) [] ls) (sym modules) tt;
-  guests = subst (λ ts. AllZip (IsFollowed AreSame w) [] ts) (sym tenants) tt;
+  instances = subst (λ ts. AllZip (IsFollowed AreSame w) [] ts) (sym tenants) tt;
   placed = subst (λ ts. AllZip IsPlaced [] ts) (sym tenants) tt;
 }
 
 fresh_whole : (settings : Settings) (tax : Tax) (e : WholeState) → tax.num ≡ settings.num → tax.den ≡ settings.den → IsNewHost e.host settings.frames settings.slots tax → e.module_names ≡ []
-    → e.guest_names ≡ [] → e.guests ≡ [] → e.invoked ≡ [] → e.modules ≡ 0 → StandsWhole settings e nothing_made
-fresh_whole settings tax e num den new modules guests none no_call zero_many = record {
+    → e.instance_names ≡ [] → e.instances ≡ [] → e.invoked ≡ [] → e.modules ≡ 0 → RepresentsWhole settings e empty_script
+fresh_whole settings tax e num den new modules instances none no_call zero_many = record {
   world = new.0;
   is = (new.1, new.2);
   modules = zero_many;
-  knows = subst (λ xs. Knows settings new.0 nothing_made (map (λ (x : Guest). x.id.place) xs)) (sym none) (knows_none settings new.0 tax num den new.3 new.4 new.5);
+  knows = subst (λ xs. Knows settings new.0 empty_script (map (λ (x : NamedInstance). x.id.place) xs)) (sym none) (knows_none settings new.0 tax num den new.3 new.4 new.5);
   module_names = modules;
-  guest_names = guests;
-  apart = subst AreNamedOnce (sym guests) none_apart;
-  guests = subst (λ xs. AreGuests 0 xs []) (sym none) tt;
+  instance_names = instances;
+  apart = subst AreNamedOnce (sym instances) none_apart;
+  instances = subst (λ xs. AreNamedInstances 0 xs []) (sym none) tt;
   invoked = subst (λ xs. AreInvoked 1 xs []) (sym no_call) tt;
 }
 
-pub fresh : (settings : Settings) (tax : Tax) (e : EngineState) → tax.num ≡ settings.num → tax.den ≡ settings.den → IsNewHost e.host settings.frames settings.slots tax
-    → e.module_names ≡ [] → e.guest_names ≡ [] → e.guests.items ≡ [] → e.invoked.items ≡ [] → e.modules ≡ 0
-    → e.admitted ≡ 0 → e.asked ≡ 0 → StandsForScript settings e nothing_made
-fresh settings tax e num den new modules guests none no_call zero_many no_guest none_asked = record {
-  guests = [];
+pub fresh : (settings : Settings) (tax : Tax) (e : ScriptHostState) → tax.num ≡ settings.num → tax.den ≡ settings.den → IsNewHost e.host settings.frames settings.slots tax
+    → e.module_names ≡ [] → e.instance_names ≡ [] → e.instances.items ≡ [] → e.invoked.items ≡ [] → e.modules ≡ 0
+    → e.admitted ≡ 0 → e.asked ≡ 0 → RepresentsScript settings e empty_script
+fresh settings tax e num den new modules instances none no_call zero_many no_guest none_asked = record {
+  instances = [];
   invoked = [];
   kept = subst (λ xs. LeavesOut is_over xs []) (sym none) none_there;
   pending = subst (λ xs. LeavesOut is_settled xs []) (sym no_call) none_there;
   admitted = no_guest;
   asked = none_asked;
-  stands = fresh_whole settings tax (whole_on e [] []) num den new modules guests refl refl zero_many;
+  stands = fresh_whole settings tax (whole_on e [] []) num den new modules instances refl refl zero_many;
 }

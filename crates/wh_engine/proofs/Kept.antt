@@ -5,20 +5,20 @@ use Rattle.wh_host_model.specs.Host.Events as events
 use Rattle.wh_host_model.specs.Host.Worlds.{World}
 use Rattle.wh_host_model.specs.Owners.{most_modules}
 use Rattle.wh_host_model.specs.Host.Happens.{LoadAnswer}
-use Rattle.wh_host_model.specs.Lines.Settings.{Settings}
-use Rattle.wh_host_model.specs.Lines.Texts.{Refusal, Reply, module_ok, module_refused}
-use Rattle.wh_host_model.specs.Lines.Made.{NamedModule, Made}
-use Rattle.wh_host_model.specs.Lines.Receiving.{ReceivesModule, module_is_kept, module_isnt_kept, module_is_wanting}
+use Rattle.wh_script_model.specs.Settings.{Settings}
+use Rattle.wh_script_model.specs.Texts.{Refusal, Reply, module_ok, module_refused}
+use Rattle.wh_script_model.specs.ScriptState.{NamedModule, ScriptState}
+use Rattle.wh_script_model.specs.Receiving.{ReceivesModule, module_is_kept, module_isnt_kept, module_out_of_memory}
 use Rattle.wh_host.specs.Hosting.{HostState}
 use Rattle.wh_host.specs.Loading.{AnswersLoad, IsLoadAnswer}
 use Rattle.wh_host.specs.declared.error.ModuleError.{ModuleError}
 use Rattle.wh_host.specs.declared.parts.ModuleId.{ModuleId}
-use Rattle.wh_script_model.specs.Following.{Knows}
-use Rattle.wh_script_model.specs.Replies.{SaysModule}
+use Rattle.wh_script_laws.specs.Following.{Knows}
+use Rattle.wh_script_laws.specs.Replies.{SaysModule}
 use Rattle.wh_names.specs.declared.names.Names.{Names}
-use Rattle.wh_engine.specs.declared.parts.Guest.{Guest}
-use Rattle.wh_engine.specs.Standing.{WholeState, IsLed, StandsWhole, EngineState, StandsForScript, whole_on}
-use Rattle.wh_script_model.proofs.Commands.{modules_follow}
+use Rattle.wh_engine.specs.declared.parts.NamedInstance.{NamedInstance}
+use Rattle.wh_engine.specs.RepresentedScript.{WholeState, IsLed, RepresentsWhole, ScriptHostState, RepresentsScript, whole_on}
+use Rattle.wh_script_laws.proofs.Commands.{modules_follow}
 use Rattle.wh_engine.proofs.Named.{taken_back}
 use Rattle.wh_engine.specs.Obeying.{TakesModule}
 
@@ -34,20 +34,20 @@ one_longer [] n = refl
 one_longer (x ∷ ms) n = let e = one_longer ms n in omega (arith, e)
 
 -- a module whose name is free got this reply
-abbrev pub TakesModuleWhole : Settings → Made → (name bytes : List ℕ) → Reply → WholeState → Type 0
+abbrev pub TakesModuleWhole : Settings → ScriptState → (name bytes : List ℕ) → Reply → WholeState → Type 0
 TakesModuleWhole settings m name bytes reply e2 =
-    (m2 : Made) × ReceivesModule true m name bytes reply m2 × StandsWhole settings e2 m2
+    (m2 : ScriptState) × ReceivesModule true m name bytes reply m2 × RepresentsWhole settings e2 m2
 
 -- what the law of modules says of an answer of the host
-law_of : (settings : Settings) (e : WholeState) (m : Made) (name bytes : List ℕ) (h2 : HostState) (r : Result ModuleId ModuleError) (reply : Reply) (s : StandsWhole settings e m)
+law_of : (settings : Settings) (e : WholeState) (m : ScriptState) (name bytes : List ℕ) (h2 : HostState) (r : Result ModuleId ModuleError) (reply : Reply) (s : RepresentsWhole settings e m)
     → AnswersLoad e.host bytes r h2 → ((answer : LoadAnswer) → IsLoadAnswer r answer → SaysModule name answer reply)
-    → (m2 : Made) × (w2 : World) × ReceivesModule true m name bytes reply m2 × IsLed h2 w2
-    × Knows settings w2 m2 (map (λ (x : Guest). x.id.place) e.guests)
+    → (m2 : ScriptState) × (w2 : World) × ReceivesModule true m name bytes reply m2 × IsLed h2 w2
+    × Knows settings w2 m2 (map (λ (x : NamedInstance). x.id.place) e.instances)
 law_of settings e m name bytes h2 r reply s answers says =
     let did = answers s.world s.is.0 in
     let reached = s.is.1 in
     let follows = modules_follow reached.frames reached.slots reached.tax reached.events s.world reached.happen settings m
-    (map (λ (x : Guest). x.id.place) e.guests) name bytes did.0 did.1 reply s.knows did.3 (says did.0 did.2) in
+    (map (λ (x : NamedInstance). x.id.place) e.instances) name bytes did.0 did.1 reply s.knows did.3 (says did.0 did.2) in
     (follows.0, did.1, follows.1, (did.4, reached_on s.world did.1 (events.load bytes) reached (did.0, did.3)), follows.2)
 
 -- the engine with another host and other names of modules
@@ -57,17 +57,17 @@ with_modules e h names k = record e { host = h; module_names = names; modules = 
 ok_says : (name : List ℕ) (id : ModuleId) (answer : LoadAnswer) → IsLoadAnswer (Ok id) answer → SaysModule name answer (module_ok name)
 ok_says name id answer is = subst (λ a. SaysModule name a (module_ok name)) (sym is) refl
 
-kept_stands : (settings : Settings) (e : WholeState) (m : Made) (name bytes : List ℕ) (h2 : HostState) (names : Names) (k : ℕ) → StandsWhole settings e m
+kept_stands : (settings : Settings) (e : WholeState) (m : ScriptState) (name bytes : List ℕ) (h2 : HostState) (names : Names) (k : ℕ) → RepresentsWhole settings e m
     → names ≡ e.module_names ++ name ∷ []
     → (e.modules < most_modules → k ≡ e.modules + 1)
-    → (m2 : Made) (w2 : World) (reply : Reply) → reply ≡ module_ok name → ReceivesModule true m name bytes reply m2 → IsLed h2 w2
-    → Knows settings w2 m2 (map (λ (x : Guest). x.id.place) e.guests)
+    → (m2 : ScriptState) (w2 : World) (reply : Reply) → reply ≡ module_ok name → ReceivesModule true m name bytes reply m2 → IsLed h2 w2
+    → Knows settings w2 m2 (map (λ (x : NamedInstance). x.id.place) e.instances)
     → TakesModuleWhole settings m name bytes reply (with_modules e h2 names k)
 kept_stands settings e m name bytes h2 names k s sets counts _ w2 _ is (module_isnt_kept turns_down) is2 knows2 = absurd (cc is)
-kept_stands settings e m name bytes h2 names k s sets counts _ w2 _ is (module_is_wanting scarce wants) is2 knows2 = absurd (cc is)
+kept_stands settings e m name bytes h2 names k s sets counts _ w2 _ is (module_out_of_memory may_run_out wants) is2 knows2 = absurd (cc is)
 kept_stands settings e m name bytes h2 names k s sets counts _ w2 _ is (module_is_kept {m = spelled} accepted few) is2 knows2 =
     let new : NamedModule = record { name = name; m = spelled } in
-    let after : Made = record m { modules = m.modules ++ new ∷ [] } in
+    let after : ScriptState = record m { modules = m.modules ++ new ∷ [] } in
     let k_is : k ≡ e.modules + 1 = counts (subst (λ n. n < most_modules) (sym s.modules) few) in (
       after,
       module_is_kept accepted few,
@@ -77,41 +77,41 @@ kept_stands settings e m name bytes h2 names k s sets counts _ w2 _ is (module_i
         modules = k_is ∙ ap (λ n. n + 1) s.modules ∙ sym (one_longer m.modules new);
         knows = knows2;
         module_names = sets ∙ ap (λ (ls : List (List ℕ)). ls ++ name ∷ []) s.module_names ∙ sym (labels_end m.modules new);
-        guest_names = s.guest_names;
+        instance_names = s.instance_names;
         apart = s.apart;
-        guests = s.guests;
+        instances = s.instances;
         invoked = s.invoked;
       },
     )
 
 -- other names of the same modules
-pub with_names : (settings : Settings) (e : WholeState) (m : Made) (h2 : HostState) (names : Names) (w2 : World) → StandsWhole settings e m → names ≡ e.module_names
-    → IsLed h2 w2 → Knows settings w2 m (map (λ (x : Guest). x.id.place) e.guests) → StandsWhole settings (with_modules e h2 names e.modules) m
+pub with_names : (settings : Settings) (e : WholeState) (m : ScriptState) (h2 : HostState) (names : Names) (w2 : World) → RepresentsWhole settings e m → names ≡ e.module_names
+    → IsLed h2 w2 → Knows settings w2 m (map (λ (x : NamedInstance). x.id.place) e.instances) → RepresentsWhole settings (with_modules e h2 names e.modules) m
 with_names settings e m h2 names w2 s are is2 knows2 = record {
   world = w2;
   is = is2;
   modules = s.modules;
   knows = knows2;
   module_names = are ∙ s.module_names;
-  guest_names = s.guest_names;
+  instance_names = s.instance_names;
   apart = s.apart;
-  guests = s.guests;
+  instances = s.instances;
   invoked = s.invoked;
 }
 
-none_stands : (settings : Settings) (e : WholeState) (m : Made) (name bytes : List ℕ) (h2 : HostState) (names : Names) (why : Refusal) → StandsWhole settings e m
+none_stands : (settings : Settings) (e : WholeState) (m : ScriptState) (name bytes : List ℕ) (h2 : HostState) (names : Names) (why : Refusal) → RepresentsWhole settings e m
     → names ≡ e.module_names
-    → (m2 : Made) (w2 : World) (reply : Reply) → reply ≡ module_refused name why → ReceivesModule true m name bytes reply m2 → IsLed h2 w2
-    → Knows settings w2 m2 (map (λ (x : Guest). x.id.place) e.guests)
+    → (m2 : ScriptState) (w2 : World) (reply : Reply) → reply ≡ module_refused name why → ReceivesModule true m name bytes reply m2 → IsLed h2 w2
+    → Knows settings w2 m2 (map (λ (x : NamedInstance). x.id.place) e.instances)
     → TakesModuleWhole settings m name bytes reply (with_modules e h2 names e.modules)
 none_stands settings e m name bytes h2 names why s are _ w2 _ is (module_is_kept accepted few) is2 knows2 = absurd (cc is)
 none_stands settings e m name bytes h2 names why s are _ w2 _ is (module_isnt_kept turns_down) is2 knows2 =
     (m, module_isnt_kept turns_down, with_names settings e m h2 names w2 s are is2 knows2)
-none_stands settings e m name bytes h2 names why s are _ w2 _ is (module_is_wanting scarce wants) is2 knows2 =
-    (m, module_is_wanting scarce wants, with_names settings e m h2 names w2 s are is2 knows2)
+none_stands settings e m name bytes h2 names why s are _ w2 _ is (module_out_of_memory may_run_out wants) is2 knows2 =
+    (m, module_out_of_memory may_run_out wants, with_names settings e m h2 names w2 s are is2 knows2)
 
 -- it was kept
-pub takes_kept : (settings : Settings) (e : WholeState) (m : Made) (name bytes : List ℕ) (h2 : HostState) (names : Names) (k : ℕ) (id : ModuleId) → StandsWhole settings e m
+pub takes_kept : (settings : Settings) (e : WholeState) (m : ScriptState) (name bytes : List ℕ) (h2 : HostState) (names : Names) (k : ℕ) (id : ModuleId) → RepresentsWhole settings e m
     → AnswersLoad e.host bytes (Ok id) h2
     → names ≡ e.module_names ++ name ∷ []
     → (e.modules < most_modules → k ≡ e.modules + 1)
@@ -121,7 +121,7 @@ takes_kept settings e m name bytes h2 names k id s answers sets counts =
     kept_stands settings e m name bytes h2 names k s sets counts got.0 got.1 (module_ok name) refl got.2 got.3 got.4
 
 -- it wasn't, and has no name again
-pub takes_none : (settings : Settings) (e : WholeState) (m : Made) (name bytes : List ℕ) (h2 : HostState) (given names : Names) (error : ModuleError) (why : Refusal) → StandsWhole settings e m
+pub takes_none : (settings : Settings) (e : WholeState) (m : ScriptState) (name bytes : List ℕ) (h2 : HostState) (given names : Names) (error : ModuleError) (why : Refusal) → RepresentsWhole settings e m
     → AnswersLoad e.host bytes (Err error) h2
     → given ≡ e.module_names ++ name ∷ []
     → names ≡ take (length given - 1) given
@@ -134,14 +134,14 @@ takes_none settings e m name bytes h2 given names error why s answers sets clear
 
 -- ---- and instances and calls are kept as they were
 
-pub module_again : (settings : Settings) (e : EngineState) (m : Made) (name bytes : List ℕ) (h2 : HostState) (names : Names) (k : ℕ) (reply : Reply) (s : StandsForScript settings e m)
-    → TakesModuleWhole settings m name bytes reply (with_modules (whole_on e s.guests s.invoked) h2 names k)
+pub module_again : (settings : Settings) (e : ScriptHostState) (m : ScriptState) (name bytes : List ℕ) (h2 : HostState) (names : Names) (k : ℕ) (reply : Reply) (s : RepresentsScript settings e m)
+    → TakesModuleWhole settings m name bytes reply (with_modules (whole_on e s.instances s.invoked) h2 names k)
     → TakesModule settings m name bytes reply (record e { host = h2; module_names = names; modules = k })
 module_again settings e m name bytes h2 names k reply s takes = (
   takes.0,
   takes.1,
   record {
-    guests = s.guests;
+    instances = s.instances;
     invoked = s.invoked;
     kept = s.kept;
     pending = s.pending;

@@ -2,7 +2,7 @@
 use Rattle.std.proofs.Common.{◌≡◌, ℕ, zero, suc, ◌⊎◌, inl, inr, Bool, true, false, not, cond, List, [], ◌∷◌, ◌++◌, slice_get, slice_set, Some, refl, subst}
 use Rattle.std.specs.List.{filter}
 use Rattle.std.proofs.lemmas.Option.{none-some, same_Some}
-use Rattle.wh_engine.specs.Standing.{LeavesOut, none_there, keeps_it, leaves_it}
+use Rattle.wh_engine.specs.RepresentedScript.{LeavesOut, none_there, keeps_it, leaves_it}
 
 -- one that is kept is one of all
 pub is_of_all : {A : Type 0} {over : A → Bool} {kept all : List A} → LeavesOut over kept all → (at : ℕ) (x : A) → slice_get kept at ≡ Some x

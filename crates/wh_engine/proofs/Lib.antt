@@ -5,7 +5,7 @@ pub mod Called
 pub mod Ended
 pub mod Found
 pub mod Fresh
-pub mod Instances
+pub mod Touching
 pub mod Kept
 pub mod Left
 pub mod LookedUp
@@ -16,7 +16,7 @@ pub mod Refitted
 pub mod Released
 pub mod Resting
 pub mod Runs
-pub mod Sayings
+pub mod Printings
 pub mod Turned
 pub mod Whole
 pub mod Worked

@@ -1,9 +1,9 @@
 -- What names stand for.
 use Rattle.std.proofs.Common.{◌≡◌, ◌∙◌, ℕ, zero, suc, List, [], ◌∷◌, map, slice_get, Option, Some, None, MatchOption, refl, sym, ap}
 use Rattle.std.proofs.lemmas.Option.{same_Some}
-use Rattle.wh_host_model.specs.Lines.Made as made
-use Rattle.wh_host_model.specs.Lines.Made.{NamedModule, Made, HasModule, HasGuest, NoGuest, NoModule}
-use Rattle.wh_names.specs.Places.{place_of_name}
+use Rattle.wh_script_model.specs.ScriptState as script
+use Rattle.wh_script_model.specs.ScriptState.{NamedModule, ScriptState, HasModule, HasInstance, LacksInstance, NoModule}
+use Rattle.wh_names.specs.NamePlaces.{place_of_name}
 use Rattle.wh_names.proofs.Places.{found, none_there}
 use Rattle.wh_engine.specs.Obeying.{IsModuleNamed, IsNamed}
 
@@ -20,19 +20,19 @@ goes_to f (z ∷ xs) (suc k) x e = goes_to f xs k x e
 abbrev module_label : NamedModule → List ℕ
 module_label n = n.name
 
-abbrev guest_label : made.Guest → List ℕ
+abbrev guest_label : script.NamedInstance → List ℕ
 guest_label g = g.name
 
-pub module_named : (names : List (List ℕ)) (m : Made) (name : List ℕ) (o : Option ℕ) → names ≡ map (λ (n : NamedModule). n.name) m.modules → o ≡ place_of_name names name
+pub module_named : (names : List (List ℕ)) (m : ScriptState) (name : List ℕ) (o : Option ℕ) → names ≡ map (λ (n : NamedModule). n.name) m.modules → o ≡ place_of_name names name
     → MatchOption o (NoModule m name) (λ k. IsModuleNamed m k name)
 module_named names m name None are e =
     λ spelled has. none_there names name (sym e) has.0 (ap (λ (ns : List (List ℕ)). slice_get ns has.0) are ∙ goes_to module_label m.modules has.0 _ has.1)
 module_named names m name (Some k) are e =
     came_from module_label m.modules k name (ap (λ (ns : List (List ℕ)). slice_get ns k) (sym are) ∙ found names name k (sym e))
 
-pub guest_named : (names : List (List ℕ)) (m : Made) (name : List ℕ) (o : Option ℕ) → names ≡ map (λ (g : made.Guest). g.name) m.guests → o ≡ place_of_name names name
-    → MatchOption o (NoGuest m name) (λ k. IsNamed m k name)
+pub guest_named : (names : List (List ℕ)) (m : ScriptState) (name : List ℕ) (o : Option ℕ) → names ≡ map (λ (g : script.NamedInstance). g.name) m.instances → o ≡ place_of_name names name
+    → MatchOption o (LacksInstance m name) (λ k. IsNamed m k name)
 guest_named names m name None are e =
-    λ i g has. none_there names name (sym e) i (ap (λ (ns : List (List ℕ)). slice_get ns i) are ∙ goes_to guest_label m.guests i g has.0 ∙ ap (λ n. Some n) has.1)
+    λ i g has. none_there names name (sym e) i (ap (λ (ns : List (List ℕ)). slice_get ns i) are ∙ goes_to guest_label m.instances i g has.0 ∙ ap (λ n. Some n) has.1)
 guest_named names m name (Some k) are e =
-    let d = came_from guest_label m.guests k name (ap (λ (ns : List (List ℕ)). slice_get ns k) (sym are) ∙ found names name k (sym e)) in (d.0, (d.1, d.2))
+    let d = came_from guest_label m.instances k name (ap (λ (ns : List (List ℕ)). slice_get ns k) (sym are) ∙ found names name k (sym e)) in (d.0, (d.1, d.2))

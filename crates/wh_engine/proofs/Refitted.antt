@@ -1,22 +1,22 @@
 -- An engine that keeps the same in other rooms.
 use Rattle.std.proofs.Common.{◌≡◌, ◌∙◌, sym, subst, Result, Ok, Err, OnErr}
 use Rattle.std.specs.Global.{Vec}
-use Rattle.wh_host_model.specs.Lines.Settings.{Settings}
-use Rattle.wh_host_model.specs.Lines.Made.{Made}
+use Rattle.wh_script_model.specs.Settings.{Settings}
+use Rattle.wh_script_model.specs.ScriptState.{ScriptState}
 use Rattle.wh_names.specs.declared.names.Names.{Names}
-use Rattle.wh_names.specs.Places.{AreNamedOnce}
-use Rattle.wh_engine.specs.declared.parts.Guest.{Guest}
+use Rattle.wh_names.specs.NamePlaces.{AreNamedOnce}
+use Rattle.wh_engine.specs.declared.parts.NamedInstance.{NamedInstance}
 use Rattle.wh_engine.specs.declared.parts.Invoked.{Invoked}
-use Rattle.wh_engine.specs.Standing.{EngineState, StandsForScript, LeavesOut, is_over, is_settled}
+use Rattle.wh_engine.specs.RepresentedScript.{ScriptHostState, RepresentsScript, LeavesOut, is_over, is_settled}
 
 -- the same names, instances and calls, in other rooms
-pub refitted : (settings : Settings) (e : EngineState) (m : Made) (ms gs : Names) (xs : Vec Guest) (vs : Vec Invoked) → StandsForScript settings e m
-    → ms ≡ e.module_names → gs ≡ e.guest_names → xs.items ≡ e.guests.items → vs.items ≡ e.invoked.items
-    → StandsForScript settings (record e { module_names = ms; guest_names = gs; guests = xs; invoked = vs }) m
-refitted settings e m ms gs xs vs s modules guests same calls = record {
-  guests = s.guests;
+pub refitted : (settings : Settings) (e : ScriptHostState) (m : ScriptState) (ms gs : Names) (xs : Vec NamedInstance) (vs : Vec Invoked) → RepresentsScript settings e m
+    → ms ≡ e.module_names → gs ≡ e.instance_names → xs.items ≡ e.instances.items → vs.items ≡ e.invoked.items
+    → RepresentsScript settings (record e { module_names = ms; instance_names = gs; instances = xs; invoked = vs }) m
+refitted settings e m ms gs xs vs s modules instances same calls = record {
+  instances = s.instances;
   invoked = s.invoked;
-  kept = subst (λ ys. LeavesOut is_over ys s.guests) (sym same) s.kept;
+  kept = subst (λ ys. LeavesOut is_over ys s.instances) (sym same) s.kept;
   pending = subst (λ ys. LeavesOut is_settled ys s.invoked) (sym calls) s.pending;
   admitted = s.admitted;
   asked = s.asked;
@@ -26,9 +26,9 @@ refitted settings e m ms gs xs vs s modules guests same calls = record {
     modules = s.stands.modules;
     knows = s.stands.knows;
     module_names = modules ∙ s.stands.module_names;
-    guest_names = guests ∙ s.stands.guest_names;
-    apart = subst AreNamedOnce (sym guests) s.stands.apart;
-    guests = s.stands.guests;
+    instance_names = instances ∙ s.stands.instance_names;
+    apart = subst AreNamedOnce (sym instances) s.stands.apart;
+    instances = s.stands.instances;
     invoked = s.stands.invoked;
   };
 }

@@ -10,29 +10,29 @@ use Rattle.wh_host_model.specs.Host.Events as events
 use Rattle.wh_host_model.specs.Host.Happens.{OnlyMoves}
 use Rattle.wh_host_model.specs.Host.Worlds.{Suspension, for_fuel, for_frame, for_device, Tenant, World, tenant}
 use Rattle.wh_host_model.specs.Owners.{Entry}
-use Rattle.wh_host_model.specs.Lines.Settings.{Settings}
-use Rattle.wh_host_model.specs.Lines.Made as made
-use Rattle.wh_host_model.specs.Lines.Made.{Made}
-use Rattle.wh_host_model.specs.Lines.Drains.{RunsAlone, is_gone, has_run}
-use Rattle.wh_host_model.specs.Lines.Served.{IsServed}
+use Rattle.wh_script_model.specs.Settings.{Settings}
+use Rattle.wh_script_model.specs.ScriptState as script
+use Rattle.wh_script_model.specs.ScriptState.{ScriptState}
+use Rattle.wh_script_model.specs.Drains.{RunsAlone, is_gone, has_run}
+use Rattle.wh_script_model.specs.Served.{GoesNoFurther}
 use Rattle.wh_reclaim.specs.Whole.{IsAsWhole}
 use Rattle.wh_host.specs.Backing.{KeepsBacking}
 use Rattle.wh_host.specs.Hosting.{HostState, IsHost}
 use Rattle.wh_host.specs.Paging.{IsGoing}
 use Rattle.wh_host.proofs.Hosts.{reached_on}
 use Rattle.wh_cell.specs.Going.{WorksTo}
-use Rattle.wh_cell.specs.Leaving.{LeftState}
+use Rattle.wh_cell.specs.LeftByOwner.{LeftState}
 use Rattle.wh_cell.specs.Owning.{ComesOn}
-use Rattle.wh_script_model.specs.Following as follow
-use Rattle.wh_script_model.specs.Following.{IsPlaced, RunsKnown, StaysWhole}
-use Rattle.wh_script_model.specs.Laws.{AllServed}
-use Rattle.wh_script_model.proofs.Drains.{drains_begin, drains_end, moves_follow}
-use Rattle.wh_engine.specs.declared.engine.Engine.{Engine}
-use Rattle.wh_engine.specs.declared.parts.Guest.{Guest}
+use Rattle.wh_script_laws.specs.Following as follow
+use Rattle.wh_script_laws.specs.Following.{IsPlaced, RunsKnown, StaysWhole}
+use Rattle.wh_script_laws.specs.Laws.{AllServed}
+use Rattle.wh_script_laws.proofs.Drains.{drains_begin, drains_end, moves_follow}
+use Rattle.wh_engine.specs.declared.script_host.ScriptHost.{ScriptHost}
+use Rattle.wh_engine.specs.declared.parts.NamedInstance.{NamedInstance}
 use Rattle.wh_engine.specs.Draining.{AllRest, DeviceMayFail, DeviceServesWell, DeviceStaysTrue, HasServed, RunsEach, StaysSo}
-use Rattle.wh_engine.specs.Standing.{AreGuests, EngineState, IsGuest, IsLed, StandsForScript, engine_on, LeavesOut, WholeState, whole_on, is_over}
+use Rattle.wh_engine.specs.RepresentedScript.{AreNamedInstances, ScriptHostState, IsNamedInstance, IsLed, RepresentsScript, script_host_on, LeavesOut, WholeState, whole_on, is_over}
 use Rattle.wh_engine.proofs.Asked.{whole_of}
-use Rattle.wh_engine.proofs.Instances.{placed_at}
+use Rattle.wh_engine.proofs.Touching.{placed_at}
 use Rattle.wh_engine.proofs.Whole.{keeps_whole}
 use Rattle.wh_engine.proofs.Worked.{works_known}
 use Rattle.wh_engine.proofs.Again.{stands_again}
@@ -77,15 +77,15 @@ none_of (x ∷ more) a e =
 
 -- ---- one that can't go on
 
-followed_so : (w : World) (g : made.Guest) (o : Option Tenant) (t : Tenant) → follow.IsFollowed follow.ComeFurther w g o → o ≡ Some t → (fault : SwapError) → t.stands_for ≢ Some (for_device fault)
+followed_so : (w : World) (g : script.NamedInstance) (o : Option Tenant) (t : Tenant) → follow.IsFollowed follow.ComeFurther w g o → o ≡ Some t → (fault : SwapError) → t.waiting_for ≢ Some (for_device fault)
 followed_so w g _ t (follow.is_there {t = u} tenancy calls sound) e =
-    let P : Tenant → Type 0 = λ x. (fault : SwapError) → x.stands_for ≢ Some (for_device fault) in
+    let P : Tenant → Type 0 = λ x. (fault : SwapError) → x.waiting_for ≢ Some (for_device fault) in
     subst P (same_Some u t e) sound
 followed_so w g _ t (follow.is_gone gone) e = absurd (cc e)
 
 -- who has a number, and what is known of it
-followed_at : (w : World) (gs : List made.Guest) (ts : List (Option Tenant)) (i : ℕ) (t : Tenant)
-    → AllZip (follow.IsFollowed follow.ComeFurther w) gs ts → get_or ts i None ≡ Some t → (fault : SwapError) → t.stands_for ≢ Some (for_device fault)
+followed_at : (w : World) (gs : List script.NamedInstance) (ts : List (Option Tenant)) (i : ℕ) (t : Tenant)
+    → AllZip (follow.IsFollowed follow.ComeFurther w) gs ts → get_or ts i None ≡ Some t → (fault : SwapError) → t.waiting_for ≢ Some (for_device fault)
 followed_at w [] [] i t h e = absurd (cc e)
 followed_at w [] (o ∷ ts) i t h e = absurd h
 followed_at w (g ∷ gs) [] i t h e = absurd h
@@ -101,7 +101,7 @@ placed_there (p ∷ places) (o ∷ ts) zero place t h at e =
     here ∙ same_Some p place at
 placed_there (p ∷ places) (o ∷ ts) (suc i) place t h at e = placed_there places ts i place t h.1 at e
 
--- an open call that can't go on stands for fuel, or for a fault of the device
+-- an open call that can't go on waits for fuel, or for a fault of the device
 stands_so : (e : Entry) (es : List Entry) (o : Option Suspension) → ¬ ((e ∷ es ≢ []) × ((o ≡ None) ⊎ (o ≡ Some for_frame)))
     → ((fault : SwapError) → o ≢ Some (for_device fault)) → o ≡ Some for_fuel
 stands_so e es None not sound = absurd (not ((λ (bad : e ∷ es ≡ []). cc bad), inl refl))
@@ -115,28 +115,28 @@ served_by [] o not sound = inl refl
 served_by (e ∷ es) o not sound = inr (stands_so e es o not sound)
 
 -- where nothing can bring the instance on, it is served
-is_served_at : (settings : Settings) (m : Made) (places : List ℕ) (w : World) (id : InstId) (t : Tenant) → RunsKnown settings w m places
-    → slice_get places id.number ≡ Some id.place → ¬ (IsGoing w id) → tenant w id.number ≡ Some t → IsServed t
+is_served_at : (settings : Settings) (m : ScriptState) (places : List ℕ) (w : World) (id : InstId) (t : Tenant) → RunsKnown settings w m places
+    → slice_get places id.number ≡ Some id.place → ¬ (IsGoing w id) → tenant w id.number ≡ Some t → GoesNoFurther t
 is_served_at settings m places w id t known at not there =
-    served_by t.open_calls t.stands_for
+    served_by t.open_calls t.waiting_for
     (λ can. not (t, (there, placed_there places w.tenants id.number id.place t known.placed at there), can))
-    (followed_at w m.guests w.tenants id.number t known.guests there)
+    (followed_at w m.instances w.tenants id.number t known.instances there)
 
 -- ---- all instances, by their numbers
 
 abbrev pub places_of : WholeState → List ℕ
-places_of e = map (λ (x : Guest). x.id.place) e.guests
+places_of e = map (λ (x : NamedInstance). x.id.place) e.instances
 
-one_run : (k : ℕ) (x : Guest) (g r : made.Guest) → RunsAlone g r → IsGuest k x g → IsGuest k x r
+one_run : (k : ℕ) (x : NamedInstance) (g r : script.NamedInstance) → RunsAlone g r → IsNamedInstance k x g → IsNamedInstance k x r
 one_run k x g _ (is_gone gone) is = is
 one_run k x g _ (has_run live come replay rest) is =
-    record { number = is.number; name = is.name; starts = is.starts; released = is.released; said = is.said }
+    record { number = is.number; name = is.name; starts = is.starts; released = is.released; last_printed = is.last_printed }
 
-name_run : (g r : made.Guest) → RunsAlone g r → r.name ≡ g.name
+name_run : (g r : script.NamedInstance) → RunsAlone g r → r.name ≡ g.name
 name_run g _ (is_gone gone) = refl
 name_run g _ (has_run live come replay rest) = refl
 
-run_keeps : (k : ℕ) (xs : List Guest) (gs run : List made.Guest) → AllZip RunsAlone gs run → AreGuests k xs gs → AreGuests k xs run
+run_keeps : (k : ℕ) (xs : List NamedInstance) (gs run : List script.NamedInstance) → AllZip RunsAlone gs run → AreNamedInstances k xs gs → AreNamedInstances k xs run
 run_keeps k [] [] [] all are = tt
 run_keeps k [] [] (r ∷ run) all are = absurd all
 run_keeps k [] (g ∷ gs) run all are = absurd are
@@ -144,19 +144,19 @@ run_keeps k (x ∷ xs) [] run all are = absurd are
 run_keeps k (x ∷ xs) (g ∷ gs) [] all are = absurd all
 run_keeps k (x ∷ xs) (g ∷ gs) (r ∷ run) all are = (one_run k x g r all.0 are.0, run_keeps (k + 1) xs gs run all.1 are.1)
 
-names_run : (gs run : List made.Guest) → AllZip RunsAlone gs run → map (λ (g : made.Guest). g.name) run ≡ map (λ (g : made.Guest). g.name) gs
+names_run : (gs run : List script.NamedInstance) → AllZip RunsAlone gs run → map (λ (g : script.NamedInstance). g.name) run ≡ map (λ (g : script.NamedInstance). g.name) gs
 names_run [] [] all = refl
 names_run [] (r ∷ run) all = absurd all
 names_run (g ∷ gs) [] all = absurd all
-names_run (g ∷ gs) (r ∷ run) all = ap (λ ns. r.name ∷ ns) (names_run gs run all.1) ∙ ap (λ n. n ∷ map (λ (z : made.Guest). z.name) gs) (name_run g r all.0)
+names_run (g ∷ gs) (r ∷ run) all = ap (λ ns. r.name ∷ ns) (names_run gs run all.1) ∙ ap (λ n. n ∷ map (λ (z : script.NamedInstance). z.name) gs) (name_run g r all.0)
 
-lives_so : (w : World) (g : made.Guest) (o : Option Tenant) (t : Tenant) → follow.IsFollowed follow.ComeFurther w g o → o ≡ Some t → g.is_released ≡ false
+lives_so : (w : World) (g : script.NamedInstance) (o : Option Tenant) (t : Tenant) → follow.IsFollowed follow.ComeFurther w g o → o ≡ Some t → g.is_released ≡ false
 lives_so w g _ t (follow.is_there tenancy calls sound) e = tenancy.is_live
 lives_so w g _ t (follow.is_gone gone) e = absurd (cc e)
 
 -- who has a number is an instance of the script that lives
-lives_at : (w : World) (gs : List made.Guest) (ts : List (Option Tenant)) (i : ℕ) (t : Tenant) → AllZip (follow.IsFollowed follow.ComeFurther w) gs ts → get_or ts i None ≡ Some t
-    → (g : made.Guest) × (slice_get gs i ≡ Some g) × (g.is_released ≡ false)
+lives_at : (w : World) (gs : List script.NamedInstance) (ts : List (Option Tenant)) (i : ℕ) (t : Tenant) → AllZip (follow.IsFollowed follow.ComeFurther w) gs ts → get_or ts i None ≡ Some t
+    → (g : script.NamedInstance) × (slice_get gs i ≡ Some g) × (g.is_released ≡ false)
 lives_at w [] [] i t h e = absurd (cc e)
 lives_at w [] (o ∷ ts) i t h e = absurd h
 lives_at w (g ∷ gs) [] i t h e = absurd h
@@ -164,41 +164,41 @@ lives_at w (g ∷ gs) (o ∷ ts) zero t h e = (g, refl, lives_so w g o t h.0 e)
 lives_at w (g ∷ gs) (o ∷ ts) (suc i) t h e = lives_at w gs ts i t h.1 e
 
 -- where none of them can go on, nobody has a call that can
-all_served : (settings : Settings) (m : Made) (e : WholeState) (kept : List Guest) (h2 : HostState) (w2 : World) → AreGuests 0 e.guests m.guests → LeavesOut is_over kept e.guests → IsHost h2 w2
+all_served : (settings : Settings) (m : ScriptState) (e : WholeState) (kept : List NamedInstance) (h2 : HostState) (w2 : World) → AreNamedInstances 0 e.instances m.instances → LeavesOut is_over kept e.instances → IsHost h2 w2
     → RunsKnown settings w2 m (places_of e) → AllRest h2 kept → AllServed w2
 all_served settings m e kept h2 w2 are leaves is2 known rest i t there =
-    let g = lives_at w2 m.guests w2.tenants i t known.guests there in
-    let d = pair_at 0 e.guests m.guests i g.0 are g.1 in
+    let g = lives_at w2 m.instances w2.tenants i t known.instances there in
+    let d = pair_at 0 e.instances m.instances i g.0 are g.1 in
     let x = d.0 in
     let number : x.id.number ≡ i = let n : x.id.number ≡ 0 + i = d.2.number in omega (arith, n) in
     ⊎_elim
     (λ (k : (at : ℕ) × (slice_get kept at ≡ Some x)).
     is_served_at settings m (places_of e) w2 x.id t known
-    (ap (slice_get (places_of e)) number ∙ placed_at e.guests i x d.1) (rest k.0 x k.1 w2 is2)
+    (ap (slice_get (places_of e)) number ∙ placed_at e.instances i x d.1) (rest k.0 x k.1 w2 is2)
     (ap (tenant w2) number ∙ there))
     (λ (over : is_over x ≡ true). absurd (cc (over_released x over, d.2.released, g.2)))
     (kept_or_over leaves i x d.1)
 
 -- then all have run
-ran_so : (settings : Settings) (m : Made) (e : EngineState) (h2 : HostState) (w2 : World) (s : StandsForScript settings e m) → IsLed h2 w2 → RunsKnown settings w2 m (map (λ (x : Guest). x.id.place) s.guests)
-    → AllRest h2 e.guests.items → (run : List made.Guest) × AllZip RunsAlone m.guests run × StandsForScript settings (record e { host = h2 }) (record m { guests = run })
+ran_so : (settings : Settings) (m : ScriptState) (e : ScriptHostState) (h2 : HostState) (w2 : World) (s : RepresentsScript settings e m) → IsLed h2 w2 → RunsKnown settings w2 m (map (λ (x : NamedInstance). x.id.place) s.instances)
+    → AllRest h2 e.instances.items → (run : List script.NamedInstance) × AllZip RunsAlone m.instances run × RepresentsScript settings (record e { host = h2 }) (record m { instances = run })
 ran_so settings m e h2 w2 s led known rest =
-    let whole = whole_on e s.guests s.invoked in
+    let whole = whole_on e s.instances s.invoked in
     let reached = led.1 in
-    let all = all_served settings m whole e.guests.items h2 w2 s.stands.guests s.kept led.0 known rest in
+    let all = all_served settings m whole e.instances.items h2 w2 s.stands.instances s.kept led.0 known rest in
     let end = drains_end reached.frames reached.slots reached.tax reached.events w2 reached.happen settings m (places_of whole) known all in (
       end.0,
       end.1,
-      stands_again settings e m (record m { guests = end.0 }) h2 s
+      stands_again settings e m (record m { instances = end.0 }) h2 s
           (record {
             world = w2;
             is = led;
             modules = s.stands.modules;
             knows = end.2;
             module_names = s.stands.module_names;
-            guest_names = s.stands.guest_names ∙ sym (names_run m.guests end.0 end.1);
+            instance_names = s.stands.instance_names ∙ sym (names_run m.instances end.0 end.1);
             apart = s.stands.apart;
-            guests = run_keeps 0 s.guests m.guests end.0 end.1 s.stands.guests;
+            instances = run_keeps 0 s.instances m.instances end.0 end.1 s.stands.instances;
             invoked = s.stands.invoked;
           }),
     )
@@ -206,17 +206,17 @@ ran_so settings m e h2 w2 s led known rest =
 -- ---- a drain
 
 -- none could go on from the beginning
-pub ran_at_once : (e : Engine) (h : HostState) → AllRest h e.guests.items → RunsEach (engine_on h e) (engine_on h e)
+pub ran_at_once : (e : ScriptHost) (h : HostState) → AllRest h e.instances.items → RunsEach (script_host_on h e) (script_host_on h e)
 ran_at_once e h rest settings m s =
-    ran_so settings m (engine_on h e) h s.stands.world s s.stands.is (drains_begin settings s.stands.world m _ s.stands.knows) rest
+    ran_so settings m (script_host_on h e) h s.stands.world s s.stands.is (drains_begin settings s.stands.world m _ s.stands.knows) rest
 
 whole_moves : (s s2 : Space) → IsAsWhole s s2 → tickets s ≡ 0 → tickets s2 ≡ 0 → StaysWhole s s2
 whole_moves s s2 whole none none2 = record { frames = whole.frames; slots = whole.slots; tax = whole.tax; none_out = none2 ∙ sym none }
 
 -- work has brought all so far that none can go on
-pub ran_each : {D : Type 0} (keeps honest : D → Type 0) (faults : D → List SwapError) (e : Engine) (left now : LeftState D) → ComesOn keeps honest faults left now
-    → tickets now.host.space ≡ 0 → AllRest now.host e.guests.items → DeviceServesWell honest faults left.device now.device
-    → RunsEach (engine_on left.host e) (engine_on now.host e)
+pub ran_each : {D : Type 0} (keeps honest : D → Type 0) (faults : D → List SwapError) (e : ScriptHost) (left now : LeftState D) → ComesOn keeps honest faults left now
+    → tickets now.host.space ≡ 0 → AllRest now.host e.instances.items → DeviceServesWell honest faults left.device now.device
+    → RunsEach (script_host_on left.host e) (script_host_on now.host e)
 ran_each keeps honest faults e left now on none rest well settings m s =
     let served = served_by_it keeps honest faults left now on well in
     let c = on.came in
@@ -224,22 +224,22 @@ ran_each keeps honest faults e left now on none rest well settings m s =
     let w = s.stands.world in
     let h = left.host in
     let h2 = now.host in
-    let places = map (λ (x : Guest). x.id.place) s.guests in
+    let places = map (λ (x : NamedInstance). x.id.place) s.instances in
     let did = c.right served.0 w s.stands.is.0 in
     let w2 = did.0 in
     let works : WorksTo w [] w2 = subst (λ more. WorksTo w more w2) nothing did.1 in
     let before : tickets h.space ≡ 0 = ap (λ (z : Space). tickets z) s.stands.is.0.space ∙ s.stands.knows.none_out in
     let whole = whole_of h h2 w w2 s.stands.is.0 did.2 (whole_moves h.space h2.space c.whole before none) in
     let known = works_known settings w w2 m places s.stands.is.1 works whole (drains_begin settings w m places s.stands.knows) in
-    ran_so settings m (engine_on h e) h2 w2 s (did.2, known.0) known.1 rest
+    ran_so settings m (script_host_on h e) h2 w2 s (did.2, known.0) known.1 rest
 
 -- pages alone have moved before
-pub runs_after : (e e1 e2 : EngineState) → StaysSo e e1 → RunsEach e1 e2 → RunsEach e e2
+pub runs_after : (e e1 e2 : ScriptHostState) → StaysSo e e1 → RunsEach e1 e2 → RunsEach e e2
 runs_after e e1 e2 stays runs settings m s = runs settings m (stays settings m s)
 
 -- ---- pages move
 
-pub stays_so : (e : EngineState) (h2 : HostState) → ((w : World) → IsHost e.host w → (w2 : World) × OnlyMoves w w2 × IsHost h2 w2)
+pub stays_so : (e : ScriptHostState) (h2 : HostState) → ((w : World) → IsHost e.host w → (w2 : World) × OnlyMoves w w2 × IsHost h2 w2)
     → KeepsBacking e.host.space h2.space → StaysSo e (record e { host = h2 })
 stays_so e h2 moves keeps settings m s =
     let w = s.stands.world in
@@ -250,11 +250,11 @@ stays_so e h2 moves keeps settings m s =
       world = did.0;
       is = (did.2, reached_on w did.0 events.epoch reached did.1);
       modules = s.stands.modules;
-      knows = (moves_follow reached.frames reached.slots reached.tax reached.events w reached.happen settings m (map (λ (x : Guest). x.id.place) s.guests) did.0 did.1
+      knows = (moves_follow reached.frames reached.slots reached.tax reached.events w reached.happen settings m (map (λ (x : NamedInstance). x.id.place) s.instances) did.0 did.1
           (whole_of e.host h2 w did.0 s.stands.is.0 did.2 (keeps_whole e.host.space h2.space keeps))).0 s.stands.knows;
       module_names = s.stands.module_names;
-      guest_names = s.stands.guest_names;
+      instance_names = s.stands.instance_names;
       apart = s.stands.apart;
-      guests = s.stands.guests;
+      instances = s.stands.instances;
       invoked = s.stands.invoked;
     })

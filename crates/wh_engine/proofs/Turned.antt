@@ -21,7 +21,7 @@ no_turns q books = record {
   turns = 0;
   sent = [];
   received = [];
-  handed = record { many = refl; numbered = refl; quanta = tt };
+  dispatched = record { many = refl; numbered = refl; quanta = tt };
   once = λ weight. refl;
   ran = record { by_workers = []; left = []; all = refl; few = omega arith; grown = omega arith };
   grown = omega arith;
@@ -30,13 +30,13 @@ no_turns q books = record {
 pub whole_turns : (q before after : ℕ) (served : Result Served ServeError) → IsServedWhole served → IfOk served (λ s. AreTurns s.turns q (view s.slip).sent)
     → IfOk served (λ s. OnOk s.end (SameMessages (view s.slip).sent (view s.slip).received)) → IfOk served (λ s. AreRun before (view s.slip).received after)
     → IfOk served (λ s. OnOk s.end (after ≡ before + s.turns)) → RunsTurns q before after
-whole_turns q before after (Err e) (s, is, whole) handed once ran grown = absurd (cc is)
-whole_turns q before after (Ok t) (s, is, whole) handed once ran grown =
+whole_turns q before after (Err e) (s, is, whole) dispatched once ran grown = absurd (cc is)
+whole_turns q before after (Ok t) (s, is, whole) dispatched once ran grown =
     let ended = subst (λ (r : Served). IsOk r.end) (same_served t s (Ok t) refl is) whole in record {
       turns = t.turns;
       sent = (view t.slip).sent;
       received = (view t.slip).received;
-      handed = handed;
+      dispatched = dispatched;
       once = where_whole t.end ended once;
       ran = ran;
       grown = where_whole t.end ended grown;

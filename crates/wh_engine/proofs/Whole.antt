@@ -6,7 +6,7 @@ use Rattle.wh_host_model.specs.declared.states.Slot.TheVariants.{Vacant, Taken, 
 use Rattle.wh_host_model.specs.Space.Errands.{Errand, Pass, errand_for, is_ticket}
 use Rattle.wh_host_model.specs.Space.Parts.{Space}
 use Rattle.wh_host.specs.Backing.{KeepsBacking}
-use Rattle.wh_script_model.specs.Following.{StaysWhole}
+use Rattle.wh_script_laws.specs.Following.{StaysWhole}
 
 abbrev is_errand : Option Errand → ℕ
 is_errand None = 0

@@ -2,10 +2,10 @@
 use Rattle.std.specs.Prelude.{◌≡◌, ◌⊎◌, ℕ, ◌+◌, List, ◌++◌, IsOk, Result, Ok, slice_get, Option, Some, None, false, true}
 use Rattle.std.specs.List.{AllZip}
 use Rattle.wh_host_model.specs.declared.plain.SwapError.{SwapError}
-use Rattle.wh_host_model.specs.Lines.Settings.{Settings}
-use Rattle.wh_host_model.specs.Lines.Made as made
-use Rattle.wh_host_model.specs.Lines.Made.{Made, SomeCallIsOpen}
-use Rattle.wh_host_model.specs.Lines.Drains.{RunsAlone}
+use Rattle.wh_script_model.specs.Settings.{Settings}
+use Rattle.wh_script_model.specs.ScriptState as script
+use Rattle.wh_script_model.specs.ScriptState.{ScriptState, SomeCallIsOpen}
+use Rattle.wh_script_model.specs.Drains.{RunsAlone}
 use Rattle.wh_host.specs.Hosting.{HostState}
 use Rattle.wh_host.specs.Paging.{IsGoing, Tells}
 use Rattle.wh_threads.specs.declared.channel.Message.{Message}
@@ -15,8 +15,8 @@ use Rattle.wh_workers.specs.declared.crew.Served.{Served}
 use Rattle.wh_workers.specs.declared.crew.ServeError.{ServeError}
 use Rattle.wh_engine.specs.declared.fault.ScriptFault.{ScriptFault}
 use Rattle.wh_engine.specs.declared.fault.ScriptFault.TheVariants.{Memory, Threads, Transcript}
-use Rattle.wh_engine.specs.declared.parts.Guest.{Guest}
-use Rattle.wh_engine.specs.Standing.{EngineState, StandsForScript}
+use Rattle.wh_engine.specs.declared.parts.NamedInstance.{NamedInstance}
+use Rattle.wh_engine.specs.RepresentedScript.{ScriptHostState, RepresentsScript}
 
 -- ---- the device: none where there is none
 
@@ -54,12 +54,12 @@ DeviceServesWell honest faults o o2 = ⊥
 -- ---- calls
 
 -- no call of these instances can go on
-abbrev pub AllRest : HostState → List Guest → Type 0
-AllRest h xs = (i : ℕ) (x : Guest) → slice_get xs i ≡ Some x → Tells h false (λ w. IsGoing w x.id)
+abbrev pub AllRest : HostState → List NamedInstance → Type 0
+AllRest h xs = (i : ℕ) (x : NamedInstance) → slice_get xs i ≡ Some x → Tells h false (λ w. IsGoing w x.id)
 
 -- a call of one of them can
-abbrev pub SomeGoes : HostState → List Guest → Type 0
-SomeGoes h xs = (i : ℕ) × (x : Guest) × (slice_get xs i ≡ Some x) × Tells h true (λ w. IsGoing w x.id)
+abbrev pub SomeGoes : HostState → List NamedInstance → Type 0
+SomeGoes h xs = (i : ℕ) × (x : NamedInstance) × (slice_get xs i ≡ Some x) × Tells h true (λ w. IsGoing w x.id)
 
 -- why a drain stops: memory was refused, a thread can't be started, or calls can go on that should have run
 abbrev pub StopsRun : ScriptFault → Type 0
@@ -74,12 +74,12 @@ StopsScan Memory = Unit {0}
 StopsScan Threads = Unit {0}
 StopsScan other = ⊥
 
--- whatever script the engine stands for, its calls have run as they do alone
-abbrev pub RunsEach : EngineState → EngineState → Type 0
+-- whatever script the engine represents, its calls have run as they do alone
+abbrev pub RunsEach : ScriptHostState → ScriptHostState → Type 0
 RunsEach e e2 =
-    (settings : Settings) (m : Made) → StandsForScript settings e m
-    → (run : List made.Guest) × AllZip RunsAlone m.guests run
-    × StandsForScript settings e2 (record m { guests = run })
+    (settings : Settings) (m : ScriptState) → RepresentsScript settings e m
+    → (run : List script.NamedInstance) × AllZip RunsAlone m.instances run
+    × RepresentsScript settings e2 (record m { instances = run })
 
 -- it was served to its end
 abbrev pub IsServedWhole : Result Served ServeError → Type 0
@@ -90,27 +90,27 @@ pub record RunsTurns (q : ℕ) (before after : ℕ) : Type 0 where
   pub turns : ℕ
   pub sent : List Message
   pub received : List Message
-  pub handed : AreTurns turns q sent
+  pub dispatched : AreTurns turns q sent
   pub once : SameMessages sent received
   pub ran : AreRun before received after
   pub grown : after ≡ before + turns
 
--- whatever script the engine stands for, an instance of it has an open call
-abbrev pub WasOpen : EngineState → Type 0
-WasOpen e = (settings : Settings) (m : Made) → StandsForScript settings e m → SomeCallIsOpen m
+-- whatever script the engine represents, an instance of it has an open call
+abbrev pub WasOpen : ScriptHostState → Type 0
+WasOpen e = (settings : Settings) (m : ScriptState) → RepresentsScript settings e m → SomeCallIsOpen m
 
 -- why something stops: where threads can't run the calls, one was open before
-abbrev pub StopsOnlyOpen : EngineState → ScriptFault → Type 0
+abbrev pub StopsOnlyOpen : ScriptHostState → ScriptFault → Type 0
 StopsOnlyOpen e Threads = WasOpen e
 StopsOnlyOpen e Transcript = WasOpen e
 StopsOnlyOpen e other = Unit {0}
 
 -- the same of something that may have to scan besides: where the scanner can't be started, it had to
-abbrev pub StopsOpenOr : Type 0 → EngineState → ScriptFault → Type 0
+abbrev pub StopsOpenOr : Type 0 → ScriptHostState → ScriptFault → Type 0
 StopsOpenOr scans e Threads = WasOpen e ⊎ scans
 StopsOpenOr scans e Transcript = WasOpen e
 StopsOpenOr scans e other = Unit {0}
 
--- pages alone have moved: whatever script the engine stood for, it stands for it still
-abbrev pub StaysSo : EngineState → EngineState → Type 0
-StaysSo e e2 = (settings : Settings) (m : Made) → StandsForScript settings e m → StandsForScript settings e2 m
+-- pages alone have moved: whatever script the engine represented, it represents it still
+abbrev pub StaysSo : ScriptHostState → ScriptHostState → Type 0
+StaysSo e e2 = (settings : Settings) (m : ScriptState) → RepresentsScript settings e m → RepresentsScript settings e2 m

@@ -1,5 +1,5 @@
 pub mod Finding
-pub mod Standing
+pub mod RepresentedScript
 pub mod Obeying
 pub mod Draining
-pub mod Saying
+pub mod Printing

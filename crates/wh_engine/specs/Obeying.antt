@@ -2,52 +2,52 @@
 use Rattle.std.specs.Prelude.{◌≡◌, ℕ, ℤ, true, List, [], ◌∷◌, ◌++◌, slice_get, Some, None, Result, Ok, Err}
 use Rattle.std.specs.Global.{Vec}
 use Rattle.wh_host_model.specs.Owners.{Params}
-use Rattle.wh_host_model.specs.Lines.Settings.{Settings}
-use Rattle.wh_host_model.specs.Lines.Commands.{Command}
-use Rattle.wh_host_model.specs.Lines.Texts.{Reply, release_ok, release_refused}
-use Rattle.wh_host_model.specs.Lines.Made.{NamedModule, Guest, Made, HasGuest}
-use Rattle.wh_host_model.specs.Lines.Receiving.{ReceivesModule, ReceivesGuest, ReceivesCall}
-use Rattle.wh_host_model.specs.Lines.Answers.{Files, IsObeyed}
-use Rattle.wh_host.specs.Asking.{host_number}
+use Rattle.wh_script_model.specs.Settings.{Settings}
+use Rattle.wh_script_model.specs.Commands.{Command}
+use Rattle.wh_script_model.specs.Texts.{Reply, release_ok, release_refused}
+use Rattle.wh_script_model.specs.ScriptState.{NamedModule, NamedInstance, ScriptState, HasInstance}
+use Rattle.wh_script_model.specs.Receiving.{ReceivesModule, ReceivesInstance, ReceivesCall}
+use Rattle.wh_script_model.specs.Answers.{Files, IsObeyed}
+use Rattle.wh_host.specs.CallRequests.{host_number}
 use Rattle.wh_host.specs.declared.error.HostError.{HostError}
-use Rattle.wh_engine.specs.declared.engine.Engine.{Engine}
-use Rattle.wh_engine.specs.declared.parts.Reception.{Reception}
-use Rattle.wh_engine.specs.Standing.{EngineState, StandsForScript}
+use Rattle.wh_engine.specs.declared.script_host.ScriptHost.{ScriptHost}
+use Rattle.wh_engine.specs.declared.parts.InvokeOutcome.{InvokeOutcome}
+use Rattle.wh_engine.specs.RepresentedScript.{ScriptHostState, RepresentsScript}
 
 -- the instance of this number has the name
-abbrev pub IsNamed : Made → ℕ → List ℕ → Type 0
-IsNamed m i name = (g : Guest) × HasGuest m name i g
+abbrev pub IsNamed : ScriptState → ℕ → List ℕ → Type 0
+IsNamed m i name = (g : NamedInstance) × HasInstance m name i g
 
 -- and the module of this number
-abbrev pub IsModuleNamed : Made → ℕ → List ℕ → Type 0
+abbrev pub IsModuleNamed : ScriptState → ℕ → List ℕ → Type 0
 IsModuleNamed m k name = (named : NamedModule) × (slice_get m.modules k ≡ Some named) × (named.name ≡ name)
 
 -- a module whose name is free got this reply
-abbrev pub TakesModule : Settings → Made → (name bytes : List ℕ) → Reply → EngineState → Type 0
+abbrev pub TakesModule : Settings → ScriptState → (name bytes : List ℕ) → Reply → ScriptHostState → Type 0
 TakesModule settings m name bytes reply e2 =
-    (m2 : Made) × ReceivesModule true m name bytes reply m2 × StandsForScript settings e2 m2
+    (m2 : ScriptState) × ReceivesModule true m name bytes reply m2 × RepresentsScript settings e2 m2
 
 -- an instance whose name is free, of the module of this number
-abbrev pub TakesGuest : Settings → Made → (name : List ℕ) (k : ℕ) (p : Params) → Reply → EngineState → Type 0
-TakesGuest settings m name k p reply e2 =
+abbrev pub TakesInstance : Settings → ScriptState → (name : List ℕ) (k : ℕ) (p : Params) → Reply → ScriptHostState → Type 0
+TakesInstance settings m name k p reply e2 =
     (named : NamedModule) × (slice_get m.modules k ≡ Some named)
-    × (m2 : Made) × ReceivesGuest true settings m name named.m p reply m2 × StandsForScript settings e2 m2
+    × (m2 : ScriptState) × ReceivesInstance true settings m name named.m p reply m2 × RepresentsScript settings e2 m2
 
 -- a call was asked of the instance of this number
-abbrev pub TakesInvoke : Settings → Made → (i : ℕ) (export : List ℕ) (fuel : ℕ) (given : List ℤ) → EngineState → Type 0
+abbrev pub TakesInvoke : Settings → ScriptState → (i : ℕ) (export : List ℕ) (fuel : ℕ) (given : List ℤ) → ScriptHostState → Type 0
 TakesInvoke settings m i export fuel given e2 =
-    (g : Guest) × (slice_get m.guests i ≡ Some g)
-    × (m2 : Made) × ReceivesCall true m i g export fuel given m2 × StandsForScript settings e2 m2
+    (g : NamedInstance) × (slice_get m.instances i ≡ Some g)
+    × (m2 : ScriptState) × ReceivesCall true m i g export fuel given m2 × RepresentsScript settings e2 m2
 
 -- one more call is kept, with this number
-pub record IsNoted (e e2 : Engine) (number : ℕ) (came : Reception) : Type 0 where
-  pub invoked : e2.invoked.items ≡ e.invoked.items ++ record { number = number; came = came; said = None } ∷ []
+pub record IsNoted (e e2 : ScriptHost) (number : ℕ) (outcome : InvokeOutcome) : Type 0 where
+  pub invoked : e2.invoked.items ≡ e.invoked.items ++ record { number = number; outcome = outcome; last_printed = None } ∷ []
   pub others : e2 ≡ record e { invoked = e2.invoked; asked = number }
 
 -- and a command this one
-abbrev pub ObeysCommand : Settings → Files → Made → (line : ℕ) → Command → Reply → EngineState → Type 0
+abbrev pub ObeysCommand : Settings → Files → ScriptState → (line : ℕ) → Command → Reply → ScriptHostState → Type 0
 ObeysCommand settings files m line command reply e2 =
-    (m2 : Made) × IsObeyed true settings files m line command (reply ∷ []) m2 × StandsForScript settings e2 m2
+    (m2 : ScriptState) × IsObeyed true settings files m line command (reply ∷ []) m2 × RepresentsScript settings e2 m2
 
 -- what a release gets
 abbrev pub reply_to_release : (name : List ℕ) → Result (Vec ℕ) HostError → Reply

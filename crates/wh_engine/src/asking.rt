@@ -1,36 +1,36 @@
 // What a script asks of the present call of an instance.
 
 ghost use Rattle.std.specs.Prelude.{◌≡◌, ℕ};
-ghost use Rattle.wh_host_model.specs.Lines.Answers.{Files};
-ghost use Rattle.wh_host_model.specs.Lines.Commands.{cancel, refuel, retry};
-ghost use Rattle.wh_host_model.specs.Lines.Made.{Made};
-ghost use Rattle.wh_host_model.specs.Lines.Settings.{Settings};
+ghost use Rattle.wh_script_model.specs.Answers.{Files};
+ghost use Rattle.wh_script_model.specs.Commands.{cancel, refuel, retry};
+ghost use Rattle.wh_script_model.specs.ScriptState.{ScriptState};
+ghost use Rattle.wh_script_model.specs.Settings.{Settings};
 ghost use Rattle.wh_replies.specs.View.{reply_of};
-ghost use Rattle.wh_engine.specs.Standing.{StandsForScript, engine_on};
+ghost use Rattle.wh_engine.specs.RepresentedScript.{RepresentsScript, script_host_on};
 ghost use Rattle.wh_engine.specs.Obeying.{IsNamed, ObeysCommand};
 
-use crate::engine::Engine;
+use crate::script_host::ScriptHost;
 use std::sync::ledger::Ledger;
-use wh_cell::Ties;
+use wh_cell::CellAgreements;
 use wh_host::HostError;
 use wh_replies::Reply;
 use wh_scheduler::OwnedHost;
 use wh_swap::SwapDev;
 
-impl Engine {
+impl ScriptHost {
     /// Gives the present call of an instance more fuel.
-    pub fn refuel<'a, D: SwapDev, T: Ledger, C: Ledger, O: Ledger, E: Ledger, B: Ties>(
+    pub fn refuel<'a, D: SwapDev, T: Ledger, C: Ledger, O: Ledger, E: Ledger, B: CellAgreements>(
         &self,
         host: &mut OwnedHost<D, T, C, O, E, B>,
         number: usize,
         name: &'a str,
         fuel: u64,
     ) -> Reply<'a>
-        ensures obeys { (settings : Settings) (files : Files) (line : ℕ) (m : Made)
-            → StandsForScript settings (engine_on host.old.host self.now) m
+        ensures obeys { (settings : Settings) (files : Files) (line : ℕ) (m : ScriptState)
+            → RepresentsScript settings (script_host_on host.old.host self.now) m
             → IsNamed m number name.now
             → ObeysCommand settings files m line (refuel name.now fuel) (reply_of result)
-            (engine_on host.new.host self.now) }
+            (script_host_on host.new.host self.now) }
         ensures device { host.new.device ≡ host.old.device }
     {
         let Some(at) = self.kept_at(number) else {
@@ -39,7 +39,7 @@ impl Engine {
                 fault: HostError::NoInstance.number(),
             };
         };
-        match host.refuel(self.guests[at].id, fuel) {
+        match host.refuel(self.instances[at].id, fuel) {
             Ok(()) => Reply::RefuelOk { inst: name },
             Err(error) => Reply::RefuelRefused {
                 inst: name,
@@ -49,17 +49,17 @@ impl Engine {
     }
 
     /// Ends the present call of an instance.
-    pub fn cancel<'a, D: SwapDev, T: Ledger, C: Ledger, O: Ledger, E: Ledger, B: Ties>(
+    pub fn cancel<'a, D: SwapDev, T: Ledger, C: Ledger, O: Ledger, E: Ledger, B: CellAgreements>(
         &self,
         host: &mut OwnedHost<D, T, C, O, E, B>,
         number: usize,
         name: &'a str,
     ) -> Reply<'a>
-        ensures obeys { (settings : Settings) (files : Files) (line : ℕ) (m : Made)
-            → StandsForScript settings (engine_on host.old.host self.now) m
+        ensures obeys { (settings : Settings) (files : Files) (line : ℕ) (m : ScriptState)
+            → RepresentsScript settings (script_host_on host.old.host self.now) m
             → IsNamed m number name.now
             → ObeysCommand settings files m line (cancel name.now) (reply_of result)
-            (engine_on host.new.host self.now) }
+            (script_host_on host.new.host self.now) }
         ensures device { host.new.device ≡ host.old.device }
     {
         let Some(at) = self.kept_at(number) else {
@@ -68,7 +68,7 @@ impl Engine {
                 fault: HostError::NoInstance.number(),
             };
         };
-        match host.cancel(self.guests[at].id) {
+        match host.cancel(self.instances[at].id) {
             Ok(()) => Reply::CancelOk { inst: name },
             Err(error) => Reply::CancelRefused {
                 inst: name,
@@ -77,18 +77,18 @@ impl Engine {
         }
     }
 
-    /// Lets the present call of an instance, which stands for a device fault, be tried again.
-    pub fn retry<'a, D: SwapDev, T: Ledger, C: Ledger, O: Ledger, E: Ledger, B: Ties>(
+    /// Retries the present call of an instance, which waits for a device.
+    pub fn retry<'a, D: SwapDev, T: Ledger, C: Ledger, O: Ledger, E: Ledger, B: CellAgreements>(
         &self,
         host: &mut OwnedHost<D, T, C, O, E, B>,
         number: usize,
         name: &'a str,
     ) -> Reply<'a>
-        ensures obeys { (settings : Settings) (files : Files) (line : ℕ) (m : Made)
-            → StandsForScript settings (engine_on host.old.host self.now) m
+        ensures obeys { (settings : Settings) (files : Files) (line : ℕ) (m : ScriptState)
+            → RepresentsScript settings (script_host_on host.old.host self.now) m
             → IsNamed m number name.now
             → ObeysCommand settings files m line (retry name.now) (reply_of result)
-            (engine_on host.new.host self.now) }
+            (script_host_on host.new.host self.now) }
         ensures device { host.new.device ≡ host.old.device }
     {
         let Some(at) = self.kept_at(number) else {
@@ -97,7 +97,7 @@ impl Engine {
                 fault: HostError::NoInstance.number(),
             };
         };
-        match host.retry(self.guests[at].id) {
+        match host.retry(self.instances[at].id) {
             Ok(()) => Reply::RetryOk { inst: name },
             Err(error) => Reply::RetryRefused {
                 inst: name,

@@ -3,17 +3,17 @@
 
 mod asking;
 mod ending;
-mod engine;
 mod fault;
 mod finding;
-mod guests;
+mod instances;
 mod modules;
 mod naming;
 mod parts;
+mod printing;
 mod releasing;
 mod running;
-mod saying;
+mod script_host;
 mod sharing;
 
-pub use engine::Engine;
 pub use fault::ScriptFault;
+pub use script_host::ScriptHost;

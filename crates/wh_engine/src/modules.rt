@@ -2,66 +2,67 @@
 
 ghost use Rattle.std.specs.Prelude.{◌≡◌, ◌<◌, ◌^◌, ℕ, List, Err, None, IfOk, OnErr};
 ghost use Rattle.wh_host_model.specs.Host.Happens.{LoadAnswer};
-ghost use Rattle.wh_host_model.specs.Lines.Texts.{module_refused};
-ghost use Rattle.wh_host_model.specs.Lines.Made.{Made};
-ghost use Rattle.wh_host_model.specs.Lines.Settings.{Settings};
+ghost use Rattle.wh_script_model.specs.Texts.{module_refused};
+ghost use Rattle.wh_script_model.specs.ScriptState.{ScriptState};
+ghost use Rattle.wh_script_model.specs.Settings.{Settings};
 ghost use Rattle.wh_host.specs.Loading.{IsLoadAnswer};
 ghost use Rattle.wh_replies.specs.View.{reply_of, why_of};
-ghost use Rattle.wh_script_model.specs.Replies.{SaysModule};
-ghost use Rattle.wh_names.specs.Places.{place_of_name};
-ghost use Rattle.wh_engine.specs.Standing.{StandsForScript, engine_on};
+ghost use Rattle.wh_script_laws.specs.Replies.{SaysModule};
+ghost use Rattle.wh_names.specs.NamePlaces.{place_of_name};
+ghost use Rattle.wh_engine.specs.RepresentedScript.{RepresentsScript, script_host_on};
 ghost use Rattle.wh_engine.specs.Obeying.{TakesModule};
 
-use crate::engine::Engine;
+use crate::script_host::ScriptHost;
 use std::alloc::{AllocError, Global};
 use std::sync::ledger::Ledger;
-use wh_cell::Ties;
+use wh_cell::CellAgreements;
 use wh_host::ModuleError;
 use wh_imports::LinkError;
 use wh_load::LoadError;
-use wh_replies::{Place, Refusal, Reply};
+use wh_replies::{FaultPlace, ModuleRefusal, Reply};
 use wh_scheduler::OwnedHost;
 use wh_swap::SwapDev;
 
 // Why bytes aren't kept, as replies say it.
-fn refusal_of(error: ModuleError) -> Refusal
+fn refusal_of(error: ModuleError) -> ModuleRefusal
     ensures { (name : List ℕ) (answer : LoadAnswer) → IsLoadAnswer (Err error) answer
         → SaysModule name answer (module_refused name (why_of result)) }
 {
     match error {
-        ModuleError::Bytes(LoadError::Decode(fault)) => Refusal::Broken {
+        ModuleError::Bytes(LoadError::Decode(fault)) => ModuleRefusal::Broken {
             kind: fault.kind.number(),
             offset: fault.offset,
         },
         ModuleError::Bytes(LoadError::Valid(fault)) => {
             let place = match fault.func {
-                Some(func) => Place::Instr {
+                Some(func) => FaultPlace::Instr {
                     func,
                     instr: fault.instr,
                 },
-                None => Place::Module,
+                None => FaultPlace::Module,
             };
-            Refusal::Invalid {
+            ModuleRefusal::Invalid {
                 kind: fault.kind.number(),
                 place,
             }
         }
-        ModuleError::Bytes(LoadError::Link(LinkError::NoItem(fault, at))) => Refusal::Unlinked {
-            kind: fault.number(),
-            import: at,
-        },
-        ModuleError::Bytes(LoadError::Link(LinkError::Memory)) => Refusal::NoLinkMemory,
-        ModuleError::ModulesFull => Refusal::ModulesFull,
-        ModuleError::Memory => Refusal::NoRoom,
+        ModuleError::Bytes(LoadError::Link(LinkError::NoItem(fault, at))) =>
+            ModuleRefusal::Unlinked {
+                kind: fault.number(),
+                import: at,
+            },
+        ModuleError::Bytes(LoadError::Link(LinkError::Memory)) => ModuleRefusal::NoLinkMemory,
+        ModuleError::ModulesFull => ModuleRefusal::ModulesFull,
+        ModuleError::Memory => ModuleRefusal::NoRoom,
     }
 }
 
-impl Engine {
-    /// Keeps the module that the bytes spell under a free name: what is answered.
+impl ScriptHost {
+    /// Keeps the module that `bytes` spell as `name`, which is free. Returns the reply.
     ///
     /// # Errors
     /// A growth of memory for the name was refused. Nothing was done then.
-    pub fn keep<'a, D: SwapDev, T: Ledger, C: Ledger, O: Ledger, E: Ledger, B: Ties>(
+    pub fn keep<'a, D: SwapDev, T: Ledger, C: Ledger, O: Ledger, E: Ledger, B: CellAgreements>(
         &mut self,
         host: &mut OwnedHost<D, T, C, O, E, B>,
         alloc: Global,
@@ -69,13 +70,13 @@ impl Engine {
         bytes: &[u8],
     ) -> Result<Reply<'a>, AllocError>
         requires free { place_of_name self.old.module_names name.now ≡ None }
-        ensures ok { IfOk result (λ reply. (settings : Settings) (m : Made)
-            → StandsForScript settings (engine_on host.old.host self.old) m
+        ensures ok { IfOk result (λ reply. (settings : Settings) (m : ScriptState)
+            → RepresentsScript settings (script_host_on host.old.host self.old) m
             → TakesModule settings m name.now bytes.now (reply_of reply)
-            (engine_on host.new.host self.new)) }
-        ensures err { OnErr result ((settings : Settings) (m : Made)
-            → StandsForScript settings (engine_on host.old.host self.old) m
-            → StandsForScript settings (engine_on host.new.host self.new) m) }
+            (script_host_on host.new.host self.new)) }
+        ensures err { OnErr result ((settings : Settings) (m : ScriptState)
+            → RepresentsScript settings (script_host_on host.old.host self.old) m
+            → RepresentsScript settings (script_host_on host.new.host self.new) m) }
         ensures device { host.new.device ≡ host.old.device }
     {
         self.module_names.add(alloc, name)?;

@@ -1,45 +1,45 @@
 // What the names of a script stand for.
 
 ghost use Rattle.std.specs.Prelude.{◌≡◌, MatchOption};
-ghost use Rattle.wh_host_model.specs.Lines.Made.{Made, NoGuest, NoModule};
-ghost use Rattle.wh_host_model.specs.Lines.Settings.{Settings};
+ghost use Rattle.wh_script_model.specs.ScriptState.{ScriptState, LacksInstance, NoModule};
+ghost use Rattle.wh_script_model.specs.Settings.{Settings};
 ghost use Rattle.wh_host.specs.Hosting.{HostState};
-ghost use Rattle.wh_names.specs.Places.{place_of_name};
+ghost use Rattle.wh_names.specs.NamePlaces.{place_of_name};
 ghost use Rattle.wh_engine.specs.Obeying.{IsModuleNamed, IsNamed};
-ghost use Rattle.wh_engine.specs.Standing.{StandsForScript, engine_on};
+ghost use Rattle.wh_engine.specs.RepresentedScript.{RepresentsScript, script_host_on};
 
-use crate::engine::Engine;
+use crate::script_host::ScriptHost;
 
-impl Engine {
-    /// The number of the module of this name, if there is one.
+impl ScriptHost {
+    /// Returns the number of the module `name`, if any.
     pub fn module_number(&self, name: &str) -> Option<usize>
         ensures number { result ≡ place_of_name self.now.module_names name.now }
-        ensures named { (settings : Settings) (m : Made) (h : HostState)
-            → StandsForScript settings (engine_on h self.now) m
+        ensures named { (settings : Settings) (m : ScriptState) (h : HostState)
+            → RepresentsScript settings (script_host_on h self.now) m
             → MatchOption result (NoModule m name.now) (λ k. IsModuleNamed m k name.now) }
     {
         self.module_names.place(name)
     }
 
-    /// The number of the instance of this name, if there is one, released or not.
-    pub fn guest_number(&self, name: &str) -> Option<usize>
-        ensures number { result ≡ place_of_name self.now.guest_names name.now }
-        ensures named { (settings : Settings) (m : Made) (h : HostState)
-            → StandsForScript settings (engine_on h self.now) m
-            → MatchOption result (NoGuest m name.now) (λ k. IsNamed m k name.now) }
+    /// Returns the number of the instance `name`, if any, released or not.
+    pub fn instance_number(&self, name: &str) -> Option<usize>
+        ensures number { result ≡ place_of_name self.now.instance_names name.now }
+        ensures named { (settings : Settings) (m : ScriptState) (h : HostState)
+            → RepresentsScript settings (script_host_on h self.now) m
+            → MatchOption result (LacksInstance m name.now) (λ k. IsNamed m k name.now) }
     {
-        self.guest_names.place(name)
+        self.instance_names.place(name)
     }
 
-    /// How many modules were kept.
+    /// Counts the modules kept.
     pub fn modules(&self) -> usize
         ensures { result ≡ self.now.modules }
     {
         self.modules
     }
 
-    /// How many instances were admitted.
-    pub fn guests(&self) -> usize
+    /// Counts the instances admitted.
+    pub fn instances(&self) -> usize
         ensures { result ≡ self.now.admitted }
     {
         self.admitted

@@ -1,48 +1,48 @@
 // Instances that a script lets go.
 
 ghost use Rattle.std.specs.Prelude.{◌≡◌, ◌∷◌, ℕ, [], List};
-ghost use Rattle.wh_host_model.specs.Lines.Answers.{Files};
-ghost use Rattle.wh_host_model.specs.Lines.Commands.{release};
-ghost use Rattle.wh_host_model.specs.Lines.Made.{Made};
-ghost use Rattle.wh_host_model.specs.Lines.Settings.{Settings};
-ghost use Rattle.wh_engine.specs.Standing.{StandsForScript, engine_on};
+ghost use Rattle.wh_script_model.specs.Answers.{Files};
+ghost use Rattle.wh_script_model.specs.Commands.{release};
+ghost use Rattle.wh_script_model.specs.ScriptState.{ScriptState};
+ghost use Rattle.wh_script_model.specs.Settings.{Settings};
+ghost use Rattle.wh_engine.specs.RepresentedScript.{RepresentsScript, script_host_on};
 ghost use Rattle.wh_engine.specs.Obeying.{IsNamed, ObeysCommand, reply_to_release};
 
-use crate::engine::Engine;
+use crate::script_host::ScriptHost;
 use std::alloc::Global;
 use std::sync::ledger::Ledger;
-use wh_cell::Ties;
+use wh_cell::CellAgreements;
 use wh_host::HostError;
 use wh_scheduler::OwnedHost;
 use wh_swap::SwapDev;
 
-impl Engine {
-    /// Lets the instance of a number go: its output.
+impl ScriptHost {
+    /// Releases the instance of a number. Returns its output.
     ///
     /// # Errors
     /// `NoInstance` where it was released before. Nothing is done then.
-    pub fn release<D: SwapDev, T: Ledger, C: Ledger, O: Ledger, E: Ledger, B: Ties>(
+    pub fn release<D: SwapDev, T: Ledger, C: Ledger, O: Ledger, E: Ledger, B: CellAgreements>(
         &mut self,
         host: &mut OwnedHost<D, T, C, O, E, B>,
         alloc: Global,
         number: usize,
     ) -> Result<Vec<u8>, HostError>
-        ensures obeys { (settings : Settings) (files : Files) (line : ℕ) (m : Made) (name : List ℕ)
-            → StandsForScript settings (engine_on host.old.host self.old) m
+        ensures obeys { (settings : Settings) (files : Files) (line : ℕ) (m : ScriptState) (name : List ℕ)
+            → RepresentsScript settings (script_host_on host.old.host self.old) m
             → IsNamed m number name
             → ObeysCommand settings files m line (release name) (reply_to_release name result)
-            (engine_on host.new.host self.new) }
+            (script_host_on host.new.host self.new) }
         ensures device { host.new.device ≡ host.old.device }
     {
         let Some(at) = self.kept_at(number) else {
             return Err(HostError::NoInstance);
         };
-        let id = self.guests[at].id;
+        let id = self.instances[at].id;
         let output = match host.release(alloc, id) {
             Ok(output) => output,
             Err(error) => return Err(error),
         };
-        self.guests[at].is_released = true;
+        self.instances[at].is_released = true;
         Ok(output)
     }
 }

@@ -4,19 +4,19 @@ ghost use Rattle.std.specs.Bool.{MatchBool};
 ghost use Rattle.std.specs.Prelude.{◌≡◌, ◌≢◌, ◌≤◌, [], IfErr, IfOk, OnOk};
 ghost use Rattle.wh_engine.specs.declared.fault.ScriptFault.TheVariants.{Transcript};
 ghost use Rattle.wh_engine.specs.Draining.{AllRest, DeviceMayFail, DeviceServesWell, DeviceStaysTrue, IsServedWhole, RunsEach, RunsTurns, SomeGoes, StopsOnlyOpen, StopsRun, StopsScan};
-ghost use Rattle.wh_engine.specs.Standing.{engine_on};
+ghost use Rattle.wh_engine.specs.RepresentedScript.{script_host_on};
 
-use crate::engine::Engine;
 use crate::fault::ScriptFault;
+use crate::script_host::ScriptHost;
 use std::alloc::{AllocError, Global};
 use std::sync::Wait;
 use std::sync::ledger::Ledger;
 use std::thread::Threads;
-use wh_cell::Ties;
+use wh_cell::CellAgreements;
 use wh_host::Host;
 use wh_host_model::InstId;
 use wh_kernels::PageHash;
-use wh_scheduler::{Manner, OwnedHost};
+use wh_scheduler::{OwnedHost, RunConfig};
 use wh_swap::SwapDev;
 use wh_workers::{ServeError, Served};
 
@@ -39,14 +39,14 @@ fn end_of(served: Result<Served, ServeError>) -> Result<(), ServeError>
     served?.end
 }
 
-impl Engine {
-    /// Whether a call of some instance can go on.
+impl ScriptHost {
+    /// Returns whether a call of any instance can go on.
     pub fn can_go_on(&self, host: &Host) -> bool
-        ensures { MatchBool result (SomeGoes host.now self.now.guests.items)
-            (AllRest host.now self.now.guests.items) }
+        ensures { MatchBool result (SomeGoes host.now self.now.instances.items)
+            (AllRest host.now self.now.instances.items) }
     {
-        for guest in &self.guests {
-            if host.can_go_on(guest.id) {
+        for instance in &self.instances {
+            if host.can_go_on(instance.id) {
                 return true;
             }
         }
@@ -55,13 +55,13 @@ impl Engine {
 
     // Which instances the host knows that have a call that can go on.
     fn going(&self, alloc: Global, host: &Host) -> Result<Vec<InstId>, AllocError>
-        ensures none { IfOk result (λ ids. ids.items ≡ [] → AllRest host.now self.now.guests.items) }
-        ensures some { IfOk result (λ ids. ids.items ≢ [] → SomeGoes host.now self.now.guests.items) }
+        ensures none { IfOk result (λ ids. ids.items ≡ [] → AllRest host.now self.now.instances.items) }
+        ensures some { IfOk result (λ ids. ids.items ≢ [] → SomeGoes host.now self.now.instances.items) }
     {
         let mut ids = Vec::new(alloc);
-        for guest in &self.guests {
-            if host.can_go_on(guest.id) {
-                ids.push(guest.id)?;
+        for instance in &self.instances {
+            if host.can_go_on(instance.id) {
+                ids.push(instance.id)?;
             }
         }
         Ok(ids)
@@ -80,7 +80,7 @@ impl Engine {
         C: Ledger + Send + 'static,
         O: Ledger + Send + 'static,
         E: Ledger + Send + 'static,
-        B: Ties + Send + 'static,
+        B: CellAgreements + Send + 'static,
         H: PageHash + Copy + Send + 'static,
         R: Threads + Wait + Copy + Send + 'static,
     >(
@@ -88,19 +88,19 @@ impl Engine {
         rt: R,
         alloc: Global,
         host: &mut OwnedHost<D, T, C, O, E, B>,
-        manner: Manner<H>,
+        run_config: RunConfig<H>,
     ) -> Result<(), ScriptFault>
-        requires { manner.workers ≤ 64 }
+        requires { run_config.workers ≤ 64 }
         ensures device { DeviceStaysTrue D.keeps D.honest host.old.device host.new.device }
         ensures faults { DeviceMayFail D.faults host.old.device host.new.device }
         ensures runs { OnOk result
             (DeviceServesWell D.honest D.faults host.old.device host.new.device
-            → RunsEach (engine_on host.old.host self.now) (engine_on host.new.host self.now)) }
-        ensures turns { OnOk result (RunsTurns manner.quantum host.old.books.turns host.new.books.turns) }
+            → RunsEach (script_host_on host.old.host self.now) (script_host_on host.new.host self.now)) }
+        ensures turns { OnOk result (RunsTurns run_config.quantum host.old.books.turns host.new.books.turns) }
         ensures err { IfErr result StopsRun }
-        ensures open { IfErr result (StopsOnlyOpen (engine_on host.old.host self.now)) }
+        ensures open { IfErr result (StopsOnlyOpen (script_host_on host.old.host self.now)) }
         ensures transcript { IfErr result (λ fault. fault ≡ Transcript
-            → SomeGoes host.new.host self.now.guests.items) }
+            → SomeGoes host.new.host self.now.instances.items) }
     {
         let Ok(ids) = self.going(alloc, host.host()) else {
             return Err(ScriptFault::Memory);
@@ -109,13 +109,13 @@ impl Engine {
             return Ok(());
         }
         self.epoch(host);
-        let manner = Manner {
-            hasher: manner.hasher,
-            quantum: manner.quantum,
-            workers: manner.workers.min(ids.len()).max(1),
+        let run_config = RunConfig {
+            hasher: run_config.hasher,
+            quantum: run_config.quantum,
+            workers: run_config.workers.min(ids.len()).max(1),
         };
-        let served = host.run(rt, alloc, &ids, manner);
-        host.known();
+        let served = host.run(rt, alloc, &ids, run_config);
+        host.invariant();
         if let Err(error) = end_of(served) {
             return Err(stops_by(error));
         }

@@ -4,28 +4,28 @@ ghost use Rattle.std.specs.Prelude.{◌≡◌, ◌+◌, ℕ, IfErr, OnErr, OnOk,
 ghost use Rattle.wh_cell.specs.Counted.{countable, offers_of};
 ghost use Rattle.wh_cell.specs.Scanned.{IsScanned};
 ghost use Rattle.wh_engine.specs.Draining.{StaysSo, StopsScan};
-ghost use Rattle.wh_engine.specs.Standing.{engine_on};
+ghost use Rattle.wh_engine.specs.RepresentedScript.{script_host_on};
 
-use crate::engine::Engine;
 use crate::fault::ScriptFault;
 use crate::running::stops_by;
+use crate::script_host::ScriptHost;
 use std::alloc::Global;
 use std::sync::Wait;
 use std::sync::ledger::Ledger;
 use std::thread::Threads;
-use wh_cell::Ties;
+use wh_cell::CellAgreements;
 use wh_kernels::PageHash;
 use wh_scheduler::OwnedHost;
 use wh_swap::SwapDev;
 
-impl Engine {
+impl ScriptHost {
     /// Begins a new epoch, in which no page was touched yet.
-    pub fn epoch<D: SwapDev, T: Ledger, C: Ledger, O: Ledger, E: Ledger, B: Ties>(
+    pub fn epoch<D: SwapDev, T: Ledger, C: Ledger, O: Ledger, E: Ledger, B: CellAgreements>(
         &self,
         host: &mut OwnedHost<D, T, C, O, E, B>,
     )
-        ensures stands { StaysSo (engine_on host.old.host self.now)
-            (engine_on host.new.host self.now) }
+        ensures stands { StaysSo (script_host_on host.old.host self.now)
+            (script_host_on host.new.host self.now) }
         ensures device { host.new.device ≡ host.old.device }
         ensures books { host.new.books ≡ host.old.books }
     {
@@ -45,7 +45,7 @@ impl Engine {
         C: Ledger + Send + 'static,
         O: Ledger + Send + 'static,
         E: Ledger + Send + 'static,
-        B: Ties + Send + 'static,
+        B: CellAgreements + Send + 'static,
         H: PageHash + Drop + Send + 'static,
         R: Threads + Wait,
     >(
@@ -55,8 +55,8 @@ impl Engine {
         host: &mut OwnedHost<D, T, C, O, E, B>,
         hasher: H,
     ) -> Result<(), ScriptFault>
-        ensures stands { StaysSo (engine_on host.old.host self.now)
-            (engine_on host.new.host self.now) }
+        ensures stands { StaysSo (script_host_on host.old.host self.now)
+            (script_host_on host.new.host self.now) }
         ensures device { host.new.device ≡ host.old.device }
         ensures scans { OnOk result ((offered : Option ℕ)
             × IsScanned (H.hashes hasher) host.old.host offered host.new.host

@@ -1,11 +1,11 @@
 -- What a refusal by `parse` says of a line.
 use Rattle.std.specs.Prelude.{◌≡◌, ℕ, List, Err}
 use Rattle.std.proofs.Common.{subst}
-use Rattle.wh_host_model.specs.Lines.Commands.{Command, AsksCommand}
-use Rattle.wh_commands.specs.Found.{FindsAsked}
+use Rattle.wh_script_model.specs.Commands.{Command, AsksCommand}
+use Rattle.wh_commands.specs.ParsedCommands.{FindsAsked}
 use Rattle.wh_commands.specs.declared.error.LineError.{LineError}
 use Rattle.wh_commands.specs.declared.error.LineError.TheVariants.{Syntax}
-use Rattle.wh_explain.specs.Answers.{AsksNone}
+use Rattle.wh_explain.specs.Verdicts.{AsksNone}
 
 pub asks_none : (line : List ℕ) (e : LineError) → e ≡ Syntax
     → ((asked : Command) → AsksCommand line asked → FindsAsked (Err e) asked) → AsksNone line

@@ -1,2 +1,2 @@
-pub mod Answers
-pub mod Modules
+pub mod Verdicts
+pub mod ModuleVerdicts

@@ -3,7 +3,7 @@
 use crate::extents::{Imports, count_of, section_at};
 use crate::limit::Limit;
 use crate::names::{float_name, later_instruction, later_section};
-use crate::place::Place;
+use crate::place::FaultLocation;
 use crate::section::Section;
 use std::alloc::{AllocError, Global};
 use std::fmt;
@@ -168,7 +168,7 @@ fn left_out(bytes: &[u8], offset: usize) -> LeftOut {
 }
 
 /// Tells which byte a fault is about.
-fn about_byte(bytes: &[u8], fault: DecodeError, place: Place) -> Detail {
+fn about_byte(bytes: &[u8], fault: DecodeError, place: FaultLocation) -> Detail {
     let Some(byte) = bytes.get(fault.offset).copied() else {
         return Detail::None;
     };
@@ -179,14 +179,14 @@ fn about_byte(bytes: &[u8], fault: DecodeError, place: Place) -> Detail {
     if is_section_id {
         return Detail::Byte(byte, later_section(byte));
     }
-    if place.section == Some(Section::Code) {
+    if place.section == Some(Section::FaultCode) {
         return Detail::Byte(byte, later_instruction(byte));
     }
     Detail::Byte(byte, None)
 }
 
 /// Tells what a fault of the decoder is about.
-fn about_format(bytes: &[u8], fault: DecodeError, place: Place) -> Detail {
+fn about_format(bytes: &[u8], fault: DecodeError, place: FaultLocation) -> Detail {
     match fault.kind {
         FaultKind::Limit => {
             Limit::of_fault(bytes, fault, place).map_or(Detail::None, Detail::Limit)
@@ -198,7 +198,7 @@ fn about_format(bytes: &[u8], fault: DecodeError, place: Place) -> Detail {
         FaultKind::Unsupported => Detail::LeftOut(left_out(bytes, fault.offset)),
         FaultKind::CountMismatch => Detail::Counts(
             count_of(bytes, Section::Function).unwrap_or(0),
-            count_of(bytes, Section::Code).unwrap_or(0),
+            count_of(bytes, Section::FaultCode).unwrap_or(0),
         ),
         FaultKind::Magic | FaultKind::Version | FaultKind::UnknownByte => {
             about_byte(bytes, fault, place)
@@ -215,7 +215,7 @@ pub fn detail_of(
     alloc: Global,
     bytes: &[u8],
     error: LoadError,
-    place: Place,
+    place: FaultLocation,
 ) -> Result<Detail, AllocError> {
     match error {
         LoadError::Decode(fault) => Ok(about_format(bytes, fault, place)),

@@ -1,7 +1,7 @@
 //! Verdicts as JSON, one object each.
 
 use crate::limit::Limit;
-use crate::module::{Code, ModuleVerdict, Name, Refusal};
+use crate::module::{FaultCode, ModuleVerdict, Name, Refusal};
 use crate::script::{LineFinding, ScriptVerdict};
 use crate::settings::{SettingFinding, SettingsVerdict};
 use serde::Serialize;
@@ -81,7 +81,7 @@ struct ScriptObject<'a> {
     findings: Vec<LineObject>,
 }
 
-/// An object as text. Of these objects none fails to be written, but for want of memory.
+/// An object as text. Of these objects none fails to be written, but out of memory.
 fn text_of<T: Serialize>(alloc: Global, object: &T) -> Result<String, AllocError> {
     serde_json::to_string(alloc, object).map_err(|_| AllocError)
 }
@@ -110,7 +110,7 @@ fn limit_object(limit: Limit) -> LimitObject {
 /// Why a module is refused, as an object.
 fn refusal_object(alloc: Global, refusal: &Refusal) -> Result<RefusalObject<'_>, AllocError> {
     Ok(RefusalObject {
-        fault: format!(in alloc; "{}", Code(refusal.error))?,
+        fault: format!(in alloc; "{}", FaultCode(refusal.error))?,
         name: format!(in alloc; "{}", Name(refusal.error))?,
         place: place_object(refusal),
         limit: refusal.limit().map(limit_object),

@@ -26,8 +26,8 @@ pub use detail::{Asked, Detail, LeftOut};
 pub use extents::MOST_MODULE_BYTES;
 pub use json::{module_json, script_json, settings_json};
 pub use limit::Limit;
-pub use module::{Code, ModuleVerdict, Name, Refusal, explain_module};
-pub use place::Place;
+pub use module::{FaultCode, ModuleVerdict, Name, Refusal, explain_module};
+pub use place::FaultLocation;
 pub use script::{LineCause, LineFinding, ScriptVerdict, explain_line, explain_script};
 pub use section::Section;
 pub use settings::{

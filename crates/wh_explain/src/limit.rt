@@ -1,7 +1,7 @@
 //! The limits of this host on modules.
 
 use crate::extents::{MOST_MODULE_BYTES, section_at};
-use crate::place::Place;
+use crate::place::FaultLocation;
 use crate::section::Section;
 use std::fmt;
 use wh_model::{DecodeError, FaultKind, MOST_HEIGHT, MOST_LOCALS, MOST_WASM_PAGES};
@@ -104,7 +104,7 @@ impl Limit {
     }
 
     /// Finds the limit that the decoder found passed at a place; none where the bytes pass none there.
-    pub fn of_fault(bytes: &[u8], fault: DecodeError, place: Place) -> Option<Limit> {
+    pub fn of_fault(bytes: &[u8], fault: DecodeError, place: FaultLocation) -> Option<Limit> {
         if fault.kind != FaultKind::Limit {
             return None;
         }
@@ -117,8 +117,8 @@ impl Limit {
         }
         match place.section? {
             Section::Type => Some(Limit::Parameters),
-            Section::Code if place.instruction.is_none() => Some(Limit::Locals),
-            Section::Code if place.instruction == Some(MOST_INSTRUCTIONS) => {
+            Section::FaultCode if place.instruction.is_none() => Some(Limit::Locals),
+            Section::FaultCode if place.instruction == Some(MOST_INSTRUCTIONS) => {
                 Some(Limit::Instructions)
             }
             _ => Some(of_expression(*bytes.get(fault.offset)?)),

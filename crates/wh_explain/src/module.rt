@@ -5,13 +5,13 @@ ghost use Rattle.std.specs.Bool.{MatchBool};
 ghost use Rattle.wh_model.specs.Format.Syntax as model;
 ghost use Rattle.wh_model.specs.Linking.Accepting.{IsAccepted};
 ghost use Rattle.wh_load.specs.Refusing.{RefusesBytes};
-ghost use Rattle.wh_explain.specs.Modules.{IsWantOfMemory, IsFaultOf};
+ghost use Rattle.wh_explain.specs.ModuleVerdicts.{IsWantOfMemory, IsFaultOf};
 
 use crate::advice::advice_of;
 use crate::detail::{Detail, detail_of};
 use crate::function_names::function_name;
 use crate::limit::Limit;
-use crate::place::Place;
+use crate::place::FaultLocation;
 use crate::section::Section;
 use std::alloc::{AllocError, Global};
 use std::fmt;
@@ -25,7 +25,7 @@ pub struct Refusal {
     /// What the host answers.
     pub error: LoadError,
     /// Where that lies.
-    pub place: Place,
+    pub place: FaultLocation,
     /// The name of the function in which it lies, where the bytes have one.
     pub function_name: Option<String>,
     /// What it is about, beyond its kind.
@@ -41,9 +41,9 @@ pub struct ModuleVerdict {
 
 /// The letter and the number by which replies name a fault, as `D9`.
 #[derive(Clone, Copy)]
-pub struct Code(pub LoadError);
+pub struct FaultCode(pub LoadError);
 
-impl fmt::Display for Code {
+impl fmt::Display for FaultCode {
     fn fmt<W: fmt::Write>(&self, f: &mut fmt::Formatter<W>) -> fmt::Result {
         match self.0 {
             LoadError::Decode(fault) => write!(f, "D{}", fault.kind.number()),
@@ -93,29 +93,33 @@ fn is_want_of_memory(error: LoadError) -> bool
 }
 
 /// Finds where a fault of the validator lies that lies in no function.
-fn section_of(kind: ValidKind) -> Place {
+fn section_of(kind: ValidKind) -> FaultLocation {
     match kind {
-        ValidKind::DuplicateExport => Place::of_section(Section::Export),
-        ValidKind::Start => Place::of_section(Section::Start),
-        _ => Place::default(),
+        ValidKind::DuplicateExport => FaultLocation::of_section(Section::Export),
+        ValidKind::Start => FaultLocation::of_section(Section::Start),
+        _ => FaultLocation::default(),
     }
 }
 
 /// Finds where in the bytes a fault lies.
-fn place_of(bytes: &[u8], error: LoadError) -> Place {
+fn place_of(bytes: &[u8], error: LoadError) -> FaultLocation {
     match error {
-        LoadError::Decode(fault) => Place::of_fault(bytes, fault),
+        LoadError::Decode(fault) => FaultLocation::of_fault(bytes, fault),
         LoadError::Valid(error) => match error.func {
-            Some(function) => Place::of_instruction(bytes, function, error.instr),
+            Some(function) => FaultLocation::of_instruction(bytes, function, error.instr),
             None => section_of(error.kind),
         },
-        LoadError::Link(LinkError::NoItem(_, index)) => Place::of_import(bytes, index),
-        LoadError::Link(LinkError::Memory) => Place::default(),
+        LoadError::Link(LinkError::NoItem(_, index)) => FaultLocation::of_import(bytes, index),
+        LoadError::Link(LinkError::Memory) => FaultLocation::default(),
     }
 }
 
 /// Finds the name of the function of a place.
-fn name_of(alloc: Global, bytes: &[u8], place: Place) -> Result<Option<String>, AllocError> {
+fn name_of(
+    alloc: Global,
+    bytes: &[u8],
+    place: FaultLocation,
+) -> Result<Option<String>, AllocError> {
     let Some(function) = place.function else {
         return Ok(None);
     };

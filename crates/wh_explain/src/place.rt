@@ -10,7 +10,7 @@ use wh_model::{DecodeError, FaultKind};
 
 /// Where in a module's bytes a fault lies, as far as that can be said.
 #[derive(Clone, Copy, Debug, Default, PartialEq, Eq)]
-pub struct Place {
+pub struct FaultLocation {
     /// The section.
     pub section: Option<Section>,
     /// The function in whose entry of the code section it lies. Imported functions count first.
@@ -62,11 +62,11 @@ fn name_at(bytes: &[u8], offset: usize) -> Option<&'static str> {
     instruction_name(*bytes.get(offset)?)
 }
 
-impl Place {
+impl FaultLocation {
     /// Is the place of an instruction of a function.
-    fn of_step(bytes: &[u8], function: u32, step: Step, offset: usize) -> Place {
-        Place {
-            section: Some(Section::Code),
+    fn of_step(bytes: &[u8], function: u32, step: Step, offset: usize) -> FaultLocation {
+        FaultLocation {
+            section: Some(Section::FaultCode),
             function: Some(function),
             instruction: Some(step.number),
             opcode: name_at(bytes, step.offset),
@@ -75,9 +75,9 @@ impl Place {
     }
 
     /// Is a place in the entry of a function, but in none of its instructions.
-    fn of_entry(function: u32, offset: usize) -> Place {
-        Place {
-            section: Some(Section::Code),
+    fn of_entry(function: u32, offset: usize) -> FaultLocation {
+        FaultLocation {
+            section: Some(Section::FaultCode),
             function: Some(function),
             instruction: None,
             opcode: None,
@@ -86,22 +86,22 @@ impl Place {
     }
 
     /// Finds where a fault of the decoder lies, by its offset.
-    pub fn of_fault(bytes: &[u8], fault: DecodeError) -> Place {
+    pub fn of_fault(bytes: &[u8], fault: DecodeError) -> FaultLocation {
         let Some((id, extent)) = section_at(bytes, fault) else {
-            return Place::of_offset(None, fault.offset);
+            return FaultLocation::of_offset(None, fault.offset);
         };
         let section = Section::of_id(id);
-        if section == Some(Section::Code)
+        if section == Some(Section::FaultCode)
             && let Some(place) = place_in_code(bytes, extent, fault)
         {
             return place;
         }
-        Place::of_offset(section, fault.offset)
+        FaultLocation::of_offset(section, fault.offset)
     }
 
     /// Is a place in a section, and in no function.
-    pub fn of_offset(section: Option<Section>, offset: usize) -> Place {
-        Place {
+    pub fn of_offset(section: Option<Section>, offset: usize) -> FaultLocation {
+        FaultLocation {
             section,
             function: None,
             instruction: None,
@@ -111,8 +111,8 @@ impl Place {
     }
 
     /// Is a section as a whole.
-    pub fn of_section(section: Section) -> Place {
-        Place {
+    pub fn of_section(section: Section) -> FaultLocation {
+        FaultLocation {
             section: Some(section),
             function: None,
             instruction: None,
@@ -122,11 +122,11 @@ impl Place {
     }
 
     /// Finds where an instruction of a function stands.
-    pub fn of_instruction(bytes: &[u8], function: u32, instruction: u32) -> Place {
+    pub fn of_instruction(bytes: &[u8], function: u32, instruction: u32) -> FaultLocation {
         match step_numbered(bytes, function, instruction) {
-            Some(step) => Place::of_step(bytes, function, step, step.offset),
-            None => Place {
-                section: Some(Section::Code),
+            Some(step) => FaultLocation::of_step(bytes, function, step, step.offset),
+            None => FaultLocation {
+                section: Some(Section::FaultCode),
                 function: Some(function),
                 instruction: Some(instruction),
                 opcode: None,
@@ -136,22 +136,22 @@ impl Place {
     }
 
     /// Finds where an import stands, by its place among them.
-    pub fn of_import(bytes: &[u8], index: usize) -> Place {
+    pub fn of_import(bytes: &[u8], index: usize) -> FaultLocation {
         let mut imports = Imports::of(bytes);
         for _ in 0..index {
             if imports.next().is_none() {
-                return Place::of_section(Section::Import);
+                return FaultLocation::of_section(Section::Import);
             }
         }
         match imports.next() {
-            Some(entry) => Place::of_offset(Some(Section::Import), entry.head),
-            None => Place::of_section(Section::Import),
+            Some(entry) => FaultLocation::of_offset(Some(Section::Import), entry.head),
+            None => FaultLocation::of_section(Section::Import),
         }
     }
 }
 
 /// Finds the function and the instruction in which a fault of the code section lies; none where it lies in no function.
-fn place_in_code(bytes: &[u8], code: Extent, fault: DecodeError) -> Option<Place> {
+fn place_in_code(bytes: &[u8], code: Extent, fault: DecodeError) -> Option<FaultLocation> {
     let imported = imported_functions(bytes);
     let mut reader = Reader::at(up_to(bytes, code.end), code.start);
     for at in 0..reader.number()? {
@@ -170,18 +170,28 @@ fn place_in_code(bytes: &[u8], code: Extent, fault: DecodeError) -> Option<Place
 }
 
 /// Finds the instruction in which a fault of a body lies; none where it lies at the body's end, and the body is whole.
-fn place_in_body(bytes: &[u8], body: Extent, function: u32, fault: DecodeError) -> Option<Place> {
+fn place_in_body(
+    bytes: &[u8],
+    body: Extent,
+    function: u32,
+    fault: DecodeError,
+) -> Option<FaultLocation> {
     let window = up_to(bytes, body.end);
     match part_at(window, body.start, fault.offset) {
-        Part::Instruction(step) => Some(Place::of_step(window, function, step, fault.offset)),
+        Part::Instruction(step) => Some(FaultLocation::of_step(
+            window,
+            function,
+            step,
+            fault.offset,
+        )),
         Part::Behind if fault.offset == body.end && fault.kind == FaultKind::SectionSize => None,
-        _ => Some(Place::of_entry(function, fault.offset)),
+        _ => Some(FaultLocation::of_entry(function, fault.offset)),
     }
 }
 
 /// Finds an instruction by its number in a function.
 fn step_numbered(bytes: &[u8], function: u32, instruction: u32) -> Option<Step> {
-    let code = section_extent(bytes, Section::Code)?;
+    let code = section_extent(bytes, Section::FaultCode)?;
     let at = function.checked_sub(imported_functions(bytes))?;
     let mut reader = Reader::at(up_to(bytes, code.end), code.start);
     reader.number()?;
@@ -197,7 +207,7 @@ fn step_numbered(bytes: &[u8], function: u32, instruction: u32) -> Option<Step> 
     walk.next()
 }
 
-impl fmt::Display for Place {
+impl fmt::Display for FaultLocation {
     fn fmt<W: fmt::Write>(&self, f: &mut fmt::Formatter<W>) -> fmt::Result {
         match (self.section, self.offset) {
             (Some(section), _) => write!(f, "the {section} section")?,

@@ -1,8 +1,8 @@
 //! Which lines of a script are no commands, and why.
 
 ghost use Rattle.std.specs.Prelude.{◌≡◌, ◌↔◌, [], IsTrue, IfOk, MatchOption};
-ghost use Rattle.wh_host_model.specs.Script.{is_skipped};
-ghost use Rattle.wh_explain.specs.Answers.{IsSkippedOrAsked, IsNoCommand, SaysOfLine};
+ghost use Rattle.wh_script_model.specs.Lines.{is_skipped};
+ghost use Rattle.wh_explain.specs.Verdicts.{IsSkippedOrAsked, IsNoCommand, SaysOfLine};
 
 use crate::answer::Answer;
 use crate::shapes::{Param, Shape, WordFault, shape_of, word_fault};
@@ -75,7 +75,7 @@ fn is_skipped(line: &[u8]) -> bool
     }
 }
 
-/// What the host says of a line that isn't too long. There is no other error than `Syntax` but want of memory.
+/// What the host says of a line that isn't too long. There is no other error than `Syntax` but out of memory.
 fn command_answer(alloc: Global, line: &[u8]) -> Answer
     ensures { SaysOfLine line.now result }
 {

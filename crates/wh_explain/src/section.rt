@@ -26,7 +26,7 @@ pub enum Section {
     /// The element segments.
     Element,
     /// What the functions do.
-    Code,
+    FaultCode,
     /// The data segments.
     Data,
 }
@@ -42,7 +42,7 @@ const BY_ID: [Section; 12] = [
     Section::Export,
     Section::Start,
     Section::Element,
-    Section::Code,
+    Section::FaultCode,
     Section::Data,
 ];
 
@@ -65,7 +65,7 @@ impl Section {
             Section::Export => "export",
             Section::Start => "start",
             Section::Element => "element",
-            Section::Code => "code",
+            Section::FaultCode => "code",
             Section::Data => "data",
         }
     }

@@ -1,7 +1,7 @@
 //! Whether settings are accepted, and why they aren't.
 
 ghost use Rattle.std.specs.Prelude.{◌≡◌, ◌≤◌, length, IfOk, true, false};
-ghost use Rattle.wh_explain.specs.Answers.{SpellsSome, SpellsNone, SaysOfSettings};
+ghost use Rattle.wh_explain.specs.Verdicts.{SpellsSome, SpellsNone, SaysOfSettings};
 
 use crate::answer::Answer;
 use std::alloc::{AllocError, Global};

@@ -1,6 +1,6 @@
 //! Verdicts in sentences.
 
-use crate::module::{Code, ModuleVerdict, Name};
+use crate::module::{FaultCode, ModuleVerdict, Name};
 use crate::script::ScriptVerdict;
 use crate::settings::SettingsVerdict;
 use std::io;
@@ -24,7 +24,12 @@ pub fn write_module<W: Write>(
         return write_accepted(file, output);
     };
     let error = refusal.error;
-    writeln!(output, "{file}: refused, {} {}", Code(error), Name(error))?;
+    writeln!(
+        output,
+        "{file}: refused, {} {}",
+        FaultCode(error),
+        Name(error)
+    )?;
     writeln!(output, "What is wrong: {refusal}")?;
     writeln!(output, "Where: {}", refusal.place)?;
     if let Some(name) = &refusal.function_name {

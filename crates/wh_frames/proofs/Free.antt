@@ -7,7 +7,7 @@ use Rattle.wh_host_model.specs.Pages.{zero_page}
 use Rattle.wh_host_model.proofs.Tally.{tally-append, one_same, one_other, length-le_from_once}
 use Rattle.wh_frames.specs.Parts.{falling, pool_of, GivenBack}
 use Rattle.std.specs.Vec.{with_item}
-use Rattle.wh_frames.specs.Lending.{with_bytes}
+use Rattle.wh_frames.specs.LentFrames.{with_bytes}
 use Rattle.wh_frames.specs.declared.pool.FramePool.TheInside.{Inside}
 
 pub length-falling : (first count : ℕ) → length (falling first count) ≡ count

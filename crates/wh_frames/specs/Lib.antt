@@ -1,3 +1,3 @@
-pub mod Lending
-pub mod Numbering
+pub mod LentFrames
+pub mod FrameFaults
 pub mod Parts

@@ -2,7 +2,7 @@
 #![tactic(auto)]
 
 ghost use Rattle.std.specs.Prelude.{◌≡◌};
-ghost use Rattle.wh_frames.specs.Numbering.{frame_number};
+ghost use Rattle.wh_frames.specs.FrameFaults.{frame_number};
 
 use thiserror::Error;
 

@@ -2,7 +2,7 @@
 
 ghost use Rattle.std.specs.Prelude.{◌≡◌, ◌≢◌, ◌↔◌, ℕ, ◌+◌, ◌<◌, ◌≤◌, ◌++◌, [], ◌∷◌, length, replicate, get_or, slice_get, slice_set, Some, Err, OnErr, IfOk, IfErr, vec_len, vec_capacity};
 ghost use Rattle.std.specs.Borrow.{sem};
-ghost use Rattle.wh_frames.specs.Lending.{LendsFrame};
+ghost use Rattle.wh_frames.specs.LentFrames.{LendsFrame};
 ghost use Rattle.wh_host_model.specs.Frames.{IsTaken, HasDistinctFree, TakesFrame, tally, one_if};
 ghost use Rattle.wh_host_model.specs.Pages.{zero_page};
 

@@ -6,12 +6,12 @@ use Rattle.wh_host_model.specs.Space.Parts.{Space}
 use Rattle.wh_host_model.specs.Host.Worlds.{Rest, Tenant, World, with_tenant}
 use Rattle.wh_host_model.specs.Owners.{Entry, Params, AdmitFault, instances, most_instances}
 use Rattle.wh_host_model.specs.Host.Admission.{live_count, LetsIn, MeetsFault, rest_of}
-use Rattle.wh_host_model.specs.Host.Answers.{Closes, faces_next, is_dead}
-use Rattle.wh_host_model.specs.Host.Calls.{Cancels, ends, Refuels, has_more, Retries, may_try}
+use Rattle.wh_host_model.specs.Host.CallAnswers.{Closes, faces_next, is_dead}
+use Rattle.wh_host_model.specs.Host.OwnerCalls.{Cancels, ends, Refuels, has_more, Retries, may_try}
 use Rattle.wh_host_model.specs.Host.Events.{Event, load, admit, invoke, refuel, cancel, retry, release}
 use Rattle.wh_host_model.specs.Host.Happens.{Happens, IsLive, LoadAnswer, InvokeAnswer, CallAnswer, IsLoad, IsAdmit, IsInvoke, IsRefuel, IsCancel, IsRetry, IsRelease, is_loaded, isnt_loaded, no_memory_to_load, is_admitted, admit_ok, is_invoked, has_no_instance, isnt_invoked, no_memory_to_invoke, is_refueled, no_one_to_refuel, no_call_to_refuel, is_cancelled, no_one_to_cancel, no_call_to_cancel, is_retried, no_one_to_retry, no_fault_to_retry, is_released, no_one_to_release}
 use Rattle.wh_host.specs.Hosting.{HostState, IsHost}
-use Rattle.wh_host.specs.Showing.{StandsByEvents}
+use Rattle.wh_host.specs.Showing.{RepresentsReached}
 use Rattle.wh_host.proofs.Hosts.{as_many, one_fewer, one_more, reached_on}
 use Rattle.wh_admit.specs.declared.error.AdmitError.{AdmitError}
 use Rattle.wh_host.specs.declared.error.HostError.{HostError}
@@ -19,14 +19,14 @@ use Rattle.wh_host.specs.declared.error.HostError.TheVariants.{NoInstance, Invok
 use Rattle.wh_host.specs.declared.error.ModuleError.{ModuleError}
 use Rattle.wh_host.specs.declared.parts.ModuleId.{ModuleId}
 use Rattle.wh_host.specs.Admitting.{AnswersAdmit}
-use Rattle.wh_host.specs.Asking.{AnswersCall, AnswersInvoke}
+use Rattle.wh_host.specs.CallRequests.{AnswersCall, AnswersInvoke}
 use Rattle.wh_host.specs.Backing.{KeepsBacking}
 use Rattle.wh_host.specs.Loading.{AnswersLoad}
 use Rattle.wh_host.specs.Paging.{IsGoing, Tells}
 use Rattle.wh_host.specs.Releasing.{AnswersRelease}
-use Rattle.wh_hand.specs.InHand.{IsInOneHand}
+use Rattle.wh_hand.specs.HandStates.{IsInOneHand}
 use Rattle.wh_hand.specs.Lining.{IsToSettle, Lists}
-use Rattle.wh_hand.specs.Releasing.{AnswersReleaseHere}
+use Rattle.wh_hand.specs.ReleasedOutputs.{AnswersReleaseHere}
 use Rattle.wh_hand.proofs.Goers.{Leads, SameAll, SameOthers, goes_in, keeps_all, keeps_others, lists_on, others_come, others_of_all, others_set, same_all, to_settle, told_here}
 use Rattle.wh_hand.proofs.Together.{together_on}
 
@@ -135,7 +135,7 @@ comer w k p id w2 lets = record {
   doing = lets.doing;
   ended = lets.ended;
   open_calls = lets.open_calls;
-  stands_for = None;
+  waiting_for = None;
   dead = false;
 }
 
@@ -154,7 +154,7 @@ admitted_comes w w2 k p id (is_admitted lets) = record {
 -- ---- what the code stands for
 
 led_on : (h h2 : HostState) (R : World → World → Type 0) (e : Event) → ((w w2 : World) → R w w2 → Happens w e w2)
-    → Leads h R h2 → StandsByEvents h → StandsByEvents h2
+    → Leads h R h2 → RepresentsReached h → RepresentsReached h2
 led_on h h2 R e happens leads led =
     let x = leads led.0 led.1 in (x.0, x.2, reached_on led.0 x.0 e led.2 (happens led.0 x.0 x.1))
 
@@ -184,7 +184,7 @@ pub release_leads : (h h2 : HostState) (id : InstId) (result : Result (Vec ℕ) 
 release_leads h h2 id result answers w st = let x = answers w st in (x.1, released_asked w x.1 id x.0 x.3, x.4)
 
 -- so the line is right of all but the one that was asked
-pub asked_settles : (h h2 : HostState) (e : Event) (id : InstId) (line : List InstId) (stands : Bool) → StandsByEvents h → Lists h line
+pub asked_settles : (h h2 : HostState) (e : Event) (id : InstId) (line : List InstId) (stands : Bool) → RepresentsReached h → Lists h line
     → Tells h stands (λ w. IsGoing w id) → Leads h (Asked e id) h2 → IsToSettle h2 line id stands
 asked_settles h h2 e id line stands led lists tells leads =
     let some : (w : World) × IsHost h w = (led.0, led.1) in
@@ -192,7 +192,7 @@ asked_settles h h2 e id line stands led lists tells leads =
     (keeps_others h h2 id some (λ w st. (let x = leads w st in (x.0, x.1.others, x.2))))
 
 -- no more are there
-pub asked_few : (h h2 : HostState) (e : Event) (id : InstId) → StandsByEvents h → h.live ≤ most_instances → Leads h (Asked e id) h2 → h2.live ≤ most_instances
+pub asked_few : (h h2 : HostState) (e : Event) (id : InstId) → RepresentsReached h → h.live ≤ most_instances → Leads h (Asked e id) h2 → h2.live ≤ most_instances
 asked_few h h2 e id led few leads =
     let x = leads led.0 led.1 in
     let was = led.1.live in
@@ -219,7 +219,7 @@ admit_leads h h2 k p id result ok answers w st =
     let x = subst (λ r. AnswersAdmit h k p r h2) ok answers w st in
     (x.1, admitted_comes w x.1 k p id (subst (λ a. IsAdmit w k p a x.1) x.2 x.3), x.4)
 
-pub comer_settles : (h h2 : HostState) (k : ℕ) (p : Params) (id : InstId) (line : List InstId) → StandsByEvents h → Lists h line
+pub comer_settles : (h h2 : HostState) (k : ℕ) (p : Params) (id : InstId) (line : List InstId) → RepresentsReached h → Lists h line
     → Leads h (Comes k p id) h2 → IsToSettle h2 line id false
 comer_settles h h2 k p id line led lists leads =
     let some : (w : World) × IsHost h w = (led.0, led.1) in
@@ -227,7 +227,7 @@ comer_settles h h2 k p id line led lists leads =
     to_settle h h2 line id false (λ stands. (let g = goes_in h led.0 id led.1 (lists.goes id stands) in x.1.new g.0 g.1)) lists
     (keeps_others h h2 id some (λ w st. (let y = leads w st in (y.0, y.1.others, y.2))))
 
-pub comer_few : (h h2 : HostState) (k : ℕ) (p : Params) (id : InstId) → StandsByEvents h → Leads h (Comes k p id) h2 → h2.live ≤ most_instances
+pub comer_few : (h h2 : HostState) (k : ℕ) (p : Params) (id : InstId) → RepresentsReached h → Leads h (Comes k p id) h2 → h2.live ≤ most_instances
 comer_few h h2 k p id led leads =
     let x = leads led.0 led.1 in
     let is = x.2.live in

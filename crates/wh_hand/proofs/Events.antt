@@ -9,12 +9,12 @@ use Rattle.wh_host_model.specs.Host.Worlds.{World, empty_world}
 use Rattle.wh_host_model.specs.Host.Events.{Event, turn, provide}
 use Rattle.wh_host_model.specs.Host.Happens.{AllHappen, AwaitsFrame, Happens, IsTurn, MovesPages, OnlyMoves, moved, has_failed}
 use Rattle.wh_host.specs.Hosting.{HostState, IsHost, IsReached}
-use Rattle.wh_host.specs.Carried.{IsPresentCall}
+use Rattle.wh_host.specs.TicketsOut.{IsPresentCall}
 use Rattle.wh_host.specs.Paging.{MovesOnly, MovesWith}
 use Rattle.wh_host.specs.Telling.{TellsChargesOf}
-use Rattle.wh_hand.specs.Charging.{charges_of_all}
+use Rattle.wh_hand.specs.ChargesTaken.{charges_of_all}
 use Rattle.wh_hand.specs.Running.{AllGetOn, EventGetsOn, IsOwn, RunsByEvents, place_of_tenant, turn_count}
-use Rattle.wh_hand.specs.Runs.{RunsPart, charges_taken}
+use Rattle.wh_hand.specs.RunParts.{RunsPart, charges_taken}
 use Rattle.wh_hand.specs.Lining.{MayGoOn, IsReadyFor}
 use Rattle.wh_hand.proofs.Sums.{live_by_places}
 use Rattle.wh_hand.proofs.Getting.{turned_gets_on}

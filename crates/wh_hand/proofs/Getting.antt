@@ -15,11 +15,11 @@ use Rattle.wh_host_model.specs.Space.Ready.{Ready}
 use Rattle.wh_host_model.specs.Host.Worlds.{Rest, Doing, Suspension, for_frame, for_device, Tenant, World, store_in}
 use Rattle.wh_host_model.specs.Owners.{Entry}
 use Rattle.wh_host_model.specs.Host.Turns.{Upshot, to_go_on, Proceeds, returns, traps, writes_all, uses_fuel, waits, waits_to_write, has_had_its_turn}
-use Rattle.wh_host_model.specs.Host.Answers.{at_frame, ended_by, gone_further, Closes, faces_next, is_dead, Turn, is_idle, has_ended, has_no_fuel, has_no_frame, can_go_on, keeps_its_fault}
+use Rattle.wh_host_model.specs.Host.CallAnswers.{at_frame, ended_by, gone_further, Closes, faces_next, is_dead, Turn, is_idle, has_ended, has_no_fuel, has_no_frame, can_go_on, keeps_its_fault}
 use Rattle.wh_host_model.specs.Host.Events.{turn}
 use Rattle.wh_host_model.specs.Host.Happens.{AwaitsFrame, IsLive, IsTurn, of_none, of_one}
-use Rattle.wh_host_model.specs.Host.Standing.{CanGoOn, FirstStandsDuly, NextAsks, a_piece, a_step, StandsRightly}
-use Rattle.wh_host_model.specs.Host.Taking.{IsStepReady, charge_is_ready, piece_is_ready}
+use Rattle.wh_host_model.specs.Host.Suspensions.{CanGoOn, FirstWaitsDuly, NextAsks, a_piece, a_step, WaitsRightly}
+use Rattle.wh_host_model.specs.Host.TakenSteps.{IsStepReady, charge_is_ready, piece_is_ready}
 use Rattle.wh_host_model.proofs.Host.Holding.{suspensions_are_right}
 use Rattle.wh_host_model.proofs.Host.Stopping.{is_settled}
 use Rattle.wh_host_model.proofs.Host.Taken.{ready_steps_are_taken}
@@ -55,18 +55,18 @@ had_its_turn (has_had_its_turn x n u v y) is = u
 none_is_fault : (fault : SwapError) (o : Option Suspension) → o ≡ None → o ≡ Some (for_device fault) → ⊥
 none_is_fault fault o a b = let bad : None ≡ Some (for_device fault) = sym a ∙ b in cc bad
 
-from_nothing : (q : ℕ) (s s2 : Space) (t t2 : Tenant) (answer : TurnEnd) → 1 ≤ q → t.open_calls ≢ [] → t.stands_for ≡ None → Turn q s t answer s2 t2 → GetsOn t t2
+from_nothing : (q : ℕ) (s s2 : Space) (t t2 : Tenant) (answer : TurnEnd) → 1 ≤ q → t.open_calls ≢ [] → t.waiting_for ≡ None → Turn q s t answer s2 t2 → GetsOn t t2
 from_nothing q s s2 t t2 answer some calls none (is_idle idle) = absurd (calls idle)
 from_nothing q s s2 t t2 answer some calls none (has_ended there g leaves pins c) = ends (closed_longer c)
 from_nothing q s s2 t t2 answer some calls none (has_no_fuel there g leaves pins) = comes_to_stand none (λ h. cc h)
-from_nothing q s s2 t t2 answer some calls none (has_no_frame {k = k} {n = n} there g leaves pins) = comes_to_stand none (frame_stands (k + n) t.stands_for none)
+from_nothing q s s2 t t2 answer some calls none (has_no_frame {k = k} {n = n} there g leaves pins) = comes_to_stand none (frame_stands (k + n) t.waiting_for none)
 from_nothing q s s2 t t2 answer some calls none (can_go_on {e = e} {es = es} {k = k} {n = n} there g leaves pins fault) =
     let all = had_its_turn g refl in
     goes_further there (gone_further e k n, at_seam t.ended es (gone_further e k n), omega (arith, all, some))
 from_nothing q s s2 t t2 answer some calls none (keeps_its_fault {fault = fault} there stands doing without next fuel ready) =
-    absurd (none_is_fault fault t.stands_for none stands)
+    absurd (none_is_fault fault t.waiting_for none stands)
 
--- ---- where it stood for a frame, and its step is ready
+-- ---- where it waited for a frame, and its step is ready
 
 ready_by : (q : ℕ) (s : Space) (t : Tenant) (e : Entry) (need : Need) (d : Doing) → 1 ≤ q → t.doing ≡ d → Ready s t.place need
     → NextAsks t.inst (store_in s t) e.call d need → IsStepReady q s t e
@@ -76,11 +76,11 @@ ready_by q s t e need d some is ready (a_step {term = term} fuel next asks) =
     (λ other a. subst (Ready s t.place) (one_need t.inst (config (store_in s t) [] term) need other asks a) ready)
 
 step_is_ready : (w : World) (id : InstId) (t : Tenant) (q : ℕ) (e : Entry) (es : List Entry) → IsReached w → IsLive w id t → 1 ≤ q → t.open_calls ≡ e ∷ es
-    → t.stands_for ≡ Some for_frame → ((need : Need) → wants w.space id.place ≡ Some need → Ready w.space id.place need) → IsStepReady q w.space t e
+    → t.waiting_for ≡ Some for_frame → ((need : Need) → wants w.space id.place ≡ Some need → Ready w.space id.place need) → IsStepReady q w.space t e
 step_is_ready w id t q e es r live some there stands ready =
-    let duly : StandsRightly w.space t = suspensions_are_right r.frames r.slots r.tax r.events w r.happen id.number t live.0 in
-    let calls = subst (λ (xs : List Entry). FirstStandsDuly t.inst (store_in w.space t) t.doing xs (wants w.space t.place) t.stands_for) there duly in
-    let frame = subst (λ (o : Option Suspension). FirstStandsDuly t.inst (store_in w.space t) t.doing (e ∷ es) (wants w.space t.place) o) stands calls in
+    let duly : WaitsRightly w.space t = suspensions_are_right r.frames r.slots r.tax r.events w r.happen id.number t live.0 in
+    let calls = subst (λ (xs : List Entry). FirstWaitsDuly t.inst (store_in w.space t) t.doing xs (wants w.space t.place) t.waiting_for) there duly in
+    let frame = subst (λ (o : Option Suspension). FirstWaitsDuly t.inst (store_in w.space t) t.doing (e ∷ es) (wants w.space t.place) o) stands calls in
     let now = ready frame.0 (ap (wants w.space) (sym live.1) ∙ frame.1) in
     ready_by q w.space t e frame.0 t.doing some refl (subst (λ (p : ℕ). Ready w.space p frame.0) (sym live.1) now) frame.2
 
@@ -99,8 +99,8 @@ turn_gets_on : (w : World) (id : InstId) (q : ℕ) (s2 : Space) (t t2 : Tenant) 
     → (AwaitsFrame t → (need : Need) → wants w.space id.place ≡ Some need → Ready w.space id.place need) → Turn q w.space t answer s2 t2 → GetsOn t t2
 turn_gets_on w id q s2 t t2 answer r live some can ready turned =
     ⊎_elim
-    (λ (none : t.stands_for ≡ None). from_nothing q w.space s2 t t2 answer some can.0 none turned)
-    (λ (frame : t.stands_for ≡ Some for_frame).
+    (λ (none : t.waiting_for ≡ None). from_nothing q w.space s2 t t2 answer some can.0 none turned)
+    (λ (frame : t.waiting_for ≡ Some for_frame).
     (let first = first_of t.open_calls can.0 in
     goes_further first.is (ready_steps_are_taken q w.space s2 t t2 answer first.e first.es first.is
     (step_is_ready w id t q first.e first.es r live some first.is frame (ready frame)) turned)))

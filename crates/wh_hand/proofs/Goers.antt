@@ -16,8 +16,8 @@ use Rattle.wh_host_model.specs.Host.Admission.{live_count}
 use Rattle.wh_host_model.specs.Host.Happens.{IsLive}
 use Rattle.wh_journal.specs.Calls.{JournalCallState}
 use Rattle.wh_instance.specs.Tenancy.{RepresentsEach, suspension_of}
-use Rattle.wh_host.specs.declared.parts.Resident.{Resident}
-use Rattle.wh_host.specs.Hosting.{HostState, IsHost, resident_at}
+use Rattle.wh_host.specs.declared.parts.InstanceEntry.{InstanceEntry}
+use Rattle.wh_host.specs.Hosting.{HostState, IsHost, entry_at}
 use Rattle.wh_host.specs.Paging.{IsGoing, MovesOnly, Tells, WaitsFor}
 use Rattle.wh_host.proofs.Hosts.{one_value, same_or_not, some_within}
 use Rattle.wh_hand.specs.Lining.{MayGoOn, IsReadyFor, IsToSettle, KeepsGoing, KeepsOthersGoing, Lists, StandsIn}
@@ -37,14 +37,14 @@ going_each h w w2 id st st2 going =
     let t = going.0 in
     let live = going.1 in
     let f = st.there id.number t live.0 in
-    let at : resident_at h.residents id.place ≡ Some f.0 = ap (resident_at h.residents) (sym live.1) ∙ f.1 in
+    let at : entry_at h.entries id.place ≡ Some f.0 = ap (entry_at h.entries) (sym live.1) ∙ f.1 in
     let g = st2.all id.place id.number f.0 at f.2.number in
     let back = st2.there id.number g.0 g.1 in
-    let same : back.0 ≡ f.0 = one_value back.0 f.0 (sym back.1 ∙ ap (resident_at h.residents) g.2 ∙ at) in
+    let same : back.0 ≡ f.0 = one_value back.0 f.0 (sym back.1 ∙ ap (entry_at h.entries) g.2 ∙ at) in
     let calls : RepresentsEach f.0.tenant.journal.open_calls g.0.open_calls =
-    subst (λ (x : Resident). RepresentsEach x.tenant.journal.open_calls g.0.open_calls) same back.2.is.open_calls in
-    let stands : g.0.stands_for ≡ t.stands_for =
-    back.2.is.stands_for ∙ ap (λ (x : Resident). suspension_of x.tenant.stands_for) same ∙ sym f.2.is.stands_for in
+    subst (λ (x : InstanceEntry). RepresentsEach x.tenant.journal.open_calls g.0.open_calls) same back.2.is.open_calls in
+    let stands : g.0.waiting_for ≡ t.waiting_for =
+    back.2.is.waiting_for ∙ ap (λ (x : InstanceEntry). suspension_of x.tenant.waiting_for) same ∙ sym f.2.is.waiting_for in
     let some : g.0.open_calls ≢ [] = (λ none. going.2.0 (none_each f.0.tenant.journal.open_calls t.open_calls g.0.open_calls f.2.is.open_calls calls none)) in
     (g.0, (g.1, g.2), (some, subst (λ (o : Option Suspension). (o ≡ None) ⊎ (o ≡ Some for_frame)) (sym stands) going.2.1))
 
@@ -266,19 +266,19 @@ room_to_settle h line id some s tells =
 record Stands (w2 : World) (id : InstId) (o : Option Suspension) : Type 0 where
   u : Tenant
   live : IsLive w2 id u
-  same : u.stands_for ≡ o
+  same : u.waiting_for ≡ o
 
-stands_each : (h : HostState) (w w2 : World) (id : InstId) (t : Tenant) → IsHost h w → IsHost h w2 → IsLive w id t → Stands w2 id t.stands_for
+stands_each : (h : HostState) (w w2 : World) (id : InstId) (t : Tenant) → IsHost h w → IsHost h w2 → IsLive w id t → Stands w2 id t.waiting_for
 stands_each h w w2 id t st st2 live =
     let f = st.there id.number t live.0 in
-    let at : resident_at h.residents id.place ≡ Some f.0 = ap (resident_at h.residents) (sym live.1) ∙ f.1 in
+    let at : entry_at h.entries id.place ≡ Some f.0 = ap (entry_at h.entries) (sym live.1) ∙ f.1 in
     let g = st2.all id.place id.number f.0 at f.2.number in
     let back = st2.there id.number g.0 g.1 in
-    let same : back.0 ≡ f.0 = one_value back.0 f.0 (sym back.1 ∙ ap (resident_at h.residents) g.2 ∙ at) in
+    let same : back.0 ≡ f.0 = one_value back.0 f.0 (sym back.1 ∙ ap (entry_at h.entries) g.2 ∙ at) in
     record {
       u = g.0;
       live = (g.1, g.2);
-      same = back.2.is.stands_for ∙ ap (λ (x : Resident). suspension_of x.tenant.stands_for) same ∙ sym f.2.is.stands_for;
+      same = back.2.is.waiting_for ∙ ap (λ (x : InstanceEntry). suspension_of x.tenant.waiting_for) same ∙ sym f.2.is.waiting_for;
     }
 
 provided_ready : (s s2 : Space) (place : ℕ) (need : Need) (result : Result ℕ SwapError) (none : List SwapError) → none ≡ []

@@ -16,13 +16,13 @@ use Rattle.wh_reclaim.proofs.Together.{new_together}
 use Rattle.wh_host.specs.Backing.{KeepsBacking}
 use Rattle.wh_host.specs.Hosting.{HostState, IsHost, IsNewHost}
 use Rattle.wh_host.specs.Paging.{MovesOnly, MovesWith, Tells, provide_fault}
-use Rattle.wh_host.specs.Showing.{StandsByEvents}
+use Rattle.wh_host.specs.Showing.{RepresentsReached}
 use Rattle.wh_host.proofs.Hosts.{one_value, turn_stays}
-use Rattle.wh_hand.specs.InHand.{IsInOneHand}
+use Rattle.wh_hand.specs.HandStates.{IsInOneHand}
 use Rattle.wh_hand.specs.Lining.{MayGoOn, KeepsGoing, KeepsOthersGoing, Lists}
 use Rattle.wh_hand.specs.Running.{EventGetsOn, IsOwn, RunsAll, RunsByEvents, AnyGoesOn, most_turns, turn_count, turns_among}
 use Rattle.wh_hand.specs.Moved.{IsMoved}
-use Rattle.wh_hand.specs.Runs.{LeavesOf, RunsPart}
+use Rattle.wh_hand.specs.RunParts.{LeavesOf, RunsPart}
 use Rattle.wh_hand.proofs.Events.{live_moved, on_both, on_itself, on_moved, only_moves, reached_by, runs_both}
 use Rattle.wh_hand.proofs.Goers.{SameOthers, goes_in, keeps_all, keeps_others, lists_on, others_of_all, others_set, same_all}
 use Rattle.wh_hand.proofs.Together.{together_on}
@@ -173,7 +173,7 @@ run_is a b c given left goes few f g tells w st reached =
 
 -- ---- the hand
 
-pub led_by_runs : (h h2 : HostState) (n k : ℕ) → RunsPart h n k h2 → StandsByEvents h → StandsByEvents h2
+pub led_by_runs : (h h2 : HostState) (n k : ℕ) → RunsPart h n k h2 → RepresentsReached h → RepresentsReached h2
 led_by_runs h h2 n k f led =
     let x = f led.0 led.1 led.2 in (x.0, x.3, reached_by led.0 x.0 x.1.events led.2 x.1.happen)
 
@@ -194,8 +194,8 @@ only_moved_in_hand h h2 held line room a moves backing =
     moved_in_hand h h2 held line room a (moved_by h h2 epoch tt (λ w w2 only. only) (λ w w2. tt) (a.led.0, a.led.1) moves backing)
 
 -- a turn was had, or nobody could have one
-pub led_by_turn : (h h2 : HostState) (taken : Option ℕ) → IfNone taken (h2 ≡ h) → IfSome taken (λ n. RunsPart h n 1 h2) → StandsByEvents h → StandsByEvents h2
-led_by_turn h h2 None same f led = subst StandsByEvents (sym same) led
+pub led_by_turn : (h h2 : HostState) (taken : Option ℕ) → IfNone taken (h2 ≡ h) → IfSome taken (λ n. RunsPart h n 1 h2) → RepresentsReached h → RepresentsReached h2
+led_by_turn h h2 None same f led = subst RepresentsReached (sym same) led
 led_by_turn h h2 (Some n) same f led = led_by_runs h h2 n 1 f led
 
 -- a new one

@@ -9,8 +9,8 @@ use Rattle.wh_host_model.specs.Owners.{Entry}
 use Rattle.wh_host_model.specs.Host.Happens.{IsLive, IsTurn, of_none, of_one}
 use Rattle.wh_host.specs.Telling.{AreChargesTold}
 use Rattle.wh_host.proofs.Hosts.{some_within, turn_stays}
-use Rattle.wh_hand.specs.Charging.{charges_of_calls}
-use Rattle.wh_hand.specs.Runs.{charges_taken}
+use Rattle.wh_hand.specs.ChargesTaken.{charges_of_calls}
+use Rattle.wh_hand.specs.RunParts.{charges_taken}
 use Rattle.wh_hand.proofs.Sums.{HasTaken, Spends, turn_spends, at_seam, taken_by_one, taken_none}
 
 some_is : {A : Type 0} (x y : A) → Some x ≡ Some y → x ≡ y

@@ -1,8 +1,8 @@
-pub mod Charging
+pub mod ChargesTaken
 pub mod Running
-pub mod Runs
+pub mod RunParts
 pub mod Lining
 pub mod Moved
-pub mod InHand
+pub mod HandStates
 pub mod Stored
-pub mod Releasing
+pub mod ReleasedOutputs

@@ -50,7 +50,7 @@ abbrev pub KeepsOthersGoing : HostState → InstId → HostState → Type 0
 KeepsOthersGoing h id h2 =
     (other : InstId) → other ≢ id → (MayGoOn h other → MayGoOn h2 other) × (MayGoOn h2 other → MayGoOn h other)
 
--- where its present call stands for a frame, the bytes of its next step are ready
+-- where its present call waits for a frame, the bytes of its next step are ready
 abbrev pub IsReadyFor : HostState → InstId → Type 0
 IsReadyFor h id =
     (w : World) → IsHost h w → (t : Tenant) → IsLive w id t → AwaitsFrame t → (need : Need)

@@ -3,7 +3,7 @@ use Rattle.std.specs.Prelude.{◌≡◌}
 use Rattle.wh_host.specs.Backing.{KeepsBacking}
 use Rattle.wh_host.specs.Hosting.{HostState}
 use Rattle.wh_hand.specs.Lining.{KeepsGoing}
-use Rattle.wh_hand.specs.Runs.{RunsPart}
+use Rattle.wh_hand.specs.RunParts.{RunsPart}
 
 -- a run without charges, after which the same can go on; no ticket comes or goes, and slots hold what they held
 pub record IsMoved (h h2 : HostState) : Type 0 where

@@ -6,12 +6,12 @@ use Rattle.wh_host_model.specs.declared.plain.InstId.{InstId}
 use Rattle.wh_host_model.specs.Host.Worlds.{Tenant, World}
 use Rattle.wh_host_model.specs.Host.Events.{Event, turn, offer, provide, epoch}
 use Rattle.wh_host_model.specs.Host.Happens.{AllHappen, Happens, IsLive}
-use Rattle.wh_host_model.specs.Host.Taking.{HasGoneOn}
+use Rattle.wh_host_model.specs.Host.TakenSteps.{HasGoneOn}
 use Rattle.wh_host_model.specs.Owners.{Entry}
 use Rattle.wh_host.specs.Hosting.{HostState, IsHost, IsReached}
 use Rattle.wh_host.specs.Paging.{IsGoing}
 use Rattle.wh_hand.specs.declared.running.Ran.{Ran}
-use Rattle.wh_hand.specs.Charging.{charges_of_all}
+use Rattle.wh_hand.specs.ChargesTaken.{charges_of_all}
 
 -- It is no request of an owner: a turn of one charge at least, an offer, a provision in which no call of the device
 -- failed, or a new epoch.
@@ -32,11 +32,11 @@ abbrev pub turns_among : List Event → ℕ
 turns_among events = sum_by turn_count events
 
 -- In a turn the present call of an instance has got on: it has ended; or it has written more pieces or taken more charges;
--- or it stands for fuel or for a frame, where it stood for nothing.
+-- or it waits for fuel or for a frame, where it stood for nothing.
 pub data GetsOn (t t2 : Tenant) : Type 0 where
   ends : length t.ended < length t2.ended → GetsOn t t2
   goes_further : {e : Entry} {es : List Entry} → t.open_calls ≡ e ∷ es → HasGoneOn t t2 e → GetsOn t t2
-  comes_to_stand : t.stands_for ≡ None → t2.stands_for ≢ None → GetsOn t t2
+  comes_to_stand : t.waiting_for ≡ None → t2.waiting_for ≢ None → GetsOn t t2
 
 -- so in an event, if it is a turn
 abbrev pub EventGetsOn : World → Event → World → Type 0

@@ -3,7 +3,7 @@ use Rattle.std.specs.Prelude.{ℕ, List, refl}
 use Rattle.std.specs.Coded.{Coded, code_by, coded_list, coded_ℕ, coded×}
 use Rattle.wh_host.specs.Hosting.{HostState}
 use Rattle.wh_host.specs.Stored.{stored_host}
-use Rattle.wh_hand.specs.InHand.{HandState}
+use Rattle.wh_hand.specs.HandStates.{HandState}
 
 abbrev pub stored_hand : Coded HandState
 stored_hand =

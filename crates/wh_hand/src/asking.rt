@@ -3,7 +3,7 @@
 ghost use Rattle.std.specs.Prelude.{◌≡◌, OnErr, OnOk};
 ghost use Rattle.wh_host_model.specs.Host.Happens.{IsCancel, IsRefuel, IsRetry};
 ghost use Rattle.wh_host_model.specs.Space.Stores.{ended};
-ghost use Rattle.wh_host.specs.Asking.{AnswersCall, AnswersInvoke};
+ghost use Rattle.wh_host.specs.CallRequests.{AnswersCall, AnswersInvoke};
 ghost use Rattle.wh_host.specs.Backing.{KeepsBacking};
 
 use crate::hand::Hand;
@@ -44,7 +44,7 @@ impl Hand {
         Ok(at)
     }
 
-    /// Gives the present call of an instance so much more fuel; what passes 2^64 - 1 is lost. A call that stands for fuel can
+    /// Gives the present call of an instance so much more fuel; what passes 2^64 - 1 is lost. A call that waits for fuel can
     /// then go on, if it was given any.
     ///
     /// # Errors
@@ -66,7 +66,7 @@ impl Hand {
         Ok(())
     }
 
-    /// Lets the present call of an instance be tried again, if it stands for a device fault: it stands for a frame then. A
+    /// Lets the present call of an instance be tried again, if it waits for a device fault: it waits for a frame then. A
     /// device in memory has none.
     ///
     /// # Errors

@@ -4,14 +4,14 @@ ghost use Rattle.std.specs.Prelude.{◌≡◌, ◌≤◌, IfNone, IfSome};
 ghost use Rattle.std.specs.VecDeque.{deque_capacity};
 ghost use Rattle.wh_reclaim.specs.Together.{AreTogether};
 ghost use Rattle.wh_reclaim.specs.Whole.{IsAsWhole};
-ghost use Rattle.wh_swap.specs.Memory.{memory_held};
+ghost use Rattle.wh_swap.specs.MemorySwaps.{memory_held};
 ghost use Rattle.wh_host.specs.Backing.{KeepsBacking};
 ghost use Rattle.wh_host.specs.Hosting.{IsHost};
 ghost use Rattle.wh_host_model.specs.Host.Worlds.{World};
 ghost use Rattle.wh_hand.specs.Lining.{MayGoOn, IsReadyFor, KeepsGoing, KeepsOthersGoing, Lists};
 ghost use Rattle.wh_hand.specs.Running.{AnyGoesOn};
 ghost use Rattle.wh_hand.specs.Moved.{IsMoved};
-ghost use Rattle.wh_hand.specs.Runs.{RunsPart, charges_taken};
+ghost use Rattle.wh_hand.specs.RunParts.{RunsPart, charges_taken};
 
 use crate::line::settle;
 use crate::pace::Pace;
@@ -49,7 +49,7 @@ fn counted_turn(host: &mut Host, id: InstId, q: u64) -> u64
     ensures live { host.new.live ≡ host.old.live }
     ensures backing { KeepsBacking host.old.space host.new.space }
 {
-    host.known();
+    host.invariant();
     let call = host.present_call(id);
     let before = host.charges(id, call);
     let _ = host.turn(id, q);
@@ -57,7 +57,7 @@ fn counted_turn(host: &mut Host, id: InstId, q: u64) -> u64
     charges_of_turn(before, after)
 }
 
-// Makes the next step of an instance ready, where its present call stands for a frame.
+// Makes the next step of an instance ready, where its present call waits for a frame.
 fn make_ready(host: &mut Host, device: &mut MemSwap, page: &mut Buf, id: InstId)
     requires together { AreTogether host.old.space (memory_held device.old) }
     ensures runs { RunsPart host.old 0 0 host.new }
@@ -67,7 +67,7 @@ fn make_ready(host: &mut Host, device: &mut MemSwap, page: &mut Buf, id: InstId)
     ensures whole { IsAsWhole host.old.space host.new.space }
     ensures ready { IsReadyFor host.new id }
 {
-    host.known();
+    host.invariant();
     let _ = host.provide(device, id, page);
 }
 
@@ -84,7 +84,7 @@ fn page_of(number: u64, size: u32) -> Option<u32> {
 fn offer_one(host: &mut Host, id: InstId, number: u64)
     ensures { IsMoved host.old host.new }
 {
-    host.known();
+    host.invariant();
     let Some(page) = page_of(number, host.size_at(id.place)) else {
         return;
     };
@@ -99,7 +99,7 @@ fn offer_one(host: &mut Host, id: InstId, number: u64)
 fn offer_next(host: &mut Host, line: &VecDeque<InstId>, pace: &mut Pace, taken: u64)
     ensures { IsMoved host.old host.new }
 {
-    host.known();
+    host.invariant();
     if !pace.count(taken) {
         return;
     }
@@ -113,7 +113,7 @@ fn offer_next(host: &mut Host, line: &VecDeque<InstId>, pace: &mut Pace, taken: 
 }
 
 /// Gives whoever is first in the line a turn, of so many charges at most: how many were taken. Its next step is made ready
-/// before, where it stands for a frame; it goes to the end of the line, if it can go on; and for each 32 turns a page is offered.
+/// before, where it waits for a frame; it goes to the end of the line, if it can go on; and for each 32 turns a page is offered.
 /// `None`, and nothing is done, where nobody can go on.
 pub fn advance(
     host: &mut Host,
@@ -141,7 +141,7 @@ pub fn advance(
     let Some(id) = line.pop_front() else {
         return None;
     };
-    host.known();
+    host.invariant();
     make_ready(host, device, page, id);
     let taken = counted_turn(host, id, most.min(QUANTUM));
     settle(line, host, id, false);
@@ -153,7 +153,7 @@ pub fn advance(
 pub fn begin_epoch(host: &mut Host, pace: &mut Pace)
     ensures { IsMoved host.old host.new }
 {
-    host.known();
+    host.invariant();
     if !pace.begins_epoch() {
         return;
     }

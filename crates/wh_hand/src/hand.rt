@@ -2,7 +2,7 @@
 
 ghost use Rattle.std.specs.Prelude.{◌≡◌, [], IfOk};
 ghost use Rattle.wh_host.specs.Hosting.{IsNewHost};
-ghost use Rattle.wh_hand.specs.InHand.{IsSoundByEvents};
+ghost use Rattle.wh_hand.specs.HandStates.{IsSoundByEvents};
 
 use crate::line::MOST_INSTANCES;
 use crate::pace::Pace;
@@ -46,8 +46,8 @@ impl Drop for Hand {
 
 impl Model for Hand {
     ghost use Rattle.std.specs.VecDeque.{deque_capacity};
-    ghost use Rattle.wh_swap.specs.Memory.{memory_held};
-    ghost use Rattle.wh_hand.specs.InHand.{HandState, IsInOneHand};
+    ghost use Rattle.wh_swap.specs.MemorySwaps.{memory_held};
+    ghost use Rattle.wh_hand.specs.HandStates.{HandState, IsInOneHand};
 
     ghost Value = { HandState };
 
@@ -92,7 +92,7 @@ impl Hand {
     /// What always holds: events alone lead to the host, and no page of it is on its way to swap or back. So the laws of all
     /// runs hold of each call of each instance.
     #[inline(always)]
-    pub fn known(&self)
+    pub fn invariant(&self)
         ensures { IsSoundByEvents self.now.host }
     {
         let _ = &self.host;

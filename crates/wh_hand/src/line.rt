@@ -28,7 +28,7 @@ pub fn settle(line: &mut VecDeque<InstId>, host: &Host, id: InstId, stands: bool
     ensures lists { Lists host.now line.new.items }
     ensures room { deque_capacity line.new ≡ deque_capacity line.old }
 {
-    host.known();
+    host.invariant();
     let goes = host.can_go_on(id);
     if goes == stands {
         return;

@@ -3,7 +3,7 @@
 ghost use Rattle.std.specs.Prelude.{◌≡◌, OnErr, OnOk};
 ghost use Rattle.wh_host_model.specs.Space.Places.{Exits};
 ghost use Rattle.wh_host.specs.Backing.{KeepsBacking};
-ghost use Rattle.wh_hand.specs.Releasing.{AnswersReleaseHere};
+ghost use Rattle.wh_hand.specs.ReleasedOutputs.{AnswersReleaseHere};
 
 use crate::hand::Hand;
 use crate::line::settle;

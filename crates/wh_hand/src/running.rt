@@ -6,7 +6,7 @@ ghost use Rattle.wh_host.specs.Hosting.{IsHost};
 ghost use Rattle.wh_host.specs.Paging.{Tells};
 ghost use Rattle.wh_host_model.specs.Host.Worlds.{World};
 ghost use Rattle.wh_hand.specs.Running.{RunsAll, AnyGoesOn};
-ghost use Rattle.wh_hand.specs.Runs.{LeavesOf, RunsPart};
+ghost use Rattle.wh_hand.specs.RunParts.{LeavesOf, RunsPart};
 
 use crate::going::{advance, begin_epoch};
 use crate::hand::Hand;
@@ -81,7 +81,7 @@ impl Hand {
     }
 
     /// Lets the calls of all instances go on, until none can or they have taken so many charges together. They take turns of
-    /// 1000 charges at most, each instance one after the other; a step that stands for a frame is made ready before its turn;
+    /// 1000 charges at most, each instance one after the other; a step that waits for a frame is made ready before its turn;
     /// for each 32 turns a page is offered for sharing. A run that begins behind 1000000 charges since the last epoch begins a
     /// new one.
     ///

@@ -12,9 +12,9 @@ use Rattle.wh_host_model.specs.Space.Parts.{Space}
 use Rattle.wh_host_model.specs.Space.Places.{Exits, released_use}
 use Rattle.wh_host_model.specs.Space.Scanning.{Scans}
 use Rattle.wh_host_model.specs.Space.Stores.{ended, stood}
-use Rattle.wh_instance.specs.declared.stages.Turned.{Turned}
-use Rattle.wh_instance.specs.declared.stages.Turned.TheVariants as turned
-use Rattle.wh_space.specs.Views.{KeepsRest}
+use Rattle.wh_instance.specs.declared.stages.TurnResult.{TurnResult}
+use Rattle.wh_instance.specs.declared.stages.TurnResult.TheVariants as turned
+use Rattle.wh_space.specs.StepViews.{KeepsRest}
 use Rattle.wh_host.specs.Backing.{KeepsBacking}
 use Rattle.wh_host.specs.Lent.{settled_in}
 
@@ -48,7 +48,7 @@ unpinned_backing s false = same_backing s s refl
 pub ended_backing : (s : Space) (i : ℕ) → KeepsBacking s (ended s i)
 ended_backing s i = then_backing s (stood s i None) (ended s i) (stood_backing s i None) (unpinned_backing (stood s i None) (has_pins s.pins i))
 
-pub settled_backing : (s : Space) (i : ℕ) (made : Turned) → KeepsBacking s (settled_in s i made)
+pub settled_backing : (s : Space) (i : ℕ) (made : TurnResult) → KeepsBacking s (settled_in s i made)
 settled_backing s i turned.Kept = same_backing s s refl
 settled_backing s i turned.Ended = ended_backing s i
 settled_backing s i turned.Fuel = ended_backing s i

@@ -18,11 +18,11 @@ use Rattle.wh_host_model.specs.Host.Spaces.{AllLeftAlone}
 use Rattle.wh_host_model.specs.Host.Worlds.{Tenant, World}
 use Rattle.wh_host_model.proofs.Host.Bridges.{evictions_begin, evictions_end, fetches_begin, fetches_end, writes_leave_all}
 use Rattle.wh_host_model.proofs.Space.Putting.{there_of}
-use Rattle.wh_instance.specs.Asked.{OfAnyTenant}
+use Rattle.wh_instance.specs.OwnerRequests.{OfAnyTenant}
 use Rattle.wh_space.specs.Transits.{IsFetching}
-use Rattle.wh_host.specs.declared.parts.Resident.{Resident}
-use Rattle.wh_host.specs.Carried.{EndsEvict, IsOut, IsPresentCall, KeepsFault, OnlyReleasedGo}
-use Rattle.wh_host.specs.Hosting.{HostState, IsHost, resident_at}
+use Rattle.wh_host.specs.declared.parts.InstanceEntry.{InstanceEntry}
+use Rattle.wh_host.specs.TicketsOut.{EndsEvict, IsOut, IsPresentCall, KeepsFault, OnlyReleasedGo}
+use Rattle.wh_host.specs.Hosting.{HostState, IsHost, entry_at}
 use Rattle.wh_host.proofs.Hosts.{of_who_is_there, one_value}
 use Rattle.wh_host_model.specs.Host.Misreading.{IsMisread}
 use Rattle.wh_host_model.proofs.Host.AsMany.{fetches_see_as_many}
@@ -93,30 +93,30 @@ evict_alone s k wrote bytes end s2 sound (mid, written, commits) =
 
 -- ---- for whom a ticket was begun
 
-pub present_there : (h : HostState) (id : InstId) (x : Resident) (call : ℕ) → resident_at h.residents id.place ≡ Some x → x.number ≡ Some id.number → OfAnyTenant x.tenant (λ l limit bytes t. length t.ended ≡ call) → IsPresentCall h id call
+pub present_there : (h : HostState) (id : InstId) (x : InstanceEntry) (call : ℕ) → entry_at h.entries id.place ≡ Some x → x.number ≡ Some id.number → OfAnyTenant x.tenant (λ l limit bytes t. length t.ended ≡ call) → IsPresentCall h id call
 present_there h id x call at number is w st t live =
     let mine = of_who_is_there h w id x (λ u. length u.ended ≡ call) st at number is in
     ap (λ (u : Tenant). length u.ended) (same_tenant w id t mine.0 live mine.1) ∙ mine.2
 
 -- ---- faults that are kept
 
-pub faulted_here : (h : HostState) (w : World) (id : InstId) (call : ℕ) (fault : Option SwapError) (e : Event) (s2 : Space) (rs2 : List (Option Resident)) → (st : IsHost h w) → AllLeftAlone w.space s2 → KeepsFault h.residents id call fault rs2
-    → ((w2 : World) → MovesPages w id (AwaitsFrameFor call) fault w2 → Happens w e w2) → (w2 : World) × MovesPages w id (AwaitsFrameFor call) fault w2 × IsHost (record h { residents = rs2; space = s2 }) w2
+pub faulted_here : (h : HostState) (w : World) (id : InstId) (call : ℕ) (fault : Option SwapError) (e : Event) (s2 : Space) (rs2 : List (Option InstanceEntry)) → (st : IsHost h w) → AllLeftAlone w.space s2 → KeepsFault h.entries id call fault rs2
+    → ((w2 : World) → MovesPages w id (AwaitsFrameFor call) fault w2 → Happens w e w2) → (w2 : World) × MovesPages w id (AwaitsFrameFor call) fault w2 × IsHost (record h { entries = rs2; space = s2 }) w2
 faulted_here h w id call None e s2 rs2 st same kept happens =
     let made = moved_as h w id (AwaitsFrameFor call) None e s2 st same (inl refl) happens in
-    (made.0, made.1, subst (λ zs. IsHost (record h { residents = zs; space = s2 }) made.0) (sym kept) made.2)
+    (made.0, made.1, subst (λ zs. IsHost (record h { entries = zs; space = s2 }) made.0) (sym kept) made.2)
 faulted_here h w id call (Some fault) e s2 rs2 st same (inl k) happens =
-    let made = fault_here h w id k.resident k.tenant (AwaitsFrameFor call) fault e s2 st k.there k.number same k.keeps happens in
-    (made.0, made.1, subst (λ zs. IsHost (record h { residents = zs; space = s2 }) made.0) (sym k.after) made.2)
+    let made = fault_here h w id k.entry k.tenant (AwaitsFrameFor call) fault e s2 st k.there k.number same k.keeps happens in
+    (made.0, made.1, subst (λ zs. IsHost (record h { entries = zs; space = s2 }) made.0) (sym k.after) made.2)
 faulted_here h w id call (Some fault) e s2 rs2 st same (inr (kept, none)) happens =
     let away : (t : Tenant) → IsLive w id t → ¬ (AwaitsFrameFor call t) = λ t live.
-    (let f = st.there id.number t live.0 in none f.0 (ap (resident_at h.residents) (sym live.1) ∙ f.1) f.2.number f.2.loaded.linked f.0.page_limit (view w.space t.place) t f.2.is) in
+    (let f = st.there id.number t live.0 in none f.0 (ap (entry_at h.entries) (sym live.1) ∙ f.1) f.2.number f.2.loaded.linked f.0.page_limit (view w.space t.place) t f.2.is) in
     let made = moved_as h w id (AwaitsFrameFor call) (Some fault) e s2 st same (inr away) happens in
-    (made.0, made.1, subst (λ zs. IsHost (record h { residents = zs; space = s2 }) made.0) (sym kept) made.2)
+    (made.0, made.1, subst (λ zs. IsHost (record h { entries = zs; space = s2 }) made.0) (sym kept) made.2)
 
 -- ---- places that are given up
 
-pub released_go : (h : HostState) (w : World) (rs2 : List (Option Resident)) → IsHost h w → OnlyReleasedGo h.residents rs2 → IsHost (record h { residents = rs2 }) w
+pub released_go : (h : HostState) (w : World) (rs2 : List (Option InstanceEntry)) → IsHost h w → OnlyReleasedGo h.entries rs2 → IsHost (record h { entries = rs2 }) w
 released_go h w rs2 st go = record {
   comes = st.comes;
   modules = st.modules;
@@ -126,11 +126,11 @@ released_go h w rs2 st go = record {
   there = λ i t e. let f = st.there i t e in (f.0, stays t.place i f.0 f.1 f.2.number (go t.place), f.2);
   all = λ place i x at number. st.all place i x (was place x at (go place)) number;
 } where
-  stays : (place i : ℕ) (x : Resident) → resident_at h.residents place ≡ Some x → x.number ≡ Some i → (resident_at rs2 place ≡ resident_at h.residents place) ⊎ ((resident_at rs2 place ≡ None) × ((y : Resident) → resident_at h.residents place ≡ Some y → y.number ≡ None)) → resident_at rs2 place ≡ Some x
+  stays : (place i : ℕ) (x : InstanceEntry) → entry_at h.entries place ≡ Some x → x.number ≡ Some i → (entry_at rs2 place ≡ entry_at h.entries place) ⊎ ((entry_at rs2 place ≡ None) × ((y : InstanceEntry) → entry_at h.entries place ≡ Some y → y.number ≡ None)) → entry_at rs2 place ≡ Some x
   stays place i x at number (inl same) = same ∙ at
   stays place i x at number (inr (none, released)) = absurd (let bad : None ≡ Some i = sym (released x at) ∙ number in cc bad)
 
-  was : (place : ℕ) (x : Resident) → resident_at rs2 place ≡ Some x → (resident_at rs2 place ≡ resident_at h.residents place) ⊎ ((resident_at rs2 place ≡ None) × ((y : Resident) → resident_at h.residents place ≡ Some y → y.number ≡ None)) → resident_at h.residents place ≡ Some x
+  was : (place : ℕ) (x : InstanceEntry) → entry_at rs2 place ≡ Some x → (entry_at rs2 place ≡ entry_at h.entries place) ⊎ ((entry_at rs2 place ≡ None) × ((y : InstanceEntry) → entry_at h.entries place ≡ Some y → y.number ≡ None)) → entry_at h.entries place ≡ Some x
   was place x at (inl same) = sym same ∙ at
   was place x at (inr (none, released)) = absurd (let bad : None ≡ Some x = sym none ∙ at in cc bad)
 
@@ -138,13 +138,13 @@ not_free : (s : Space) (i : ℕ) (o : Occupant) → occupant_at s i o → IsFree
 not_free s i o at (inl none) = let bad : Some (Some o) ≡ Some None = sym at ∙ none in cc bad
 not_free s i o at (inr past) = let less = there_of s.occupants i (Some o) at in omega (arith, less, past)
 
-pub nobody_left : (h : HostState) (w : World) (at : ℕ) → IsHost h w → IsFreePlace h.space at → ((x : Resident) → resident_at h.residents at ≡ Some x → x.number ≢ None) → resident_at h.residents at ≡ None
-nobody_left h w at st free all = go (resident_at h.residents at) refl where
-  numbered : (x : Resident) (n : Option ℕ) → x.number ≡ n → resident_at h.residents at ≡ Some x → ⊥
+pub nobody_left : (h : HostState) (w : World) (at : ℕ) → IsHost h w → IsFreePlace h.space at → ((x : InstanceEntry) → entry_at h.entries at ≡ Some x → x.number ≢ None) → entry_at h.entries at ≡ None
+nobody_left h w at st free all = go (entry_at h.entries at) refl where
+  numbered : (x : InstanceEntry) (n : Option ℕ) → x.number ≡ n → entry_at h.entries at ≡ Some x → ⊥
   numbered x None e is = all x is e
   numbered x (Some i) e is = let o = lives_there h w at i x st is e in not_free h.space at o.0 o.1 free
 
-  go : (o : Option Resident) → resident_at h.residents at ≡ o → resident_at h.residents at ≡ None
+  go : (o : Option InstanceEntry) → entry_at h.entries at ≡ o → entry_at h.entries at ≡ None
   go None e = e
   go (Some x) e = absurd (numbered x x.number refl e)
 
@@ -157,14 +157,14 @@ pub fetch_begun : (h : HostState) (w : World) (id : InstId) (slot : Option ℕ) 
 fetch_begun h w id slot s2 st begins = only_moved h w (fetch_begin id) s2 st (alone_in h w s2 st (fetches_begin h.space s2 id.place slot (sound_in h w st) begins)) (λ w2 moves. moves)
 
 -- a fault is kept, and then a place is given up
-pub settled_here : (h : HostState) (w : World) (id : InstId) (call : ℕ) (fault : Option SwapError) (e : Event) (s2 : Space) (rs1 rs2 : List (Option Resident)) → (st : IsHost h w) → AllLeftAlone h.space s2 → KeepsFault h.residents id call fault rs1 → OnlyReleasedGo rs1 rs2
-    → ((w2 : World) → MovesPages w id (AwaitsFrameFor call) fault w2 → Happens w e w2) → (w2 : World) × MovesPages w id (AwaitsFrameFor call) fault w2 × IsHost (record h { residents = rs2; space = s2 }) w2
+pub settled_here : (h : HostState) (w : World) (id : InstId) (call : ℕ) (fault : Option SwapError) (e : Event) (s2 : Space) (rs1 rs2 : List (Option InstanceEntry)) → (st : IsHost h w) → AllLeftAlone h.space s2 → KeepsFault h.entries id call fault rs1 → OnlyReleasedGo rs1 rs2
+    → ((w2 : World) → MovesPages w id (AwaitsFrameFor call) fault w2 → Happens w e w2) → (w2 : World) × MovesPages w id (AwaitsFrameFor call) fault w2 × IsHost (record h { entries = rs2; space = s2 }) w2
 settled_here h w id call fault e s2 rs1 rs2 st same kept go happens =
     let made = faulted_here h w id call fault e s2 rs1 st (alone_in h w s2 st same) kept happens in
-    (made.0, made.1, released_go (record h { residents = rs1; space = s2 }) made.0 rs2 made.2 go)
+    (made.0, made.1, released_go (record h { entries = rs1; space = s2 }) made.0 rs2 made.2 go)
 
-pub evict_ended : (h : HostState) (w : World) (id : InstId) (call k : ℕ) (wrote : Bool) (bytes : List ℕ) (end : EvictEnd) (fault : Option SwapError) (s2 : Space) (rs1 rs2 : List (Option Resident)) → (st : IsHost h w) → EndsEvict h.space k wrote bytes end s2 → KeepsFault h.residents id call fault rs1
-    → OnlyReleasedGo rs1 rs2 → (w2 : World) × MovesPages w id (AwaitsFrameFor call) fault w2 × IsHost (record h { residents = rs2; space = s2 }) w2
+pub evict_ended : (h : HostState) (w : World) (id : InstId) (call k : ℕ) (wrote : Bool) (bytes : List ℕ) (end : EvictEnd) (fault : Option SwapError) (s2 : Space) (rs1 rs2 : List (Option InstanceEntry)) → (st : IsHost h w) → EndsEvict h.space k wrote bytes end s2 → KeepsFault h.entries id call fault rs1
+    → OnlyReleasedGo rs1 rs2 → (w2 : World) × MovesPages w id (AwaitsFrameFor call) fault w2 × IsHost (record h { entries = rs2; space = s2 }) w2
 evict_ended h w id call k wrote bytes end fault s2 rs1 rs2 st ends kept go =
     settled_here h w id call fault (evict_commit id call fault) s2 rs1 rs2 st (evict_alone h.space k wrote bytes end s2 (sound_in h w st) ends) kept go (λ w2 moves. moves)
 
@@ -172,16 +172,16 @@ held_read : (device : Result Unit SwapError) (P : Type 0) → OnOk device P → 
 held_read (Ok done) P h e = h
 held_read (Err fault) P h e = absurd (cc e)
 
-pub fetch_ended : (h : HostState) (w : World) (id : InstId) (call k : ℕ) (device : Result Unit SwapError) (bytes : List ℕ) (end : FetchEnd) (fault : Option SwapError) (s2 : Space) (rs1 rs2 : List (Option Resident)) → (st : IsHost h w) → OnOk device (get_or h.space.slots.held k [] ≡ bytes)
-    → CommitsFetch h.space k (is_ok device) bytes end s2 → KeepsFault h.residents id call fault rs1 → OnlyReleasedGo rs1 rs2 → (w2 : World) × MovesPages w id (AwaitsFrameFor call) fault w2 × IsHost (record h { residents = rs2; space = s2 }) w2
+pub fetch_ended : (h : HostState) (w : World) (id : InstId) (call k : ℕ) (device : Result Unit SwapError) (bytes : List ℕ) (end : FetchEnd) (fault : Option SwapError) (s2 : Space) (rs1 rs2 : List (Option InstanceEntry)) → (st : IsHost h w) → OnOk device (get_or h.space.slots.held k [] ≡ bytes)
+    → CommitsFetch h.space k (is_ok device) bytes end s2 → KeepsFault h.entries id call fault rs1 → OnlyReleasedGo rs1 rs2 → (w2 : World) × MovesPages w id (AwaitsFrameFor call) fault w2 × IsHost (record h { entries = rs2; space = s2 }) w2
 fetch_ended h w id call k device bytes end fault s2 rs1 rs2 st read ends kept go =
     settled_here h w id call fault (fetch_commit id call fault) s2 rs1 rs2 st (fetches_end h.space s2 k (is_ok device) bytes end (sound_in h w st) (held_read device (get_or h.space.slots.held k [] ≡ bytes) read) ends) kept go (λ w2 moves. moves)
 
 -- ---- whatever bytes the device gives
 
-pub fetch_ended_anyhow : (h : HostState) (w : World) (id : InstId) (call k : ℕ) (device : Result Unit SwapError) (bytes : List ℕ) (end : FetchEnd) (fault : Option SwapError) (s2 : Space) (rs1 rs2 : List (Option Resident)) → (st : IsHost h w)
-    → CommitsFetch h.space k (is_ok device) bytes end s2 → KeepsFault h.residents id call fault rs1 → OnlyReleasedGo rs1 rs2
-    → (mid w2 : World) × IsMisread w mid × MovesPages mid id (AwaitsFrameFor call) fault w2 × IsHost (record h { residents = rs2; space = s2 }) w2
+pub fetch_ended_anyhow : (h : HostState) (w : World) (id : InstId) (call k : ℕ) (device : Result Unit SwapError) (bytes : List ℕ) (end : FetchEnd) (fault : Option SwapError) (s2 : Space) (rs1 rs2 : List (Option InstanceEntry)) → (st : IsHost h w)
+    → CommitsFetch h.space k (is_ok device) bytes end s2 → KeepsFault h.entries id call fault rs1 → OnlyReleasedGo rs1 rs2
+    → (mid w2 : World) × IsMisread w mid × MovesPages mid id (AwaitsFrameFor call) fault w2 × IsHost (record h { entries = rs2; space = s2 }) w2
 fetch_ended_anyhow h w id call k device bytes end fault s2 rs1 rs2 st ends kept go =
     let same = as_many_in h w s2 st (fetches_see_as_many h.space s2 k (is_ok device) bytes end (sound_in h w st) ends) in
     let mid : World = record w { space = s2 } in

@@ -7,8 +7,8 @@ use Rattle.wh_host_model.specs.Owners.{Entry}
 use Rattle.wh_journal.specs.Calls.{JournalCallState, JournalState}
 use Rattle.wh_instance.specs.Tenancy.{RepresentsCall, RepresentsEach}
 use Rattle.wh_instance.proofs.Told.{join_each}
-use Rattle.wh_host.specs.declared.parts.Resident.{Resident}
-use Rattle.wh_host.specs.Hosting.{HostState, IsHost, resident_at}
+use Rattle.wh_host.specs.declared.parts.InstanceEntry.{InstanceEntry}
+use Rattle.wh_host.specs.Hosting.{HostState, IsHost, entry_at}
 use Rattle.wh_host.specs.Telling.{AreChargesTold, charges_in_journal}
 use Rattle.wh_host.proofs.Hosts.{found}
 use Rattle.wh_host.proofs.Paged.{same_tenant}
@@ -32,7 +32,7 @@ of_entry w id at t None (Some e) live is same = absurd (cc same)
 of_entry w id at t (Some n) None live is same = absurd (cc same)
 of_entry w id at t (Some n) (Some e) live is same = (t, e, live, is, let back : n ≡ e.call.charges = cc same in sym back)
 
-pub charges_here : (h : HostState) (w : World) (id : InstId) (at : ℕ) (x : Resident) (told : Option ℕ) → IsHost h w → resident_at h.residents id.place ≡ Some x → x.number ≡ Some id.number
+pub charges_here : (h : HostState) (w : World) (id : InstId) (at : ℕ) (x : InstanceEntry) (told : Option ℕ) → IsHost h w → entry_at h.entries id.place ≡ Some x → x.number ≡ Some id.number
     → told ≡ charges_in_journal x.tenant.journal at → AreChargesTold w id at told
 charges_here h w id at x told st there number is =
     let f = found h w id.place id.number x st there number in

@@ -22,22 +22,22 @@ use Rattle.wh_load.specs.Refusing.{view_linked}
 use Rattle.wh_initial.specs.Begins.{first_store}
 use Rattle.wh_admit.specs.declared.outcome.Admitted.{Admitted}
 use Rattle.wh_admit.specs.declared.room.Room.{Room}
-use Rattle.wh_admit.specs.Admitting.{RefusesFor}
-use Rattle.wh_admit.specs.Beginning.{BeginsAdmitted, BeginsAs}
-use Rattle.wh_admit.specs.Standing.{StandsForHost}
+use Rattle.wh_admit.specs.AdmissionFaults.{RefusesFor}
+use Rattle.wh_admit.specs.AdmittedStart.{BeginsAdmitted, BeginsAs}
+use Rattle.wh_admit.specs.RepresentedHost.{RepresentsHost}
 use Rattle.wh_instance.specs.Tenancy.{IsTenant}
 use Rattle.wh_space.specs.Arrivals.{claimed}
-use Rattle.wh_space.specs.declared.guest.Promise.{Promise}
+use Rattle.wh_space.specs.declared.occupant_entry.Promise.{Promise}
 use Rattle.wh_host.specs.declared.parts.LoadedModule.{LoadedModule}
-use Rattle.wh_host.specs.declared.parts.Resident.{Resident}
-use Rattle.wh_host.specs.Admitting.{BeginsResident, EntersNext, fault_answer}
-use Rattle.wh_host.specs.Hosting.{AreGivenAs, HostState, IsHost, IsResident, loaded_as, resident_at}
+use Rattle.wh_host.specs.declared.parts.InstanceEntry.{InstanceEntry}
+use Rattle.wh_host.specs.Admitting.{BeginsEntry, EntersNext, fault_answer}
+use Rattle.wh_host.specs.Hosting.{AreGivenAs, HostState, IsHost, IsEntryOf, loaded_as, entry_at}
 use Rattle.wh_host.proofs.Hosts.{moved_on, one_more, one_value, comes_on, same_or_not}
 use Rattle.wh_host.proofs.Requests.{as_many_modules, module_there, sound_here}
 
 -- ---- before it
 
-pub stands : (h : HostState) (w : World) (k : ℕ) (m : LoadedModule) (room : Room) → IsHost h w → slice_get h.modules k ≡ Some m → room.frames + minima h.space ≡ length h.space.pool.frames → room.slots + spreads h.space ≡ length h.space.slots.uses → room.live ≡ h.live → StandsForHost w k (Some (view_linked m.linked)) room
+pub stands : (h : HostState) (w : World) (k : ℕ) (m : LoadedModule) (room : Room) → IsHost h w → slice_get h.modules k ≡ Some m → room.frames + minima h.space ≡ length h.space.pool.frames → room.slots + spreads h.space ≡ length h.space.slots.uses → room.live ≡ h.live → RepresentsHost w k (Some (view_linked m.linked)) room
 stands h w k m room st is some_frames some_slots live = record {
   is_module = (loaded_as m, module_there h w k m st is, refl);
   room_left = record {
@@ -68,7 +68,7 @@ no_module_is_there h w k p st none =
     let behind = none_behind h.modules k none in
     isnt_admitted (omega (arith, count, behind), λ other lt. absurd (first_is_first other lt))
 
-pub refused_as : (w : World) (k : ℕ) (p : Params) (m : Module) (room : Room) → StandsForHost w k (Some m) room → (o : Option AdmitFault) → RefusesFor (Some m) room p o → IsAdmit w k p (fault_answer o) w
+pub refused_as : (w : World) (k : ℕ) (p : Params) (m : Module) (room : Room) → RepresentsHost w k (Some m) room → (o : Option AdmitFault) → RefusesFor (Some m) room p o → IsAdmit w k p (fault_answer o) w
 refused_as w k p m room is (Some fault) first = isnt_admitted (first w k is)
 refused_as w k p m room is None none = no_memory_to_admit (none w k is)
 
@@ -139,10 +139,10 @@ size_is m n e = omega (arith, e)
 pub claim_is : (number : ℕ) (a : Admitted) (p : Params) → a.shares ≡ p.shares → a.min ≡ p.min → a.max ≡ p.max → claimed (promise_of number a) ≡ promised number p
 claim_is number a p part least most = rw (part, least, most) refl
 
-pub admitted_here : (h : HostState) (w : World) (k : ℕ) (p : Params) (m : LoadedModule) (a : Admitted) (x : Resident) (place : ℕ) (rs rs1 rs2 : Slab Resident) (s2 : Space) → (st : IsHost h w) → slice_get h.modules k ≡ Some m
-    → ((fault : AdmitFault) → ¬ (MeetsFault w k p fault)) → BeginsAs (view_linked m.linked) p a → BeginsResident m.linked a h.next k (p.base, p.salt) x
-    → rs.slots ≡ h.residents → EntersNext rs h.space (promise_of h.next a) a.begun.pages place rs1 s2 → Updates rs1 rs2 place (Some x)
-    → (w2 : World) × IsAdmit w k p (admit_ok (record { place = place; number = h.next })) w2 × IsHost (record h { residents = rs2.slots; live = h.live + 1; space = s2; next = h.next + 1 }) w2
+pub admitted_here : (h : HostState) (w : World) (k : ℕ) (p : Params) (m : LoadedModule) (a : Admitted) (x : InstanceEntry) (place : ℕ) (rs rs1 rs2 : Slab InstanceEntry) (s2 : Space) → (st : IsHost h w) → slice_get h.modules k ≡ Some m
+    → ((fault : AdmitFault) → ¬ (MeetsFault w k p fault)) → BeginsAs (view_linked m.linked) p a → BeginsEntry m.linked a h.next k (p.base, p.salt) x
+    → rs.slots ≡ h.entries → EntersNext rs h.space (promise_of h.next a) a.begun.pages place rs1 s2 → Updates rs1 rs2 place (Some x)
+    → (w2 : World) × IsAdmit w k p (admit_ok (record { place = place; number = h.next })) w2 × IsHost (record h { entries = rs2.slots; live = h.live + 1; space = s2; next = h.next + 1 }) w2
 admitted_here h w k p m a x place rs rs1 rs2 s2 st is none b begins are enters updates =
     let i = b.instantiates in
     let wasm = view_linked m.linked in
@@ -157,7 +157,7 @@ admitted_here h w k p m a x place rs rs1 rs2 s2 st is none b begins are enters u
       doing = made.0;
       ended = made.1;
       open_calls = made.2;
-      stands_for = None;
+      waiting_for = None;
       dead = false;
     } in
     let entered = subst (λ (z : Space). Enters z place (claimed (promise_of h.next a)) a.begun.pages s2) st.space enters.enters in
@@ -189,10 +189,10 @@ admitted_here h w k p m a x place rs rs1 rs2 s2 st is none b begins are enters u
     let id : InstId = record { place = place; number = h.next } in
     let happens : IsAdmit w k p (admit_ok id) w2 = is_admitted lets in
     let zeros : view s2 place ≡ replicate (a.begun.pages * 65536) 0 = arrives.view ∙ ap (λ n. replicate n 0) (sym size ∙ size_is a.begun.pages a.begun.pages refl) in
-    let over : IsTenant m.linked x.page_limit x.tenant (view s2 place) t = subst (λ n. IsTenant m.linked n x.tenant (view s2 place) t) (sym begins.limit) (subst (λ bytes. IsTenant m.linked a.begun.page_limit x.tenant bytes t) (sym zeros) (made.4 t (record { inst_is = refl; rest = refl; doing = refl; ended_are = refl; open_are = refl; stands_for = refl; dead = refl }))) in
+    let over : IsTenant m.linked x.page_limit x.tenant (view s2 place) t = subst (λ n. IsTenant m.linked n x.tenant (view s2 place) t) (sym begins.limit) (subst (λ bytes. IsTenant m.linked a.begun.page_limit x.tenant bytes t) (sym zeros) (made.4 t (record { inst_is = refl; rest = refl; doing = refl; ended_are = refl; open_are = refl; waiting_for = refl; dead = refl }))) in
     let limits : x.page_limit ≡ last_size wasm.memories (p.max / 16) = begins.limit ∙ i.page_limit ∙ i.prepares.page_limit in
     let most = within_limit wasm.memories (p.max / 16) in
-    let represents : IsResident h.modules x s2 h.next t = record {
+    let represents : IsEntryOf h.modules x s2 h.next t = record {
       number = begins.number;
       of = begins.of;
       loaded = m;
@@ -201,8 +201,8 @@ admitted_here h w k p m a x place rs rs1 rs2 s2 st is none b begins are enters u
       limit = omega (arith, limits, most);
       is = over;
     } in
-    let vacant : resident_at h.residents place ≡ None = ap (λ (zs : List (Option Resident)). resident_at zs place) (sym are) ∙ enters.vacant in
-    let still : (q : ℕ) → q ≢ place → resident_at rs2.slots q ≡ resident_at h.residents q = λ q other. updates.others q other ∙ ap (λ (zs : List (Option Resident)). resident_at zs q) (enters.slots ∙ are) in (
+    let vacant : entry_at h.entries place ≡ None = ap (λ (zs : List (Option InstanceEntry)). entry_at zs place) (sym are) ∙ enters.vacant in
+    let still : (q : ℕ) → q ≢ place → entry_at rs2.slots q ≡ entry_at h.entries q = λ q other. updates.others q other ∙ ap (λ (zs : List (Option InstanceEntry)). entry_at zs q) (enters.slots ∙ are) in (
       w2,
       happens,
       record {
@@ -215,18 +215,18 @@ admitted_here h w k p m a x place rs rs1 rs2 s2 st is none b begins are enters u
             ⊎_elim
             (λ (old : get_or w.tenants j None ≡ Some u).
             let f = st.there j u old in
-            let far : u.place ≢ place = λ q. absurd (let bad : None ≡ Some f.0 = sym vacant ∙ ap (resident_at h.residents) (sym q) ∙ f.1 in cc bad) in
+            let far : u.place ≢ place = λ q. absurd (let bad : None ≡ Some f.0 = sym vacant ∙ ap (entry_at h.entries) (sym q) ∙ f.1 in cc bad) in
             (f.0, still u.place far ∙ f.1, moved_on h.modules f.0 w.space s2 j u f.2 (arrives.others u.place far).view))
             (λ (new : (j ≡ length w.tenants) × (Some t ≡ Some u)).
             let one = one_value t u new.1 in
             let which : h.next ≡ j = st.next ∙ sym new.0 in
-            (x, ap (resident_at rs2.slots) (ap (λ (z : Tenant). z.place) (sym one)) ∙ updates.changed, subst (λ z. IsResident h.modules x s2 j z) one (subst (λ n. IsResident h.modules x s2 n t) which represents)))
+            (x, ap (entry_at rs2.slots) (ap (λ (z : Tenant). z.place) (sym one)) ∙ updates.changed, subst (λ z. IsEntryOf h.modules x s2 j z) one (subst (λ n. IsEntryOf h.modules x s2 n t) which represents)))
             (at_end w.tenants (Some t) j u e);
         all = λ q j z e n.
             ⊎_elim
             (λ (here : q ≡ place).
-            let same : x ≡ z = one_value x z (sym updates.changed ∙ ap (resident_at rs2.slots) (sym here) ∙ e) in
-            let which : j ≡ length w.tenants = one_value j (length w.tenants) (sym n ∙ ap (λ (v : Resident). v.number) (sym same) ∙ begins.number ∙ ap Some st.next) in
+            let same : x ≡ z = one_value x z (sym updates.changed ∙ ap (entry_at rs2.slots) (sym here) ∙ e) in
+            let which : j ≡ length w.tenants = one_value j (length w.tenants) (sym n ∙ ap (λ (v : InstanceEntry). v.number) (sym same) ∙ begins.number ∙ ap Some st.next) in
             (t, ap (λ c. get_or (w.tenants ++ Some t ∷ []) c None) which ∙ has_come w.tenants (Some t), sym here))
             (λ (there : q ≢ place).
             let f = st.all q j z (sym (still q there) ∙ e) n in

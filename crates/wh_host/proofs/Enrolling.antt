@@ -9,12 +9,12 @@ use Rattle.wh_host_model.proofs.Host.Lasting.{inputs_stay}
 use Rattle.wh_journal.specs.Calls.{JournalCallState}
 use Rattle.wh_instance.specs.Tenancy.{RepresentsEach, suspension_of}
 use Rattle.wh_host.specs.declared.parts.LoadedModule.{LoadedModule}
-use Rattle.wh_host.specs.declared.parts.Resident.{Resident}
-use Rattle.wh_host.specs.declared.parts.Seat.{Seat}
+use Rattle.wh_host.specs.declared.parts.InstanceEntry.{InstanceEntry}
+use Rattle.wh_host.specs.declared.parts.InstanceRef.{InstanceRef}
 use Rattle.wh_host.specs.declared.rolling.Enrolled.{Enrolled}
-use Rattle.wh_host.specs.Hosting.{HostState, IsHost, IsResident, loaded_as, resident_at}
-use Rattle.wh_host.specs.Rolls.{IsRollOf, Listed, RollState, all_listed, listed_as, listed_by, listed_in, listed_seats, spelled_by, view_listed}
-use Rattle.wh_host.specs.Seating.{AreSeats, seats_by}
+use Rattle.wh_host.specs.Hosting.{HostState, IsHost, IsEntryOf, loaded_as, entry_at}
+use Rattle.wh_host.specs.Rolls.{IsRollOf, Listed, RollState, all_listed, listed_as, listed_by, listed_in, listed_refs, spelled_by, view_listed}
+use Rattle.wh_host.specs.InstanceRefs.{AreInstanceRefs, refs_by}
 use Rattle.wh_host.specs.Showing.{given_with}
 use Rattle.wh_host.proofs.Showings.{inputs_are, params_by}
 
@@ -32,7 +32,7 @@ as_long [] (e ∷ es) h = absurd h
 as_long (c ∷ cs) [] h = absurd h
 as_long (c ∷ cs) (e ∷ es) h = ap suc (as_long cs es h.1)
 
-same_listed : (h : HostState) (w : World) (i : ℕ) (t : Tenant) (x : Resident) → IsHost h w → tenant w i ≡ Some t → IsResident h.modules x w.space i t → listed_by (record { number = i; place = t.place }) x ≡ listed_as i t
+same_listed : (h : HostState) (w : World) (i : ℕ) (t : Tenant) (x : InstanceEntry) → IsHost h w → tenant w i ≡ Some t → IsEntryOf h.modules x w.space i t → listed_by (record { number = i; place = t.place }) x ≡ listed_as i t
 same_listed h w i t x st live is =
     let params = params_by x.given x.tenant.store.inputs.items t.params is.given (inputs_are is.loaded.linked x.page_limit x.tenant w t is.is (inputs_stay w st.comes i t live)) in
     let over = is.is in
@@ -41,65 +41,65 @@ same_listed h w i t x st live is =
     let both = length-append t.ended t.open_calls in
     let calls : length x.tenant.journal.ended + length x.tenant.journal.open_calls ≡ length (journal t) = omega (arith, ended, opens, both) in
     let dead = over.dead in
-    let stands = sym over.stands_for in
+    let stands = sym over.waiting_for in
     let of = is.of in
-    ap (λ n. put n (given_with x.given x.tenant.store.inputs.items) (length x.tenant.journal.ended + length x.tenant.journal.open_calls) (length x.tenant.journal.open_calls) x.tenant.dead (suspension_of x.tenant.stands_for)) of
-    ∙ ap (λ p. put t.of p (length x.tenant.journal.ended + length x.tenant.journal.open_calls) (length x.tenant.journal.open_calls) x.tenant.dead (suspension_of x.tenant.stands_for)) params
-    ∙ ap (λ n. put t.of t.params n (length x.tenant.journal.open_calls) x.tenant.dead (suspension_of x.tenant.stands_for)) calls
-    ∙ ap (λ n. put t.of t.params (length (journal t)) n x.tenant.dead (suspension_of x.tenant.stands_for)) opens
-    ∙ ap (λ b. put t.of t.params (length (journal t)) (length t.open_calls) b (suspension_of x.tenant.stands_for)) dead
+    ap (λ n. put n (given_with x.given x.tenant.store.inputs.items) (length x.tenant.journal.ended + length x.tenant.journal.open_calls) (length x.tenant.journal.open_calls) x.tenant.dead (suspension_of x.tenant.waiting_for)) of
+    ∙ ap (λ p. put t.of p (length x.tenant.journal.ended + length x.tenant.journal.open_calls) (length x.tenant.journal.open_calls) x.tenant.dead (suspension_of x.tenant.waiting_for)) params
+    ∙ ap (λ n. put t.of t.params n (length x.tenant.journal.open_calls) x.tenant.dead (suspension_of x.tenant.waiting_for)) calls
+    ∙ ap (λ n. put t.of t.params (length (journal t)) n x.tenant.dead (suspension_of x.tenant.waiting_for)) opens
+    ∙ ap (λ b. put t.of t.params (length (journal t)) (length t.open_calls) b (suspension_of x.tenant.waiting_for)) dead
     ∙ ap (put t.of t.params (length (journal t)) (length t.open_calls) t.dead) stands
   where
     put : ℕ → Params → ℕ → ℕ → Bool → Option Suspension → Listed
-    put of params calls opens dead stands = record { number = i; place = t.place; of = of; params = params; calls = calls; open_calls = opens; dead = dead; stands_for = stands }
+    put of params calls opens dead stands = record { number = i; place = t.place; of = of; params = params; calls = calls; open_calls = opens; dead = dead; waiting_for = stands }
 
 -- ---- all of them
 
-pub one_more_listed : (rs : List (Option Resident)) (seats : List Seat) (k : ℕ) (seat : Seat) → slice_get seats k ≡ Some seat → listed_seats rs (take (suc k) seats) ≡ listed_seats rs (take k seats) ++ listed_in seat (resident_at rs seat.place)
-one_more_listed rs [] k seat is = absurd (let bad : None ≡ Some seat = is in cc bad)
-one_more_listed rs (z ∷ zs) zero seat is = let same : z ≡ seat = cc is in append-nil (listed_in z (resident_at rs z.place)) ∙ ap (λ (u : Seat). listed_in u (resident_at rs u.place)) same
-one_more_listed rs (z ∷ zs) (suc k) seat is =
-    let first = listed_in z (resident_at rs z.place) in
-    ap (λ more. first ++ more) (one_more_listed rs zs k seat is) ∙ sym (append_assoc first (listed_seats rs (take k zs)) (listed_in seat (resident_at rs seat.place)))
+pub one_more_listed : (rs : List (Option InstanceEntry)) (instance_refs : List InstanceRef) (k : ℕ) (instance_ref : InstanceRef) → slice_get instance_refs k ≡ Some instance_ref → listed_refs rs (take (suc k) instance_refs) ≡ listed_refs rs (take k instance_refs) ++ listed_in instance_ref (entry_at rs instance_ref.place)
+one_more_listed rs [] k instance_ref is = absurd (let bad : None ≡ Some instance_ref = is in cc bad)
+one_more_listed rs (z ∷ zs) zero instance_ref is = let same : z ≡ instance_ref = cc is in append-nil (listed_in z (entry_at rs z.place)) ∙ ap (λ (u : InstanceRef). listed_in u (entry_at rs u.place)) same
+one_more_listed rs (z ∷ zs) (suc k) instance_ref is =
+    let first = listed_in z (entry_at rs z.place) in
+    ap (λ more. first ++ more) (one_more_listed rs zs k instance_ref is) ∙ sym (append_assoc first (listed_refs rs (take k zs)) (listed_in instance_ref (entry_at rs instance_ref.place)))
 
 pub pushed_listed : (a b : List Enrolled) (e : Enrolled) (l : Listed) → b ≡ a ++ e ∷ [] → view_listed e ≡ l → map view_listed b ≡ map view_listed a ++ l ∷ []
 pushed_listed a b e l is same = ap (map view_listed) is ∙ map-append view_listed a (e ∷ []) ∙ ap (λ (z : Listed). map view_listed a ++ z ∷ []) same
 
-pub listed_step : (rs : List (Option Resident)) (seats : List Seat) (k : ℕ) (seat : Seat) (a b : List Listed) → slice_get seats k ≡ Some seat → a ≡ listed_seats rs (take k seats) → b ≡ a ++ listed_in seat (resident_at rs seat.place) → b ≡ listed_seats rs (take (k + 1) seats)
-listed_step rs seats k seat a b at before more =
-    let here = listed_in seat (resident_at rs seat.place) in
+pub listed_step : (rs : List (Option InstanceEntry)) (instance_refs : List InstanceRef) (k : ℕ) (instance_ref : InstanceRef) (a b : List Listed) → slice_get instance_refs k ≡ Some instance_ref → a ≡ listed_refs rs (take k instance_refs) → b ≡ a ++ listed_in instance_ref (entry_at rs instance_ref.place) → b ≡ listed_refs rs (take (k + 1) instance_refs)
+listed_step rs instance_refs k instance_ref a b at before more =
+    let here = listed_in instance_ref (entry_at rs instance_ref.place) in
     let next : k + 1 ≡ suc k = omega arith in
-    more ∙ ap (λ q. q ++ here) before ∙ sym (one_more_listed rs seats k seat at) ∙ ap (λ n. listed_seats rs (take n seats)) (sym next)
+    more ∙ ap (λ q. q ++ here) before ∙ sym (one_more_listed rs instance_refs k instance_ref at) ∙ ap (λ n. listed_refs rs (take n instance_refs)) (sym next)
 
 -- who is there, as it is listed under this number
-abbrev IsListedAt : List (Option Resident) → ℕ → Tenant → Type 0
-IsListedAt rs n t = (x : Resident) × (resident_at rs t.place ≡ Some x) × (listed_by (record { number = n; place = t.place }) x ≡ listed_as n t)
+abbrev IsListedAt : List (Option InstanceEntry) → ℕ → Tenant → Type 0
+IsListedAt rs n t = (x : InstanceEntry) × (entry_at rs t.place ≡ Some x) × (listed_by (record { number = n; place = t.place }) x ≡ listed_as n t)
 
-shifted : (rs : List (Option Resident)) (i k : ℕ) (t : Tenant) → IsListedAt rs (i + suc k) t → IsListedAt rs ((i + 1) + k) t
+shifted : (rs : List (Option InstanceEntry)) (i k : ℕ) (t : Tenant) → IsListedAt rs (i + suc k) t → IsListedAt rs ((i + 1) + k) t
 shifted rs i k t h = let same : i + suc k ≡ (i + 1) + k = omega arith in subst (λ n. IsListedAt rs n t) same h
 
-all_same : (rs : List (Option Resident)) (i : ℕ) (ts : List (Option Tenant)) → ((k : ℕ) (t : Tenant) → get_or ts k None ≡ Some t → IsListedAt rs (i + k) t) → listed_seats rs (seats_by i ts) ≡ all_listed i ts
+all_same : (rs : List (Option InstanceEntry)) (i : ℕ) (ts : List (Option Tenant)) → ((k : ℕ) (t : Tenant) → get_or ts k None ≡ Some t → IsListedAt rs (i + k) t) → listed_refs rs (refs_by i ts) ≡ all_listed i ts
 all_same rs i [] has = refl
 all_same rs i (None ∷ ts) has = all_same rs (i + 1) ts (λ k t is. shifted rs i k t (has (suc k) t is))
 all_same rs i (Some t ∷ ts) has =
     let zero_more : i + 0 ≡ i = omega arith in
     let h = subst (λ n. IsListedAt rs n t) zero_more (has 0 t refl) in
-    let seat : Seat = record { number = i; place = t.place } in
-    let first : listed_in seat (resident_at rs t.place) ≡ listed_as i t ∷ [] = ap (listed_in seat) h.1 ∙ ap (λ l. l ∷ []) h.2 in
+    let instance_ref : InstanceRef = record { number = i; place = t.place } in
+    let first : listed_in instance_ref (entry_at rs t.place) ≡ listed_as i t ∷ [] = ap (listed_in instance_ref) h.1 ∙ ap (λ l. l ∷ []) h.2 in
     let tail = all_same rs (i + 1) ts (λ k u is. shifted rs i k u (has (suc k) u is)) in
-    ap (λ a. a ++ listed_seats rs (seats_by (i + 1) ts)) first ∙ ap (λ b. listed_as i t ∷ b) tail
+    ap (λ a. a ++ listed_refs rs (refs_by (i + 1) ts)) first ∙ ap (λ b. listed_as i t ∷ b) tail
 
 -- ---- the whole
 
-pub roll_is : (h : HostState) (seats : List Seat) (modules : List (List ℕ)) (next out : ℕ) (instances : List Listed) → AreSeats h seats → modules ≡ map spelled_by h.modules → next ≡ h.next → out ≡ tickets h.space → instances ≡ listed_seats h.residents seats
+pub roll_is : (h : HostState) (instance_refs : List InstanceRef) (modules : List (List ℕ)) (next out : ℕ) (instances : List Listed) → AreInstanceRefs h instance_refs → modules ≡ map spelled_by h.modules → next ≡ h.next → out ≡ tickets h.space → instances ≡ listed_refs h.entries instance_refs
     → IsRollOf h (record { modules = modules; next = next; tickets_out = out; instances = instances })
-roll_is h seats modules next out instances are e1 e2 e3 e4 w st =
+roll_is h instance_refs modules next out instances are e1 e2 e3 e4 w st =
     let bytes : modules ≡ map (λ (l : Loaded). l.bytes) w.modules = e1 ∙ spelled_as h.modules ∙ ap (map (λ (l : Loaded). l.bytes)) st.modules in
     let many = e2 ∙ st.next in
     let tickets_out = e3 ∙ ap tickets st.space in
     let zeroth : (k : ℕ) → 0 + k ≡ k = λ k. omega arith in
-    let listed : instances ≡ all_listed 0 w.tenants = e4 ∙ ap (listed_seats h.residents) (are w st) ∙ all_same h.residents 0 w.tenants (λ k t live. (let f = st.there k t live in
-    subst (λ n. IsListedAt h.residents n t) (sym (zeroth k)) (f.0, f.1, same_listed h w k t f.0 st live f.2))) in
+    let listed : instances ≡ all_listed 0 w.tenants = e4 ∙ ap (listed_refs h.entries) (are w st) ∙ all_same h.entries 0 w.tenants (λ k t live. (let f = st.there k t live in
+    subst (λ n. IsListedAt h.entries n t) (sym (zeroth k)) (f.0, f.1, same_listed h w k t f.0 st live f.2))) in
     ap (λ (b : List (List ℕ)). let r : RollState = record { modules = b; next = next; tickets_out = out; instances = instances } in r) bytes
     ∙ ap (λ (n : ℕ). let r : RollState = record { modules = map (λ (l : Loaded). l.bytes) w.modules; next = n; tickets_out = out; instances = instances } in r) many
     ∙ ap (λ (n : ℕ). let r : RollState = record { modules = map (λ (l : Loaded). l.bytes) w.modules; next = length w.tenants; tickets_out = n; instances = instances } in r) tickets_out

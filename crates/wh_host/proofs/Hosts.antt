@@ -10,25 +10,25 @@ use Rattle.wh_host_model.specs.Space.Sound.{IsSound}
 use Rattle.wh_host_model.specs.Host.Spaces.{LeftAlone, OthersLeftAlone}
 use Rattle.wh_host_model.specs.Host.Worlds.{Tenant, World, tenant, with_tenant, promised, empty_world}
 use Rattle.wh_host_model.specs.Owners.{Params}
-use Rattle.wh_host_model.specs.Host.Answers.{Closes, faces_next, is_dead, Turn, is_idle, has_ended, has_no_fuel, has_no_frame, can_go_on, keeps_its_fault}
+use Rattle.wh_host_model.specs.Host.CallAnswers.{Closes, faces_next, is_dead, Turn, is_idle, has_ended, has_no_fuel, has_no_frame, can_go_on, keeps_its_fault}
 use Rattle.wh_host_model.specs.Host.Laws.{PlacesAreTenants}
-use Rattle.wh_host_model.specs.Host.Calls.{Refuels, has_more, Retries, may_try}
+use Rattle.wh_host_model.specs.Host.OwnerCalls.{Refuels, has_more, Retries, may_try}
 use Rattle.wh_host_model.specs.Host.Events.{Event, turn, epoch}
 use Rattle.wh_host_model.specs.Host.Happens.{AllHappen, Happens, IsLive, IsTurn, NoInstance, of_none, of_one}
 use Rattle.wh_host_model.specs.Host.Misreading.{AllBefall, AllSeeAsMany, Befalls, ComesAbout, IsMisread, Step, by_event, by_misreading}
 use Rattle.wh_host_model.proofs.Host.Lasting.{places_stay_right}
 use Rattle.wh_host_model.proofs.Host.Opening.{apart_none, apart_steps, apart_then, proceeds_apart}
-use Rattle.wh_instance.specs.Asked.{OfAnyTenant}
-use Rattle.wh_instance.specs.Tenancy.{IsTenant, TenantState}
+use Rattle.wh_instance.specs.OwnerRequests.{OfAnyTenant}
+use Rattle.wh_instance.specs.Tenancy.{IsTenant, HostInstanceState}
 use Rattle.wh_space.specs.Arrivals.{IsNew}
 use Rattle.wh_space.specs.Steps.{limit_by}
 use Rattle.wh_host.specs.declared.parts.LoadedModule.{LoadedModule}
-use Rattle.wh_host.specs.declared.parts.Resident.{Resident}
+use Rattle.wh_host.specs.declared.parts.InstanceEntry.{InstanceEntry}
 use Rattle.wh_host.specs.Lying.{LiesAt}
 use Rattle.wh_host.specs.Lent.{TurnsTo}
 use Rattle.wh_host_model.specs.Host.Admission.{live_count}
-use Rattle.wh_host.specs.Seats.{OthersStay}
-use Rattle.wh_host.specs.Hosting.{AreGivenAs, HostState, IsHost, IsNewHost, IsReached, IsResident, resident_at}
+use Rattle.wh_host.specs.Entries.{OthersStay}
+use Rattle.wh_host.specs.Hosting.{AreGivenAs, HostState, IsHost, IsNewHost, IsReached, IsEntryOf, entry_at}
 
 -- ---- lists
 
@@ -80,7 +80,7 @@ one_more (Some u ∷ ts) t = ap (λ n. 1 + n) (one_more ts t)
 
 -- ---- places
 
-pub seat_set : (rs : List (Option Resident)) (i : ℕ) (x : Resident) (o : Option Resident) → resident_at rs i ≡ Some x → (resident_at (slice_set rs i o) i ≡ o) × OthersStay rs i (slice_set rs i o)
+pub seat_set : (rs : List (Option InstanceEntry)) (i : ℕ) (x : InstanceEntry) (o : Option InstanceEntry) → entry_at rs i ≡ Some x → (entry_at (slice_set rs i o) i ≡ o) × OthersStay rs i (slice_set rs i o)
 seat_set rs i x o e = let in_range = some_within rs i x e in (get_or-set_same rs i o None in_range, λ j other. get_or-set_other rs i j o None other)
 
 -- ---- runs
@@ -124,30 +124,30 @@ places w c = places_stay_right w c
 -- ---- who is there
 
 -- who has a place is an instance
-pub record Found (h : HostState) (w : World) (place i : ℕ) (x : Resident) : Type 0 where
+pub record Found (h : HostState) (w : World) (place i : ℕ) (x : InstanceEntry) : Type 0 where
   pub t : Tenant
   pub live : tenant w i ≡ Some t
   pub at : t.place ≡ place
-  pub is : IsResident h.modules x w.space i t
+  pub is : IsEntryOf h.modules x w.space i t
 
-pub found : (h : HostState) (w : World) (place i : ℕ) (x : Resident) → IsHost h w → resident_at h.residents place ≡ Some x → x.number ≡ Some i → Found h w place i x
+pub found : (h : HostState) (w : World) (place i : ℕ) (x : InstanceEntry) → IsHost h w → entry_at h.entries place ≡ Some x → x.number ≡ Some i → Found h w place i x
 found h w place i x st at number =
     let f = st.all place i x at number in
     let back = st.there i f.0 f.1 in
-    let same : back.0 ≡ x = one_value back.0 x (sym back.1 ∙ ap (resident_at h.residents) f.2 ∙ at) in
-    record { t = f.0; live = f.1; at = f.2; is = subst (λ z. IsResident h.modules z w.space i f.0) same back.2 }
+    let same : back.0 ≡ x = one_value back.0 x (sym back.1 ∙ ap (entry_at h.entries) f.2 ∙ at) in
+    record { t = f.0; live = f.1; at = f.2; is = subst (λ z. IsEntryOf h.modules z w.space i f.0) same back.2 }
 
-pub nobody : (h : HostState) (w : World) (id : InstId) → IsHost h w → resident_at h.residents id.place ≡ None → NoInstance w id
-nobody h w id st none t live = let f = st.there id.number t live.0 in absurd (let bad : None ≡ Some f.0 = sym none ∙ ap (resident_at h.residents) (sym live.1) ∙ f.1 in cc bad)
+pub nobody : (h : HostState) (w : World) (id : InstId) → IsHost h w → entry_at h.entries id.place ≡ None → NoInstance w id
+nobody h w id st none t live = let f = st.there id.number t live.0 in absurd (let bad : None ≡ Some f.0 = sym none ∙ ap (entry_at h.entries) (sym live.1) ∙ f.1 in cc bad)
 
-pub somebody_else : (h : HostState) (w : World) (id : InstId) (x : Resident) → IsHost h w → resident_at h.residents id.place ≡ Some x → x.number ≢ Some id.number → NoInstance w id
+pub somebody_else : (h : HostState) (w : World) (id : InstId) (x : InstanceEntry) → IsHost h w → entry_at h.entries id.place ≡ Some x → x.number ≢ Some id.number → NoInstance w id
 somebody_else h w id x st at other t live =
     let f = st.there id.number t live.0 in
-    let same : f.0 ≡ x = one_value f.0 x (sym f.1 ∙ ap (resident_at h.residents) live.1 ∙ at) in
-    other (ap (λ (z : Resident). z.number) (sym same) ∙ f.2.number)
+    let same : f.0 ≡ x = one_value f.0 x (sym f.1 ∙ ap (entry_at h.entries) live.1 ∙ at) in
+    other (ap (λ (z : InstanceEntry). z.number) (sym same) ∙ f.2.number)
 
 -- so there is one
-pub one_there : (h : HostState) (w : World) (place i : ℕ) (x : Resident) → IsHost h w → resident_at h.residents place ≡ Some x → x.number ≡ Some i → 1 ≤ h.live
+pub one_there : (h : HostState) (w : World) (place i : ℕ) (x : InstanceEntry) → IsHost h w → entry_at h.entries place ≡ Some x → x.number ≡ Some i → 1 ≤ h.live
 one_there h w place i x st at number =
     let f = found h w place i x st at number in
     let counts = one_fewer w.tenants i f.t f.live in
@@ -155,7 +155,7 @@ one_there h w place i x st at number =
     omega (arith, counts, e)
 
 -- and lies there
-pub lies_there : (h : HostState) (w : World) (place i : ℕ) (x : Resident) → IsHost h w → (f : Found h w place i x) → LiesAt f.is.loaded.linked x.page_limit x.tenant w.space place f.t
+pub lies_there : (h : HostState) (w : World) (place i : ℕ) (x : InstanceEntry) → IsHost h w → (f : Found h w place i x) → LiesAt f.is.loaded.linked x.page_limit x.tenant w.space place f.t
 lies_there h w place i x st f =
     let claims = (places w st.comes).claimed i f.t f.live in
     let here : claim w.space place ≡ Some (promised i f.t.params) = ap (claim w.space) (sym f.at) ∙ claims in
@@ -168,7 +168,7 @@ lies_there h w place i x st f =
     }
 
 -- it is who it was where it sees what it saw
-pub moved_on : (modules : List LoadedModule) (x : Resident) (s s2 : Space) (i : ℕ) (t : Tenant) → IsResident modules x s i t → view s2 t.place ≡ view s t.place → IsResident modules x s2 i t
+pub moved_on : (modules : List LoadedModule) (x : InstanceEntry) (s s2 : Space) (i : ℕ) (t : Tenant) → IsEntryOf modules x s i t → view s2 t.place ≡ view s t.place → IsEntryOf modules x s2 i t
 moved_on modules x s s2 i t r sees = record {
   number = r.number;
   of = r.of;
@@ -180,7 +180,7 @@ moved_on modules x s s2 i t r sees = record {
 }
 
 -- and another one of the same owner, over what that one sees
-pub same_owner : (modules : List LoadedModule) (x : Resident) (s s2 : Space) (i : ℕ) (t t2 : Tenant) (z : TenantState) → (r : IsResident modules x s i t) → t2.of ≡ t.of → t2.params ≡ t.params → IsTenant r.loaded.linked x.page_limit z (view s2 t2.place) t2 → IsResident modules (record x { tenant = z }) s2 i t2
+pub same_owner : (modules : List LoadedModule) (x : InstanceEntry) (s s2 : Space) (i : ℕ) (t t2 : Tenant) (z : HostInstanceState) → (r : IsEntryOf modules x s i t) → t2.of ≡ t.of → t2.params ≡ t.params → IsTenant r.loaded.linked x.page_limit z (view s2 t2.place) t2 → IsEntryOf modules (record x { tenant = z }) s2 i t2
 same_owner modules x s s2 i t t2 z r of params is = record {
   number = r.number;
   of = r.of ∙ sym of;
@@ -193,11 +193,11 @@ same_owner modules x s s2 i t t2 z r of params is = record {
 
 -- ---- one instance changes
 
-pub changed : (h : HostState) (w : World) (place i : ℕ) (x y : Resident) (t2 : Tenant) (s2 : Space) → (st : IsHost h w) → resident_at h.residents place ≡ Some x → x.number ≡ Some i → t2.place ≡ place → IsResident h.modules y s2 i t2
-    → ((j : ℕ) → j ≢ place → view s2 j ≡ view w.space j) → ComesAbout (with_tenant w i (Some t2) s2) → IsHost (record h { residents = slice_set h.residents place (Some y); space = s2 }) (with_tenant w i (Some t2) s2)
+pub changed : (h : HostState) (w : World) (place i : ℕ) (x y : InstanceEntry) (t2 : Tenant) (s2 : Space) → (st : IsHost h w) → entry_at h.entries place ≡ Some x → x.number ≡ Some i → t2.place ≡ place → IsEntryOf h.modules y s2 i t2
+    → ((j : ℕ) → j ≢ place → view s2 j ≡ view w.space j) → ComesAbout (with_tenant w i (Some t2) s2) → IsHost (record h { entries = slice_set h.entries place (Some y); space = s2 }) (with_tenant w i (Some t2) s2)
 changed h w place i x y t2 s2 st at_slot number lies represents sees comes =
     let mine = found h w place i x st at_slot number in
-    let seats = seat_set h.residents place x (Some y) at_slot in
+    let instance_refs = seat_set h.entries place x (Some y) at_slot in
     record {
       comes = comes;
       modules = st.modules;
@@ -209,22 +209,22 @@ changed h w place i x y t2 s2 st at_slot number lies represents sees comes =
           (λ (p : (k ≡ i) × (Some t2 ≡ Some a)).
           let one = one_value t2 a p.1 in
           let same : a.place ≡ place = sym (ap (λ (z : Tenant). z.place) one) ∙ lies in
-          (y, ap (resident_at (slice_set h.residents place (Some y))) same ∙ seats.0, subst (λ z. IsResident h.modules y s2 k z) one (subst (λ n. IsResident h.modules y s2 n t2) (sym p.0) represents)))
+          (y, ap (entry_at (slice_set h.entries place (Some y))) same ∙ instance_refs.0, subst (λ z. IsEntryOf h.modules y s2 k z) one (subst (λ n. IsEntryOf h.modules y s2 n t2) (sym p.0) represents)))
           (λ (p : (k ≢ i) × (get_or w.tenants k None ≡ Some a)).
           let f = st.there k a p.1 in
           let r = f.2 in
-          let far : a.place ≢ place = λ z. p.0 (one_value k i (sym r.number ∙ ap (λ (v : Resident). v.number) (one_value f.0 x (sym f.1 ∙ ap (resident_at h.residents) z ∙ at_slot)) ∙ number)) in
-          (f.0, seats.1 a.place far ∙ f.1, moved_on h.modules f.0 w.space s2 k a r (sees a.place far)))
+          let far : a.place ≢ place = λ z. p.0 (one_value k i (sym r.number ∙ ap (λ (v : InstanceEntry). v.number) (one_value f.0 x (sym f.1 ∙ ap (entry_at h.entries) z ∙ at_slot)) ∙ number)) in
+          (f.0, instance_refs.1 a.place far ∙ f.1, moved_on h.modules f.0 w.space s2 k a r (sees a.place far)))
           (at_place w.tenants i k (Some t2) mine.t a mine.live e);
       all = λ p k z e n.
           ⊎_elim
           (λ (q : p ≡ place).
-          let same : y ≡ z = one_value y z (sym seats.0 ∙ ap (resident_at (slice_set h.residents place (Some y))) (sym q) ∙ e) in
+          let same : y ≡ z = one_value y z (sym instance_refs.0 ∙ ap (entry_at (slice_set h.entries place (Some y))) (sym q) ∙ e) in
           let in_range = some_within w.tenants i mine.t mine.live in
-          let which : k ≡ i = one_value k i (sym n ∙ ap (λ (v : Resident). v.number) (sym same) ∙ represents.number) in
+          let which : k ≡ i = one_value k i (sym n ∙ ap (λ (v : InstanceEntry). v.number) (sym same) ∙ represents.number) in
           (t2, ap (λ m. get_or (slice_set w.tenants i (Some t2)) m None) which ∙ get_or-set_same w.tenants i (Some t2) None in_range, lies ∙ sym q))
           (λ (q : p ≢ place).
-          let f = st.all p k z (sym (seats.1 p q) ∙ e) n in
+          let f = st.all p k z (sym (instance_refs.1 p q) ∙ e) n in
           ⊎_elim
           (λ (same : k ≡ i). let one = one_value f.0 mine.t (sym f.1 ∙ ap (tenant w) same ∙ mine.live) in absurd (q (sym f.2 ∙ ap (λ (v : Tenant). v.place) one ∙ mine.at)))
           (λ (other : k ≢ i). (f.0, get_or-set_other w.tenants i k (Some t2) None other ∙ f.1, f.2))
@@ -233,11 +233,11 @@ changed h w place i x y t2 s2 st at_slot number lies represents sees comes =
     }
 
 -- nothing changes
-pub put_back : (h : HostState) (place : ℕ) (x : Resident) → resident_at h.residents place ≡ Some x → record h { residents = slice_set h.residents place (Some x) } ≡ h
-put_back h place x e = ap (λ (zs : List (Option Resident)). let s : HostState = record h { residents = zs } in s) (ap (slice_set h.residents place) (sym e) ∙ set-get_or h.residents place None)
+pub put_back : (h : HostState) (place : ℕ) (x : InstanceEntry) → entry_at h.entries place ≡ Some x → record h { entries = slice_set h.entries place (Some x) } ≡ h
+put_back h place x e = ap (λ (zs : List (Option InstanceEntry)). let s : HostState = record h { entries = zs } in s) (ap (slice_set h.entries place) (sym e) ∙ set-get_or h.entries place None)
 
-pub kept_back : (h : HostState) (place : ℕ) (x : Resident) (tenant : TenantState) → tenant ≡ x.tenant → resident_at h.residents place ≡ Some x → record h { residents = slice_set h.residents place (Some (record x { tenant = tenant })) } ≡ h
-kept_back h place x tenant same e = ap (λ (z : TenantState). let s : HostState = record h { residents = slice_set h.residents place (Some (record x { tenant = z })) } in s) same ∙ put_back h place x e
+pub kept_back : (h : HostState) (place : ℕ) (x : InstanceEntry) (tenant : HostInstanceState) → tenant ≡ x.tenant → entry_at h.entries place ≡ Some x → record h { entries = slice_set h.entries place (Some (record x { tenant = tenant })) } ≡ h
+kept_back h place x tenant same e = ap (λ (z : HostInstanceState). let s : HostState = record h { entries = slice_set h.entries place (Some (record x { tenant = z })) } in s) same ∙ put_back h place x e
 
 -- ---- a turn
 
@@ -264,9 +264,9 @@ turn_stays q s s2 t t2 answer (keeps_its_fault is_open stands doing none next le
 pub idle_host : (h : HostState) (w : World) (id : InstId) (q : ℕ) → IsHost h w → NoInstance w id → (w2 : World) × IsTurn w id q Idle w2 × IsHost h w2
 idle_host h w id q st none = (w, of_none none, st)
 
-pub turned_host : (h : HostState) (w : World) (id : InstId) (q : ℕ) (x : Resident) (z : TenantState) (answer : TurnEnd) (s2 : Space) (st : IsHost h w) → resident_at h.residents id.place ≡ Some x → x.number ≡ Some id.number → (f : Found h w id.place id.number x)
+pub turned_host : (h : HostState) (w : World) (id : InstId) (q : ℕ) (x : InstanceEntry) (z : HostInstanceState) (answer : TurnEnd) (s2 : Space) (st : IsHost h w) → entry_at h.entries id.place ≡ Some x → x.number ≡ Some id.number → (f : Found h w id.place id.number x)
     → TurnsTo f.is.loaded.linked x.page_limit q w.space f.t answer id.place z s2
-    → (w2 : World) × IsTurn w id q answer w2 × IsHost (record h { residents = slice_set h.residents id.place (Some (record x { tenant = z })); space = s2 }) w2
+    → (w2 : World) × IsTurn w id q answer w2 × IsHost (record h { entries = slice_set h.entries id.place (Some (record x { tenant = z })); space = s2 }) w2
 turned_host h w id q x z answer s2 st at number f to =
     let t2 = to.0 in
     let stays = turn_stays q w.space s2 f.t t2 answer to.1 in
@@ -278,20 +278,20 @@ turned_host h w id q x z answer s2 st at number f to =
     (w2, happens, changed h w id.place id.number x (record x { tenant = z }) t2 s2 st at number to.2.place_is represents sees (comes_on w w2 (turn id q) st.comes (answer, happens)))
 
 -- the module of who is there
-pub module_is : (h : HostState) (w : World) (place i : ℕ) (x : Resident) (m : LoadedModule) → (f : Found h w place i x) → slice_get h.modules x.of ≡ Some m → f.is.loaded ≡ m
+pub module_is : (h : HostState) (w : World) (place i : ℕ) (x : InstanceEntry) (m : LoadedModule) → (f : Found h w place i x) → slice_get h.modules x.of ≡ Some m → f.is.loaded ≡ m
 module_is h w place i x m f is = one_value f.is.loaded m (sym f.is.is_loaded ∙ is)
 
 -- who is there lies in the memory that the code has
-pub lies_here : (h : HostState) (w : World) (place i : ℕ) (x : Resident) (m : LoadedModule) → (st : IsHost h w) → resident_at h.residents place ≡ Some x → x.number ≡ Some i → slice_get h.modules x.of ≡ Some m → (t : Tenant) × (tenant w i ≡ Some t) × LiesAt m.linked x.page_limit x.tenant h.space place t
+pub lies_here : (h : HostState) (w : World) (place i : ℕ) (x : InstanceEntry) (m : LoadedModule) → (st : IsHost h w) → entry_at h.entries place ≡ Some x → x.number ≡ Some i → slice_get h.modules x.of ≡ Some m → (t : Tenant) × (tenant w i ≡ Some t) × LiesAt m.linked x.page_limit x.tenant h.space place t
 lies_here h w place i x m st at number is =
     let f = found h w place i x st at number in
     let lies = lies_there h w place i x st f in
     let by_module = subst (λ (z : LoadedModule). LiesAt z.linked x.page_limit x.tenant w.space place f.t) (module_is h w place i x m f is) lies in
     (f.t, f.live, subst (λ s. LiesAt m.linked x.page_limit x.tenant s place f.t) (sym st.space) by_module)
 
-pub turned_here : (h : HostState) (w : World) (id : InstId) (q : ℕ) (x : Resident) (z : TenantState) (m : LoadedModule) (answer : TurnEnd) (s2 : Space) → IsHost h w → resident_at h.residents id.place ≡ Some x → x.number ≡ Some id.number → slice_get h.modules x.of ≡ Some m
+pub turned_here : (h : HostState) (w : World) (id : InstId) (q : ℕ) (x : InstanceEntry) (z : HostInstanceState) (m : LoadedModule) (answer : TurnEnd) (s2 : Space) → IsHost h w → entry_at h.entries id.place ≡ Some x → x.number ≡ Some id.number → slice_get h.modules x.of ≡ Some m
     → ((t : Tenant) → LiesAt m.linked x.page_limit x.tenant h.space id.place t → TurnsTo m.linked x.page_limit q h.space t answer id.place z s2)
-    → (w2 : World) × IsTurn w id q answer w2 × IsHost (record h { residents = slice_set h.residents id.place (Some (record x { tenant = z })); space = s2 }) w2
+    → (w2 : World) × IsTurn w id q answer w2 × IsHost (record h { entries = slice_set h.entries id.place (Some (record x { tenant = z })); space = s2 }) w2
 turned_here h w id q x z m answer s2 st at number is turns =
     let f = found h w id.place id.number x st at number in
     let lies = lies_there h w id.place id.number x st f in
@@ -302,7 +302,7 @@ turned_here h w id q x z m answer s2 st at number is turns =
     turned_host h w id q x z answer s2 st at number f (subst (λ (l : LoadedModule). TurnsTo l.linked x.page_limit q w.space f.t answer id.place z s2) (sym one) in_world)
 
 -- its module is there
-pub no_module_less : (h : HostState) (w : World) (place i : ℕ) (x : Resident) → IsHost h w → resident_at h.residents place ≡ Some x → x.number ≡ Some i → slice_get h.modules x.of ≡ None → ⊥
+pub no_module_less : (h : HostState) (w : World) (place i : ℕ) (x : InstanceEntry) → IsHost h w → entry_at h.entries place ≡ Some x → x.number ≡ Some i → slice_get h.modules x.of ≡ None → ⊥
 no_module_less h w place i x st at number none = let f = found h w place i x st at number in absurd (let bad : None ≡ Some f.is.loaded = sym none ∙ f.is.is_loaded in cc bad)
 
 -- ---- what is asked of the present call
@@ -319,40 +319,40 @@ refuel_stays t n t2 (has_more is_open stands) = record { place = refl; of = refl
 pub retry_stays : (t t2 : Tenant) → Retries t t2 → SameTenant t t2
 retry_stays t t2 (may_try is_open stands) = record { place = refl; of = refl; params = refl }
 
-pub asked_found : (h : HostState) (w : World) (id : InstId) (x : Resident) (z : TenantState) (R : Tenant → Tenant → Type 0) → (st : IsHost h w) → resident_at h.residents id.place ≡ Some x → x.number ≡ Some id.number
+pub asked_found : (h : HostState) (w : World) (id : InstId) (x : InstanceEntry) (z : HostInstanceState) (R : Tenant → Tenant → Type 0) → (st : IsHost h w) → entry_at h.entries id.place ≡ Some x → x.number ≡ Some id.number
     → ((t t2 : Tenant) → R t t2 → SameTenant t t2) → (f : Found h w id.place id.number x) → (t2 : Tenant) × R f.t t2 × IsTenant f.is.loaded.linked x.page_limit z (view w.space f.t.place) t2
     → (e : Event) → ((t t2 : Tenant) → IsLive w id t → R t t2 → Happens w e (with_tenant w id.number (Some t2) w.space))
-    → (t t2 : Tenant) × IsLive w id t × R t t2 × IsHost (record h { residents = slice_set h.residents id.place (Some (record x { tenant = z })) }) (with_tenant w id.number (Some t2) w.space)
+    → (t t2 : Tenant) × IsLive w id t × R t t2 × IsHost (record h { entries = slice_set h.entries id.place (Some (record x { tenant = z })) }) (with_tenant w id.number (Some t2) w.space)
 asked_found h w id x z R st at number stays f made e happens =
     let t2 = made.0 in
     let alike = stays f.t t2 made.1 in
     let live : IsLive w id f.t = (f.live, f.at) in
-    let y : Resident = record x { tenant = z } in
+    let y : InstanceEntry = record x { tenant = z } in
     let over : IsTenant f.is.loaded.linked x.page_limit z (view w.space t2.place) t2 = subst (λ i. IsTenant f.is.loaded.linked x.page_limit z (view w.space i) t2) (sym alike.place) made.2 in
     let represents = same_owner h.modules x w.space w.space id.number f.t t2 z f.is alike.of alike.params over in
     let w2 = with_tenant w id.number (Some t2) w.space in
     let then = changed h w id.place id.number x y t2 w.space st at number (alike.place ∙ f.at) represents (λ j other. refl) (comes_on w w2 e st.comes (happens f.t t2 live made.1)) in
-    let rs = slice_set h.residents id.place (Some y) in
-    (f.t, t2, live, made.1, subst (λ s. IsHost (record h { residents = rs; space = s }) w2) (sym st.space) then)
+    let rs = slice_set h.entries id.place (Some y) in
+    (f.t, t2, live, made.1, subst (λ s. IsHost (record h { entries = rs; space = s }) w2) (sym st.space) then)
 
-pub asked_here : (h : HostState) (w : World) (id : InstId) (x : Resident) (z : TenantState) (R : Tenant → Tenant → Type 0) → (st : IsHost h w) → resident_at h.residents id.place ≡ Some x → x.number ≡ Some id.number
+pub asked_here : (h : HostState) (w : World) (id : InstId) (x : InstanceEntry) (z : HostInstanceState) (R : Tenant → Tenant → Type 0) → (st : IsHost h w) → entry_at h.entries id.place ≡ Some x → x.number ≡ Some id.number
     → ((t t2 : Tenant) → R t t2 → SameTenant t t2) → OfAnyTenant x.tenant (λ l limit bytes t. (t2 : Tenant) × R t t2 × IsTenant l limit z bytes t2)
     → (e : Event) → ((t t2 : Tenant) → IsLive w id t → R t t2 → Happens w e (with_tenant w id.number (Some t2) w.space))
-    → (t t2 : Tenant) × IsLive w id t × R t t2 × IsHost (record h { residents = slice_set h.residents id.place (Some (record x { tenant = z })) }) (with_tenant w id.number (Some t2) w.space)
+    → (t t2 : Tenant) × IsLive w id t × R t t2 × IsHost (record h { entries = slice_set h.entries id.place (Some (record x { tenant = z })) }) (with_tenant w id.number (Some t2) w.space)
 asked_here h w id x z R st at number stays asked e happens =
     let f = found h w id.place id.number x st at number in
     asked_found h w id x z R st at number stays f (asked f.is.loaded.linked x.page_limit (view w.space f.t.place) f.t f.is.is) e happens
 
 -- of whoever is there it is so
-pub of_who_is_there : (h : HostState) (w : World) (id : InstId) (x : Resident) (P : Tenant → Type 0) → IsHost h w → resident_at h.residents id.place ≡ Some x → x.number ≡ Some id.number → OfAnyTenant x.tenant (λ l limit bytes t. P t) → (t : Tenant) × IsLive w id t × P t
+pub of_who_is_there : (h : HostState) (w : World) (id : InstId) (x : InstanceEntry) (P : Tenant → Type 0) → IsHost h w → entry_at h.entries id.place ≡ Some x → x.number ≡ Some id.number → OfAnyTenant x.tenant (λ l limit bytes t. P t) → (t : Tenant) × IsLive w id t × P t
 of_who_is_there h w id x P st at number asked =
     let f = found h w id.place id.number x st at number in
     (f.t, (f.live, f.at), asked f.is.loaded.linked x.page_limit (view w.space f.t.place) f.t f.is.is)
 
 -- ---- a new host
 
-pub new_host : (h : HostState) (frames slots : ℕ) (tax : Tax) → h.modules ≡ [] → h.residents ≡ [] → h.live ≡ 0 → h.next ≡ 0 → IsSound h.space → IsNew h.space frames slots tax → IsNewHost h frames slots tax
-new_host h frames slots tax modules residents live next sound is =
+pub new_host : (h : HostState) (frames slots : ℕ) (tax : Tax) → h.modules ≡ [] → h.entries ≡ [] → h.live ≡ 0 → h.next ≡ 0 → IsSound h.space → IsNew h.space frames slots tax → IsNewHost h frames slots tax
+new_host h frames slots tax modules entries live next sound is =
     let w : World = record { modules = []; tenants = []; space = h.space } in
     let same : (j : ℕ) → LeftAlone j (empty_space frames slots tax) h.space = λ j. rw is.is (record { view = refl; wants = refl; claim = refl; promise = inl refl }) in
     let reached : IsReached w = record { frames = frames; slots = slots; tax = tax; events = epoch ∷ []; happen = (w, (h.space, (same, sound), refl), refl) } in
@@ -363,6 +363,6 @@ new_host h frames slots tax modules residents live next sound is =
       live = live;
       next = next;
       there = λ i t e. absurd (let bad : None ≡ Some t = e in cc bad);
-      all = λ place i x e n. absurd (let bad : None ≡ Some x = sym (ap (λ (xs : List (Option Resident)). resident_at xs place) residents) ∙ e in cc bad);
+      all = λ place i x e n. absurd (let bad : None ≡ Some x = sym (ap (λ (xs : List (Option InstanceEntry)). entry_at xs place) entries) ∙ e in cc bad);
     } in
     (w, st, reached, refl, refl, is)

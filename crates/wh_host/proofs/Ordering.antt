@@ -8,8 +8,8 @@ use Rattle.std.proofs.lemmas.List.Sums.{sum_by-append, sum_by-cons}
 use Rattle.wh_host_model.specs.Frames.{one_if, tally}
 use Rattle.wh_host_model.specs.Host.Worlds.{Tenant}
 use Rattle.wh_host_model.proofs.Tally.{one_other, one_same}
-use Rattle.wh_host.specs.declared.parts.Seat.{Seat}
-use Rattle.wh_host.specs.Seating.{seat_at, seats_below, seats_by}
+use Rattle.wh_host.specs.declared.parts.InstanceRef.{InstanceRef}
+use Rattle.wh_host.specs.InstanceRefs.{ref_at, refs_below, refs_by}
 
 -- ---- two lists in order that have the same numbers equally often are the same
 
@@ -51,11 +51,11 @@ same_lists low low2 (x ∷ xs) (y ∷ ys) up up2 often =
 
 -- ---- lists of numbers, by their order
 
-from_sorted : (x : Seat) (xs : List Seat) → IsNonDecreasingBy (λ (s : Seat). s.number) (x ∷ xs) → Rises x.number (map (λ (s : Seat). s.number) xs)
+from_sorted : (x : InstanceRef) (xs : List InstanceRef) → IsNonDecreasingBy (λ (s : InstanceRef). s.number) (x ∷ xs) → Rises x.number (map (λ (s : InstanceRef). s.number) xs)
 from_sorted x [] up = tt
 from_sorted x (y ∷ ys) up = (up 0 1 x (omega arith) (omega arith), from_sorted y ys (λ i j d low high. up (suc i) (suc j) d (omega (arith, low)) (omega (arith, high))))
 
-rises_all : (xs : List Seat) → IsNonDecreasingBy (λ (s : Seat). s.number) xs → Rises 0 (map (λ (s : Seat). s.number) xs)
+rises_all : (xs : List InstanceRef) → IsNonDecreasingBy (λ (s : InstanceRef). s.number) xs → Rises 0 (map (λ (s : InstanceRef). s.number) xs)
 rises_all [] up = tt
 rises_all (x ∷ xs) up = (omega arith, from_sorted x xs up)
 
@@ -63,37 +63,37 @@ lower_still : (low low2 : ℕ) (xs : List ℕ) → low ≤ low2 → Rises low2 x
 lower_still low low2 [] less up = tt
 lower_still low low2 (x ∷ xs) less up = (let a = up.0 in omega (arith, a, less), up.1)
 
-by_rises : (i : ℕ) (ts : List (Option Tenant)) → Rises i (map (λ (s : Seat). s.number) (seats_by i ts))
+by_rises : (i : ℕ) (ts : List (Option Tenant)) → Rises i (map (λ (s : InstanceRef). s.number) (refs_by i ts))
 by_rises i [] = tt
 by_rises i (None ∷ ts) = lower_still i (i + 1) _ (omega arith) (by_rises (i + 1) ts)
 by_rises i (Some t ∷ ts) = (omega arith, lower_still i (i + 1) _ (omega arith) (by_rises (i + 1) ts))
 
 -- ---- how often a number stands in them
 
-abbrev number_times : ℕ → List Seat → ℕ
-number_times n xs = sum_by (λ (s : Seat). one_if n s.number) xs
+abbrev number_times : ℕ → List InstanceRef → ℕ
+number_times n xs = sum_by (λ (s : InstanceRef). one_if n s.number) xs
 
-abbrev numbers_of : List Seat → List ℕ
-numbers_of xs = map (λ (s : Seat). s.number) xs
+abbrev numbers_of : List InstanceRef → List ℕ
+numbers_of xs = map (λ (s : InstanceRef). s.number) xs
 
-times_of : (n : ℕ) (xs : List Seat) → number_times n xs ≡ tally (one_if n) (numbers_of xs)
+times_of : (n : ℕ) (xs : List InstanceRef) → number_times n xs ≡ tally (one_if n) (numbers_of xs)
 times_of n [] = refl
-times_of n (x ∷ xs) = let a = sum_by-cons (λ (s : Seat). one_if n s.number) x xs in let b = times_of n xs in omega (arith, a, b)
+times_of n (x ∷ xs) = let a = sum_by-cons (λ (s : InstanceRef). one_if n s.number) x xs in let b = times_of n xs in omega (arith, a, b)
 
 -- by place
 
-seat_never : (n : ℕ) (who : Option ℕ) (p : ℕ) → who ≢ Some n → number_times n (seat_at who p) ≡ 0
+seat_never : (n : ℕ) (who : Option ℕ) (p : ℕ) → who ≢ Some n → number_times n (ref_at who p) ≡ 0
 seat_never n None p other = refl
 seat_never n (Some m) p other = let e = one_other n m (λ e. other (ap Some (sym e))) in omega (arith, e)
 
-seat_once : (n : ℕ) (who : Option ℕ) (p : ℕ) → who ≡ Some n → number_times n (seat_at who p) ≡ 1
+seat_once : (n : ℕ) (who : Option ℕ) (p : ℕ) → who ≡ Some n → number_times n (ref_at who p) ≡ 1
 seat_once n None p is = absurd (cc is)
 seat_once n (Some m) p is = let same : n ≡ m = cc is in let e = one_same n m same in omega (arith, e)
 
-one_below_more : (n : ℕ) (who : ℕ → Option ℕ) (k : ℕ) → number_times n (seats_below who (suc k)) ≡ number_times n (seats_below who k) + number_times n (seat_at (who k) k)
-one_below_more n who k = sum_by-append (λ (s : Seat). one_if n s.number) (seats_below who k) (seat_at (who k) k)
+one_below_more : (n : ℕ) (who : ℕ → Option ℕ) (k : ℕ) → number_times n (refs_below who (suc k)) ≡ number_times n (refs_below who k) + number_times n (ref_at (who k) k)
+one_below_more n who k = sum_by-append (λ (s : InstanceRef). one_if n s.number) (refs_below who k) (ref_at (who k) k)
 
-never_below : (n : ℕ) (who : ℕ → Option ℕ) (k : ℕ) → ((p : ℕ) → p < k → who p ≢ Some n) → number_times n (seats_below who k) ≡ 0
+never_below : (n : ℕ) (who : ℕ → Option ℕ) (k : ℕ) → ((p : ℕ) → p < k → who p ≢ Some n) → number_times n (refs_below who k) ≡ 0
 never_below n who zero other = refl
 never_below n who (suc k) other =
     let a = one_below_more n who k in
@@ -101,7 +101,7 @@ never_below n who (suc k) other =
     let c = seat_never n (who k) k (other k (omega arith)) in
     omega (arith, a, b, c)
 
-once_below : (n : ℕ) (who : ℕ → Option ℕ) (at k : ℕ) → at < k → who at ≡ Some n → ((p : ℕ) → who p ≡ Some n → p ≡ at) → number_times n (seats_below who k) ≡ 1
+once_below : (n : ℕ) (who : ℕ → Option ℕ) (at k : ℕ) → at < k → who at ≡ Some n → ((p : ℕ) → who p ≡ Some n → p ≡ at) → number_times n (refs_below who k) ≡ 1
 once_below n who at zero less is only = absurd (omega arith)
 once_below n who at (suc k) less is only =
     elim (cases_lt at k) [
@@ -124,24 +124,24 @@ abbrev one_if_some : Option Tenant → ℕ
 one_if_some None = 0
 one_if_some (Some t) = 1
 
-by_times : (i k : ℕ) (ts : List (Option Tenant)) → tally (one_if (i + k)) (numbers_of (seats_by i ts)) ≡ one_if_some (get_or ts k None)
+by_times : (i k : ℕ) (ts : List (Option Tenant)) → tally (one_if (i + k)) (numbers_of (refs_by i ts)) ≡ one_if_some (get_or ts k None)
 by_times i k [] = refl
-by_times i zero (None ∷ ts) = less_never (i + 0) (i + 1) (numbers_of (seats_by (i + 1) ts)) (by_rises (i + 1) ts) (omega arith)
+by_times i zero (None ∷ ts) = less_never (i + 0) (i + 1) (numbers_of (refs_by (i + 1) ts)) (by_rises (i + 1) ts) (omega arith)
 by_times i (suc k) (None ∷ ts) = let at : i + suc k ≡ (i + 1) + k = omega arith in rw at (by_times (i + 1) k ts)
 by_times i zero (Some t ∷ ts) =
     let a = one_same (i + 0) i (omega arith) in
-    let b = less_never (i + 0) (i + 1) (numbers_of (seats_by (i + 1) ts)) (by_rises (i + 1) ts) (omega arith) in
+    let b = less_never (i + 0) (i + 1) (numbers_of (refs_by (i + 1) ts)) (by_rises (i + 1) ts) (omega arith) in
     omega (arith, a, b)
 by_times i (suc k) (Some t ∷ ts) =
     let at : i + suc k ≡ (i + 1) + k = omega arith in
     let a = one_other (i + suc k) i (λ e. absurd (omega (arith, e))) in
     let b = by_times (i + 1) k ts in
-    let c = ap (λ n. tally (one_if n) (numbers_of (seats_by (i + 1) ts))) at in
+    let c = ap (λ n. tally (one_if n) (numbers_of (refs_by (i + 1) ts))) at in
     omega (arith, a, b, c)
 
 -- ---- each is who is live
 
-abbrev pub IsSeatOf : List (Option Tenant) → Seat → Type 0
+abbrev pub IsSeatOf : List (Option Tenant) → InstanceRef → Type 0
 IsSeatOf ts s = (t : Tenant) × (get_or ts s.number None ≡ Some t) × (t.place ≡ s.place)
 
 pub all_also : {X : Type 0} (P Q : X → Type 0) → ((x : X) → P x → Q x) → (xs : List X) → AllByRecursion P xs → AllByRecursion Q xs
@@ -161,26 +161,26 @@ all_append : {X : Type 0} (P : X → Type 0) (xs ys : List X) → AllByRecursion
 all_append P [] ys h more = more
 all_append P (x ∷ xs) ys h more = (h.0, all_append P xs ys h.1 more)
 
-abbrev IsSeatFrom : ℕ → List (Option Tenant) → Seat → Type 0
+abbrev IsSeatFrom : ℕ → List (Option Tenant) → InstanceRef → Type 0
 IsSeatFrom i ts s = (k : ℕ) × (t : Tenant) × (s.number ≡ i + k) × (get_or ts k None ≡ Some t) × (t.place ≡ s.place)
 
-by_seats : (i : ℕ) (ts : List (Option Tenant)) → AllByRecursion (IsSeatFrom i ts) (seats_by i ts)
+by_seats : (i : ℕ) (ts : List (Option Tenant)) → AllByRecursion (IsSeatFrom i ts) (refs_by i ts)
 by_seats i [] = tt
-by_seats i (None ∷ ts) = all_also (IsSeatFrom (i + 1) ts) (IsSeatFrom i (None ∷ ts)) (λ s h. (suc h.0, h.1, (let e = h.2 in omega (arith, e)), h.3, h.4)) (seats_by (i + 1) ts) (by_seats (i + 1) ts)
+by_seats i (None ∷ ts) = all_also (IsSeatFrom (i + 1) ts) (IsSeatFrom i (None ∷ ts)) (λ s h. (suc h.0, h.1, (let e = h.2 in omega (arith, e)), h.3, h.4)) (refs_by (i + 1) ts) (by_seats (i + 1) ts)
 by_seats i (Some t ∷ ts) =
-    ((0, t, omega arith, refl, refl), all_also (IsSeatFrom (i + 1) ts) (IsSeatFrom i (Some t ∷ ts)) (λ s h. (suc h.0, h.1, (let e = h.2 in omega (arith, e)), h.3, h.4)) (seats_by (i + 1) ts) (by_seats (i + 1) ts))
+    ((0, t, omega arith, refl, refl), all_also (IsSeatFrom (i + 1) ts) (IsSeatFrom i (Some t ∷ ts)) (λ s h. (suc h.0, h.1, (let e = h.2 in omega (arith, e)), h.3, h.4)) (refs_by (i + 1) ts) (by_seats (i + 1) ts))
 
-pub all_by : (ts : List (Option Tenant)) → AllByRecursion (IsSeatOf ts) (seats_by 0 ts)
-all_by ts = all_also (IsSeatFrom 0 ts) (IsSeatOf ts) (λ s h. (h.1, (let at : s.number ≡ h.0 = (let e = h.2 in omega (arith, e)) in rw at h.3), h.4)) (seats_by 0 ts) (by_seats 0 ts)
+pub all_by : (ts : List (Option Tenant)) → AllByRecursion (IsSeatOf ts) (refs_by 0 ts)
+all_by ts = all_also (IsSeatFrom 0 ts) (IsSeatOf ts) (λ s h. (h.1, (let at : s.number ≡ h.0 = (let e = h.2 in omega (arith, e)) in rw at h.3), h.4)) (refs_by 0 ts) (by_seats 0 ts)
 
-same_seat : (s z : Seat) → s.number ≡ z.number → s.place ≡ z.place → s ≡ z
+same_seat : (s z : InstanceRef) → s.number ≡ z.number → s.place ≡ z.place → s ≡ z
 same_seat s z number place =
-    ap (λ n. let a : Seat = record { number = n; place = s.place } in a) number ∙ ap (λ p. let a : Seat = record { number = z.number; place = p } in a) place
+    ap (λ n. let a : InstanceRef = record { number = n; place = s.place } in a) number ∙ ap (λ p. let a : InstanceRef = record { number = z.number; place = p } in a) place
 
 one_tenant : (t u : Tenant) → Some t ≡ Some u → t ≡ u
 one_tenant t u e = cc e
 
-same_by_numbers : (ts : List (Option Tenant)) (xs ys : List Seat) → numbers_of xs ≡ numbers_of ys → AllByRecursion (IsSeatOf ts) xs → AllByRecursion (IsSeatOf ts) ys → xs ≡ ys
+same_by_numbers : (ts : List (Option Tenant)) (xs ys : List InstanceRef) → numbers_of xs ≡ numbers_of ys → AllByRecursion (IsSeatOf ts) xs → AllByRecursion (IsSeatOf ts) ys → xs ≡ ys
 same_by_numbers ts [] [] e h g = refl
 same_by_numbers ts [] (y ∷ ys) e h g = absurd (cc e)
 same_by_numbers ts (x ∷ xs) [] e h g = absurd (cc e)
@@ -201,26 +201,26 @@ pub record AreSeated (who : ℕ → Option ℕ) (n : ℕ) (ts : List (Option Ten
   pub there : (i : ℕ) (t : Tenant) → get_or ts i None ≡ Some t → (who t.place ≡ Some i) × (t.place < n)
   pub all : (place i : ℕ) → who place ≡ Some i → (t : Tenant) × (get_or ts i None ≡ Some t) × (t.place ≡ place)
 
-times_below : (who : ℕ → Option ℕ) (n : ℕ) (ts : List (Option Tenant)) → AreSeated who n ts → (i : ℕ) (o : Option Tenant) → get_or ts i None ≡ o → number_times i (seats_below who n) ≡ one_if_some o
+times_below : (who : ℕ → Option ℕ) (n : ℕ) (ts : List (Option Tenant)) → AreSeated who n ts → (i : ℕ) (o : Option Tenant) → get_or ts i None ≡ o → number_times i (refs_below who n) ≡ one_if_some o
 times_below who n ts are i None is = never_below i who n (λ p less e. let a = are.all p i e in absurd (let bad : None ≡ Some a.0 = sym is ∙ a.1 in cc bad))
 times_below who n ts are i (Some t) is =
     let a = are.there i t is in
     once_below i who t.place n a.1 a.0 (λ p e. let b = are.all p i e in sym b.2 ∙ ap (λ (z : Tenant). z.place) (one_tenant b.0 t (sym b.1 ∙ is)))
 
-all_below : (who : ℕ → Option ℕ) (n : ℕ) (ts : List (Option Tenant)) → ((place i : ℕ) → who place ≡ Some i → (t : Tenant) × (get_or ts i None ≡ Some t) × (t.place ≡ place)) → AllByRecursion (IsSeatOf ts) (seats_below who n)
+all_below : (who : ℕ → Option ℕ) (n : ℕ) (ts : List (Option Tenant)) → ((place i : ℕ) → who place ≡ Some i → (t : Tenant) × (get_or ts i None ≡ Some t) × (t.place ≡ place)) → AllByRecursion (IsSeatOf ts) (refs_below who n)
 all_below who zero ts all = tt
-all_below who (suc n) ts all = all_append (IsSeatOf ts) (seats_below who n) (seat_at (who n) n) (all_below who n ts all) (here (who n) refl) where
-  here : (o : Option ℕ) → who n ≡ o → AllByRecursion (IsSeatOf ts) (seat_at o n)
+all_below who (suc n) ts all = all_append (IsSeatOf ts) (refs_below who n) (ref_at (who n) n) (all_below who n ts all) (here (who n) refl) where
+  here : (o : Option ℕ) → who n ≡ o → AllByRecursion (IsSeatOf ts) (ref_at o n)
   here None is = tt
   here (Some i) is = (all n i is, tt)
 
 -- in order they are the instances by number
-pub in_order : (who : ℕ → Option ℕ) (n : ℕ) (ts : List (Option Tenant)) (xs : List Seat) → AreSeated who n ts → IsPermutation (seats_below who n) xs → IsNonDecreasingBy (λ (s : Seat). s.number) xs → xs ≡ seats_by 0 ts
+pub in_order : (who : ℕ → Option ℕ) (n : ℕ) (ts : List (Option Tenant)) (xs : List InstanceRef) → AreSeated who n ts → IsPermutation (refs_below who n) xs → IsNonDecreasingBy (λ (s : InstanceRef). s.number) xs → xs ≡ refs_by 0 ts
 in_order who n ts xs are moved up =
-    let often : AsOften (numbers_of xs) (numbers_of (seats_by 0 ts)) = λ i. sym (times_of i xs) ∙ sum_by-IsPermutation (λ (s : Seat). one_if i s.number) (seats_below who n) xs moved ∙ times_below who n ts are i (get_or ts i None) refl ∙ sym (by_zero i) in
-    let numbers = same_lists 0 0 (numbers_of xs) (numbers_of (seats_by 0 ts)) (rises_all xs up) (by_rises 0 ts) often in
-    let all = from_all (IsSeatOf ts) xs (All-permutation (IsSeatOf ts) (seats_below who n) xs moved (to_all (IsSeatOf ts) (seats_below who n) (all_below who n ts are.all))) in
-    same_by_numbers ts xs (seats_by 0 ts) numbers all (all_by ts)
+    let often : AsOften (numbers_of xs) (numbers_of (refs_by 0 ts)) = λ i. sym (times_of i xs) ∙ sum_by-IsPermutation (λ (s : InstanceRef). one_if i s.number) (refs_below who n) xs moved ∙ times_below who n ts are i (get_or ts i None) refl ∙ sym (by_zero i) in
+    let numbers = same_lists 0 0 (numbers_of xs) (numbers_of (refs_by 0 ts)) (rises_all xs up) (by_rises 0 ts) often in
+    let all = from_all (IsSeatOf ts) xs (All-permutation (IsSeatOf ts) (refs_below who n) xs moved (to_all (IsSeatOf ts) (refs_below who n) (all_below who n ts are.all))) in
+    same_by_numbers ts xs (refs_by 0 ts) numbers all (all_by ts)
   where
-    by_zero : (i : ℕ) → tally (one_if i) (numbers_of (seats_by 0 ts)) ≡ one_if_some (get_or ts i None)
-    by_zero i = let at : 0 + i ≡ i = omega arith in subst (λ n. tally (one_if n) (numbers_of (seats_by 0 ts)) ≡ one_if_some (get_or ts i None)) at (by_times 0 i ts)
+    by_zero : (i : ℕ) → tally (one_if i) (numbers_of (refs_by 0 ts)) ≡ one_if_some (get_or ts i None)
+    by_zero i = let at : 0 + i ≡ i = omega arith in subst (λ n. tally (one_if n) (numbers_of (refs_by 0 ts)) ≡ one_if_some (get_or ts i None)) at (by_times 0 i ts)

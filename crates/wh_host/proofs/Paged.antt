@@ -9,11 +9,11 @@ use Rattle.wh_host_model.specs.Space.Errands.{tickets}
 use Rattle.wh_host_model.specs.Space.Parts.{Occupant, Space, need_of, view, wants}
 use Rattle.wh_host_model.specs.Space.Provide.{FailsToProvide, FailsTruly, Provides, ProvidesTruly}
 use Rattle.wh_host_model.specs.Space.Sound.{IsSound}
-use Rattle.wh_host_model.specs.Space.Tickets.{StandsForFrame}
+use Rattle.wh_host_model.specs.Space.Tickets.{WaitsForBytes}
 use Rattle.wh_host_model.specs.Host.Events.{Event, provide}
 use Rattle.wh_host_model.specs.Host.Happens.{AwaitsFrame, Happens, IsLive, MovesPages, OnlyMoves, has_failed, moved}
 use Rattle.wh_host_model.specs.Host.Spaces.{AllLeftAlone}
-use Rattle.wh_host_model.specs.Host.Standing.{FirstStandsDuly, StandsDuly}
+use Rattle.wh_host_model.specs.Host.Suspensions.{FirstWaitsDuly, WaitsDuly}
 use Rattle.wh_host_model.specs.Host.Worlds.{Doing, Suspension, Tenant, World, for_device, for_frame, store_in, with_tenant}
 use Rattle.wh_host_model.specs.Owners.{Entry}
 use Rattle.wh_host_model.proofs.Host.Bridges.{failures_leave_all, provisions_leave_all}
@@ -21,12 +21,12 @@ use Rattle.wh_host_model.proofs.Host.Lasting.{frames_are_awaited}
 use Rattle.wh_host_model.proofs.Host.Leaving.{left_then}
 use Rattle.wh_host_model.specs.Host.Misreading.{AllSeeAsMany, IsMisread, SeesAsMany}
 use Rattle.wh_host_model.proofs.Host.AsMany.{failures_see_as_many, provisions_see_as_many}
-use Rattle.wh_machine.specs.Runs.{linked_parts}
-use Rattle.wh_instance.specs.Asked.{AwaitsNoFrame, FailsTenant, OfAnyTenant}
-use Rattle.wh_instance.specs.Tenancy.{IsTenant, TenantState}
+use Rattle.wh_machine.specs.MachineRuns.{linked_parts}
+use Rattle.wh_instance.specs.OwnerRequests.{AwaitsNoFrame, FailsTenant, OfAnyTenant}
+use Rattle.wh_instance.specs.Tenancy.{IsTenant, HostInstanceState}
 use Rattle.wh_host.specs.declared.parts.LoadedModule.{LoadedModule}
-use Rattle.wh_host.specs.declared.parts.Resident.{Resident}
-use Rattle.wh_host.specs.Hosting.{HostState, IsHost, IsResident, resident_at}
+use Rattle.wh_host.specs.declared.parts.InstanceEntry.{InstanceEntry}
+use Rattle.wh_host.specs.Hosting.{HostState, IsHost, IsEntryOf, entry_at}
 use Rattle.wh_host.specs.Paging.{WaitsFor}
 use Rattle.wh_host.proofs.Hosts.{changed, found, nobody, of_who_is_there, one_value, comes_on, misread_on, same_owner, somebody_else}
 use Rattle.wh_host.proofs.Requests.{moved_host, sound_here}
@@ -34,7 +34,7 @@ use Rattle.wh_host.proofs.Viewing.{represents_on}
 
 -- ---- who waits
 
-pub stands_there : (s : Space) (i : ℕ) (need : Need) → wants s i ≡ Some need → StandsForFrame s i need
+pub stands_there : (s : Space) (i : ℕ) (need : Need) → wants s i ≡ Some need → WaitsForBytes s i need
 stands_there s i need e = rows s.occupants i e where
   live : (t : Occupant) (b : Bool) → t.live ≡ b → need_of (Some t) ≡ Some need → (t.live ≡ true) × (t.stands ≡ Some need)
   live t true is e = (is, let z : need_of (Some t) ≡ t.stands = rw is refl in sym z ∙ e)
@@ -46,38 +46,38 @@ stands_there s i need e = rows s.occupants i e where
   rows (Some t ∷ xs) zero e = let h = live t t.live refl e in (t, refl, h.0, h.1)
   rows (x ∷ xs) (suc i) e = rows xs i e
 
--- whoever stands for a frame wants bytes
+-- whoever waits for a frame wants bytes
 pub awaited : (h : HostState) (w : World) (id : InstId) (t : Tenant) → IsHost h w → IsLive w id t → AwaitsFrame t → (need : Need) × (wants w.space id.place ≡ Some need)
 awaited h w id t st live waits =
     let some = frames_are_awaited w st.comes id.number t live.0 waits in
     (some.0, subst (λ i. wants w.space i ≡ Some some.0) live.1 some.1)
 
-pub waits_there : (h : HostState) (w : World) (id : InstId) (x : Resident) → IsHost h w → resident_at h.residents id.place ≡ Some x → x.number ≡ Some id.number → OfAnyTenant x.tenant (λ l limit bytes t. AwaitsFrame t) → (need : Need) × WaitsFor h id need
+pub waits_there : (h : HostState) (w : World) (id : InstId) (x : InstanceEntry) → IsHost h w → entry_at h.entries id.place ≡ Some x → x.number ≡ Some id.number → OfAnyTenant x.tenant (λ l limit bytes t. AwaitsFrame t) → (need : Need) × WaitsFor h id need
 waits_there h w id x st at number asked =
     let who = of_who_is_there h w id x AwaitsFrame st at number asked in
     let need = awaited h w id who.0 st who.1 who.2 in
     (need.0, (w, st, who, need.1))
 
-pub waits_stands : (h : HostState) (id : InstId) (need : Need) → WaitsFor h id need → StandsForFrame h.space id.place need
-waits_stands h id need (w, st, who, wanted) = subst (λ s. StandsForFrame s id.place need) (sym st.space) (stands_there w.space id.place need wanted)
+pub waits_stands : (h : HostState) (id : InstId) (need : Need) → WaitsFor h id need → WaitsForBytes h.space id.place need
+waits_stands h id need (w, st, who, wanted) = subst (λ s. WaitsForBytes s id.place need) (sym st.space) (stands_there w.space id.place need wanted)
 
-pub no_one_waits : (h : HostState) (id : InstId) (need : Need) → resident_at h.residents id.place ≡ None → ¬ (WaitsFor h id need)
+pub no_one_waits : (h : HostState) (id : InstId) (need : Need) → entry_at h.entries id.place ≡ None → ¬ (WaitsFor h id need)
 no_one_waits h id need none (w, st, who, wanted) = nobody h w id st none who.0 who.1
 
-pub another_waits : (h : HostState) (id : InstId) (need : Need) (x : Resident) → resident_at h.residents id.place ≡ Some x → x.number ≢ Some id.number → ¬ (WaitsFor h id need)
+pub another_waits : (h : HostState) (id : InstId) (need : Need) (x : InstanceEntry) → entry_at h.entries id.place ≡ Some x → x.number ≢ Some id.number → ¬ (WaitsFor h id need)
 another_waits h id need x at other (w, st, who, wanted) = somebody_else h w id x st at other who.0 who.1
 
 -- the instance of a number is one
 pub same_tenant : (w : World) (id : InstId) (t u : Tenant) → IsLive w id t → IsLive w id u → t ≡ u
 same_tenant w id t u a b = one_value t u (sym a.0 ∙ b.0)
 
-pub nothing_waits : (h : HostState) (id : InstId) (need : Need) (x : Resident) → resident_at h.residents id.place ≡ Some x → x.number ≡ Some id.number → OfAnyTenant x.tenant (λ l limit bytes t. ¬ (AwaitsFrame t)) → ¬ (WaitsFor h id need)
+pub nothing_waits : (h : HostState) (id : InstId) (need : Need) (x : InstanceEntry) → entry_at h.entries id.place ≡ Some x → x.number ≡ Some id.number → OfAnyTenant x.tenant (λ l limit bytes t. ¬ (AwaitsFrame t)) → ¬ (WaitsFor h id need)
 nothing_waits h id need x at number none (w, st, who, wanted) =
     let mine = of_who_is_there h w id x (λ t. ¬ (AwaitsFrame t)) st at number none in
     mine.2 (subst AwaitsFrame (same_tenant w id who.0 mine.0 who.1 mine.1) who.2)
 
 -- whether it is told so
-pub told_of : (h : HostState) (w : World) (id : InstId) (x : Resident) (told : Bool) (P : Tenant → Type 0) → IsHost h w → resident_at h.residents id.place ≡ Some x → x.number ≡ Some id.number → OfAnyTenant x.tenant (λ l limit bytes t. MatchBool told (P t) (¬ (P t)))
+pub told_of : (h : HostState) (w : World) (id : InstId) (x : InstanceEntry) (told : Bool) (P : Tenant → Type 0) → IsHost h w → entry_at h.entries id.place ≡ Some x → x.number ≡ Some id.number → OfAnyTenant x.tenant (λ l limit bytes t. MatchBool told (P t) (¬ (P t)))
     → MatchBool told ((t : Tenant) × IsLive w id t × P t) (¬ ((t : Tenant) × IsLive w id t × P t))
 told_of h w id x true P st at number asked = of_who_is_there h w id x P st at number asked
 told_of h w id x false P st at number asked =
@@ -100,17 +100,17 @@ moved_as h w id awaits fault e s2 st same none happens =
     (w2, moves, moved_host h w s2 st same (comes_on w w2 e st.comes (happens w2 moves)))
 
 -- a fault is kept
-abbrev pub KeepsFaultAt : TenantState → (Tenant → Type 0) → SwapError → TenantState → Type 0
-KeepsFaultAt x awaits fault z = OfAnyTenant x (λ l limit bytes t. awaits t × IsTenant l limit z bytes (record t { stands_for = Some (for_device fault) }))
+abbrev pub KeepsFaultAt : HostInstanceState → (Tenant → Type 0) → SwapError → HostInstanceState → Type 0
+KeepsFaultAt x awaits fault z = OfAnyTenant x (λ l limit bytes t. awaits t × IsTenant l limit z bytes (record t { waiting_for = Some (for_device fault) }))
 
-pub fault_here : (h : HostState) (w : World) (id : InstId) (x : Resident) (z : TenantState) (awaits : Tenant → Type 0) (fault : SwapError) (e : Event) (s2 : Space) → (st : IsHost h w) → resident_at h.residents id.place ≡ Some x → x.number ≡ Some id.number → AllLeftAlone w.space s2
+pub fault_here : (h : HostState) (w : World) (id : InstId) (x : InstanceEntry) (z : HostInstanceState) (awaits : Tenant → Type 0) (fault : SwapError) (e : Event) (s2 : Space) → (st : IsHost h w) → entry_at h.entries id.place ≡ Some x → x.number ≡ Some id.number → AllLeftAlone w.space s2
     → KeepsFaultAt x.tenant awaits fault z → ((w2 : World) → MovesPages w id awaits (Some fault) w2 → Happens w e w2)
-    → (w2 : World) × MovesPages w id awaits (Some fault) w2 × IsHost (record h { residents = slice_set h.residents id.place (Some (record x { tenant = z })); space = s2 }) w2
+    → (w2 : World) × MovesPages w id awaits (Some fault) w2 × IsHost (record h { entries = slice_set h.entries id.place (Some (record x { tenant = z })); space = s2 }) w2
 fault_here h w id x z awaits fault e s2 st at number same keeps happens =
     let f = found h w id.place id.number x st at number in
     let made = keeps f.is.loaded.linked x.page_limit (view w.space f.t.place) f.t f.is.is in
-    let t2 : Tenant = record f.t { stands_for = Some (for_device fault) } in
-    let y : Resident = record x { tenant = z } in
+    let t2 : Tenant = record f.t { waiting_for = Some (for_device fault) } in
+    let y : InstanceEntry = record x { tenant = z } in
     let sees : view s2 f.t.place ≡ view w.space f.t.place = (same.0 f.t.place).view in
     let over : IsTenant f.is.loaded.linked x.page_limit z (view s2 t2.place) t2 = subst (λ b. IsTenant f.is.loaded.linked x.page_limit z b t2) (sym sees) made.1 in
     let represents = same_owner h.modules x w.space s2 id.number f.t t2 z f.is refl refl over in
@@ -118,14 +118,14 @@ fault_here h w id x z awaits fault e s2 st at number same keeps happens =
     let moves : MovesPages w id awaits (Some fault) w2 = has_failed same refl (f.live, f.at) made.0 in
     (w2, moves, changed h w id.place id.number x y t2 s2 st at number f.at represents (λ j other. (same.0 j).view) (comes_on w w2 e st.comes (happens w2 moves)))
 
--- that of the present call, where it stands for a frame
-pub keeps_fault : (x z : TenantState) (fault : SwapError) (told : Bool) → (told ≡ true → FailsTenant x fault z) → (told ≡ false → AwaitsNoFrame x × (z ≡ x)) → OfAnyTenant x (λ l limit bytes t. AwaitsFrame t) → KeepsFaultAt x AwaitsFrame fault z
+-- that of the present call, where it waits for a frame
+pub keeps_fault : (x z : HostInstanceState) (fault : SwapError) (told : Bool) → (told ≡ true → FailsTenant x fault z) → (told ≡ false → AwaitsNoFrame x × (z ≡ x)) → OfAnyTenant x (λ l limit bytes t. AwaitsFrame t) → KeepsFaultAt x AwaitsFrame fault z
 keeps_fault x z fault true some none waits l limit bytes t is = some refl l limit bytes t is
 keeps_fault x z fault false some none waits l limit bytes t is = absurd ((none refl).0 l limit bytes t is (waits l limit bytes t is))
 
 -- ---- other bytes come
 
-resident_on : (modules : List LoadedModule) (x : Resident) (s s2 : Space) (i : ℕ) (t : Tenant) → SeesAsMany t.place s s2 → IsResident modules x s i t → IsResident modules x s2 i t
+resident_on : (modules : List LoadedModule) (x : InstanceEntry) (s s2 : Space) (i : ℕ) (t : Tenant) → SeesAsMany t.place s s2 → IsEntryOf modules x s i t → IsEntryOf modules x s2 i t
 resident_on modules x s s2 i t alike r = record {
   number = r.number;
   of = r.of;
@@ -158,17 +158,17 @@ alone_in h w s2 st same = subst (λ s. AllLeftAlone s s2) st.space same
 pub sound_in : (h : HostState) (w : World) → IsHost h w → IsSound h.space
 sound_in h w st = subst IsSound (sym st.space) (sound_here h w st)
 
-pub provided_here : (h : HostState) (w : World) (id : InstId) (x : Resident) (left : ℕ) (s2 : Space) → (st : IsHost h w) → resident_at h.residents id.place ≡ Some x → x.number ≡ Some id.number → OfAnyTenant x.tenant (λ l limit bytes t. AwaitsFrame t) → tickets h.space ≡ 0
-    → ((need : Need) → StandsForFrame h.space id.place need → ProvidesTruly h.space id.place need left s2) → (w2 : World) × MovesPages w id AwaitsFrame None w2 × IsHost (record h { space = s2 }) w2
+pub provided_here : (h : HostState) (w : World) (id : InstId) (x : InstanceEntry) (left : ℕ) (s2 : Space) → (st : IsHost h w) → entry_at h.entries id.place ≡ Some x → x.number ≡ Some id.number → OfAnyTenant x.tenant (λ l limit bytes t. AwaitsFrame t) → tickets h.space ≡ 0
+    → ((need : Need) → WaitsForBytes h.space id.place need → ProvidesTruly h.space id.place need left s2) → (w2 : World) × MovesPages w id AwaitsFrame None w2 × IsHost (record h { space = s2 }) w2
 provided_here h w id x left s2 st at number waits none made =
     let need = waits_there h w id x st at number waits in
     let stands = waits_stands h id need.0 need.1 in
     let same = alone_in h w s2 st (provisions_leave_all h.space id.place need.0 left s2 (sound_in h w st) none stands (made need.0 stands)) in
     moved_as h w id AwaitsFrame None (provide id None) s2 st same (inl refl) (λ w2 moves. moves)
 
-pub failed_here : (h : HostState) (w : World) (id : InstId) (x : Resident) (z : TenantState) (fault : SwapError) (s2 : Space) → (st : IsHost h w) → resident_at h.residents id.place ≡ Some x → x.number ≡ Some id.number → OfAnyTenant x.tenant (λ l limit bytes t. AwaitsFrame t) → tickets h.space ≡ 0
-    → ((need : Need) → StandsForFrame h.space id.place need → FailsTruly h.space id.place need s2) → KeepsFaultAt x.tenant AwaitsFrame fault z
-    → (w2 : World) × MovesPages w id AwaitsFrame (Some fault) w2 × IsHost (record h { residents = slice_set h.residents id.place (Some (record x { tenant = z })); space = s2 }) w2
+pub failed_here : (h : HostState) (w : World) (id : InstId) (x : InstanceEntry) (z : HostInstanceState) (fault : SwapError) (s2 : Space) → (st : IsHost h w) → entry_at h.entries id.place ≡ Some x → x.number ≡ Some id.number → OfAnyTenant x.tenant (λ l limit bytes t. AwaitsFrame t) → tickets h.space ≡ 0
+    → ((need : Need) → WaitsForBytes h.space id.place need → FailsTruly h.space id.place need s2) → KeepsFaultAt x.tenant AwaitsFrame fault z
+    → (w2 : World) × MovesPages w id AwaitsFrame (Some fault) w2 × IsHost (record h { entries = slice_set h.entries id.place (Some (record x { tenant = z })); space = s2 }) w2
 failed_here h w id x z fault s2 st at number waits none made keeps =
     let need = waits_there h w id x st at number waits in
     let stands = waits_stands h id need.0 need.1 in
@@ -185,8 +185,8 @@ nothing_anyhow h w id awaits st =
     let sound = sound_here h w st in
     (w, w, (w.space, (λ j. record { many = refl; wants = refl; claim = refl; promise = inl refl }, sound), refl), moved (all_stay w.space sound) (inl refl), st)
 
-pub provided_anyhow : (h : HostState) (w : World) (id : InstId) (x : Resident) (left : ℕ) (s2 : Space) → (st : IsHost h w) → resident_at h.residents id.place ≡ Some x → x.number ≡ Some id.number → OfAnyTenant x.tenant (λ l limit bytes t. AwaitsFrame t) → tickets h.space ≡ 0
-    → ((need : Need) → StandsForFrame h.space id.place need → Provides h.space id.place need left s2) → (mid w2 : World) × IsMisread w mid × MovesPages mid id AwaitsFrame None w2 × IsHost (record h { space = s2 }) w2
+pub provided_anyhow : (h : HostState) (w : World) (id : InstId) (x : InstanceEntry) (left : ℕ) (s2 : Space) → (st : IsHost h w) → entry_at h.entries id.place ≡ Some x → x.number ≡ Some id.number → OfAnyTenant x.tenant (λ l limit bytes t. AwaitsFrame t) → tickets h.space ≡ 0
+    → ((need : Need) → WaitsForBytes h.space id.place need → Provides h.space id.place need left s2) → (mid w2 : World) × IsMisread w mid × MovesPages mid id AwaitsFrame None w2 × IsHost (record h { space = s2 }) w2
 provided_anyhow h w id x left s2 st at number waits none made =
     let need = waits_there h w id x st at number waits in
     let stands = waits_stands h id need.0 need.1 in
@@ -194,9 +194,9 @@ provided_anyhow h w id x left s2 st at number waits none made =
     let mid : World = record w { space = s2 } in
     (mid, mid, (s2, same, refl), moved (all_stay s2 same.1) (inl refl), misread_host h w s2 st same)
 
-pub failed_anyhow : (h : HostState) (w : World) (id : InstId) (x : Resident) (z : TenantState) (fault : SwapError) (s2 : Space) → (st : IsHost h w) → resident_at h.residents id.place ≡ Some x → x.number ≡ Some id.number → OfAnyTenant x.tenant (λ l limit bytes t. AwaitsFrame t) → tickets h.space ≡ 0
-    → ((need : Need) → StandsForFrame h.space id.place need → FailsToProvide h.space id.place need s2) → KeepsFaultAt x.tenant AwaitsFrame fault z
-    → (mid w2 : World) × IsMisread w mid × MovesPages mid id AwaitsFrame (Some fault) w2 × IsHost (record h { residents = slice_set h.residents id.place (Some (record x { tenant = z })); space = s2 }) w2
+pub failed_anyhow : (h : HostState) (w : World) (id : InstId) (x : InstanceEntry) (z : HostInstanceState) (fault : SwapError) (s2 : Space) → (st : IsHost h w) → entry_at h.entries id.place ≡ Some x → x.number ≡ Some id.number → OfAnyTenant x.tenant (λ l limit bytes t. AwaitsFrame t) → tickets h.space ≡ 0
+    → ((need : Need) → WaitsForBytes h.space id.place need → FailsToProvide h.space id.place need s2) → KeepsFaultAt x.tenant AwaitsFrame fault z
+    → (mid w2 : World) × IsMisread w mid × MovesPages mid id AwaitsFrame (Some fault) w2 × IsHost (record h { entries = slice_set h.entries id.place (Some (record x { tenant = z })); space = s2 }) w2
 failed_anyhow h w id x z fault s2 st at number waits none made keeps =
     let need = waits_there h w id x st at number waits in
     let stands = waits_stands h id need.0 need.1 in

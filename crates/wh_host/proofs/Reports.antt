@@ -8,15 +8,15 @@ use Rattle.wh_host_model.specs.declared.states.Slot.TheVariants.{Vacant, Taken, 
 use Rattle.wh_host_model.specs.Space.Parts.{Claimed, Occupant, Space, claim_of}
 use Rattle.wh_host_model.specs.Space.Sound.{IsSound, IsUsed}
 use Rattle.wh_host_model.specs.Host.Worlds.{Tenant, World, promised, tenant}
-use Rattle.wh_host_model.specs.Lines.Texts.{frames_text, row_text, shared_text, slots_text}
+use Rattle.wh_script_model.specs.Texts.{frames_text, row_text, shared_text, slots_text}
 use Rattle.wh_host_model.proofs.Space.Putting.{there_of}
 use Rattle.wh_host_model.proofs.Tally.{length-le_from_once}
-use Rattle.wh_host.specs.declared.parts.Resident.{Resident}
-use Rattle.wh_host.specs.declared.parts.Seat.{Seat}
+use Rattle.wh_host.specs.declared.parts.InstanceEntry.{InstanceEntry}
+use Rattle.wh_host.specs.declared.parts.InstanceRef.{InstanceRef}
 use Rattle.wh_host_model.specs.Host.Misreading.{ComesAbout}
-use Rattle.wh_host.specs.Hosting.{AreGivenAs, HostState, IsHost, resident_at}
+use Rattle.wh_host.specs.Hosting.{AreGivenAs, HostState, IsHost, entry_at}
 use Rattle.wh_host.specs.Reporting.{ReportsHost, all_sharers, head_text, row_in, rows_text, shared_frames}
-use Rattle.wh_host.specs.Seating.{AreInOrder, AreSeats, CanBeShown, line_row, line_text, lines_text, number_at, seated_number, seats_by}
+use Rattle.wh_host.specs.InstanceRefs.{AreInOrder, AreInstanceRefs, CanBeShown, line_row, line_text, lines_text, number_at, number_of_entry, refs_by}
 use Rattle.wh_host.proofs.Hosts.{one_value, places}
 use Rattle.wh_host.proofs.Ordering.{AreSeated, all_by, in_order, to_all, all_also, IsSeatOf}
 use Rattle.wh_host.proofs.Requests.{lives_there, sound_here}
@@ -45,21 +45,21 @@ few_vacant s sound =
 
 -- ---- who is there
 
-numbered : (o : Option Resident) (i : ℕ) → seated_number o ≡ Some i → (x : Resident) × (o ≡ Some x) × (x.number ≡ Some i)
+numbered : (o : Option InstanceEntry) (i : ℕ) → number_of_entry o ≡ Some i → (x : InstanceEntry) × (o ≡ Some x) × (x.number ≡ Some i)
 numbered None i is = absurd (let bad : None ≡ Some i = is in cc bad)
 numbered (Some x) i is = (x, refl, is)
 
-seated : (h : HostState) (w : World) → IsHost h w → AreSeated (number_at h.residents) (length h.space.occupants) w.tenants
+seated : (h : HostState) (w : World) → IsHost h w → AreSeated (number_at h.entries) (length h.space.occupants) w.tenants
 seated h w st = record {
   there = λ i t live.
       (let f = st.there i t live in
       let o = lives_there h w t.place i f.0 st f.1 f.2.number in
-      (ap seated_number f.1 ∙ f.2.number, there_of h.space.occupants t.place (Some o.0) o.1));
-  all = λ place i is. (let x = numbered (resident_at h.residents place) i is in st.all place i x.0 x.1 x.2);
+      (ap number_of_entry f.1 ∙ f.2.number, there_of h.space.occupants t.place (Some o.0) o.1));
+  all = λ place i is. (let x = numbered (entry_at h.entries place) i is in st.all place i x.0 x.1 x.2);
 }
 
-pub seats_are : (h : HostState) (seats : List Seat) → AreInOrder h.residents (length h.space.occupants) seats → AreSeats h seats
-seats_are h seats order w st = in_order (number_at h.residents) (length h.space.occupants) w.tenants seats (seated h w st) order.0 order.1
+pub seats_are : (h : HostState) (instance_refs : List InstanceRef) → AreInOrder h.entries (length h.space.occupants) instance_refs → AreInstanceRefs h instance_refs
+seats_are h instance_refs order w st = in_order (number_at h.entries) (length h.space.occupants) w.tenants instance_refs (seated h w st) order.0 order.1
 
 -- ---- shares
 
@@ -85,47 +85,47 @@ shares_few w i t comes sound live =
     let most = has.6 in
     omega (arith, same, most)
 
-seat_shown : (h : HostState) (w : World) → IsHost h w → (seat : Seat) → IsSeatOf w.tenants seat → CanBeShown h.residents seat
-seat_shown h w st seat of x at =
-    let f = st.there seat.number of.0 of.1 in
-    let same : f.0 ≡ x = one_value f.0 x (sym f.1 ∙ ap (resident_at h.residents) of.2 ∙ at) in
-    let given = ap (λ (z : Resident). z.given.shares) same in
+seat_shown : (h : HostState) (w : World) → IsHost h w → (instance_ref : InstanceRef) → IsSeatOf w.tenants instance_ref → CanBeShown h.entries instance_ref
+seat_shown h w st instance_ref of x at =
+    let f = st.there instance_ref.number of.0 of.1 in
+    let same : f.0 ≡ x = one_value f.0 x (sym f.1 ∙ ap (entry_at h.entries) of.2 ∙ at) in
+    let given = ap (λ (z : InstanceEntry). z.given.shares) same in
     let as_given = f.2.given.shares in
-    let few = shares_few w seat.number of.0 st.comes (sound_here h w st) of.1 in
+    let few = shares_few w instance_ref.number of.0 st.comes (sound_here h w st) of.1 in
     omega (arith, given, as_given, few)
 
-pub all_shown : (h : HostState) (w : World) (seats : List Seat) → IsHost h w → AreSeats h seats → All (CanBeShown h.residents) seats
-all_shown h w seats st are =
-    subst (All (CanBeShown h.residents)) (sym (are w st)) (to_all (CanBeShown h.residents) (seats_by 0 w.tenants) (all_also (IsSeatOf w.tenants) (CanBeShown h.residents) (seat_shown h w st) (seats_by 0 w.tenants) (all_by w.tenants)))
+pub all_shown : (h : HostState) (w : World) (instance_refs : List InstanceRef) → IsHost h w → AreInstanceRefs h instance_refs → All (CanBeShown h.entries) instance_refs
+all_shown h w instance_refs st are =
+    subst (All (CanBeShown h.entries)) (sym (are w st)) (to_all (CanBeShown h.entries) (refs_by 0 w.tenants) (all_also (IsSeatOf w.tenants) (CanBeShown h.entries) (seat_shown h w st) (refs_by 0 w.tenants) (all_by w.tenants)))
 
 -- ---- lines
 
-pub one_line_more : (s : Space) (rs : List (Option Resident)) (seats : List Seat) (k : ℕ) (seat : Seat) → slice_get seats k ≡ Some seat → lines_text s rs (take (suc k) seats) ≡ lines_text s rs (take k seats) ++ line_text s seat (resident_at rs seat.place)
-one_line_more s rs [] k seat is = absurd (let bad : None ≡ Some seat = is in cc bad)
-one_line_more s rs (z ∷ zs) zero seat is = let same : z ≡ seat = cc is in append-nil (line_text s z (resident_at rs z.place)) ∙ ap (λ (u : Seat). line_text s u (resident_at rs u.place)) same
-one_line_more s rs (z ∷ zs) (suc k) seat is =
-    let first = line_text s z (resident_at rs z.place) in
-    ap (λ more. first ++ more) (one_line_more s rs zs k seat is) ∙ sym (append_assoc first (lines_text s rs (take k zs)) (line_text s seat (resident_at rs seat.place)))
+pub one_line_more : (s : Space) (rs : List (Option InstanceEntry)) (instance_refs : List InstanceRef) (k : ℕ) (instance_ref : InstanceRef) → slice_get instance_refs k ≡ Some instance_ref → lines_text s rs (take (suc k) instance_refs) ≡ lines_text s rs (take k instance_refs) ++ line_text s instance_ref (entry_at rs instance_ref.place)
+one_line_more s rs [] k instance_ref is = absurd (let bad : None ≡ Some instance_ref = is in cc bad)
+one_line_more s rs (z ∷ zs) zero instance_ref is = let same : z ≡ instance_ref = cc is in append-nil (line_text s z (entry_at rs z.place)) ∙ ap (λ (u : InstanceRef). line_text s u (entry_at rs u.place)) same
+one_line_more s rs (z ∷ zs) (suc k) instance_ref is =
+    let first = line_text s z (entry_at rs z.place) in
+    ap (λ more. first ++ more) (one_line_more s rs zs k instance_ref is) ∙ sym (append_assoc first (lines_text s rs (take k zs)) (line_text s instance_ref (entry_at rs instance_ref.place)))
 
-pub line_step : (s : Space) (rs : List (Option Resident)) (seats : List Seat) (k : ℕ) (seat : Seat) (start a b : List ℕ) → slice_get seats k ≡ Some seat → a ≡ start ++ lines_text s rs (take k seats) → b ≡ a ++ line_text s seat (resident_at rs seat.place) → b ≡ start ++ lines_text s rs (take (k + 1) seats)
-line_step s rs seats k seat start a b at before more =
-    let line = line_text s seat (resident_at rs seat.place) in
+pub line_step : (s : Space) (rs : List (Option InstanceEntry)) (instance_refs : List InstanceRef) (k : ℕ) (instance_ref : InstanceRef) (start a b : List ℕ) → slice_get instance_refs k ≡ Some instance_ref → a ≡ start ++ lines_text s rs (take k instance_refs) → b ≡ a ++ line_text s instance_ref (entry_at rs instance_ref.place) → b ≡ start ++ lines_text s rs (take (k + 1) instance_refs)
+line_step s rs instance_refs k instance_ref start a b at before more =
+    let line = line_text s instance_ref (entry_at rs instance_ref.place) in
     let next : k + 1 ≡ suc k = omega arith in
-    more ∙ ap (λ q. q ++ line) before ∙ append_assoc start (lines_text s rs (take k seats)) line ∙ ap (λ q. start ++ q) (sym (one_line_more s rs seats k seat at))
-    ∙ ap (λ n. start ++ lines_text s rs (take n seats)) (sym next)
+    more ∙ ap (λ q. q ++ line) before ∙ append_assoc start (lines_text s rs (take k instance_refs)) line ∙ ap (λ q. start ++ q) (sym (one_line_more s rs instance_refs k instance_ref at))
+    ∙ ap (λ n. start ++ lines_text s rs (take n instance_refs)) (sym next)
 
-same_row : (s : Space) (i : ℕ) (x : Resident) (t : Tenant) (seat : Seat) → seat ≡ record { number = i; place = t.place } → AreGivenAs x.given t.params → line_row s seat x ≡ row_in s i t
-same_row s i x t seat at is = rw at (rw is.shares (rw is.min (rw is.max refl)))
+same_row : (s : Space) (i : ℕ) (x : InstanceEntry) (t : Tenant) (instance_ref : InstanceRef) → instance_ref ≡ record { number = i; place = t.place } → AreGivenAs x.given t.params → line_row s instance_ref x ≡ row_in s i t
+same_row s i x t instance_ref at is = rw at (rw is.shares (rw is.min (rw is.max refl)))
 
-rows_same : (s : Space) (rs : List (Option Resident)) (i : ℕ) (ts : List (Option Tenant)) → ((k : ℕ) (t : Tenant) → get_or ts k None ≡ Some t → (x : Resident) × (resident_at rs t.place ≡ Some x) × AreGivenAs x.given t.params) → lines_text s rs (seats_by i ts) ≡ rows_text s i ts
+rows_same : (s : Space) (rs : List (Option InstanceEntry)) (i : ℕ) (ts : List (Option Tenant)) → ((k : ℕ) (t : Tenant) → get_or ts k None ≡ Some t → (x : InstanceEntry) × (entry_at rs t.place ≡ Some x) × AreGivenAs x.given t.params) → lines_text s rs (refs_by i ts) ≡ rows_text s i ts
 rows_same s rs i [] has = refl
 rows_same s rs i (None ∷ ts) has = rows_same s rs (i + 1) ts (λ k t is. has (suc k) t is)
 rows_same s rs i (Some t ∷ ts) has =
     let h = has 0 t refl in
-    let seat : Seat = record { number = i; place = t.place } in
-    let first : line_text s seat (resident_at rs t.place) ≡ row_text (row_in s i t) = ap (line_text s seat) h.1 ∙ ap row_text (same_row s i h.0 t seat refl h.2) in
+    let instance_ref : InstanceRef = record { number = i; place = t.place } in
+    let first : line_text s instance_ref (entry_at rs t.place) ≡ row_text (row_in s i t) = ap (line_text s instance_ref) h.1 ∙ ap row_text (same_row s i h.0 t instance_ref refl h.2) in
     let tail = rows_same s rs (i + 1) ts (λ k u is. has (suc k) u is) in
-    ap (λ a. a ++ lines_text s rs (seats_by (i + 1) ts)) first ∙ ap (λ b. row_text (row_in s i t) ++ b) tail
+    ap (λ a. a ++ lines_text s rs (refs_by (i + 1) ts)) first ∙ ap (λ b. row_text (row_in s i t) ++ b) tail
 
 -- ---- the first three lines
 
@@ -155,8 +155,8 @@ head_written s frames used slots used_slots shared sharers a b c d first second 
 
 -- ---- the whole
 
-pub report_is : (h : HostState) (seats : List Seat) (text : List ℕ) → AreSeats h seats → text ≡ head_text h.space ++ lines_text h.space h.residents seats → ReportsHost h text
-report_is h seats text are is w st =
-    let here : text ≡ head_text w.space ++ lines_text w.space h.residents seats = subst (λ s. text ≡ head_text s ++ lines_text s h.residents seats) st.space is in
-    here ∙ ap (λ (zs : List Seat). head_text w.space ++ lines_text w.space h.residents zs) (are w st)
-    ∙ ap (λ b. head_text w.space ++ b) (rows_same w.space h.residents 0 w.tenants (λ k t live. let f = st.there k t live in (f.0, f.1, f.2.given)))
+pub report_is : (h : HostState) (instance_refs : List InstanceRef) (text : List ℕ) → AreInstanceRefs h instance_refs → text ≡ head_text h.space ++ lines_text h.space h.entries instance_refs → ReportsHost h text
+report_is h instance_refs text are is w st =
+    let here : text ≡ head_text w.space ++ lines_text w.space h.entries instance_refs = subst (λ s. text ≡ head_text s ++ lines_text s h.entries instance_refs) st.space is in
+    here ∙ ap (λ (zs : List InstanceRef). head_text w.space ++ lines_text w.space h.entries zs) (are w st)
+    ∙ ap (λ b. head_text w.space ++ b) (rows_same w.space h.entries 0 w.tenants (λ k t live. let f = st.there k t live in (f.0, f.1, f.2.given)))

@@ -11,7 +11,7 @@ use Rattle.wh_model.specs.Validity.Valid.{Valid}
 use Rattle.wh_model.specs.Validity.Heights.{Fits}
 use Rattle.wh_imports.specs.declared.error.LinkError.{LinkError}
 use Rattle.wh_imports.specs.declared.error.LinkError.TheVariants.{NoItem, Memory as NoRoomToLink}
-use Rattle.wh_imports.specs.Refusing.{RefusesLink}
+use Rattle.wh_imports.specs.LinkRefusals.{RefusesLink}
 use Rattle.wh_load.specs.declared.error.LoadError.{LoadError}
 use Rattle.wh_load.specs.declared.error.LoadError.TheVariants.{Decode, Valid as Invalid, Link}
 use Rattle.wh_load.specs.Refusing.{RefusesBytes}
@@ -21,29 +21,29 @@ use Rattle.wh_host_model.specs.Space.Parts.{Space, Occupant, claim, occupant_at,
 use Rattle.wh_host_model.specs.Space.Sound.{IsSound}
 use Rattle.wh_host_model.specs.Space.Stores.{Epochs, ended}
 use Rattle.wh_host_model.specs.Space.Places.{Exits}
-use Rattle.wh_host_model.specs.Host.Spaces.{AllLeftAlone, Departs, OthersLeftAlone, StandsAlone}
+use Rattle.wh_host_model.specs.Host.Spaces.{AllLeftAlone, Departs, OthersLeftAlone, WaitsAlone}
 use Rattle.wh_host_model.specs.Space.Sight.{HasNoPins}
 use Rattle.wh_host_model.specs.Host.Worlds.{Tenant, Loaded, World, tenant, with_tenant, promised}
-use Rattle.wh_host_model.specs.Host.Calls.{IsFirst, Meets, TakesCall, Cancels, ends}
+use Rattle.wh_host_model.specs.Host.OwnerCalls.{IsFirst, Meets, TakesCall, Cancels, ends}
 use Rattle.wh_host_model.specs.Owners.{InvokeFault}
-use Rattle.wh_host_model.specs.Host.Admission.{LoadsModule, LetsGo, broken, invalid, unlinked, modules_full, decoder_wants, validator_wants, linker_wants, host_wants}
+use Rattle.wh_host_model.specs.Host.Admission.{LoadsModule, LetsGo, broken, invalid, unlinked, modules_full, decoder_out_of_memory, validator_out_of_memory, linker_out_of_memory, host_out_of_memory}
 use Rattle.wh_host_model.specs.Host.Events.{epoch, invoke, cancel, load, release}
-use Rattle.wh_host_model.specs.Host.Happens.{IsLive, OnlyMoves, IsCancel, is_cancelled, IsInvoke, is_invoked, isnt_invoked, no_memory_to_invoke, invoke_ok, call_ok, LoadAnswer, load_refused, load_wants_memory, IsLoad, is_loaded, isnt_loaded, no_memory_to_load, load_ok, IsRelease, is_released}
+use Rattle.wh_host_model.specs.Host.Happens.{IsLive, OnlyMoves, IsCancel, is_cancelled, IsInvoke, is_invoked, isnt_invoked, no_memory_to_invoke, invoke_ok, call_ok, LoadAnswer, load_refused, load_out_of_memory, IsLoad, is_loaded, isnt_loaded, no_memory_to_load, load_ok, IsRelease, is_released}
 use Rattle.wh_host_model.proofs.Host.Bridges.{ends_well, epochs_leave_all, exits_depart}
 use Rattle.wh_host_model.specs.Host.Misreading.{ComesAbout}
 use Rattle.wh_host_model.proofs.Host.Lasting.{memory_stays_sound}
 use Rattle.wh_imports.specs.LinkedState.{LinkedState}
 use Rattle.wh_load.specs.Refusing.{view_linked}
 use Rattle.wh_instance.specs.declared.error.InvokeError.{InvokeError}
-use Rattle.wh_instance.specs.Asked.{CancelsTenant}
+use Rattle.wh_instance.specs.OwnerRequests.{CancelsTenant}
 use Rattle.wh_instance.specs.Invoked.{InvokesTenant, RefusesInvoke, RefusesCallFor, IsSomeTenant, refusal_of}
 use Rattle.wh_instance.specs.Seen.{HasOutput}
-use Rattle.wh_instance.specs.Tenancy.{IsTenant, TenantState}
+use Rattle.wh_instance.specs.Tenancy.{IsTenant, HostInstanceState}
 use Rattle.wh_host.specs.declared.parts.LoadedModule.{LoadedModule}
-use Rattle.wh_host.specs.declared.parts.Resident.{Resident}
-use Rattle.wh_host.specs.Asking.{refusal_answer}
-use Rattle.wh_host.specs.Seats.{PlaceIsLeft}
-use Rattle.wh_host.specs.Hosting.{HostState, IsHost, loaded_as, resident_at}
+use Rattle.wh_host.specs.declared.parts.InstanceEntry.{InstanceEntry}
+use Rattle.wh_host.specs.CallRequests.{refusal_answer}
+use Rattle.wh_host.specs.Entries.{PlaceIsLeft}
+use Rattle.wh_host.specs.Hosting.{HostState, IsHost, loaded_as, entry_at}
 use Rattle.wh_host.proofs.Turns.{claimed_there}
 use Rattle.wh_host.proofs.Hosts.{SameTenant, asked_found, at_place, changed, closed_stays, found, length_set, module_is, moved_on, one_fewer, one_value, places, comes_on, same_or_not, same_owner, seat_set}
 
@@ -53,7 +53,7 @@ pub sound_here : (h : HostState) (w : World) → IsHost h w → IsSound w.space
 sound_here h w st = memory_stays_sound w st.comes
 
 -- who is there has its place in memory
-pub lives_there : (h : HostState) (w : World) (place i : ℕ) (x : Resident) → IsHost h w → resident_at h.residents place ≡ Some x → x.number ≡ Some i → (o : Occupant) × occupant_at h.space place o × (o.live ≡ true)
+pub lives_there : (h : HostState) (w : World) (place i : ℕ) (x : InstanceEntry) → IsHost h w → entry_at h.entries place ≡ Some x → x.number ≡ Some i → (o : Occupant) × occupant_at h.space place o × (o.live ≡ true)
 lives_there h w place i x st at number =
     let f = found h w place i x st at number in
     let claims = (places w st.comes).claimed i f.t f.live in
@@ -70,8 +70,8 @@ module_there h w k m st is = ap (λ (ls : List Loaded). slice_get ls k) (sym st.
 
 -- ---- the present call ends
 
-pub cancelled_here : (h : HostState) (w : World) (id : InstId) (x : Resident) (z : TenantState) → (st : IsHost h w) → resident_at h.residents id.place ≡ Some x → x.number ≡ Some id.number → CancelsTenant x.tenant z
-    → (w2 : World) × IsCancel w id call_ok w2 × IsHost (record h { residents = slice_set h.residents id.place (Some (record x { tenant = z })); space = ended h.space id.place }) w2
+pub cancelled_here : (h : HostState) (w : World) (id : InstId) (x : InstanceEntry) (z : HostInstanceState) → (st : IsHost h w) → entry_at h.entries id.place ≡ Some x → x.number ≡ Some id.number → CancelsTenant x.tenant z
+    → (w2 : World) × IsCancel w id call_ok w2 × IsHost (record h { entries = slice_set h.entries id.place (Some (record x { tenant = z })); space = ended h.space id.place }) w2
 cancelled_here h w id x z st at number asked =
     let f = found h w id.place id.number x st at number in
     let s2 = ended w.space id.place in
@@ -82,28 +82,28 @@ cancelled_here h w id x z st at number asked =
     let t2 = made.2 in
     let others = well.0.steps.others in
     let stays = closed_stays s2 w.space f.t t2 made.4 (subst (λ n. OthersLeftAlone n w.space s2) (sym f.at) others) in
-    let cancels : Cancels w.space f.t s2 t2 = ends made.3 (subst (λ n. StandsAlone n None w.space s2) (sym f.at) well.0) (subst (λ n. HasNoPins s2 n) (sym f.at) well.1) made.4 in
+    let cancels : Cancels w.space f.t s2 t2 = ends made.3 (subst (λ n. WaitsAlone n None w.space s2) (sym f.at) well.0) (subst (λ n. HasNoPins s2 n) (sym f.at) well.1) made.4 in
     let w2 = with_tenant w id.number (Some t2) s2 in
     let happens : IsCancel w id call_ok w2 = is_cancelled (f.live, f.at) cancels in
     let over : IsTenant f.is.loaded.linked x.page_limit z (view s2 t2.place) t2 = subst (λ b. IsTenant f.is.loaded.linked x.page_limit z b t2) (sym there ∙ ap (view s2) (sym stays.place)) made.5 in
     let represents = same_owner h.modules x w.space s2 id.number f.t t2 z f.is stays.of stays.params over in
     let then = changed h w id.place id.number x (record x { tenant = z }) t2 s2 st at number (stays.place ∙ f.at) represents (λ j other. (others j other).view) (comes_on w w2 (cancel id) st.comes (call_ok, happens)) in
-    let rs = slice_set h.residents id.place (Some (record x { tenant = z })) in
-    (w2, happens, subst (λ s. IsHost (record h { residents = rs; space = ended s id.place }) w2) (sym st.space) then)
+    let rs = slice_set h.entries id.place (Some (record x { tenant = z })) in
+    (w2, happens, subst (λ s. IsHost (record h { entries = rs; space = ended s id.place }) w2) (sym st.space) then)
 
 -- ---- a call comes
 
 takes_stays : (w : World) (t t2 : Tenant) {m : _} {name : List ℕ} {given : List ℤ} {fuel at : ℕ} → TakesCall m w.space t name given fuel at t2 → SameTenant t t2
 takes_stays w t t2 takes = rw takes.after (record { place = refl; of = refl; params = refl })
 
-pub some_tenant : (h : HostState) (w : World) (id : InstId) (x : Resident) (m : LoadedModule) → IsHost h w → resident_at h.residents id.place ≡ Some x → x.number ≡ Some id.number → slice_get h.modules x.of ≡ Some m → IsSomeTenant m.linked x.tenant
+pub some_tenant : (h : HostState) (w : World) (id : InstId) (x : InstanceEntry) (m : LoadedModule) → IsHost h w → entry_at h.entries id.place ≡ Some x → x.number ≡ Some id.number → slice_get h.modules x.of ≡ Some m → IsSomeTenant m.linked x.tenant
 some_tenant h w id x m st at number is =
     let f = found h w id.place id.number x st at number in
     (x.page_limit, view w.space f.t.place, f.t, subst (λ (l : LoadedModule). IsTenant l.linked x.page_limit x.tenant (view w.space f.t.place) f.t) (module_is h w id.place id.number x m f is) f.is.is)
 
-pub invoked_here : (h : HostState) (w : World) (id : InstId) (name : List ℕ) (given : List ℤ) (fuel at : ℕ) (x : Resident) (z : TenantState) (m : LoadedModule) → (st : IsHost h w) → resident_at h.residents id.place ≡ Some x → x.number ≡ Some id.number → slice_get h.modules x.of ≡ Some m
+pub invoked_here : (h : HostState) (w : World) (id : InstId) (name : List ℕ) (given : List ℤ) (fuel at : ℕ) (x : InstanceEntry) (z : HostInstanceState) (m : LoadedModule) → (st : IsHost h w) → entry_at h.entries id.place ≡ Some x → x.number ≡ Some id.number → slice_get h.modules x.of ≡ Some m
     → InvokesTenant m.linked x.tenant name given fuel at z
-    → (w2 : World) × IsInvoke w id name given fuel (invoke_ok at) w2 × IsHost (record h { residents = slice_set h.residents id.place (Some (record x { tenant = z })) }) w2
+    → (w2 : World) × IsInvoke w id name given fuel (invoke_ok at) w2 × IsHost (record h { entries = slice_set h.entries id.place (Some (record x { tenant = z })) }) w2
 invoked_here h w id name given fuel at x z m st there number is asked =
     let f = found h w id.place id.number x st there number in
     let one = module_is h w id.place id.number x m f is in
@@ -119,7 +119,7 @@ refused_as : (w : World) (id : InstId) (name : List ℕ) (given : List ℤ) (fue
 refused_as w id name given fuel t l loaded live is same (Some fault) first = isnt_invoked live is (subst (λ m. IsFirst m t name given fault) (sym same) first)
 refused_as w id name given fuel t l loaded live is same None none = no_memory_to_invoke live is (λ fault. subst (λ m. ¬ (Meets m t name given fault)) (sym same) (none fault))
 
-pub refused_here : (h : HostState) (w : World) (id : InstId) (name : List ℕ) (given : List ℤ) (fuel : ℕ) (x : Resident) (m : LoadedModule) (e : InvokeError) → (st : IsHost h w) → resident_at h.residents id.place ≡ Some x → x.number ≡ Some id.number → slice_get h.modules x.of ≡ Some m
+pub refused_here : (h : HostState) (w : World) (id : InstId) (name : List ℕ) (given : List ℤ) (fuel : ℕ) (x : InstanceEntry) (m : LoadedModule) (e : InvokeError) → (st : IsHost h w) → entry_at h.entries id.place ≡ Some x → x.number ≡ Some id.number → slice_get h.modules x.of ≡ Some m
     → RefusesInvoke m.linked x.tenant name given e → IsInvoke w id name given fuel (refusal_answer (refusal_of e)) w
 refused_here h w id name given fuel x m e st there number is asked =
     let f = found h w id.place id.number x st there number in
@@ -149,18 +149,18 @@ epoch_here h w s2 st epochs =
 
 -- ---- an instance goes
 
-pub gone_here : (h : HostState) (w : World) (id : InstId) (x : Resident) (z : TenantState) (output : List ℕ) (rs2 : List (Option Resident)) (s2 : Space) (live2 : ℕ) → (st : IsHost h w) → resident_at h.residents id.place ≡ Some x → x.number ≡ Some id.number
-    → HasOutput x.tenant output → Exits h.space id.place s2 → PlaceIsLeft (slice_set h.residents id.place (Some (record x { number = None; tenant = z }))) id.place rs2 → h.live ≡ 1 + live2
-    → (w2 : World) × IsRelease w id (Some output) w2 × IsHost (record h { residents = rs2; live = live2; space = s2 }) w2
+pub gone_here : (h : HostState) (w : World) (id : InstId) (x : InstanceEntry) (z : HostInstanceState) (output : List ℕ) (rs2 : List (Option InstanceEntry)) (s2 : Space) (live2 : ℕ) → (st : IsHost h w) → entry_at h.entries id.place ≡ Some x → x.number ≡ Some id.number
+    → HasOutput x.tenant output → Exits h.space id.place s2 → PlaceIsLeft (slice_set h.entries id.place (Some (record x { number = None; tenant = z }))) id.place rs2 → h.live ≡ 1 + live2
+    → (w2 : World) × IsRelease w id (Some output) w2 × IsHost (record h { entries = rs2; live = live2; space = s2 }) w2
 gone_here h w id x z output rs2 s2 live2 st at number put exits left lives =
     let f = found h w id.place id.number x st at number in
-    let y : Resident = record x { number = None; tenant = z } in
-    let seats = seat_set h.residents id.place x (Some y) at in
+    let y : InstanceEntry = record x { number = None; tenant = z } in
+    let instance_refs = seat_set h.entries id.place x (Some y) at in
     let departs = exits_depart w.space id.place s2 (sound_here h w st) (subst (λ s. Exits s id.place s2) st.space exits) in
     let w2 = with_tenant w id.number None s2 in
     let goes : LetsGo w id.number f.t output w2 = record { space = s2; departs = subst (λ n. Departs n w.space s2) (sym f.at) departs; written = put f.is.loaded.linked x.page_limit (view w.space f.t.place) f.t f.is.is; after = refl } in
     let happens : IsRelease w id (Some output) w2 = is_released (f.live, f.at) goes in
-    let still : (p : ℕ) → p ≢ id.place → resident_at rs2 p ≡ resident_at h.residents p = λ p other. left.0 p other ∙ seats.1 p other in
+    let still : (p : ℕ) → p ≢ id.place → entry_at rs2 p ≡ entry_at h.entries p = λ p other. left.0 p other ∙ instance_refs.1 p other in
     let counts = one_fewer w.tenants id.number f.t f.live in (
       w2,
       happens,
@@ -176,14 +176,14 @@ gone_here h w id x z output rs2 s2 live2 st at number put exits left lives =
             (λ (p : (k ≢ id.number) × (get_or w.tenants k None ≡ Some a)).
             let g = st.there k a p.1 in
             let r = g.2 in
-            let far : a.place ≢ id.place = λ q. p.0 (one_value k id.number (sym r.number ∙ ap (λ (v : Resident). v.number) (one_value g.0 x (sym g.1 ∙ ap (resident_at h.residents) q ∙ at)) ∙ number)) in
+            let far : a.place ≢ id.place = λ q. p.0 (one_value k id.number (sym r.number ∙ ap (λ (v : InstanceEntry). v.number) (one_value g.0 x (sym g.1 ∙ ap (entry_at h.entries) q ∙ at)) ∙ number)) in
             (g.0, still a.place far ∙ g.1, moved_on h.modules g.0 w.space s2 k a r (departs.others a.place far).view))
             (at_place w.tenants id.number k None f.t a f.live e);
         all = λ p k v e n.
             ⊎_elim
             (λ (q : p ≡ id.place).
-            let same : y ≡ v = one_value y v (sym seats.0 ∙ left.1 v (ap (resident_at rs2) (sym q) ∙ e)) in
-            absurd (let bad : None ≡ Some k = ap (λ (u : Resident). u.number) same ∙ n in cc bad))
+            let same : y ≡ v = one_value y v (sym instance_refs.0 ∙ left.1 v (ap (entry_at rs2) (sym q) ∙ e)) in
+            absurd (let bad : None ≡ Some k = ap (λ (u : InstanceEntry). u.number) same ∙ n in cc bad))
             (λ (q : p ≢ id.place).
             let g = st.all p k v (sym (still p q) ∙ e) n in
             let other : k ≢ id.number = λ same. q (sym g.2 ∙ ap (λ (u : Tenant). u.place) (one_value g.0 f.t (sym g.1 ∙ ap (tenant w) same ∙ f.live)) ∙ f.at) in
@@ -272,17 +272,17 @@ no_room_to_check NoRoomToCheck = inl refl
 
 link_refused : (w : World) (bytes : List ℕ) (m : Module) (e : LinkError) → IsModule bytes m → Valid m → Fits m → RefusesLink m e → (answer : LoadAnswer) × IsLinkAnswer e answer × IsLoad w bytes answer w
 link_refused w bytes m (NoItem fault place) is valid fits first = (load_refused (unlinked fault place), refl, isnt_loaded (m, is, valid, fits, first))
-link_refused w bytes m NoRoomToLink is valid fits first = (load_wants_memory linker_wants, refl, no_memory_to_load (m, is, valid, fits))
+link_refused w bytes m NoRoomToLink is valid fits first = (load_out_of_memory linker_out_of_memory, refl, no_memory_to_load (m, is, valid, fits))
 
 pub bytes_refused : (w : World) (bytes : List ℕ) (e : LoadError) → RefusesBytes bytes e → (answer : LoadAnswer) × IsBytesAnswer e answer × IsLoad w bytes answer w
 bytes_refused w bytes (Decode e) breaks =
     ⊎_elim
-    (λ (none : e.kind ≡ NoRoom). (load_wants_memory decoder_wants, inr (none, refl), no_memory_to_load tt))
+    (λ (none : e.kind ≡ NoRoom). (load_out_of_memory decoder_out_of_memory, inr (none, refl), no_memory_to_load tt))
     (λ (some : e.kind ≢ NoRoom). (load_refused (broken e.kind e.offset), inl (some, refl), isnt_loaded (breaks some)))
     (no_room e.kind)
 bytes_refused w bytes (Invalid e) refuses =
     ⊎_elim
-    (λ (none : e.kind ≡ NoRoomToCheck). (load_wants_memory validator_wants, inr (none, refl), no_memory_to_load (refuses.0, refuses.1)))
+    (λ (none : e.kind ≡ NoRoomToCheck). (load_out_of_memory validator_out_of_memory, inr (none, refl), no_memory_to_load (refuses.0, refuses.1)))
     (λ (some : e.kind ≢ NoRoomToCheck). (load_refused invalid, inl (some, refl), isnt_loaded (refuses.0, refuses.1, refuses.2 some)))
     (no_room_to_check e.kind)
 bytes_refused w bytes (Link e) refuses = link_refused w bytes refuses.0 e refuses.1 refuses.2 refuses.3 refuses.4
@@ -290,5 +290,5 @@ bytes_refused w bytes (Link e) refuses = link_refused w bytes refuses.0 e refuse
 pub modules_are_full : (h : HostState) (w : World) (bytes : List ℕ) (m : Module) → IsHost h w → IsAccepted bytes m → 1024 ≤ length h.modules → IsLoad w bytes (load_refused modules_full) w
 modules_are_full h w bytes m st accepted full = let count = as_many_modules h w st in isnt_loaded (m, accepted, omega (arith, count, full))
 
-pub no_room_to_keep : (h : HostState) (w : World) (bytes : List ℕ) (m : Module) → IsHost h w → IsAccepted bytes m → length h.modules < 1024 → IsLoad w bytes (load_wants_memory host_wants) w
+pub no_room_to_keep : (h : HostState) (w : World) (bytes : List ℕ) (m : Module) → IsHost h w → IsAccepted bytes m → length h.modules < 1024 → IsLoad w bytes (load_out_of_memory host_out_of_memory) w
 no_room_to_keep h w bytes m st accepted few = let count = as_many_modules h w st in no_memory_to_load (m, accepted, omega (arith, count, few))

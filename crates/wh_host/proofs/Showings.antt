@@ -8,32 +8,32 @@ use Rattle.wh_host_model.specs.Host.Worlds.{Loaded, Tenant, World, journal, jour
 use Rattle.wh_host_model.specs.Owners.{Params, given_of}
 use Rattle.wh_host_model.specs.Host.Journals.{InOrder}
 use Rattle.wh_host_model.specs.Host.Laws.{IsReplayed}
-use Rattle.wh_host_model.specs.Host.Standing.{FirstStandsDuly}
+use Rattle.wh_host_model.specs.Host.Suspensions.{FirstWaitsDuly}
 use Rattle.wh_host_model.proofs.Host.Lasting.{inputs_stay}
 use Rattle.wh_host_model.proofs.Host.Holding.{instances_replay, journals_are_in_order, suspensions_are_right}
 use Rattle.wh_imports.specs.LinkedState.{LinkedState}
 use Rattle.wh_load.specs.Refusing.{view_linked}
-use Rattle.wh_instance.specs.Tenancy.{IsTenant, TenantState}
+use Rattle.wh_instance.specs.Tenancy.{IsTenant, HostInstanceState}
 use Rattle.wh_instance.proofs.Told.{join_each}
 use Rattle.wh_transcript.specs.Transcripts.{IsReplayable}
-use Rattle.wh_host.specs.declared.parts.Given.{Given}
+use Rattle.wh_host.specs.declared.parts.StoredParams.{StoredParams}
 use Rattle.wh_host.specs.declared.parts.LoadedModule.{LoadedModule}
-use Rattle.wh_host.specs.declared.parts.Resident.{Resident}
-use Rattle.wh_host.specs.Hosting.{AreGivenAs, HostState, IsHost, IsReached, loaded_as, resident_at}
+use Rattle.wh_host.specs.declared.parts.InstanceEntry.{InstanceEntry}
+use Rattle.wh_host.specs.Hosting.{AreGivenAs, HostState, IsHost, IsReached, loaded_as, entry_at}
 use Rattle.wh_host.specs.Showing.{Shows, given_with, shown_of}
 use Rattle.wh_host.proofs.Hosts.{found, module_is, one_value}
 use Rattle.wh_host.proofs.Requests.{module_there}
 
 -- what it was given, by its parts
-pub params_by : (g : Given) (inputs : List ℕ) (p : Params) → AreGivenAs g p → inputs ≡ p.inputs → given_with g inputs ≡ p
+pub params_by : (g : StoredParams) (inputs : List ℕ) (p : Params) → AreGivenAs g p → inputs ≡ p.inputs → given_with g inputs ≡ p
 params_by g inputs p is same = rw is.shares (rw is.min (rw is.max (rw is.fuel (rw is.base (rw is.salt (rw same refl))))))
 
 -- the words that the code has are those that were given
-pub inputs_are : (l : LinkedState) (limit : ℕ) (x : TenantState) (w : World) (t : Tenant) → IsTenant l limit x (view w.space t.place) t → t.rest.inputs ≡ t.params.inputs → x.store.inputs.items ≡ t.params.inputs
+pub inputs_are : (l : LinkedState) (limit : ℕ) (x : HostInstanceState) (w : World) (t : Tenant) → IsTenant l limit x (view w.space t.place) t → t.rest.inputs ≡ t.params.inputs → x.store.inputs.items ≡ t.params.inputs
 inputs_are l limit x w t is same = let has = is.store in sym has.1.store.inputs ∙ same
 
 -- who is there is shown so, by what the code has of it
-pub record ShownThere (w : World) (place i : ℕ) (m : LoadedModule) (x : Resident) : Type 0 where
+pub record ShownThere (w : World) (place i : ℕ) (m : LoadedModule) (x : InstanceEntry) : Type 0 where
   pub t : Tenant
   pub live : tenant w i ≡ Some t
   pub at : t.place ≡ place
@@ -42,7 +42,7 @@ pub record ShownThere (w : World) (place i : ℕ) (m : LoadedModule) (x : Reside
   pub given : given_with x.given x.tenant.store.inputs.items ≡ t.params
   pub shows : Shows (shown_of x m.bytes.value.items) m.bytes.value.items t
 
-pub shown_there : (h : HostState) (w : World) (place i : ℕ) (x : Resident) (m : LoadedModule) → IsHost h w → resident_at h.residents place ≡ Some x → x.number ≡ Some i → slice_get h.modules x.of ≡ Some m → ShownThere w place i m x
+pub shown_there : (h : HostState) (w : World) (place i : ℕ) (x : InstanceEntry) (m : LoadedModule) → IsHost h w → entry_at h.entries place ≡ Some x → x.number ≡ Some i → slice_get h.modules x.of ≡ Some m → ShownThere w place i m x
 shown_there h w place i x m st at number is =
     let f = found h w place i x st at number in
     let known : slice_get w.modules f.t.of ≡ Some (loaded_as m) = ap (slice_get w.modules) (sym f.is.of) ∙ module_there h w x.of m st is in
@@ -56,11 +56,11 @@ shown_there h w place i x m st at number is =
       of = known;
       over = over;
       given = given;
-      shows = record { bytes_are = refl; params = given; calls = calls; stands_for = over.stands_for };
+      shows = record { bytes_are = refl; params = given; calls = calls; waiting_for = over.waiting_for };
     }
 
 -- and where events alone have led there, it is what its journal comes to
-pub replays_there : (w : World) (place i : ℕ) (x : Resident) (m : LoadedModule) → IsReached w → ShownThere w place i m x → IsReplayable (shown_of x m.bytes.value.items)
+pub replays_there : (w : World) (place i : ℕ) (x : InstanceEntry) (m : LoadedModule) → IsReached w → ShownThere w place i m x → IsReplayable (shown_of x m.bytes.value.items)
 replays_there w place i x m run f =
     let r = instances_replay run.frames run.slots run.tax run.events w run.happen i f.t f.live in
     let o = journals_are_in_order run.frames run.slots run.tax run.events w run.happen i f.t f.live in
@@ -92,5 +92,5 @@ replays_there w place i x m run f =
       doing = f.t.doing;
       replay = subst (λ p. Replay (view_linked m.linked) (given_of p) (journal_calls (journal f.t)) (standing_in w.space f.t)) (sym given) replay;
       wanted = wants w.space f.t.place;
-      stands = subst (λ o. FirstStandsDuly f.t.inst (store_in w.space f.t) f.t.doing f.t.open_calls (wants w.space f.t.place) o) over.stands_for u;
+      stands = subst (λ o. FirstWaitsDuly f.t.inst (store_in w.space f.t) f.t.doing f.t.open_calls (wants w.space f.t.place) o) over.waiting_for u;
     }

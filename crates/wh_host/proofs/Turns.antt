@@ -5,11 +5,11 @@ use Rattle.std.proofs.Math.Nat.{min-eq_left}
 use Rattle.wh_model.specs.declared.memory.Need.{Need}
 use Rattle.wh_host_model.specs.declared.plain.TurnEnd.TheVariants as answer
 use Rattle.wh_host_model.specs.Space.Parts.{Space, Claimed, Occupant, claim, claim_of, occupant_at, view}
-use Rattle.wh_host_model.specs.Space.Chain.{MayStandFor}
+use Rattle.wh_host_model.specs.Space.Chain.{MayWaitFor}
 use Rattle.wh_host_model.specs.Space.Ready.{Ready}
 use Rattle.wh_host_model.specs.Space.Sound.{IsSound}
 use Rattle.wh_host_model.specs.Space.Stores.{ended, stood}
-use Rattle.wh_host_model.specs.Host.Spaces.{StepsAlone, StandsAlone, PinsEndAfter}
+use Rattle.wh_host_model.specs.Host.Spaces.{StepsAlone, WaitsAlone, PinsEndAfter}
 use Rattle.wh_model.specs.Execution.Asking.{Asks}
 use Rattle.wh_model.specs.Execution.Configuration.{config}
 use Rattle.wh_model.specs.Execution.Reduction.{IsNext}
@@ -17,21 +17,21 @@ use Rattle.wh_host_model.specs.Host.Worlds.{Rest, Doing, Tenant, store_with}
 use Rattle.wh_host_model.specs.Owners.{Entry}
 use Rattle.wh_host_model.proofs.Host.Leaving.{left_then}
 use Rattle.wh_host_model.specs.Host.Turns.{Proceeds, Upshot, to_end, out_of_fuel, to_wait, to_go_on}
-use Rattle.wh_host_model.specs.Host.Answers.{gone_further, ended_by, Closes, faces_next, is_dead, ProceedsIn, Turn, is_idle, has_ended, has_no_fuel, has_no_frame, can_go_on, keeps_its_fault}
-use Rattle.wh_host_model.proofs.Host.Bridges.{ends_well, stands_well}
+use Rattle.wh_host_model.specs.Host.CallAnswers.{gone_further, ended_by, Closes, faces_next, is_dead, ProceedsIn, Turn, is_idle, has_ended, has_no_fuel, has_no_frame, can_go_on, keeps_its_fault}
+use Rattle.wh_host_model.proofs.Host.Bridges.{ends_well, waits_well}
 use Rattle.wh_host_model.proofs.Space.Reading.{view_length}
 use Rattle.wh_imports.specs.LinkedState.{LinkedState}
-use Rattle.wh_machine.specs.Runs.{linked_parts}
-use Rattle.wh_machine.specs.States.{Setting, setting_of}
-use Rattle.wh_instance.specs.declared.stages.Turned.{Turned}
-use Rattle.wh_instance.specs.declared.stages.Turned.TheVariants as turned
+use Rattle.wh_machine.specs.MachineRuns.{linked_parts}
+use Rattle.wh_machine.specs.CallStates.{Setting, setting_of}
+use Rattle.wh_instance.specs.declared.stages.TurnResult.{TurnResult}
+use Rattle.wh_instance.specs.declared.stages.TurnResult.TheVariants as turned
 use Rattle.wh_instance.specs.Advancing.{IsInMemory, LeavesTenant, TurnsAny, TurnsTenant}
-use Rattle.wh_instance.specs.Tenancy.{TenantState, RepresentsTenant, IsTenant}
+use Rattle.wh_instance.specs.Tenancy.{HostInstanceState, RepresentsTenant, IsTenant}
 use Rattle.wh_space.specs.declared.view.View.{View}
 use Rattle.wh_space.specs.Steps.{limit_by, page_limit}
-use Rattle.wh_space.specs.Views.{keeps_all}
+use Rattle.wh_space.specs.StepViews.{keeps_all}
 use Rattle.wh_host.specs.Lying.{LiesAt}
-use Rattle.wh_host.specs.Lent.{MayStandAt, TurnsTo, TurnsLent}
+use Rattle.wh_host.specs.Lent.{MayWaitAt, TurnsTo, TurnsLent}
 use Rattle.wh_host.proofs.Lending.{proceeds_lent}
 use Rattle.wh_host.proofs.Viewing.{KeepsView, ViewReady, lent, represents_over, steps_alone, view_bytes}
 
@@ -52,7 +52,7 @@ claimed_there s i c e = rows s.occupants i e where
 -- ---- where a turn leaves the memory
 
 -- its step was taken, and it stands for none, or for these bytes; and where none was taken
-stands_on : (i : ℕ) (first second : Option Need) (a b c : Space) → StandsAlone i first a b → StandsAlone i second b c → StandsAlone i second a c
+stands_on : (i : ℕ) (first second : Option Need) (a b c : Space) → WaitsAlone i first a b → WaitsAlone i second b c → WaitsAlone i second a c
 stands_on i first second a b c ab bc = record {
   steps = record {
     others = λ j other. left_then (ab.steps.others j other) (bc.steps.others j other);
@@ -67,7 +67,7 @@ stands_on i first second a b c ab bc = record {
 
 -- so a turn may leave the memory: standing for these bytes, or none, its pins ended where a step was taken
 pub record Leaves (i : ℕ) (stands : Option Need) (steps : ℕ) (s s2 : Space) : Type 0 where
-  pub alone : StandsAlone i stands s s2
+  pub alone : WaitsAlone i stands s s2
   pub pins : PinsEndAfter steps s2 i
 
 pub ends_here : (s : Space) (i : ℕ) (c : Claimed) (steps : ℕ) → IsSound s → claim s i ≡ Some c → Leaves i None steps s (ended s i)
@@ -76,26 +76,26 @@ ends_here s i c steps sound at =
     let h = ends_well s i o.0 sound o.1 o.2 in
     record { alone = h.0; pins = λ some. h.1 }
 
-no_need : (s : Space) (i : ℕ) (t : Occupant) (want : Need) → None ≡ Some want → MayStandFor s i t want
+no_need : (s : Space) (i : ℕ) (t : Occupant) (want : Need) → None ≡ Some want → MayWaitFor s i t want
 no_need s i t want e = absurd (cc e)
 
 -- no step was taken
 pub stays_here : (s : Space) (i : ℕ) (c : Claimed) (steps : ℕ) → IsSound s → claim s i ≡ Some c → steps ≡ 0 → Leaves i None steps s (stood s i None)
 stays_here s i c steps sound at none =
     let o = claimed_there s i c at in
-    record { alone = stands_well s i o.0 None sound o.1 o.2 (no_need s i o.0); pins = λ some. absurd (omega (arith, none, some)) }
+    record { alone = waits_well s i o.0 None sound o.1 o.2 (no_need s i o.0); pins = λ some. absurd (omega (arith, none, some)) }
 
 -- the bytes lie in the memory
-may_stand : (s : Space) (i : ℕ) (o : Occupant) (need : Need) → IsSound s → o.live ≡ true → IsInMemory (view s i) need → (want : Need) → Some need ≡ Some want → MayStandFor s i o want
+may_stand : (s : Space) (i : ℕ) (o : Occupant) (need : Need) → IsSound s → o.live ≡ true → IsInMemory (view s i) need → (want : Need) → Some need ≡ Some want → MayWaitFor s i o want
 may_stand s i o need sound live lies want e =
     let same : need ≡ want = cc e in
     let long = view_length s i sound in
-    subst (MayStandFor s i o) same (live, subst (λ n. need.at + need.length ≤ n) long lies.0, lies.1)
+    subst (MayWaitFor s i o) same (live, subst (λ n. need.at + need.length ≤ n) long lies.0, lies.1)
 
 pub waits_here : (s : Space) (i : ℕ) (c : Claimed) (need : Need) (steps : ℕ) → IsSound s → claim s i ≡ Some c → IsInMemory (view s i) need → steps ≡ 0 → Leaves i (Some need) steps s (stood s i (Some need))
 waits_here s i c need steps sound at lies none =
     let o = claimed_there s i c at in
-    record { alone = stands_well s i o.0 (Some need) sound o.1 o.2 (may_stand s i o.0 need sound o.2 lies); pins = λ some. absurd (omega (arith, none, some)) }
+    record { alone = waits_well s i o.0 (Some need) sound o.1 o.2 (may_stand s i o.0 need sound o.2 lies); pins = λ some. absurd (omega (arith, none, some)) }
 
 pub waits_then : (s : Space) (i : ℕ) (c : Claimed) (need : Need) (steps : ℕ) → IsSound s → claim s i ≡ Some c → IsInMemory (view s i) need → Leaves i (Some need) steps s (stood (ended s i) i (Some need))
 waits_then s i c need steps sound at lies =
@@ -104,7 +104,7 @@ waits_then s i c need steps sound at lies =
     let mid : Space = ended s i in
     let o2 = claimed_there mid i c (h.0.steps.claim ∙ at) in
     let there : IsInMemory (view mid i) need = subst (λ b. IsInMemory b need) (sym h.0.view) lies in
-    let k = stands_well mid i o2.0 (Some need) h.0.steps.sound o2.1 o2.2 (may_stand mid i o2.0 need h.0.steps.sound o2.2 there) in
+    let k = waits_well mid i o2.0 (Some need) h.0.steps.sound o2.1 o2.2 (may_stand mid i o2.0 need h.0.steps.sound o2.2 there) in
     record { alone = stands_on i None (Some need) s mid (stood mid i (Some need)) h.0 k; pins = λ some. h.1 }
 
 -- ---- a turn
@@ -119,7 +119,7 @@ closed_place : (s : Space) (t : Tenant) (e : Entry) (es : List Entry) (r : Rest)
 closed_place s t e es r t2 (faces_next alive faces) = refl
 closed_place s t e es r t2 (is_dead died) = refl
 
-pub idle_turn : (l : LinkedState) (limit q : ℕ) (x : TenantState) (s : Space) (place : ℕ) (t : Tenant) → LiesAt l limit x s place t → t.open_calls ≡ [] → TurnsTo l limit q s t answer.Idle place x s
+pub idle_turn : (l : LinkedState) (limit q : ℕ) (x : HostInstanceState) (s : Space) (place : ℕ) (t : Tenant) → LiesAt l limit x s place t → t.open_calls ≡ [] → TurnsTo l limit q s t answer.Idle place x s
 idle_turn l limit q x s place t lies none = (t, is_idle none, lies)
 
 -- the setting in which the memory is lent
@@ -127,19 +127,19 @@ abbrev pub lent_setting : LinkedState → View → Setting View
 lent_setting l v = setting_of l view_bytes ViewReady KeepsView (min v.page_limit (page_limit v.memory.now v.place))
 
 -- it is that instance over what is lent
-pub lent_open : (l : LinkedState) (x : TenantState) (v : View) (t : Tenant) → LiesAt l v.page_limit x v.memory.now v.place t → RepresentsTenant (lent_setting l v) x v t
+pub lent_open : (l : LinkedState) (x : HostInstanceState) (v : View) (t : Tenant) → LiesAt l v.page_limit x v.memory.now v.place t → RepresentsTenant (lent_setting l v) x v t
 lent_open l x v t lies =
     let least : min v.page_limit (page_limit v.memory.now v.place) ≡ v.page_limit = min-eq_left lies.within in
     represents_over (linked_parts l) (min v.page_limit (page_limit v.memory.now v.place)) (λ b. b) (λ b need. Unit {0}) (λ b b2. Unit {0}) view_bytes ViewReady KeepsView (view_bytes v) v refl x t (subst (λ n. IsTenant l n x (view_bytes v) t) (sym least) lies.is)
 
 -- what is known of a turn over what is lent
-pub record Lending (l : LinkedState) (q : ℕ) (x x2 : TenantState) (v v2 : View) (t : Tenant) (made : Turned) : Type 0 where
+pub record Lending (l : LinkedState) (q : ℕ) (x x2 : HostInstanceState) (v v2 : View) (t : Tenant) (made : TurnResult) : Type 0 where
   pub sound : IsSound v.memory.now
   pub keeps : KeepsView v v2
   pub lies : LiesAt l v.page_limit x v.memory.now v.place t
   pub turns : TurnsAny (lent_setting l v) q x v made x2 v2
 
-module _ (l : LinkedState) (q : ℕ) (x x2 : TenantState) (v v2 : View) (t : Tenant) (made : Turned) (h : Lending l q x x2 v v2 t made) where
+module _ (l : LinkedState) (q : ℕ) (x x2 : HostInstanceState) (v v2 : View) (t : Tenant) (made : TurnResult) (h : Lending l q x x2 v v2 t made) where
   least : min v.page_limit (page_limit v.memory.now v.place) ≡ v.page_limit
   least = min-eq_left h.lies.within
 
@@ -182,7 +182,7 @@ module _ (l : LinkedState) (q : ℕ) (x x2 : TenantState) (v v2 : View) (t : Ten
   ended_to : (e : Entry) (es : List Entry) → t.open_calls ≡ e ∷ es → (to : Upshot) (k n : ℕ) (r : Rest) (d : Doing) → ProceedsIn q v.memory.now t e to k n v2.memory.now r d → LeavesTenant (lent_setting l v) q v t e es k n r d made x2 v2 to → made ≡ turned.Ended
       → (s3 : Space) → Leaves v.place None (k + n) v2.memory.now s3 → TurnsTo l v.page_limit q v.memory.now t answer.Ended v.place x2 s3
   ended_to e es is_open (to_end o) k n r d goes leaves is s3 left =
-      let alone = subst (λ i. StandsAlone i None v2.memory.now s3) (sym h.lies.place_is) left.alone in
+      let alone = subst (λ i. WaitsAlone i None v2.memory.now s3) (sym h.lies.place_is) left.alone in
       let sees : view s3 t.place ≡ view v2.memory.now v2.place = ap (view s3) h.lies.place_is ∙ left.alone.view ∙ ap (view v2.memory.now) (sym h.keeps.1) in
       let c = leaves.1 s3 sees in
       (c.0, has_ended is_open goes alone (subst (λ i. PinsEndAfter (k + n) s3 i) (sym h.lies.place_is) left.pins) c.1, lies_then None (k + n) s3 c.0 left (closed_place s3 t (ended_by (gone_further e k n) o) es r c.0 c.1 ∙ h.lies.place_is) c.2)
@@ -195,7 +195,7 @@ module _ (l : LinkedState) (q : ℕ) (x x2 : TenantState) (v v2 : View) (t : Ten
   fuel_to : (e : Entry) (es : List Entry) → t.open_calls ≡ e ∷ es → (to : Upshot) (k n : ℕ) (r : Rest) (d : Doing) → ProceedsIn q v.memory.now t e to k n v2.memory.now r d → LeavesTenant (lent_setting l v) q v t e es k n r d made x2 v2 to → made ≡ turned.Fuel
       → (s3 : Space) → Leaves v.place None (k + n) v2.memory.now s3 → TurnsTo l v.page_limit q v.memory.now t answer.Fuel v.place x2 s3
   fuel_to e es is_open out_of_fuel k n r d goes leaves is s3 left =
-      (_, has_no_fuel is_open goes (subst (λ i. StandsAlone i None v2.memory.now s3) (sym h.lies.place_is) left.alone) (subst (λ i. PinsEndAfter (k + n) s3 i) (sym h.lies.place_is) left.pins), lies_then None (k + n) s3 _ left h.lies.place_is leaves.1)
+      (_, has_no_fuel is_open goes (subst (λ i. WaitsAlone i None v2.memory.now s3) (sym h.lies.place_is) left.alone) (subst (λ i. PinsEndAfter (k + n) s3 i) (sym h.lies.place_is) left.pins), lies_then None (k + n) s3 _ left h.lies.place_is leaves.1)
   fuel_to e es is_open (to_end o) k n r d goes leaves is s3 left = absurd (let bad = sym leaves.0 ∙ is in cc bad)
   fuel_to e es is_open (to_wait need) k n r d goes leaves is s3 left = absurd (let bad = sym leaves.0.1 ∙ is in cc bad)
   fuel_to e es is_open to_go_on k n r d goes leaves is s3 left =
@@ -211,7 +211,7 @@ module _ (l : LinkedState) (q : ℕ) (x x2 : TenantState) (v v2 : View) (t : Ten
       let same_still : says.0 ≡ still = cc same in
       let l2 = left (k + n) (λ e. no_steps says.0 (k + n) says.2 (same_still ∙ e)) (subst (λ z. IsInMemory (view v2.memory.now v.place) z) same_need (subst (λ i. IsInMemory (view v2.memory.now i) other) h.keeps.1 leaves.1)) in
       let l3 = subst (λ z. Leaves v.place (Some z) (k + n) v2.memory.now s3) (sym same_need) l2 in
-      (_, has_no_frame is_open goes (subst (λ i. StandsAlone i (Some other) v2.memory.now s3) (sym h.lies.place_is) l3.alone) (subst (λ i. PinsEndAfter (k + n) s3 i) (sym h.lies.place_is) l3.pins), lies_then (Some other) (k + n) s3 _ l3 h.lies.place_is leaves.2)
+      (_, has_no_frame is_open goes (subst (λ i. WaitsAlone i (Some other) v2.memory.now s3) (sym h.lies.place_is) l3.alone) (subst (λ i. PinsEndAfter (k + n) s3 i) (sym h.lies.place_is) l3.pins), lies_then (Some other) (k + n) s3 _ l3 h.lies.place_is leaves.2)
   frame_to e es is_open (to_end o) k n r d goes leaves need still is s3 left = absurd (let bad = sym leaves.0 ∙ is in cc bad)
   frame_to e es is_open out_of_fuel k n r d goes leaves need still is s3 left = absurd (let bad = sym leaves.0 ∙ is in cc bad)
   frame_to e es is_open to_go_on k n r d goes leaves need still is s3 left =
@@ -225,7 +225,7 @@ module _ (l : LinkedState) (q : ℕ) (x x2 : TenantState) (v v2 : View) (t : Ten
       let same : turned.Again a.0.0 ≡ turned.Again still = sym a.0.1 ∙ is in
       let same_still : a.0.0 ≡ still = cc same in
       let l3 = left (k + n) (λ e. no_steps a.0.0 (k + n) a.0.2 (same_still ∙ e)) in
-      (_, can_go_on is_open goes (subst (λ i. StandsAlone i None v2.memory.now s3) (sym h.lies.place_is) l3.alone) (subst (λ i. PinsEndAfter (k + n) s3 i) (sym h.lies.place_is) l3.pins) a.1, lies_then None (k + n) s3 _ l3 h.lies.place_is a.2))
+      (_, can_go_on is_open goes (subst (λ i. WaitsAlone i None v2.memory.now s3) (sym h.lies.place_is) l3.alone) (subst (λ i. PinsEndAfter (k + n) s3 i) (sym h.lies.place_is) l3.pins) a.1, lies_then None (k + n) s3 _ l3 h.lies.place_is a.2))
       (λ b. absurd (let bad = sym b.0 ∙ is in cc bad))
       leaves
   again_to e es is_open (to_end o) k n r d goes leaves still is s3 left = absurd (let bad = sym leaves.0 ∙ is in cc bad)
@@ -244,7 +244,7 @@ module _ (l : LinkedState) (q : ℕ) (x x2 : TenantState) (v v2 : View) (t : Ten
       let sees = at t.place h.lies.place_is in
       let next = subst (λ z. IsNext t.inst (config (store_with z t.rest) [] f.term)) (sym sees) f.next in
       let ready : (need : Need) → Asks t.inst (config (store_with (view v.memory.now t.place) t.rest) [] f.term) need → Ready v.memory.now t.place need = λ need asks. subst (λ i. Ready v.memory.now i need) (sym h.lies.place_is) (f.ready need (subst (λ z. Asks t.inst (config (store_with z t.rest) [] f.term) need) sees asks)) in
-      let turn : Turn q v.memory.now t answer.Again v.memory.now t = keeps_its_fault is_open f.stands_for f.doing f.no_charges next f.fuel_left ready in (
+      let turn : Turn q v.memory.now t answer.Again v.memory.now t = keeps_its_fault is_open f.waiting_for f.doing f.no_charges next f.fuel_left ready in (
         t,
         subst (λ z. Turn q v.memory.now t answer.Again z t) same turn,
         record {
@@ -321,12 +321,12 @@ module _ (l : LinkedState) (q : ℕ) (x x2 : TenantState) (v v2 : View) (t : Ten
   wanted_in e es to_go_on k n r d leaves need still is =
       absurd (⊎_elim (λ a. let bad = sym a.0.1 ∙ is in cc bad) (λ b. let bad = sym b.0 ∙ is in cc bad) leaves)
 
-  stands_nowhere : MayStandAt v2.memory.now v.place None
+  stands_nowhere : MayWaitAt v2.memory.now v.place None
   stands_nowhere =
       let o = claimed_there v2.memory.now v.place h.lies.claimed claim2 in
       record { there = (o.0, o.1, o.2); within = λ want e. absurd (cc e); few = λ want e. absurd (cc e) }
 
-  stands_there : (s : Space) → IsSound s → claim s v.place ≡ Some h.lies.claimed → (need : Need) → IsInMemory (view s v.place) need → MayStandAt s v.place (Some need)
+  stands_there : (s : Space) → IsSound s → claim s v.place ≡ Some h.lies.claimed → (need : Need) → IsInMemory (view s v.place) need → MayWaitAt s v.place (Some need)
   stands_there s sound at need lies =
       let o = claimed_there s v.place h.lies.claimed at in
       let may = may_stand s v.place o.0 need sound o.2 lies in
@@ -338,7 +338,7 @@ module _ (l : LinkedState) (q : ℕ) (x x2 : TenantState) (v v2 : View) (t : Ten
       let z = turns f.0 f.1 f.2 in
       wanted_in f.0 f.1 z.to z.pieces z.charges z.rest z.doing z.leaves need still is
 
-  pub lent_turn : t.open_calls ≢ [] → (a : Turned) → made ≡ a → TurnsLent l v.page_limit q v.memory.now t v.place x2 v2.memory.now a
+  pub lent_turn : t.open_calls ≢ [] → (a : TurnResult) → made ≡ a → TurnsLent l v.page_limit q v.memory.now t v.place x2 v2.memory.now a
   lent_turn some turned.Kept is = (tt, kept_turn some is)
   lent_turn some turned.Ended is = (stands_nowhere, ended_turn some is)
   lent_turn some turned.Fuel is = (stands_nowhere, fuel_turn some is)

@@ -19,13 +19,13 @@ use Rattle.wh_control.specs.Parts.{ProgramParts, funcs_in}
 use Rattle.wh_control.specs.Represents.{CallsState, Func, RepresentsCalls, result_of}
 use Rattle.wh_control.specs.declared.store.Store as code_store
 use Rattle.wh_machine.specs.declared.machine.Machine.{Machine}
-use Rattle.wh_machine.specs.Runs.{RepresentsInstance, RepresentsMachine, calls_in}
-use Rattle.wh_machine.specs.States.{Setting, call_state, parts_setting}
+use Rattle.wh_machine.specs.MachineRuns.{RepresentsInstance, RepresentsMachine, calls_in}
+use Rattle.wh_machine.specs.CallStates.{Setting, call_state, parts_setting}
 use Rattle.wh_machine.proofs.Coming.{standing_settled}
 use Rattle.wh_instance.specs.Turned.{IsStarting, IsFaced, IsComputing}
-use Rattle.wh_instance.specs.Tenancy.{TenantState, IsWhere, rests, writes, is_faced, is_under_way, RepresentsTenant}
+use Rattle.wh_instance.specs.Tenancy.{HostInstanceState, IsWhere, rests, writes, is_faced, is_under_way, RepresentsTenant}
 use Rattle.wh_space.specs.declared.view.View.{View}
-use Rattle.wh_space.specs.Views.{KeepsRest, keeps_on}
+use Rattle.wh_space.specs.StepViews.{KeepsRest, keeps_on}
 use Rattle.wh_host.proofs.Lending.{Lent}
 
 -- ---- steps
@@ -102,13 +102,13 @@ module _ {M N : Type 0} (p : ProgramParts) (n : ℕ) (bytes : M → List ℕ) (r
     settled = subst (λ b. IsSettled inst (config (store_with b r) [] t)) (sym same) f.settled;
   }
 
-  where_over : (x : TenantState) (inst : Instance) (r : Rest) (d : Doing) (es : List Entry) → IsWhere (parts_setting p bytes ready keeps n) x m inst r d es → IsWhere (parts_setting p bytes2 ready2 keeps2 n) x m2 inst r d es
+  where_over : (x : HostInstanceState) (inst : Instance) (r : Rest) (d : Doing) (es : List Entry) → IsWhere (parts_setting p bytes ready keeps n) x m inst r d es → IsWhere (parts_setting p bytes2 ready2 keeps2 n) x m2 inst r d es
   where_over x inst r d es (rests at) = rests at
   where_over x inst r d es (writes {ps = ps} {e = e} at some func st left few) = writes at some func (starting_over x.machine x.store inst e.call r ps st) left few
   where_over x inst r d es (is_faced {func = func} {term = term} {e = e} at f) = is_faced at (faced_over x.machine x.store inst e.call r func _ term f)
   where_over x inst r d es (is_under_way {term = term} {e = e} at c within) = is_under_way at (computing_over x.machine x.store inst e.call r term c) within
 
-  pub represents_over : (x : TenantState) (t : Tenant) → RepresentsTenant (parts_setting p bytes ready keeps n) x m t → RepresentsTenant (parts_setting p bytes2 ready2 keeps2 n) x m2 t
+  pub represents_over : (x : HostInstanceState) (t : Tenant) → RepresentsTenant (parts_setting p bytes ready keeps n) x m t → RepresentsTenant (parts_setting p bytes2 ready2 keeps2 n) x m2 t
   represents_over x t rep = record {
     store = store_over x.store t.inst t.rest rep.store;
     ended = rep.ended;
@@ -116,7 +116,7 @@ module _ {M N : Type 0} (p : ProgramParts) (n : ℕ) (bytes : M → List ℕ) (r
     is_where = where_over x t.inst t.rest t.doing t.open_calls rep.is_where;
     waiting = rep.waiting;
     counted = rep.counted;
-    stands_for = rep.stands_for;
+    waiting_for = rep.waiting_for;
     fresh = rep.fresh;
     dead = rep.dead;
   }
@@ -208,14 +208,14 @@ module _ (p : ProgramParts) (n : ℕ) (b b2 : List ℕ) (same : length b2 ≡ le
         settled = standing_settled p machine k b2 n (result_of f.type) inst (config (store_with b2 r) [] t) stands f.settled_in;
       }
 
-  where_on : (x : TenantState) (inst : Instance) (r : Rest) (d : Doing) (es : List Entry) → IsWhere (setting_by p n) x b inst r d es → IsWhere (setting_by p n) x b2 inst r d es
+  where_on : (x : HostInstanceState) (inst : Instance) (r : Rest) (d : Doing) (es : List Entry) → IsWhere (setting_by p n) x b inst r d es → IsWhere (setting_by p n) x b2 inst r d es
   where_on x inst r d es (rests at) = rests at
   where_on x inst r d es (writes {ps = ps} {e = e} at some func st left few) = writes at some func (starting_on x.machine x.store inst e.call r ps st) left few
   where_on x inst r d es (is_faced {func = func} {term = term} {e = e} at f) = is_faced at (faced_on x.machine x.store inst e.call r func _ term f)
   where_on x inst r d es (is_under_way {term = term} {e = e} at c within) = is_under_way at (computing_on x.machine x.store inst e.call r term c) within
 
   -- an instance that saw these bytes sees the other ones
-  pub represents_on : (x : TenantState) (t : Tenant) → RepresentsTenant (setting_by p n) x b t → RepresentsTenant (setting_by p n) x b2 t
+  pub represents_on : (x : HostInstanceState) (t : Tenant) → RepresentsTenant (setting_by p n) x b t → RepresentsTenant (setting_by p n) x b2 t
   represents_on x t rep = record {
     store = store_on x.store t.inst t.rest rep.store;
     ended = rep.ended;
@@ -223,7 +223,7 @@ module _ (p : ProgramParts) (n : ℕ) (b b2 : List ℕ) (same : length b2 ≡ le
     is_where = where_on x t.inst t.rest t.doing t.open_calls rep.is_where;
     waiting = rep.waiting;
     counted = rep.counted;
-    stands_for = rep.stands_for;
+    waiting_for = rep.waiting_for;
     fresh = rep.fresh;
     dead = rep.dead;
   }

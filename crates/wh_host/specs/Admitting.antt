@@ -6,19 +6,19 @@ use Rattle.wh_host_model.specs.Space.Parts.{Space}
 use Rattle.wh_host_model.specs.Space.Places.{Enters}
 use Rattle.wh_host_model.specs.Host.Worlds.{World}
 use Rattle.wh_host_model.specs.Owners.{Params, AdmitFault}
-use Rattle.wh_host_model.specs.Host.Happens.{AdmitAnswer, admit_ok, admit_refused, admit_wants_memory, IsAdmit}
+use Rattle.wh_host_model.specs.Host.Happens.{AdmitAnswer, admit_ok, admit_refused, admit_out_of_memory, IsAdmit}
 use Rattle.wh_admit.specs.declared.error.AdmitError.{AdmitError}
 use Rattle.wh_admit.specs.declared.outcome.Admitted.{Admitted}
-use Rattle.wh_admit.specs.Faults.{fault_of}
+use Rattle.wh_admit.specs.AdmitErrors.{fault_of}
 use Rattle.wh_imports.specs.LinkedState.{LinkedState}
 use Rattle.wh_instance.specs.Beginning.{BeginsTenant}
 use Rattle.wh_space.specs.Arrivals.{claimed}
-use Rattle.wh_space.specs.declared.guest.Promise.{Promise}
-use Rattle.wh_host.specs.declared.parts.Resident.{Resident}
+use Rattle.wh_space.specs.declared.occupant_entry.Promise.{Promise}
+use Rattle.wh_host.specs.declared.parts.InstanceEntry.{InstanceEntry}
 use Rattle.wh_host.specs.Hosting.{HostState, IsHost}
 
 -- it is the instance of this number, with what is admitted, and base and salt
-pub record BeginsResident (l : LinkedState) (a : Admitted) (i k : ℕ) (words : ℕ × ℕ) (x : Resident) : Type 0 where
+pub record BeginsEntry (l : LinkedState) (a : Admitted) (i k : ℕ) (words : ℕ × ℕ) (x : InstanceEntry) : Type 0 where
   pub number : x.number ≡ Some i
   pub of : x.of ≡ k
   pub given : x.given
@@ -27,7 +27,7 @@ pub record BeginsResident (l : LinkedState) (a : Admitted) (i k : ℕ) (words : 
   pub begins : BeginsTenant l a.begun a.fuel x.tenant
 
 -- the memory has it at the next place, where there is room for it
-pub record EntersNext (rs : Slab Resident) (s : Space) (p : Promise) (size place : ℕ) (rs2 : Slab Resident) (s2 : Space)
+pub record EntersNext (rs : Slab InstanceEntry) (s : Space) (p : Promise) (size place : ℕ) (rs2 : Slab InstanceEntry) (s2 : Space)
     : Type 0 where
   pub vacant : get rs place ≡ None
   pub next : rs2.vacant_key ≡ place
@@ -35,10 +35,10 @@ pub record EntersNext (rs : Slab Resident) (s : Space) (p : Promise) (size place
   pub room : HasRoomFor rs2 1
   pub enters : Enters s place (claimed p) size s2
 
--- a fault of the admission, or want of memory
+-- a fault of the admission, or out of memory
 abbrev pub fault_answer : Option AdmitFault → AdmitAnswer
 fault_answer (Some fault) = admit_refused fault
-fault_answer None = admit_wants_memory
+fault_answer None = admit_out_of_memory
 
 abbrev pub IsAdmitAnswer : Result InstId AdmitError → AdmitAnswer → Type 0
 IsAdmitAnswer (Ok id) answer = answer ≡ admit_ok id

@@ -12,14 +12,14 @@ use Rattle.wh_load.specs.Refusing.{view_linked}
 use Rattle.wh_instance.specs.Tenancy.{IsTenant}
 use Rattle.wh_space.specs.Arrivals.{IsNew}
 use Rattle.wh_host.specs.declared.parts.LoadedModule.{LoadedModule}
-use Rattle.wh_host.specs.declared.parts.Given.{Given}
-use Rattle.wh_host.specs.declared.parts.Resident.{Resident}
+use Rattle.wh_host.specs.declared.parts.StoredParams.{StoredParams}
+use Rattle.wh_host.specs.declared.parts.InstanceEntry.{InstanceEntry}
 
 -- its modules by their numbers, who has each place, how many instances there are, the memory of all, and how many were
 -- admitted
 pub record HostState : Type 0 where
   pub modules : List LoadedModule
-  pub residents : List (Option Resident)
+  pub entries : List (Option InstanceEntry)
   pub live : ℕ
   pub space : Space
   pub next : ℕ
@@ -37,11 +37,11 @@ abbrev pub loaded_as : LoadedModule → Loaded
 loaded_as x = record { bytes = x.bytes.value.items; m = view_linked x.linked }
 
 -- who has a place
-abbrev pub resident_at : List (Option Resident) → ℕ → Option Resident
-resident_at residents place = slice_index_or residents place None
+abbrev pub entry_at : List (Option InstanceEntry) → ℕ → Option InstanceEntry
+entry_at entries place = slice_index_or entries place None
 
 -- what the owner gave it, but for the words of its input
-pub record AreGivenAs (g : Given) (p : Params) : Type 0 where
+pub record AreGivenAs (g : StoredParams) (p : Params) : Type 0 where
   pub shares : g.shares ≡ p.shares
   pub min : g.min ≡ p.min
   pub max : g.max ≡ p.max
@@ -51,7 +51,7 @@ pub record AreGivenAs (g : Given) (p : Params) : Type 0 where
 
 -- Who has a place is the instance of this number: of the same module, with as many pages at most as it was promised,
 -- over what it sees in memory.
-pub record IsResident (modules : List LoadedModule) (x : Resident) (s : Space) (i : ℕ) (t : Tenant) : Type 0 where
+pub record IsEntryOf (modules : List LoadedModule) (x : InstanceEntry) (s : Space) (i : ℕ) (t : Tenant) : Type 0 where
   pub number : x.number ≡ Some i
   pub of : x.of ≡ t.of
   pub loaded : LoadedModule
@@ -60,7 +60,7 @@ pub record IsResident (modules : List LoadedModule) (x : Resident) (s : Space) (
   pub limit : x.page_limit ≤ t.params.max / 16
   pub is : IsTenant loaded.linked x.page_limit x.tenant (view s t.place) t
 
--- The host stands for this one, to which events lead, and reads of a swap device that gave other bytes, if there were
+-- The host represents this one, to which events lead, and reads of a swap device that gave other bytes, if there were
 -- any: it has its modules and its memory, each of its instances lies in its place, and whoever else has one was
 -- released.
 pub record IsHost (h : HostState) (w : World) : Type 0 where
@@ -70,8 +70,8 @@ pub record IsHost (h : HostState) (w : World) : Type 0 where
   pub live : h.live ≡ live_count w.tenants
   pub next : h.next ≡ length w.tenants
   pub there : (i : ℕ) (t : Tenant) → tenant w i ≡ Some t
-      → (x : Resident) × (resident_at h.residents t.place ≡ Some x) × IsResident h.modules x w.space i t
-  pub all : (place i : ℕ) (x : Resident) → resident_at h.residents place ≡ Some x → x.number ≡ Some i
+      → (x : InstanceEntry) × (entry_at h.entries t.place ≡ Some x) × IsEntryOf h.modules x w.space i t
+  pub all : (place i : ℕ) (x : InstanceEntry) → entry_at h.entries place ≡ Some x → x.number ≡ Some i
       → (t : Tenant) × (tenant w i ≡ Some t) × (t.place ≡ place)
 
 -- nothing was loaded or admitted yet

@@ -1,12 +1,12 @@
 pub mod Backing
-pub mod Carried
+pub mod TicketsOut
 pub mod Lying
 pub mod Left
 pub mod Lent
 pub mod Hosting
 pub mod Stored
-pub mod Asking
-pub mod Seats
+pub mod CallRequests
+pub mod Entries
 pub mod Loading
 pub mod Paging
 pub mod Releasing
@@ -15,5 +15,5 @@ pub mod Sharing
 pub mod Showing
 pub mod Telling
 pub mod Reporting
-pub mod Seating
+pub mod InstanceRefs
 pub mod Rolls

@@ -3,8 +3,8 @@ use Rattle.std.specs.Prelude.{◌≡◌, ◌≢◌, ℕ, ◌⊎◌, ◌++◌, Li
 use Rattle.wh_model.specs.declared.faults.FaultKind.TheVariants.{Memory as NoRoom}
 use Rattle.wh_model.specs.declared.faults.ValidKind.TheVariants.{Memory as NoRoomToCheck}
 use Rattle.wh_host_model.specs.Host.Worlds.{World}
-use Rattle.wh_host_model.specs.Host.Admission.{broken, invalid, unlinked, modules_full, decoder_wants, validator_wants, linker_wants, host_wants}
-use Rattle.wh_host_model.specs.Host.Happens.{LoadAnswer, load_ok, load_refused, load_wants_memory, IsLoad}
+use Rattle.wh_host_model.specs.Host.Admission.{broken, invalid, unlinked, modules_full, decoder_out_of_memory, validator_out_of_memory, linker_out_of_memory, host_out_of_memory}
+use Rattle.wh_host_model.specs.Host.Happens.{LoadAnswer, load_ok, load_refused, load_out_of_memory, IsLoad}
 use Rattle.wh_imports.specs.declared.error.LinkError.{LinkError}
 use Rattle.wh_imports.specs.declared.error.LinkError.TheVariants.{NoItem, Memory as NoRoomToLink}
 use Rattle.wh_load.specs.declared.error.LoadError.{LoadError}
@@ -24,23 +24,23 @@ KeepsModule ms linked bytes ms2 =
 -- the linker's error is this answer
 abbrev pub IsLinkAnswer : LinkError → LoadAnswer → Type 0
 IsLinkAnswer (NoItem fault place) answer = answer ≡ load_refused (unlinked fault place)
-IsLinkAnswer NoRoomToLink answer = answer ≡ load_wants_memory linker_wants
+IsLinkAnswer NoRoomToLink answer = answer ≡ load_out_of_memory linker_out_of_memory
 
 -- so is what one of the stages says of bytes; each of them may want memory
 abbrev pub IsBytesAnswer : LoadError → LoadAnswer → Type 0
 IsBytesAnswer (Decode e) answer =
     ((e.kind ≢ NoRoom) × (answer ≡ load_refused (broken e.kind e.offset)))
-    ⊎ ((e.kind ≡ NoRoom) × (answer ≡ load_wants_memory decoder_wants))
+    ⊎ ((e.kind ≡ NoRoom) × (answer ≡ load_out_of_memory decoder_out_of_memory))
 IsBytesAnswer (Valid e) answer =
     ((e.kind ≢ NoRoomToCheck) × (answer ≡ load_refused invalid))
-    ⊎ ((e.kind ≡ NoRoomToCheck) × (answer ≡ load_wants_memory validator_wants))
+    ⊎ ((e.kind ≡ NoRoomToCheck) × (answer ≡ load_out_of_memory validator_out_of_memory))
 IsBytesAnswer (Link e) answer = IsLinkAnswer e answer
 
 abbrev pub IsLoadAnswer : Result ModuleId ModuleError → LoadAnswer → Type 0
 IsLoadAnswer (Ok id) answer = answer ≡ load_ok id.number
 IsLoadAnswer (Err (Bytes e)) answer = IsBytesAnswer e answer
 IsLoadAnswer (Err ModulesFull) answer = answer ≡ load_refused modules_full
-IsLoadAnswer (Err Memory) answer = answer ≡ load_wants_memory host_wants
+IsLoadAnswer (Err Memory) answer = answer ≡ load_out_of_memory host_out_of_memory
 
 -- for whatever host it stands, this is answered so, and leaves a host for which it stands then
 abbrev pub AnswersLoad : HostState → List ℕ → Result ModuleId ModuleError → HostState → Type 0

@@ -8,10 +8,10 @@ use Rattle.wh_host_model.specs.Space.Parts.{wants}
 use Rattle.wh_host_model.specs.Host.Worlds.{Tenant, World}
 use Rattle.wh_host_model.specs.Host.Happens.{AwaitsFrame, IsLive, MovesPages, OnlyMoves}
 use Rattle.wh_host_model.specs.Host.Misreading.{IsMisread}
-use Rattle.wh_host_model.specs.Host.Standing.{CanGoOn}
+use Rattle.wh_host_model.specs.Host.Suspensions.{CanGoOn}
 use Rattle.wh_host.specs.Hosting.{HostState, IsHost}
 
--- the instance is there, and its present call stands for a frame
+-- the instance is there, and its present call waits for a frame
 abbrev pub IsAwaiting : World → InstId → Type 0
 IsAwaiting w id = (t : Tenant) × IsLive w id t × AwaitsFrame t
 
@@ -23,12 +23,12 @@ IsGoing w id = (t : Tenant) × IsLive w id t × CanGoOn t
 abbrev pub Tells : HostState → Bool → (World → Type 0) → Type 0
 Tells h told P = (w : World) → IsHost h w → MatchBool told (P w) (¬ (P w))
 
--- the present call of the instance stands for a frame, and these are the bytes of its next step
+-- the present call of the instance waits for a frame, and these are the bytes of its next step
 abbrev pub WaitsFor : HostState → InstId → Need → Type 0
 WaitsFor h id need = (w : World) × IsHost h w × IsAwaiting w id × (wants w.space id.place ≡ Some need)
 
 -- for whatever host it stands, pages have moved, a fault of the device is kept where the instance awaits it, and the
--- code's host stands for what is left
+-- code's host represents what is left
 abbrev pub MovesWith : HostState → InstId → (Tenant → Type 0) → Option SwapError → HostState → Type 0
 MovesWith h id awaits fault h2 =
     (w : World) → IsHost h w → (w2 : World) × MovesPages w id awaits fault w2 × IsHost h2 w2

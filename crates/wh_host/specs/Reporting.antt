@@ -5,7 +5,7 @@ use Rattle.wh_host_model.specs.Space.Charges.{active_of, charged_of}
 use Rattle.wh_host_model.specs.Space.Parts.{Space, numbers_below, sharers}
 use Rattle.wh_host_model.specs.Space.States.{count_of, swapped}
 use Rattle.wh_host_model.specs.Host.Worlds.{Tenant, World}
-use Rattle.wh_host_model.specs.Lines.Texts.{Row, frames_text, row_text, shared_text, slots_text}
+use Rattle.wh_script_model.specs.Texts.{Row, frames_text, row_text, shared_text, slots_text}
 use Rattle.wh_host.specs.Hosting.{HostState, IsHost}
 
 -- how many frames pages share, and how many pages share one

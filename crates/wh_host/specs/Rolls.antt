@@ -5,14 +5,14 @@ use Rattle.std.specs.declared.sync.Arc.{Arc}
 use Rattle.wh_host_model.specs.Space.Errands.{tickets}
 use Rattle.wh_host_model.specs.Host.Worlds.{Suspension, Tenant, Loaded, World, journal}
 use Rattle.wh_host_model.specs.Owners.{Params}
-use Rattle.wh_admit.specs.Views.{view_params}
+use Rattle.wh_admit.specs.View.{view_params}
 use Rattle.wh_instance.specs.Tenancy.{suspension_of}
 use Rattle.wh_host.specs.declared.parts.LoadedModule.{LoadedModule}
-use Rattle.wh_host.specs.declared.parts.Resident.{Resident}
-use Rattle.wh_host.specs.declared.parts.Seat.{Seat}
+use Rattle.wh_host.specs.declared.parts.InstanceEntry.{InstanceEntry}
+use Rattle.wh_host.specs.declared.parts.InstanceRef.{InstanceRef}
 use Rattle.wh_host.specs.declared.rolling.Enrolled.{Enrolled}
 use Rattle.wh_host_model.specs.Host.Misreading.{ComesAbout}
-use Rattle.wh_host.specs.Hosting.{HostState, IsHost, resident_at}
+use Rattle.wh_host.specs.Hosting.{HostState, IsHost, entry_at}
 use Rattle.wh_host.specs.Showing.{given_with}
 
 -- An instance as the roll has it: its number, its place, of which module it is, what it was given, how many calls there
@@ -25,7 +25,7 @@ pub record Listed : Type 0 where
   pub calls : ℕ
   pub open_calls : ℕ
   pub dead : Bool
-  pub stands_for : Option Suspension
+  pub waiting_for : Option Suspension
 
 -- the bytes of modules in the order in which they were loaded, the next number, how many tickets are out, and the
 -- instances by number
@@ -46,7 +46,7 @@ listed_as number t = record {
   calls = length (journal t);
   open_calls = length t.open_calls;
   dead = t.dead;
-  stands_for = t.stands_for;
+  waiting_for = t.waiting_for;
 }
 
 -- each that is live, by number, the first of the list having this one
@@ -85,7 +85,7 @@ view_listed e = record {
   calls = e.calls;
   open_calls = e.open_calls;
   dead = e.dead;
-  stands_for = suspension_of e.stands_for;
+  waiting_for = suspension_of e.waiting_for;
 }
 
 -- ---- within the crate
@@ -94,22 +94,23 @@ abbrev pub spelled_by : LoadedModule → List ℕ
 spelled_by x = x.bytes.value.items
 
 -- what the code has of who has a seat
-abbrev pub listed_by : Seat → Resident → Listed
-listed_by seat x = record {
-  number = seat.number;
-  place = seat.place;
+abbrev pub listed_by : InstanceRef → InstanceEntry → Listed
+listed_by instance_ref x = record {
+  number = instance_ref.number;
+  place = instance_ref.place;
   of = x.of;
   params = given_with x.given x.tenant.store.inputs.items;
   calls = length x.tenant.journal.ended + length x.tenant.journal.open_calls;
   open_calls = length x.tenant.journal.open_calls;
   dead = x.tenant.dead;
-  stands_for = suspension_of x.tenant.stands_for;
+  waiting_for = suspension_of x.tenant.waiting_for;
 }
 
-abbrev pub listed_in : Seat → Option Resident → List Listed
-listed_in seat None = []
-listed_in seat (Some x) = listed_by seat x ∷ []
+abbrev pub listed_in : InstanceRef → Option InstanceEntry → List Listed
+listed_in instance_ref None = []
+listed_in instance_ref (Some x) = listed_by instance_ref x ∷ []
 
-abbrev pub listed_seats : List (Option Resident) → List Seat → List Listed
-listed_seats rs [] = []
-listed_seats rs (seat ∷ seats) = listed_in seat (resident_at rs seat.place) ++ listed_seats rs seats
+abbrev pub listed_refs : List (Option InstanceEntry) → List InstanceRef → List Listed
+listed_refs rs [] = []
+listed_refs rs (instance_ref ∷ instance_refs) =
+    listed_in instance_ref (entry_at rs instance_ref.place) ++ listed_refs rs instance_refs

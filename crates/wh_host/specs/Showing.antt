@@ -6,14 +6,14 @@ use Rattle.wh_host_model.specs.Owners.{Params}
 use Rattle.wh_host_model.specs.Host.Happens.{IsLive, NoInstance as NobodyThere}
 use Rattle.wh_instance.specs.Tenancy.{RepresentsEach, suspension_of}
 use Rattle.wh_transcript.specs.Transcripts.{TranscriptState}
-use Rattle.wh_host.specs.declared.parts.Given.{Given}
-use Rattle.wh_host.specs.declared.parts.Resident.{Resident}
+use Rattle.wh_host.specs.declared.parts.StoredParams.{StoredParams}
+use Rattle.wh_host.specs.declared.parts.InstanceEntry.{InstanceEntry}
 use Rattle.wh_host.specs.declared.error.HostError.{HostError}
 use Rattle.wh_host.specs.declared.error.HostError.TheVariants.{NoInstance, Invoke, NoCall, Memory}
 use Rattle.wh_host.specs.Hosting.{HostState, IsHost, IsReached}
 
 -- what the owner of an instance gave it, with the words of its input
-abbrev pub given_with : Given → List ℕ → Params
+abbrev pub given_with : StoredParams → List ℕ → Params
 given_with g inputs = record {
   shares = g.shares;
   min = g.min;
@@ -25,12 +25,12 @@ given_with g inputs = record {
 }
 
 -- what the code has of an instance, with the bytes of its module
-abbrev pub shown_of : Resident → List ℕ → TranscriptState
+abbrev pub shown_of : InstanceEntry → List ℕ → TranscriptState
 shown_of x bytes = record {
   bytes = bytes;
   params = given_with x.given x.tenant.store.inputs.items;
   calls = x.tenant.journal.ended ++ x.tenant.journal.open_calls;
-  stands_for = x.tenant.stands_for;
+  waiting_for = x.tenant.waiting_for;
 }
 
 -- a transcript shows this instance of a module with these bytes: what it was given, its whole journal, and for what its
@@ -39,9 +39,9 @@ pub record Shows (s : TranscriptState) (bytes : List ℕ) (t : Tenant) : Type 0 
   pub bytes_are : s.bytes ≡ bytes
   pub params : s.params ≡ t.params
   pub calls : RepresentsEach s.calls (journal t)
-  pub stands_for : t.stands_for ≡ suspension_of s.stands_for
+  pub waiting_for : t.waiting_for ≡ suspension_of s.waiting_for
 
--- it shows the instance, or there is none; or memory was wanted
+-- it shows the instance, or there is none; or memory ran out
 abbrev pub IsTranscript : World → InstId → Result TranscriptState HostError → Type 0
 IsTranscript w id (Ok s) =
     (t : Tenant) × (loaded : Loaded) × IsLive w id t × (slice_get w.modules t.of ≡ Some loaded)
@@ -52,8 +52,8 @@ IsTranscript w id (Err (Invoke e)) = ⊥
 IsTranscript w id (Err NoCall) = ⊥
 
 -- events alone lead to a host for which it stands
-abbrev pub StandsByEvents : HostState → Type 0
-StandsByEvents h = (w : World) × IsHost h w × IsReached w
+abbrev pub RepresentsReached : HostState → Type 0
+RepresentsReached h = (w : World) × IsHost h w × IsReached w
 
 -- for whatever host it stands
 abbrev pub ShowsInstance : HostState → InstId → Result TranscriptState HostError → Type 0

@@ -14,7 +14,7 @@ abbrev pub IsTold : World → InstId → ℕ → Option CallStatus → Type 0
 IsTold w id at None = (t : Tenant) → IsLive w id t → slice_get (journal t) at ≡ None
 IsTold w id at (Some status) =
     (t : Tenant) × (e : Entry) × IsLive w id t × (slice_get (journal t) at ≡ Some e)
-    × IsCallStatus status (waits_at (journal t) at) t.stands_for e.call
+    × IsCallStatus status (waits_at (journal t) at) t.waiting_for e.call
 
 -- for whatever host it stands
 abbrev pub TellsOf : HostState → InstId → ℕ → Option CallStatus → Type 0

@@ -2,34 +2,34 @@
 
 ghost use Rattle.std.specs.Prelude.{◌≡◌, ◌≤◌, ◌*◌, ℕ, IfOk, OnErr, length};
 ghost use Rattle.wh_model.specs.Format.Limits.{most_segments};
-ghost use Rattle.wh_admit.specs.Views.{view_params};
+ghost use Rattle.wh_admit.specs.View.{view_params};
 ghost use Rattle.wh_space.specs.Arrivals.{claimed};
 ghost use Rattle.wh_host_model.specs.Host.Worlds.{promised};
 ghost use Rattle.wh_host_model.specs.Space.Places.{Enters, HasRoomFor as HasMemoryFor};
 ghost use Rattle.wh_host.specs.Backing.{KeepsBacking};
-ghost use Rattle.wh_host.specs.Admitting.{AnswersAdmit, BeginsResident, EntersNext};
+ghost use Rattle.wh_host.specs.Admitting.{AnswersAdmit, BeginsEntry, EntersNext};
 
 use crate::host::{Host, module_at};
-use crate::parts::{Given, ModuleId, Resident};
+use crate::parts::{InstanceEntry, ModuleId, StoredParams};
 use slab::Slab;
 use std::alloc::{AllocError, Global};
 use wh_admit::{AdmitError, Admitted, Params, Room, admit};
 use wh_host_model::InstId;
 use wh_imports::Linked;
-use wh_instance::Tenant;
+use wh_instance::HostInstance;
 use wh_space::{Memory, Promise};
 
 // The instance that begins so, of the module of this number.
-fn new_resident(
+fn new_entry_for(
     alloc: Global,
     linked: &Linked,
     admitted: Admitted,
     number: u64,
     of: usize,
     words: (u32, u64),
-) -> Result<Resident, AllocError>
+) -> Result<InstanceEntry, AllocError>
     requires few { length linked.now.valid.decoded.segments.items ≤ most_segments }
-    ensures { IfOk result (BeginsResident linked.now admitted number of words) }
+    ensures { IfOk result (BeginsEntry linked.now admitted number of words) }
 {
     let Admitted {
         begun,
@@ -41,11 +41,11 @@ fn new_resident(
     } = admitted;
     let (base, salt) = words;
     let page_limit = begun.page_limit;
-    let tenant = Tenant::new(alloc, linked, begun, machine, fuel)?;
-    Ok(Resident {
+    let tenant = HostInstance::new(alloc, linked, begun, machine, fuel)?;
+    Ok(InstanceEntry {
         number: Some(number),
         of,
-        given: Given {
+        given: StoredParams {
             shares,
             min,
             max,
@@ -60,7 +60,7 @@ fn new_resident(
 
 // Makes room for one more instance, and for its memory at the place that it will have: that place.
 fn enter_next(
-    residents: &mut Slab<Resident>,
+    entries: &mut Slab<InstanceEntry>,
     memory: &mut Memory,
     alloc: Global,
     promise: Promise,
@@ -71,12 +71,12 @@ fn enter_next(
     requires bounds { (2 ≤ promise.min) × (promise.min ≤ promise.max) × (promise.max ≤ 65536) }
     requires fits { 16 * size ≤ promise.max }
     ensures ok { IfOk result (λ place.
-        EntersNext residents.old memory.old promise size place residents.new memory.new) }
-    ensures residents { OnErr result (residents.new.slots ≡ residents.old.slots) }
+        EntersNext entries.old memory.old promise size place entries.new memory.new) }
+    ensures entries { OnErr result (entries.new.slots ≡ entries.old.slots) }
     ensures memory { OnErr result (memory.new ≡ memory.old) }
 {
-    residents.reserve(1)?;
-    let place = residents.vacant_key();
+    entries.reserve(1)?;
+    let place = entries.vacant_key();
     if !memory.is_free(place) {
         return Err(AllocError);
     }
@@ -88,7 +88,7 @@ fn enter_next(
 }
 
 impl Host {
-    /// Admits an instance of a module, with what its owner gives it. All that it will ever need is reserved now.
+    /// Admits an instance of a module with `params`. All that it will ever need is reserved now.
     ///
     /// # Errors
     /// The first fault, in the order of their numbers; `Memory` where room is refused, or where 2^64 - 1 instances were
@@ -129,15 +129,15 @@ impl Host {
             min: admitted.min,
             max: admitted.max,
         };
-        let made = new_resident(alloc, &module.linked, admitted, number, of.number, words);
-        let Ok(resident) = made else {
+        let made = new_entry_for(alloc, &module.linked, admitted, number, of.number, words);
+        let Ok(entry) = made else {
             return Err(AdmitError::Memory);
         };
-        let entered = enter_next(&mut self.residents, &mut self.memory, alloc, promise, size);
+        let entered = enter_next(&mut self.entries, &mut self.memory, alloc, promise, size);
         let Ok(place) = entered else {
             return Err(AdmitError::Memory);
         };
-        self.residents.insert_reserved(resident);
+        self.entries.insert_reserved(entry);
         self.live += 1;
         self.next = next;
         Ok(InstId { place, number })

@@ -4,15 +4,15 @@ ghost use Rattle.std.specs.Prelude.{◌≡◌, OnErr, OnOk};
 ghost use Rattle.wh_host_model.specs.Host.Happens.{IsCancel, IsRefuel, IsRetry};
 ghost use Rattle.wh_host_model.specs.Space.Stores.{ended};
 ghost use Rattle.wh_host.specs.Backing.{KeepsBacking};
-ghost use Rattle.wh_host.specs.Asking.{AnswersCall};
+ghost use Rattle.wh_host.specs.CallRequests.{AnswersCall};
 
 use crate::error::HostError;
 use crate::host::Host;
 use wh_host_model::InstId;
 
 impl Host {
-    /// Gives the present call of an instance so much more fuel; what passes 2^64 - 1 is lost. A call that stands for fuel
-    /// can then go on, if it was given any.
+    /// Adds `fuel` to the present call of an instance; what passes 2^64 - 1 is lost. A call that waits for fuel can then go on,
+    /// if it was given any.
     ///
     /// # Errors
     /// `NoInstance`; `NoCall` where no call is open. Nothing is done then.
@@ -23,22 +23,22 @@ impl Host {
         ensures backing { KeepsBacking self.old.space self.new.space }
         ensures memory { self.new.space ≡ self.old.space }
     {
-        let Some(resident) = self.residents.get_mut(id.place) else {
+        let Some(entry) = self.entries.get_mut(id.place) else {
             return Err(HostError::NoInstance);
         };
-        if !resident.has_number(id.number) {
+        if !entry.has_number(id.number) {
             return Err(HostError::NoInstance);
         }
-        if !resident.tenant.refuel(fuel) {
+        if !entry.tenant.refuel(fuel) {
             return Err(HostError::NoCall);
         }
         Ok(())
     }
 
-    /// Lets the present call of an instance be tried again, if it stands for a device fault: it stands for a frame then.
+    /// Retries the present call of an instance, if it waits for a device: then it waits for a frame.
     ///
     /// # Errors
-    /// `NoInstance`; `NoCall` where it doesn't stand for one. Nothing is done then.
+    /// `NoInstance`; `NoCall` where it doesn't wait for one. Nothing is done then.
     pub fn retry(&mut self, id: InstId) -> Result<(), HostError>
         ensures asks { AnswersCall self.old (λ w answer w2. IsRetry w id answer w2)
             result self.new }
@@ -46,19 +46,19 @@ impl Host {
         ensures backing { KeepsBacking self.old.space self.new.space }
         ensures memory { self.new.space ≡ self.old.space }
     {
-        let Some(resident) = self.residents.get_mut(id.place) else {
+        let Some(entry) = self.entries.get_mut(id.place) else {
             return Err(HostError::NoInstance);
         };
-        if !resident.has_number(id.number) {
+        if !entry.has_number(id.number) {
             return Err(HostError::NoInstance);
         }
-        if !resident.tenant.retry() {
+        if !entry.tenant.retry() {
             return Err(HostError::NoCall);
         }
         Ok(())
     }
 
-    /// Ends the present call of an instance where it is; what it has written stays. A start that is cancelled leaves the
+    /// Cancels the present call of an instance where it is; what it has written stays. A start that is cancelled leaves the
     /// instance dead, and the calls behind it end as dead.
     ///
     /// # Errors
@@ -70,16 +70,16 @@ impl Host {
         ensures backing { KeepsBacking self.old.space self.new.space }
         ensures memory { OnOk result (self.new.space ≡ ended self.old.space id.place) }
     {
-        let Some(resident) = self.residents.get_mut(id.place) else {
+        let Some(entry) = self.entries.get_mut(id.place) else {
             return Err(HostError::NoInstance);
         };
-        if !resident.has_number(id.number) {
+        if !entry.has_number(id.number) {
             return Err(HostError::NoInstance);
         }
-        if !resident.tenant.cancel() {
+        if !entry.tenant.cancel() {
             return Err(HostError::NoCall);
         }
-        self.memory.known();
+        self.memory.invariant();
         self.memory.end(id.place);
         Ok(())
     }

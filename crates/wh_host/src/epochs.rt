@@ -16,7 +16,7 @@ impl Host {
         ensures clears { Epochs self.old.space self.new.space }
         ensures backing { KeepsBacking self.old.space self.new.space }
     {
-        self.memory.known();
+        self.memory.invariant();
         self.memory.new_epoch();
     }
 }

@@ -1,7 +1,7 @@
 //! Why a host doesn't do what is asked of an instance.
 
 ghost use Rattle.std.specs.Prelude.{◌≡◌};
-ghost use Rattle.wh_host.specs.Asking.{host_number};
+ghost use Rattle.wh_host.specs.CallRequests.{host_number};
 
 use thiserror::Error;
 use wh_instance::InvokeError;
@@ -16,7 +16,7 @@ pub enum HostError {
     /// It doesn't take the call.
     #[error("{0}")]
     Invoke(InvokeError),
-    /// No call of it is open; or, where it is to be tried again, the present one doesn't stand for a device fault.
+    /// No call of it is open; or, where it is to be tried again, the present one doesn't wait for a device.
     #[error("no call is there for which this can be asked")]
     NoCall,
     /// A growth of memory was refused, where no call was asked for.
@@ -25,7 +25,7 @@ pub enum HostError {
 }
 
 impl HostError {
-    /// The number by which replies name the fault, behind an H: 1 to 8.
+    /// Returns the number by which replies name it, behind an H: 1 to 8.
     pub fn number(self) -> u8
         ensures { result ≡ host_number self }
     {

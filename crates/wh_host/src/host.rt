@@ -8,7 +8,7 @@ ghost use Rattle.wh_host.specs.Backing.{KeepsBacking};
 ghost use Rattle.wh_host.specs.Hosting.{IsHost, IsNewHost};
 ghost use Rattle.wh_host.specs.Left.{LeavesTurned};
 
-use crate::parts::{LoadedModule, Resident};
+use crate::parts::{InstanceEntry, LoadedModule};
 use crate::turning::turn_at;
 use slab::Slab;
 use std::alloc::Global;
@@ -24,10 +24,10 @@ pub(crate) fn module_at(modules: &Vec<LoadedModule>, number: usize) -> Option<&L
     modules.get(number)
 }
 
-/// A host of many instances on one memory.
+/// Hosts many instances on one memory.
 pub struct Host {
     pub(crate) modules: Vec<LoadedModule>,
-    pub(crate) residents: Slab<Resident>,
+    pub(crate) entries: Slab<InstanceEntry>,
     // How many instances there are.
     pub(crate) live: usize,
     pub(crate) memory: Memory,
@@ -39,7 +39,7 @@ impl Drop for Host {
     fn drop(self) {
         let Host {
             modules: _,
-            residents: _,
+            entries: _,
             live: _,
             memory: _,
             next: _,
@@ -49,7 +49,7 @@ impl Drop for Host {
 
 impl Model for Host {
     ghost use Rattle.wh_host_model.specs.Host.Worlds.{World as OneWorld};
-    ghost use Rattle.wh_host.specs.Hosting.{HostState, IsHost as StandsFor};
+    ghost use Rattle.wh_host.specs.Hosting.{HostState, IsHost as Represents};
 
     ghost Value = { HostState };
 
@@ -59,15 +59,15 @@ impl Model for Host {
 
     ghost view = { λ h. record {
       modules = h.modules.items;
-      residents = h.residents.slots;
+      entries = h.entries.slots;
       live = h.live;
       space = h.memory;
       next = h.next;
     } };
 
-    ghost invariant = { λ h. (w : OneWorld) × StandsFor (record {
+    ghost invariant = { λ h. (w : OneWorld) × Represents (record {
       modules = h.modules.items;
-      residents = h.residents.slots;
+      entries = h.entries.slots;
       live = h.live;
       space = h.memory;
       next = h.next;
@@ -75,8 +75,8 @@ impl Model for Host {
 }
 
 impl Host {
-    /// A host with so many frames of 4096 bytes and so many slots, without modules and instances. Room for all frames is
-    /// reserved now.
+    /// Returns a host with `frames` of 4096 bytes and `slots`, without modules and instances. Room for all frames is reserved
+    /// now.
     ///
     /// # Errors
     /// `Memory` where room is refused.
@@ -88,48 +88,48 @@ impl Host {
             Ok(memory) => memory,
             Err(error) => return Err(error),
         };
-        memory.known();
+        memory.invariant();
         Ok(Host {
             modules: Vec::new(alloc),
-            residents: Slab::new(alloc),
+            entries: Slab::new(alloc),
             live: 0,
             memory,
             next: 0,
         })
     }
 
-    /// What always holds of a host: it stands for one to which events lead, and reads of a swap device that gave other bytes,
-    /// if there were any.
+    /// Holds of every host: it represents one to which events lead, and reads of a swap device that gave other bytes, if there
+    /// were any.
     #[inline(always)]
-    pub fn known(&self)
+    pub fn invariant(&self)
         ensures { (w : World) × IsHost self.now w }
     {
         let _ = &self.live;
     }
 
-    /// Gives an instance a turn of q charges. The memory of all changes by its own loads, stores and growth alone, and by what
-    /// it stands for then.
+    /// Gives an instance a turn of `q` charges. The memory of all changes by its own loads, stores and growth alone, and by
+    /// what it waits for then.
     pub fn turn(&mut self, id: InstId, q: u64) -> TurnEnd
         ensures turns { (w : World) → IsHost self.old w
             → (w2 : World) × IsTurn w id q result w2 × IsHost self.new w2 }
         ensures backing { KeepsBacking self.old.space self.new.space }
         ensures memory { LeavesTurned id.place result self.old.space self.new.space }
     {
-        let Some(resident) = self.residents.get_mut(id.place) else {
+        let Some(entry) = self.entries.get_mut(id.place) else {
             return TurnEnd::Idle;
         };
-        if !resident.has_number(id.number) {
+        if !entry.has_number(id.number) {
             return TurnEnd::Idle;
         }
-        let Some(module) = module_at(&self.modules, resident.of) else {
+        let Some(module) = module_at(&self.modules, entry.of) else {
             return TurnEnd::Idle;
         };
         turn_at(
-            &mut resident.tenant,
+            &mut entry.tenant,
             &module.linked,
             &mut self.memory,
             id.place,
-            resident.page_limit,
+            entry.page_limit,
             q,
         )
     }

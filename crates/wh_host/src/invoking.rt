@@ -2,7 +2,7 @@
 
 ghost use Rattle.std.specs.Prelude.{◌≡◌, OnErr};
 ghost use Rattle.wh_host.specs.Backing.{KeepsBacking};
-ghost use Rattle.wh_host.specs.Asking.{AnswersInvoke};
+ghost use Rattle.wh_host.specs.CallRequests.{AnswersInvoke};
 
 use crate::error::HostError;
 use crate::host::{Host, module_at};
@@ -10,8 +10,8 @@ use std::alloc::Global;
 use wh_host_model::InstId;
 
 impl Host {
-    /// Takes a call of the function that an instance's module exports by this name, with these arguments and so much fuel:
-    /// its place in the journal of the instance, where the start is 0. It is run by turns, behind the calls that are open.
+    /// Queues a call of the function that an instance's module exports as `name`, with arguments `given` and `fuel`, behind the
+    /// calls that are open; turns run it. Returns its place in the instance's journal, where the start is 0.
     ///
     /// An argument is a number, signed or unsigned, in the bits of its type.
     ///
@@ -29,17 +29,17 @@ impl Host {
         ensures err { OnErr result (self.new ≡ self.old) }
         ensures backing { KeepsBacking self.old.space self.new.space }
     {
-        let Some(resident) = self.residents.get_mut(id.place) else {
+        let Some(entry) = self.entries.get_mut(id.place) else {
             return Err(HostError::NoInstance);
         };
-        if !resident.has_number(id.number) {
+        if !entry.has_number(id.number) {
             return Err(HostError::NoInstance);
         }
-        let Some(module) = module_at(&self.modules, resident.of) else {
+        let Some(module) = module_at(&self.modules, entry.of) else {
             return Err(HostError::NoInstance);
         };
         let linked = &module.linked;
-        let at = match resident.tenant.invoke(alloc, linked, name, given, fuel) {
+        let at = match entry.tenant.invoke(alloc, linked, name, given, fuel) {
             Ok(at) => at,
             Err(error) => return Err(HostError::Invoke(error)),
         };

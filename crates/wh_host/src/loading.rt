@@ -12,7 +12,7 @@ use std::sync::Arc;
 use wh_imports::Linked;
 use wh_load::load;
 
-/// How many modules a host keeps.
+/// The modules that a host keeps.
 pub const MOST_MODULES: usize = 1024;
 
 // These bytes, to be shared.
@@ -43,7 +43,7 @@ fn keep(
 }
 
 impl Host {
-    /// Keeps the module that these bytes spell, and the bytes: its number, counted from 0.
+    /// Keeps the module that `bytes` spell, and these. Returns its number, from 0.
     ///
     /// # Errors
     /// `Bytes` with the fault of the bytes, `ModulesFull` where 1024 modules are kept, `Memory` where room is refused; the

@@ -5,7 +5,7 @@ ghost use Rattle.std.specs.Bool.{MatchBool};
 
 use std::sync::Arc;
 use wh_imports::Linked;
-use wh_instance::Tenant;
+use wh_instance::HostInstance;
 
 /// A module that was loaded, and the bytes that spell it.
 #[derive(Drop)]
@@ -23,14 +23,14 @@ pub struct ModuleId {
 
 /// An instance by its number, and its place.
 #[derive(Clone, Copy, Debug, PartialEq, Eq)]
-pub struct Seat {
+pub struct InstanceRef {
     pub number: u64,
     pub place: usize,
 }
 
 /// What the owner of an instance has given it, but for the words of its input, which its store keeps.
 #[derive(Clone, Copy, Debug, PartialEq, Eq)]
-pub struct Given {
+pub struct StoredParams {
     pub shares: u32,
     pub min: u32,
     pub max: u32,
@@ -41,20 +41,20 @@ pub struct Given {
 
 /// An instance that has a place.
 #[derive(Drop)]
-pub struct Resident {
+pub struct InstanceEntry {
     /// How many instances were admitted before it. `None` where it was released, and its place is kept while a page of it is
     /// on its way to swap or back.
     pub number: Option<u64>,
     /// The number of its module.
     pub of: usize,
-    pub given: Given,
+    pub given: StoredParams,
     /// To how many pages of 65536 bytes its memory may grow at most.
     pub page_limit: u32,
-    pub tenant: Tenant,
+    pub tenant: HostInstance,
 }
 
-impl Resident {
-    /// Whether it is the instance of this number.
+impl InstanceEntry {
+    /// Returns whether it has this number.
     pub fn has_number(&self, number: u64) -> bool
         ensures { MatchBool result (self.now.number ≡ Some number) (self.now.number ≢ Some number) }
     {

@@ -15,37 +15,37 @@ use wh_reclaim::{Buf, provide};
 use wh_swap::SwapDev;
 
 impl Host {
-    /// Whether a turn or a provision can bring the instance on: a call of it is open, and stands neither for fuel nor for a
-    /// device fault.
+    /// Returns whether a turn or a provision can advance the instance: a call of it is open, and waits neither for fuel nor for
+    /// a device.
     pub fn can_go_on(&self, id: InstId) -> bool
         ensures { Tells self.now result (λ w. IsGoing w id) }
     {
-        let Some(resident) = self.residents.get(id.place) else {
+        let Some(entry) = self.entries.get(id.place) else {
             return false;
         };
-        if !resident.has_number(id.number) {
+        if !entry.has_number(id.number) {
             return false;
         }
-        resident.tenant.can_go_on()
+        entry.tenant.can_go_on()
     }
 
-    /// Whether the present call of the instance stands for a frame, so that `provide` makes its next step ready.
+    /// Returns whether the present call of the instance waits for a frame: `provide` makes its step ready.
     pub fn awaits_frame(&self, id: InstId) -> bool
         ensures { Tells self.now result (λ w. IsAwaiting w id) }
     {
-        let Some(resident) = self.residents.get(id.place) else {
+        let Some(entry) = self.entries.get(id.place) else {
             return false;
         };
-        if !resident.has_number(id.number) {
+        if !entry.has_number(id.number) {
             return false;
         }
-        resident.tenant.awaits_frame()
+        entry.tenant.awaits_frame()
     }
 
-    /// Makes the next step of the instance ready where its present call stands for a frame: pages come from the device, and
-    /// others leave for it, so long as that is needed. How many left, each by one write of the device. Else nothing is done;
-    /// so too where the call stands for a device fault, and waits for `retry`. It takes no memory: the buffer is of use
-    /// while the call lasts.
+    /// Makes the next step of the instance ready where its present call waits for a frame: pages come from the device, and
+    /// others leave for it, so long as that is needed. Returns how many left, each by one write of the device. Else does
+    /// nothing; so too where the call waits for a device, until `retry`. It takes no memory: `buf` is used while the call
+    /// lasts.
     ///
     /// The device holds what the slots hold; no ticket is out. Where it has read right, no byte of any page changes. Where it
     /// gave other bytes as Ok, those are what the pages that came have, and nothing else differs.
@@ -87,20 +87,20 @@ impl Host {
         ensures ok { OnOk result (D.faults device.new ≡ D.faults device.old) }
         ensures err { IfErr result (λ fault. D.faults device.new ≡ fault ∷ D.faults device.old) }
     {
-        let Some(resident) = self.residents.get_mut(id.place) else {
+        let Some(entry) = self.entries.get_mut(id.place) else {
             return Ok(0);
         };
-        if !resident.has_number(id.number) {
+        if !entry.has_number(id.number) {
             return Ok(0);
         }
-        if !resident.tenant.awaits_frame() {
+        if !entry.tenant.awaits_frame() {
             return Ok(0);
         }
         let fault = match provide(&mut self.memory, device, id.place, buf) {
             Ok(left) => return Ok(left),
             Err(fault) => fault,
         };
-        let _ = resident.tenant.fail(fault);
+        let _ = entry.tenant.fail(fault);
         Err(fault)
     }
 }

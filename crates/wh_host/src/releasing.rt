@@ -4,27 +4,27 @@ ghost use Rattle.std.specs.Prelude.{◌≡◌, OnErr, OnOk};
 ghost use Rattle.wh_host_model.specs.Space.Places.{Exits};
 ghost use Rattle.wh_host.specs.Backing.{KeepsBacking};
 ghost use Rattle.wh_host.specs.Releasing.{AnswersRelease};
-ghost use Rattle.wh_host.specs.Seats.{PlaceIsLeft};
+ghost use Rattle.wh_host.specs.Entries.{PlaceIsLeft};
 
 use crate::error::HostError;
 use crate::host::Host;
-use crate::parts::Resident;
+use crate::parts::InstanceEntry;
 use slab::Slab;
 use std::alloc::Global;
 use wh_host_model::InstId;
 
 // Gives up a place that nobody has any more, where it is free.
-fn leave_place(residents: &mut Slab<Resident>, place: usize, is_free: bool)
-    ensures { PlaceIsLeft residents.old.slots place residents.new.slots }
+fn leave_place(entries: &mut Slab<InstanceEntry>, place: usize, is_free: bool)
+    ensures { PlaceIsLeft entries.old.slots place entries.new.slots }
 {
     if is_free {
-        let _ = residents.try_remove(place);
+        let _ = entries.try_remove(place);
     }
 }
 
 impl Host {
-    /// Lets an instance go, whatever its calls are: its output. Its memory is free, and its number is never used again. Its
-    /// place is, once no page of it is on its way to swap or back.
+    /// Releases an instance, whatever its calls are. Returns its output. Its memory is free, and its number never used again.
+    /// Its place is, once no page of it is on its way to swap or back.
     ///
     /// # Errors
     /// `NoInstance`. Nothing is done then.
@@ -34,18 +34,18 @@ impl Host {
         ensures backing { KeepsBacking self.old.space self.new.space }
         ensures memory { OnOk result (Exits self.old.space id.place self.new.space) }
     {
-        let Some(resident) = self.residents.get_mut(id.place) else {
+        let Some(entry) = self.entries.get_mut(id.place) else {
             return Err(HostError::NoInstance);
         };
-        if !resident.has_number(id.number) {
+        if !entry.has_number(id.number) {
             return Err(HostError::NoInstance);
         }
-        resident.number = None;
-        let output = resident.tenant.take_output(alloc);
-        self.memory.known();
+        entry.number = None;
+        let output = entry.tenant.take_output(alloc);
+        self.memory.invariant();
         self.memory.exit(id.place);
         let is_free = self.memory.is_free(id.place);
-        leave_place(&mut self.residents, id.place, is_free);
+        leave_place(&mut self.entries, id.place, is_free);
         self.live -= 1;
         Ok(output)
     }

@@ -2,15 +2,15 @@
 
 ghost use Rattle.std.specs.Prelude.{◌≡◌, ◌++◌, ◌≤◌, IfErr, IfOk, OnOk, string_bytes};
 ghost use Rattle.std.specs.List.{All};
-ghost use Rattle.wh_host_model.specs.Lines.Texts.{row_text};
+ghost use Rattle.wh_script_model.specs.Texts.{row_text};
 ghost use Rattle.wh_host_model.specs.Space.Sound.{IsSound};
 ghost use Rattle.wh_host.specs.Reporting.{ReportsHost, head_text};
-ghost use Rattle.wh_host.specs.Seating.{CanBeShown, line_row, lines_text};
+ghost use Rattle.wh_host.specs.InstanceRefs.{CanBeShown, line_row, lines_text};
 
 use crate::error::HostError;
 use crate::host::Host;
-use crate::parts::{Resident, Seat};
-use crate::seating::seat_at;
+use crate::instance_refs::ref_at;
+use crate::parts::{InstanceEntry, InstanceRef};
 use slab::Slab;
 use std::alloc::{AllocError, Global};
 use wh_replies::{Row, write_frames, write_row, write_shared, write_slots};
@@ -34,23 +34,23 @@ fn write_head(text: &mut String, memory: &Memory) -> Result<(), AllocError>
 fn write_line(
     text: &mut String,
     memory: &Memory,
-    seat: Seat,
-    resident: &Resident,
+    instance_ref: InstanceRef,
+    entry: &InstanceEntry,
 ) -> Result<(), AllocError>
-    requires { resident.now.given.shares ≤ 1000000 }
+    requires { entry.now.given.shares ≤ 1000000 }
     ensures { OnOk result (string_bytes text.new
-        ≡ string_bytes text.old ++ row_text (line_row memory.now seat resident.now)) }
+        ≡ string_bytes text.old ++ row_text (line_row memory.now instance_ref entry.now)) }
 {
-    let (charged, active) = memory.charged_at(seat.place);
-    let given = resident.given;
+    let (charged, active) = memory.charged_at(instance_ref.place);
+    let given = entry.given;
     let row = Row {
-        number: seat.number,
+        number: instance_ref.number,
         shares: given.shares,
         min: given.min,
         max: given.max,
         charged,
         active,
-        swapped: memory.swapped_at(seat.place),
+        swapped: memory.swapped_at(instance_ref.place),
         tax: memory.tax(),
     };
     write_row(text, row)
@@ -60,17 +60,17 @@ fn write_line(
 fn write_lines(
     text: &mut String,
     memory: &Memory,
-    residents: &Slab<Resident>,
-    seats: &[Seat],
+    entries: &Slab<InstanceEntry>,
+    instance_refs: &[InstanceRef],
 ) -> Result<(), AllocError>
-    requires { All (CanBeShown residents.now.slots) seats.now }
+    requires { All (CanBeShown entries.now.slots) instance_refs.now }
     ensures { OnOk result (string_bytes text.new
-        ≡ string_bytes text.old ++ lines_text memory.now residents.now.slots seats.now) }
+        ≡ string_bytes text.old ++ lines_text memory.now entries.now.slots instance_refs.now) }
 {
-    for at in 0..seats.len() {
-        let seat = seat_at(seats, at);
-        if let Some(resident) = residents.get(seat.place) {
-            write_line(text, memory, seat, resident)?;
+    for at in 0..instance_refs.len() {
+        let instance_ref = ref_at(instance_refs, at);
+        if let Some(entry) = entries.get(instance_ref.place) {
+            write_line(text, memory, instance_ref, entry)?;
         }
     }
     Ok(())
@@ -81,16 +81,16 @@ impl Host {
     fn make_report(&self, alloc: Global) -> Result<String, AllocError>
         ensures { IfOk result (λ text. ReportsHost self.now (string_bytes text)) }
     {
-        self.memory.known();
-        let seats = self.seats(alloc)?;
+        self.memory.invariant();
+        let instance_refs = self.instance_refs(alloc)?;
         let mut text = String::new(alloc);
         write_head(&mut text, &self.memory)?;
-        write_lines(&mut text, &self.memory, &self.residents, &seats)?;
+        write_lines(&mut text, &self.memory, &self.entries, &instance_refs)?;
         Ok(text)
     }
 
-    /// The report: three lines on frames, slots and shared frames, and one for each instance by number, with what its owner
-    /// gave it, how many frames are charged to it, on how many of these a page was touched, how many of its pages are
+    /// Returns the report: three lines on frames, slots and shared frames, and one for each instance by number, with its
+    /// parameters, how many frames are charged to it, on how many of these a page was touched, how many of its pages are
     /// swapped, and what its shares are to the weight of its frames. A frame that many pages share is charged to the first of
     /// them, by number and then by page. It goes over all frames and all pages.
     ///

@@ -1,12 +1,12 @@
 //! What is there in a host.
 
 ghost use Rattle.std.specs.Prelude.{◌≡◌, ◌<◌, Some, IfErr, IfOk, length, map, slice_get};
-ghost use Rattle.wh_host.specs.Rolls.{IsRollOf, bytes_in, listed_by, listed_seats, spelled_by, view_listed};
+ghost use Rattle.wh_host.specs.Rolls.{IsRollOf, bytes_in, listed_by, listed_refs, spelled_by, view_listed};
 
 use crate::error::HostError;
 use crate::host::Host;
-use crate::parts::{LoadedModule, ModuleId, Resident, Seat};
-use crate::seating::seat_at;
+use crate::instance_refs::ref_at;
+use crate::parts::{InstanceEntry, InstanceRef, LoadedModule, ModuleId};
 use crate::showing::params_of;
 use slab::Slab;
 use std::alloc::{AllocError, Global};
@@ -31,8 +31,8 @@ pub struct Enrolled {
     pub open_calls: usize,
     /// Whether its start has trapped or was cancelled.
     pub dead: bool,
-    /// For what its first open call stands, if it does.
-    pub stands_for: Option<Suspension>,
+    /// What its first open call waits for, if it does.
+    pub waiting_for: Option<Suspension>,
 }
 
 /// What is there in a host: the bytes of its modules in the order in which they were loaded, the number of the next
@@ -69,28 +69,28 @@ impl Model for Roll {
 }
 
 impl Roll {
-    /// The bytes of the modules, in the order in which they were loaded.
+    /// Returns the bytes of the modules, in the order of their loading.
     pub fn modules(&self) -> &[Arc<Vec<u8>>]
         ensures { bytes_in result.now ≡ self.now.modules }
     {
         &self.modules
     }
 
-    /// How many instances were admitted, which is the number of the next one.
+    /// Returns how many instances were admitted: the number of the next.
     pub fn next(&self) -> u64
         ensures { result ≡ self.now.next }
     {
         self.next
     }
 
-    /// How many tickets are out.
+    /// Counts the tickets out.
     pub fn tickets(&self) -> u32
         ensures { result ≡ self.now.tickets_out }
     {
         self.tickets
     }
 
-    /// The instances by number.
+    /// Returns them by number.
     pub fn instances(&self) -> &[Enrolled]
         ensures { map view_listed result.now ≡ self.now.instances }
     {
@@ -110,42 +110,44 @@ fn bytes_of(alloc: Global, modules: &[LoadedModule]) -> Result<Vec<Arc<Vec<u8>>>
 }
 
 // What the roll says of who has this seat.
-fn enrolled_by(alloc: Global, seat: Seat, resident: &Resident) -> Result<Enrolled, AllocError>
-    ensures { IfOk result (λ enrolled. view_listed enrolled ≡ listed_by seat resident.now) }
+fn enrolled_by(
+    alloc: Global,
+    instance_ref: InstanceRef,
+    entry: &InstanceEntry,
+) -> Result<Enrolled, AllocError>
+    ensures { IfOk result (λ enrolled. view_listed enrolled ≡ listed_by instance_ref entry.now) }
 {
-    let tenant = &resident.tenant;
-    let params = params_of(alloc, resident.given, tenant.inputs())?;
+    let tenant = &entry.tenant;
+    let params = params_of(alloc, entry.given, tenant.inputs())?;
     let journal = tenant.journal();
     Ok(Enrolled {
         id: InstId {
-            place: seat.place,
-            number: seat.number,
+            place: instance_ref.place,
+            number: instance_ref.number,
         },
-        of: ModuleId {
-            number: resident.of,
-        },
+        of: ModuleId { number: entry.of },
         params,
         calls: journal.len(),
         open_calls: journal.open_len(),
         dead: tenant.is_dead(),
-        stands_for: tenant.stands_for(),
+        waiting_for: tenant.waiting_for(),
     })
 }
 
 // What it says of these instances.
 fn all_enrolled(
     alloc: Global,
-    residents: &Slab<Resident>,
-    seats: &[Seat],
+    entries: &Slab<InstanceEntry>,
+    instance_refs: &[InstanceRef],
 ) -> Result<Vec<Enrolled>, AllocError>
     ensures { IfOk result (λ list.
-        map view_listed list.items ≡ listed_seats residents.now.slots seats.now) }
+        map view_listed list.items ≡ listed_refs entries.now.slots instance_refs.now) }
 {
-    let mut list = Vec::with_capacity(alloc, seats.len())?;
-    for at in 0..seats.len() {
-        let seat = seat_at(seats, at);
-        if let Some(resident) = residents.get(seat.place) {
-            list.push(enrolled_by(alloc, seat, resident)?)?;
+    let mut list = Vec::with_capacity(alloc, instance_refs.len())?;
+    for at in 0..instance_refs.len() {
+        let instance_ref = ref_at(instance_refs, at);
+        if let Some(entry) = entries.get(instance_ref.place) {
+            list.push(enrolled_by(alloc, instance_ref, entry)?)?;
         }
     }
     Ok(list)
@@ -156,9 +158,9 @@ impl Host {
     fn make_roll(&self, alloc: Global) -> Result<Roll, AllocError>
         ensures { IfOk result (λ roll. IsRollOf self.now roll) }
     {
-        let seats = self.seats(alloc)?;
+        let instance_refs = self.instance_refs(alloc)?;
         let modules = bytes_of(alloc, &self.modules)?;
-        let instances = all_enrolled(alloc, &self.residents, &seats)?;
+        let instances = all_enrolled(alloc, &self.entries, &instance_refs)?;
         Ok(Roll {
             modules,
             next: self.next,
@@ -167,7 +169,7 @@ impl Host {
         })
     }
 
-    /// The roll: what is there. The bytes of modules are shared with it. It goes over all modules, instances and slots.
+    /// Returns what is there. The bytes of modules are shared with it. It goes over all modules, instances and slots.
     ///
     /// # Errors
     /// `Memory` where room is refused.

@@ -11,15 +11,15 @@ use wh_host_model::InstId;
 use wh_scan::{Sample, take};
 
 impl Host {
-    /// How many pages of 65536 bytes are at this place, 0 where nobody is. An instance alone is at its place.
+    /// Counts the pages of 65536 bytes at `place`, 0 where nobody is. An instance alone is at its place.
     pub fn size_at(&self, place: usize) -> u32
         ensures { length (get_or self.now.space.tables place []) ≡ 16 * result }
     {
         self.memory.size(place)
     }
 
-    /// The bytes of a page of an instance, where it is alone on a frame; none too where no such instance is there, or its place
-    /// isn't below 2^32.
+    /// Returns the bytes of a page of an instance, where it is alone on a frame; none too where no such instance is there, or
+    /// its place is 2^32 or more.
     pub fn sample(&self, id: InstId, page: u32) -> Option<Sample>
         ensures some { IfSome result (λ sample. (frame : ℕ)
             × (page_at self.now.space.tables id.place page ≡ Some (Private frame))

@@ -18,8 +18,8 @@ impl Host {
     /// under the hash of its bytes as they are. Then as many frames are in use as there are distinct contents that aren't all
     /// zero, if the hash tells contents apart and was the hash before. No byte of any page changes, and it takes no memory.
     ///
-    /// How many pages were offered. It is done where frames and slots are fewer than 2^32 together; else the answer is `None`,
-    /// and nothing has changed.
+    /// Returns how many pages were offered; or `None`, and nothing has changed, where frames and slots are 2^32 together or
+    /// more.
     pub fn scan<H: PageHash>(&mut self, hasher: &H) -> Option<u64>
         ensures moves { MovesOnly self.old self.new }
         ensures backing { KeepsBacking self.old.space self.new.space }
@@ -40,8 +40,8 @@ impl Host {
         Some(scan_all(&mut self.memory, hasher))
     }
 
-    /// Offers a page of an instance for sharing, under any hash at all, and says what came of it. Where the instance is gone,
-    /// though another may be at its place, it is `Skipped`. No byte of any page changes.
+    /// Offers a page of an instance for sharing, under any hash at all. Returns the outcome. Where the instance is gone, though
+    /// another may be at its place, it is `Skipped`. No byte of any page changes.
     ///
     /// `None`, and nothing is done, where frames and slots are 2^32 together or more, or the place isn't below 2^32.
     pub fn offer<H: PageHash>(

@@ -1,13 +1,13 @@
 //! What a host shows of one of its instances.
 
 ghost use Rattle.std.specs.Prelude.{◌≡◌, IfOk};
-ghost use Rattle.wh_admit.specs.Views.{view_params};
-ghost use Rattle.wh_host.specs.Showing.{StandsByEvents, ShowsInstance, given_with, shown_of};
+ghost use Rattle.wh_admit.specs.View.{view_params};
+ghost use Rattle.wh_host.specs.Showing.{RepresentsReached, ShowsInstance, given_with, shown_of};
 ghost use Rattle.wh_transcript.specs.Transcripts.{IsReplayable};
 
 use crate::error::HostError;
 use crate::host::{Host, module_at};
-use crate::parts::{Given, Resident};
+use crate::parts::{InstanceEntry, StoredParams};
 use std::alloc::{AllocError, Global};
 use std::sync::Arc;
 use wh_admit::Params;
@@ -15,7 +15,7 @@ use wh_host_model::InstId;
 use wh_transcript::Transcript;
 
 // What the owner of an instance gave it, with these words as its input.
-pub fn params_of(alloc: Global, given: Given, inputs: &[u64]) -> Result<Params, AllocError>
+pub fn params_of(alloc: Global, given: StoredParams, inputs: &[u64]) -> Result<Params, AllocError>
     ensures { IfOk result (λ params. view_params params ≡ given_with given inputs.now) }
 {
     let inputs = Vec::from_slice(alloc, inputs)?;
@@ -33,40 +33,40 @@ pub fn params_of(alloc: Global, given: Given, inputs: &[u64]) -> Result<Params, 
 // The transcript of an instance of the module with these bytes.
 fn transcript_of(
     alloc: Global,
-    resident: &Resident,
+    entry: &InstanceEntry,
     bytes: &Arc<Vec<u8>>,
 ) -> Result<Transcript, AllocError>
     ensures { IfOk result (λ transcript.
-        transcript ≡ shown_of resident.now bytes.now.value.items) }
+        transcript ≡ shown_of entry.now bytes.now.value.items) }
 {
-    let tenant = &resident.tenant;
-    let params = params_of(alloc, resident.given, tenant.inputs())?;
+    let tenant = &entry.tenant;
+    let params = params_of(alloc, entry.given, tenant.inputs())?;
     let calls = tenant.journal().copies(alloc)?;
     let bytes = Arc::try_clone(bytes)?;
-    Ok(Transcript::new(bytes, params, calls, tenant.stands_for()))
+    Ok(Transcript::new(bytes, params, calls, tenant.waiting_for()))
 }
 
 impl Host {
-    /// The transcript of an instance: the bytes of its module, what its owner gave it, its calls, and for what the first
-    /// open one stands. Its calls replay where events alone have led to this host: no swap device gave other bytes than were
+    /// Returns an instance's transcript: the bytes of its module, what its owner gave it, its calls, and what the first open
+    /// one waits for. Its calls replay where events alone have led to this host: no swap device gave other bytes than were
     /// written to it.
     ///
     /// # Errors
     /// `NoInstance`; `Memory` where room is refused.
     pub fn transcript(&self, alloc: Global, id: InstId) -> Result<Transcript, HostError>
         ensures shows { ShowsInstance self.now id result }
-        ensures replays { StandsByEvents self.now → IfOk result (λ shown. IsReplayable shown) }
+        ensures replays { RepresentsReached self.now → IfOk result (λ shown. IsReplayable shown) }
     {
-        let Some(resident) = self.residents.get(id.place) else {
+        let Some(entry) = self.entries.get(id.place) else {
             return Err(HostError::NoInstance);
         };
-        if !resident.has_number(id.number) {
+        if !entry.has_number(id.number) {
             return Err(HostError::NoInstance);
         }
-        let Some(module) = module_at(&self.modules, resident.of) else {
+        let Some(module) = module_at(&self.modules, entry.of) else {
             return Err(HostError::NoInstance);
         };
-        match transcript_of(alloc, resident, &module.bytes) {
+        match transcript_of(alloc, entry, &module.bytes) {
             Ok(transcript) => Ok(transcript),
             Err(_) => Err(HostError::Memory),
         }

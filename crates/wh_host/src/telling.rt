@@ -1,15 +1,15 @@
 //! What a host tells of one call.
 
 ghost use Rattle.std.specs.Prelude.{◌≡◌};
-ghost use Rattle.wh_host.specs.Carried.{IsPresentCall};
+ghost use Rattle.wh_host.specs.TicketsOut.{IsPresentCall};
 ghost use Rattle.wh_host.specs.Telling.{TellsChargesOf, TellsOf, charges_in_journal};
 
 use crate::host::{Host, module_at};
 use wh_host_model::InstId;
-use wh_instance::{CallStatus, Tenant};
+use wh_instance::{CallStatus, HostInstance};
 
 // How many charges the call at this place of the journal has taken, where there is one.
-fn charges_of(tenant: &Tenant, at: usize) -> Option<u64>
+fn charges_of(tenant: &HostInstance, at: usize) -> Option<u64>
     ensures { result ≡ charges_in_journal tenant.now.journal at }
 {
     match tenant.journal().call(at) {
@@ -19,48 +19,48 @@ fn charges_of(tenant: &Tenant, at: usize) -> Option<u64>
 }
 
 impl Host {
-    /// How far the call at this place of the instance's journal is, where the start is at 0; `None` where there is no such
-    /// instance, or no call at that place. It takes constant time and no memory.
+    /// Returns how far the call at place `at` of the instance's journal is, the start being at 0; `None` where there is no such
+    /// instance or call. It takes constant time and no memory.
     pub fn call_status(&self, id: InstId, at: u32) -> Option<CallStatus>
         ensures { TellsOf self.now id at result }
     {
-        let Some(resident) = self.residents.get(id.place) else {
+        let Some(entry) = self.entries.get(id.place) else {
             return None;
         };
-        if !resident.has_number(id.number) {
+        if !entry.has_number(id.number) {
             return None;
         }
-        let Some(module) = module_at(&self.modules, resident.of) else {
+        let Some(module) = module_at(&self.modules, entry.of) else {
             return None;
         };
-        resident.tenant.call_status(&module.linked, at)
+        entry.tenant.call_status(&module.linked, at)
     }
 
-    /// The place in its journal of the present call of the instance, which is how many of its calls have ended; 0 where there
-    /// is no such instance.
+    /// Returns the place in its journal of the instance's present call: how many of its calls have ended; 0 where there is no
+    /// such instance.
     pub fn present_call(&self, id: InstId) -> usize
         ensures { IsPresentCall self.now id result }
     {
-        let Some(resident) = self.residents.get(id.place) else {
+        let Some(entry) = self.entries.get(id.place) else {
             return 0;
         };
-        if !resident.has_number(id.number) {
+        if !entry.has_number(id.number) {
             return 0;
         }
-        resident.tenant.present_call()
+        entry.tenant.present_call()
     }
 
-    /// How many charges the call at this place of the instance's journal has taken, where the start is at 0; `None` where
-    /// there is no such instance, or no call at that place. It takes constant time and no memory.
+    /// Returns the charges that the call at place `at` of the instance's journal took, the start being at 0; `None` where there
+    /// is no such instance or call. It takes constant time and no memory.
     pub fn charges(&self, id: InstId, at: usize) -> Option<u64>
         ensures { TellsChargesOf self.now id at result }
     {
-        let Some(resident) = self.residents.get(id.place) else {
+        let Some(entry) = self.entries.get(id.place) else {
             return None;
         };
-        if !resident.has_number(id.number) {
+        if !entry.has_number(id.number) {
             return None;
         }
-        charges_of(&resident.tenant, at)
+        charges_of(&entry.tenant, at)
     }
 }

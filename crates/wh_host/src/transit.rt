@@ -6,14 +6,14 @@ ghost use Rattle.wh_host_model.specs.Space.Errands.{to_read, to_write};
 ghost use Rattle.wh_host_model.specs.Space.Places.{IsFreePlace};
 ghost use Rattle.wh_host_model.specs.Space.Tickets.{BeginsEvict, BeginsFetch, CommitsFetch};
 ghost use Rattle.wh_model.specs.declared.memory.Need.{Need};
-ghost use Rattle.wh_space.specs.Errands.{ticket_place};
-ghost use Rattle.wh_host.specs.Carried.{EndsEvict, IsOut, IsPresentCall, KeepsFault, OnlyReleasedGo, bytes_to_write, evict_fault, fetch_fault, slot_to_read, slot_to_write};
-ghost use Rattle.wh_host.specs.Hosting.{resident_at};
+ghost use Rattle.wh_space.specs.TicketOwners.{ticket_place};
+ghost use Rattle.wh_host.specs.TicketsOut.{EndsEvict, IsOut, IsPresentCall, KeepsFault, OnlyReleasedGo, bytes_to_write, evict_fault, fetch_fault, slot_to_read, slot_to_write};
+ghost use Rattle.wh_host.specs.Hosting.{entry_at};
 ghost use Rattle.wh_host.specs.Paging.{MovesAnyhow, MovesOnly, MovesWith, WaitsFor};
-ghost use Rattle.wh_host.specs.declared.parts.Resident.{Resident as OneResident};
+ghost use Rattle.wh_host.specs.declared.parts.InstanceEntry.{InstanceEntry as OneEntry};
 
 use crate::host::Host;
-use crate::parts::Resident;
+use crate::parts::InstanceEntry;
 use slab::Slab;
 use wh_host_model::{EvictEnd, FetchEnd, InstId, SwapError};
 use wh_reclaim::{
@@ -62,33 +62,33 @@ fn fault_of_fetch(end: FetchEnd, device: Result<(), SwapError>) -> Option<SwapEr
     }
 }
 
-// Keeps the fault with this call of the instance, while that is its present one and stands for a frame.
-fn keep_fault(residents: &mut Slab<Resident>, id: InstId, call: usize, fault: Option<SwapError>)
-    ensures { KeepsFault residents.old.slots id call fault residents.new.slots }
+// Keeps the fault with this call of the instance, while that is its present one and waits for a frame.
+fn keep_fault(entries: &mut Slab<InstanceEntry>, id: InstId, call: usize, fault: Option<SwapError>)
+    ensures { KeepsFault entries.old.slots id call fault entries.new.slots }
 {
     let Some(fault) = fault else {
         return;
     };
-    let Some(resident) = residents.get_mut(id.place) else {
+    let Some(entry) = entries.get_mut(id.place) else {
         return;
     };
-    if !resident.has_number(id.number) {
+    if !entry.has_number(id.number) {
         return;
     }
-    if !resident.tenant.awaits_frame() {
+    if !entry.tenant.awaits_frame() {
         return;
     }
-    if resident.tenant.present_call() != call {
+    if entry.tenant.present_call() != call {
         return;
     }
-    let _ = resident.tenant.fail(fault);
+    let _ = entry.tenant.fail(fault);
 }
 
 // Gives up the place of an instance that was released, where the memory has it free.
-fn leave_released(residents: &mut Slab<Resident>, memory: &Memory, place: Option<u32>)
-    ensures stays { OnlyReleasedGo residents.old.slots residents.new.slots }
-    ensures leaves { (at : ℕ) → place ≡ Some at → IsFreePlace memory.now at → (x : OneResident)
-        → resident_at residents.new.slots at ≡ Some x → x.number ≢ None }
+fn leave_released(entries: &mut Slab<InstanceEntry>, memory: &Memory, place: Option<u32>)
+    ensures stays { OnlyReleasedGo entries.old.slots entries.new.slots }
+    ensures leaves { (at : ℕ) → place ≡ Some at → IsFreePlace memory.now at → (x : OneEntry)
+        → entry_at entries.new.slots at ≡ Some x → x.number ≢ None }
 {
     let Some(place) = place else {
         return;
@@ -97,13 +97,13 @@ fn leave_released(residents: &mut Slab<Resident>, memory: &Memory, place: Option
     if !memory.is_free(place) {
         return;
     }
-    let Some(resident) = residents.get(place) else {
+    let Some(entry) = entries.get(place) else {
         return;
     };
-    if resident.number.is_some() {
+    if entry.number.is_some() {
         return;
     }
-    let _ = residents.try_remove(place);
+    let _ = entries.try_remove(place);
 }
 
 // The device has been called for the ticket, and it comes back to the memory.
@@ -117,35 +117,34 @@ fn end_eviction(
         memory.new }
     ensures back { result.1.value ≡ ticket.bytes }
 {
-    memory.known();
+    memory.invariant();
     memory.written(ticket.slot(), ticket.bytes(), device.is_ok());
     evict_commit(memory, ticket, device)
 }
 
 impl Host {
-    // The place in its journal of the present call of the instance, where that stands for a frame.
+    // The place in its journal of the present call of the instance, where that waits for a frame.
     fn waiting_call(&self, id: InstId) -> Option<usize>
         ensures { MatchOption result ((need : Need) → ¬ WaitsFor self.now id need)
             (λ call. ((need : Need) × WaitsFor self.now id need) × IsPresentCall self.now id call) }
     {
-        let Some(resident) = self.residents.get(id.place) else {
+        let Some(entry) = self.entries.get(id.place) else {
             return None;
         };
-        if !resident.has_number(id.number) {
+        if !entry.has_number(id.number) {
             return None;
         }
-        if !resident.tenant.awaits_frame() {
+        if !entry.tenant.awaits_frame() {
             return None;
         }
-        Some(resident.tenant.present_call())
+        Some(entry.tenant.present_call())
     }
 
-    /// A page begins to leave for the next step of the instance, where its present call stands for a frame: that of the one
-    /// that pays, or where nobody has to pay one of its own. No byte of any page changes.
+    /// Begins to evict a page for the next step of the instance, where its present call waits for a frame: one of whoever pays,
+    /// or where nobody has to pay one of its own. No byte of any page changes.
     ///
     /// # Errors
-    /// The buffer, where the call doesn't stand for a frame, its step lacks no frame, no slot is vacant or no page has to
-    /// leave.
+    /// The buffer, where the call doesn't wait for a frame, its step lacks no frame, no slot is vacant or no page has to leave.
     pub fn evict_begin(&mut self, id: InstId, buf: Buf) -> Result<Eviction, Buf>
         ensures moves { MovesOnly self.old self.new }
         ensures begins { (need : Need) → WaitsFor self.old id need
@@ -168,11 +167,11 @@ impl Host {
         Ok(Eviction { id, call, ticket })
     }
 
-    /// The first page that lies in a slot of the next step of the instance begins to come, where its present call stands for
-    /// a frame. No byte of any page changes.
+    /// Begins to fetch the first page of the next step of the instance that lies in a slot, where its present call waits for a
+    /// frame. No byte of any page changes.
     ///
     /// # Errors
-    /// The buffer, where the call doesn't stand for a frame, no page of its step lies in a slot, or no frame is free or
+    /// The buffer, where the call doesn't wait for a frame, no page of its step lies in a slot, or no frame is free or
     /// earmarked for it.
     pub fn fetch_begin(&mut self, id: InstId, buf: Buf) -> Result<Fetch, Buf>
         ensures moves { MovesOnly self.old self.new }
@@ -196,11 +195,10 @@ impl Host {
         Ok(Fetch { id, call, ticket })
     }
 
-    /// A page that was leaving: its ticket comes back with what the device answered to its write, and the buffer with it. The
-    /// answer is `Void` where the page was written meanwhile or its instance released, `Failed` where the device failed,
-    /// `Evicted` where the page is in its slot, and `Void` else. At `Failed` the fault is kept with the call for which it was
-    /// begun, while that is there and stands for a frame. The place of an instance that was released is given up with its
-    /// last ticket.
+    /// Ends an eviction, by what the device answered to its write. Returns the buffer, and `Void` where the page was written
+    /// meanwhile or its instance released, `Failed` where the device failed, `Evicted` where the page is in its slot, and
+    /// `Void` else. At `Failed` the fault is kept with the call for which it was begun, while that is there and waits for a
+    /// frame. The place of an instance that was released is given up with its last ticket.
     pub fn evict_commit(
         &mut self,
         eviction: Eviction,
@@ -212,22 +210,22 @@ impl Host {
         ensures ends { EndsEvict self.old.space eviction.ticket.slot (is_ok device)
             eviction.ticket.bytes result.0 self.new.space }
         ensures leaves { (at : ℕ) → ticket_place self.old.space eviction.ticket.slot ≡ Some at
-            → IsFreePlace self.new.space at → resident_at self.new.residents at ≡ None }
+            → IsFreePlace self.new.space at → entry_at self.new.entries at ≡ None }
         ensures back { result.1.value ≡ eviction.ticket.bytes }
     {
         let Eviction { id, call, ticket } = eviction;
         let place = self.memory.ticket_place(ticket.slot());
         let (end, buf) = end_eviction(&mut self.memory, ticket, device);
-        keep_fault(&mut self.residents, id, call, fault_of_evict(end, device));
-        leave_released(&mut self.residents, &self.memory, place);
+        keep_fault(&mut self.entries, id, call, fault_of_evict(end, device));
+        leave_released(&mut self.entries, &self.memory, place);
         (end, buf)
     }
 
-    /// A page that was coming: its ticket comes back with what the device answered to its read, and the buffer with it. Where
-    /// that holds what the slot holds no byte of any page changes. The answer is `Void` where its instance was released, `Fetched`, and the
-    /// page has these bytes, where the device answered Ok, and `Failed` else, and it lies in its slot as before. At `Failed`
-    /// the fault is kept with the call for which it was begun, while that is there and stands for a frame. The place of an
-    /// instance that was released is given up with its last ticket.
+    /// Ends a fetch, by what the device answered to its read. Where the buffer has what the slot holds no byte of any page
+    /// changes. Returns it, and `Void` where the instance was released, `Fetched`, and the page has these bytes, where the
+    /// device answered Ok, and `Failed` else, and it lies in its slot as before. At `Failed` the fault is kept with the call
+    /// for which it was begun, while that is there and waits for a frame. The place of an instance that was released is given
+    /// up with its last ticket.
     pub fn fetch_commit(&mut self, fetched: Fetch, device: Result<(), SwapError>) -> (FetchEnd, Buf)
         requires out { IsOut self.old.space fetched.ticket.slot to_read }
         ensures moves { OnOk device (get_or self.old.space.slots.held fetched.ticket.slot []
@@ -238,14 +236,14 @@ impl Host {
         ensures ends { CommitsFetch self.old.space fetched.ticket.slot (is_ok device)
             fetched.ticket.bytes result.0 self.new.space }
         ensures leaves { (at : ℕ) → ticket_place self.old.space fetched.ticket.slot ≡ Some at
-            → IsFreePlace self.new.space at → resident_at self.new.residents at ≡ None }
+            → IsFreePlace self.new.space at → entry_at self.new.entries at ≡ None }
         ensures back { result.1.value ≡ fetched.ticket.bytes }
     {
         let Fetch { id, call, ticket } = fetched;
         let place = self.memory.ticket_place(ticket.slot());
         let (end, buf) = fetch_commit(&mut self.memory, ticket, device);
-        keep_fault(&mut self.residents, id, call, fault_of_fetch(end, device));
-        leave_released(&mut self.residents, &self.memory, place);
+        keep_fault(&mut self.entries, id, call, fault_of_fetch(end, device));
+        leave_released(&mut self.entries, &self.memory, place);
         (end, buf)
     }
 }

@@ -5,24 +5,24 @@ ghost use Rattle.wh_host_model.specs.Host.Worlds.{Tenant as OneTenant};
 ghost use Rattle.wh_host.specs.Backing.{KeepsBacking};
 ghost use Rattle.wh_host.specs.Left.{LeavesTurned};
 ghost use Rattle.wh_host.specs.Lying.{LiesAt};
-ghost use Rattle.wh_space.specs.Stepping.{TakesSteps};
+ghost use Rattle.wh_space.specs.InstanceSteps.{TakesSteps};
 ghost use Rattle.wh_host.specs.Lent.{CanSettle, TurnsLent, TurnsTo, turn_end_of, settled_in};
 
 use wh_host_model::TurnEnd;
 use wh_imports::Linked;
-use wh_instance::{Tenant, Turned};
+use wh_instance::{HostInstance, TurnResult};
 use wh_space::{Memory, View};
 
 // Lends the memory to the instance at this place for a turn of q charges: to what it came. What the instance stands for in
 // memory is yet to be written down there.
 fn turn_lent(
-    tenant: &mut Tenant,
+    tenant: &mut HostInstance,
     linked: &Linked,
     memory: &mut Memory,
     place: usize,
     page_limit: u32,
     q: u64,
-) -> Turned
+) -> TurnResult
     requires { (t : OneTenant) × (t.open_calls ≢ [])
         × LiesAt linked.now page_limit tenant.old memory.old place t }
     ensures turns { (t : OneTenant) → t.open_calls ≢ []
@@ -31,7 +31,7 @@ fn turn_lent(
     ensures backing { KeepsBacking memory.old memory.new }
     ensures steps { TakesSteps place memory.old memory.new }
 {
-    memory.known();
+    memory.invariant();
     let mut view = View {
         memory,
         place,
@@ -41,21 +41,21 @@ fn turn_lent(
 }
 
 // Writes down in memory for what the instance at this place stands after such a turn: what the turn is answered.
-fn settle_at(memory: &mut Memory, place: usize, turned: Turned) -> TurnEnd
+fn settle_at(memory: &mut Memory, place: usize, turned: TurnResult) -> TurnEnd
     requires { CanSettle memory.old place turned }
     ensures answer { result ≡ turn_end_of turned }
     ensures leaves { memory.new ≡ settled_in memory.old place turned }
 {
     match turned {
-        Turned::Kept => TurnEnd::Again,
-        Turned::Frame {
+        TurnResult::Kept => TurnEnd::Again,
+        TurnResult::Frame {
             need,
             is_still: true,
         } => {
             memory.stand(place, Some(need));
             TurnEnd::Frame
         }
-        Turned::Frame {
+        TurnResult::Frame {
             need,
             is_still: false,
         } => {
@@ -63,28 +63,28 @@ fn settle_at(memory: &mut Memory, place: usize, turned: Turned) -> TurnEnd
             memory.stand(place, Some(need));
             TurnEnd::Frame
         }
-        Turned::Ended => {
+        TurnResult::Ended => {
             memory.end(place);
             TurnEnd::Ended
         }
-        Turned::Fuel => {
+        TurnResult::Fuel => {
             memory.end(place);
             TurnEnd::Fuel
         }
-        Turned::Again { is_still: true } => {
+        TurnResult::Again { is_still: true } => {
             memory.stand(place, None);
             TurnEnd::Again
         }
-        Turned::Again { is_still: false } => {
+        TurnResult::Again { is_still: false } => {
             memory.end(place);
             TurnEnd::Again
         }
     }
 }
 
-/// Gives the instance at this place a turn of q charges, where its memory may grow to so many pages at most.
+/// Gives the instance at `place` a turn of `q` charges, where its memory may grow to `page_limit` pages at most.
 pub fn turn_at(
-    tenant: &mut Tenant,
+    tenant: &mut HostInstance,
     linked: &Linked,
     memory: &mut Memory,
     place: usize,

@@ -1,6 +1,5 @@
 pub mod FrameLemmas
 pub mod PageLemmas
 pub mod Host
-pub mod Lines
 pub mod Space
 pub mod Tally

@@ -1,10 +1,8 @@
-pub mod Faults
+pub mod SwapFaults
 pub mod Frames
 pub mod Hash
 pub mod Owners
 pub mod Pages
-pub mod Script
 pub mod Host
-pub mod Lines
 pub mod Space
 pub mod Tax

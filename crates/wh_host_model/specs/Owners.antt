@@ -1,5 +1,5 @@
 -- What owners of instances give and ask, in plain words: parameters, arguments, limits, and faults by their numbers.
-use Rattle.std.specs.Prelude.{ℕ, ◌/◌, List, ◌-◌, ◌≢◌, ◌≡◌, ◌^◌, [], ◌∷◌, slice_get, Some, ℤ, pos, negsuc, ◌≤ℤ◌, Option}
+use Rattle.std.specs.Prelude.{ℕ, ◌/◌, List, ◌-◌, ◌≢◌, ◌≡◌, ◌^◌, [], ◌∷◌, slice_get, Some, ℤ, pos, negsuc, ◌≤ℤ◌, Option, Bool, true, false, if◌then◌else◌, None}
 use Rattle.wh_model.specs.Execution.Instance.{Parameters}
 use Rattle.wh_model.specs.declared.faults.ValidKind.{ValidKind}
 use Rattle.wh_model.specs.declared.faults.ValidKind.TheVariants.{Memory as NoRoomToCheck}
@@ -9,7 +9,7 @@ use Rattle.wh_model.specs.declared.ExternKind.TheVariants.{Func}
 use Rattle.wh_model.specs.Format.Syntax.{FuncType, Body, Module}
 use Rattle.wh_model.specs.Execution.Numbers.{unsigned}
 use Rattle.wh_model.specs.Execution.Store.{Value, value, own, Instance}
-use Rattle.wh_model.specs.Execution.Replay.{Call, Outcome, pending}
+use Rattle.wh_model.specs.Execution.Replay.{Call, Outcome, pending, returned, stopped, cancelled, dead}
 
 -- ---- instances
 
@@ -58,7 +58,7 @@ admit_rank instances = 6
 admit_rank memory = 7
 admit_rank segments = 8
 
--- what the validator may find wrong: all of its kinds but want of memory
+-- what the validator may find wrong: all of its kinds but out of memory
 abbrev pub IsValidFault : ValidKind → Type 0
 IsValidFault kind = kind ≢ NoRoomToCheck
 
@@ -133,3 +133,14 @@ new_entry x vs given fuel =
       call = record { func = Some x; args = vs; fuel = fuel; fragments = 0; charges = 0; outcome = pending };
       given = given;
     }
+
+abbrev pub is_open : Outcome → Bool
+is_open (returned results) = false
+is_open (stopped trap) = false
+is_open cancelled = false
+is_open dead = false
+is_open pending = true
+
+abbrev pub first_open : List Call → Option Call
+first_open [] = None
+first_open (call ∷ calls) = if is_open call.outcome then Some call else first_open calls

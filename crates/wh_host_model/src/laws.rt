@@ -2,7 +2,7 @@
 
 ghost use Rattle.wh_host_model.specs.Space.Laws.{ReadyIsDecided, NoBytesAreReady, OneUseOfAFrame, SomePageCanBeTaken, SomeSlotIsVacant, EvictionKeepsAll, FetchKeepsSound, FetchKeepsBytes, MovesAreFew, ProvisionIsRight, OnePageMustLeave, OneChargedPage, ChargesAddUp, BeginsEvictSoundly, BeginsEvictQuietly, BeginsFetchQuietly, CommitsEvictQuietly, CommitsFetchQuietly};
 ghost use Rattle.wh_host_model.specs.Space.Sight.{OffersQuietly, WritesQuietly, StepsQuietly, GrowsAlone, GrowsByZeros, EntersAlone, EntersAtZeros, ExitsAlone, PinsEnd, GoneIsSkipped, WrittenIsVoid, ReleasedIsVoid, NothingNeedless};
-ghost use Rattle.wh_host_model.specs.Space.Kept.{TouchesSoundly, EpochsSoundly, WritesSoundly, StandsSoundly, EndsSoundly, CommitsEvictSoundly, OffersSoundly, BeginsFetchSoundly, CommitsFetchSoundly, GrowsSoundly, EntersSoundly, ExitsSoundly};
+ghost use Rattle.wh_host_model.specs.Space.Kept.{TouchesSoundly, EpochsSoundly, WritesSoundly, WaitsSoundly, EndsSoundly, CommitsEvictSoundly, OffersSoundly, BeginsFetchSoundly, CommitsFetchSoundly, GrowsSoundly, EntersSoundly, ExitsSoundly};
 ghost use Rattle.wh_host_model.specs.Space.Chain.{FailsSoundly, EmptyIsSound, StaysSound, ScansSoundly, PassesFully, ContentsAreListed};
 ghost use Rattle.wh_host_model.specs.Space.Storing.{BreaksSoundly, SomeStore, StoresSoundly, StoresAreRight};
 
@@ -42,7 +42,7 @@ pub fn space_holds()
     ensures touches_soundly { TouchesSoundly }
     ensures epochs_soundly { EpochsSoundly }
     ensures writes_soundly { WritesSoundly }
-    ensures stands_soundly { StandsSoundly }
+    ensures waits_soundly { WaitsSoundly }
     ensures ends_soundly { EndsSoundly }
     ensures commits_evict_soundly { CommitsEvictSoundly }
     ensures offers_soundly { OffersSoundly }

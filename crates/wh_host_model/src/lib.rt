@@ -5,14 +5,12 @@
 
 ghost use Rattle.std.specs.Prelude.{◌≤◌, ◌<◌};
 
-mod answers;
 mod laws;
 mod moves;
 mod plain;
 mod runs;
 mod states;
 
-pub use answers::answers_hold;
 pub use laws::space_holds;
 pub use moves::moves_hold;
 pub use plain::{InstId, SwapError, TurnEnd};

@@ -1,6 +1,6 @@
 //! The laws of what the memory's own moves are to a host.
 
-ghost use Rattle.wh_host_model.specs.Host.Bridges.{LoadsStep, StoresStep, GrowthSteps, StandsWell, EndsWell, EpochsLeaveAll, OffersLeaveAll, EvictionsBegin, WritesLeaveAll, EvictionsEnd, FetchesBegin, FetchesEnd, ProvisionsLeaveAll, FailuresLeaveAll, FetchesSeeAsMany, ProvisionsSeeAsMany, FailuresSeeAsMany, EntrantsArrive, ExitsDepart};
+ghost use Rattle.wh_host_model.specs.Host.Bridges.{LoadsStep, StoresStep, GrowthSteps, WaitsWell, EndsWell, EpochsLeaveAll, OffersLeaveAll, EvictionsBegin, WritesLeaveAll, EvictionsEnd, FetchesBegin, FetchesEnd, ProvisionsLeaveAll, FailuresLeaveAll, FetchesSeeAsMany, ProvisionsSeeAsMany, FailuresSeeAsMany, EntrantsArrive, ExitsDepart};
 
 /// What the moves of the memory on which all instances lie leave, in the words in which a host's events ask for it. The
 /// function does nothing; what it ensures are the laws.
@@ -8,7 +8,7 @@ pub fn moves_hold()
     ensures loads_step { LoadsStep }
     ensures stores_step { StoresStep }
     ensures growth_steps { GrowthSteps }
-    ensures stands_well { StandsWell }
+    ensures waits_well { WaitsWell }
     ensures ends_well { EndsWell }
     ensures epochs_leave_all { EpochsLeaveAll }
     ensures offers_leave_all { OffersLeaveAll }

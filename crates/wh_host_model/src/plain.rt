@@ -1,7 +1,7 @@
 //! The plain types that the host's definitions and its code share.
 
 ghost use Rattle.std.specs.Prelude.{◌≡◌};
-ghost use Rattle.wh_host_model.specs.Faults.{swap_number};
+ghost use Rattle.wh_host_model.specs.SwapFaults.{swap_number};
 
 /// What a turn comes to.
 #[derive(Clone, Copy, Debug, PartialEq, Eq)]

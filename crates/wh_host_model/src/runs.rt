@@ -2,7 +2,7 @@
 
 ghost use Rattle.wh_host_model.specs.Host.Laws.{MemoryIsSound, PlacesAreRight, PromisesAreKept, InstancesReplay, ChargesAreWithin, JournalsAreInOrder, SuspensionsAreRight, FrameIsLacking, AgainIsReady, OneTurn};
 ghost use Rattle.wh_host_model.specs.Host.Stuck.{NoCallIsStuck};
-ghost use Rattle.wh_host_model.specs.Host.Taking.{ReadyStepsAreTaken};
+ghost use Rattle.wh_host_model.specs.Host.TakenSteps.{ReadyStepsAreTaken};
 ghost use Rattle.wh_host_model.specs.Host.Apart.{NoBytesReachAnother};
 ghost use Rattle.wh_host_model.specs.Host.Progress.{EventsHappen, LoadsAreTaken, AdmissionsAreTaken, CallsAreTaken, IdleTurnsHappen, FuelTurnsHappen, ReadyTurnsHappen};
 ghost use Rattle.wh_host_model.specs.Host.Misreading.{MemoryStaysSound, PlacesStayRight, ModulesStayAccepted, JournalsStayInOrder, InputsStay, FramesAreAwaited};

@@ -14,7 +14,7 @@ use Rattle.wh_model.specs.Linking.Imports.{value_of, ImportsItem, HasItem, Lacks
 use Rattle.wh_syntax.specs.View.{view_import}
 use Rattle.wh_syntax.specs.declared.module.Import.{Import as Given}
 use Rattle.wh_imports.specs.Resolving.{AreResolved, Adds}
-use Rattle.wh_imports.specs.Refusing.{RefusesLink}
+use Rattle.wh_imports.specs.LinkRefusals.{RefusesLink}
 use Rattle.wh_imports.specs.declared.error.LinkError.TheVariants.{NoItem}
 
 one_func_more : (types : List FuncType) (p : Parameters) (is : List Import) (fs : List FuncInst) (vs : List Value) (i : Import) (h : HostFunc) → Imported types p is fs vs → ImportsFunc types i h

@@ -1,4 +1,4 @@
-pub mod Refusing
+pub mod LinkRefusals
 pub mod Resolving
 pub mod LinkedState
 pub mod Typed

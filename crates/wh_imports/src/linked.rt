@@ -3,12 +3,12 @@
 ghost use Rattle.std.specs.Prelude.{◌≡◌, map, OnOk, IfOk, IfErr};
 ghost use Rattle.wh_model.specs.Linking.Imports.{Links};
 ghost use Rattle.wh_syntax.specs.View.{view_module};
-ghost use Rattle.wh_bodies.specs.Views.{view_side};
-ghost use Rattle.wh_validate.specs.Soundness.{IsChecked};
+ghost use Rattle.wh_bodies.specs.View.{view_side};
+ghost use Rattle.wh_validate.specs.CheckedBodies.{IsChecked};
 ghost use Rattle.wh_imports.specs.Records.{AreRecords};
 ghost use Rattle.wh_imports.specs.Resolving.{IsResolved, Adds};
 ghost use Rattle.wh_imports.specs.LinkedState.{LinkedState, stored_linked};
-ghost use Rattle.wh_imports.specs.Refusing.{RefusesLink};
+ghost use Rattle.wh_imports.specs.LinkRefusals.{RefusesLink};
 
 use crate::error::LinkError;
 use crate::items::item_of;

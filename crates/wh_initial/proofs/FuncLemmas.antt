@@ -7,8 +7,8 @@ use Rattle.wh_model.specs.Validity.Typing.{Context}
 use Rattle.wh_model.specs.Validity.Valid.{Name, HasFunc, imported_funcs, func_first}
 use Rattle.wh_model.specs.Execution.Store.{Value, FuncInst, own, written}
 use Rattle.wh_model.specs.Execution.Instance.{Parameters, Imported, Defined, Piece, filled}
-use Rattle.wh_bodies.specs.Table.{Table}
-use Rattle.wh_validate.specs.Soundness.{Checked}
+use Rattle.wh_bodies.specs.SideTables.{Table}
+use Rattle.wh_validate.specs.CheckedBodies.{Checked}
 
 -- ---- functions
 

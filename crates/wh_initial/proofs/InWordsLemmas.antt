@@ -7,7 +7,7 @@ use Rattle.wh_model.specs.Execution.Instance.{Parameters}
 use Rattle.wh_model.specs.declared.host.HostGlobal.{HostGlobal}
 use Rattle.wh_syntax.specs.declared.module.Module.{Module}
 use Rattle.wh_syntax.specs.declared.module.Global.{Global}
-use Rattle.wh_initial.specs.Words.{word_in, host_word}
+use Rattle.wh_initial.specs.ConstantWords.{word_in, host_word}
 use Rattle.wh_initial.specs.InWords.{words_of_globals, ElementsFit, SegmentsFit, AllFit, first_entries, first_pages}
 
 -- ---- one word

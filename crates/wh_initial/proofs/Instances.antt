@@ -12,9 +12,9 @@ use Rattle.wh_model.specs.Execution.Instance.{Parameters, Piece, Imported, Defin
 use Rattle.wh_model.proofs.Instance.{imported_same}
 use Rattle.wh_model.specs.Linking.Imports.{value_of}
 use Rattle.wh_syntax.specs.View.{view_module}
-use Rattle.wh_bodies.specs.Table.{Table, table_of}
-use Rattle.wh_bodies.specs.Views.{view_side, type_at}
-use Rattle.wh_validate.specs.Soundness.{Checked, IsChecked}
+use Rattle.wh_bodies.specs.SideTables.{Table, table_of}
+use Rattle.wh_bodies.specs.View.{view_side, type_at}
+use Rattle.wh_validate.specs.CheckedBodies.{Checked, IsChecked}
 use Rattle.wh_imports.specs.LinkedState.{LinkedState}
 use Rattle.wh_imports.specs.Resolving.{IsResolved}
 use Rattle.wh_control.specs.Represents.{Func, func_of, IsFunc}

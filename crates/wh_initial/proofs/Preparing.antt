@@ -13,14 +13,14 @@ use Rattle.wh_model.specs.Linking.Imports.{value_of}
 use Rattle.wh_control.specs.Represents.{bits_of, InRange}
 use Rattle.wh_syntax.specs.declared.module.Module.{Module}
 use Rattle.wh_syntax.specs.View.{view_module}
-use Rattle.wh_bodies.specs.Table.{Table}
+use Rattle.wh_bodies.specs.SideTables.{Table}
 use Rattle.wh_validate.proofs.Lists.{recursion_each}
-use Rattle.wh_validate.specs.Soundness.{IsChecked}
+use Rattle.wh_validate.specs.CheckedBodies.{IsChecked}
 use Rattle.wh_imports.specs.Resolving.{IsResolved}
 use Rattle.wh_initial.specs.declared.outcome.Instantiated.{Instantiated}
 use Rattle.wh_initial.specs.declared.error.InstantiateError.{InstantiateError}
 use Rattle.wh_initial.specs.declared.error.InstantiateError.TheVariants.{MemoryMin, SegmentBounds, Memory}
-use Rattle.wh_initial.specs.Words.{word_in, IsSeen, IsOffset, element_piece, data_piece}
+use Rattle.wh_initial.specs.ConstantWords.{word_in, IsSeen, IsOffset, element_piece, data_piece}
 use Rattle.wh_initial.specs.InWords.{AllFit, words_of_globals, first_entries, first_pages, IsPrepared, BeginsInWords, RefusesInWords}
 use Rattle.wh_initial.specs.Begins.{first_store, RepresentsFirstStore, Instantiates, RefusesInstance}
 use Rattle.wh_initial.proofs.ValueLemmas.{AreTyped, HasValue, imported_types, hosts_in_range, host_words, own_value, AreValued, are_valued, own_begun, own_in_range, own_types, own_words}
@@ -136,8 +136,8 @@ module _ (m : Module) (imported : List HostGlobal) (hosts : List HostFunc) (tabl
   all_in es ss = (within_all (element_piece (words_of_globals m imported p)) (first_entries m) m.elements.items es, within_all (data_piece (words_of_globals m imported p)) (first_pages m * 65536) m.segments.items ss)
 
   module _ (i : Instantiated) (b : BeginsInWords m imported p i) where
-    stands_for : RepresentsFirstStore (view_module m) inst (first_store (view_module m) p values elements) i
-    stands_for c context = record {
+    represents : RepresentsFirstStore (view_module m) inst (first_store (view_module m) p values elements) i
+    represents c context = record {
       bytes = ap (λ n. replicate (n * 65536) 0) (sym b.pages);
       limit = b.page_limit;
       globals = words ∙ sym b.globals;
@@ -171,7 +171,7 @@ module _ (m : Module) (imported : List HostGlobal) (hosts : List HostFunc) (tabl
       room = b.room;
       places = places_mapped (words_of_globals m imported p) m.segments.items ∙ sym b.places;
       bytes = bytes_mapped (words_of_globals m imported p) m.segments.items;
-      stands_for = stands_for;
+      represents = represents;
     }
 
   refuses : (e : InstantiateError) → RefusesInWords m imported p e → RefusesInstance (view_module m) p e

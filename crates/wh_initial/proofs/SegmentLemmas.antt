@@ -13,7 +13,7 @@ use Rattle.wh_syntax.specs.declared.module.Element.{Element}
 use Rattle.wh_syntax.specs.declared.module.Data.{Data}
 use Rattle.wh_syntax.specs.View.{view_element, view_data}
 use Rattle.wh_validate.proofs.Lists.{recursion_each}
-use Rattle.wh_initial.specs.Words.{word_in, IsSeen, IsOffset, element_piece, data_piece}
+use Rattle.wh_initial.specs.ConstantWords.{word_in, IsSeen, IsOffset, element_piece, data_piece}
 use Rattle.wh_initial.proofs.ValueLemmas.{AreTyped, HasValue, has_value}
 use Rattle.wh_initial.proofs.FuncLemmas.{funcs_below}
 

@@ -18,7 +18,7 @@ use Rattle.wh_model.specs.Linking.Imports.{value_of}
 use Rattle.wh_control.specs.Represents.{bits_of, InRange}
 use Rattle.wh_syntax.specs.declared.module.Global.{Global}
 use Rattle.wh_syntax.specs.View.{view_global}
-use Rattle.wh_initial.specs.Words.{word_in, IsSeen, host_word}
+use Rattle.wh_initial.specs.ConstantWords.{word_in, IsSeen, host_word}
 
 -- ---- constant expressions
 

@@ -5,7 +5,7 @@ use Rattle.wh_model.specs.Format.Syntax.{Op, i32_const, i64_const, global_get, C
 use Rattle.wh_syntax.specs.declared.instr.Instr.{Instr}
 use Rattle.wh_syntax.specs.declared.instr.Instr.TheVariants.{I32Const, I64Const, GlobalGet}
 use Rattle.wh_syntax.specs.Shown.{instr_of}
-use Rattle.wh_initial.specs.Words.{word_in, IsSeen, HasWord, word_at}
+use Rattle.wh_initial.specs.ConstantWords.{word_in, IsSeen, HasWord, word_at}
 
 first_instr : (labels : List ℕ) (instrs : List Instr) (d : Instr) (e : Code) (op : Op) → map (instr_of labels) instrs ≡ expression e → e ≡ plain op nothing → instr_of labels (get_or instrs 0 d) ≡ single op
 first_instr labels [] d e op h same = let k : [] ≡ single op ∷ end_mark ∷ [] = h ∙ ap expression same in absurd (cc k)

@@ -48,9 +48,9 @@ pub record Instantiates (m : Module) (p : Parameters) (i : Instantiated) : Type 
   pub room : output_room ≤ vec_capacity i.store.output
   pub places : map (λ s. s.at) segments ≡ i.places.items
   pub bytes : map (λ s. s.items) segments ≡ map (λ d. d.init) m.segments
-  pub stands_for : RepresentsFirstStore m inst (first_store m p globals elements) i
+  pub represents : RepresentsFirstStore m inst (first_store m p globals elements) i
 
--- Why there is none. Memory is wanted only where the definition has an instance, so no other fault is there.
+-- Why there is none. Memory runs out only where the definition has an instance, so no other fault is there.
 abbrev pub RefusesInstance : Module → Parameters → InstantiateError → Type 0
 RefusesInstance m p MemoryMin = IsInitial m p memory_min
 RefusesInstance m p SegmentBounds = IsInitial m p segment_bounds

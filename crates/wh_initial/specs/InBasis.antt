@@ -3,7 +3,7 @@ use Rattle.std.specs.Prelude.{ℕ, List, map}
 use Rattle.wh_initial.specs.declared.basis.Basis.{Basis}
 use Rattle.wh_initial.specs.declared.error.InstantiateError.{InstantiateError}
 use Rattle.wh_initial.specs.Given.{view_parameters}
-use Rattle.wh_initial.specs.Words.{host_word}
+use Rattle.wh_initial.specs.ConstantWords.{host_word}
 use Rattle.wh_initial.specs.InWords.{words_of_globals, IsPrepared, IsBounded, RefusesInWords}
 
 -- of the imported ones

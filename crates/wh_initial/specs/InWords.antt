@@ -12,7 +12,7 @@ use Rattle.wh_syntax.specs.View.{view_table, view_limits}
 use Rattle.wh_initial.specs.declared.outcome.Instantiated.{Instantiated}
 use Rattle.wh_initial.specs.declared.error.InstantiateError.{InstantiateError}
 use Rattle.wh_initial.specs.declared.error.InstantiateError.TheVariants.{MemoryMin, SegmentBounds, Memory}
-use Rattle.wh_initial.specs.Words.{word_in, IsSeen, IsOffset, global_words, element_piece}
+use Rattle.wh_initial.specs.ConstantWords.{word_in, IsSeen, IsOffset, global_words, element_piece}
 
 -- the words of a module's globals
 unfoldable pub words_of_globals : Module → List HostGlobal → Parameters → List ℕ
@@ -61,7 +61,7 @@ pub record BeginsInWords (m : Module) (imported : List HostGlobal) (p : Paramete
   pub room : output_room ≤ vec_capacity i.store.output
   pub places : i.places.items ≡ map (λ s. word_in (words_of_globals m imported p) s.offset) m.segments.items
 
--- why nothing is; memory is wanted only where nothing else stands in the way
+-- why nothing is; memory runs out only where nothing else stands in the way
 abbrev pub RefusesInWords : Module → List HostGlobal → Parameters → InstantiateError → Type 0
 RefusesInWords m imported p MemoryMin = p.page_limit < first_pages m
 RefusesInWords m imported p SegmentBounds =

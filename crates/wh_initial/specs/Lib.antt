@@ -1,6 +1,6 @@
 pub mod Given
-pub mod Words
-pub mod Constants
+pub mod ConstantWords
+pub mod ConstantExpressions
 pub mod InWords
 pub mod InBasis
 pub mod Begins

@@ -1,8 +1,8 @@
 //! The values of constant expressions (3.3.7, 4.5.3): each is found by two look-ups at most, with no memory taken.
 
 ghost use Rattle.std.specs.Prelude.{◌≡◌, ◌<◌, ℕ, length, slice_index};
-ghost use Rattle.wh_initial.specs.Words.{IsSeen, word_in, HasWord, IsOffset};
-ghost use Rattle.wh_initial.specs.Constants.{IsConstantOf, IsReadAs};
+ghost use Rattle.wh_initial.specs.ConstantWords.{IsSeen, word_in, HasWord, IsOffset};
+ghost use Rattle.wh_initial.specs.ConstantExpressions.{IsConstantOf, IsReadAs};
 ghost use Rattle.wh_initial.specs.InBasis.{host_words_in, words_of_basis, HasWords};
 
 use crate::basis::Basis;

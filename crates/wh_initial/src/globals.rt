@@ -2,7 +2,7 @@
 
 ghost use Rattle.std.specs.Prelude.{◌≡◌, ◌++◌, map, length, OnOk, IfOk, IfErr};
 ghost use Rattle.std.specs.List.{All};
-ghost use Rattle.wh_initial.specs.Words.{IsSeen, word_in};
+ghost use Rattle.wh_initial.specs.ConstantWords.{IsSeen, word_in};
 ghost use Rattle.wh_initial.specs.InBasis.{host_words_in, words_of_basis, HasWords};
 
 use crate::basis::Basis;

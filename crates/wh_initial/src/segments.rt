@@ -1,7 +1,7 @@
 //! Where segments belong (2.5.7, 2.5.8, 4.5.4).
 
 ghost use Rattle.std.specs.Prelude.{◌≡◌, ◌↔◌, ◌+◌, ◌≤◌, IsTrue, map, IfOk, IfErr};
-ghost use Rattle.wh_initial.specs.Words.{word_in};
+ghost use Rattle.wh_initial.specs.ConstantWords.{word_in};
 ghost use Rattle.wh_initial.specs.InWords.{ElementsFit, SegmentsFit};
 ghost use Rattle.wh_initial.specs.InBasis.{words_of_basis, HasWords};
 

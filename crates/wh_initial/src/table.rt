@@ -3,7 +3,7 @@
 ghost use Rattle.std.specs.Prelude.{◌≡◌, ◌+◌, ◌≤◌, None, Some, map, replicate, length, IfOk, IfErr};
 ghost use Rattle.wh_model.specs.Execution.Store.{written};
 ghost use Rattle.wh_model.specs.Execution.Instance.{filled};
-ghost use Rattle.wh_initial.specs.Words.{element_piece};
+ghost use Rattle.wh_initial.specs.ConstantWords.{element_piece};
 ghost use Rattle.wh_initial.specs.InWords.{ElementsFit};
 ghost use Rattle.wh_initial.specs.InBasis.{words_of_basis, HasWords};
 

@@ -9,22 +9,22 @@ use Rattle.wh_model.specs.Execution.Replay.{Call}
 use Rattle.wh_host_model.specs.Host.Worlds.{Rest, Doing, resting, has_left, computing, Tenant}
 use Rattle.wh_host_model.specs.Owners.{Entry}
 use Rattle.wh_host_model.specs.Host.Turns.{Opens, by_invocation, as_it_was, Upshot, Proceeds, returns, traps, writes_all, uses_fuel, waits, waits_to_write, has_had_its_turn}
-use Rattle.wh_host_model.specs.Host.Answers.{gone_further}
+use Rattle.wh_host_model.specs.Host.CallAnswers.{gone_further}
 use Rattle.wh_control.specs.Represents.{bits_of}
 use Rattle.wh_journal.specs.Calls.{JournalCallState, JournalState, HasPresent, CanGoFurther}
-use Rattle.wh_machine.specs.States.{CallState, Setting}
-use Rattle.wh_instance.specs.declared.computing.Came.{Came}
-use Rattle.wh_instance.specs.declared.stages.Progress.TheVariants.{Writing, Faced, UnderWay}
+use Rattle.wh_machine.specs.CallStates.{CallState, Setting}
+use Rattle.wh_instance.specs.declared.computing.TurnOutcome.{TurnOutcome}
+use Rattle.wh_instance.specs.declared.stages.CallStage.TheVariants.{Writing, Faced, UnderWay}
 use Rattle.wh_instance.specs.Pieces.{pieces_left}
 use Rattle.wh_instance.specs.Turned.{IsStarting, IsFaced, IsComputing, IsThere, Turns}
-use Rattle.wh_instance.specs.Tenancy.{TenantState, state_over, RepresentsCall, RepresentsEach, IsCounted, IsWhere, writes, is_faced, is_under_way, RepresentsTenant}
+use Rattle.wh_instance.specs.Tenancy.{HostInstanceState, state_over, RepresentsCall, RepresentsEach, IsCounted, IsWhere, writes, is_faced, is_under_way, RepresentsTenant}
 use Rattle.wh_instance.specs.Advancing.{HasOpenCall, AdvancesTenant}
 use Rattle.wh_instance.proofs.Closing.{first_of_each}
 
 -- ---- an open call
 
 -- the present call, as the code has it
-pub record Opened {M : Type 0} (w : Setting M) (x : TenantState) (m : M) (t : Tenant) (e : Entry) (es : List Entry) : Type 0 where
+pub record Opened {M : Type 0} (w : Setting M) (x : HostInstanceState) (m : M) (t : Tenant) (e : Entry) (es : List Entry) : Type 0 where
   pub c : JournalCallState
   pub cs : List JournalCallState
   pub at : x.journal.open_calls ≡ c ∷ cs
@@ -32,7 +32,7 @@ pub record Opened {M : Type 0} (w : Setting M) (x : TenantState) (m : M) (t : Te
   pub others : RepresentsEach cs es
   pub counted : IsCounted e
 
-pub opened : {M : Type 0} (w : Setting M) (x : TenantState) (m : M) (t : Tenant) (e : Entry) (es : List Entry) → t.open_calls ≡ e ∷ es → RepresentsTenant w x m t → Opened w x m t e es
+pub opened : {M : Type 0} (w : Setting M) (x : HostInstanceState) (m : M) (t : Tenant) (e : Entry) (es : List Entry) → t.open_calls ≡ e ∷ es → RepresentsTenant w x m t → Opened w x m t e es
 opened w x m t e es is_open rep =
     let f = first_of_each x.journal.open_calls e es (subst (RepresentsEach x.journal.open_calls) is_open rep.open_calls) in
     let all = subst (AllByRecursion IsCounted) is_open rep.counted in
@@ -43,7 +43,7 @@ some_first [] some = absurd (some refl)
 some_first (e ∷ rest) some = (e, rest, refl)
 
 -- an instance with an open call, and this call
-pub record Present {M : Type 0} (w : Setting M) (x : TenantState) (m : M) : Type 0 where
+pub record Present {M : Type 0} (w : Setting M) (x : HostInstanceState) (m : M) : Type 0 where
   pub t : Tenant
   pub e : Entry
   pub es : List Entry
@@ -51,25 +51,25 @@ pub record Present {M : Type 0} (w : Setting M) (x : TenantState) (m : M) : Type
   pub represents : RepresentsTenant w x m t
   pub opened : Opened w x m t e es
 
-pub present : {M : Type 0} (w : Setting M) (x : TenantState) (m : M) → HasOpenCall w x m → Present w x m
+pub present : {M : Type 0} (w : Setting M) (x : HostInstanceState) (m : M) → HasOpenCall w x m → Present w x m
 present w x m (t, some, rep) = let f = some_first t.open_calls some in record { t = t; e = f.0; es = f.1; is_open = f.2; represents = rep; opened = opened w x m t f.0 f.1 f.2 rep }
 
-pub has_present : {M : Type 0} (w : Setting M) (x : TenantState) (m : M) → HasOpenCall w x m → HasPresent x.journal.open_calls
+pub has_present : {M : Type 0} (w : Setting M) (x : HostInstanceState) (m : M) → HasOpenCall w x m → HasPresent x.journal.open_calls
 has_present w x m h = let p = present w x m h in let o = p.opened in (o.c, o.cs, o.at)
 
 -- ---- where it is
 
-pub is_computing : {M : Type 0} (w : Setting M) (x : TenantState) (m : M) (inst : Instance) (r : Rest) (d : Doing) (e : Entry) (es : List Entry) → x.progress ≡ UnderWay → IsWhere w x m inst r d (e ∷ es) → (term : Term) × (d ≡ computing term) × IsComputing w (state_over x m) inst e.call r term × (e.call.charges ≤ e.call.fuel)
+pub is_computing : {M : Type 0} (w : Setting M) (x : HostInstanceState) (m : M) (inst : Instance) (r : Rest) (d : Doing) (e : Entry) (es : List Entry) → x.progress ≡ UnderWay → IsWhere w x m inst r d (e ∷ es) → (term : Term) × (d ≡ computing term) × IsComputing w (state_over x m) inst e.call r term × (e.call.charges ≤ e.call.fuel)
 is_computing w x m inst r d e es at (writes is some func st left few) = absurd (cc (sym at ∙ is))
 is_computing w x m inst r d e es at (is_faced is st) = absurd (cc (sym at ∙ is))
 is_computing w x m inst r d e es at (is_under_way {term = term} is st within) = (term, refl, st, within)
 
-pub is_facing : {M : Type 0} (w : Setting M) (x : TenantState) (m : M) (inst : Instance) (r : Rest) (d : Doing) (e : Entry) (es : List Entry) → x.progress ≡ Faced → IsWhere w x m inst r d (e ∷ es) → (func : ℕ) × (term : Term) × (d ≡ computing term) × IsFaced w (state_over x m) inst e.call r func (map bits_of e.call.args) term
+pub is_facing : {M : Type 0} (w : Setting M) (x : HostInstanceState) (m : M) (inst : Instance) (r : Rest) (d : Doing) (e : Entry) (es : List Entry) → x.progress ≡ Faced → IsWhere w x m inst r d (e ∷ es) → (func : ℕ) × (term : Term) × (d ≡ computing term) × IsFaced w (state_over x m) inst e.call r func (map bits_of e.call.args) term
 is_facing w x m inst r d e es at (writes is some func st left few) = absurd (cc (sym at ∙ is))
 is_facing w x m inst r d e es at (is_faced {func = func} {term = term} is st) = (func, term, refl, st)
 is_facing w x m inst r d e es at (is_under_way is st within) = absurd (cc (sym at ∙ is))
 
-pub record IsWriting {M : Type 0} (w : Setting M) (x : TenantState) (m : M) (inst : Instance) (r : Rest) (d : Doing) (e : Entry) : Type 0 where
+pub record IsWriting {M : Type 0} (w : Setting M) (x : HostInstanceState) (m : M) (inst : Instance) (r : Rest) (d : Doing) (e : Entry) : Type 0 where
   pub ps : List Piece
   pub doing : d ≡ has_left ps
   pub func : e.call.func ≡ w.program.decoded.start
@@ -77,7 +77,7 @@ pub record IsWriting {M : Type 0} (w : Setting M) (x : TenantState) (m : M) (ins
   pub left : ps ≡ pieces_left w.program.decoded.segments.items x.places x.cursor
   pub few : e.call.fragments + length ps < 2 ^ 64
 
-pub is_writing : {M : Type 0} (w : Setting M) (x : TenantState) (m : M) (inst : Instance) (r : Rest) (d : Doing) (e : Entry) (es : List Entry) → x.progress ≡ Writing → IsWhere w x m inst r d (e ∷ es) → IsWriting w x m inst r d e
+pub is_writing : {M : Type 0} (w : Setting M) (x : HostInstanceState) (m : M) (inst : Instance) (r : Rest) (d : Doing) (e : Entry) (es : List Entry) → x.progress ≡ Writing → IsWhere w x m inst r d (e ∷ es) → IsWriting w x m inst r d e
 is_writing w x m inst r d e es at (writes {ps = ps} is some func st left few) = record { ps = ps; doing = refl; func = func; starting = st; left = left; few = few }
 is_writing w x m inst r d e es at (is_faced is st) = absurd (cc (sym at ∙ is))
 is_writing w x m inst r d e es at (is_under_way is st within) = absurd (cc (sym at ∙ is))
@@ -87,7 +87,7 @@ pub faced_as : {M : Type 0} {w : Setting M} {state : CallState M} {inst : Instan
 faced_as st same_func same_args = record { store = st.store; invocation = st.invocation; calls = st.calls ∙ same_func; words = st.words ∙ same_args; no_charges = st.no_charges }
 
 -- and of the pieces
-pub starting_as : {M : Type 0} (w : Setting M) (x : TenantState) (m : M) (inst : Instance) (e : Entry) (r : Rest) (ps qs : List Piece) → IsStarting w (state_over x m) inst e.call r ps → ps ≡ qs → IsStarting w (state_over x m) inst e.call r qs
+pub starting_as : {M : Type 0} (w : Setting M) (x : HostInstanceState) (m : M) (inst : Instance) (e : Entry) (r : Rest) (ps qs : List Piece) → IsStarting w (state_over x m) inst e.call r ps → ps ≡ qs → IsStarting w (state_over x m) inst e.call r qs
 starting_as w x m inst e r ps qs st same = subst (IsStarting w (state_over x m) inst e.call r) same st
 
 -- ---- how much is done in a turn
@@ -124,14 +124,14 @@ charges_within within (has_had_its_turn c b d f g) = c.in_fuel
 -- ---- where it is afterwards
 
 -- a call that goes on is of the same function, and is given as much
-computing_on : {M : Type 0} (w : Setting M) (x : TenantState) (m : M) (inst : Instance) (e : Entry) (r : Rest) (k n : ℕ) (term : Term) → IsComputing w (state_over x m) inst e.call r term → IsComputing w (state_over x m) inst (gone_further e k n).call r term
+computing_on : {M : Type 0} (w : Setting M) (x : HostInstanceState) (m : M) (inst : Instance) (e : Entry) (r : Rest) (k n : ℕ) (term : Term) → IsComputing w (state_over x m) inst e.call r term → IsComputing w (state_over x m) inst (gone_further e k n).call r term
 computing_on w x m inst e r k n term s = record { index = s.index; type = s.type; body = s.body; calls = s.calls; is_own = s.is_own; stands = s.stands; runs = s.runs; settled_in = s.settled_in; settled = s.settled }
 
-starting_on : {M : Type 0} (w : Setting M) (x : TenantState) (m : M) (inst : Instance) (e : Entry) (r : Rest) (k : ℕ) (ps : List Piece) → IsStarting w (state_over x m) inst e.call r ps → IsStarting w (state_over x m) inst (gone_further e k 0).call r ps
+starting_on : {M : Type 0} (w : Setting M) (x : HostInstanceState) (m : M) (inst : Instance) (e : Entry) (r : Rest) (k : ℕ) (ps : List Piece) → IsStarting w (state_over x m) inst e.call r ps → IsStarting w (state_over x m) inst (gone_further e k 0).call r ps
 starting_on w x m inst e r k ps s = let none = s.no_charges in record { store = s.store; within = s.within; in_pages = s.in_pages; few = s.few; no_args = s.no_args; no_charges = omega (arith, none); calls_own = s.calls_own }
 
 -- what is known of the turn's beginning, and of what it left of the code's instance
-pub record Around {M : Type 0} (w : Setting M) (d : Doing) (e : Entry) (x2 : TenantState) (left : List Piece) : Type 0 where
+pub record Around {M : Type 0} (w : Setting M) (d : Doing) (e : Entry) (x2 : HostInstanceState) (left : List Piece) : Type 0 where
   pub started : (ps : List Piece) → d ≡ has_left ps → (e.call.func ≡ w.program.decoded.start) × (e.call.fragments + length ps < 2 ^ 64)
   pub counted : e.call.fragments < 2 ^ 64
   pub within : e.call.charges ≤ e.call.fuel
@@ -139,7 +139,7 @@ pub record Around {M : Type 0} (w : Setting M) (d : Doing) (e : Entry) (x2 : Ten
   pub at_piece : left ≢ [] → (x2.progress ≡ Writing) × (left ≡ pieces_left w.program.decoded.segments.items x2.places x2.cursor)
   pub begun : x2.progress ≢ Faced
 
-there : {M : Type 0} (w : Setting M) (inst : Instance) (q : ℕ) (m m2 : M) (r r2 : Rest) (d d2 : Doing) (e : Entry) (es : List Entry) (k n : ℕ) (x2 : TenantState) (left : List Piece) (to : Upshot) → Proceeds w.bytes w.ready w.keeps inst q e.call m r d to k n m2 r2 d2 → IsThere w (state_over x2 m2) inst e.call r2 left d2 → Around w d e x2 left → d2 ≢ resting → IsWhere w x2 m2 inst r2 d2 (gone_further e k n ∷ es)
+there : {M : Type 0} (w : Setting M) (inst : Instance) (q : ℕ) (m m2 : M) (r r2 : Rest) (d d2 : Doing) (e : Entry) (es : List Entry) (k n : ℕ) (x2 : HostInstanceState) (left : List Piece) (to : Upshot) → Proceeds w.bytes w.ready w.keeps inst q e.call m r d to k n m2 r2 d2 → IsThere w (state_over x2 m2) inst e.call r2 left d2 → Around w d e x2 left → d2 ≢ resting → IsWhere w x2 m2 inst r2 d2 (gone_further e k n ∷ es)
 there w inst q m m2 r r2 d d2 e es k n x2 left to (returns c h) is a on = absurd (on refl)
 there w inst q m m2 r r2 d d2 e es k n x2 left to (traps c) is a on = absurd (on refl)
 there w inst q m m2 r r2 d d2 e es k n x2 left to (writes_all f b c) is a on = absurd (on refl)
@@ -159,7 +159,7 @@ few_of resting e k more counted few = let none = more 0 (λ ps is. absurd (cc is
 few_of (computing term) e k more counted few = let none = more 0 (λ ps is. absurd (cc is)) in omega (arith, none, counted)
 few_of (has_left ps) e k more counted few = let all = more (length ps) (λ other is. let same : ps ≡ other = cc is in subst (λ z. length z ≤ length ps) same (omega arith)) in let le = few ps refl in omega (arith, all, le)
 
-pub advanced : {M : Type 0} (w : Setting M) (q : ℕ) (x2 : TenantState) (m m2 : M) (t : Tenant) (e : Entry) (es : List Entry) (answer : Came) (k n : ℕ) (left : List Piece) (d : Doing) → t.doing ≡ d → Turns w t.inst q e.call m t.rest d answer k n (state_over x2 m2) left → Around w d e x2 left → AdvancesTenant w q m t e es answer k n x2 m2
+pub advanced : {M : Type 0} (w : Setting M) (q : ℕ) (x2 : HostInstanceState) (m m2 : M) (t : Tenant) (e : Entry) (es : List Entry) (answer : TurnOutcome) (k n : ℕ) (left : List Piece) (d : Doing) → t.doing ≡ d → Turns w t.inst q e.call m t.rest d answer k n (state_over x2 m2) left → Around w d e x2 left → AdvancesTenant w q m t e es answer k n x2 m2
 unfolding PiecesWithin
 advanced w q x2 m m2 t e es answer k n left d same turns a =
     let more = pieces_within turns.proceeds in
@@ -178,7 +178,7 @@ advanced w q x2 m m2 t e es answer k n left d same turns a =
 
 -- ---- the code's counts
 
-pub can_go_further : {M : Type 0} (w : Setting M) (q : ℕ) (x x2 : TenantState) (m m2 : M) (t : Tenant) (e : Entry) (es : List Entry) (answer : Came) (k n : ℕ) → Opened w x m t e es → AdvancesTenant w q m t e es answer k n x2 m2 → x2.journal ≡ x.journal → CanGoFurther x2.journal.open_calls k n
+pub can_go_further : {M : Type 0} (w : Setting M) (q : ℕ) (x x2 : HostInstanceState) (m m2 : M) (t : Tenant) (e : Entry) (es : List Entry) (answer : TurnOutcome) (k n : ℕ) → Opened w x m t e es → AdvancesTenant w q m t e es answer k n x2 m2 → x2.journal ≡ x.journal → CanGoFurther x2.journal.open_calls k n
 can_go_further w q x x2 m m2 t e es answer k n o a same =
     let f = o.first in
     let pieces = f.pieces in

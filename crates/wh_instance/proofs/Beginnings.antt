@@ -18,10 +18,10 @@ use Rattle.wh_control.specs.Parts.{ProgramParts}
 use Rattle.wh_control.specs.declared.store.Store as code_store
 use Rattle.wh_machine.specs.declared.machine.Machine.{Machine}
 use Rattle.wh_machine.specs.Opening.{IsOwnCall, CanBegin, BeginsCall}
-use Rattle.wh_machine.specs.Runs.{RepresentsInstance, IsSettledIn}
-use Rattle.wh_machine.specs.States.{CallState, Setting, HasConfiguration, call_state}
-use Rattle.wh_instance.specs.declared.computing.Came.{Came}
-use Rattle.wh_instance.specs.declared.computing.Came.TheVariants as came
+use Rattle.wh_machine.specs.MachineRuns.{RepresentsInstance, IsSettledIn}
+use Rattle.wh_machine.specs.CallStates.{CallState, Setting, HasConfiguration, call_state}
+use Rattle.wh_instance.specs.declared.computing.TurnOutcome.{TurnOutcome}
+use Rattle.wh_instance.specs.declared.computing.TurnOutcome.TheVariants as came
 use Rattle.wh_instance.specs.Pieces.{HasWritten, NextWaits}
 use Rattle.wh_instance.specs.Computed.{ComputesWithin}
 use Rattle.wh_instance.specs.Turned.{HasRest, IsStarting, IsFaced, IsComputing, Turns}
@@ -123,7 +123,7 @@ ends_now w inst q call r before m2 ps left n lacking st written waits none no_fu
     }
 
 -- all pieces are written, and its function is begun and computes
-pub started_now : {M : Type 0} (w : Setting M) (inst : Instance) (q : ℕ) (call : Call) (r : Rest) (before after : CallState M) (machine : Machine) (m2 : M) (ps left : List Piece) (n charges func : ℕ) (answer : Came) (lacking : Option Need) → IsStarting w before inst call r ps → HasWritten w.bytes w.ready w.keeps ps before.memory n left m2 → NextWaits (w.ready m2) left lacking → lacking ≡ None → call.func ≡ Some func
+pub started_now : {M : Type 0} (w : Setting M) (inst : Instance) (q : ℕ) (call : Call) (r : Rest) (before after : CallState M) (machine : Machine) (m2 : M) (ps left : List Piece) (n charges func : ℕ) (answer : TurnOutcome) (lacking : Option Need) → IsStarting w before inst call r ps → HasWritten w.bytes w.ready w.keeps ps before.memory n left m2 → NextWaits (w.ready m2) left lacking → lacking ≡ None → call.func ≡ Some func
     → BeginsCall w.program func [] machine → ComputesWithin w (call_state machine before.store m2) q call.fuel answer charges after → Turns w inst q call before.memory r (has_left ps) answer n charges after left
 started_now w inst q call r before after machine m2 ps left n charges func answer lacking st written waits none some begun computes =
     let (type, body, suits) = st.calls_own func some in
@@ -161,7 +161,7 @@ own_call w before inst call r func args t f =
     let same = same_index (sym i.calls ∙ f.calls) in
     record { is_own = subst (λ x. slice_get inst.funcs x ≡ Some (own i.type i.body)) same i.is_own; types = i.types; fit = i.fit; words = f.words }
 
-pub first_now : {M : Type 0} (w : Setting M) (inst : Instance) (q : ℕ) (call : Call) (r : Rest) (before after : CallState M) (machine : Machine) (func : ℕ) (args : List ℕ) (t : Term) (charges : ℕ) (answer : Came) → IsFaced w before inst call r func args t → BeginsCall w.program func args machine
+pub first_now : {M : Type 0} (w : Setting M) (inst : Instance) (q : ℕ) (call : Call) (r : Rest) (before after : CallState M) (machine : Machine) (func : ℕ) (args : List ℕ) (t : Term) (charges : ℕ) (answer : TurnOutcome) → IsFaced w before inst call r func args t → BeginsCall w.program func args machine
     → ComputesWithin w (call_state machine before.store before.memory) q call.fuel answer charges after → Turns w inst q call before.memory r (computing t) answer 0 charges after []
 first_now w inst q call r before after machine func args t charges answer f begun computes =
     let i = f.invocation in
@@ -175,7 +175,7 @@ first_now w inst q call r before after machine func args t charges answer f begu
 
 -- ---- a call that is under way
 
-pub on_now : {M : Type 0} (w : Setting M) (inst : Instance) (q left : ℕ) (call : Call) (r : Rest) (before after : CallState M) (t : Term) (charges : ℕ) (answer : Came) → IsComputing w before inst call r t → call.charges + left ≡ call.fuel → ComputesWithin w before q left answer charges after → Turns w inst q call before.memory r (computing t) answer 0 charges after []
+pub on_now : {M : Type 0} (w : Setting M) (inst : Instance) (q left : ℕ) (call : Call) (r : Rest) (before after : CallState M) (t : Term) (charges : ℕ) (answer : TurnOutcome) → IsComputing w before inst call r t → call.charges + left ≡ call.fuel → ComputesWithin w before q left answer charges after → Turns w inst q call before.memory r (computing t) answer 0 charges after []
 on_now w inst q left call r before after t charges answer k within computes =
     let c : Config = config (store_with (w.bytes before.memory) r) [] t in
     let came = computes (result_of k.type) inst c k.stands in

@@ -8,14 +8,14 @@ use Rattle.wh_model.specs.Execution.Replay.{Outcome, returned, stopped, cancelle
 use Rattle.wh_host_model.specs.Space.Parts.{Space, view}
 use Rattle.wh_host_model.specs.Host.Worlds.{Rest, Doing, resting, computing, Tenant, store_with}
 use Rattle.wh_host_model.specs.Owners.{Entry}
-use Rattle.wh_host_model.specs.Host.Answers.{ended_by, gone_further, Faces, dies, Closes, faces_next, is_dead}
+use Rattle.wh_host_model.specs.Host.CallAnswers.{ended_by, gone_further, Faces, dies, Closes, faces_next, is_dead}
 use Rattle.wh_journal.specs.Calls.{JournalCallState, with_progress, with_end}
 use Rattle.wh_journal.specs.declared.calls.CallEnd.{CallEnd}
 use Rattle.wh_journal.specs.declared.calls.CallEnd.TheVariants as end
-use Rattle.wh_machine.specs.States.{Setting}
-use Rattle.wh_instance.specs.declared.stages.Progress.TheVariants.{Faced}
+use Rattle.wh_machine.specs.CallStates.{Setting}
+use Rattle.wh_instance.specs.declared.stages.CallStage.TheVariants.{Faced}
 use Rattle.wh_instance.specs.Turned.{HasRest}
-use Rattle.wh_instance.specs.Tenancy.{TenantState, state_over, IsCallEnd, RepresentsCall, RepresentsEach, MayBegin, IsCounted, behind_first, IsWhere, rests, is_faced, RepresentsTenant}
+use Rattle.wh_instance.specs.Tenancy.{HostInstanceState, state_over, IsCallEnd, RepresentsCall, RepresentsEach, MayBegin, IsCounted, behind_first, IsWhere, rests, is_faced, RepresentsTenant}
 use Rattle.wh_instance.specs.Settling.{has_failed, is_fatal, closed}
 
 -- ---- calls
@@ -98,7 +98,7 @@ pub waits_behind : (inst : Instance) (es : List Entry) → AllByRecursion (MayBe
 waits_behind inst [] all = tt
 waits_behind inst (e ∷ es) all = all.1
 
-pub is_where_next : {M : Type 0} (w : Setting M) (x : TenantState) (m : M) (inst : Instance) (r : Rest) (es : List Entry) (all : AllByRecursion (MayBegin inst) es) → x.progress ≡ Faced → HasRest w (state_over x m) inst r → IsWhere w x m inst r (faced_doing inst es all) es
+pub is_where_next : {M : Type 0} (w : Setting M) (x : HostInstanceState) (m : M) (inst : Instance) (r : Rest) (es : List Entry) (all : AllByRecursion (MayBegin inst) es) → x.progress ≡ Faced → HasRest w (state_over x m) inst r → IsWhere w x m inst r (faced_doing inst es all) es
 is_where_next w x m inst r [] all at store = rests at
 is_where_next w x m inst r (e ∷ es) all at store =
     let b = all.0 in
@@ -108,7 +108,7 @@ is_where_next w x m inst r (e ∷ es) all at store =
 -- ---- the end of a call
 
 -- what is said of a call that has ended so, and of those behind it
-pub record Ending {M : Type 0} (w : Setting M) (x : TenantState) (m : M) (t : Tenant) (r : Rest) (c : JournalCallState) (cs : List JournalCallState) (e : Entry) (es : List Entry) (how : CallEnd) (o : Outcome) : Type 0 where
+pub record Ending {M : Type 0} (w : Setting M) (x : HostInstanceState) (m : M) (t : Tenant) (r : Rest) (c : JournalCallState) (cs : List JournalCallState) (e : Entry) (es : List Entry) (how : CallEnd) (o : Outcome) : Type 0 where
   pub store : HasRest w (state_over x m) t.inst r
   pub ended : RepresentsEach x.journal.ended t.ended
   pub first : RepresentsCall c e
@@ -118,14 +118,14 @@ pub record Ending {M : Type 0} (w : Setting M) (x : TenantState) (m : M) (t : Te
   pub is_end : IsCallEnd how o
   pub dead : x.dead ≡ t.dead
 
-abbrev pub Leaves : {M : Type 0} (w : Setting M) (x2 : TenantState) (m : M) (t : Tenant) (r : Rest) (e : Entry) (es : List Entry) (o : Outcome) (s : Space) → Type 0
+abbrev pub Leaves : {M : Type 0} (w : Setting M) (x2 : HostInstanceState) (m : M) (t : Tenant) (r : Rest) (e : Entry) (es : List Entry) (o : Outcome) (s : Space) → Type 0
 Leaves w x2 m t r e es o s = (t2 : Tenant) × Closes s t (ended_by e o) es r t2 × RepresentsTenant w x2 m t2
 
-closes_so : {M : Type 0} (w : Setting M) (x : TenantState) (m : M) (t : Tenant) (r : Rest) (c : JournalCallState) (cs : List JournalCallState) (e : Entry) (es : List Entry) (how : CallEnd) (o : Outcome) → Ending w x m t r c cs e es how o → (s : Space)
+closes_so : {M : Type 0} (w : Setting M) (x : HostInstanceState) (m : M) (t : Tenant) (r : Rest) (c : JournalCallState) (cs : List JournalCallState) (e : Entry) (es : List Entry) (how : CallEnd) (o : Outcome) → Ending w x m t r c cs e es how o → (s : Space)
     → (b : Bool) → is_fatal x.journal.ended how ≡ b
     → Leaves w (cond b
-    (record x { journal = record { ended = x.journal.ended ++ with_end c how ∷ map (λ v. with_end v end.Dead) cs; open_calls = [] }; progress = Faced; stands_for = None; dead = true })
-    (record x { journal = record { ended = x.journal.ended ++ with_end c how ∷ []; open_calls = cs }; progress = Faced; stands_for = None })) m t r e es o s
+    (record x { journal = record { ended = x.journal.ended ++ with_end c how ∷ map (λ v. with_end v end.Dead) cs; open_calls = [] }; progress = Faced; waiting_for = None; dead = true })
+    (record x { journal = record { ended = x.journal.ended ++ with_end c how ∷ []; open_calls = cs }; progress = Faced; waiting_for = None })) m t r e es o s
 closes_so w x m t r c cs e es how o k s true fatal =
     let same = same_fate x.journal.ended t.ended how o k.ended k.is_end in
     let last = each_joins x.journal.ended t.ended (with_end c how ∷ map (λ v. with_end v end.Dead) cs) (ended_by e o ∷ map (λ v. ended_by v dead) es) k.ended (call_ends c e how o k.first k.is_end, each_dies cs es k.others) in (
@@ -138,7 +138,7 @@ closes_so w x m t r c cs e es how o k s true fatal =
         is_where = rests refl;
         waiting = tt;
         counted = tt;
-        stands_for = refl;
+        waiting_for = refl;
         fresh = λ at. refl;
         dead = refl;
       },
@@ -146,7 +146,7 @@ closes_so w x m t r c cs e es how o k s true fatal =
 closes_so w x m t r c cs e es how o k s false fatal =
     let same = same_fate x.journal.ended t.ended how o k.ended k.is_end in
     let last = each_joins x.journal.ended t.ended (with_end c how ∷ []) (ended_by e o ∷ []) k.ended (call_ends c e how o k.first k.is_end, tt) in
-    let x2 : TenantState = record x { journal = record { ended = x.journal.ended ++ with_end c how ∷ []; open_calls = cs }; progress = Faced; stands_for = None } in (
+    let x2 : HostInstanceState = record x { journal = record { ended = x.journal.ended ++ with_end c how ∷ []; open_calls = cs }; progress = Faced; waiting_for = None } in (
       _,
       faces_next (sym same ∙ fatal) (faced_next t.inst (store_with (view s t.place) r) es k.waiting),
       record {
@@ -156,11 +156,11 @@ closes_so w x m t r c cs e es how o k s false fatal =
         is_where = is_where_next w x2 m t.inst r es k.waiting refl k.store;
         waiting = waits_behind t.inst es k.waiting;
         counted = k.counted;
-        stands_for = refl;
+        waiting_for = refl;
         fresh = λ at. refl;
         dead = k.dead;
       },
     )
 
-pub closes : {M : Type 0} (w : Setting M) (x : TenantState) (m : M) (t : Tenant) (r : Rest) (c : JournalCallState) (cs : List JournalCallState) (e : Entry) (es : List Entry) (how : CallEnd) (o : Outcome) → Ending w x m t r c cs e es how o → (s : Space) → Leaves w (closed x how c cs) m t r e es o s
+pub closes : {M : Type 0} (w : Setting M) (x : HostInstanceState) (m : M) (t : Tenant) (r : Rest) (c : JournalCallState) (cs : List JournalCallState) (e : Entry) (es : List Entry) (how : CallEnd) (o : Outcome) → Ending w x m t r c cs e es how o → (s : Space) → Leaves w (closed x how c cs) m t r e es o s
 closes w x m t r c cs e es how o k s = closes_so w x m t r c cs e es how o k s (is_fatal x.journal.ended how) refl

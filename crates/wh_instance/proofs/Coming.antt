@@ -3,11 +3,11 @@ use Rattle.std.proofs.Common.{◌≡◌, ◌≢◌, ℕ, min, Option, subst, ari
 use Rattle.wh_model.specs.declared.Trap.{Trap}
 use Rattle.wh_model.specs.declared.memory.Need.{Need}
 use Rattle.wh_model.proofs.Asked.{one_need}
-use Rattle.wh_machine.specs.States.{CallState, Setting, HasConfiguration, AsksFor, AsksNothing}
+use Rattle.wh_machine.specs.CallStates.{CallState, Setting, HasConfiguration, AsksFor, AsksNothing}
 use Rattle.wh_call.specs.declared.calling.RunEnd.{RunEnd}
 use Rattle.wh_call.specs.declared.calling.RunEnd.TheVariants as run
 use Rattle.wh_call.specs.Ends.{RunEndsWithin}
-use Rattle.wh_instance.specs.declared.computing.Came.TheVariants.{Returned, Trapped, Fuel, Frame, Again}
+use Rattle.wh_instance.specs.declared.computing.TurnOutcome.TheVariants.{Returned, Trapped, Fuel, Frame, Again}
 use Rattle.wh_instance.specs.Computed.{AsksUnready, AsksReady, ComputesWithin}
 
 -- ---- the next step

@@ -1,3 +1,5 @@
+pub mod Given
+pub mod Named
 pub mod Cutting
 mod Written
 mod Coming

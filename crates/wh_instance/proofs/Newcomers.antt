@@ -17,8 +17,8 @@ use Rattle.wh_host_model.specs.Owners.{Entry, start_entry}
 use Rattle.wh_host_model.specs.Host.Admission.{StartsAs, writes as start_writes, runs, ends, rest_of}
 use Rattle.wh_syntax.specs.declared.module.Data.{Data}
 use Rattle.wh_syntax.specs.View.{view_module, view_data}
-use Rattle.wh_bodies.specs.Views.{view_side}
-use Rattle.wh_validate.specs.Soundness.{IsChecked}
+use Rattle.wh_bodies.specs.View.{view_side}
+use Rattle.wh_validate.specs.CheckedBodies.{IsChecked}
 use Rattle.wh_imports.specs.LinkedState.{LinkedState}
 use Rattle.wh_imports.specs.Resolving.{IsResolved}
 use Rattle.wh_initial.proofs.Instances.{instance_of}
@@ -28,14 +28,14 @@ use Rattle.wh_journal.specs.Calls.{JournalCallState, JournalState, with_end}
 use Rattle.wh_journal.specs.declared.calls.CallEnd.TheVariants as end
 use Rattle.wh_machine.specs.declared.machine.Machine.{Machine}
 use Rattle.wh_machine.specs.Opening.{IsOwnCall}
-use Rattle.wh_machine.specs.Runs.{linked_parts, RepresentsInstance}
+use Rattle.wh_machine.specs.MachineRuns.{linked_parts, RepresentsInstance}
 use Rattle.wh_call.proofs.Starting.{start_called}
 use Rattle.wh_instance.specs.declared.writing.Cursor.{Cursor}
-use Rattle.wh_instance.specs.declared.stages.Progress.{Progress}
-use Rattle.wh_instance.specs.declared.stages.Progress.TheVariants.{Writing, Faced}
+use Rattle.wh_instance.specs.declared.stages.CallStage.{CallStage}
+use Rattle.wh_instance.specs.declared.stages.CallStage.TheVariants.{Writing, Faced}
 use Rattle.wh_instance.specs.Pieces.{placed_data, pieces_left}
 use Rattle.wh_instance.specs.Turned.{HasRest}
-use Rattle.wh_instance.specs.Tenancy.{TenantState, state_over, rests, writes, is_faced, byte_setting, IsTenant}
+use Rattle.wh_instance.specs.Tenancy.{HostInstanceState, state_over, rests, writes, is_faced, byte_setting, IsTenant}
 use Rattle.wh_instance.specs.Beginning.{has_nothing, start_call, journal_at_first, IsBegun}
 
 -- ---- where the data segments belong
@@ -82,7 +82,7 @@ pub record Known (l : LinkedState) : Type 0 where
   pub sound : IsChecked (view_module l.valid.decoded) (map view_side l.valid.tables)
   pub resolved : IsResolved (view_module l.valid.decoded) l.funcs l.globals
 
-pub begins_with : (l : LinkedState) (k : Known l) (p : Parameters) (begun : Instantiated) (i : Instantiates (view_module l.valid.decoded) p begun) (x : TenantState) → x.store ≡ begun.store
+pub begins_with : (l : LinkedState) (k : Known l) (p : Parameters) (begun : Instantiated) (i : Instantiates (view_module l.valid.decoded) p begun) (x : HostInstanceState) → x.store ≡ begun.store
     → HasRest (byte_setting l begun.page_limit) (state_over x (replicate (begun.pages * 65536) 0)) i.inst (rest_of (first_store (view_module l.valid.decoded) p i.globals i.elements))
 begins_with l k p begun i x same =
     let sound = k.sound in
@@ -91,7 +91,7 @@ begins_with l k p begun i x same =
     let same_bytes : first.bytes ≡ zeros = ap (λ n. replicate (n * 65536) 0) (sym i.pages) in
     let whole : first ≡ store_with zeros (rest_of first) = ap (λ z. store_with z (rest_of first)) same_bytes in
     let valid = sound.valid in
-    let around : RepresentsInstance (linked_parts l) begun.store zeros begun.page_limit sound.context i.inst first = record { instance = instance_of l sound k.resolved p i.inst i.globals i.elements i.segments i.prepares; store = i.stands_for sound.context valid.context } in
+    let around : RepresentsInstance (linked_parts l) begun.store zeros begun.page_limit sound.context i.inst first = record { instance = instance_of l sound k.resolved p i.inst i.globals i.elements i.segments i.prepares; store = i.represents sound.context valid.context } in
     (sound.context, rw same (subst (λ z. RepresentsInstance (linked_parts l) begun.store zeros begun.page_limit sound.context i.inst z) whole around))
 
 -- ---- the instance
@@ -104,11 +104,11 @@ pub record Start (l : LinkedState) (p : Parameters) (begun : Instantiated) (i : 
   pub counted : fuel < 2 ^ 64
 
 -- the code's instance at first
-abbrev pub first_tenant : Instantiated → Machine → Cursor → Progress → JournalState → TenantState
-first_tenant begun machine cursor progress journal = record { store = begun.store; machine = machine; places = begun.places.items; cursor = cursor; progress = progress; journal = journal; stands_for = None; dead = false }
+abbrev pub first_tenant : Instantiated → Machine → Cursor → CallStage → JournalState → HostInstanceState
+first_tenant begun machine cursor progress journal = record { store = begun.store; machine = machine; places = begun.places.items; cursor = cursor; progress = progress; journal = journal; waiting_for = None; dead = false }
 
 -- it begins so
-abbrev pub BeginsBy : (l : LinkedState) (p : Parameters) (begun : Instantiated) → Instantiates (view_module l.valid.decoded) p begun → ℕ → TenantState → Type 0
+abbrev pub BeginsBy : (l : LinkedState) (p : Parameters) (begun : Instantiated) → Instantiates (view_module l.valid.decoded) p begun → ℕ → HostInstanceState → Type 0
 BeginsBy l p begun i fuel x =
     (d : Doing) × (ended : List Entry) × (open_calls : List Entry)
     × StartsAs i.inst (first_store (view_module l.valid.decoded) p i.globals i.elements) (fragments i.segments) (view_module l.valid.decoded).start fuel d ended open_calls
@@ -149,7 +149,7 @@ begins_writing l p begun i fuel machine cursor k some =
         }) (sym k.left) (omega (arith, few)));
         waiting = rw b.open_are tt;
         counted = rw b.open_are (record { pieces = omega arith; fuel = k.counted }, tt);
-        stands_for = b.stands_for;
+        waiting_for = b.waiting_for;
         fresh = λ at. refl;
         dead = sym b.dead;
       },
@@ -177,7 +177,7 @@ begins_faced l p begun i fuel machine cursor k none y calls =
         is_where = rw (b.inst_is, b.rest, b.doing, b.open_are) (is_faced {func = y} refl (record { store = store; invocation = invocation (store_with (replicate (begun.pages * 65536) 0) (rest_of first)); calls = calls; words = refl; no_charges = refl }));
         waiting = rw b.open_are tt;
         counted = rw b.open_are (record { pieces = omega arith; fuel = k.counted }, tt);
-        stands_for = b.stands_for;
+        waiting_for = b.waiting_for;
         fresh = λ at. refl;
         dead = sym b.dead;
       },
@@ -201,7 +201,7 @@ begins_ended l p begun i fuel machine cursor k none calls =
         is_where = rw (b.inst_is, b.rest, b.doing, b.open_are) (rests refl);
         waiting = rw b.open_are tt;
         counted = rw b.open_are tt;
-        stands_for = b.stands_for;
+        waiting_for = b.waiting_for;
         fresh = λ at. refl;
         dead = sym b.dead;
       },

@@ -22,11 +22,11 @@ use Rattle.wh_control.proofs.Entries.{Callee, of_host, of_module, callee}
 use Rattle.wh_control.proofs.Jumps.{all_at}
 use Rattle.wh_machine.specs.declared.machine.Machine.{Machine}
 use Rattle.wh_machine.specs.Executing.{calls_of, ended_calls}
-use Rattle.wh_machine.specs.Runs.{calls_in, RepresentsInstance, RepresentsMachine}
-use Rattle.wh_machine.specs.States.{CallState, Setting, StandsFor}
+use Rattle.wh_machine.specs.MachineRuns.{calls_in, RepresentsInstance, RepresentsMachine}
+use Rattle.wh_machine.specs.CallStates.{CallState, Setting, RepresentsConfig}
 use Rattle.wh_call.specs.Ends.{HasStoreIn, TakesTo}
-use Rattle.wh_instance.specs.declared.computing.Came.{Came}
-use Rattle.wh_instance.specs.declared.computing.Came.TheVariants as came
+use Rattle.wh_instance.specs.declared.computing.TurnOutcome.{TurnOutcome}
+use Rattle.wh_instance.specs.declared.computing.TurnOutcome.TheVariants as came
 use Rattle.wh_instance.specs.Computed.{ComesWithin}
 use Rattle.wh_instance.specs.Turned.{HasRest, Turns}
 
@@ -84,9 +84,9 @@ record On {M : Type 0} (w : Setting M) (after : CallState M) (out : Option ValTy
   term : Term
   same : c ≡ config (store_with (w.bytes after.memory) rest) [] term
   store : HasRest w after inst rest
-  stands : StandsFor w after out inst (config (store_with (w.bytes after.memory) rest) [] term)
+  stands : RepresentsConfig w after out inst (config (store_with (w.bytes after.memory) rest) [] term)
 
-on : {M : Type 0} (w : Setting M) (after : CallState M) (out : Option ValType) (inst : Instance) (c : Config) → StandsFor w after out inst c → after.machine.running ≡ true → On w after out inst c
+on : {M : Type 0} (w : Setting M) (after : CallState M) (out : Option ValType) (inst : Instance) (c : Config) → RepresentsConfig w after out inst c → after.machine.running ≡ true → On w after out inst c
 on w after out inst c st e =
     let u = runs_at st e in
     let around = st.around in
@@ -99,7 +99,7 @@ on w after out inst c st e =
       term = u.0;
       same = same;
       store = (st.context, subst (λ z. RepresentsInstance w.program after.store b w.limit st.context inst z) same_store around);
-      stands = subst (StandsFor w after out inst) same st;
+      stands = subst (RepresentsConfig w after out inst) same st;
     }
 
 -- ---- turns
@@ -109,7 +109,7 @@ computes : {M : Type 0} {bytes : M → List ℕ} {ready : M → _ → Type 0} {k
 computes {mem1 = mem1} {c = c} o t nq nl e = record { between = mem1; opened = c; opens = o; takes = t; in_turn = nq; in_fuel = omega (arith, nl, e) }
 
 -- an opened call that computes so far has had such a turn
-pub turns_as : {M : Type 0} (w : Setting M) (inst : Instance) (q left : ℕ) (call : Call) (m : M) (r : Rest) (d : Doing) (pieces n : ℕ) (before after : CallState M) (c : Config) (s : Store) (index : ℕ) (type : FuncType) (body : Body) (answer : Came) (ps : List Piece) → ps ≡ []
+pub turns_as : {M : Type 0} (w : Setting M) (inst : Instance) (q left : ℕ) (call : Call) (m : M) (r : Rest) (d : Doing) (pieces n : ℕ) (before after : CallState M) (c : Config) (s : Store) (index : ℕ) (type : FuncType) (body : Body) (answer : TurnOutcome) (ps : List Piece) → ps ≡ []
     → Opens w.bytes w.ready w.keeps inst call m r d pieces before.memory c → IsSettled inst c → call.charges + left ≡ call.fuel → call.func ≡ Some index → slice_get inst.funcs index ≡ Some (own type body)
     → ComesWithin w after (result_of type) inst (TakesTo w inst before.memory c after.memory) q left answer n s → HasStoreIn w after inst s → Turns w inst q call m r d answer pieces n after ps
 turns_as w inst q left call m r d pieces n before after c s index type body (came.Returned result) ps none o settled e calls is_own (nq, (nl, us, fit, top, takes)) (cx, st) =

@@ -7,20 +7,20 @@ use Rattle.wh_host_model.specs.declared.plain.SwapError.{SwapError}
 use Rattle.wh_host_model.specs.Space.Parts.{Space}
 use Rattle.wh_host_model.specs.Host.Worlds.{Rest, Doing, for_fuel, for_device, Tenant}
 use Rattle.wh_host_model.specs.Owners.{Entry}
-use Rattle.wh_host_model.specs.Host.Answers.{ended_by, Closes}
-use Rattle.wh_host_model.specs.Host.Calls.{more_fuel, StandsAfter, Refuels, has_more, Retries, may_try}
+use Rattle.wh_host_model.specs.Host.CallAnswers.{ended_by, Closes}
+use Rattle.wh_host_model.specs.Host.OwnerCalls.{more_fuel, WaitsAfter, Refuels, has_more, Retries, may_try}
 use Rattle.wh_host_model.specs.Owners.{most_fuel}
 use Rattle.wh_host_model.specs.Host.Happens.{AwaitsFrame}
 use Rattle.wh_journal.specs.Calls.{JournalCallState, with_more_fuel}
 use Rattle.wh_journal.specs.declared.calls.CallEnd.TheVariants as end
-use Rattle.wh_machine.specs.States.{Setting}
-use Rattle.wh_instance.specs.declared.stages.Progress.TheVariants.{Faced}
+use Rattle.wh_machine.specs.CallStates.{Setting}
+use Rattle.wh_instance.specs.declared.stages.CallStage.TheVariants.{Faced}
 use Rattle.wh_instance.specs.declared.stages.Suspension as code
 use Rattle.wh_instance.specs.declared.stages.Suspension.TheVariants as stop
-use Rattle.wh_instance.specs.Tenancy.{TenantState, RepresentsCall, RepresentsEach, MayBegin, IsCounted, behind_first, IsWhere, rests, writes, is_faced, is_under_way, suspension_of, RepresentsTenant}
+use Rattle.wh_instance.specs.Tenancy.{HostInstanceState, RepresentsCall, RepresentsEach, MayBegin, IsCounted, behind_first, IsWhere, rests, writes, is_faced, is_under_way, suspension_of, RepresentsTenant}
 use Rattle.wh_instance.specs.Settling.{closed, is_fault}
-use Rattle.wh_instance.specs.Asked.{HasFuelAgain}
-use Rattle.wh_instance.specs.Seen.{stands_at_frame}
+use Rattle.wh_instance.specs.OwnerRequests.{HasFuelAgain}
+use Rattle.wh_instance.specs.Seen.{waits_at_frame}
 use Rattle.wh_instance.proofs.Closing.{closes}
 use Rattle.wh_instance.proofs.Settled.{is_where_too}
 
@@ -34,7 +34,7 @@ call_of_each (d ∷ cs) (e ∷ es) c ds at h = (e, es, refl)
 
 -- ---- another try
 
-stands_with_call : {M : Type 0} (w : Setting M) (x : TenantState) (m : M) (inst : Instance) (r : Rest) (d : Doing) (os : List Entry) (s : code.Suspension) → (x.progress ≡ Faced → x.stands_for ≡ None) → x.stands_for ≡ Some s → IsWhere w x m inst r d os → (e : Entry) × (es : List Entry) × (os ≡ e ∷ es)
+stands_with_call : {M : Type 0} (w : Setting M) (x : HostInstanceState) (m : M) (inst : Instance) (r : Rest) (d : Doing) (os : List Entry) (s : code.Suspension) → (x.progress ≡ Faced → x.waiting_for ≡ None) → x.waiting_for ≡ Some s → IsWhere w x m inst r d os → (e : Entry) × (es : List Entry) × (os ≡ e ∷ es)
 stands_with_call w x m inst r d os s fresh some (rests at) = let never = sym some ∙ fresh at in absurd (cc never)
 stands_with_call w x m inst r d os s fresh some (writes {e = e} {es = es} a b c f g h) = (e, es, refl)
 stands_with_call w x m inst r d os s fresh some (is_faced {e = e} {es = es} a b) = (e, es, refl)
@@ -46,12 +46,12 @@ device_of (Some stop.Fuel) is = absurd (cc is)
 device_of (Some stop.Frame) is = absurd (cc is)
 device_of (Some (stop.Device fault)) is = (fault, refl)
 
-retries_for : {M : Type 0} (w : Setting M) (x : TenantState) (m : M) (t : Tenant) (fault : SwapError) → x.stands_for ≡ Some (stop.Device fault) → RepresentsTenant w x m t → (t2 : Tenant) × Retries t t2 × RepresentsTenant w (record x { stands_for = Some stop.Frame }) m t2
+retries_for : {M : Type 0} (w : Setting M) (x : HostInstanceState) (m : M) (t : Tenant) (fault : SwapError) → x.waiting_for ≡ Some (stop.Device fault) → RepresentsTenant w x m t → (t2 : Tenant) × Retries t t2 × RepresentsTenant w (record x { waiting_for = Some stop.Frame }) m t2
 retries_for w x m t fault stands rep =
     let c = stands_with_call w x m t.inst t.rest t.doing t.open_calls (stop.Device fault) rep.fresh stands rep.is_where in
-    let y : TenantState = record x { stands_for = Some stop.Frame } in (
+    let y : HostInstanceState = record x { waiting_for = Some stop.Frame } in (
       _,
-      may_try c.2 (rep.stands_for ∙ ap suspension_of stands),
+      may_try c.2 (rep.waiting_for ∙ ap suspension_of stands),
       record {
         store = rep.store;
         ended = rep.ended;
@@ -59,14 +59,14 @@ retries_for w x m t fault stands rep =
         is_where = is_where_too w x y m t.inst t.rest t.doing t.open_calls refl refl refl refl refl rep.is_where;
         waiting = rep.waiting;
         counted = rep.counted;
-        stands_for = refl;
+        waiting_for = refl;
         fresh = λ at. let never = sym stands ∙ rep.fresh at in absurd (cc never);
         dead = rep.dead;
       },
     )
 
-pub retries : {M : Type 0} (w : Setting M) (x : TenantState) (m : M) (t : Tenant) → is_fault x.stands_for ≡ true → RepresentsTenant w x m t → (t2 : Tenant) × Retries t t2 × RepresentsTenant w (record x { stands_for = Some stop.Frame }) m t2
-retries w x m t is rep = let f = device_of x.stands_for is in retries_for w x m t f.0 f.1 rep
+pub retries : {M : Type 0} (w : Setting M) (x : HostInstanceState) (m : M) (t : Tenant) → is_fault x.waiting_for ≡ true → RepresentsTenant w x m t → (t2 : Tenant) × Retries t t2 × RepresentsTenant w (record x { waiting_for = Some stop.Frame }) m t2
+retries w x m t is rep = let f = device_of x.waiting_for is in retries_for w x m t f.0 f.1 rep
 
 no_device : (stands : Option code.Suspension) (fault : SwapError) → is_fault stands ≡ false → suspension_of stands ≢ Some (for_device fault)
 no_device None fault is e = cc e
@@ -76,18 +76,18 @@ no_device (Some (stop.Device other)) fault is e = cc is
 
 -- ---- a device fault
 
-frame_at : (stands : Option code.Suspension) → stands_at_frame stands ≡ true → stands ≡ Some stop.Frame
+frame_at : (stands : Option code.Suspension) → waits_at_frame stands ≡ true → stands ≡ Some stop.Frame
 frame_at None is = absurd (cc is)
 frame_at (Some stop.Fuel) is = absurd (cc is)
 frame_at (Some stop.Frame) is = refl
 frame_at (Some (stop.Device fault)) is = absurd (cc is)
 
-pub fails_for : {M : Type 0} (w : Setting M) (x : TenantState) (m : M) (t : Tenant) (fault : SwapError) → stands_at_frame x.stands_for ≡ true → RepresentsTenant w x m t
-    → AwaitsFrame t × RepresentsTenant w (record x { stands_for = Some (stop.Device fault) }) m (record t { stands_for = Some (for_device fault) })
+pub fails_for : {M : Type 0} (w : Setting M) (x : HostInstanceState) (m : M) (t : Tenant) (fault : SwapError) → waits_at_frame x.waiting_for ≡ true → RepresentsTenant w x m t
+    → AwaitsFrame t × RepresentsTenant w (record x { waiting_for = Some (stop.Device fault) }) m (record t { waiting_for = Some (for_device fault) })
 fails_for w x m t fault is rep =
-    let stands = frame_at x.stands_for is in
-    let y : TenantState = record x { stands_for = Some (stop.Device fault) } in (
-      rep.stands_for ∙ ap suspension_of stands,
+    let stands = frame_at x.waiting_for is in
+    let y : HostInstanceState = record x { waiting_for = Some (stop.Device fault) } in (
+      rep.waiting_for ∙ ap suspension_of stands,
       record {
         store = rep.store;
         ended = rep.ended;
@@ -95,7 +95,7 @@ fails_for w x m t fault is rep =
         is_where = is_where_too w x y m t.inst t.rest t.doing t.open_calls refl refl refl refl refl rep.is_where;
         waiting = rep.waiting;
         counted = rep.counted;
-        stands_for = refl;
+        waiting_for = refl;
         fresh = λ at. let never = sym stands ∙ rep.fresh at in absurd (cc never);
         dead = rep.dead;
       },
@@ -110,7 +110,7 @@ as_many_ended (c ∷ cs) (e ∷ es) h = ap suc (as_many_ended cs es h.1)
 
 -- ---- an end
 
-pub cancels : {M : Type 0} (w : Setting M) (x : TenantState) (m : M) (t : Tenant) (c : JournalCallState) (cs : List JournalCallState) → x.journal.open_calls ≡ c ∷ cs → RepresentsTenant w x m t → (s : Space)
+pub cancels : {M : Type 0} (w : Setting M) (x : HostInstanceState) (m : M) (t : Tenant) (c : JournalCallState) (cs : List JournalCallState) → x.journal.open_calls ≡ c ∷ cs → RepresentsTenant w x m t → (s : Space)
     → (e : Entry) × (es : List Entry) × (t2 : Tenant) × (t.open_calls ≡ e ∷ es) × Closes s t (ended_by e cancelled) es t.rest t2 × RepresentsTenant w (closed x end.Cancelled c cs) m t2
 cancels w x m t c cs at rep s =
     let k = call_of_each x.journal.open_calls t.open_calls c cs at rep.open_calls in
@@ -134,7 +134,7 @@ cancels w x m t c cs at rep s =
 more_of : (c : JournalCallState) (e : Entry) (n : ℕ) → RepresentsCall c e → RepresentsCall (with_more_fuel c n) (more_fuel e n)
 more_of c e n r = record { func = r.func; given = r.given; words = r.words; fuel = ap (λ i. min (i + n) most_fuel) r.fuel; pieces = r.pieces; charges = r.charges; end = r.end }
 
-where_with_more : {M : Type 0} (w : Setting M) (x : TenantState) (m : M) (inst : Instance) (r : Rest) (d : Doing) (e : Entry) (es : List Entry) (n : ℕ) → IsCounted e → IsWhere w x m inst r d (e ∷ es) → IsWhere w x m inst r d (more_fuel e n ∷ es)
+where_with_more : {M : Type 0} (w : Setting M) (x : HostInstanceState) (m : M) (inst : Instance) (r : Rest) (d : Doing) (e : Entry) (es : List Entry) (n : ℕ) → IsCounted e → IsWhere w x m inst r d (e ∷ es) → IsWhere w x m inst r d (more_fuel e n ∷ es)
 where_with_more w x m inst r d e es n k (writes at some func st left few) =
     writes at some func (record { store = st.store; within = st.within; in_pages = st.in_pages; few = st.few; no_args = st.no_args; no_charges = st.no_charges; calls_own = st.calls_own }) left few
 where_with_more w x m inst r d e es n k (is_faced {func = func} at st) =
@@ -151,15 +151,15 @@ where_with_more w x m inst r d e es n k (is_under_way at st within) =
     is_under_way at (record { index = st.index; type = st.type; body = st.body; calls = st.calls; is_own = st.is_own; stands = st.stands; runs = st.runs; settled_in = st.settled_in; settled = st.settled }) (omega (arith, within, limit))
 
 -- with what it stands for then
-refuels_to : {M : Type 0} (w : Setting M) (x : TenantState) (m : M) (t : Tenant) (n : ℕ) (c : JournalCallState) (cs : List JournalCallState) (stands : Option code.Suspension) → x.journal.open_calls ≡ c ∷ cs → (x.progress ≡ Faced → stands ≡ None) → RepresentsTenant w x m t
-    → ((e : Entry) → RepresentsCall c e → StandsAfter (more_fuel e n).call t.stands_for (suspension_of stands))
-    → (t2 : Tenant) × Refuels t n t2 × RepresentsTenant w (record x { journal = record x.journal { open_calls = with_more_fuel c n ∷ cs }; stands_for = stands }) m t2
+refuels_to : {M : Type 0} (w : Setting M) (x : HostInstanceState) (m : M) (t : Tenant) (n : ℕ) (c : JournalCallState) (cs : List JournalCallState) (stands : Option code.Suspension) → x.journal.open_calls ≡ c ∷ cs → (x.progress ≡ Faced → stands ≡ None) → RepresentsTenant w x m t
+    → ((e : Entry) → RepresentsCall c e → WaitsAfter (more_fuel e n).call t.waiting_for (suspension_of stands))
+    → (t2 : Tenant) × Refuels t n t2 × RepresentsTenant w (record x { journal = record x.journal { open_calls = with_more_fuel c n ∷ cs }; waiting_for = stands }) m t2
 refuels_to w x m t n c cs stands at fresh rep after =
     let k = call_of_each x.journal.open_calls t.open_calls c cs at rep.open_calls in
     let each = subst (λ z. RepresentsEach z (k.0 ∷ k.1)) at (subst (RepresentsEach x.journal.open_calls) k.2 rep.open_calls) in
     let counted = subst (AllByRecursion IsCounted) k.2 rep.counted in
     let one = counted.0 in
-    let y : TenantState = record x { journal = record x.journal { open_calls = with_more_fuel c n ∷ cs }; stands_for = stands } in
+    let y : HostInstanceState = record x { journal = record x.journal { open_calls = with_more_fuel c n ∷ cs }; waiting_for = stands } in
     let is_where = where_with_more w x m t.inst t.rest t.doing k.0 k.1 n one (subst (IsWhere w x m t.inst t.rest t.doing) k.2 rep.is_where) in (
       _,
       has_more k.2 (after k.0 each.0),
@@ -170,15 +170,15 @@ refuels_to w x m t n c cs stands at fresh rep after =
         is_where = is_where_too w x y m t.inst t.rest t.doing (more_fuel k.0 n ∷ k.1) refl refl refl refl refl is_where;
         waiting = subst (λ os. AllByRecursion (MayBegin t.inst) (behind_first os)) k.2 rep.waiting;
         counted = (record { pieces = one.pieces; fuel = omega arith }, counted.1);
-        stands_for = refl;
+        waiting_for = refl;
         fresh = fresh;
         dead = rep.dead;
       },
     )
 
 -- it has fuel again
-pub refuels_on : {M : Type 0} (w : Setting M) (x : TenantState) (m : M) (t : Tenant) (n : ℕ) (c : JournalCallState) (cs : List JournalCallState) → x.journal.open_calls ≡ c ∷ cs → HasFuelAgain x.stands_for (with_more_fuel c n) → RepresentsTenant w x m t
-    → (t2 : Tenant) × Refuels t n t2 × RepresentsTenant w (record x { journal = record x.journal { open_calls = with_more_fuel c n ∷ cs }; stands_for = None }) m t2
+pub refuels_on : {M : Type 0} (w : Setting M) (x : HostInstanceState) (m : M) (t : Tenant) (n : ℕ) (c : JournalCallState) (cs : List JournalCallState) → x.journal.open_calls ≡ c ∷ cs → HasFuelAgain x.waiting_for (with_more_fuel c n) → RepresentsTenant w x m t
+    → (t2 : Tenant) × Refuels t n t2 × RepresentsTenant w (record x { journal = record x.journal { open_calls = with_more_fuel c n ∷ cs }; waiting_for = None }) m t2
 refuels_on w x m t n c cs at again rep =
     refuels_to w x m t n c cs None at (λ is. refl) rep
     (λ e r.
@@ -186,10 +186,10 @@ refuels_on w x m t n c cs at again rep =
     let fuel = r.fuel in
     let some = again.1 in
     let less : e.call.charges < min (e.call.fuel + n) most_fuel = omega (arith, charges, fuel, some) in
-    let stood : t.stands_for ≡ Some for_fuel = rep.stands_for ∙ ap suspension_of again.0 in
-    subst (λ o. StandsAfter (more_fuel e n).call o None) (sym stood) (inl (less, refl)))
+    let stood : t.waiting_for ≡ Some for_fuel = rep.waiting_for ∙ ap suspension_of again.0 in
+    subst (λ o. WaitsAfter (more_fuel e n).call o None) (sym stood) (inl (less, refl)))
 
-stands_as_before : (stands : Option code.Suspension) (c : JournalCallState) (e : Entry) (n : ℕ) → ¬ (HasFuelAgain stands (with_more_fuel c n)) → RepresentsCall c e → StandsAfter (more_fuel e n).call (suspension_of stands) (suspension_of stands)
+stands_as_before : (stands : Option code.Suspension) (c : JournalCallState) (e : Entry) (n : ℕ) → ¬ (HasFuelAgain stands (with_more_fuel c n)) → RepresentsCall c e → WaitsAfter (more_fuel e n).call (suspension_of stands) (suspension_of stands)
 stands_as_before None c e n none r = refl
 stands_as_before (Some stop.Frame) c e n none r = refl
 stands_as_before (Some (stop.Device fault)) c e n none r = refl
@@ -200,8 +200,8 @@ stands_as_before (Some stop.Fuel) c e n none r =
     inr (omega (arith, charges, fuel, never), refl)
 
 -- or stands for what it stood for
-pub refuels_still : {M : Type 0} (w : Setting M) (x : TenantState) (m : M) (t : Tenant) (n : ℕ) (c : JournalCallState) (cs : List JournalCallState) → x.journal.open_calls ≡ c ∷ cs → ¬ (HasFuelAgain x.stands_for (with_more_fuel c n)) → RepresentsTenant w x m t
+pub refuels_still : {M : Type 0} (w : Setting M) (x : HostInstanceState) (m : M) (t : Tenant) (n : ℕ) (c : JournalCallState) (cs : List JournalCallState) → x.journal.open_calls ≡ c ∷ cs → ¬ (HasFuelAgain x.waiting_for (with_more_fuel c n)) → RepresentsTenant w x m t
     → (t2 : Tenant) × Refuels t n t2 × RepresentsTenant w (record x { journal = record x.journal { open_calls = with_more_fuel c n ∷ cs } }) m t2
 refuels_still w x m t n c cs at none rep =
-    refuels_to w x m t n c cs x.stands_for at rep.fresh rep
-    (λ e r. subst (λ o. StandsAfter (more_fuel e n).call o (suspension_of x.stands_for)) (sym rep.stands_for) (stands_as_before x.stands_for c e n none r))
+    refuels_to w x m t n c cs x.waiting_for at rep.fresh rep
+    (λ e r. subst (λ o. WaitsAfter (more_fuel e n).call o (suspension_of x.waiting_for)) (sym rep.waiting_for) (stands_as_before x.waiting_for c e n none r))

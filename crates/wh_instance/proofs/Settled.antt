@@ -17,20 +17,20 @@ use Rattle.wh_host_model.specs.Host.Worlds.{Rest, Doing, resting, has_left, comp
 use Rattle.wh_host_model.specs.Owners.{Entry}
 use Rattle.wh_host_model.specs.Host.Admission.{rest_of}
 use Rattle.wh_host_model.specs.Host.Turns.{Opens, by_invocation, as_it_was, Upshot, to_end, out_of_fuel, to_wait, to_go_on, Proceeds, returns, traps, writes_all, uses_fuel, waits, waits_to_write, has_had_its_turn}
-use Rattle.wh_host_model.specs.Host.Answers.{gone_further, ended_by, gone_on, Closes, at_frame, KeepsNoFault}
+use Rattle.wh_host_model.specs.Host.CallAnswers.{gone_further, ended_by, gone_on, Closes, at_frame, KeepsNoFault}
 use Rattle.wh_journal.specs.Calls.{JournalCallState, JournalState, with_progress}
 use Rattle.wh_journal.specs.declared.calls.CallEnd.{CallEnd}
 use Rattle.wh_journal.specs.declared.calls.CallEnd.TheVariants as end
-use Rattle.wh_machine.specs.States.{Setting}
-use Rattle.wh_instance.specs.declared.computing.Came.{Came}
-use Rattle.wh_instance.specs.declared.computing.Came.TheVariants as came
-use Rattle.wh_instance.specs.declared.stages.Progress.TheVariants.{Faced}
+use Rattle.wh_machine.specs.CallStates.{Setting}
+use Rattle.wh_instance.specs.declared.computing.TurnOutcome.{TurnOutcome}
+use Rattle.wh_instance.specs.declared.computing.TurnOutcome.TheVariants as came
+use Rattle.wh_instance.specs.declared.stages.CallStage.TheVariants.{Faced}
 use Rattle.wh_instance.specs.declared.stages.Suspension as code
 use Rattle.wh_instance.specs.declared.stages.Suspension.TheVariants as stop
-use Rattle.wh_instance.specs.declared.stages.Turned.{Turned}
-use Rattle.wh_instance.specs.declared.stages.Turned.TheVariants as turned
+use Rattle.wh_instance.specs.declared.stages.TurnResult.{TurnResult}
+use Rattle.wh_instance.specs.declared.stages.TurnResult.TheVariants as turned
 use Rattle.wh_instance.specs.Turned.{HasRest, IsCame}
-use Rattle.wh_instance.specs.Tenancy.{TenantState, state_over, IsCallEnd, RepresentsCall, RepresentsEach, MayBegin, IsCounted, behind_first, IsWhere, rests, writes, is_faced, is_under_way, suspension_of, RepresentsTenant}
+use Rattle.wh_instance.specs.Tenancy.{HostInstanceState, state_over, IsCallEnd, RepresentsCall, RepresentsEach, MayBegin, IsCounted, behind_first, IsWhere, rests, writes, is_faced, is_under_way, suspension_of, RepresentsTenant}
 use Rattle.wh_instance.specs.Advancing.{IsInMemory, AdvancesTenant, KeepsItsFault, LeavesTenant, TurnsTenant}
 use Rattle.wh_instance.specs.Settling.{closed, is_fault, frame_or_fault, answered, settled_to}
 use Rattle.wh_instance.proofs.Bounds.{asks_within, piece_within}
@@ -38,7 +38,7 @@ use Rattle.wh_instance.proofs.Closing.{call_goes_on, closes}
 
 -- ---- where a call is, though other things of the instance have changed
 
-pub is_where_too : {M : Type 0} (w : Setting M) (x y : TenantState) (m : M) (inst : Instance) (r : Rest) (d : Doing) (es : List Entry) → y.store ≡ x.store → y.machine ≡ x.machine → y.places ≡ x.places → y.cursor ≡ x.cursor → y.progress ≡ x.progress → IsWhere w x m inst r d es → IsWhere w y m inst r d es
+pub is_where_too : {M : Type 0} (w : Setting M) (x y : HostInstanceState) (m : M) (inst : Instance) (r : Rest) (d : Doing) (es : List Entry) → y.store ≡ x.store → y.machine ≡ x.machine → y.places ≡ x.places → y.cursor ≡ x.cursor → y.progress ≡ x.progress → IsWhere w x m inst r d es → IsWhere w y m inst r d es
 is_where_too w x y m inst r d es a b c e f (rests at) = rests (f ∙ at)
 is_where_too w x y m inst r d es a b c e f (writes at some func st left few) = writes (f ∙ at) some func (rw (a, b) st) (rw (c, e) left) few
 is_where_too w x y m inst r d es a b c e f (is_faced {func = func} at st) = is_faced {func = func} (f ∙ at) (rw (a, b) st)
@@ -55,18 +55,18 @@ not_resting call never (waits a b c d f) is = cc is
 not_resting call never (waits_to_write a b c) is = cc is
 not_resting call never (has_had_its_turn a b c d f) is = cc is
 
--- so it goes on, and the instance stands for this
-goes_on : {M : Type 0} (w : Setting M) (q : ℕ) (x x1 : TenantState) (m m2 : M) (t : Tenant) (e : Entry) (es : List Entry) (answer : Came) (k n : ℕ) (c : JournalCallState) (cs : List JournalCallState) (stands : Option code.Suspension) (o : Option Suspension)
+-- so it goes on, and the instance waits for this
+goes_on : {M : Type 0} (w : Setting M) (q : ℕ) (x x1 : HostInstanceState) (m m2 : M) (t : Tenant) (e : Entry) (es : List Entry) (answer : TurnOutcome) (k n : ℕ) (c : JournalCallState) (cs : List JournalCallState) (stands : Option code.Suspension) (o : Option Suspension)
     → RepresentsTenant w x m t → t.open_calls ≡ e ∷ es → x1.journal.ended ≡ x.journal.ended → x1.dead ≡ x.dead → RepresentsCall c e → RepresentsEach cs es → (a : AdvancesTenant w q m t e es answer k n x1 m2) → ((o : Outcome) → a.to ≢ to_end o) → o ≡ suspension_of stands
-    → RepresentsTenant w (record x1 { journal = record x1.journal { open_calls = with_progress c k n ∷ cs }; stands_for = stands }) m2 (gone_on t (gone_further e k n) es a.rest a.doing o)
+    → RepresentsTenant w (record x1 { journal = record x1.journal { open_calls = with_progress c k n ∷ cs }; waiting_for = stands }) m2 (gone_on t (gone_further e k n) es a.rest a.doing o)
 goes_on w q x x1 m m2 t e es answer k n c cs stands o rep is_open same_ended same_dead first others a never is = record {
   store = a.store;
   ended = subst (λ js. RepresentsEach js t.ended) (sym same_ended) rep.ended;
   open_calls = (call_goes_on c e k n first, others);
-  is_where = is_where_too w x1 (record x1 { journal = record x1.journal { open_calls = with_progress c k n ∷ cs }; stands_for = stands }) m2 t.inst a.rest a.doing (gone_further e k n ∷ es) refl refl refl refl refl (a.is_where (not_resting e.call never a.proceeds));
+  is_where = is_where_too w x1 (record x1 { journal = record x1.journal { open_calls = with_progress c k n ∷ cs }; waiting_for = stands }) m2 t.inst a.rest a.doing (gone_further e k n ∷ es) refl refl refl refl refl (a.is_where (not_resting e.call never a.proceeds));
   waiting = subst (λ os. AllByRecursion (MayBegin t.inst) (behind_first os)) is_open rep.waiting;
   counted = let all = subst (AllByRecursion IsCounted) is_open rep.counted in let one = all.0 in (record { pieces = a.few_pieces; fuel = one.fuel }, all.1);
-  stands_for = is;
+  waiting_for = is;
   fresh = λ at. absurd (a.begun at);
   dead = same_dead ∙ rep.dead;
 }
@@ -74,11 +74,11 @@ goes_on w q x x1 m m2 t e es answer k n c cs stands o rep is_open same_ended sam
 -- ---- the whole turn
 
 -- what is said of it before the journal is written
-pub record Advanced {M : Type 0} (w : Setting M) (q : ℕ) (x x1 : TenantState) (m m2 : M) (t : Tenant) (e : Entry) (es : List Entry) (answer : Came) (k n : ℕ) (c : JournalCallState) (cs : List JournalCallState) (still : Bool) : Type 0 where
+pub record Advanced {M : Type 0} (w : Setting M) (q : ℕ) (x x1 : HostInstanceState) (m m2 : M) (t : Tenant) (e : Entry) (es : List Entry) (answer : TurnOutcome) (k n : ℕ) (c : JournalCallState) (cs : List JournalCallState) (still : Bool) : Type 0 where
   pub before : RepresentsTenant w x m t
   pub is_open : t.open_calls ≡ e ∷ es
   pub same_ended : x1.journal.ended ≡ x.journal.ended
-  pub same_stands : x1.stands_for ≡ x.stands_for
+  pub same_stands : x1.waiting_for ≡ x.waiting_for
   pub same_dead : x1.dead ≡ x.dead
   pub first : RepresentsCall c e
   pub others : RepresentsEach cs es
@@ -86,11 +86,11 @@ pub record Advanced {M : Type 0} (w : Setting M) (q : ℕ) (x x1 : TenantState) 
   pub steps : MatchBool still (k + n ≡ 0) (¬ (k + n ≡ 0))
 
 -- the code's instance with the journal written on
-abbrev written_on : TenantState → JournalCallState → List JournalCallState → ℕ → ℕ → TenantState
+abbrev written_on : HostInstanceState → JournalCallState → List JournalCallState → ℕ → ℕ → HostInstanceState
 written_on x1 c cs k n = record x1 { journal = record x1.journal { open_calls = with_progress c k n ∷ cs } }
 
 -- it has ended
-ends : {M : Type 0} (w : Setting M) (q : ℕ) (x x1 : TenantState) (m m2 : M) (t : Tenant) (e : Entry) (es : List Entry) (answer : Came) (k n : ℕ) (c : JournalCallState) (cs : List JournalCallState) (still : Bool) (a : Advanced w q x x1 m m2 t e es answer k n c cs still) → (how : CallEnd) (o : Outcome) → IsCallEnd how o → (s : Space) → (t2 : Tenant) × Closes s t (ended_by (gone_further e k n) o) es a.advances.rest t2 × RepresentsTenant w (closed (written_on x1 c cs k n) how (with_progress c k n) cs) m2 t2
+ends : {M : Type 0} (w : Setting M) (q : ℕ) (x x1 : HostInstanceState) (m m2 : M) (t : Tenant) (e : Entry) (es : List Entry) (answer : TurnOutcome) (k n : ℕ) (c : JournalCallState) (cs : List JournalCallState) (still : Bool) (a : Advanced w q x x1 m m2 t e es answer k n c cs still) → (how : CallEnd) (o : Outcome) → IsCallEnd how o → (s : Space) → (t2 : Tenant) × Closes s t (ended_by (gone_further e k n) o) es a.advances.rest t2 × RepresentsTenant w (closed (written_on x1 c cs k n) how (with_progress c k n) cs) m2 t2
 ends w q x x1 m m2 t e es answer k n c cs still a how o is s =
     let adv = a.advances in
     let before = a.before in
@@ -179,7 +179,7 @@ stood_at w q m inst r term call k n m2 r2 d2 settled none (has_had_its_turn {ter
       ready = λ need asks. subst (λ z. w.ready z need) same_memory (ready need (subst (λ z. Asks inst z need) (sym last) asks));
     }
 
-stood : {M : Type 0} (w : Setting M) (q : ℕ) (x : TenantState) (m : M) (inst : Instance) (r : Rest) (d : Doing) (e : Entry) (es : List Entry) (k n : ℕ) (m2 : M) (r2 : Rest) (d2 : Doing) → IsWhere w x m inst r d (e ∷ es) → (x.progress ≡ Faced → x.stands_for ≡ None) → is_fault x.stands_for ≡ true → k + n ≡ 0 → Proceeds w.bytes w.ready w.keeps inst q e.call m r d to_go_on k n m2 r2 d2 → Stood w q m inst r d e.call k n m2 r2 d2
+stood : {M : Type 0} (w : Setting M) (q : ℕ) (x : HostInstanceState) (m : M) (inst : Instance) (r : Rest) (d : Doing) (e : Entry) (es : List Entry) (k n : ℕ) (m2 : M) (r2 : Rest) (d2 : Doing) → IsWhere w x m inst r d (e ∷ es) → (x.progress ≡ Faced → x.waiting_for ≡ None) → is_fault x.waiting_for ≡ true → k + n ≡ 0 → Proceeds w.bytes w.ready w.keeps inst q e.call m r d to_go_on k n m2 r2 d2 → Stood w q m inst r d e.call k n m2 r2 d2
 stood w q x m inst r d e es k n m2 r2 d2 (writes {ps = ps} at some func st left few) fresh fault none (has_had_its_turn computes next all left2 ready) =
     let all_pieces = opens_all computes.opens in absurd (some (no_length ps (omega (arith, none, all_pieces))))
 stood w q x m inst r d e es k n m2 r2 d2 (is_faced at st) fresh fault none p = let never = sym fault ∙ ap is_fault (fresh at) in absurd (cc never)
@@ -207,14 +207,14 @@ is_right true fault both = both
 is_right false fault both = absurd (cc both)
 
 -- then a fault is kept
-kept : {M : Type 0} (w : Setting M) (q : ℕ) (x x1 : TenantState) (m m2 : M) (t : Tenant) (e : Entry) (es : List Entry) (k n : ℕ) (c : JournalCallState) (cs : List JournalCallState) (still : Bool) (a : Advanced w q x x1 m m2 t e es came.Again k n c cs still) → a.advances.to ≡ to_go_on → k + n ≡ 0 → is_fault x1.stands_for ≡ true → KeepsItsFault w q m t e m2 × RepresentsTenant w (written_on x1 c cs k n) m2 t
+kept : {M : Type 0} (w : Setting M) (q : ℕ) (x x1 : HostInstanceState) (m m2 : M) (t : Tenant) (e : Entry) (es : List Entry) (k n : ℕ) (c : JournalCallState) (cs : List JournalCallState) (still : Bool) (a : Advanced w q x x1 m m2 t e es came.Again k n c cs still) → a.advances.to ≡ to_go_on → k + n ≡ 0 → is_fault x1.waiting_for ≡ true → KeepsItsFault w q m t e m2 × RepresentsTenant w (written_on x1 c cs k n) m2 t
 kept w q x x1 m m2 t e es k n c cs still a goes none fault =
     let adv = a.advances in
     let b = a.before in
     let is_where = subst (IsWhere w x m t.inst t.rest t.doing) a.is_open b.is_where in
-    let fault_before : is_fault x.stands_for ≡ true = ap is_fault (sym a.same_stands) ∙ fault in
+    let fault_before : is_fault x.waiting_for ≡ true = ap is_fault (sym a.same_stands) ∙ fault in
     let s = stood w q x m t.inst t.rest t.doing e es k n m2 adv.rest adv.doing is_where b.fresh fault_before none (subst (λ to. Proceeds w.bytes w.ready w.keeps t.inst q e.call m t.rest t.doing to k n m2 adv.rest adv.doing) goes adv.proceeds) in
-    let f = fault_of x.stands_for fault_before in
+    let f = fault_of x.waiting_for fault_before in
     let no_k : k ≡ 0 = omega (arith, none) in
     let no_n : n ≡ 0 = omega (arith, none) in
     let there = adv.is_where (not_resting e.call (λ o is. let never = sym goes ∙ is in cc never) adv.proceeds) in
@@ -223,7 +223,7 @@ kept w q x x1 m m2 t e es k n c cs still a goes none fault =
     let there3 = is_where_too w x1 y m2 t.inst adv.rest adv.doing (e ∷ es) refl refl refl refl refl there2 in
     let there4 = subst (λ z. IsWhere w y m2 t.inst z adv.doing (e ∷ es)) s.same_rest there3 in
     let there5 = subst (λ z. IsWhere w y m2 t.inst t.rest z (e ∷ es)) s.same_doing there4 in (
-      record { fault = f.0; term = s.term; stands_for = b.stands_for ∙ f.1; doing = s.doing; no_charges = s.no_charges; same = s.same; next = s.next; fuel_left = s.fuel_left; ready = s.ready },
+      record { fault = f.0; term = s.term; waiting_for = b.waiting_for ∙ f.1; doing = s.doing; no_charges = s.no_charges; same = s.same; next = s.next; fuel_left = s.fuel_left; ready = s.ready },
       record {
         store = subst (HasRest w (state_over x1 m2) t.inst) s.same_rest adv.store;
         ended = subst (λ js. RepresentsEach js t.ended) (sym a.same_ended) b.ended;
@@ -231,7 +231,7 @@ kept w q x x1 m m2 t e es k n c cs still a goes none fault =
         is_where = subst (IsWhere w y m2 t.inst t.rest t.doing) (sym a.is_open) there5;
         waiting = b.waiting;
         counted = b.counted;
-        stands_for = b.stands_for ∙ ap suspension_of (sym a.same_stands);
+        waiting_for = b.waiting_for ∙ ap suspension_of (sym a.same_stands);
         fresh = λ at. absurd (adv.begun at);
         dead = a.same_dead ∙ b.dead;
       },
@@ -240,27 +240,27 @@ kept w q x x1 m m2 t e es k n c cs still a goes none fault =
 -- ---- bytes that aren't ready
 
 -- they lie in the memory
-waits_within : {M : Type 0} (w : Setting M) (inst : Instance) (q : ℕ) (call : Call) (m m2 : M) (r r2 : Rest) (d d2 : Doing) (k n : ℕ) (need : Need) (x : TenantState) (e : Entry) (es : List Entry) → Proceeds w.bytes w.ready w.keeps inst q call m r d (to_wait need) k n m2 r2 d2 → IsWhere w x m2 inst r2 d2 (e ∷ es) → IsInMemory (w.bytes m2) need
+waits_within : {M : Type 0} (w : Setting M) (inst : Instance) (q : ℕ) (call : Call) (m m2 : M) (r r2 : Rest) (d d2 : Doing) (k n : ℕ) (need : Need) (x : HostInstanceState) (e : Entry) (es : List Entry) → Proceeds w.bytes w.ready w.keeps inst q call m r d (to_wait need) k n m2 r2 d2 → IsWhere w x m2 inst r2 d2 (e ∷ es) → IsInMemory (w.bytes m2) need
 waits_within w inst q call m m2 r r2 d d2 k n need x e es (waits {term = term} c next some asks never) at = asks_within inst (store_with (w.bytes m2) r2) term need asks
 waits_within w inst q call m m2 r r2 d d2 k n need x e es (waits_to_write {more = more} {p = p} is written never) (writes at some func st left few) = piece_within (w.bytes m2) p more st.within st.in_pages
 
 -- ---- what a turn leaves
 
-again : {M : Type 0} (w : Setting M) (q : ℕ) (x x1 : TenantState) (m m2 : M) (t : Tenant) (e : Entry) (es : List Entry) (k n : ℕ) (c : JournalCallState) (cs : List JournalCallState) (still : Bool) (a : Advanced w q x x1 m m2 t e es came.Again k n c cs still) → a.advances.to ≡ to_go_on → (b : Bool) → (still && is_fault x1.stands_for) ≡ b
-    → LeavesTenant w q m t e es k n a.advances.rest a.advances.doing (cond b turned.Kept (turned.Again still)) (cond b (written_on x1 c cs k n) (record (written_on x1 c cs k n) { stands_for = None })) m2 to_go_on
+again : {M : Type 0} (w : Setting M) (q : ℕ) (x x1 : HostInstanceState) (m m2 : M) (t : Tenant) (e : Entry) (es : List Entry) (k n : ℕ) (c : JournalCallState) (cs : List JournalCallState) (still : Bool) (a : Advanced w q x x1 m m2 t e es came.Again k n c cs still) → a.advances.to ≡ to_go_on → (b : Bool) → (still && is_fault x1.waiting_for) ≡ b
+    → LeavesTenant w q m t e es k n a.advances.rest a.advances.doing (cond b turned.Kept (turned.Again still)) (cond b (written_on x1 c cs k n) (record (written_on x1 c cs k n) { waiting_for = None })) m2 to_go_on
 again w q x x1 m m2 t e es k n c cs still a goes true both =
-    let h = kept w q x x1 m m2 t e es k n c cs still a goes (no_steps still (k + n) (is_fault x1.stands_for) a.steps both) (is_right still (is_fault x1.stands_for) both) in
+    let h = kept w q x x1 m m2 t e es k n c cs still a goes (no_steps still (k + n) (is_fault x1.waiting_for) a.steps both) (is_right still (is_fault x1.waiting_for) both) in
     inr (refl, h.0, h.1)
 again w q x x1 m m2 t e es k n c cs still a goes false both =
     let b = a.before in
-    let none = keeps_none still (k + n) x1.stands_for a.steps both in
+    let none = keeps_none still (k + n) x1.waiting_for a.steps both in
     inl (
       (still, refl, a.steps),
-      subst (KeepsNoFault (k + n)) (ap suspension_of a.same_stands ∙ sym b.stands_for) none,
+      subst (KeepsNoFault (k + n)) (ap suspension_of a.same_stands ∙ sym b.waiting_for) none,
       goes_on w q x x1 m m2 t e es came.Again k n c cs None None b a.is_open a.same_ended a.same_dead a.first a.others a.advances (λ o is. let never = sym goes ∙ is in cc never) refl,
     )
 
-leaves : {M : Type 0} (w : Setting M) (q : ℕ) (x x1 : TenantState) (m m2 : M) (t : Tenant) (e : Entry) (es : List Entry) (answer : Came) (k n : ℕ) (c : JournalCallState) (cs : List JournalCallState) (still : Bool) (a : Advanced w q x x1 m m2 t e es answer k n c cs still) → (to : Upshot) → a.advances.to ≡ to → IsCame answer to
+leaves : {M : Type 0} (w : Setting M) (q : ℕ) (x x1 : HostInstanceState) (m m2 : M) (t : Tenant) (e : Entry) (es : List Entry) (answer : TurnOutcome) (k n : ℕ) (c : JournalCallState) (cs : List JournalCallState) (still : Bool) (a : Advanced w q x x1 m m2 t e es answer k n c cs still) → (to : Upshot) → a.advances.to ≡ to → IsCame answer to
     → LeavesTenant w q m t e es k n a.advances.rest a.advances.doing (answered (written_on x1 c cs k n) answer still) (settled_to (written_on x1 c cs k n) answer still (with_progress c k n) cs) m2 to
 leaves w q x x1 m m2 t e es (came.Returned result) k n c cs still a (to_end (returned vs)) goes is = (refl, λ s same. ends w q x x1 m m2 t e es (came.Returned result) k n c cs still a (end.Returned result) (returned vs) is s)
 leaves w q x x1 m m2 t e es (came.Trapped trap) k n c cs still a (to_end (stopped y)) goes is = (refl, λ s same. ends w q x x1 m m2 t e es (came.Trapped trap) k n c cs still a (end.Trapped trap) (stopped y) is s)
@@ -268,12 +268,12 @@ leaves w q x x1 m m2 t e es came.Fuel k n c cs still a out_of_fuel goes is =
     (refl, goes_on w q x x1 m m2 t e es came.Fuel k n c cs (Some stop.Fuel) (Some for_fuel) a.before a.is_open a.same_ended a.same_dead a.first a.others a.advances (λ o ended. let never = sym goes ∙ ended in cc never) refl)
 leaves w q x x1 m m2 t e es (came.Frame need) k n c cs still a (to_wait other) goes is =
     let b = a.before in
-    let o = ap (at_frame (k + n)) (b.stands_for ∙ ap suspension_of (sym a.same_stands)) ∙ at_frame_or_fault k n still x1.stands_for a.steps in
+    let o = ap (at_frame (k + n)) (b.waiting_for ∙ ap suspension_of (sym a.same_stands)) ∙ at_frame_or_fault k n still x1.waiting_for a.steps in
     let adv = a.advances in
     let proceeds = subst (λ z. Proceeds w.bytes w.ready w.keeps t.inst q e.call m t.rest t.doing z k n m2 adv.rest adv.doing) goes adv.proceeds in
     let there = adv.is_where (not_resting e.call (λ o ended. let never = sym goes ∙ ended in cc never) adv.proceeds) in
-    ((still, ap (λ z. turned.Frame z still) is, a.steps), waits_within w t.inst q e.call m m2 t.rest adv.rest t.doing adv.doing k n other x1 (gone_further e k n) es proceeds there, goes_on w q x x1 m m2 t e es (came.Frame need) k n c cs (frame_or_fault still x1.stands_for) (at_frame (k + n) t.stands_for) b a.is_open a.same_ended a.same_dead a.first a.others a.advances (λ o ended. let never = sym goes ∙ ended in cc never) o)
-leaves w q x x1 m m2 t e es came.Again k n c cs still a to_go_on goes is = again w q x x1 m m2 t e es k n c cs still a goes (still && is_fault x1.stands_for) refl
+    ((still, ap (λ z. turned.Frame z still) is, a.steps), waits_within w t.inst q e.call m m2 t.rest adv.rest t.doing adv.doing k n other x1 (gone_further e k n) es proceeds there, goes_on w q x x1 m m2 t e es (came.Frame need) k n c cs (frame_or_fault still x1.waiting_for) (at_frame (k + n) t.waiting_for) b a.is_open a.same_ended a.same_dead a.first a.others a.advances (λ o ended. let never = sym goes ∙ ended in cc never) o)
+leaves w q x x1 m m2 t e es came.Again k n c cs still a to_go_on goes is = again w q x x1 m m2 t e es k n c cs still a goes (still && is_fault x1.waiting_for) refl
 leaves w q x x1 m m2 t e es (came.Returned result) k n c cs still a (to_end (stopped y)) goes is = absurd is
 leaves w q x x1 m m2 t e es (came.Returned result) k n c cs still a (to_end cancelled) goes is = absurd is
 leaves w q x x1 m m2 t e es (came.Returned result) k n c cs still a (to_end dead) goes is = absurd is
@@ -311,14 +311,14 @@ leaves w q x x1 m m2 t e es came.Again k n c cs still a out_of_fuel goes is = ab
 leaves w q x x1 m m2 t e es came.Again k n c cs still a (to_wait other) goes is = absurd is
 
 -- So a turn is one of the host's definitions, and leaves the instance so.
-pub settles : {M : Type 0} (w : Setting M) (q : ℕ) (x x1 : TenantState) (m m2 : M) (t : Tenant) (e : Entry) (es : List Entry) (answer : Came) (k n : ℕ) (c : JournalCallState) (cs : List JournalCallState) (still : Bool) → Advanced w q x x1 m m2 t e es answer k n c cs still
+pub settles : {M : Type 0} (w : Setting M) (q : ℕ) (x x1 : HostInstanceState) (m m2 : M) (t : Tenant) (e : Entry) (es : List Entry) (answer : TurnOutcome) (k n : ℕ) (c : JournalCallState) (cs : List JournalCallState) (still : Bool) → Advanced w q x x1 m m2 t e es answer k n c cs still
     → TurnsTenant w q m t e es (answered (written_on x1 c cs k n) answer still) (settled_to (written_on x1 c cs k n) answer still (with_progress c k n) cs) m2
 settles w q x x1 m m2 t e es answer k n c cs still a =
     let adv = a.advances in
     record { to = adv.to; pieces = k; charges = n; rest = adv.rest; doing = adv.doing; proceeds = adv.proceeds; leaves = leaves w q x x1 m m2 t e es answer k n c cs still a adv.to refl adv.is_came }
 
 -- the same of what the code has then
-pub settles_so : {M : Type 0} (w : Setting M) (q : ℕ) (x x1 : TenantState) (m m2 : M) (t : Tenant) (e : Entry) (es : List Entry) (answer : Came) (k n : ℕ) (c : JournalCallState) (cs : List JournalCallState) (still : Bool) (j2 : JournalState) (answer2 : Turned) (x2 : TenantState) → Advanced w q x x1 m m2 t e es answer k n c cs still
+pub settles_so : {M : Type 0} (w : Setting M) (q : ℕ) (x x1 : HostInstanceState) (m m2 : M) (t : Tenant) (e : Entry) (es : List Entry) (answer : TurnOutcome) (k n : ℕ) (c : JournalCallState) (cs : List JournalCallState) (still : Bool) (j2 : JournalState) (answer2 : TurnResult) (x2 : HostInstanceState) → Advanced w q x x1 m m2 t e es answer k n c cs still
     → j2 ≡ record x1.journal { open_calls = with_progress c k n ∷ cs } → answer2 ≡ answered (record x1 { journal = j2 }) answer still → x2 ≡ settled_to (record x1 { journal = j2 }) answer still (with_progress c k n) cs → TurnsTenant w q m t e es answer2 x2 m2
 settles_so w q x x1 m m2 t e es answer k n c cs still j2 answer2 x2 a go answered_so left =
     let h = settles w q x x1 m m2 t e es answer k n c cs still a in

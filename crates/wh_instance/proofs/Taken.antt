@@ -6,17 +6,17 @@ use Rattle.wh_model.specs.Execution.Store.{Value, own, Instance, bits_of}
 use Rattle.wh_host_model.specs.Space.Parts.{Space}
 use Rattle.wh_host_model.specs.Host.Worlds.{Rest, Doing, Tenant, journal, store_in}
 use Rattle.wh_host_model.specs.Owners.{Entry, new_entry}
-use Rattle.wh_host_model.specs.Host.Answers.{Faces}
-use Rattle.wh_host_model.specs.Host.Calls.{open_count, Meets, IsFirst, TakesCall}
+use Rattle.wh_host_model.specs.Host.CallAnswers.{Faces}
+use Rattle.wh_host_model.specs.Host.OwnerCalls.{open_count, Meets, IsFirst, TakesCall}
 use Rattle.wh_host_model.specs.Owners.{most_open, most_calls, AreArguments, ExportsOwn, InvokeFault, no_export, arguments, queue_full, instance_dead, journal_full, rank}
 use Rattle.wh_journal.specs.Calls.{JournalCallState, JournalState}
 use Rattle.wh_syntax.specs.View.{view_module}
 use Rattle.wh_imports.specs.LinkedState.{LinkedState}
-use Rattle.wh_machine.specs.States.{Setting}
-use Rattle.wh_arguments.specs.Asked.{NamesOwn, NamesOnly, NamesNone, CanTake}
-use Rattle.wh_arguments.proofs.Given.{types_of, all_fit}
-use Rattle.wh_instance.specs.declared.stages.Progress.TheVariants.{Faced}
-use Rattle.wh_instance.specs.Tenancy.{TenantState, RepresentsCall, RepresentsEach, MayBegin, IsCounted, behind_first, IsWhere, rests, writes, is_faced, is_under_way, byte_setting, IsTenant, RepresentsTenant}
+use Rattle.wh_machine.specs.CallStates.{Setting}
+use Rattle.wh_instance.specs.CallsByName.{NamesOwn, NamesOnly, NamesNone, CanTake}
+use Rattle.wh_instance.proofs.Given.{types_of, all_fit}
+use Rattle.wh_instance.specs.declared.stages.CallStage.TheVariants.{Faced}
+use Rattle.wh_instance.specs.Tenancy.{HostInstanceState, RepresentsCall, RepresentsEach, MayBegin, IsCounted, behind_first, IsWhere, rests, writes, is_faced, is_under_way, byte_setting, IsTenant, RepresentsTenant}
 use Rattle.wh_instance.specs.declared.error.InvokeError.{InvokeError}
 use Rattle.wh_instance.specs.declared.error.InvokeError.TheVariants.{NoExport, Arguments, QueueFull, Dead, JournalFull, Memory}
 use Rattle.wh_instance.specs.Invoked.{open_in, calls_in_journal, HasCallRoom, LacksCallRoom, TakesThese, TakesNone, MayTake, new_call, with_journal, AddsCall, IsSomeTenant, InvokesTenant, RefusesInvoke}
@@ -31,13 +31,13 @@ each_length [] (e ∷ es) h = absurd h
 each_length (c ∷ cs) [] h = absurd h
 each_length (c ∷ cs) (e ∷ es) h = ap suc (each_length cs es h.1)
 
-pub same_open : {M : Type 0} (w : Setting M) (x : TenantState) (m : M) (t : Tenant) → RepresentsTenant w x m t → open_in x ≡ open_count t
+pub same_open : {M : Type 0} (w : Setting M) (x : HostInstanceState) (m : M) (t : Tenant) → RepresentsTenant w x m t → open_in x ≡ open_count t
 same_open w x m t rep =
     let ended = each_length x.journal.ended t.ended rep.ended in
     let open_calls = each_length x.journal.open_calls t.open_calls rep.open_calls in
     ap (λ n. length x.journal.open_calls - (1 - min 1 n)) ended ∙ ap (λ n. n - (1 - min 1 (length t.ended))) open_calls
 
-pub same_calls : {M : Type 0} (w : Setting M) (x : TenantState) (m : M) (t : Tenant) → RepresentsTenant w x m t → calls_in_journal x ≡ length (journal t)
+pub same_calls : {M : Type 0} (w : Setting M) (x : HostInstanceState) (m : M) (t : Tenant) → RepresentsTenant w x m t → calls_in_journal x ≡ length (journal t)
 same_calls w x m t rep =
     let ended = each_length x.journal.ended t.ended rep.ended in
     let open_calls = each_length x.journal.open_calls t.open_calls rep.open_calls in
@@ -62,24 +62,24 @@ may_begin inst func type body vs given fuel is_own fits = record {
   waits = record { outcome = refl; fragments = refl; charges = refl };
 }
 
-at_rest : {M : Type 0} (w : Setting M) (x : TenantState) (m : M) (inst : Instance) (r : Rest) (d : Doing) → IsWhere w x m inst r d [] → x.progress ≡ Faced
+at_rest : {M : Type 0} (w : Setting M) (x : HostInstanceState) (m : M) (inst : Instance) (r : Rest) (d : Doing) → IsWhere w x m inst r d [] → x.progress ≡ Faced
 at_rest w x m inst r d (rests at) = at
 
 -- other calls may wait behind the present one
-behind : {M : Type 0} (w : Setting M) (x : TenantState) (m : M) (inst : Instance) (r : Rest) (d : Doing) (e : Entry) (es fs : List Entry) → IsWhere w x m inst r d (e ∷ es) → IsWhere w x m inst r d (e ∷ fs)
+behind : {M : Type 0} (w : Setting M) (x : HostInstanceState) (m : M) (inst : Instance) (r : Rest) (d : Doing) (e : Entry) (es fs : List Entry) → IsWhere w x m inst r d (e ∷ es) → IsWhere w x m inst r d (e ∷ fs)
 behind w x m inst r d e es fs (writes at some func st left few) = writes at some func st left few
 behind w x m inst r d e es fs (is_faced {func = func} at st) = is_faced {func = func} at st
 behind w x m inst r d e es fs (is_under_way at st within) = is_under_way at st within
 
 -- where the present call is then
-record Joined {M : Type 0} (w : Setting M) (y : TenantState) (m : M) (t : Tenant) (s : Space) (e : Entry) : Type 0 where
+record Joined {M : Type 0} (w : Setting M) (y : HostInstanceState) (m : M) (t : Tenant) (s : Space) (e : Entry) : Type 0 where
   doing : Doing
   first : t.open_calls ≡ [] → Faces t.inst (store_in s t) (e ∷ []) doing
   later : t.open_calls ≢ [] → doing ≡ t.doing
   is_where : IsWhere w y m t.inst t.rest doing (t.open_calls ++ e ∷ [])
   waiting : AllByRecursion (MayBegin t.inst) (behind_first (t.open_calls ++ e ∷ []))
 
-joined : {M : Type 0} (w : Setting M) (x y : TenantState) (m : M) (t : Tenant) (s : Space) (e : Entry) → y.store ≡ x.store → y.machine ≡ x.machine → y.places ≡ x.places → y.cursor ≡ x.cursor → y.progress ≡ x.progress → RepresentsTenant w x m t → MayBegin t.inst e → (os : List Entry) → t.open_calls ≡ os → Joined w y m t s e
+joined : {M : Type 0} (w : Setting M) (x y : HostInstanceState) (m : M) (t : Tenant) (s : Space) (e : Entry) → y.store ≡ x.store → y.machine ≡ x.machine → y.places ≡ x.places → y.cursor ≡ x.cursor → y.progress ≡ x.progress → RepresentsTenant w x m t → MayBegin t.inst e → (os : List Entry) → t.open_calls ≡ os → Joined w y m t s e
 joined w x y m t s e a b c d f rep may [] none =
     let at = f ∙ at_rest w x m t.inst t.rest t.doing (subst (IsWhere w x m t.inst t.rest t.doing) none rep.is_where) in
     let all : AllByRecursion (MayBegin t.inst) (e ∷ []) = (may, tt) in
@@ -101,7 +101,7 @@ joined w x y m t s e a b c d f rep may (e0 ∷ es) some =
       waiting = rw some (all_joins (MayBegin t.inst) es (e ∷ []) waiting (may, tt));
     }
 
-pub takes_call : {M : Type 0} (w : Setting M) (x : TenantState) (m : M) (t : Tenant) (s : Space) (mod_ : Module) (name : List ℕ) (given : List ℤ) (fuel at func : ℕ) (type : FuncType) (body : Body) (vs : List Value) (words : List ℕ) (j : JournalState)
+pub takes_call : {M : Type 0} (w : Setting M) (x : HostInstanceState) (m : M) (t : Tenant) (s : Space) (mod_ : Module) (name : List ℕ) (given : List ℤ) (fuel at func : ℕ) (type : FuncType) (body : Body) (vs : List Value) (words : List ℕ) (j : JournalState)
     → RepresentsTenant w x m t → ExportsOwn mod_ t.inst name func type body → AreArguments type.params given vs → map bits_of vs ≡ words → fuel < 2 ^ 64 → HasCallRoom x → at ≡ calls_in_journal x → j ≡ record x.journal { open_calls = x.journal.open_calls ++ new_call func given words fuel ∷ [] }
     → (t2 : Tenant) × TakesCall mod_ s t name given fuel at t2 × RepresentsTenant w (with_journal x j) m t2
 takes_call w x m t s mod_ name given fuel at func type body vs words j rep exports fits are_words counted room place pushed =
@@ -141,7 +141,7 @@ takes_call w x m t s mod_ name given fuel at func type body vs words j rep expor
         is_where = k.is_where;
         waiting = k.waiting;
         counted = all_joins IsCounted t.open_calls (e ∷ []) rep.counted (one, tt);
-        stands_for = rep.stands_for;
+        waiting_for = rep.waiting_for;
         fresh = rep.fresh;
         dead = rep.dead;
       },
@@ -211,7 +211,7 @@ none_met mod_ t name given a b few alive calls journal_full met = omega (arith, 
 
 -- ---- of a linked module
 
-pub refuses_export : (l : LinkedState) (x : TenantState) (name : List ℕ) (given : List ℤ) → NamesNone l name → RefusesInvoke l x name given NoExport
+pub refuses_export : (l : LinkedState) (x : HostInstanceState) (name : List ℕ) (given : List ℤ) → NamesNone l name → RefusesInvoke l x name given NoExport
 refuses_export l x name given none limit bytes t s rep sees =
     let (c, st) = rep.store in
     first_export (view_module l.valid.decoded) t name given (λ y type body e. none c t.inst y type body st.instance e)
@@ -219,7 +219,7 @@ refuses_export l x name given none limit bytes t s rep sees =
 same_func : {x y : ℕ} → Some x ≡ Some y → x ≡ y
 same_func e = cc e
 
-pub refuses_arguments : (l : LinkedState) (x : TenantState) (name : List ℕ) (given : List ℤ) (func : ℕ) → NamesOwn l name func → NamesOnly l name (Some func) → TakesNone l func given → RefusesInvoke l x name given Arguments
+pub refuses_arguments : (l : LinkedState) (x : HostInstanceState) (name : List ℕ) (given : List ℤ) (func : ℕ) → NamesOwn l name func → NamesOnly l name (Some func) → TakesNone l func given → RefusesInvoke l x name given Arguments
 refuses_arguments l x name given func owns only none limit bytes t s rep sees =
     let (c, st) = rep.store in
     let (type, body, exports) = owns c t.inst st.instance in
@@ -231,14 +231,14 @@ record Clear (l : LinkedState) (t : Tenant) (name : List ℕ) (given : List ℤ)
   no_export : ¬ (Meets (view_module l.valid.decoded) t name given no_export)
   no_arguments : ¬ (Meets (view_module l.valid.decoded) t name given arguments)
 
-clear : (l : LinkedState) (limit : ℕ) (x : TenantState) (bytes : List ℕ) (t : Tenant) (name : List ℕ) (given : List ℤ) (func : ℕ) → NamesOwn l name func → TakesThese l func given → IsTenant l limit x bytes t → Clear l t name given
+clear : (l : LinkedState) (limit : ℕ) (x : HostInstanceState) (bytes : List ℕ) (t : Tenant) (name : List ℕ) (given : List ℤ) (func : ℕ) → NamesOwn l name func → TakesThese l func given → IsTenant l limit x bytes t → Clear l t name given
 clear l limit x bytes t name given func owns takes rep =
     let (c, st) = rep.store in
     let (type, body, exports) = owns c t.inst st.instance in
     let (vs, fits) = takes c t.inst type body st.instance exports.is_own in
     record { no_export = λ never. never func type body exports; no_arguments = λ never. never func type body vs exports fits }
 
-pub refuses_room : (l : LinkedState) (x : TenantState) (name : List ℕ) (given : List ℤ) (func : ℕ) (e : InvokeError) → NamesOwn l name func → TakesThese l func given → LacksCallRoom x e → RefusesInvoke l x name given e
+pub refuses_room : (l : LinkedState) (x : HostInstanceState) (name : List ℕ) (given : List ℤ) (func : ℕ) (e : InvokeError) → NamesOwn l name func → TakesThese l func given → LacksCallRoom x e → RefusesInvoke l x name given e
 refuses_room l x name given func NoExport owns takes lacks limit bytes t s rep sees = absurd lacks
 refuses_room l x name given func Arguments owns takes lacks limit bytes t s rep sees = absurd lacks
 refuses_room l x name given func Memory owns takes lacks limit bytes t s rep sees = absurd lacks
@@ -259,7 +259,7 @@ refuses_room l x name given func JournalFull owns takes lacks limit bytes t s re
     let many = lacks.2 in
     first_journal (view_module l.valid.decoded) t name given k.no_export k.no_arguments (omega (arith, opens, few)) (sym rep.dead ∙ lacks.1) (omega (arith, calls, many))
 
-pub refuses_memory : (l : LinkedState) (x : TenantState) (name : List ℕ) (given : List ℤ) (func : ℕ) → MayTake l x name given func → RefusesInvoke l x name given Memory
+pub refuses_memory : (l : LinkedState) (x : HostInstanceState) (name : List ℕ) (given : List ℤ) (func : ℕ) → MayTake l x name given func → RefusesInvoke l x name given Memory
 refuses_memory l x name given func may limit bytes t s rep sees =
     let k = clear l limit x bytes t name given func may.names may.takes rep in
     let opens = same_open (byte_setting l limit) x bytes t rep in
@@ -269,14 +269,14 @@ refuses_memory l x name given func may limit bytes t s rep sees =
     let less = room.few_calls in
     none_met (view_module l.valid.decoded) t name given k.no_export k.no_arguments (omega (arith, opens, few)) (sym rep.dead ∙ room.alive) (omega (arith, calls, less))
 
-pub can_take : (l : LinkedState) (x : TenantState) (name : List ℕ) (given : List ℤ) (func : ℕ) → MayTake l x name given func → IsSomeTenant l x → CanTake l func given
+pub can_take : (l : LinkedState) (x : HostInstanceState) (name : List ℕ) (given : List ℤ) (func : ℕ) → MayTake l x name given func → IsSomeTenant l x → CanTake l func given
 can_take l x name given func may (limit, bytes, t, rep) =
     let (c, st) = rep.store in
     let (type, body, exports) = may.names c t.inst st.instance in
     let (vs, fits) = may.takes c t.inst type body st.instance exports.is_own in
     record { context = c; inst = t.inst; is = st.instance; type = type; body = body; vs = vs; is_own = exports.is_own; fits = fits }
 
-pub invokes : (l : LinkedState) (x x2 : TenantState) (name : List ℕ) (given : List ℤ) (fuel at func : ℕ) → MayTake l x name given func → fuel < 2 ^ 64 → AddsCall l x func given fuel at x2 → InvokesTenant l x name given fuel at x2
+pub invokes : (l : LinkedState) (x x2 : HostInstanceState) (name : List ℕ) (given : List ℤ) (fuel at func : ℕ) → MayTake l x name given func → fuel < 2 ^ 64 → AddsCall l x func given fuel at x2 → InvokesTenant l x name given fuel at x2
 invokes l x x2 name given fuel at func may counted (words, are, place, pushed) limit bytes t s rep sees =
     let (c, st) = rep.store in
     let (type, body, exports) = may.names c t.inst st.instance in

@@ -8,22 +8,21 @@ use Rattle.wh_model.specs.Validity.Typing.{Context, operand}
 use Rattle.wh_model.specs.Execution.Store.{Value, value, type_of, bits_of, InRange, own, Instance}
 use Rattle.wh_model.specs.Execution.Replay.{Outcome, returned, stopped, cancelled, dead, pending, Call, fails}
 use Rattle.wh_host_model.specs.Host.Worlds.{Tenant, journal}
-use Rattle.wh_host_model.specs.Owners.{Entry}
+use Rattle.wh_host_model.specs.Owners.{Entry, is_open}
 use Rattle.wh_host_model.specs.Host.Turns.{HaveTypes}
 use Rattle.wh_host_model.specs.Host.Journals.{HasEnded, InOrder, IsDeadCall, IsEnded, IsOpenCall, ReturnsTyped, is_starting, has_started, has_died}
-use Rattle.wh_host_model.specs.Lines.Made.{is_open}
 use Rattle.wh_host_model.proofs.Host.Entries.{all_join}
 use Rattle.wh_imports.specs.LinkedState.{LinkedState}
 use Rattle.wh_call.specs.Arguments.{IsOwnType}
 use Rattle.wh_control.proofs.Jumps.{all_at}
-use Rattle.wh_machine.specs.Runs.{linked_parts, IsInstanceOf}
+use Rattle.wh_machine.specs.MachineRuns.{linked_parts, IsInstanceOf}
 use Rattle.wh_journal.specs.Calls.{JournalCallState}
 use Rattle.wh_journal.specs.declared.calls.CallEnd.TheVariants as end
 use Rattle.wh_instance.specs.declared.stages.CallStatus.{CallStatus}
 use Rattle.wh_instance.specs.declared.stages.CallStatus.TheVariants as tells
 use Rattle.wh_instance.specs.declared.stages.CallValue.{CallValue}
 use Rattle.wh_instance.specs.declared.stages.Suspension as code
-use Rattle.wh_instance.specs.Tenancy.{IsCallEnd, RepresentsCall, RepresentsEach, TenantState}
+use Rattle.wh_instance.specs.Tenancy.{IsCallEnd, RepresentsCall, RepresentsEach, HostInstanceState}
 use Rattle.wh_instance.specs.Told.{IsCallStatus, IsEntryTold, IsReturnedAs, TellsCall, told_values, waits_at}
 use Rattle.wh_instance.proofs.Opened.{declared_in}
 use Rattle.wh_instance.proofs.Requested.{as_many_ended}
@@ -213,7 +212,7 @@ waits_by m t e at ended order many is =
     ]
 
 -- it is told so, where it waits exactly behind those that have ended
-pub told_at : (l : LinkedState) (x : TenantState) (at ended : ℕ) (c : JournalCallState) (status : CallStatus) → slice_get (x.journal.ended ++ x.journal.open_calls) at ≡ Some c → ended ≡ length x.journal.ended → IsEntryTold l c (nat_lt ended at) x.stands_for status → TellsCall l x at (Some status)
+pub told_at : (l : LinkedState) (x : HostInstanceState) (at ended : ℕ) (c : JournalCallState) (status : CallStatus) → slice_get (x.journal.ended ++ x.journal.open_calls) at ≡ Some c → ended ≡ length x.journal.ended → IsEntryTold l c (nat_lt ended at) x.waiting_for status → TellsCall l x at (Some status)
 told_at l x at ended c status is many says limit bytes m t rep order =
     let each = join_each x.journal.ended x.journal.open_calls t.ended t.open_calls rep.ended rep.open_calls in
     let found = entry_at (x.journal.ended ++ x.journal.open_calls) (journal t) at c each is in
@@ -222,8 +221,8 @@ told_at l x at ended c status is many says limit bytes m t rep order =
     let told = says rep.store.0 t.inst e rep.store.1.instance found.2 typed in
     let as_many : ended ≡ length t.ended = many ∙ sym (as_many_ended x.journal.ended t.ended rep.ended) in
     let waits = waits_by m t e at ended order as_many found.1 in
-    (e, found.1, subst (λ b. IsCallStatus status b t.stands_for e.call) (sym waits) (subst (λ o. IsCallStatus status (nat_lt ended at) o e.call) (sym rep.stands_for) told))
+    (e, found.1, subst (λ b. IsCallStatus status b t.waiting_for e.call) (sym waits) (subst (λ o. IsCallStatus status (nat_lt ended at) o e.call) (sym rep.waiting_for) told))
 
-pub none_told : (l : LinkedState) (x : TenantState) (at : ℕ) → slice_get (x.journal.ended ++ x.journal.open_calls) at ≡ None → TellsCall l x at None
+pub none_told : (l : LinkedState) (x : HostInstanceState) (at : ℕ) → slice_get (x.journal.ended ++ x.journal.open_calls) at ≡ None → TellsCall l x at None
 none_told l x at none limit bytes m t rep order =
     no_entry_at (x.journal.ended ++ x.journal.open_calls) (journal t) at (join_each x.journal.ended x.journal.open_calls t.ended t.open_calls rep.ended rep.open_calls) none

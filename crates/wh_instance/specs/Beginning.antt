@@ -12,7 +12,7 @@ use Rattle.wh_initial.specs.Begins.{Instantiates, first_store}
 use Rattle.wh_journal.specs.Calls.{JournalCallState, JournalState}
 use Rattle.wh_journal.specs.declared.calls.CallEnd.{CallEnd}
 use Rattle.wh_journal.specs.declared.calls.CallEnd.TheVariants as end
-use Rattle.wh_instance.specs.Tenancy.{TenantState, IsTenant}
+use Rattle.wh_instance.specs.Tenancy.{HostInstanceState, IsTenant}
 
 -- ---- the first journal
 
@@ -41,12 +41,12 @@ pub record IsBegun (t : Tenant) (inst : Instance) (r : Rest) (d : Doing) (ended 
   pub doing : t.doing ≡ d
   pub ended_are : t.ended ≡ ended
   pub open_are : t.open_calls ≡ open_calls
-  pub stands_for : t.stands_for ≡ None
+  pub waiting_for : t.waiting_for ≡ None
   pub dead : t.dead ≡ false
 
 -- Whatever it was given, its start begins as the definition of an admission says; and with a memory of zeros the code's
 -- instance stands for one that has begun so.
-abbrev pub BeginsTenant : LinkedState → Instantiated → ℕ → TenantState → Type 0
+abbrev pub BeginsTenant : LinkedState → Instantiated → ℕ → HostInstanceState → Type 0
 BeginsTenant l begun fuel x =
     (p : Parameters) (i : Instantiates (view_module l.valid.decoded) p begun)
     → (d : Doing) × (ended : List Entry) × (open_calls : List Entry)

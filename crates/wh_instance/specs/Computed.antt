@@ -6,22 +6,22 @@ use Rattle.wh_model.specs.Execution.Store.{Instance, Store}
 use Rattle.wh_model.specs.Execution.Configuration.{Config}
 use Rattle.wh_model.specs.Execution.Reduction.{IsNext}
 use Rattle.wh_model.specs.Execution.Asking.{Asks}
-use Rattle.wh_machine.specs.States.{CallState, Setting, StandsFor, AsksFor}
+use Rattle.wh_machine.specs.CallStates.{CallState, Setting, RepresentsConfig, AsksFor}
 use Rattle.wh_call.specs.declared.calling.RunEnd.TheVariants as run
 use Rattle.wh_call.specs.Ends.{HasStoreIn, StopsAt, EndsWithin, TakesTo}
-use Rattle.wh_instance.specs.declared.computing.Came.{Came}
-use Rattle.wh_instance.specs.declared.computing.Came.TheVariants.{Returned, Trapped, Fuel, Frame, Again}
+use Rattle.wh_instance.specs.declared.computing.TurnOutcome.{TurnOutcome}
+use Rattle.wh_instance.specs.declared.computing.TurnOutcome.TheVariants.{Returned, Trapped, Fuel, Frame, Again}
 
 -- ---- the next step
 
--- whatever the state stands for reads or writes these bytes next, and they aren't ready
+-- whatever the state represents reads or writes these bytes next, and they aren't ready
 abbrev pub AsksUnready : {M : Type 0} → Setting M → CallState M → Need → Type 0
 AsksUnready w state need = AsksFor w state need × ¬ (w.ready state.memory need)
 
 -- all that it reads or writes next is ready
 abbrev pub AsksReady : {M : Type 0} → Setting M → CallState M → Type 0
 AsksReady w state =
-    (out : Option ValType) (inst : Instance) (cfg : Config) (need : Need) → StandsFor w state out inst cfg
+    (out : Option ValType) (inst : Instance) (cfg : Config) (need : Need) → RepresentsConfig w state out inst cfg
     → Asks inst cfg need → w.ready state.memory need
 
 -- ---- a turn
@@ -34,7 +34,7 @@ IsNextReady ready inst c = IsNext inst c × ((need : Need) → Asks inst c need 
 -- configuration so many charges lead. Its run ends so within the fuel; or the turn's charges are taken, there is fuel
 -- left, and the next reduction is ready.
 abbrev pub ComesWithin : {M : Type 0} → Setting M → CallState M → Option ValType → Instance
-    → (ℕ → Config → Type 0) → ℕ → ℕ → Came → ℕ → Store → Type 0
+    → (ℕ → Config → Type 0) → ℕ → ℕ → TurnOutcome → ℕ → Store → Type 0
 ComesWithin w after out inst leads q left (Returned result) n s =
     (n ≤ q) × EndsWithin w after out inst leads left (run.Returned result) n s
 ComesWithin w after out inst leads q left (Trapped x) n s =
@@ -46,9 +46,9 @@ ComesWithin w after out inst leads q left (Frame need) n s =
 ComesWithin w after out inst leads q left Again n s =
     (n ≡ q) × (n < left) × StopsAt w after out inst leads n s (IsNextReady (w.ready after.memory) inst)
 
--- whatever configuration the state stands for comes to that, and what it leaves is of the same instance
-abbrev pub ComputesWithin : {M : Type 0} → Setting M → CallState M → ℕ → ℕ → Came → ℕ → CallState M → Type 0
+-- whatever configuration the state represents comes to that, and what it leaves is of the same instance
+abbrev pub ComputesWithin : {M : Type 0} → Setting M → CallState M → ℕ → ℕ → TurnOutcome → ℕ → CallState M → Type 0
 ComputesWithin w before q left came n after =
-    (out : Option ValType) (inst : Instance) (c : Config) → StandsFor w before out inst c
+    (out : Option ValType) (inst : Instance) (c : Config) → RepresentsConfig w before out inst c
     → (s : Store) × ComesWithin w after out inst (TakesTo w inst before.memory c after.memory) q left came n s
     × HasStoreIn w after inst s

@@ -1,10 +1,11 @@
+pub mod CallsByName
 pub mod Pieces
 pub mod Computed
 pub mod Turned
 pub mod Tenancy
 pub mod Advancing
 pub mod Settling
-pub mod Asked
+pub mod OwnerRequests
 pub mod Beginning
 pub mod Invoked
 pub mod Seen

@@ -2,33 +2,33 @@
 use Rattle.std.specs.Prelude.{◌≡◌, ◌≢◌, ℕ, Bool, true, false, List, [], length, Option, Some}
 use Rattle.std.specs.Bool.{MatchBool}
 use Rattle.wh_host_model.specs.Host.Happens.{AwaitsFrame}
-use Rattle.wh_host_model.specs.Host.Standing.{CanGoOn}
+use Rattle.wh_host_model.specs.Host.Suspensions.{CanGoOn}
 use Rattle.wh_instance.specs.declared.stages.Suspension.{Suspension}
 use Rattle.wh_instance.specs.declared.stages.Suspension.TheVariants as stop
-use Rattle.wh_instance.specs.Tenancy.{TenantState}
-use Rattle.wh_instance.specs.Asked.{OfAnyTenant}
+use Rattle.wh_instance.specs.Tenancy.{HostInstanceState}
+use Rattle.wh_instance.specs.OwnerRequests.{OfAnyTenant}
 
 -- so it is answered whether a turn can bring it on
-abbrev pub CanTurn : TenantState → Bool → Type 0
+abbrev pub CanTurn : HostInstanceState → Bool → Type 0
 CanTurn x can = OfAnyTenant x (λ l limit bytes t. MatchBool can (CanGoOn t) (¬ (CanGoOn t)))
 
 -- and whether no call of it is open
-abbrev pub IsIdle : TenantState → Bool → Type 0
+abbrev pub IsIdle : HostInstanceState → Bool → Type 0
 IsIdle x idle = OfAnyTenant x (λ l limit bytes t. MatchBool idle (t.open_calls ≡ []) (t.open_calls ≢ []))
 
--- a call stands for a frame
-abbrev pub stands_at_frame : Option Suspension → Bool
-stands_at_frame (Some stop.Frame) = true
-stands_at_frame other = false
+-- a call waits for a frame
+abbrev pub waits_at_frame : Option Suspension → Bool
+waits_at_frame (Some stop.Frame) = true
+waits_at_frame other = false
 
 -- and whether its present call does
-abbrev pub WaitsForFrame : TenantState → Bool → Type 0
+abbrev pub WaitsForFrame : HostInstanceState → Bool → Type 0
 WaitsForFrame x waits = OfAnyTenant x (λ l limit bytes t. MatchBool waits (AwaitsFrame t) (¬ (AwaitsFrame t)))
 
 -- so many calls of it have ended
-abbrev pub IsPresent : TenantState → ℕ → Type 0
+abbrev pub IsPresent : HostInstanceState → ℕ → Type 0
 IsPresent x call = OfAnyTenant x (λ l limit bytes t. length t.ended ≡ call)
 
 -- these bytes are the output of its store
-abbrev pub HasOutput : TenantState → List ℕ → Type 0
+abbrev pub HasOutput : HostInstanceState → List ℕ → Type 0
 HasOutput x output = OfAnyTenant x (λ l limit bytes t. output ≡ t.rest.output)

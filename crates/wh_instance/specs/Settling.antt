@@ -3,14 +3,14 @@ use Rattle.std.specs.Prelude.{◌&&◌, Bool, true, false, cond, List, [], ◌�
 use Rattle.wh_journal.specs.Calls.{JournalCallState, with_end}
 use Rattle.wh_journal.specs.declared.calls.CallEnd.{CallEnd}
 use Rattle.wh_journal.specs.declared.calls.CallEnd.TheVariants as end
-use Rattle.wh_instance.specs.declared.computing.Came.{Came}
-use Rattle.wh_instance.specs.declared.computing.Came.TheVariants.{Returned, Trapped, Fuel, Frame, Again}
-use Rattle.wh_instance.specs.declared.stages.Progress.TheVariants.{Faced}
+use Rattle.wh_instance.specs.declared.computing.TurnOutcome.{TurnOutcome}
+use Rattle.wh_instance.specs.declared.computing.TurnOutcome.TheVariants.{Returned, Trapped, Fuel, Frame, Again}
+use Rattle.wh_instance.specs.declared.stages.CallStage.TheVariants.{Faced}
 use Rattle.wh_instance.specs.declared.stages.Suspension.{Suspension}
 use Rattle.wh_instance.specs.declared.stages.Suspension.TheVariants as stop
-use Rattle.wh_instance.specs.declared.stages.Turned.{Turned}
-use Rattle.wh_instance.specs.declared.stages.Turned.TheVariants as turned
-use Rattle.wh_instance.specs.Tenancy.{TenantState}
+use Rattle.wh_instance.specs.declared.stages.TurnResult.{TurnResult}
+use Rattle.wh_instance.specs.declared.stages.TurnResult.TheVariants as turned
+use Rattle.wh_instance.specs.Tenancy.{HostInstanceState}
 
 -- ---- the end of the present call
 
@@ -28,7 +28,7 @@ is_fatal [] how = has_failed how
 is_fatal (c ∷ cs) how = false
 
 -- The present call has ended so, and these wait: the next one is faced; or they end as dead, and so does the instance.
-abbrev pub closed : TenantState → CallEnd → JournalCallState → List JournalCallState → TenantState
+abbrev pub closed : HostInstanceState → CallEnd → JournalCallState → List JournalCallState → HostInstanceState
 closed x how c cs =
     cond (is_fatal x.journal.ended how)
     (record x {
@@ -37,13 +37,13 @@ closed x how c cs =
         open_calls = [];
       };
       progress = Faced;
-      stands_for = None;
+      waiting_for = None;
       dead = true;
     })
     (record x {
       journal = record { ended = x.journal.ended ++ with_end c how ∷ []; open_calls = cs };
       progress = Faced;
-      stands_for = None;
+      waiting_for = None;
     })
 
 -- ---- the end of a turn
@@ -57,16 +57,16 @@ abbrev pub frame_or_fault : Bool → Option Suspension → Option Suspension
 frame_or_fault still stands = cond (still && is_fault stands) stands (Some stop.Frame)
 
 -- what the turn answers, and what it leaves, `still` saying that no step was taken
-abbrev pub answered : TenantState → Came → Bool → Turned
+abbrev pub answered : HostInstanceState → TurnOutcome → Bool → TurnResult
 answered x (Returned result) still = turned.Ended
 answered x (Trapped trap) still = turned.Ended
 answered x Fuel still = turned.Fuel
 answered x (Frame need) still = turned.Frame need still
-answered x Again still = cond (still && is_fault x.stands_for) turned.Kept (turned.Again still)
+answered x Again still = cond (still && is_fault x.waiting_for) turned.Kept (turned.Again still)
 
-abbrev pub settled_to : TenantState → Came → Bool → JournalCallState → List JournalCallState → TenantState
+abbrev pub settled_to : HostInstanceState → TurnOutcome → Bool → JournalCallState → List JournalCallState → HostInstanceState
 settled_to x (Returned result) still c cs = closed x (end.Returned result) c cs
 settled_to x (Trapped trap) still c cs = closed x (end.Trapped trap) c cs
-settled_to x Fuel still c cs = record x { stands_for = Some stop.Fuel }
-settled_to x (Frame need) still c cs = record x { stands_for = frame_or_fault still x.stands_for }
-settled_to x Again still c cs = cond (still && is_fault x.stands_for) x (record x { stands_for = None })
+settled_to x Fuel still c cs = record x { waiting_for = Some stop.Fuel }
+settled_to x (Frame need) still c cs = record x { waiting_for = frame_or_fault still x.waiting_for }
+settled_to x Again still c cs = cond (still && is_fault x.waiting_for) x (record x { waiting_for = None })

@@ -8,19 +8,19 @@ use Rattle.wh_machine.specs.contracts.machine.Machine as machine_type
 use Rattle.wh_journal.specs.Calls.{JournalState, stored_journal}
 use Rattle.wh_instance.specs.declared.writing.Cursor.{Cursor}
 use Rattle.wh_instance.specs.contracts.writing.Cursor as cursor_type
-use Rattle.wh_instance.specs.declared.stages.Progress.{Progress}
-use Rattle.wh_instance.specs.contracts.stages.Progress as progress_type
+use Rattle.wh_instance.specs.declared.stages.CallStage.{CallStage}
+use Rattle.wh_instance.specs.contracts.stages.CallStage as progress_type
 use Rattle.wh_instance.specs.declared.stages.Suspension.{Suspension}
 use Rattle.wh_instance.specs.contracts.stages.Suspension as suspension_type
-use Rattle.wh_instance.specs.Tenancy.{TenantState}
+use Rattle.wh_instance.specs.Tenancy.{HostInstanceState}
 
-abbrev pub stored_tenant : Coded TenantState
+abbrev pub stored_tenant : Coded HostInstanceState
 stored_tenant =
-    code_by (Store × (Machine × (List ℕ × (Cursor × (Progress × (JournalState × (Option Suspension × Bool)))))))
+    code_by (Store × (Machine × (List ℕ × (Cursor × (CallStage × (JournalState × (Option Suspension × Bool)))))))
     (coded× store_type.the_row.coded (coded× machine_type.the_row.coded (coded× (coded_list coded_ℕ)
     (coded× cursor_type.the_row.coded (coded× progress_type.the_row.coded (coded× stored_journal
     (coded× (coded_option suspension_type.the_row.coded) coded_bool)))))))
-    (λ x. (x.store, (x.machine, (x.places, (x.cursor, (x.progress, (x.journal, (x.stands_for, x.dead))))))))
+    (λ x. (x.store, (x.machine, (x.places, (x.cursor, (x.progress, (x.journal, (x.waiting_for, x.dead))))))))
     (λ p. record {
       store = p.0;
       machine = p.1.0;
@@ -28,7 +28,7 @@ stored_tenant =
       cursor = p.1.1.1.0;
       progress = p.1.1.1.1.0;
       journal = p.1.1.1.1.1.0;
-      stands_for = p.1.1.1.1.1.1.0;
+      waiting_for = p.1.1.1.1.1.1.0;
       dead = p.1.1.1.1.1.1.1;
     })
     (λ _. refl)

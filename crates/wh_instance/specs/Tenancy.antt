@@ -12,14 +12,14 @@ use Rattle.wh_imports.specs.LinkedState.{LinkedState}
 use Rattle.wh_control.specs.Represents.{bits_of}
 use Rattle.wh_control.specs.declared.store.Store as code_store
 use Rattle.wh_machine.specs.declared.machine.Machine.{Machine}
-use Rattle.wh_machine.specs.States.{CallState, Setting, setting_of, call_state}
+use Rattle.wh_machine.specs.CallStates.{CallState, Setting, setting_of, call_state}
 use Rattle.wh_journal.specs.Calls.{JournalCallState}
 use Rattle.wh_journal.specs.Calls.{JournalState}
 use Rattle.wh_journal.specs.declared.calls.CallEnd.{CallEnd}
 use Rattle.wh_journal.specs.declared.calls.CallEnd.TheVariants as end
 use Rattle.wh_instance.specs.declared.writing.Cursor.{Cursor}
-use Rattle.wh_instance.specs.declared.stages.Progress.{Progress}
-use Rattle.wh_instance.specs.declared.stages.Progress.TheVariants.{Writing, Faced, UnderWay}
+use Rattle.wh_instance.specs.declared.stages.CallStage.{CallStage}
+use Rattle.wh_instance.specs.declared.stages.CallStage.TheVariants.{Writing, Faced, UnderWay}
 use Rattle.wh_instance.specs.declared.stages.Suspension as code
 use Rattle.wh_instance.specs.declared.stages.Suspension.TheVariants as stop
 use Rattle.wh_instance.specs.Pieces.{pieces_left}
@@ -28,18 +28,18 @@ use Rattle.wh_instance.specs.Turned.{HasRest, IsStarting, IsFaced, IsComputing}
 -- What contracts see of an instance: its store, the machine of its calls, where the data segments of its module belong
 -- and how far they are written, where its present call is, its calls, for what the present one stands, and whether it
 -- is dead.
-pub record TenantState : Type 0 where
+pub record HostInstanceState : Type 0 where
   pub store : code_store.Store
   pub machine : Machine
   pub places : List ℕ
   pub cursor : Cursor
-  pub progress : Progress
+  pub progress : CallStage
   pub journal : JournalState
-  pub stands_for : Option code.Suspension
+  pub waiting_for : Option code.Suspension
   pub dead : Bool
 
 -- with the memory on which its calls run
-abbrev pub state_over : {M : Type 0} → TenantState → M → CallState M
+abbrev pub state_over : {M : Type 0} → HostInstanceState → M → CallState M
 state_over x m = call_state x.machine x.store m
 
 -- ---- its calls
@@ -93,7 +93,7 @@ behind_first (e ∷ es) = es
 
 -- None is open. Or it is a start that has these pieces left. Or it is at its invocation. Or it is under way, its
 -- charges within its fuel.
-pub data IsWhere {M : Type 0} (w : Setting M) (x : TenantState) (m : M) (inst : Instance) (r : Rest)
+pub data IsWhere {M : Type 0} (w : Setting M) (x : HostInstanceState) (m : M) (inst : Instance) (r : Rest)
     : Doing → List Entry → Type 0 where
   rests : x.progress ≡ Faced → IsWhere w x m inst r resting []
   writes : {ps : List Piece} {e : Entry} {es : List Entry}
@@ -118,15 +118,15 @@ suspension_of (Some (stop.Device fault)) = Some (for_device fault)
 
 -- With this memory it stands for an instance of the host's definitions. A call that is at its invocation stands for
 -- nothing.
-pub record RepresentsTenant {M : Type 0} (w : Setting M) (x : TenantState) (m : M) (t : Tenant) : Type 0 where
+pub record RepresentsTenant {M : Type 0} (w : Setting M) (x : HostInstanceState) (m : M) (t : Tenant) : Type 0 where
   pub store : HasRest w (state_over x m) t.inst t.rest
   pub ended : RepresentsEach x.journal.ended t.ended
   pub open_calls : RepresentsEach x.journal.open_calls t.open_calls
   pub is_where : IsWhere w x m t.inst t.rest t.doing t.open_calls
   pub waiting : AllByRecursion (MayBegin t.inst) (behind_first t.open_calls)
   pub counted : AllByRecursion IsCounted t.open_calls
-  pub stands_for : t.stands_for ≡ suspension_of x.stands_for
-  pub fresh : x.progress ≡ Faced → x.stands_for ≡ None
+  pub waiting_for : t.waiting_for ≡ suspension_of x.waiting_for
+  pub fresh : x.progress ≡ Faced → x.waiting_for ≡ None
   pub dead : x.dead ≡ t.dead
 
 -- ---- by its bytes
@@ -137,5 +137,5 @@ byte_setting l limit = setting_of l (λ b. b) (λ b need. Unit {0}) (λ b b2. Un
 
 -- With a memory of these bytes, which may grow to so many pages, the code's instance stands for this one. Over any
 -- memory with these bytes and this limit it is the same.
-abbrev pub IsTenant : LinkedState → ℕ → TenantState → List ℕ → Tenant → Type 0
+abbrev pub IsTenant : LinkedState → ℕ → HostInstanceState → List ℕ → Tenant → Type 0
 IsTenant l limit x bytes t = RepresentsTenant (byte_setting l limit) x bytes t

@@ -6,24 +6,23 @@ use Rattle.wh_model.specs.Validity.Typing.{Context}
 use Rattle.wh_model.specs.Execution.Store.{Value, value, bits_of, InRange, Instance}
 use Rattle.wh_model.specs.Execution.Replay.{Call, returned, stopped, cancelled, dead, pending}
 use Rattle.wh_host_model.specs.Host.Worlds.{Suspension, Tenant, journal, journal_calls}
-use Rattle.wh_host_model.specs.Owners.{Entry}
+use Rattle.wh_host_model.specs.Owners.{Entry, first_open}
 use Rattle.wh_host_model.specs.Host.Journals.{InOrder, ReturnsTyped}
-use Rattle.wh_host_model.specs.Lines.Made.{first_open}
 use Rattle.wh_imports.specs.LinkedState.{LinkedState}
 use Rattle.wh_journal.specs.Calls.{JournalCallState}
 use Rattle.wh_instance.specs.declared.stages.CallStatus.{CallStatus}
 use Rattle.wh_instance.specs.declared.stages.CallStatus.TheVariants as tells
 use Rattle.wh_instance.specs.declared.stages.CallValue.{CallValue}
 use Rattle.wh_instance.specs.declared.stages.Suspension as code
-use Rattle.wh_instance.specs.Tenancy.{IsTenant, RepresentsCall, TenantState, suspension_of}
-use Rattle.wh_machine.specs.Runs.{IsInstanceOf}
+use Rattle.wh_instance.specs.Tenancy.{IsTenant, RepresentsCall, HostInstanceState, suspension_of}
+use Rattle.wh_machine.specs.MachineRuns.{IsInstanceOf}
 
 -- the values that a call has returned: one, or none
 abbrev pub told_values : Option CallValue → List Value
 told_values None = []
 told_values (Some v) = value v.of v.word ∷ []
 
--- How far a call is, where an open call stands before it or doesn't, and the present call stands for this.
+-- How far a call is, where an open call stands before it or doesn't, and the present call waits for this.
 abbrev pub IsCallStatus : CallStatus → (waits : Bool) → Option Suspension → Call → Type 0
 IsCallStatus (tells.Returned v charges) waits stands c =
     (c.outcome ≡ returned (told_values v)) × AllByRecursion InRange (told_values v) × (c.charges ≡ charges)
@@ -43,10 +42,10 @@ abbrev pub IsToldAt : Tenant → ℕ → Option CallStatus → Type 0
 IsToldAt t at None = slice_get (journal t) at ≡ None
 IsToldAt t at (Some status) =
     (e : Entry) × (slice_get (journal t) at ≡ Some e)
-    × IsCallStatus status (waits_at (journal t) at) t.stands_for e.call
+    × IsCallStatus status (waits_at (journal t) at) t.waiting_for e.call
 
 -- so for whatever instance of this module it stands, its calls being in order
-abbrev pub TellsCall : LinkedState → TenantState → ℕ → Option CallStatus → Type 0
+abbrev pub TellsCall : LinkedState → HostInstanceState → ℕ → Option CallStatus → Type 0
 TellsCall l x at told =
     (limit : ℕ) (bytes : List ℕ) (m : Module) (t : Tenant) → IsTenant l limit x bytes t
     → InOrder m t.inst t.dead t.ended t.open_calls → IsToldAt t at told

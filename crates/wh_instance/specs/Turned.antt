@@ -12,11 +12,11 @@ use Rattle.wh_host_model.specs.Host.Worlds.{Rest, Doing, resting, has_left, comp
 use Rattle.wh_host_model.specs.Host.Turns.{Upshot, to_end, out_of_fuel, to_wait, to_go_on, Proceeds}
 use Rattle.wh_control.specs.Represents.{bits_of, result_of}
 use Rattle.wh_machine.specs.Opening.{IsOwnCall}
-use Rattle.wh_machine.specs.Runs.{IsSettledIn}
-use Rattle.wh_machine.specs.States.{CallState, Setting, StandsFor}
+use Rattle.wh_machine.specs.MachineRuns.{IsSettledIn}
+use Rattle.wh_machine.specs.CallStates.{CallState, Setting, RepresentsConfig}
 use Rattle.wh_call.specs.Ends.{HasStoreIn}
-use Rattle.wh_instance.specs.declared.computing.Came.{Came}
-use Rattle.wh_instance.specs.declared.computing.Came.TheVariants as came
+use Rattle.wh_instance.specs.declared.computing.TurnOutcome.{TurnOutcome}
+use Rattle.wh_instance.specs.declared.computing.TurnOutcome.TheVariants as came
 
 -- ---- where a call is
 
@@ -55,7 +55,7 @@ pub record IsComputing {M : Type 0} (w : Setting M) (state : CallState M) (inst 
   pub body : Body
   pub calls : call.func ≡ Some index
   pub is_own : slice_get inst.funcs index ≡ Some (own type body)
-  pub stands : StandsFor w state (result_of type) inst (config (store_with (w.bytes state.memory) r) [] t)
+  pub stands : RepresentsConfig w state (result_of type) inst (config (store_with (w.bytes state.memory) r) [] t)
   pub runs : state.machine.running ≡ true
   pub settled_in : IsSettledIn w.program state.machine
   pub settled : IsSettled inst (config (store_with (w.bytes state.memory) r) [] t)
@@ -63,7 +63,7 @@ pub record IsComputing {M : Type 0} (w : Setting M) (state : CallState M) (inst 
 -- ---- what a turn does
 
 -- the answer is what the call came to; the result, if there is one, is the last value
-abbrev pub IsCame : Came → Upshot → Type 0
+abbrev pub IsCame : TurnOutcome → Upshot → Type 0
 IsCame (came.Returned result) (to_end (returned vs)) = result ≡ slice_get (map bits_of (reverse vs)) 0
 IsCame (came.Trapped x) (to_end (stopped y)) = x ≡ y
 IsCame came.Fuel out_of_fuel = Unit {0}
@@ -71,7 +71,7 @@ IsCame (came.Frame need) (to_wait other) = need ≡ other
 IsCame came.Again to_go_on = Unit {0}
 IsCame answer to = ⊥
 
--- the state stands for where the call is then, and these pieces are left, if it is a start
+-- the state represents where the call is then, and these pieces are left, if it is a start
 abbrev pub IsThere : {M : Type 0} → Setting M → CallState M → Instance → Call → Rest → List Piece → Doing → Type 0
 IsThere w state inst call r left resting = HasRest w state inst r
 IsThere w state inst call r left (has_left ps) = IsStarting w state inst call r ps × (ps ≡ left)
@@ -80,7 +80,7 @@ IsThere w state inst call r left (computing t) = IsComputing w state inst call r
 -- In a turn of q charges the call comes so far, as the host's definitions say; the answer says to what, and the state
 -- stands for where it is then.
 pub record Turns {M : Type 0} (w : Setting M) (inst : Instance) (q : ℕ) (call : Call) (before : M) (r : Rest)
-    (d : Doing) (answer : Came) (pieces charges : ℕ) (after : CallState M) (left : List Piece) : Type 0 where
+    (d : Doing) (answer : TurnOutcome) (pieces charges : ℕ) (after : CallState M) (left : List Piece) : Type 0 where
   pub to : Upshot
   pub rest : Rest
   pub doing : Doing

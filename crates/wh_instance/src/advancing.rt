@@ -3,15 +3,15 @@
 ghost use Rattle.std.specs.Prelude.{◌≡◌, ◌≢◌, ◌∷◌, ◌+◌, [], List, None, Some};
 ghost use Rattle.std.specs.Bool.{MatchBool};
 ghost use Rattle.wh_journal.specs.Calls.{JournalCallState, HasPresent};
-ghost use Rattle.wh_machine.specs.States.{setting_of};
+ghost use Rattle.wh_machine.specs.CallStates.{setting_of};
 ghost use Rattle.wh_instance.specs.Pieces.{pieces_left};
 ghost use Rattle.wh_instance.specs.Advancing.{HasOpenCall, StaysBut, AdvancesAny, TurnsAny};
-ghost use Rattle.wh_instance.specs.declared.stages.Progress.TheVariants as at;
+ghost use Rattle.wh_instance.specs.declared.stages.CallStage.TheVariants as at;
 
-use crate::computing::Came;
-use crate::stages::{Progress, Turned};
+use crate::computing::TurnOutcome;
+use crate::host_instance::HostInstance;
+use crate::stages::{CallStage, TurnResult};
 use crate::starting::turn_start;
-use crate::tenant::Tenant;
 use crate::turning::{turn_first, turn_on};
 use wh_imports::Linked;
 use wh_journal::JournalCall;
@@ -35,7 +35,7 @@ fn func_of(call: &JournalCall) -> u32
     }
 }
 
-impl Tenant {
+impl HostInstance {
     // The present call.
     fn present(&self) -> &JournalCall
         requires { HasPresent self.now.journal.open_calls }
@@ -49,7 +49,7 @@ impl Tenant {
     }
 
     // Where a call is that hasn't ended after a turn.
-    fn progress_now(&self, linked: &Linked) -> Progress
+    fn progress_now(&self, linked: &Linked) -> CallStage
         ensures writing { ¬ (pieces_left linked.now.valid.decoded.segments.items
             self.now.places self.now.cursor ≡ []) → result ≡ at.Writing }
         ensures under_way { pieces_left linked.now.valid.decoded.segments.items
@@ -58,9 +58,9 @@ impl Tenant {
     {
         let segments = linked.module().segments.as_slice();
         if self.cursor.has_pieces(segments, &self.places) {
-            Progress::Writing
+            CallStage::Writing
         } else {
-            Progress::UnderWay
+            CallStage::UnderWay
         }
     }
 
@@ -71,7 +71,7 @@ impl Tenant {
         linked: &Linked,
         memory: &mut M,
         q: u64,
-    ) -> (Came, u64, u64)
+    ) -> (TurnOutcome, u64, u64)
         requires call { HasOpenCall
             (setting_of linked.now M.bytes M.ready M.keeps (M.limit memory.old))
             self.old memory.old }
@@ -103,7 +103,7 @@ impl Tenant {
         linked: &Linked,
         memory: &mut M,
         q: u64,
-    ) -> (Came, u64)
+    ) -> (TurnOutcome, u64)
         requires call { HasOpenCall
             (setting_of linked.now M.bytes M.ready M.keeps (M.limit memory.old))
             self.old memory.old }
@@ -128,12 +128,17 @@ impl Tenant {
             func_of(call),
             call.words(),
         );
-        self.progress = Progress::UnderWay;
+        self.progress = CallStage::UnderWay;
         (came, charges)
     }
 
     // A turn of q charges of a call that is under way: what came of it, and how many charges it took.
-    fn advance_on<M: LinearMem>(&mut self, linked: &Linked, memory: &mut M, q: u64) -> (Came, u64)
+    fn advance_on<M: LinearMem>(
+        &mut self,
+        linked: &Linked,
+        memory: &mut M,
+        q: u64,
+    ) -> (TurnOutcome, u64)
         requires call { HasOpenCall
             (setting_of linked.now M.bytes M.ready M.keeps (M.limit memory.old))
             self.old memory.old }
@@ -159,7 +164,12 @@ impl Tenant {
 
     // A turn of q charges of the present call: what came of it, how many pieces it has written, and how many charges it
     // took. The journal stays.
-    fn advance<M: LinearMem>(&mut self, linked: &Linked, memory: &mut M, q: u64) -> (Came, u64, u64)
+    fn advance<M: LinearMem>(
+        &mut self,
+        linked: &Linked,
+        memory: &mut M,
+        q: u64,
+    ) -> (TurnOutcome, u64, u64)
         requires { HasOpenCall
             (setting_of linked.now M.bytes M.ready M.keeps (M.limit memory.old))
             self.old memory.old }
@@ -170,12 +180,12 @@ impl Tenant {
         ensures keeps { M.keeps memory.old memory.new }
     {
         match self.progress {
-            Progress::Writing => self.advance_start(linked, memory, q),
-            Progress::Faced => {
+            CallStage::Writing => self.advance_start(linked, memory, q),
+            CallStage::Faced => {
                 let (came, charges) = self.advance_first(linked, memory, q);
                 (came, 0, charges)
             }
-            Progress::UnderWay => {
+            CallStage::UnderWay => {
                 let (came, charges) = self.advance_on(linked, memory, q);
                 (came, 0, charges)
             }
@@ -184,7 +194,7 @@ impl Tenant {
 
     /// Gives the instance a turn of q charges over its memory: its present call goes on, and no other is begun. Its journal
     /// is written on, and for what the call stands then.
-    pub fn turn<M: LinearMem>(&mut self, linked: &Linked, memory: &mut M, q: u64) -> Turned
+    pub fn turn<M: LinearMem>(&mut self, linked: &Linked, memory: &mut M, q: u64) -> TurnResult
         requires { HasOpenCall
             (setting_of linked.now M.bytes M.ready M.keeps (M.limit memory.old))
             self.old memory.old }

@@ -3,22 +3,22 @@
 ghost use Rattle.std.specs.Prelude.{◌≡◌, ◌∷◌, true, false, List};
 ghost use Rattle.std.specs.Bool.{MatchBool};
 ghost use Rattle.wh_journal.specs.Calls.{JournalCallState};
-ghost use Rattle.wh_instance.specs.Asked.{HasFuelAgain, HasNoOpenCall, RefuelsTenant, RetriesTenant, CannotRetry, CancelsTenant, FailsTenant, AwaitsNoFrame};
+ghost use Rattle.wh_instance.specs.OwnerRequests.{HasFuelAgain, HasNoOpenCall, RefuelsTenant, RetriesTenant, CannotRetry, CancelsTenant, FailsTenant, AwaitsNoFrame};
 
+use crate::host_instance::HostInstance;
 use crate::settling::{is_device, is_frame};
 use crate::stages::Suspension;
-use crate::tenant::Tenant;
 use wh_host_model::SwapError;
 use wh_journal::CallEnd;
 
-impl Tenant {
-    // Whether the present call stands for fuel, and has some.
+impl HostInstance {
+    // Whether the present call waits for fuel, and has some.
     fn has_fuel_again(&self) -> bool
         ensures { (c : JournalCallState) (cs : List JournalCallState)
             → self.now.journal.open_calls ≡ c ∷ cs → MatchBool result
-            (HasFuelAgain self.now.stands_for c) (¬ (HasFuelAgain self.now.stands_for c)) }
+            (HasFuelAgain self.now.waiting_for c) (¬ (HasFuelAgain self.now.waiting_for c)) }
     {
-        let Some(Suspension::Fuel) = self.stands_for else {
+        let Some(Suspension::Fuel) = self.waiting_for else {
             return false;
         };
         match self.journal.present() {
@@ -29,7 +29,7 @@ impl Tenant {
 
     /// Gives the present call so much more fuel; what passes 2^64 - 1 is lost. Whether there is one.
     ///
-    /// A call that stands for fuel can then go on, if it was given any.
+    /// A call that waits for fuel can then go on, if it was given any.
     pub fn refuel(&mut self, fuel: u64) -> bool
         ensures some { result ≡ true → RefuelsTenant self.old fuel self.new }
         ensures none { result ≡ false → HasNoOpenCall self.old × (self.new ≡ self.old) }
@@ -39,33 +39,33 @@ impl Tenant {
         }
         self.journal.refuel(fuel);
         if self.has_fuel_again() {
-            self.stands_for = None;
+            self.waiting_for = None;
         }
         true
     }
 
-    /// Lets the present call be tried again, if it stands for a device fault: it stands for a frame then. Whether it did.
+    /// Lets the present call be tried again, if it waits for a device fault: it waits for a frame then. Whether it did.
     pub fn retry(&mut self) -> bool
         ensures some { result ≡ true → RetriesTenant self.old self.new }
         ensures none { result ≡ false → CannotRetry self.old × (self.new ≡ self.old) }
     {
-        if !is_device(self.stands_for) {
+        if !is_device(self.waiting_for) {
             return false;
         }
-        self.stands_for = Some(Suspension::Frame);
+        self.waiting_for = Some(Suspension::Frame);
         true
     }
 
-    /// A call of the swap device has failed, for the present call: the fault is kept with it, if it stands for a frame. It
+    /// A call of the swap device has failed, for the present call: the fault is kept with it, if it waits for a frame. It
     /// waits for another try then. Whether it did stand for one.
     pub fn fail(&mut self, fault: SwapError) -> bool
         ensures some { result ≡ true → FailsTenant self.old fault self.new }
         ensures none { result ≡ false → AwaitsNoFrame self.old × (self.new ≡ self.old) }
     {
-        if !is_frame(self.stands_for) {
+        if !is_frame(self.waiting_for) {
             return false;
         }
-        self.stands_for = Some(Suspension::Device(fault));
+        self.waiting_for = Some(Suspension::Device(fault));
         true
     }
 

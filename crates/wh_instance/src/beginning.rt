@@ -2,11 +2,11 @@
 
 ghost use Rattle.std.specs.Prelude.{◌≡◌, ◌≤◌, cond, length, IfOk};
 ghost use Rattle.wh_model.specs.Format.Limits.{most_segments};
-ghost use Rattle.wh_instance.specs.declared.stages.Progress.TheVariants.{Writing, Faced};
+ghost use Rattle.wh_instance.specs.declared.stages.CallStage.TheVariants.{Writing, Faced};
 ghost use Rattle.wh_instance.specs.Beginning.{has_nothing, journal_at_first, BeginsTenant};
 
-use crate::stages::Progress;
-use crate::tenant::Tenant;
+use crate::host_instance::HostInstance;
+use crate::stages::CallStage;
 use crate::writing::Cursor;
 use std::alloc::{AllocError, Global};
 use wh_imports::Linked;
@@ -15,13 +15,13 @@ use wh_journal::{CallEnd, Journal, JournalCall};
 use wh_machine::Machine;
 
 // Where a start is first.
-fn first_progress(has_pieces: bool) -> Progress
+fn first_progress(has_pieces: bool) -> CallStage
     ensures { result ≡ cond has_pieces Writing Faced }
 {
     if has_pieces {
-        Progress::Writing
+        CallStage::Writing
     } else {
-        Progress::Faced
+        CallStage::Faced
     }
 }
 
@@ -54,7 +54,7 @@ fn first_journal(
     Ok(journal)
 }
 
-impl Tenant {
+impl HostInstance {
     /// An instance of a linked module that begins so, with this machine and so much fuel for its start: the start has data
     /// segments to write, or calls the start function; where there is neither it has ended.
     ///
@@ -66,7 +66,7 @@ impl Tenant {
         begun: Instantiated,
         machine: Machine,
         fuel: u64,
-    ) -> Result<Tenant, AllocError>
+    ) -> Result<HostInstance, AllocError>
         requires few { length linked.now.valid.decoded.segments.items ≤ most_segments }
         ensures { IfOk result (BeginsTenant linked.now begun fuel) }
     {
@@ -76,14 +76,14 @@ impl Tenant {
         let over = is_over(has_pieces, module.start);
         let journal = first_journal(alloc, module.start, fuel, over)?;
         let progress = first_progress(has_pieces);
-        Ok(Tenant {
+        Ok(HostInstance {
             store: begun.store,
             machine,
             places: begun.places,
             cursor,
             progress,
             journal,
-            stands_for: None,
+            waiting_for: None,
             dead: false,
         })
     }

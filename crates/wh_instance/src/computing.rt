@@ -1,7 +1,7 @@
 //! A turn of a call that is under way.
 
 ghost use Rattle.std.specs.Prelude.{◌≡◌, min, IfSome, IfNone};
-ghost use Rattle.wh_machine.specs.States.{HasConfiguration, setting_of, call_state};
+ghost use Rattle.wh_machine.specs.CallStates.{HasConfiguration, setting_of, call_state};
 ghost use Rattle.wh_instance.specs.Computed.{AsksUnready, AsksReady, ComputesWithin};
 
 use wh_call::{RunEnd, run_on};
@@ -12,7 +12,7 @@ use wh_model::{Need, Trap};
 
 /// What a turn makes of a call.
 #[derive(Clone, Copy)]
-pub enum Came {
+pub enum TurnOutcome {
     /// It has returned, with a result where its type has one; an i32 in the low 32 bits.
     Returned(Option<u64>),
     /// It has trapped.
@@ -57,7 +57,7 @@ fn lacking<M: LinearMem>(
     Some(need)
 }
 
-/// Gives the call that a machine stands for a turn of q charges, where it has so much fuel left: what came of it, and how
+/// Gives the call that a machine represents a turn of q charges, where it has so much fuel left: what came of it, and how
 /// many charges were taken. Fuel is looked at before the bytes of the next step, and these before the call is answered to
 /// have had its turn.
 pub fn compute<M: LinearMem>(
@@ -67,7 +67,7 @@ pub fn compute<M: LinearMem>(
     memory: &mut M,
     q: u64,
     left: u64,
-) -> (Came, u64)
+) -> (TurnOutcome, u64)
     requires { HasConfiguration
         (setting_of linked.now M.bytes M.ready M.keeps (M.limit memory.old))
         (call_state machine.old store.old memory.old) }
@@ -80,16 +80,16 @@ pub fn compute<M: LinearMem>(
 {
     let (end, used) = run_on(linked, store, machine, memory, lesser(q, left));
     match end {
-        RunEnd::Returned(result) => (Came::Returned(result), used),
-        RunEnd::Trapped(trap) => (Came::Trapped(trap), used),
-        RunEnd::NotReady(need) => (Came::Frame(need), used),
+        RunEnd::Returned(result) => (TurnOutcome::Returned(result), used),
+        RunEnd::Trapped(trap) => (TurnOutcome::Trapped(trap), used),
+        RunEnd::NotReady(need) => (TurnOutcome::Frame(need), used),
         RunEnd::OutOfFuel => {
             if used == left {
-                return (Came::Fuel, used);
+                return (TurnOutcome::Fuel, used);
             }
             match lacking(linked, store, machine, memory) {
-                Some(need) => (Came::Frame(need), used),
-                None => (Came::Again, used),
+                Some(need) => (TurnOutcome::Frame(need), used),
+                None => (TurnOutcome::Again, used),
             }
         }
     }

@@ -2,13 +2,13 @@
 
 ghost use Rattle.std.specs.Prelude.{◌≡◌, ◌<◌, OnOk, OnErr, IfOk, IfErr};
 ghost use Rattle.wh_host_model.specs.Owners.{most_calls};
-ghost use Rattle.wh_arguments.specs.Asked.{CanTake};
+ghost use Rattle.wh_instance.specs.CallsByName.{CanTake};
 ghost use Rattle.wh_instance.specs.Invoked.{IsSomeTenant, open_in, calls_in_journal, HasCallRoom, LacksCallRoom, MayTake, AddsCall, InvokesTenant, RefusesInvoke};
 
 use crate::error::InvokeError;
-use crate::tenant::Tenant;
+use crate::host_instance::HostInstance;
+use crate::{own_export, takes, words_of};
 use std::alloc::{AllocError, Global};
-use wh_arguments::{own_export, takes, words_of};
 use wh_imports::Linked;
 use wh_journal::JournalCall;
 
@@ -18,7 +18,7 @@ pub const MOST_OPEN_CALLS: usize = 1024;
 /// How many calls a journal may have, the start counted.
 pub const MOST_CALLS: usize = 65536;
 
-impl Tenant {
+impl HostInstance {
     // How many calls are open, the start not counted.
     fn open_calls(&self) -> usize
         ensures { result ≡ open_in self.now }

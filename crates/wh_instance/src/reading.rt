@@ -2,11 +2,11 @@
 
 ghost use Rattle.std.specs.Prelude.{◌≡◌};
 
+use crate::host_instance::HostInstance;
 use crate::stages::Suspension;
-use crate::tenant::Tenant;
 use wh_journal::Journal;
 
-impl Tenant {
+impl HostInstance {
     /// Its journal.
     pub fn journal(&self) -> &Journal
         ensures { result.now ≡ self.now.journal }
@@ -15,10 +15,10 @@ impl Tenant {
     }
 
     /// For what its present call stands, if no turn of it is taken.
-    pub fn stands_for(&self) -> Option<Suspension>
-        ensures { result ≡ self.now.stands_for }
+    pub fn waiting_for(&self) -> Option<Suspension>
+        ensures { result ≡ self.now.waiting_for }
     {
-        self.stands_for
+        self.waiting_for
     }
 
     /// The words that the host's function `input` reads for it.

@@ -2,13 +2,13 @@
 
 ghost use Rattle.wh_instance.specs.Seen.{CanTurn, HasOutput, IsIdle, IsPresent, WaitsForFrame};
 
+use crate::host_instance::HostInstance;
 use crate::settling::is_frame;
 use crate::stages::Suspension;
-use crate::tenant::Tenant;
 use std::alloc::Global;
 use std::mem;
 
-impl Tenant {
+impl HostInstance {
     /// Whether no call is open, so that there is none to bring on.
     pub fn is_idle(&self) -> bool
         ensures { IsIdle self.now result }
@@ -16,24 +16,24 @@ impl Tenant {
         self.journal.is_idle()
     }
 
-    /// Whether a turn can bring it on: a call is open, and stands neither for fuel nor for a device fault.
+    /// Whether a turn can bring it on: a call is open, and waits neither for fuel nor for a device fault.
     pub fn can_go_on(&self) -> bool
         ensures { CanTurn self.now result }
     {
         if self.journal.is_idle() {
             return false;
         }
-        match self.stands_for {
+        match self.waiting_for {
             None | Some(Suspension::Frame) => true,
             Some(Suspension::Fuel | Suspension::Device(_)) => false,
         }
     }
 
-    /// Whether its present call stands for a frame.
+    /// Whether its present call waits for a frame.
     pub fn awaits_frame(&self) -> bool
         ensures { WaitsForFrame self.now result }
     {
-        is_frame(self.stands_for)
+        is_frame(self.waiting_for)
     }
 
     /// The place of its present call in its journal, which is how many calls have ended.

@@ -2,12 +2,12 @@
 
 ghost use Rattle.std.specs.Prelude.{◌≡◌, ◌∷◌, List};
 ghost use Rattle.wh_journal.specs.Calls.{JournalCallState, HasPresent};
-ghost use Rattle.wh_instance.specs.Seen.{stands_at_frame};
+ghost use Rattle.wh_instance.specs.Seen.{waits_at_frame};
 ghost use Rattle.wh_instance.specs.Settling.{has_failed, is_fatal, closed, is_fault, answered, settled_to};
 
-use crate::computing::Came;
-use crate::stages::{Progress, Suspension, Turned};
-use crate::tenant::Tenant;
+use crate::computing::TurnOutcome;
+use crate::host_instance::HostInstance;
+use crate::stages::{CallStage, Suspension, TurnResult};
 use wh_journal::CallEnd;
 
 // Whether a start that so ends leaves its instance dead.
@@ -21,26 +21,26 @@ fn fails(end: CallEnd) -> bool
 }
 
 // Whether it is a device fault for which the present call stands.
-pub(crate) fn is_device(stands_for: Option<Suspension>) -> bool
-    ensures { result ≡ is_fault stands_for }
+pub(crate) fn is_device(waiting_for: Option<Suspension>) -> bool
+    ensures { result ≡ is_fault waiting_for }
 {
-    match stands_for {
+    match waiting_for {
         Some(Suspension::Device(_)) => true,
         _ => false,
     }
 }
 
 // Whether it is a frame.
-pub(crate) fn is_frame(stands_for: Option<Suspension>) -> bool
-    ensures { result ≡ stands_at_frame stands_for }
+pub(crate) fn is_frame(waiting_for: Option<Suspension>) -> bool
+    ensures { result ≡ waits_at_frame waiting_for }
 {
-    match stands_for {
+    match waiting_for {
         Some(Suspension::Frame) => true,
         _ => false,
     }
 }
 
-impl Tenant {
+impl HostInstance {
     // Whether the present call is a start, and so ends that its instance is dead.
     fn dies(&self, end: CallEnd) -> bool
         ensures { result ≡ is_fatal self.now.journal.ended end }
@@ -61,12 +61,12 @@ impl Tenant {
         } else {
             self.journal.end_present(end);
         }
-        self.progress = Progress::Faced;
-        self.stands_for = None;
+        self.progress = CallStage::Faced;
+        self.waiting_for = None;
     }
 
     // The turn has come to this, and no step was taken where it is still where it was.
-    pub(crate) fn settle(&mut self, came: Came, still: bool) -> Turned
+    pub(crate) fn settle(&mut self, came: TurnOutcome, still: bool) -> TurnResult
         requires { HasPresent self.old.journal.open_calls }
         ensures answer { result ≡ answered self.old came still }
         ensures leaves { (c : JournalCallState) (cs : List JournalCallState)
@@ -74,33 +74,33 @@ impl Tenant {
             ≡ settled_to self.old came still c cs }
     {
         match came {
-            Came::Returned(result) => {
+            TurnOutcome::Returned(result) => {
                 self.close(CallEnd::Returned(result));
-                Turned::Ended
+                TurnResult::Ended
             }
-            Came::Trapped(trap) => {
+            TurnOutcome::Trapped(trap) => {
                 self.close(CallEnd::Trapped(trap));
-                Turned::Ended
+                TurnResult::Ended
             }
-            Came::Fuel => {
-                self.stands_for = Some(Suspension::Fuel);
-                Turned::Fuel
+            TurnOutcome::Fuel => {
+                self.waiting_for = Some(Suspension::Fuel);
+                TurnResult::Fuel
             }
-            Came::Frame(need) => {
-                if !(still && is_device(self.stands_for)) {
-                    self.stands_for = Some(Suspension::Frame);
+            TurnOutcome::Frame(need) => {
+                if !(still && is_device(self.waiting_for)) {
+                    self.waiting_for = Some(Suspension::Frame);
                 }
-                Turned::Frame {
+                TurnResult::Frame {
                     need,
                     is_still: still,
                 }
             }
-            Came::Again => {
-                if still && is_device(self.stands_for) {
-                    return Turned::Kept;
+            TurnOutcome::Again => {
+                if still && is_device(self.waiting_for) {
+                    return TurnResult::Kept;
                 }
-                self.stands_for = None;
-                Turned::Again { is_still: still }
+                self.waiting_for = None;
+                TurnResult::Again { is_still: still }
             }
         }
     }

@@ -5,12 +5,12 @@ use wh_model::{Need, Trap, ValType};
 
 /// Where the present call of an instance is.
 #[derive(Clone, Copy, Debug, PartialEq, Eq)]
-pub enum Progress {
+pub enum CallStage {
     /// It is a start, and has data segments left to write.
     Writing,
     /// It is at its invocation. So is the next call where none is open.
     Faced,
-    /// It is under way: the machine stands for it.
+    /// It is under way: the machine represents it.
     UnderWay,
 }
 
@@ -27,7 +27,7 @@ pub enum Suspension {
 
 /// What a turn of an instance comes to.
 #[derive(Clone, Copy)]
-pub enum Turned {
+pub enum TurnResult {
     /// The call has ended.
     Ended,
     /// All its fuel is used, and what comes next has a charge.
@@ -80,7 +80,7 @@ pub enum CallStatus {
     Waiting,
     /// It is the present call, and stands for this, if it does.
     Present {
-        stands_for: Option<Suspension>,
+        waiting_for: Option<Suspension>,
         charges: u64,
     },
 }

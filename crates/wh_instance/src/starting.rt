@@ -4,11 +4,11 @@ ghost use Rattle.std.specs.Prelude.{◌≡◌};
 ghost use Rattle.wh_model.specs.Execution.Replay.{Call};
 ghost use Rattle.wh_model.specs.Execution.Store.{Instance};
 ghost use Rattle.wh_host_model.specs.Host.Worlds.{Rest, has_left};
-ghost use Rattle.wh_machine.specs.States.{setting_of, call_state};
+ghost use Rattle.wh_machine.specs.CallStates.{setting_of, call_state};
 ghost use Rattle.wh_instance.specs.Pieces.{pieces_left};
 ghost use Rattle.wh_instance.specs.Turned.{IsStarting, Turns};
 
-use crate::computing::{Came, compute};
+use crate::computing::{TurnOutcome, compute};
 use crate::writing::{Cursor, write_pieces};
 use wh_imports::Linked;
 use wh_linmem::LinearMem;
@@ -28,7 +28,7 @@ pub fn turn_start<M: LinearMem>(
     fuel: u64,
     places: &[u32],
     cursor: &mut Cursor,
-) -> (Came, u64, u64)
+) -> (TurnOutcome, u64, u64)
     requires starting { (inst : Instance) × (call : Call) × (r : Rest)
         × (call.func ≡ linked.now.valid.decoded.start) × IsStarting
         (setting_of linked.now M.bytes M.ready M.keeps (M.limit memory.old))
@@ -52,10 +52,10 @@ pub fn turn_start<M: LinearMem>(
     let module = linked.module();
     let (pieces, lacking) = write_pieces(module.segments.as_slice(), places, cursor, memory);
     if let Some(need) = lacking {
-        return (Came::Frame(need), pieces, 0);
+        return (TurnOutcome::Frame(need), pieces, 0);
     }
     let Some(func) = module.start else {
-        return (Came::Returned(None), pieces, 0);
+        return (TurnOutcome::Returned(None), pieces, 0);
     };
     begin(linked, machine, func, &[]);
     let (came, charges) = compute(linked, store, machine, memory, q, fuel);

@@ -5,10 +5,10 @@ ghost use Rattle.wh_model.specs.Execution.Store.{Instance, own};
 ghost use Rattle.wh_model.specs.Format.Syntax.{Body, FuncType as ModelType};
 ghost use Rattle.wh_model.specs.Validity.Typing.{Context};
 ghost use Rattle.wh_instance.specs.Told.{IsEntryTold, IsReturnedAs, TellsCall};
-ghost use Rattle.wh_machine.specs.Runs.{IsInstanceOf};
+ghost use Rattle.wh_machine.specs.MachineRuns.{IsInstanceOf};
 
+use crate::host_instance::HostInstance;
 use crate::stages::{CallStatus, CallValue, Suspension};
-use crate::tenant::Tenant;
 use wh_call::own_type;
 use wh_imports::Linked;
 use wh_journal::{CallEnd, JournalCall};
@@ -51,20 +51,20 @@ fn value_of(linked: &Linked, func: Option<u32>, word: Option<u64>) -> Option<Cal
     }
 }
 
-// How far a call is that waits behind an open one, or doesn't, where the present call stands for this.
+// How far a call is that waits behind an open one, or doesn't, where the present call waits for this.
 fn status_of(
     linked: &Linked,
     call: &JournalCall,
     waits: bool,
-    stands_for: Option<Suspension>,
+    waiting_for: Option<Suspension>,
 ) -> CallStatus
-    ensures { IsEntryTold linked.now call.now waits stands_for result }
+    ensures { IsEntryTold linked.now call.now waits waiting_for result }
 {
     let charges = call.charges();
     match call.end() {
         CallEnd::Open if waits => CallStatus::Waiting,
         CallEnd::Open => CallStatus::Present {
-            stands_for,
+            waiting_for,
             charges,
         },
         CallEnd::Returned(word) => CallStatus::Returned {
@@ -77,7 +77,7 @@ fn status_of(
     }
 }
 
-impl Tenant {
+impl HostInstance {
     /// How far the call at this place of its journal is, where the start is at 0; `None` where there is no call at that
     /// place. It takes constant time and no memory.
     pub fn call_status(&self, linked: &Linked, at: u32) -> Option<CallStatus>
@@ -87,7 +87,7 @@ impl Tenant {
         match self.journal.call(at) {
             Some(call) => {
                 let waits = at > self.journal.ended_len();
-                Some(status_of(linked, call, waits, self.stands_for))
+                Some(status_of(linked, call, waits, self.waiting_for))
             }
             None => None,
         }

@@ -5,10 +5,10 @@ ghost use Rattle.wh_model.specs.Execution.Configuration.{Term};
 ghost use Rattle.wh_model.specs.Execution.Replay.{Call};
 ghost use Rattle.wh_model.specs.Execution.Store.{Instance};
 ghost use Rattle.wh_host_model.specs.Host.Worlds.{Rest, computing};
-ghost use Rattle.wh_machine.specs.States.{setting_of, call_state};
+ghost use Rattle.wh_machine.specs.CallStates.{setting_of, call_state};
 ghost use Rattle.wh_instance.specs.Turned.{IsFaced, IsComputing, Turns};
 
-use crate::computing::{Came, compute};
+use crate::computing::{TurnOutcome, compute};
 use wh_imports::Linked;
 use wh_linmem::LinearMem;
 use wh_machine::{Machine, Store, begin};
@@ -23,7 +23,7 @@ pub fn turn_on<M: LinearMem>(
     q: u64,
     charges: u64,
     fuel: u64,
-) -> (Came, u64)
+) -> (TurnOutcome, u64)
     requires computing { (inst : Instance) × (call : Call) × (r : Rest) × (t : Term) × IsComputing
         (setting_of linked.now M.bytes M.ready M.keeps (M.limit memory.old))
         (call_state machine.old store.old memory.old)
@@ -53,7 +53,7 @@ pub fn turn_first<M: LinearMem>(
     fuel: u64,
     func: u32,
     args: &[u64],
-) -> (Came, u64)
+) -> (TurnOutcome, u64)
     requires { (inst : Instance) × (call : Call) × (r : Rest) × (t : Term) × IsFaced
         (setting_of linked.now M.bytes M.ready M.keeps (M.limit memory.old))
         (call_state machine.old store.old memory.old)

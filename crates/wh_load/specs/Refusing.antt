@@ -9,7 +9,7 @@ use Rattle.wh_model.specs.Validity.Heights.{Fits}
 use Rattle.wh_model.specs.Linking.Accepting.{IsModule}
 use Rattle.wh_syntax.specs.View.{view_module}
 use Rattle.wh_imports.specs.LinkedState.{LinkedState}
-use Rattle.wh_imports.specs.Refusing as linking
+use Rattle.wh_imports.specs.LinkRefusals as linking
 use Rattle.wh_load.specs.declared.error.LoadError.{LoadError}
 use Rattle.wh_load.specs.declared.error.LoadError.TheVariants.{Decode, Valid as Invalid, Link}
 

@@ -1,12 +1,12 @@
 pub mod MachineState
 pub mod Program
-pub mod Reading
+pub mod MemoryReads
 pub mod Executing
 pub mod Alone
-pub mod Hosting
+pub mod HostFunctions
 pub mod Entering
-pub mod Runs
-pub mod States
+pub mod MachineRuns
+pub mod CallStates
 pub mod Opening
 pub mod Waiting
 pub mod Stepping

@@ -3,7 +3,7 @@
 ghost use Rattle.std.specs.Prelude.{◌≡◌, ℕ, ◌+◌, ◌^◌, ◌<◌, ◌≤◌, List, ◌∷◌, length, get_or};
 ghost use Rattle.std.specs.Vec.{vec_capacity};
 ghost use Rattle.wh_model.specs.Execution.Store.{output_room};
-ghost use Rattle.wh_machine.specs.Hosting.{Puts, EmitsOnto, HasOperands, HostTurn};
+ghost use Rattle.wh_machine.specs.HostFunctions.{Puts, EmitsOnto, HasOperands, HostTurn};
 ghost use Rattle.wh_machine.specs.Waiting.{EmitWaits, IsUncharged};
 
 use crate::bytes::{Emitted, emit, put};

@@ -1,7 +1,7 @@
 //! What the machine does at each instruction of words and frames alone.
 
 ghost use Rattle.std.specs.Prelude.{◌≡◌, ◌+◌, ◌^◌, ◌<◌};
-ghost use Rattle.wh_control.specs.Moves.{moved};
+ghost use Rattle.wh_control.specs.ControlSteps.{moved};
 ghost use Rattle.wh_syntax.specs.declared.instr.Instr.TheVariants.{Nop, Block, Loop, Drop, Select, LocalGet, LocalSet, LocalTee, I32Const, I64Const, Test, Compare, Unary, Binary, Convert, End};
 ghost use Rattle.wh_machine.specs.declared.machine.Exec.TheVariants.{Free, Charged};
 ghost use Rattle.wh_machine.specs.Alone.{ComesNextAnywhere, IsExecAnywhere};

@@ -27,7 +27,7 @@ pub struct Program<'a> {
 
 /// The code of one function.
 #[derive(Clone, Copy)]
-pub struct Code<'a> {
+pub struct FunctionCode<'a> {
     /// The instructions in binary order.
     pub instrs: &'a [Instr],
     /// The labels of its `br_table`s.

@@ -3,11 +3,11 @@
 ghost use Rattle.std.specs.Prelude.{◌≡◌, ◌+◌, ◌<◌, ◌≤◌, [], ◌++◌, None, Some, false, length, replicate, reverse, slice_get, IfOk};
 ghost use Rattle.std.specs.List.{AllByRecursion};
 ghost use Rattle.wh_control.specs.Represents.{Func};
-ghost use Rattle.wh_control.specs.Moves.{begun};
+ghost use Rattle.wh_control.specs.ControlSteps.{begun};
 ghost use Rattle.wh_control.specs.Parts.{funcs_in};
 ghost use Rattle.wh_machine.specs.Opening.{CanBegin, BeginsCall};
 ghost use Rattle.wh_machine.specs.Program.{parts_in};
-ghost use Rattle.wh_machine.specs.Runs.{linked_parts, IsSettledIn};
+ghost use Rattle.wh_machine.specs.MachineRuns.{linked_parts, IsSettledIn};
 ghost use Rattle.wh_machine.specs.Executing.{calls_of};
 
 use crate::control::{code_of, frame_size};

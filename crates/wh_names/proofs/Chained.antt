@@ -2,7 +2,7 @@
 use Rattle.std.proofs.Common.{arith, ◌≡◌, ◌∙◌, ℕ, ◌+◌, ◌<◌, List, [], ◌∷◌, ◌++◌, length, take, get_or, slice_set, refl, sym, ap, inl, inr}
 use Rattle.std.proofs.lemmas.Bool.{cases_eq, cases_lt}
 use Rattle.std.proofs.lemmas.List.{get_or-set_same, get_or-set_other, length-set, get_or_append_left, get_or_push, length_push, get_or-take, length-take-le}
-use Rattle.wh_names.specs.Chains.{LeadsToName, AreNameChains}
+use Rattle.wh_names.specs.NameChains.{LeadsToName, AreNameChains}
 
 leads_as : (f : ℕ → ℕ) (b c p q k l : ℕ) → b ≡ c → p ≡ q → k ≡ l → LeadsToName f c q l → LeadsToName f b p k
 leads_as f b c p q k l bucket place link leads = rw (bucket, place, link) leads

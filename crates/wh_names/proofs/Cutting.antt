@@ -2,7 +2,7 @@
 use Rattle.std.proofs.Common.{arith, ◌≡◌, ◌∙◌, ℕ, zero, suc, ◌+◌, ◌-◌, ◌<◌, ◌≤◌, List, [], ◌∷◌, ◌++◌, length, take, drop, get_or, slice_get, Some, refl, sym, ap}
 use Rattle.std.specs.List.{slice_range}
 use Rattle.std.proofs.lemmas.List.{drop_at, take_all, drop-append-le, take-append-le, length-drop, length-append, length-take-le, drop-take, take-take}
-use Rattle.wh_names.specs.Texts.{cut_texts, AreEnds}
+use Rattle.wh_names.specs.NameTexts.{cut_texts, AreEnds}
 
 -- there are as many texts as ends
 pub many : (bytes : List ℕ) (start : ℕ) (ends : List ℕ) → length (cut_texts bytes start ends) ≡ length ends

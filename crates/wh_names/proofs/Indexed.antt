@@ -3,9 +3,9 @@ use Rattle.std.proofs.Common.{arith, ◌≡◌, ◌≢◌, ◌∙◌, ℕ, ◌+�
 use Rattle.std.proofs.lemmas.Bool.{cases_lt}
 use Rattle.std.proofs.lemmas.List.{get_or_append_left, get_or_push, length_push, get_or-take, length-take-le}
 use Rattle.std.proofs.lemmas.Option.{get_or_from_slice_get, slice_get_past}
-use Rattle.wh_names.specs.Chains.{LeadsToName, AreNameChains}
-use Rattle.wh_names.specs.Hash.{hash_of, bucket_at}
-use Rattle.wh_names.specs.Index.{IsIndex}
+use Rattle.wh_names.specs.NameChains.{LeadsToName, AreNameChains}
+use Rattle.wh_names.specs.NameHash.{hash_of, bucket_at}
+use Rattle.wh_names.specs.NameIndex.{IsIndex}
 use Rattle.wh_names.specs.declared.chains.Chains.{Chains}
 use Rattle.wh_names.proofs.Chained.{alike}
 

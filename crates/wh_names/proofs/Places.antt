@@ -2,7 +2,7 @@
 use Rattle.std.proofs.Common.{arith, ◌≡◌, ◌≢◌, ◌⊎◌, ◌∙◌, ℕ, zero, suc, ◌+◌, ◌<◌, List, [], ◌∷◌, ◌++◌, length, take, slice_get, Bool, true, false, cond, Option, Some, None, option_map, bytes_eq, refl, sym, ap, inl, inr, ⊎_elim}
 use Rattle.std.proofs.lemmas.Option.{same_Some}
 use Rattle.std.proofs.lemmas.Slice.Eq.{bytes_eq-Decides}
-use Rattle.wh_names.specs.Places.{place_of_name, AreNamedOnce}
+use Rattle.wh_names.specs.NamePlaces.{place_of_name, AreNamedOnce}
 
 -- the place of a name, first in a list or behind its first
 abbrev at_or_behind : Bool → Option ℕ → Option ℕ

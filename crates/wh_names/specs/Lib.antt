@@ -1,5 +1,5 @@
-pub mod Places
-pub mod Hash
-pub mod Chains
-pub mod Texts
-pub mod Index
+pub mod NamePlaces
+pub mod NameHash
+pub mod NameChains
+pub mod NameTexts
+pub mod NameIndex

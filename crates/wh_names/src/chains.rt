@@ -1,7 +1,7 @@
 // Chains through the names, by which a name is found.
 
 ghost use Rattle.std.specs.Prelude.{◌≡◌, ℕ, ◌+◌, ◌-◌, ◌^◌, ◌<◌, length, vec_len, vec_capacity};
-ghost use Rattle.wh_names.specs.Chains.{AreNameChains};
+ghost use Rattle.wh_names.specs.NameChains.{AreNameChains};
 
 use std::alloc::Global;
 

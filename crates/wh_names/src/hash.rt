@@ -1,12 +1,12 @@
 // Into which bucket a name falls.
 
 ghost use Rattle.std.specs.Prelude.{◌≡◌, ◌<◌, ◌%◌};
-ghost use Rattle.wh_names.specs.Hash.{hash_of};
+ghost use Rattle.wh_names.specs.NameHash.{hash_of};
 
 use std::hash::{FoldHasher, Hasher};
 
 // The hash of a name. Nothing rests on which it is, but that names are found in little time.
-#[tactic(auto, unfolding(crate::specs::Hash::hash_of))]
+#[tactic(auto, unfolding(crate::specs::NameHash::hash_of))]
 fn hash_of(name: &[u8]) -> u64
     ensures { result ≡ hash_of name.now }
 {

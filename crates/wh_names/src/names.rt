@@ -1,8 +1,8 @@
 // Names as their caller sees them.
 
 ghost use Rattle.std.specs.Prelude.{◌≡◌, ℕ, ◌+◌, ◌-◌, ◌^◌, ◌<◌, ◌∷◌, ◌++◌, [], None, OnErr, OnOk, length, slice_index, take, vec_len, vec_capacity};
-ghost use Rattle.wh_names.specs.Index.{IsIndex};
-ghost use Rattle.wh_names.specs.Places.{place_of_name};
+ghost use Rattle.wh_names.specs.NameIndex.{IsIndex};
+ghost use Rattle.wh_names.specs.NamePlaces.{place_of_name};
 
 use crate::chains::Chains;
 use crate::hash::bucket_of;
@@ -24,7 +24,7 @@ impl Model for Names {
 
     ghost Value = { List (List ℕ) };
 
-    ghost use Rattle.wh_names.specs.Index.{AreFoundByHash};
+    ghost use Rattle.wh_names.specs.NameIndex.{AreFoundByHash};
 
     ghost view = { λ a. a.texts };
 

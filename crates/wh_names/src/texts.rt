@@ -19,7 +19,7 @@ impl Model for Texts {
 
     ghost Value = { List (List ℕ) };
 
-    ghost use Rattle.wh_names.specs.Texts.{texts_of, AreCut};
+    ghost use Rattle.wh_names.specs.NameTexts.{texts_of, AreCut};
 
     ghost view = { texts_of };
 

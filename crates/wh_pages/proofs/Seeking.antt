@@ -2,7 +2,7 @@
 use Rattle.std.proofs.Common.{◌≡◌, ◌≢◌, ◌∙◌, ℕ, zero, suc, ◌+◌, ◌*◌, ◌<◌, ◌≤◌, ◌⊎◌, inl, inr, is_some, Bool, true, false, List, [], ◌∷◌, Option, Some, None, map, take, slice_get, refl, sym, ap, arith}
 use Rattle.std.specs.Prelude.{IfNone, IfSome}
 use Rattle.wh_host_model.specs.Space.States.{resident}
-use Rattle.wh_pages.specs.declared.entry.Entry.{Entry}
+use Rattle.wh_pages.specs.declared.entry.PageEntry.{PageEntry}
 use Rattle.wh_pages.specs.declared.table.PageTable.TheInside.{Inside}
 use Rattle.wh_pages.specs.Leaves.{IsSoughtEntry}
 use Rattle.wh_pages.specs.Parts.{page_of, page_table_of}
@@ -37,7 +37,7 @@ unmarked true lacks = absurd (lacks refl)
 unmarked false lacks = refl
 
 -- an entry that is looked for, among those of the pages
-pub sought_of_entry : (a : Inside) (idle : Bool) (q : ℕ) (e : Entry) → q < a.len → slice_get a.rows q ≡ Some e → IsSoughtEntry idle e → IsSought (page_table_of a) idle q
+pub sought_of_entry : (a : Inside) (idle : Bool) (q : ℕ) (e : PageEntry) → q < a.len → slice_get a.rows q ≡ Some e → IsSoughtEntry idle e → IsSought (page_table_of a) idle q
 sought_of_entry a idle q e within there sought = record {
   page = page_of e;
   there = column_get page_of a.rows a.len q e within there;
@@ -46,7 +46,7 @@ sought_of_entry a idle q e within there sought = record {
 }
 
 pub record HasSought (a : Inside) (idle : Bool) (q : ℕ) : Type 0 where
-  pub entry : Entry
+  pub entry : PageEntry
   pub within : q < a.len
   pub there : slice_get a.rows q ≡ Some entry
   pub sought : IsSoughtEntry idle entry
@@ -57,7 +57,7 @@ entry_of_sought a idle q sought =
       entry = r.row;
       within = r.within;
       there = r.there;
-      sought = (ap resident r.is ∙ sought.stands, λ so. unmarked r.row.touched (λ e. sought.untouched so (column_get (λ (entry : Entry). entry.touched) a.rows a.len q r.row r.within r.there ∙ e)));
+      sought = (ap resident r.is ∙ sought.stands, λ so. unmarked r.row.touched (λ e. sought.untouched so (column_get (λ (entry : PageEntry). entry.touched) a.rows a.len q r.row r.within r.there ∙ e)));
     }
 
 -- one place more

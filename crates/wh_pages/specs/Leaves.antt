@@ -4,7 +4,7 @@ use Rattle.std.specs.Global.{Vec}
 use Rattle.std.specs.List.{All}
 use Rattle.wh_host_model.specs.Frames.{tally}
 use Rattle.wh_host_model.specs.Space.States.{resident}
-use Rattle.wh_pages.specs.declared.entry.Entry.{Entry}
+use Rattle.wh_pages.specs.declared.entry.PageEntry.{PageEntry}
 use Rattle.wh_pages.specs.Parts.{page_of}
 
 -- the entries of all leaves in order
@@ -17,19 +17,19 @@ abbrev pub HasWholeLeaves : {X : Type 0} → List (Vec X) → Type 0
 HasWholeLeaves leaves = All (λ leaf. length leaf.items ≡ 256) leaves
 
 -- 1 where the page of an entry stands on a frame
-abbrev pub residents_of : Entry → ℕ
+abbrev pub residents_of : PageEntry → ℕ
 residents_of entry = resident (page_of entry)
 
 -- and was touched in this epoch
-abbrev pub actives_of : Entry → ℕ
+abbrev pub actives_of : PageEntry → ℕ
 actives_of entry = cond entry.touched (resident (page_of entry)) 0
 
 -- the page of an entry stands on a frame; if idle ones alone are looked for, it wasn't touched in this epoch
-abbrev pub IsSoughtEntry : Bool → Entry → Type 0
+abbrev pub IsSoughtEntry : Bool → PageEntry → Type 0
 IsSoughtEntry idle entry = (residents_of entry ≡ 1) × (idle ≡ true → entry.touched ≡ false)
 
 -- a leaf is whole, and its counts are counts
-pub record AreCountsOf (entries : List Entry) (residents actives : ℕ) : Type 0 where
+pub record AreCountsOf (entries : List PageEntry) (residents actives : ℕ) : Type 0 where
   pub whole : length entries ≡ 256
   pub resident : residents ≡ tally residents_of entries
   pub active : actives ≡ tally actives_of entries

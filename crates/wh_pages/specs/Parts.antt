@@ -2,14 +2,14 @@
 use Rattle.std.specs.Prelude.{ℕ, ◌≤◌, length, map, take}
 use Rattle.wh_host_model.specs.declared.states.Page.{Page}
 use Rattle.wh_host_model.specs.declared.states.Page.TheVariants.{Untouched, Private, Shared, Leaving, LeavingShared, Coming, Swapped}
-use Rattle.wh_pages.specs.declared.entry.Kind.{Kind}
-use Rattle.wh_pages.specs.declared.entry.Kind.TheVariants as kind
-use Rattle.wh_pages.specs.declared.entry.Entry.{Entry}
+use Rattle.wh_pages.specs.declared.entry.EntryKind.{EntryKind}
+use Rattle.wh_pages.specs.declared.entry.EntryKind.TheVariants as kind
+use Rattle.wh_pages.specs.declared.entry.PageEntry.{PageEntry}
 use Rattle.wh_pages.specs.declared.table.PageTable.TheInside.{Inside}
 use Rattle.wh_pages.specs.Table.{PageTableState}
 
 -- the page of this kind, on this frame or in this slot
-abbrev pub page_in : Kind → ℕ → Page
+abbrev pub page_in : EntryKind → ℕ → Page
 page_in kind.Untouched n = Untouched
 page_in kind.Private n = Private n
 page_in kind.Shared n = Shared n
@@ -19,7 +19,7 @@ page_in kind.Coming n = Coming n
 page_in kind.Swapped n = Swapped n
 
 -- the page of an entry
-abbrev pub page_of : Entry → Page
+abbrev pub page_of : PageEntry → Page
 page_of entry = page_in entry.kind entry.number
 
 -- the first entries are those of the pages

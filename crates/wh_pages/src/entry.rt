@@ -11,7 +11,7 @@ use wh_host_model::Page;
 
 // Which state a page is in.
 #[derive(Clone, Copy)]
-pub enum Kind {
+pub enum EntryKind {
     Untouched,
     Private,
     Shared,
@@ -23,42 +23,42 @@ pub enum Kind {
 
 // The state of a page, the number of its frame or slot, and whether it was touched in this epoch.
 #[derive(Clone, Copy)]
-pub struct Entry {
+pub struct PageEntry {
     pub number: u32,
-    pub kind: Kind,
+    pub kind: EntryKind,
     pub touched: bool,
 }
 
-const _: () = prove!(size_of::<Entry>() <= 8);
+const _: () = prove!(size_of::<PageEntry>() <= 8);
 
-impl Entry {
+impl PageEntry {
     // An untouched page without a mark.
-    pub fn blank() -> Entry
+    pub fn blank() -> PageEntry
         ensures page { page_of result ≡ UntouchedPage }
         ensures touched { result.touched ≡ false }
     {
-        Entry {
+        PageEntry {
             number: 0,
-            kind: Kind::Untouched,
+            kind: EntryKind::Untouched,
             touched: false,
         }
     }
 
     // This page with this mark.
-    pub fn new(page: Page, touched: bool) -> Entry
+    pub fn new(page: Page, touched: bool) -> PageEntry
         ensures page { page_of result ≡ page }
         ensures touched { result.touched ≡ touched }
     {
         let (kind, number) = match page {
-            Page::Untouched => (Kind::Untouched, 0),
-            Page::Private(frame) => (Kind::Private, frame),
-            Page::Shared(frame) => (Kind::Shared, frame),
-            Page::Leaving(frame) => (Kind::Leaving, frame),
-            Page::LeavingShared(frame) => (Kind::LeavingShared, frame),
-            Page::Coming(slot) => (Kind::Coming, slot),
-            Page::Swapped(slot) => (Kind::Swapped, slot),
+            Page::Untouched => (EntryKind::Untouched, 0),
+            Page::Private(frame) => (EntryKind::Private, frame),
+            Page::Shared(frame) => (EntryKind::Shared, frame),
+            Page::Leaving(frame) => (EntryKind::Leaving, frame),
+            Page::LeavingShared(frame) => (EntryKind::LeavingShared, frame),
+            Page::Coming(slot) => (EntryKind::Coming, slot),
+            Page::Swapped(slot) => (EntryKind::Swapped, slot),
         };
-        Entry {
+        PageEntry {
             number,
             kind,
             touched,
@@ -72,8 +72,11 @@ impl Entry {
         ensures one { result ≤ 1 }
     {
         match self.kind {
-            Kind::Private | Kind::Shared | Kind::Leaving | Kind::LeavingShared => 1,
-            Kind::Untouched | Kind::Coming | Kind::Swapped => 0,
+            EntryKind::Private
+            | EntryKind::Shared
+            | EntryKind::Leaving
+            | EntryKind::LeavingShared => 1,
+            EntryKind::Untouched | EntryKind::Coming | EntryKind::Swapped => 0,
         }
     }
 
@@ -100,13 +103,13 @@ impl Entry {
         ensures { result ≡ page_of self }
     {
         match self.kind {
-            Kind::Untouched => Page::Untouched,
-            Kind::Private => Page::Private(self.number),
-            Kind::Shared => Page::Shared(self.number),
-            Kind::Leaving => Page::Leaving(self.number),
-            Kind::LeavingShared => Page::LeavingShared(self.number),
-            Kind::Coming => Page::Coming(self.number),
-            Kind::Swapped => Page::Swapped(self.number),
+            EntryKind::Untouched => Page::Untouched,
+            EntryKind::Private => Page::Private(self.number),
+            EntryKind::Shared => Page::Shared(self.number),
+            EntryKind::Leaving => Page::Leaving(self.number),
+            EntryKind::LeavingShared => Page::LeavingShared(self.number),
+            EntryKind::Coming => Page::Coming(self.number),
+            EntryKind::Swapped => Page::Swapped(self.number),
         }
     }
 }

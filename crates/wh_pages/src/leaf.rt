@@ -5,7 +5,7 @@ ghost use Rattle.std.specs.List.{All};
 ghost use Rattle.std.specs.Vec.{with_item};
 ghost use Rattle.wh_pages.specs.Leaves.{IsSoughtEntry};
 
-use crate::entry::Entry;
+use crate::entry::PageEntry;
 use std::alloc::{AllocError, Global};
 use std::marker::Model;
 
@@ -15,14 +15,14 @@ pub const LEAF: u32 = 256;
 // Entries, with how many of their pages stand on frames, and how many of these were touched in this epoch.
 #[derive(Drop)]
 pub struct Leaf {
-    entries: Vec<Entry>,
+    entries: Vec<PageEntry>,
     residents: u32,
     actives: u32,
 }
 
 impl Model for Leaf {
     ghost use Rattle.std.specs.Global.{Vec as Items};
-    ghost use Rattle.wh_pages.specs.declared.entry.Entry.{Entry as OneEntry};
+    ghost use Rattle.wh_pages.specs.declared.entry.PageEntry.{PageEntry as OneEntry};
 
     ghost Value = { Items OneEntry };
 
@@ -38,7 +38,7 @@ impl Leaf {
     pub fn new(alloc: Global) -> Result<Leaf, AllocError>
         ensures { IfOk result (λ leaf. length leaf.items ≡ 256) }
     {
-        let entries = vec![in alloc; Entry::blank(); LEAF as usize]?;
+        let entries = vec![in alloc; PageEntry::blank(); LEAF as usize]?;
         Ok(Leaf {
             entries,
             residents: 0,
@@ -48,7 +48,7 @@ impl Leaf {
 
     // The entry at this place.
     #[inline(always)]
-    pub fn get(&self, at: u32) -> Entry
+    pub fn get(&self, at: u32) -> PageEntry
         requires { at < 256 }
         ensures { slice_get self.now.items at ≡ Some result }
     {
@@ -57,7 +57,7 @@ impl Leaf {
 
     // Puts an entry at this place.
     #[inline(always)]
-    pub fn set(&mut self, at: u32, entry: Entry)
+    pub fn set(&mut self, at: u32, entry: PageEntry)
         requires { at < 256 }
         ensures { self.new ≡ with_item self.old at entry }
     {

@@ -1,10 +1,10 @@
 // The entries in a directory of two levels: leaves of 256 entries.
 
 ghost use Rattle.std.specs.Prelude.{◌≡◌, ℕ, ◌<◌, ◌≤◌, ◌+◌, ◌*◌, IsFalse, Some, IfOk, length, slice_get, slice_set};
-ghost use Rattle.wh_pages.specs.declared.entry.Entry.{Entry};
+ghost use Rattle.wh_pages.specs.declared.entry.PageEntry.{PageEntry};
 ghost use Rattle.wh_pages.specs.Leaves.{IsSoughtEntry};
 
-use crate::entry::Entry;
+use crate::entry::PageEntry;
 use crate::leaf::{LEAF, Leaf};
 use std::alloc::{AllocError, Global};
 use std::marker::Model;
@@ -17,9 +17,9 @@ pub struct Rows {
 
 impl Model for Rows {
     ghost use Rattle.std.specs.Prelude.{List};
-    ghost use Rattle.wh_pages.specs.declared.entry.Entry.{Entry};
+    ghost use Rattle.wh_pages.specs.declared.entry.PageEntry.{PageEntry};
 
-    ghost Value = { List Entry };
+    ghost Value = { List PageEntry };
 
     ghost use Rattle.wh_pages.specs.Leaves.{joined_leaves, HasWholeLeaves};
 
@@ -42,7 +42,7 @@ impl Rows {
 
     // The entry at this place.
     #[inline(always)]
-    pub fn get(&self, at: u32) -> Entry
+    pub fn get(&self, at: u32) -> PageEntry
         requires { at < length self.now }
         ensures { slice_get self.now at ≡ Some result }
     {
@@ -52,7 +52,7 @@ impl Rows {
     // Whether some page of a leaf is looked for.
     pub fn has_sought(&self, leaf: u32, idle: bool) -> bool
         requires { 256 * leaf < length self.now }
-        ensures { IsFalse result → (q : ℕ) (entry : Entry) → 256 * leaf ≤ q → q < 256 * leaf + 256
+        ensures { IsFalse result → (q : ℕ) (entry : PageEntry) → 256 * leaf ≤ q → q < 256 * leaf + 256
             → slice_get self.now q ≡ Some entry → ¬ IsSoughtEntry idle entry }
     {
         self.leaves[leaf as usize].has_sought(idle)
@@ -60,7 +60,7 @@ impl Rows {
 
     // Puts an entry at this place.
     #[inline(always)]
-    pub fn set(&mut self, at: u32, entry: Entry)
+    pub fn set(&mut self, at: u32, entry: PageEntry)
         requires { at < length self.old }
         ensures { self.new ≡ slice_set self.old at entry }
     {

@@ -5,7 +5,7 @@ ghost use Rattle.wh_pages.specs.Parts.{page_of};
 ghost use Rattle.wh_host_model.specs.declared.states.Page.TheVariants.{Untouched};
 ghost use Rattle.wh_pages.specs.Seeking.{IsFirstFrom, IsSought};
 
-use crate::entry::Entry;
+use crate::entry::PageEntry;
 use crate::leaf::LEAF;
 use crate::rows::Rows;
 use std::alloc::{AllocError, Global};
@@ -142,7 +142,7 @@ impl PageTable {
         ensures { self.new ≡ record self.old { pages = slice_set self.old.pages at page } }
     {
         let touched = self.is_touched(at);
-        self.put(at, Entry::new(page, touched));
+        self.put(at, PageEntry::new(page, touched));
     }
 
     /// Marks the page at this place, which is below `len`, as touched.
@@ -202,11 +202,11 @@ impl PageTable {
         ensures { self.new ≡ record self.old { touched = slice_set self.old.touched at touched } }
     {
         let old = self.rows.get(at);
-        self.put(at, Entry { touched, ..old });
+        self.put(at, PageEntry { touched, ..old });
     }
 
     // Puts an entry there.
-    fn put(&mut self, at: u32, entry: Entry)
+    fn put(&mut self, at: u32, entry: PageEntry)
         requires { at < length self.old.pages }
         ensures { self.new ≡ record self.old {
           pages = slice_set self.old.pages at (page_of entry);
@@ -224,7 +224,7 @@ impl PageTable {
           touched = self.old.touched ++ false ∷ [];
         } }
     {
-        self.rows.set(self.len, Entry::blank());
+        self.rows.set(self.len, PageEntry::blank());
         self.len += 1;
     }
 }

@@ -7,19 +7,19 @@ use Rattle.wh_host_model.specs.Space.Moves.{IsFirstSwapped}
 use Rattle.wh_host_model.specs.Space.Parts.{Occupant, Space, kept_by, need_of, wants}
 use Rattle.wh_host_model.specs.Space.Ready.{among, frames_in_all, may_take, pages_of_need}
 use Rattle.wh_host_model.specs.Space.States.{at, page_at, swapped}
-use Rattle.wh_host_model.specs.Space.Tickets.{BeginsEvict, BeginsFetch, Reserves, StandsForFrame}
+use Rattle.wh_host_model.specs.Space.Tickets.{BeginsEvict, BeginsFetch, Reserves, WaitsForBytes}
 use Rattle.wh_host_model.proofs.Tally.{one_other}
 use Rattle.wh_host_model.proofs.Space.Putting.{cond_here, get_or_is, here_or}
 use Rattle.wh_space.specs.Transits.{IsDeparting, IsSentFor}
 
--- ---- who stands for a frame
+-- ---- who waits for a frame
 
-pub stands_wants : (s : Space) (i : ℕ) (need : Need) → StandsForFrame s i need → wants s i ≡ Some need
+pub stands_wants : (s : Space) (i : ℕ) (need : Need) → WaitsForBytes s i need → wants s i ≡ Some need
 stands_wants s i need (t, there, live, stands) =
     let is : get_or s.occupants i None ≡ Some t = get_or_is s.occupants i (Some t) None there in
     rw (is, live) stands
 
-pub none_stands : (s : Space) (i : ℕ) → wants s i ≡ None → (need : Need) → ¬ StandsForFrame s i need
+pub none_stands : (s : Space) (i : ℕ) → wants s i ≡ None → (need : Need) → ¬ WaitsForBytes s i need
 none_stands s i none need stands = let some = stands_wants s i need stands in absurd (cc (none, some))
 
 there_is : (xs : List (Option Occupant)) (i : ℕ) (t : Occupant) → get_or xs i None ≡ Some t → slice_get xs i ≡ Some (Some t)
@@ -27,13 +27,13 @@ there_is [] i t is = absurd (cc is)
 there_is (x ∷ xs) zero t is = ap Some is
 there_is (x ∷ xs) (suc i) t is = there_is xs i t is
 
-pub wants_stands : (s : Space) (i : ℕ) (need : Need) → wants s i ≡ Some need → StandsForFrame s i need
+pub wants_stands : (s : Space) (i : ℕ) (need : Need) → wants s i ≡ Some need → WaitsForBytes s i need
 wants_stands s i need is = go (get_or s.occupants i None) refl is where
-  by : (t : Occupant) (live : Bool) → t.live ≡ live → get_or s.occupants i None ≡ Some t → cond live t.stands None ≡ Some need → StandsForFrame s i need
+  by : (t : Occupant) (live : Bool) → t.live ≡ live → get_or s.occupants i None ≡ Some t → cond live t.stands None ≡ Some need → WaitsForBytes s i need
   by t true live e is = (t, there_is s.occupants i t e, live, is)
   by t false live e is = absurd (cc is)
 
-  go : (o : Option Occupant) → get_or s.occupants i None ≡ o → need_of o ≡ Some need → StandsForFrame s i need
+  go : (o : Option Occupant) → get_or s.occupants i None ≡ o → need_of o ≡ Some need → WaitsForBytes s i need
   go None e is = absurd (cc is)
   go (Some t) e is = by t t.live refl e is
 
@@ -70,10 +70,10 @@ frame_kept s i need p s1 reserves first some =
 
 -- ---- what begins
 
-pub begins_evict : (s : Space) (i : ℕ) (need : Need) (s1 : Space) (j p k : ℕ) (bytes : List ℕ) (s2 : Space) → StandsForFrame s i need → Reserves s i need s1 → may_take s1 i < frames_in_all s1 i need
+pub begins_evict : (s : Space) (i : ℕ) (need : Need) (s1 : Space) (j p k : ℕ) (bytes : List ℕ) (s2 : Space) → WaitsForBytes s i need → Reserves s i need s1 → may_take s1 i < frames_in_all s1 i need
     → MustLeave s1 i need j p → IsDeparting s1 j p k bytes s2 → BeginsEvict s i (Some k) bytes s2
 begins_evict s i need s1 j p k bytes s2 stands reserves less must (f, old, new, page, frame, leaving, are, others, vacant, is) =
     (need, stands, s1, reserves, less, j, p, f, must, old, new, page, frame, leaving, are, others, vacant, is)
 
-pub begins_fetch : (s : Space) (i : ℕ) (need : Need) (s1 : Space) (p k : ℕ) (s2 : Space) → StandsForFrame s i need → Reserves s i need s1 → IsFirstSwapped s1 i need p → IsSentFor s1 i p k s2 → BeginsFetch s i (Some k) s2
+pub begins_fetch : (s : Space) (i : ℕ) (need : Need) (s1 : Space) (p k : ℕ) (s2 : Space) → WaitsForBytes s i need → Reserves s i need s1 → IsFirstSwapped s1 i need p → IsSentFor s1 i p k s2 → BeginsFetch s i (Some k) s2
 begins_fetch s i need s1 p k s2 stands reserves first (f, page, others, kept, is) = (need, stands, s1, reserves, p, f, first, page, others, kept, is)

@@ -10,15 +10,15 @@ use Rattle.wh_host_model.specs.Space.Provide.{GivesUp, IsOnTheWay, IsServed, IsS
 use Rattle.wh_host_model.specs.Space.Ready.{frames_to_write, pages_of_need}
 use Rattle.wh_host_model.specs.Space.Sound.{IsSound}
 use Rattle.wh_host_model.specs.Space.States.{at, page_at, resident, swapped}
-use Rattle.wh_host_model.specs.Space.Tickets.{StandsForFrame}
+use Rattle.wh_host_model.specs.Space.Tickets.{WaitsForBytes}
 use Rattle.wh_host_model.proofs.Tally.{one_other, one_same}
 use Rattle.wh_host_model.proofs.Space.Putting.{here_or, pinned_here}
 use Rattle.wh_host_model.proofs.Space.Serving.{evict_on, fetch_on}
 use Rattle.wh_host_model.proofs.Space.Slotting.{slot_taken}
 use Rattle.wh_host_model.proofs.Space.Wanting.{OneOrTwo, few_pages}
 use Rattle.wh_reclaim.specs.Providing.{GoesOn, LosesSlot}
-use Rattle.wh_reclaim.specs.declared.ready.Made.{Made}
-use Rattle.wh_reclaim.specs.declared.ready.Made.TheVariants.{Done, Came, Left}
+use Rattle.wh_reclaim.specs.declared.ready.MoveOutcome.{MoveOutcome}
+use Rattle.wh_reclaim.specs.declared.ready.MoveOutcome.TheVariants.{Done, Came, Left}
 
 -- ---- pages that are pinned stand once
 
@@ -139,14 +139,14 @@ left_nearer s0 i need n s s2 sound way (lacks, (j, p, must, evicts)) = (evict_on
 
 -- ---- what was made of a move
 
-pub goes_done : (honest : Type 0) (s : Space) (i : ℕ) (need : Need) (made : Made) (s2 : Space) → made ≡ Done → GoesOn honest s i need made s2 → IsServed s i need × (s2 ≡ s)
+pub goes_done : (honest : Type 0) (s : Space) (i : ℕ) (need : Need) (made : MoveOutcome) (s2 : Space) → made ≡ Done → GoesOn honest s i need made s2 → IsServed s i need × (s2 ≡ s)
 goes_done honest s i need made s2 is on = subst (λ m. GoesOn honest s i need m s2) is on
 
-pub goes_came : (honest : Type 0) (s : Space) (i : ℕ) (need : Need) (made : Made) (s2 : Space) → made ≡ Came → GoesOn honest s i need made s2
+pub goes_came : (honest : Type 0) (s : Space) (i : ℕ) (need : Need) (made : MoveOutcome) (s2 : Space) → made ≡ Came → GoesOn honest s i need made s2
     → (bytes : List ℕ) × MovesOn s i need (comes bytes) s2 × (honest → IsTrueTo s i need (comes bytes))
 goes_came honest s i need made s2 is on = subst (λ m. GoesOn honest s i need m s2) is on
 
-pub goes_left : (honest : Type 0) (s : Space) (i : ℕ) (need : Need) (made : Made) (s2 : Space) → made ≡ Left → GoesOn honest s i need made s2 → MovesOn s i need goes s2
+pub goes_left : (honest : Type 0) (s : Space) (i : ℕ) (need : Need) (made : MoveOutcome) (s2 : Space) → made ≡ Left → GoesOn honest s i need made s2 → MovesOn s i need goes s2
 goes_left honest s i need made s2 is on = subst (λ m. GoesOn honest s i need m s2) is on
 
 -- frames are earmarked at last, or all is given up
@@ -158,7 +158,7 @@ gives_up mid s s2 (inl same) is = inl (is ∙ ap unpinned same)
 gives_up mid s s2 (inr (k, vacant, same)) is = inr (k, vacant, is ∙ ap unpinned same)
 
 -- who stood for the frame does so still
-pub stands_still : (s0 : Space) (i : ℕ) (need : Need) (s : Space) → s.occupants ≡ s0.occupants → StandsForFrame s0 i need → StandsForFrame s i need
+pub stands_still : (s0 : Space) (i : ℕ) (need : Need) (s : Space) → s.occupants ≡ s0.occupants → WaitsForBytes s0 i need → WaitsForBytes s i need
 stands_still s0 i need s same (t, there, live, stands) = (t, ap (λ xs. slice_get xs i) same ∙ there, live, stands)
 
 pub none_kept : (s : Space) → length (kept s.pins) ≡ 0 → kept s.pins ≡ []

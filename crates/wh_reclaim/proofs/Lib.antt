@@ -1,3 +1,4 @@
+pub mod ComparedFractions
 pub mod Paying
 pub mod Beginning
 pub mod Sending

@@ -11,7 +11,7 @@ use Rattle.wh_host_model.proofs.Space.Putting.{there_of}
 use Rattle.wh_reclaim.specs.Choosing.{IsAtPlace, IsPayerBelow, PaysBefore, PaysBelow}
 use Rattle.wh_reclaim.specs.declared.choice.Payer.{Payer}
 use Rattle.wh_space.specs.Claiming.{IsClaimOf, TakesNoPage}
-use Rattle.wh_tax.proofs.Choice.{cross_lt, some_price}
+use Rattle.wh_reclaim.proofs.ComparedFractions.{cross_lt, some_price}
 
 -- ---- fractions by cross products
 

@@ -10,7 +10,7 @@ use Rattle.wh_host_model.specs.Space.Moves.{Evicts}
 use Rattle.wh_host_model.specs.Space.Parts.{Space}
 use Rattle.wh_host_model.specs.Space.Provide.{FailsToProvide, GivesUp, OthersKeepMinimum, Provides}
 use Rattle.wh_host_model.specs.Space.Sound.{IsSound}
-use Rattle.wh_host_model.specs.Space.Tickets.{StandsForFrame}
+use Rattle.wh_host_model.specs.Space.Tickets.{WaitsForBytes}
 use Rattle.wh_host_model.proofs.Space.Provided.{provision_is_right, serves_way}
 use Rattle.wh_reclaim.specs.Providing.{Revokes}
 use Rattle.wh_reclaim.proofs.Beginning.{stands_wants}
@@ -19,7 +19,7 @@ some_need : {a b : Need} → Some a ≡ Some b → a ≡ b
 some_need e = cc
 
 -- it stands for one step
-pub one_need : (s : Space) (i : ℕ) (a b : Need) → StandsForFrame s i a → StandsForFrame s i b → a ≡ b
+pub one_need : (s : Space) (i : ℕ) (a b : Need) → WaitsForBytes s i a → WaitsForBytes s i b → a ≡ b
 one_need s i a b first second = some_need (sym (stands_wants s i a first) ∙ stands_wants s i b second)
 
 -- what holds under a premise of each answer
@@ -31,7 +31,7 @@ pub under_err : {E : Type 0} (answer : Result ℕ E) (premise holds : Type 0) �
 under_err (Ok n) premise holds so given = tt
 under_err (Err e) premise holds so given = so given
 
-pub is_right : {E : Type 0} (answer : Result ℕ E) (s : Space) (i : ℕ) (need : Need) (s2 : Space) → IsSound s → tickets s ≡ 0 → StandsForFrame s i need → IfOk answer (λ n. Provides s i need n s2) → IfOk answer (λ n. IsProvided s i need n s2)
+pub is_right : {E : Type 0} (answer : Result ℕ E) (s : Space) (i : ℕ) (need : Need) (s2 : Space) → IsSound s → tickets s ≡ 0 → WaitsForBytes s i need → IfOk answer (λ n. Provides s i need n s2) → IfOk answer (λ n. IsProvided s i need n s2)
 is_right (Ok n) s i need s2 sound none stands provides = provision_is_right s i need n s2 sound none stands provides
 is_right (Err e) s i need s2 sound none stands provides = tt
 
@@ -40,7 +40,7 @@ charges_still mid s2 j (inl is) = ap (λ (z : Space). charged_of z j) is
 charges_still mid s2 j (inr (k, vacant, is)) = ap (λ (z : Space). charged_of z j) is
 
 -- nobody else is below its minimum that wasn't
-pub keeps_others : {E : Type 0} (answer : Result ℕ E) (s : Space) (i : ℕ) (need : Need) (s2 : Space) → IsSound s → tickets s ≡ 0 → StandsForFrame s i need → IfOk answer (λ n. Provides s i need n s2) → OnErr answer (FailsToProvide s i need s2)
+pub keeps_others : {E : Type 0} (answer : Result ℕ E) (s : Space) (i : ℕ) (need : Need) (s2 : Space) → IsSound s → tickets s ≡ 0 → WaitsForBytes s i need → IfOk answer (λ n. Provides s i need n s2) → OnErr answer (FailsToProvide s i need s2)
     → OthersKeepMinimum s i s2
 keeps_others (Ok n) s i need s2 sound none stands provides fails = (provision_is_right s i need n s2 sound none stands provides).others
 keeps_others (Err e) s i need s2 sound none stands provides (moves, mid, serves, gives) = λ j t other there.
@@ -54,7 +54,7 @@ ticket_free mid s2 (inl is) = ap tickets is
 ticket_free mid s2 (inr (k, vacant, is)) = ap tickets is
 
 -- no ticket is out afterwards
-pub none_left : {E : Type 0} (answer : Result ℕ E) (s : Space) (i : ℕ) (need : Need) (s2 : Space) → IsSound s → tickets s ≡ 0 → StandsForFrame s i need → IfOk answer (λ n. Provides s i need n s2) → OnErr answer (FailsToProvide s i need s2)
+pub none_left : {E : Type 0} (answer : Result ℕ E) (s : Space) (i : ℕ) (need : Need) (s2 : Space) → IsSound s → tickets s ≡ 0 → WaitsForBytes s i need → IfOk answer (λ n. Provides s i need n s2) → OnErr answer (FailsToProvide s i need s2)
     → tickets s2 ≡ 0
 none_left (Ok n) s i need s2 sound none stands (moves, mid, serves, many, served, earmarks) fails =
     ap tickets earmarks.leaves ∙ (serves_way s i need moves mid sound none stands serves).1.none_out

@@ -1,6 +1,6 @@
 pub mod Choosing
-pub mod Lending
+pub mod LentBuffers
 pub mod Providing
-pub mod Tickets
+pub mod TicketViews
 pub mod Together
 pub mod Whole

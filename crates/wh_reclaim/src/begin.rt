@@ -1,8 +1,8 @@
 // Pages that begin to leave, and to come.
 
 ghost use Rattle.std.specs.Prelude.{◌≡◌, IfErr, IfOk};
-ghost use Rattle.wh_host_model.specs.Space.Tickets.{BeginsEvict, BeginsFetch, IsEvicting, Reserves, StandsForFrame};
-ghost use Rattle.wh_reclaim.specs.Tickets.{bytes_begun, slot_begun};
+ghost use Rattle.wh_host_model.specs.Space.Tickets.{BeginsEvict, BeginsFetch, IsEvicting, Reserves, WaitsForBytes};
+ghost use Rattle.wh_reclaim.specs.TicketViews.{bytes_begun, slot_begun};
 ghost use Rattle.wh_space.specs.Transits.{IsFetching};
 
 use crate::choice::page_to_take;
@@ -10,12 +10,12 @@ use crate::tickets::{Buf, EvictTicket, FetchTicket};
 use wh_model::Need;
 use wh_space::Memory;
 
-// The resident pages of the step are pinned for which the instance at a place stands, and frames earmarked for it: as many as
+// The resident pages of the step are pinned for which the instance at a place waits, and frames earmarked for it: as many as
 // it wants, or all that are free.
 fn reserve(memory: &mut Memory, place: usize, need: Need)
-    requires { StandsForFrame memory.old place need }
+    requires { WaitsForBytes memory.old place need }
     ensures reserves { Reserves memory.old place need memory.new }
-    ensures stands { StandsForFrame memory.new place need }
+    ensures stands { WaitsForBytes memory.new place need }
 {
     memory.pin(place, need);
     let wanted = memory.frames_in_all(place, need);
@@ -23,12 +23,12 @@ fn reserve(memory: &mut Memory, place: usize, need: Need)
     memory.earmark(place, free.min(wanted));
 }
 
-/// A page begins to leave for the step for which the instance at this place stands: that of the one that pays, or where nobody
+/// A page begins to leave for the step for which the instance at this place waits: that of the one that pays, or where nobody
 /// has to pay one of its own. Before that all pins and earmarks end, the step's resident pages are pinned, and frames are
 /// earmarked for it. No byte of any page changes.
 ///
 /// # Errors
-/// The buffer, where the instance doesn't stand for a frame, its step lacks no frame, no slot is vacant or no page has to
+/// The buffer, where the instance doesn't wait for a frame, its step lacks no frame, no slot is vacant or no page has to
 /// leave.
 pub fn evict_begin(memory: &mut Memory, place: usize, buf: Buf) -> Result<EvictTicket, Buf>
     ensures begins { BeginsEvict memory.old place (slot_begun result) (bytes_begun result)
@@ -50,17 +50,17 @@ pub fn evict_begin(memory: &mut Memory, place: usize, buf: Buf) -> Result<EvictT
         return Err(buf);
     };
     let mut bytes = buf;
-    memory.known();
+    memory.invariant();
     let slot = memory.depart(taken.place, taken.page, &mut bytes);
     Ok(EvictTicket { slot, bytes })
 }
 
-/// The first page that lies in a slot of the step for which the instance at this place stands begins to come, into a frame that
+/// The first page that lies in a slot of the step for which the instance at this place waits begins to come, into a frame that
 /// is earmarked for it. Before that all pins and earmarks end, the step's resident pages are pinned, and frames are earmarked
 /// for it. No byte of any page changes.
 ///
 /// # Errors
-/// The buffer, where the instance doesn't stand for a frame, no page of its step lies in a slot, or no frame is free or
+/// The buffer, where the instance doesn't wait for a frame, no page of its step lies in a slot, or no frame is free or
 /// earmarked for it.
 pub fn fetch_begin(memory: &mut Memory, place: usize, buf: Buf) -> Result<FetchTicket, Buf>
     ensures begins { BeginsFetch memory.old place (slot_begun result) memory.new }
@@ -77,7 +77,7 @@ pub fn fetch_begin(memory: &mut Memory, place: usize, buf: Buf) -> Result<FetchT
     if memory.may_take(place) == 0 {
         return Err(buf);
     }
-    memory.known();
+    memory.invariant();
     memory.send_for(place, page, slot);
     Ok(FetchTicket { slot, bytes: buf })
 }

@@ -2,14 +2,14 @@
 
 ghost use Rattle.std.specs.Prelude.{◌≡◌, ◌+◌, ◌<◌, None, Some, MatchBool, MatchOption, length};
 ghost use Rattle.wh_host_model.specs.Space.Claims.{MustLeave, NobodyPays, NoneMustLeave};
-ghost use Rattle.wh_host_model.specs.Space.Tickets.{StandsForFrame};
+ghost use Rattle.wh_host_model.specs.Space.Tickets.{WaitsForBytes};
 ghost use Rattle.wh_reclaim.specs.Choosing.{IsPayerBelow, PaysBefore};
 
+use crate::tax::cmp_rho;
 use std::cmp::Ordering;
 use wh_host_model::{Claim, Tax};
 use wh_model::Need;
 use wh_space::Memory;
-use wh_tax::cmp_rho;
 
 /// A page of the instance at a place.
 #[derive(Clone, Copy, Debug, PartialEq, Eq)]
@@ -101,7 +101,7 @@ fn payer_of(memory: &Memory) -> Option<Payer>
 /// nobody has to pay, a sharer of a frame that the step writes, so that the write needs no copy; and where there is none, one of
 /// its own; or none. It looks at each instance once, and takes no memory.
 pub fn page_to_take(memory: &Memory, place: usize, need: Need) -> Option<PageOf>
-    requires { StandsForFrame memory.now place need }
+    requires { WaitsForBytes memory.now place need }
     ensures { MatchOption result (NoneMustLeave memory.now place need)
         (λ taken. MustLeave memory.now place need taken.place taken.page) }
 {
@@ -119,7 +119,7 @@ pub fn page_to_take(memory: &Memory, place: usize, need: Need) -> Option<PageOf>
 
 // The same where nobody has to pay.
 fn page_unpaid(memory: &Memory, place: usize, need: Need) -> Option<PageOf>
-    requires stands { StandsForFrame memory.now place need }
+    requires stands { WaitsForBytes memory.now place need }
     requires nobody { NobodyPays memory.now }
     ensures { MatchOption result (NoneMustLeave memory.now place need)
         (λ taken. MustLeave memory.now place need taken.place taken.page) }

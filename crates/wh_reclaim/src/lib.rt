@@ -5,10 +5,12 @@ mod begin;
 mod choice;
 mod commit;
 mod ready;
+mod tax;
 mod tickets;
 
 pub use begin::{evict_begin, fetch_begin};
 pub use choice::{PageOf, page_to_take};
 pub use commit::{evict_commit, fetch_commit};
 pub use ready::provide;
+pub use tax::{cmp_rho, victim, weight};
 pub use tickets::{Buf, EvictTicket, FetchTicket};

@@ -10,7 +10,7 @@ ghost use Rattle.wh_host_model.specs.Space.Moves.{Evicts, Fetches};
 ghost use Rattle.wh_host_model.specs.Space.Parts.{kept, pinned_by};
 ghost use Rattle.wh_host_model.specs.Space.Provide.{FailsToProvide, FailsTruly, IsServing, LacksFree, OthersKeepMinimum, Provides, ProvidesTruly};
 ghost use Rattle.wh_host_model.specs.Space.States.{page_at};
-ghost use Rattle.wh_host_model.specs.Space.Tickets.{StandsForFrame};
+ghost use Rattle.wh_host_model.specs.Space.Tickets.{WaitsForBytes};
 ghost use Rattle.wh_model.specs.declared.memory.Need.{Need as Bytes};
 ghost use Rattle.wh_reclaim.specs.Providing.{GoesOn, LosesSlot, Revokes, left_by};
 ghost use Rattle.wh_reclaim.specs.Whole.{IsAsWhole};
@@ -24,7 +24,7 @@ use wh_swap::SwapDev;
 
 /// What was made of one move.
 #[derive(Clone, Copy, Debug, PartialEq, Eq)]
-pub enum Made {
+pub enum MoveOutcome {
     /// Nothing: the step lacks nothing but earmarks.
     Done,
     /// A page has come.
@@ -34,7 +34,7 @@ pub enum Made {
 }
 
 // A page leaves that can, in one go.
-fn send_away<D: SwapDev>(
+fn evict_now<D: SwapDev>(
     memory: &mut Memory,
     device: &mut D,
     taken: PageOf,
@@ -53,9 +53,9 @@ fn send_away<D: SwapDev>(
     ensures keeps { D.keeps device.old → D.keeps device.new }
     ensures kept { D.keeps device.old → D.honest device.old → D.honest device.new }
 {
-    memory.known();
+    memory.invariant();
     let slot = memory.depart(taken.place, taken.page, bytes);
-    memory.known();
+    memory.invariant();
     match device.write(slot, bytes) {
         Ok(()) => {
             memory.written(slot, bytes, true);
@@ -71,7 +71,7 @@ fn send_away<D: SwapDev>(
 }
 
 // A page comes from its slot, in one go.
-fn bring<D: SwapDev>(
+fn fetch_now<D: SwapDev>(
     memory: &mut Memory,
     device: &mut D,
     place: usize,
@@ -96,7 +96,7 @@ fn bring<D: SwapDev>(
     ensures keeps { D.keeps device.old → D.keeps device.new }
     ensures kept { D.keeps device.old → D.honest device.old → D.honest device.new }
 {
-    memory.known();
+    memory.invariant();
     match device.read(slot, bytes) {
         Ok(()) => {
             memory.fetch(place, page, slot, bytes);
@@ -114,7 +114,7 @@ fn revoke<D: SwapDev>(
     need: Need,
     bytes: &mut [u8; 4096],
 ) -> Result<(), SwapError>
-    requires stands { StandsForFrame memory.old place need }
+    requires stands { WaitsForBytes memory.old place need }
     requires serving { IsServing memory.old place need }
     requires none_out { tickets memory.old ≡ 0 }
     requires lacks { LacksFree memory.old place need }
@@ -129,11 +129,11 @@ fn revoke<D: SwapDev>(
     ensures keeps { D.keeps device.old → D.keeps device.new }
     ensures kept { D.keeps device.old → D.honest device.old → D.honest device.new }
 {
-    memory.known();
+    memory.invariant();
     let Some(taken) = page_to_take(memory, place, need) else {
         unreachable!()
     };
-    send_away(memory, device, taken, bytes)
+    evict_now(memory, device, taken, bytes)
 }
 
 // One move nearer to the step, or none where nothing is lacking.
@@ -143,8 +143,8 @@ fn go_on<D: SwapDev>(
     place: usize,
     need: Need,
     bytes: &mut [u8; 4096],
-) -> Result<Made, SwapError>
-    requires stands { StandsForFrame memory.old place need }
+) -> Result<MoveOutcome, SwapError>
+    requires stands { WaitsForBytes memory.old place need }
     requires serving { IsServing memory.old place need }
     requires none_out { tickets memory.old ≡ 0 }
     requires once { (q : ℕ) → tally (one_if q) (pinned_by memory.old.pins place) ≤ 1 }
@@ -161,29 +161,29 @@ fn go_on<D: SwapDev>(
     ensures keeps { D.keeps device.old → D.keeps device.new }
     ensures kept { D.keeps device.old → D.honest device.old → D.honest device.new }
 {
-    memory.known();
+    memory.invariant();
     if let Some((page, slot)) = memory.swapped_page(place, need) {
         if memory.free() == 0 {
             return match revoke(memory, device, place, need, bytes) {
-                Ok(()) => Ok(Made::Left),
+                Ok(()) => Ok(MoveOutcome::Left),
                 Err(fault) => Err(fault),
             };
         }
-        return match bring(memory, device, place, page, slot, bytes) {
-            Ok(()) => Ok(Made::Came),
+        return match fetch_now(memory, device, place, page, slot, bytes) {
+            Ok(()) => Ok(MoveOutcome::Came),
             Err(fault) => Err(fault),
         };
     }
     if memory.frames_to_write(place, need) > memory.free() {
         return match revoke(memory, device, place, need, bytes) {
-            Ok(()) => Ok(Made::Left),
+            Ok(()) => Ok(MoveOutcome::Left),
             Err(fault) => Err(fault),
         };
     }
-    Ok(Made::Done)
+    Ok(MoveOutcome::Done)
 }
 
-// Makes the step ready for which the instance at a place stands.
+// Makes the step ready for which the instance at a place waits.
 fn provide_for<D: SwapDev>(
     memory: &mut Memory,
     device: &mut D,
@@ -191,7 +191,7 @@ fn provide_for<D: SwapDev>(
     need: Need,
     bytes: &mut [u8; 4096],
 ) -> Result<u64, SwapError>
-    requires stands { StandsForFrame memory.old place need }
+    requires stands { WaitsForBytes memory.old place need }
     requires none_out { tickets memory.old ≡ 0 }
     requires agrees { memory.old.slots.held ≡ D.held device.old }
     ensures agrees { memory.new.slots.held ≡ D.held device.new }
@@ -208,19 +208,19 @@ fn provide_for<D: SwapDev>(
     ensures keeps { D.keeps device.old → D.keeps device.new }
     ensures kept { D.keeps device.old → D.honest device.old → D.honest device.new }
 {
-    memory.known();
+    memory.invariant();
     memory.known_pages();
     memory.pin(place, need);
     let mut left: u64 = 0;
     loop {
         match go_on(memory, device, place, need, bytes) {
-            Ok(Made::Done) => {
+            Ok(MoveOutcome::Done) => {
                 let wanted = memory.frames_to_write(place, need);
                 memory.earmark(place, wanted);
                 return Ok(left);
             }
-            Ok(Made::Came) => {}
-            Ok(Made::Left) => left += 1,
+            Ok(MoveOutcome::Came) => {}
+            Ok(MoveOutcome::Left) => left += 1,
             Err(fault) => {
                 memory.unpin();
                 return Err(fault);
@@ -229,9 +229,9 @@ fn provide_for<D: SwapDev>(
     }
 }
 
-/// Makes the step ready for which the instance at this place stands: its resident pages are pinned, its swapped ones come,
+/// Makes the step ready for which the instance at this place waits: its resident pages are pinned, its swapped ones come,
 /// the first one first, and frames are earmarked for its writes. Where no frame is free, or too few for the writes, the page
-/// leaves that has to. Nothing is done where the instance doesn't stand for a frame. The buffer is of use while the call
+/// leaves that has to. Nothing is done where the instance doesn't wait for a frame. The buffer is of use while the call
 /// lasts. How many pages left, each by one write of the device.
 ///
 /// # Errors
@@ -246,17 +246,17 @@ pub fn provide<D: SwapDev>(
     requires agrees { memory.old.slots.held ≡ D.held device.old }
     ensures agrees { memory.new.slots.held ≡ D.held device.new }
     ensures none_out { tickets memory.new ≡ 0 }
-    ensures idle { ((need : Bytes) → ¬ StandsForFrame memory.old place need)
+    ensures idle { ((need : Bytes) → ¬ WaitsForBytes memory.old place need)
         → (memory.new ≡ memory.old) × (device.new ≡ device.old) × (result ≡ Ok 0) }
-    ensures provides { (need : Bytes) → StandsForFrame memory.old place need
+    ensures provides { (need : Bytes) → WaitsForBytes memory.old place need
         → IfOk result (λ left. Provides memory.old place need left memory.new) }
-    ensures right { (need : Bytes) → StandsForFrame memory.old place need
+    ensures right { (need : Bytes) → WaitsForBytes memory.old place need
         → IfOk result (λ left. IsProvided memory.old place need left memory.new) }
-    ensures truly { (need : Bytes) → StandsForFrame memory.old place need → D.honest device.new
+    ensures truly { (need : Bytes) → WaitsForBytes memory.old place need → D.honest device.new
         → IfOk result (λ left. ProvidesTruly memory.old place need left memory.new) }
-    ensures fails { (need : Bytes) → StandsForFrame memory.old place need
+    ensures fails { (need : Bytes) → WaitsForBytes memory.old place need
         → OnErr result (FailsToProvide memory.old place need memory.new) }
-    ensures fails_truly { (need : Bytes) → StandsForFrame memory.old place need
+    ensures fails_truly { (need : Bytes) → WaitsForBytes memory.old place need
         → D.honest device.new → OnErr result (FailsTruly memory.old place need memory.new) }
     ensures others { OthersKeepMinimum memory.old place memory.new }
     ensures whole { IsAsWhole memory.old memory.new }
@@ -267,7 +267,7 @@ pub fn provide<D: SwapDev>(
     ensures keeps { D.keeps device.old → D.keeps device.new }
     ensures kept { D.keeps device.old → D.honest device.old → D.honest device.new }
 {
-    memory.known();
+    memory.invariant();
     let Some(need) = memory.wanted_step(place) else {
         return Ok(0);
     };

@@ -2,7 +2,7 @@
 
 ghost use Rattle.std.specs.Borrow.{sem};
 ghost use Rattle.std.specs.Prelude.{◌≡◌};
-ghost use Rattle.wh_reclaim.specs.Lending.{LendsBuffer};
+ghost use Rattle.wh_reclaim.specs.LentBuffers.{LendsBuffer};
 
 use std::marker::Model;
 
@@ -17,11 +17,11 @@ pub struct EvictTicket {
 }
 
 impl Model for EvictTicket {
-    ghost use Rattle.wh_reclaim.specs.Tickets.{Ticket};
+    ghost use Rattle.wh_reclaim.specs.TicketViews.{Ticket};
 
     ghost Value = { Ticket };
 
-    ghost use Rattle.wh_reclaim.specs.Tickets.{evict_ticket_of};
+    ghost use Rattle.wh_reclaim.specs.TicketViews.{evict_ticket_of};
 
     ghost view = { evict_ticket_of };
 }
@@ -50,11 +50,11 @@ pub struct FetchTicket {
 }
 
 impl Model for FetchTicket {
-    ghost use Rattle.wh_reclaim.specs.Tickets.{Ticket};
+    ghost use Rattle.wh_reclaim.specs.TicketViews.{Ticket};
 
     ghost Value = { Ticket };
 
-    ghost use Rattle.wh_reclaim.specs.Tickets.{fetch_ticket_of};
+    ghost use Rattle.wh_reclaim.specs.TicketViews.{fetch_ticket_of};
 
     ghost view = { fetch_ticket_of };
 }

@@ -3,7 +3,7 @@ use Rattle.std.proofs.Common.{◌≡◌, ◌==◌, false, ℕ, zero, suc, ◌-�
 use lib.Utf8.{encode as encode_utf8}
 use Rattle.std.specs.List.{repeat}
 use Rattle.std.specs.Fmt.{decimal, padded_integral, styled_decimal, format_spec, char_count}
-use Rattle.wh_host_model.specs.Lines.Texts.{column}
+use Rattle.wh_script_model.specs.Texts.{column}
 
 pads : (k : ℕ) → repeat {A = ℕ} k (32 ∷ []) ≡ replicate k 32
 pads zero = refl

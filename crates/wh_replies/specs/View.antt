@@ -1,18 +1,18 @@
 -- Replies as the definitions see them.
 use Rattle.std.specs.Prelude.{ℕ, List, ◌++◌, codes, Some, None}
-use Rattle.wh_host_model.specs.Script as script
-use Rattle.wh_host_model.specs.Script.{in_module, in_func}
-use Rattle.wh_host_model.specs.Lines.Texts as texts
-use Rattle.wh_host_model.specs.Lines.Texts.{broken, invalid, unlinked, no_link_memory, modules_full, no_room, call, start, done, trapped, wants_fuel, wants_frame, queued, cancelled, released, dead, refused, error, module_ok, module_refused, admit_ok, admit_refused, refuel_ok, refuel_refused, cancel_ok, cancel_refused, retry_ok, retry_refused, scan_ok, release_refused, call_is, caller_text, status_text}
+use Rattle.wh_script_model.specs.Lines as script
+use Rattle.wh_script_model.specs.Lines.{in_module, in_func}
+use Rattle.wh_script_model.specs.Texts as texts
+use Rattle.wh_script_model.specs.Texts.{broken, invalid, unlinked, no_link_memory, modules_full, no_room, call, start, done, trapped, wants_fuel, wants_frame, queued, cancelled, released, dead, refused, error, module_ok, module_refused, admit_ok, admit_refused, refuel_ok, refuel_refused, cancel_ok, cancel_refused, retry_ok, retry_refused, scan_ok, release_refused, call_is, caller_text, status_text}
 use Rattle.wh_replies.specs.declared.call.Caller.{Caller}
 use Rattle.wh_replies.specs.declared.call.Caller.TheVariants.{Call as ByNumber, Start}
 use Rattle.wh_replies.specs.declared.call.Status.{Status}
 use Rattle.wh_replies.specs.declared.call.Status.TheVariants.{Value, Done, Trap, Fuel, Frame, Queued, Cancelled, Released, Dead, Refused}
 use Rattle.wh_replies.specs.declared.call.Call.{Call as CallLine}
-use Rattle.wh_replies.specs.declared.reply.Place.{Place}
-use Rattle.wh_replies.specs.declared.reply.Place.TheVariants.{Module, Instr}
-use Rattle.wh_replies.specs.declared.reply.Refusal.{Refusal}
-use Rattle.wh_replies.specs.declared.reply.Refusal.TheVariants.{Broken, Invalid, Unlinked, NoLinkMemory, ModulesFull, NoRoom}
+use Rattle.wh_replies.specs.declared.reply.FaultPlace.{FaultPlace}
+use Rattle.wh_replies.specs.declared.reply.FaultPlace.TheVariants.{Module, Instr}
+use Rattle.wh_replies.specs.declared.reply.ModuleRefusal.{ModuleRefusal}
+use Rattle.wh_replies.specs.declared.reply.ModuleRefusal.TheVariants.{Broken, Invalid, Unlinked, NoLinkMemory, ModulesFull, NoRoom}
 use Rattle.wh_replies.specs.declared.reply.Reply.{Reply}
 use Rattle.wh_replies.specs.declared.reply.Reply.TheVariants.{Error, ModuleOk, ModuleRefused, AdmitOk, AdmitRefused, RefuelOk, RefuelRefused, CancelOk, CancelRefused, RetryOk, RetryRefused, ScanOk, ReleaseRefused, Call}
 use Rattle.wh_replies.specs.declared.row.Row.{Row}
@@ -37,11 +37,11 @@ status_of (Refused fault) = refused fault
 abbrev pub call_words : CallLine → List ℕ
 call_words line = caller_text (caller_of line.who) ++ codes " " ++ status_text (status_of line.is)
 
-abbrev pub reply_place : Place → script.Place
+abbrev pub reply_place : FaultPlace → script.Place
 reply_place Module = in_module
 reply_place (Instr func instr) = in_func func instr
 
-abbrev pub why_of : Refusal → texts.Refusal
+abbrev pub why_of : ModuleRefusal → texts.Refusal
 why_of (Broken kind offset) = broken kind offset
 why_of (Invalid kind place) = invalid kind (reply_place place)
 why_of (Unlinked kind place) = unlinked kind place

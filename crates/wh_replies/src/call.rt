@@ -1,7 +1,7 @@
 //! How far a call is.
 
 ghost use Rattle.std.specs.Prelude.{Some};
-ghost use Rattle.wh_host_model.specs.Lines.Texts.{caller_text, status_text};
+ghost use Rattle.wh_script_model.specs.Texts.{caller_text, status_text};
 ghost use Rattle.wh_replies.specs.View.{caller_of, status_of, call_words};
 
 use std::fmt;

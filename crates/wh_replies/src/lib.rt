@@ -10,7 +10,7 @@ mod value;
 
 pub use call::{Call, Caller, Status};
 pub use released::write_released;
-pub use reply::{Place, Refusal, Reply, write_reply};
+pub use reply::{FaultPlace, ModuleRefusal, Reply, write_reply};
 pub use report::{write_frames, write_row, write_shared, write_slots};
 pub use row::Row;
 pub use value::signed_value;

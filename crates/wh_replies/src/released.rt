@@ -1,7 +1,7 @@
 //! The reply to a release, with the output of the instance.
 
 ghost use Rattle.std.specs.Prelude.{◌≡◌, ◌++◌, OnOk, IfOk, string_bytes};
-ghost use Rattle.wh_host_model.specs.Lines.Texts.{output_text, hex_text, reply_text, release_ok};
+ghost use Rattle.wh_script_model.specs.Texts.{output_text, hex_text, reply_text, release_ok};
 
 use std::alloc::{AllocError, Global};
 

@@ -1,7 +1,7 @@
 //! What a line of a script is answered.
 
 ghost use Rattle.std.specs.Prelude.{◌≡◌, ◌++◌, Some, OnOk, string_bytes};
-ghost use Rattle.wh_host_model.specs.Lines.Texts.{place_text, refusal_text, reply_text};
+ghost use Rattle.wh_script_model.specs.Texts.{place_text, refusal_text, reply_text};
 ghost use Rattle.wh_replies.specs.View.{reply_place, why_of, reply_of};
 
 use crate::call::Call;
@@ -10,7 +10,7 @@ use std::fmt;
 
 /// Where a fault of the validator lies.
 #[derive(Clone, Copy, Debug, PartialEq, Eq)]
-pub enum Place {
+pub enum FaultPlace {
     /// In no function.
     Module,
     /// At an instruction of a function.
@@ -22,20 +22,20 @@ pub enum Place {
     },
 }
 
-impl fmt::Display for Place {
+impl fmt::Display for FaultPlace {
     ghost output = { λ place. Some (place_text (reply_place place)) };
 
     fn fmt<W: fmt::Write>(&self, f: &mut fmt::Formatter<W>) -> fmt::Result {
         match *self {
-            Place::Module => write!(f, "module"),
-            Place::Instr { func, instr } => write!(f, "func {func} instr {instr}"),
+            FaultPlace::Module => write!(f, "module"),
+            FaultPlace::Instr { func, instr } => write!(f, "func {func} instr {instr}"),
         }
     }
 }
 
 /// Why a module isn't kept, by the numbers that replies show.
 #[derive(Clone, Copy, Debug, PartialEq, Eq)]
-pub enum Refusal {
+pub enum ModuleRefusal {
     /// The decoder's fault.
     Broken {
         /// The number behind the D.
@@ -48,7 +48,7 @@ pub enum Refusal {
         /// The number behind the V.
         kind: u8,
         /// Where it lies.
-        place: Place,
+        place: FaultPlace,
     },
     /// The linker's fault.
     Unlinked {
@@ -65,17 +65,17 @@ pub enum Refusal {
     NoRoom,
 }
 
-impl fmt::Display for Refusal {
+impl fmt::Display for ModuleRefusal {
     ghost output = { λ why. Some (refusal_text (why_of why)) };
 
     fn fmt<W: fmt::Write>(&self, f: &mut fmt::Formatter<W>) -> fmt::Result {
         match *self {
-            Refusal::Broken { kind, offset } => write!(f, "D{kind} at {offset}"),
-            Refusal::Invalid { kind, place } => write!(f, "V{kind} {place}"),
-            Refusal::Unlinked { kind, import } => write!(f, "L{kind} import {import}"),
-            Refusal::NoLinkMemory => write!(f, "L3"),
-            Refusal::ModulesFull => write!(f, "M1"),
-            Refusal::NoRoom => write!(f, "M2"),
+            ModuleRefusal::Broken { kind, offset } => write!(f, "D{kind} at {offset}"),
+            ModuleRefusal::Invalid { kind, place } => write!(f, "V{kind} {place}"),
+            ModuleRefusal::Unlinked { kind, import } => write!(f, "L{kind} import {import}"),
+            ModuleRefusal::NoLinkMemory => write!(f, "L3"),
+            ModuleRefusal::ModulesFull => write!(f, "M1"),
+            ModuleRefusal::NoRoom => write!(f, "M2"),
         }
     }
 }
@@ -100,7 +100,7 @@ pub enum Reply<'a> {
         /// The name.
         name: &'a str,
         /// Why.
-        why: Refusal,
+        why: ModuleRefusal,
     },
     /// The instance is admitted.
     AdmitOk {

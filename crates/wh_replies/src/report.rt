@@ -1,7 +1,7 @@
 //! The lines of the report.
 
 ghost use Rattle.std.specs.Prelude.{◌≡◌, ◌++◌, ◌≤◌, ◌-◌, ◌*◌, Some, OnOk, string_bytes};
-ghost use Rattle.wh_host_model.specs.Lines.Texts.{frames_text, slots_text, shared_text, column, row_weight, rho_text, row_text};
+ghost use Rattle.wh_script_model.specs.Texts.{frames_text, slots_text, shared_text, column, row_weight, rho_text, row_text};
 ghost use Rattle.wh_replies.specs.View.{row_of};
 
 use crate::row::Row;

@@ -7,7 +7,7 @@ ghost use Rattle.wh_host_model.specs.Space.Offers.{FindsHint, FindsShared, IsOff
 ghost use Rattle.wh_host_model.specs.Space.Parts.{frame_bytes};
 ghost use Rattle.wh_space.specs.Merges.{HasFewPages};
 
-use wh_content::Entry;
+use wh_content::ContentEntry;
 use wh_host_model::Offer;
 use wh_kernels::{PageHash, is_zero, pages_equal};
 use wh_space::Memory;
@@ -117,10 +117,10 @@ pub fn offer_at<H: PageHash>(
             memory.hint(place, page, frame, hash);
             Offer::Hinted
         }
-        Some(Entry::Shared { frame, sharers }) => {
+        Some(ContentEntry::Shared { frame, sharers }) => {
             offer_to_shared(memory, spot, hash, frame, sharers)
         }
-        Some(Entry::Hint { frame, place, page }) => {
+        Some(ContentEntry::Hint { frame, place, page }) => {
             offer_to_hint(memory, hasher, spot, hash, Spot { place, page, frame })
         }
     }
@@ -139,7 +139,7 @@ pub fn offer<H: PageHash>(
     requires { HasFewPages memory.old }
     ensures { OffersOf (H.hashes hasher.now) memory.old place number page hash result memory.new }
 {
-    memory.known();
+    memory.invariant();
     if !memory.is_at(place, number) {
         return Offer::Skipped;
     }

@@ -39,7 +39,7 @@ fn scan_place<H: PageHash>(memory: &mut Memory, hasher: &H, place: u32) -> u32
         (pages_before place (length (get_or memory.old.tables place []))) memory.new }
     ensures offers { result ≡ length (get_or memory.old.tables place []) }
 {
-    memory.known();
+    memory.invariant();
     let pages = memory.size(place as usize) * 16;
     for page in 0..pages {
         let _ = scan_page(memory, hasher, place, page);
@@ -62,7 +62,7 @@ pub fn scan_all<H: PageHash>(memory: &mut Memory, hasher: &H) -> u64
         → (all : List (List ℕ)) → IsDistinct memory.new all
         → length all + length memory.new.pool.free ≡ length memory.new.pool.frames }
 {
-    memory.known();
+    memory.invariant();
     let mut offered: u64 = 0;
     let mut after = None;
     while let Some(next) = memory.next_instance(after) {

@@ -6,7 +6,7 @@ use Rattle.wh_host_model.specs.declared.plain.SwapError.{SwapError}
 use Rattle.wh_host.specs.Hosting.{HostState}
 use Rattle.wh_threads.specs.Counting.{IsZero, SharesState, charges_of, turns_of}
 use Rattle.wh_cell.specs.Knowing.{BackingState, KnownState, NoneOut, known_of}
-use Rattle.wh_cell.specs.Leaving.{LeftState, left_as}
+use Rattle.wh_cell.specs.LeftByOwner.{LeftState, left_as}
 use Rattle.wh_cell.specs.Locking.{BooksState, IsInStep, LockedState, now_of}
 use Rattle.wh_cell.specs.Owning.{ComesOn}
 use Rattle.wh_cell.proofs.Passing.{together_is}

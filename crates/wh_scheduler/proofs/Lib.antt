@@ -1,3 +1,3 @@
 mod InHand
-mod Rosters
+mod RunQueues
 mod Scans

@@ -8,7 +8,7 @@ use Rattle.wh_threads.specs.Counting.{SharesState, charges_of, turns_of}
 use Rattle.wh_workers.specs.declared.crew.ServeError.{ServeError}
 use Rattle.wh_cell.specs.Counted.{countable, offers_of}
 use Rattle.wh_cell.specs.Knowing.{BackingState}
-use Rattle.wh_cell.specs.Leaving.{LeftState}
+use Rattle.wh_cell.specs.LeftByOwner.{LeftState}
 use Rattle.wh_cell.specs.Locking.{BooksState, LockedState, now_of}
 use Rattle.wh_cell.specs.Scanned.{IsScanned, ScansLocked}
 use Rattle.wh_scheduler.specs.InHand.{AreSums, IsInHand, OwnedState, owned_of}

@@ -3,10 +3,10 @@ use Rattle.std.specs.Prelude.{◌≡◌, ℕ, List, Option, Some, None}
 use Rattle.wh_host_model.specs.Host.Worlds.{World}
 use Rattle.wh_reclaim.specs.Together.{AreTogether}
 use Rattle.wh_host.specs.Hosting.{HostState, IsHost}
-use Rattle.wh_host.specs.Showing.{StandsByEvents}
+use Rattle.wh_host.specs.Showing.{RepresentsReached}
 use Rattle.wh_threads.specs.Counting.{SharesState, charges_of, turns_of}
 use Rattle.wh_cell.specs.Knowing.{BackingState, known_of}
-use Rattle.wh_cell.specs.Leaving.{FitsHost, LeftState, left_as}
+use Rattle.wh_cell.specs.LeftByOwner.{FitsHost, LeftState, left_as}
 use Rattle.wh_cell.specs.Locking.{BooksState, LockedState}
 
 -- what contracts see of it: the host, its device, and how much was counted of each kind
@@ -51,6 +51,6 @@ pub record IsSoundInHand {D : Type 0} (held : D → List (List ℕ)) (honest : D
   pub some : (w : World) × IsHost o.host w
   pub device : D
   pub has : o.device ≡ Some device
-  pub led : honest device → StandsByEvents o.host
+  pub led : honest device → RepresentsReached o.host
   pub together : AreTogether o.host.space (held device)
   pub fits : FitsHost o.host o.books.charges

@@ -1,3 +1,3 @@
 pub mod InHand
-pub mod Rostered
+pub mod RunQueues
 pub mod Stored

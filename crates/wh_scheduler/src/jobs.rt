@@ -1,82 +1,82 @@
-//! What the threads of a cell do: turns, offers, provisions; and who hands the turns out.
+//! What the threads of a cell do: turns, offers, provisions; and who dispatches the turns.
 
 ghost use Rattle.std.specs.Prelude.{◌≡◌, ◌+◌, ◌-◌, ◌^◌, ◌<◌};
 
-use crate::patience::Patience;
-use crate::place::Place;
-use crate::roster::{Choice, Roster, Waiter};
+use crate::run_queue::{Choice, RunQueue, Waiter};
+use crate::spin_backoff::SpinBackoff;
+use crate::turn_lock::TurnLock;
 use std::alloc::{AllocError, Global};
 use std::hint;
 use std::sync::atomic::{AtomicU64, Ordering};
 use std::sync::ledger::Ledger;
 use std::sync::{Arc, Condvar, Mutex, Wait};
 use std::time::Duration;
-use wh_cell::{HostCell, Moved, Ties};
+use wh_cell::{CellAgreements, HostCell, Moved};
 use wh_host::Sample;
 use wh_host_model::{InstId, TurnEnd};
 use wh_kernels::PageHash;
 use wh_swap::SwapDev;
-use wh_threads::{Help, Helper, Order, Progress, Turns, Worker};
+use wh_threads::{Help, HelpOutcome, Helper, ReceivedTurn, Turns, Worker};
 use wh_workers::{Next, Supply};
 
-// For how many turns that are handed out the scanner offers a page: more often than it has to. It is started behind as many.
+// For how many turns that are dispatched the scanner offers a page: more often than it has to. It is started behind as many.
 const TURNS_FOR_AN_OFFER: u64 = 32;
 
 // For how many turns a worker receives turns while another one waits to do so.
-const TURNS_OF_A_STINT: u64 = 1024;
+const MOST_TURNS_HELD: u64 = 1024;
 
-// So long who hands out turns sleeps at most, in seconds, though nobody rings.
-const LONGEST_SLEEP: u64 = 1;
+// So long who dispatches turns sleeps at most, in seconds, though nobody rings.
+const LONGEST_SLEEP_SECONDS: u64 = 1;
 
-/// What the threads of a run have between them: who has turns out, and a bell for each for whom something may have to be
-/// waited. Whoever waits counts how often its bell rang, looks, and sleeps unless it rang again meanwhile.
-pub struct Desk {
-    /// Who has turns out, and whose step is ready.
-    pub roster: Mutex<Roster>,
-    /// Rings where a turn came back or a step was made ready: for who hands turns out.
-    pub turn_back: Condvar,
+/// Shared by the threads of a run: whose turns are dispatched, and a bell for each who may have to wait for something. Whoever
+/// waits counts how often its bell rang, looks, and sleeps unless it rang again meanwhile.
+pub struct Schedule {
+    /// Whose turns are dispatched, and whose step is ready.
+    pub run_queue: Mutex<RunQueue>,
+    /// Rings where a turn completed or a step was made ready: for the dispatcher.
+    pub turn_completed: Condvar,
     /// Rings where a step may wait for a frame: for the reclaimer.
     pub frame_wanted: Condvar,
-    /// Rings where a page is owed for turns that were handed out: for the scanner.
+    /// Rings where a page is owed for dispatched turns: for the scanner.
     pub offer_owed: Condvar,
     /// Which worker receives turns.
-    pub place: Place,
+    pub turn_lock: TurnLock,
 }
 
 // Written out, so that letting one go is one call, and not one for each part of its parts.
-impl Drop for Desk {
+impl Drop for Schedule {
     fn drop(self) {
-        let Desk {
-            roster: _,
-            turn_back: _,
+        let Schedule {
+            run_queue: _,
+            turn_completed: _,
             frame_wanted: _,
             offer_owed: _,
-            place: _,
+            turn_lock: _,
         } = self;
     }
 }
 
-impl Desk {
-    /// A desk with this roster, for so many workers.
+impl Schedule {
+    /// Returns a schedule of `run_queue` for `workers`.
     ///
     /// # Errors
     /// Where room was refused.
-    pub fn new(alloc: Global, roster: Roster, workers: usize) -> Result<Desk, AllocError> {
-        Ok(Desk {
-            roster: Mutex::new(roster),
-            turn_back: Condvar::new(),
+    pub fn new(alloc: Global, run_queue: RunQueue, workers: usize) -> Result<Schedule, AllocError> {
+        Ok(Schedule {
+            run_queue: Mutex::new(run_queue),
+            turn_completed: Condvar::new(),
             frame_wanted: Condvar::new(),
             offer_owed: Condvar::new(),
-            place: Place::new(alloc, workers)?,
+            turn_lock: TurnLock::new(alloc, workers)?,
         })
     }
 
-    // A turn has come back, which ended so. Who hands out turns isn't woken for each: it may sleep until half of those that
+    // A turn has come back, which ended so. Who dispatches turns isn't woken for each: it may sleep until half of those that
     // are out are due again.
-    fn take_back<R: Wait>(&self, rt: &R, instance: InstId, end: TurnEnd) {
-        let (was_ready, has_to_look) = self.note_end(rt, instance, end);
-        if has_to_look {
-            self.turn_back.notify_all();
+    fn complete_turn<R: Wait>(&self, rt: &R, instance: InstId, end: TurnEnd) {
+        let (was_ready, has_to_rescan) = self.note_end(rt, instance, end);
+        if has_to_rescan {
+            self.turn_completed.notify_all();
         }
         if was_ready || end == TurnEnd::Frame {
             self.frame_wanted.notify_all();
@@ -84,49 +84,49 @@ impl Desk {
     }
 
     // The next turn of the instance is due where its call goes on, and else none is out any more. Whether its step was the one
-    // that was made ready, and whether who hands out turns has to look.
+    // that was made ready, and whether who dispatches turns has to look.
     fn note_end<R: Wait>(&self, rt: &R, instance: InstId, end: TurnEnd) -> (bool, bool) {
-        let mut roster = self.roster.lock(rt);
-        let was_ready = roster.ready == Some(instance);
+        let mut run_queue = self.run_queue.lock(rt);
+        let was_ready = run_queue.ready == Some(instance);
         if end == TurnEnd::Again {
-            if let Ok(has_to_look) = roster.call_again(instance) {
-                return (was_ready, has_to_look);
+            if let Ok(has_to_rescan) = run_queue.requeue(instance) {
+                return (was_ready, has_to_rescan);
             }
         }
-        roster.bring_back(instance);
+        run_queue.complete(instance);
         (was_ready, true)
     }
 
-    // How many turns were handed out.
+    // How many turns were dispatched.
     fn turns<R: Wait>(&self, rt: &R) -> u64 {
-        let roster = self.roster.lock(rt);
-        roster.turns
+        let run_queue = self.run_queue.lock(rt);
+        run_queue.turns
     }
 }
 
-/// What a worker does with a turn: it takes the lock for it, and says that the turn is back.
-pub struct TurnJob<D: SwapDev, T: Ledger, C: Ledger, O: Ledger, E: Ledger, B: Ties> {
+/// Runs a worker's turns: takes the lock for each, and then completes it.
+pub struct TurnJob<D: SwapDev, T: Ledger, C: Ledger, O: Ledger, E: Ledger, B: CellAgreements> {
     /// The cell.
     pub cell: HostCell<D, T, C, O, E, B>,
-    /// Who has turns out.
-    pub desk: Arc<Desk, Global>,
-    /// How many turns this worker has awaited since it has the place; 0 where it hasn't.
-    pub stint: AtomicU64,
+    /// Whose turns are dispatched.
+    pub schedule: Arc<Schedule, Global>,
+    /// How many turns it has awaited while it holds the turn lock; 0 where it doesn't.
+    pub turns_held: AtomicU64,
 }
 
 // Written out, so that letting one go is one call, and not one for each part of its parts.
-impl<D: SwapDev + Drop, T: Ledger, C: Ledger, O: Ledger, E: Ledger, B: Ties> Drop
+impl<D: SwapDev + Drop, T: Ledger, C: Ledger, O: Ledger, E: Ledger, B: CellAgreements> Drop
     for TurnJob<D, T, C, O, E, B> {
     fn drop(self) {
         let TurnJob {
             cell: _,
-            desk: _,
-            stint: _,
+            schedule: _,
+            turns_held: _,
         } = self;
     }
 }
 
-impl<D: SwapDev + Drop, T: Ledger, C: Ledger, O: Ledger, E: Ledger, B: Ties> TurnJob<
+impl<D: SwapDev + Drop, T: Ledger, C: Ledger, O: Ledger, E: Ledger, B: CellAgreements> TurnJob<
     D,
     T,
     C,
@@ -135,7 +135,7 @@ impl<D: SwapDev + Drop, T: Ledger, C: Ledger, O: Ledger, E: Ledger, B: Ties> Tur
     B,
 > {
     // The turn, under the lock.
-    fn take_turn<R: Wait>(&self, rt: &R, order: Order, worker: &mut Worker<T, C>) -> TurnEnd
+    fn take_turn<R: Wait>(&self, rt: &R, order: ReceivedTurn, worker: &mut Worker<T, C>) -> TurnEnd
         requires room { worker.old.tally.turns < 2 ^ 64 - 1 }
         ensures from { worker.new.from ≡ worker.old.from }
         ensures turns { worker.new.tally.turns ≡ worker.old.tally.turns + 1 }
@@ -145,54 +145,53 @@ impl<D: SwapDev + Drop, T: Ledger, C: Ledger, O: Ledger, E: Ledger, B: Ties> Tur
     }
 }
 
-impl<D: SwapDev + Drop, T: Ledger, C: Ledger, O: Ledger, E: Ledger, B: Ties> Turns<T, C>
+impl<D: SwapDev + Drop, T: Ledger, C: Ledger, O: Ledger, E: Ledger, B: CellAgreements> Turns<T, C>
     for TurnJob<D, T, C, O, E, B> {
-    fn await_place<R: Wait>(&self, rt: &R) {
-        let turns = self.stint.fetch_add(1, Ordering::SeqCst);
-        let place = &self.desk.place;
+    fn acquire_turn_lock<R: Wait>(&self, rt: &R) {
+        let turns = self.turns_held.fetch_add(1, Ordering::SeqCst);
+        let turn_lock = &self.schedule.turn_lock;
         if turns > 0 {
-            if turns < TURNS_OF_A_STINT || !place.is_wanted() {
-                place.look_for_turn();
+            if turns < MOST_TURNS_HELD || !turn_lock.is_wanted() {
+                turn_lock.look_for_turn();
                 return;
             }
-            place.leave();
-            self.stint.store(1, Ordering::SeqCst);
+            turn_lock.leave();
+            self.turns_held.store(1, Ordering::SeqCst);
         }
-        place.take(rt);
+        turn_lock.take(rt);
     }
 
-    fn leave_place(&self) {
-        if self.stint.load(Ordering::SeqCst) > 0 {
-            self.stint.store(0, Ordering::SeqCst);
-            self.desk.place.leave();
+    fn release_turn_lock(&self) {
+        if self.turns_held.load(Ordering::SeqCst) > 0 {
+            self.turns_held.store(0, Ordering::SeqCst);
+            self.schedule.turn_lock.leave();
         }
     }
 
-    fn run<R: Wait>(&self, rt: &R, order: Order, worker: &mut Worker<T, C>) {
-        self.desk.place.receive();
+    fn run<R: Wait>(&self, rt: &R, order: ReceivedTurn, worker: &mut Worker<T, C>) {
+        self.schedule.turn_lock.receive();
         let instance = order.instance();
         let end = self.take_turn(rt, order, worker);
-        self.desk.take_back(rt, instance, end);
+        self.schedule.complete_turn(rt, instance, end);
     }
 
     fn share(&self) -> Result<Self, AllocError> {
         let cell = self.cell.share()?;
-        let desk = Arc::try_clone(&self.desk)?;
+        let schedule = Arc::try_clone(&self.schedule)?;
         Ok(TurnJob {
             cell,
-            desk,
-            stint: AtomicU64::new(0),
+            schedule,
+            turns_held: AtomicU64::new(0),
         })
     }
 }
 
-/// What a scanner does: for each 32 turns that were handed out it looks at a page under the lock, hashes it without, and
-/// offers it under the lock.
-pub struct ScanJob<D: SwapDev, T: Ledger, C: Ledger, O: Ledger, E: Ledger, B: Ties, H> {
+/// Offers a page for each 32 dispatched turns: looks at it under the lock, hashes it without, and offers it under the lock.
+pub struct ScanJob<D: SwapDev, T: Ledger, C: Ledger, O: Ledger, E: Ledger, B: CellAgreements, H> {
     /// The cell.
     pub cell: HostCell<D, T, C, O, E, B>,
-    /// How many turns were handed out.
-    pub desk: Arc<Desk, Global>,
+    /// How many turns were dispatched.
+    pub schedule: Arc<Schedule, Global>,
     /// Whose pages are offered, in turn.
     pub ids: Arc<Vec<InstId>, Global>,
     /// How pages are hashed.
@@ -200,12 +199,12 @@ pub struct ScanJob<D: SwapDev, T: Ledger, C: Ledger, O: Ledger, E: Ledger, B: Ti
 }
 
 // Written out, so that letting one go is one call, and not one for each part of its parts.
-impl<D: SwapDev + Drop, T: Ledger, C: Ledger, O: Ledger, E: Ledger, B: Ties, H: Drop> Drop
+impl<D: SwapDev + Drop, T: Ledger, C: Ledger, O: Ledger, E: Ledger, B: CellAgreements, H: Drop> Drop
     for ScanJob<D, T, C, O, E, B, H> {
     fn drop(self) {
         let ScanJob {
             cell: _,
-            desk: _,
+            schedule: _,
             ids: _,
             hasher: _,
         } = self;
@@ -221,15 +220,15 @@ fn page_in_round(round: u64, size: u32) -> u32 {
     (round % pages) as u32
 }
 
-impl<D: SwapDev + Drop, T: Ledger, C: Ledger, O: Ledger, E: Ledger, B: Ties, H: PageHash> ScanJob<
-    D,
-    T,
-    C,
-    O,
-    E,
-    B,
-    H,
-> {
+impl<
+    D: SwapDev + Drop,
+    T: Ledger,
+    C: Ledger,
+    O: Ledger,
+    E: Ledger,
+    B: CellAgreements,
+    H: PageHash,
+> ScanJob<D, T, C, O, E, B, H> {
     // A page of an instance, as it is now.
     fn look_at<R: Wait>(&self, rt: &R, id: InstId, round: u64) -> (u32, Option<Sample>) {
         let locked = self.cell.lock(rt);
@@ -240,7 +239,7 @@ impl<D: SwapDev + Drop, T: Ledger, C: Ledger, O: Ledger, E: Ledger, B: Ties, H: 
     // Whether as many pages were offered, since it was given its counts, as are for the turns so far.
     fn is_even<R: Wait>(&self, rt: &R, helper: &Helper<O>) -> bool {
         let offered = helper.count().saturating_sub(helper.from());
-        offered > self.desk.turns(rt) / TURNS_FOR_AN_OFFER
+        offered > self.schedule.turns(rt) / TURNS_FOR_AN_OFFER
     }
 
     // The page that is offered after so many, with the hash of what it had when it was looked at.
@@ -265,58 +264,61 @@ impl<
     C: Ledger,
     O: Ledger,
     E: Ledger,
-    B: Ties,
+    B: CellAgreements,
     H: PageHash + Copy,
 > Help<O> for ScanJob<D, T, C, O, E, B, H> {
-    fn help<R: Wait>(&self, rt: &R, helper: &mut Helper<O>) -> Progress {
+    fn help<R: Wait>(&self, rt: &R, helper: &mut Helper<O>) -> HelpOutcome {
         if self.is_even(rt, helper) {
-            return Progress::Waits;
+            return HelpOutcome::Waits;
         }
         let Some((id, page, hash)) = self.next_page(rt, helper.count()) else {
-            return Progress::Ended;
+            return HelpOutcome::Ended;
         };
         let mut locked = self.cell.lock(rt);
         match locked.offer(&self.hasher, id, page, hash, helper) {
-            Some(_) => Progress::Did,
-            None => Progress::Ended,
+            Some(_) => HelpOutcome::Did,
+            None => HelpOutcome::Ended,
         }
     }
 
     fn bell(&self) -> &Condvar {
-        &self.desk.offer_owed
+        &self.schedule.offer_owed
     }
 
     fn share(&self) -> Result<Self, AllocError> {
         let cell = self.cell.share()?;
-        let desk = Arc::try_clone(&self.desk)?;
+        let schedule = Arc::try_clone(&self.schedule)?;
         let ids = Arc::try_clone(&self.ids)?;
         Ok(ScanJob {
             cell,
-            desk,
+            schedule,
             ids,
             hasher: self.hasher,
         })
     }
 }
 
-/// What a reclaimer does: page by page it makes the step of an instance ready that waits for a frame, and then waits until
-/// that has had its turn. While the device is called turns go on.
-pub struct ReclaimJob<D: SwapDev, T: Ledger, C: Ledger, O: Ledger, E: Ledger, B: Ties> {
+/// Reclaims: makes the step of an instance ready, page by page, that waits for a frame, and then waits until that has had its
+/// turn. While the device is called turns go on.
+pub struct ReclaimJob<D: SwapDev, T: Ledger, C: Ledger, O: Ledger, E: Ledger, B: CellAgreements> {
     /// The cell.
     pub cell: HostCell<D, T, C, O, E, B>,
-    /// Who has turns out, and whose step is ready.
-    pub desk: Arc<Desk, Global>,
+    /// Whose turns are dispatched, and whose step is ready.
+    pub schedule: Arc<Schedule, Global>,
 }
 
 // Written out, so that letting one go is one call, and not one for each part of its parts.
-impl<D: SwapDev + Drop, T: Ledger, C: Ledger, O: Ledger, E: Ledger, B: Ties> Drop
+impl<D: SwapDev + Drop, T: Ledger, C: Ledger, O: Ledger, E: Ledger, B: CellAgreements> Drop
     for ReclaimJob<D, T, C, O, E, B> {
     fn drop(self) {
-        let ReclaimJob { cell: _, desk: _ } = self;
+        let ReclaimJob {
+            cell: _,
+            schedule: _,
+        } = self;
     }
 }
 
-impl<D: SwapDev + Drop, T: Ledger, C: Ledger, O: Ledger, E: Ledger, B: Ties> ReclaimJob<
+impl<D: SwapDev + Drop, T: Ledger, C: Ledger, O: Ledger, E: Ledger, B: CellAgreements> ReclaimJob<
     D,
     T,
     C,
@@ -327,72 +329,72 @@ impl<D: SwapDev + Drop, T: Ledger, C: Ledger, O: Ledger, E: Ledger, B: Ties> Rec
     // Whose step is made ready now, if one waits.
     fn next_waiter<R: Wait>(&self, rt: &R) -> Option<Waiter> {
         let locked = self.cell.lock(rt);
-        let mut roster = self.desk.roster.lock(rt);
-        roster.next_waiter(locked.host())
+        let mut run_queue = self.schedule.run_queue.lock(rt);
+        run_queue.next_waiter(locked.host())
     }
 
     // Notes what came of a move. Whether the instance that waited may go on now, or not at all.
     fn note<R: Wait>(&self, rt: &R, id: InstId, moved: Moved) -> bool {
-        let mut roster = self.desk.roster.lock(rt);
-        roster.note(id, moved)
+        let mut run_queue = self.schedule.run_queue.lock(rt);
+        run_queue.note(id, moved)
     }
 }
 
-impl<D: SwapDev + Drop, T: Ledger, C: Ledger, O: Ledger, E: Ledger, B: Ties> Help<E>
+impl<D: SwapDev + Drop, T: Ledger, C: Ledger, O: Ledger, E: Ledger, B: CellAgreements> Help<E>
     for ReclaimJob<D, T, C, O, E, B> {
-    fn help<R: Wait>(&self, rt: &R, helper: &mut Helper<E>) -> Progress {
+    fn help<R: Wait>(&self, rt: &R, helper: &mut Helper<E>) -> HelpOutcome {
         let Some(waiter) = self.next_waiter(rt) else {
-            return Progress::Waits;
+            return HelpOutcome::Waits;
         };
         let moved = self
             .cell
             .bring_nearer(rt, waiter.id, waiter.at_once, helper);
         if self.note(rt, waiter.id, moved) {
-            self.desk.turn_back.notify_all();
+            self.schedule.turn_completed.notify_all();
         }
-        Progress::Did
+        HelpOutcome::Did
     }
 
     fn bell(&self) -> &Condvar {
-        &self.desk.frame_wanted
+        &self.schedule.frame_wanted
     }
 
     fn share(&self) -> Result<Self, AllocError> {
         let cell = self.cell.share()?;
-        let desk = Arc::try_clone(&self.desk)?;
-        Ok(ReclaimJob { cell, desk })
+        let schedule = Arc::try_clone(&self.schedule)?;
+        Ok(ReclaimJob { cell, schedule })
     }
 }
 
-/// Who hands out turns: of whoever can go on and has none out, until none can.
-pub struct TurnSupply<D: SwapDev, T: Ledger, C: Ledger, O: Ledger, E: Ledger, B: Ties> {
+/// Dispatches turns of whoever can go on and has none, until none can.
+pub struct TurnSupply<D: SwapDev, T: Ledger, C: Ledger, O: Ledger, E: Ledger, B: CellAgreements> {
     /// The cell.
     pub cell: HostCell<D, T, C, O, E, B>,
-    /// Who has turns out.
-    pub desk: Arc<Desk, Global>,
+    /// Whose turns are dispatched.
+    pub schedule: Arc<Schedule, Global>,
     /// Whose turns come next.
-    pub due: Vec<InstId>,
-    /// How many of these were handed out.
-    pub given: usize,
-    /// How long it looks for a turn that came back before it sleeps.
-    pub patience: Patience,
+    pub queued: Vec<InstId>,
+    /// How many of these were dispatched.
+    pub dispatched: usize,
+    /// How long it spins for a completed turn before it sleeps.
+    pub spin_backoff: SpinBackoff,
 }
 
 // Written out, so that letting one go is one call, and not one for each part of its parts.
-impl<D: SwapDev + Drop, T: Ledger, C: Ledger, O: Ledger, E: Ledger, B: Ties> Drop
+impl<D: SwapDev + Drop, T: Ledger, C: Ledger, O: Ledger, E: Ledger, B: CellAgreements> Drop
     for TurnSupply<D, T, C, O, E, B> {
     fn drop(self) {
         let TurnSupply {
             cell: _,
-            desk: _,
-            due: _,
-            given: _,
-            patience: _,
+            schedule: _,
+            queued: _,
+            dispatched: _,
+            spin_backoff: _,
         } = self;
     }
 }
 
-impl<D: SwapDev + Drop, T: Ledger, C: Ledger, O: Ledger, E: Ledger, B: Ties> TurnSupply<
+impl<D: SwapDev + Drop, T: Ledger, C: Ledger, O: Ledger, E: Ledger, B: CellAgreements> TurnSupply<
     D,
     T,
     C,
@@ -401,88 +403,88 @@ impl<D: SwapDev + Drop, T: Ledger, C: Ledger, O: Ledger, E: Ledger, B: Ties> Tur
     B,
 > {
     // The next one of those whose turns it has.
-    fn next_due(&mut self) -> Option<InstId> {
-        if self.given >= self.due.len() {
+    fn next_queued(&mut self) -> Option<InstId> {
+        if self.dispatched >= self.queued.len() {
             return None;
         }
-        let id = self.due[self.given];
-        self.given += 1;
+        let id = self.queued[self.dispatched];
+        self.dispatched += 1;
         Some(id)
     }
 
     // Takes the turns that are due. Whether the host has to be looked at beside.
-    fn take_due<R: Wait>(&mut self, rt: &R) -> bool {
-        self.due.clear();
-        self.given = 0;
-        let mut roster = self.desk.roster.lock(rt);
-        roster.take_due(&mut self.due);
-        roster.has_news
+    fn take_queued<R: Wait>(&mut self, rt: &R) -> bool {
+        self.queued.clear();
+        self.dispatched = 0;
+        let mut run_queue = self.schedule.run_queue.lock(rt);
+        run_queue.take_queued(&mut self.queued);
+        run_queue.needs_rescan
     }
 
     // Chooses the turns of all that can go on and have none out. What comes then: `Rest` where none can go on any more, and no
     // turn is out.
     fn choose_all<R: Wait>(&mut self, rt: &R) -> Choice {
         let locked = self.cell.lock(rt);
-        let mut roster = self.desk.roster.lock(rt);
+        let mut run_queue = self.schedule.run_queue.lock(rt);
         for _ in rt.forever() {
-            let choice = roster.choose(locked.host());
+            let choice = run_queue.choose(locked.host());
             let Choice::Turn(id) = choice else {
                 return choice;
             };
-            if self.due.push(id).is_err() {
-                roster.bring_back(id);
+            if self.queued.push(id).is_err() {
+                run_queue.complete(id);
                 return Choice::Wait;
             }
         }
         unreachable!()
     }
 
-    // So many turns more are handed out now. The scanner is told where a page is owed for them.
+    // So many turns more are dispatched now. The scanner is told where a page is owed for them.
     fn count_turns<R: Wait>(&self, rt: &R, more: u64) {
-        let mut roster = self.desk.roster.lock(rt);
-        let before = roster.turns;
-        roster.turns = before.wrapping_add(more);
-        if before / TURNS_FOR_AN_OFFER != roster.turns / TURNS_FOR_AN_OFFER {
-            self.desk.offer_owed.notify_all();
+        let mut run_queue = self.schedule.run_queue.lock(rt);
+        let before = run_queue.turns;
+        run_queue.turns = before.wrapping_add(more);
+        if before / TURNS_FOR_AN_OFFER != run_queue.turns / TURNS_FOR_AN_OFFER {
+            self.schedule.offer_owed.notify_all();
         }
     }
 
     // Takes whatever turns there are now. What comes behind them, as far as the host was looked at: else `Wait`.
     fn refill<R: Wait>(&mut self, rt: &R) -> Choice {
-        let has_news = self.take_due(rt);
-        let then = if has_news {
+        let needs_rescan = self.take_queued(rt);
+        let then = if needs_rescan {
             self.choose_all(rt)
         } else {
             Choice::Wait
         };
-        self.count_turns(rt, self.due.len() as u64);
+        self.count_turns(rt, self.queued.len() as u64);
         then
     }
 
     // Waits until the bell rings again: it rang so often when it was last looked at.
     fn wait<R: Wait>(&self, rt: &R, rings: u64) {
-        let bell = &self.desk.turn_back;
-        for _ in 0..self.patience.looks() {
+        let bell = &self.schedule.turn_completed;
+        for _ in 0..self.spin_backoff.looks() {
             if bell.notifications() != rings {
-                self.patience.found();
+                self.spin_backoff.found();
                 return;
             }
             hint::spin_loop();
         }
-        self.patience.in_vain();
-        bell.sleep(rt, rings, Duration::from_secs(LONGEST_SLEEP));
+        self.spin_backoff.in_vain();
+        bell.sleep(rt, rings, Duration::from_secs(LONGEST_SLEEP_SECONDS));
     }
 }
 
-impl<D: SwapDev + Drop, T: Ledger, C: Ledger, O: Ledger, E: Ledger, B: Ties> Supply
+impl<D: SwapDev + Drop, T: Ledger, C: Ledger, O: Ledger, E: Ledger, B: CellAgreements> Supply
     for TurnSupply<D, T, C, O, E, B> {
     fn next<R: Wait>(&mut self, rt: &R, has_reclaimer: bool) -> Next {
         for _ in rt.forever() {
-            if let Some(id) = self.next_due() {
-                self.desk.place.hand();
+            if let Some(id) = self.next_queued() {
+                self.schedule.turn_lock.dispatch();
                 return Next::Turn(id);
             }
-            let rings = self.desk.turn_back.notifications();
+            let rings = self.schedule.turn_completed.notifications();
             match self.refill(rt) {
                 Choice::Rest => return Next::End,
                 Choice::Frame => {
@@ -492,7 +494,7 @@ impl<D: SwapDev + Drop, T: Ledger, C: Ledger, O: Ledger, E: Ledger, B: Ties> Sup
                 }
                 Choice::Turn(_) | Choice::Wait => {}
             }
-            if self.due.is_empty() {
+            if self.queued.is_empty() {
                 self.wait(rt, rings);
             }
         }

@@ -4,15 +4,15 @@
 
 mod jobs;
 mod owned;
-mod patience;
-mod place;
-mod roster;
+mod run_queue;
 mod scanning;
 mod serving;
+mod spin_backoff;
+mod turn_lock;
 
-pub use jobs::{Desk, ReclaimJob, ScanJob, TurnJob, TurnSupply};
+pub use jobs::{ReclaimJob, ScanJob, Schedule, TurnJob, TurnSupply};
 pub use owned::OwnedHost;
-pub use patience::Patience;
-pub use place::Place;
-pub use roster::{Choice, Roster, Seat};
-pub use serving::{Manner, run_calls};
+pub use run_queue::{Choice, QueueEntry, RunQueue};
+pub use serving::{RunConfig, run_calls};
+pub use spin_backoff::SpinBackoff;
+pub use turn_lock::TurnLock;

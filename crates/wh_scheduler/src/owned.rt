@@ -2,40 +2,40 @@
 
 ghost use Rattle.std.specs.Prelude.{◌≡◌, ℕ, ◌+◌, ◌/◌, ◌≤◌, ◌<◌, Some, IfOk, IfSome, OnErr, OnOk};
 ghost use Rattle.crossbeam_channel.specs.Claims.{view};
-ghost use Rattle.wh_admit.specs.Views.{view_params};
+ghost use Rattle.wh_admit.specs.View.{view_params};
 ghost use Rattle.wh_host_model.specs.Host.Happens.{IsCancel, IsRefuel, IsRetry};
 ghost use Rattle.wh_host_model.specs.Host.Worlds.{promised};
 ghost use Rattle.wh_host_model.specs.Space.Places.{Enters, Exits};
 ghost use Rattle.wh_host_model.specs.Space.Stores.{Epochs, ended};
 ghost use Rattle.wh_reclaim.specs.Together.{AreTogether};
 ghost use Rattle.wh_host.specs.Admitting.{AnswersAdmit};
-ghost use Rattle.wh_host.specs.Asking.{AnswersCall, AnswersInvoke};
+ghost use Rattle.wh_host.specs.CallRequests.{AnswersCall, AnswersInvoke};
 ghost use Rattle.wh_host.specs.Backing.{KeepsBacking};
 ghost use Rattle.wh_host.specs.Loading.{AnswersLoad};
 ghost use Rattle.wh_host.specs.Paging.{MovesOnly};
 ghost use Rattle.wh_host.specs.Releasing.{AnswersRelease};
 ghost use Rattle.wh_host.specs.Rolls.{IsRollOf};
-ghost use Rattle.wh_host.specs.Showing.{ShowsInstance, StandsByEvents};
+ghost use Rattle.wh_host.specs.Showing.{ShowsInstance, RepresentsReached};
 ghost use Rattle.wh_transcript.specs.Transcripts.{IsReplayable};
 ghost use Rattle.wh_threads.specs.Counting.{turns_of};
 ghost use Rattle.wh_threads.specs.Handover.{SameMessages};
 ghost use Rattle.wh_workers.specs.Serving.{AreRun, AreTurns};
 ghost use Rattle.wh_cell.specs.Counted.{countable, offers_of};
 ghost use Rattle.wh_cell.specs.Knowing.{known_of};
-ghost use Rattle.wh_cell.specs.Leaving.{HasNoCharge, left_as};
+ghost use Rattle.wh_cell.specs.LeftByOwner.{HasNoCharge, left_as};
 ghost use Rattle.wh_cell.specs.Locking.{now_of};
 ghost use Rattle.wh_cell.specs.Owning.{ComesOn};
 ghost use Rattle.wh_cell.specs.Scanned.{IsScanned};
 ghost use Rattle.wh_scheduler.specs.InHand.{AreSums, IsSoundInHand, left_of};
 
 use crate::scanning::scan_there;
-use crate::serving::{Manner, run_calls};
+use crate::serving::{RunConfig, run_calls};
 use std::alloc::{AllocError, Global};
 use std::marker::Model;
 use std::sync::Wait;
 use std::sync::ledger::Ledger;
 use std::thread::Threads;
-use wh_cell::{Backing, Fittings, HostCell, Locked, Owner, Parts, Ties};
+use wh_cell::{Backing, CellAgreements, CellParts, HostCell, Locked, Owner, Parts};
 use wh_host::{AdmitError, Host, HostError, ModuleError, ModuleId, Params, Roll, Transcript};
 use wh_host_model::InstId;
 use wh_kernels::PageHash;
@@ -43,12 +43,11 @@ use wh_swap::SwapDev;
 use wh_threads::{Books, Shares};
 use wh_workers::{ServeError, Served};
 
-/// A host with its device, its books and all shares of them, in the hand of its owner. Contracts see the host, the device and
-/// the books.
+/// Owns a host with its device, its books and all shares of them. Contracts see the host, the device and the books.
 ///
 /// It lies under no lock, so that requests wait for nobody. While calls run it lies under one, and threads share it; then the
 /// owner has it again, and knows by its right that nothing but work has befallen it.
-pub struct OwnedHost<D: SwapDev, T: Ledger, C: Ledger, O: Ledger, E: Ledger, B: Ties> {
+pub struct OwnedHost<D: SwapDev, T: Ledger, C: Ledger, O: Ledger, E: Ledger, B: CellAgreements> {
     // There is always one of each, but while calls run.
     locked: Option<Locked<D, T, C, O, E, B>>,
     backing: Option<Backing<D, B>>,
@@ -57,7 +56,7 @@ pub struct OwnedHost<D: SwapDev, T: Ledger, C: Ledger, O: Ledger, E: Ledger, B: 
 }
 
 // Written out, so that letting one go is one call, and not one for each part of its parts.
-impl<D: SwapDev + Drop, T: Ledger, C: Ledger, O: Ledger, E: Ledger, B: Ties> Drop
+impl<D: SwapDev + Drop, T: Ledger, C: Ledger, O: Ledger, E: Ledger, B: CellAgreements> Drop
     for OwnedHost<D, T, C, O, E, B> {
     fn drop(self) {
         let OwnedHost {
@@ -69,7 +68,7 @@ impl<D: SwapDev + Drop, T: Ledger, C: Ledger, O: Ledger, E: Ledger, B: Ties> Dro
     }
 }
 
-impl<D: SwapDev, T: Ledger, C: Ledger, O: Ledger, E: Ledger, B: Ties> Model
+impl<D: SwapDev, T: Ledger, C: Ledger, O: Ledger, E: Ledger, B: CellAgreements> Model
     for OwnedHost<D, T, C, O, E, B> {
     ghost use Rattle.wh_scheduler.specs.InHand.{IsInHand, OwnedState, owned_of};
 
@@ -84,7 +83,7 @@ impl<D: SwapDev, T: Ledger, C: Ledger, O: Ledger, E: Ledger, B: Ties> Model
     ghost invariant = { λ o. IsInHand o.locked o.backing o.owner o.shares };
 }
 
-impl<D: SwapDev + Drop, T: Ledger, C: Ledger, O: Ledger, E: Ledger, B: Ties> OwnedHost<
+impl<D: SwapDev + Drop, T: Ledger, C: Ledger, O: Ledger, E: Ledger, B: CellAgreements> OwnedHost<
     D,
     T,
     C,
@@ -92,29 +91,29 @@ impl<D: SwapDev + Drop, T: Ledger, C: Ledger, O: Ledger, E: Ledger, B: Ties> Own
     E,
     B,
 > {
-    /// A host with what it needs, none of whose calls took a charge yet. All memory for the counts is taken here.
+    /// Owns `host`, none of whose calls took a charge yet. All memory for the counts is taken here.
     ///
     /// # Errors
     /// Where room was refused.
     pub fn new(
         alloc: Global,
         host: Host,
-        fittings: Fittings<D>,
+        cell_parts: CellParts<D>,
     ) -> Result<OwnedHost<D, T, C, O, E, B>, AllocError>
         requires uncharged { HasNoCharge host }
-        requires together { AreTogether host.space (D.held fittings.device) }
-        requires led { D.honest fittings.device → StandsByEvents host }
-        requires owned { fittings.to_owner ≡ B.to_owner }
-        requires backed { fittings.to_device ≡ B.to_device }
-        requires turns { (fittings.turns.name ≡ T.name) × (fittings.turns.parts ≡ T.parts)
+        requires together { AreTogether host.space (D.held cell_parts.device) }
+        requires led { D.honest cell_parts.device → RepresentsReached host }
+        requires owned { cell_parts.to_owner ≡ B.to_owner }
+        requires backed { cell_parts.to_device ≡ B.to_device }
+        requires turns { (cell_parts.turns.name ≡ T.name) × (cell_parts.turns.parts ≡ T.parts)
             × (64 < T.parts) }
-        requires charges { (fittings.charges.name ≡ C.name) × (fittings.charges.parts ≡ C.parts)
+        requires charges { (cell_parts.charges.name ≡ C.name) × (cell_parts.charges.parts ≡ C.parts)
             × (64 < C.parts) }
-        requires offers { (fittings.offers.name ≡ O.name) × (fittings.offers.parts ≡ O.parts)
+        requires offers { (cell_parts.offers.name ≡ O.name) × (cell_parts.offers.parts ≡ O.parts)
             × (1 < O.parts) }
-        requires evictions { (fittings.evictions.name ≡ E.name)
-            × (fittings.evictions.parts ≡ E.parts) × (1 < E.parts) }
-        ensures host { IfOk result (λ owned. left_of owned ≡ left_as host fittings.device) }
+        requires evictions { (cell_parts.evictions.name ≡ E.name)
+            × (cell_parts.evictions.parts ≡ E.parts) × (1 < E.parts) }
+        ensures host { IfOk result (λ owned. left_of owned ≡ left_as host cell_parts.device) }
         ensures books { IfOk result (λ owned. owned.books
             ≡ record { turns = 0; charges = 0; offers = 0; evictions = 0 }) }
     {
@@ -123,7 +122,7 @@ impl<D: SwapDev + Drop, T: Ledger, C: Ledger, O: Ledger, E: Ledger, B: Ties> Own
             backing,
             owner,
             shares,
-        } = Locked::new(alloc, host, fittings)?;
+        } = Locked::new(alloc, host, cell_parts)?;
         Ok(OwnedHost {
             locked: Some(locked),
             backing: Some(backing),
@@ -132,7 +131,7 @@ impl<D: SwapDev + Drop, T: Ledger, C: Ledger, O: Ledger, E: Ledger, B: Ties> Own
         })
     }
 
-    /// The device, when the host is done with.
+    /// Returns the device, when the host is done.
     pub fn into_device(self) -> D
         ensures { self.device ≡ Some result }
     {
@@ -149,16 +148,23 @@ impl<D: SwapDev + Drop, T: Ledger, C: Ledger, O: Ledger, E: Ledger, B: Ties> Own
     }
 }
 
-impl<D: SwapDev, T: Ledger, C: Ledger, O: Ledger, E: Ledger, B: Ties> OwnedHost<D, T, C, O, E, B> {
+impl<D: SwapDev, T: Ledger, C: Ledger, O: Ledger, E: Ledger, B: CellAgreements> OwnedHost<
+    D,
+    T,
+    C,
+    O,
+    E,
+    B,
+> {
     /// What always holds: events lead to the host, and reads of a swap device that gave other bytes, if there were any; no
     /// ticket is out, device and slots agree, and the charges in the books fit the journals.
     #[inline(always)]
-    pub fn known(&self)
+    pub fn invariant(&self)
         ensures { IsSoundInHand D.held D.honest self.now }
     {
         let (locked, backing) = self.both();
-        locked.known();
-        backing.known();
+        locked.invariant();
+        backing.invariant();
     }
 
     // What lies in the owner's hand.
@@ -177,7 +183,7 @@ impl<D: SwapDev, T: Ledger, C: Ledger, O: Ledger, E: Ledger, B: Ties> OwnedHost<
         (locked, backing)
     }
 
-    /// The host, to look at.
+    /// Returns the host.
     #[inline(always)]
     pub fn host(&self) -> &Host
         ensures { result.now ≡ self.now.host }
@@ -186,7 +192,7 @@ impl<D: SwapDev, T: Ledger, C: Ledger, O: Ledger, E: Ledger, B: Ties> OwnedHost<
         locked.host()
     }
 
-    /// The books, and what each thread has counted so far: the books are the sums of that, by kind.
+    /// Returns the books, and what each thread has counted so far: the books are its sums, by kind.
     pub fn counts(&self) -> (&Books<T, C, O, E>, &Shares<T, C, O, E>)
         ensures books { (result.0.now.turns ≡ self.now.books.turns)
             × (result.0.now.charges ≡ self.now.books.charges)
@@ -198,7 +204,7 @@ impl<D: SwapDev, T: Ledger, C: Ledger, O: Ledger, E: Ledger, B: Ties> OwnedHost<
         (locked.books(), &self.shares)
     }
 
-    /// The roll of the host: its modules, and each live instance with its calls.
+    /// Returns the host's modules, and each live instance with its calls.
     ///
     /// # Errors
     /// `Memory` where room was refused.
@@ -208,7 +214,7 @@ impl<D: SwapDev, T: Ledger, C: Ledger, O: Ledger, E: Ledger, B: Ties> OwnedHost<
         self.host().roll(alloc)
     }
 
-    /// What the host shows of an instance. Its calls replay where the device has read right.
+    /// Returns the transcript of an instance. Its calls replay where the device has read right.
     ///
     /// # Errors
     /// `NoInstance`; `Memory` where room was refused.
@@ -217,11 +223,11 @@ impl<D: SwapDev, T: Ledger, C: Ledger, O: Ledger, E: Ledger, B: Ties> OwnedHost<
         ensures replays { IfSome self.now.device (λ device. D.honest device)
             → IfOk result (λ shown. IsReplayable shown) }
     {
-        self.known();
+        self.invariant();
         self.host().transcript(alloc, id)
     }
 
-    /// Keeps the module that these bytes spell, and the bytes: its number, counted from 0.
+    /// Keeps the module that `bytes` spell, and these. Returns its number, from 0.
     ///
     /// # Errors
     /// That of `Host::load`. The host is as it was then.
@@ -238,7 +244,7 @@ impl<D: SwapDev, T: Ledger, C: Ledger, O: Ledger, E: Ledger, B: Ties> OwnedHost<
         locked.load(&mut self.owner, alloc, bytes)
     }
 
-    /// Admits an instance of a module, with what its owner gives it. All that it will ever need is reserved now.
+    /// Admits an instance of a module with `params`. All that it will ever need is reserved now.
     ///
     /// # Errors
     /// That of `Host::admit`. The host is as it was then.
@@ -263,8 +269,8 @@ impl<D: SwapDev, T: Ledger, C: Ledger, O: Ledger, E: Ledger, B: Ties> OwnedHost<
         locked.admit(&mut self.owner, alloc, of, params)
     }
 
-    /// Takes a call of the function that an instance's module exports by this name, with these arguments and so much fuel: its
-    /// place in the journal of the instance, where the start is 0. It is run by turns, behind the calls that are open.
+    /// Queues a call of the function that an instance's module exports as `name`, with arguments `given` and `fuel`, behind the
+    /// calls that are open; turns run it. Returns its place in the instance's journal, where the start is 0.
     ///
     /// # Errors
     /// That of `Host::invoke`. The host is as it was then.
@@ -289,7 +295,7 @@ impl<D: SwapDev, T: Ledger, C: Ledger, O: Ledger, E: Ledger, B: Ties> OwnedHost<
         locked.invoke(&mut self.owner, alloc, id, name, given, fuel)
     }
 
-    /// Gives the present call of an instance so much more fuel; what passes 2^64 - 1 is lost.
+    /// Adds `fuel` to the present call of an instance; what passes 2^64 - 1 is lost.
     ///
     /// # Errors
     /// `NoInstance`; `NoCall` where no call is open. Nothing is done then.
@@ -309,7 +315,7 @@ impl<D: SwapDev, T: Ledger, C: Ledger, O: Ledger, E: Ledger, B: Ties> OwnedHost<
         locked.refuel(&mut self.owner, id, fuel)
     }
 
-    /// Ends the present call of an instance where it is; what it has written stays.
+    /// Cancels the present call of an instance where it is; what it has written stays.
     ///
     /// # Errors
     /// `NoInstance`; `NoCall` where no call is open. Nothing is done then.
@@ -329,10 +335,10 @@ impl<D: SwapDev, T: Ledger, C: Ledger, O: Ledger, E: Ledger, B: Ties> OwnedHost<
         locked.cancel(&mut self.owner, id)
     }
 
-    /// Lets the present call of an instance be tried again, if it stands for a device fault: it stands for a frame then.
+    /// Retries the present call of an instance, if it waits for a device: then it waits for a frame.
     ///
     /// # Errors
-    /// `NoInstance`; `NoCall` where it doesn't stand for one. Nothing is done then.
+    /// `NoInstance`; `NoCall` where it doesn't wait for one. Nothing is done then.
     pub fn retry(&mut self, id: InstId) -> Result<(), HostError>
         ensures asks { AnswersCall self.old.host (λ w answer w2. IsRetry w id answer w2) result
             self.new.host }
@@ -348,7 +354,7 @@ impl<D: SwapDev, T: Ledger, C: Ledger, O: Ledger, E: Ledger, B: Ties> OwnedHost<
         locked.retry(&mut self.owner, id)
     }
 
-    /// Lets an instance go, whatever its calls are: its output.
+    /// Releases an instance, whatever its calls are. Returns its output.
     ///
     /// # Errors
     /// `NoInstance`. Nothing is done then.
@@ -378,7 +384,7 @@ impl<D: SwapDev, T: Ledger, C: Ledger, O: Ledger, E: Ledger, B: Ties> OwnedHost<
             unreachable!();
         };
         locked.epoch();
-        locked.meet(&mut self.owner);
+        locked.sync_owner(&mut self.owner);
     }
 }
 
@@ -388,15 +394,15 @@ impl<
     C: Ledger + Send + 'static,
     O: Ledger + Send + 'static,
     E: Ledger + Send + 'static,
-    B: Ties + Send + 'static,
+    B: CellAgreements + Send + 'static,
 > OwnedHost<D, T, C, O, E, B> {
     /// Offers all pages of all instances for sharing, in the order of the instances' numbers, and those of each in order, each
     /// under the hash of its bytes as they are. Then as many frames are in use as there are distinct contents that aren't all
     /// zero, if the hash tells contents apart and was the hash before. No byte of any page changes. A scanner does it, in a
     /// thread that this call starts and joins.
     ///
-    /// How many pages were offered: by so many the book of offers has grown, as far as they can be counted in 64 bits. It is
-    /// done where frames and slots are fewer than 2^32 together; else the answer is `None`, and nothing has changed.
+    /// Returns how many pages were offered: by so many the book of offers has grown, as far as they can be counted in 64 bits;
+    /// or `None`, and nothing has changed, where frames and slots are 2^32 together or more.
     ///
     /// # Errors
     /// `Memory` where room was refused, and `NoThread` where the scanner couldn't be started. Nothing was done then.
@@ -421,13 +427,13 @@ impl<
         };
         let (answer, back) = scan_there(rt, alloc, locked, hasher, &mut self.shares);
         let mut back = back;
-        back.meet(&mut self.owner);
+        back.sync_owner(&mut self.owner);
         self.locked = Some(back);
         answer
     }
 
-    /// Runs the calls of these instances until none can go on, as `run_calls` does, on a cell that the host lies in meanwhile.
-    /// Whatever it answers, the host came by work from the one before.
+    /// Runs the calls of `ids` until none can go on, as `run_calls` does, on a cell that the host lies in meanwhile. Whatever
+    /// it answers, the host came by work from the one before.
     ///
     /// # Errors
     /// Those of `run_calls`.
@@ -436,11 +442,11 @@ impl<
         rt: R,
         alloc: Global,
         ids: &[InstId],
-        manner: Manner<H>,
+        run_config: RunConfig<H>,
     ) -> Result<Served, ServeError>
-        requires { (0 < manner.workers) × (manner.workers ≤ 64) }
+        requires { (0 < run_config.workers) × (run_config.workers ≤ 64) }
         ensures came { ComesOn D.keeps D.honest D.faults (left_of self.old) (left_of self.new) }
-        ensures handed { IfOk result (λ s. AreTurns s.turns manner.quantum (view s.slip).sent) }
+        ensures dispatched { IfOk result (λ s. AreTurns s.turns run_config.quantum (view s.slip).sent) }
         ensures once { IfOk result (λ s. OnOk s.end
             (SameMessages (view s.slip).sent (view s.slip).received)) }
         ensures grown { IfOk result (λ s. AreRun self.old.books.turns (view s.slip).received
@@ -465,12 +471,12 @@ impl<
             (locked, backing),
             &mut self.shares,
             ids,
-            manner,
+            run_config,
         );
         let (mut locked, mut backing) = parts;
-        locked.face(&mut backing);
+        locked.sync_device(&mut backing);
         locked.agree(&mut self.shares);
-        locked.meet(&mut self.owner);
+        locked.sync_owner(&mut self.owner);
         self.locked = Some(locked);
         self.backing = Some(backing);
         served
@@ -484,7 +490,7 @@ fn run_between<
     C: Ledger + Send + 'static,
     O: Ledger + Send + 'static,
     E: Ledger + Send + 'static,
-    B: Ties + Send + 'static,
+    B: CellAgreements + Send + 'static,
     H: PageHash + Copy + Send + 'static,
     R: Threads + Wait + Copy + Send + 'static,
 >(
@@ -493,13 +499,13 @@ fn run_between<
     parts: (Locked<D, T, C, O, E, B>, Backing<D, B>),
     shares: &mut Shares<T, C, O, E>,
     ids: &[InstId],
-    manner: Manner<H>,
+    run_config: RunConfig<H>,
 ) -> (
     Result<Served, ServeError>,
     (Locked<D, T, C, O, E, B>, Backing<D, B>),
 )
-    requires { (0 < manner.workers) × (manner.workers ≤ 64) }
-    ensures handed { IfOk result.0 (λ s. AreTurns s.turns manner.quantum (view s.slip).sent) }
+    requires { (0 < run_config.workers) × (run_config.workers ≤ 64) }
+    ensures dispatched { IfOk result.0 (λ s. AreTurns s.turns run_config.quantum (view s.slip).sent) }
     ensures once { IfOk result.0 (λ s. OnOk s.end
         (SameMessages (view s.slip).sent (view s.slip).received)) }
     ensures grown { IfOk result.0 (λ s. AreRun (turns_of shares.old.tallies)
@@ -513,9 +519,9 @@ fn run_between<
     ensures evictions { shares.old.evictions ≤ shares.new.evictions }
 {
     let (locked, backing) = parts;
-    match HostCell::around(alloc, locked, backing) {
+    match HostCell::from_parts(alloc, locked, backing) {
         Ok(cell) => {
-            let served = run_calls(rt, alloc, &cell, shares, ids, manner);
+            let served = run_calls(rt, alloc, &cell, shares, ids, run_config);
             (served, cell.into_parts(&rt))
         }
         Err(parts) => (Err(ServeError::Memory), parts),

@@ -7,7 +7,7 @@ use std::alloc::Global;
 use std::sync::Wait;
 use std::sync::ledger::Ledger;
 use std::thread::Threads;
-use wh_cell::{Locked, Ties};
+use wh_cell::{CellAgreements, Locked};
 use wh_kernels::PageHash;
 use wh_swap::SwapDev;
 use wh_threads::{Helper, Shares, Sweep};
@@ -15,7 +15,7 @@ use wh_workers::{ServeError, serve_sweep};
 
 // A host whose pages are all to be offered, each under its hash; and how many were, if the pass was done.
 #[derive(Drop)]
-pub struct PassJob<D: SwapDev, T: Ledger, C: Ledger, O: Ledger, E: Ledger, B: Ties, H> {
+pub struct PassJob<D: SwapDev, T: Ledger, C: Ledger, O: Ledger, E: Ledger, B: CellAgreements, H> {
     // The host, which lies under no lock now.
     pub locked: Locked<D, T, C, O, E, B>,
     // How pages are hashed.
@@ -24,8 +24,9 @@ pub struct PassJob<D: SwapDev, T: Ledger, C: Ledger, O: Ledger, E: Ledger, B: Ti
     pub offered: Option<u64>,
 }
 
-impl<D: SwapDev, T: Ledger, C: Ledger, O: Ledger, E: Ledger, B: Ties, H: PageHash> Sweep<O>
-    for PassJob<D, T, C, O, E, B, H> {
+impl<D: SwapDev, T: Ledger, C: Ledger, O: Ledger, E: Ledger, B: CellAgreements, H: PageHash> Sweep<
+    O,
+> for PassJob<D, T, C, O, E, B, H> {
     ghost use Rattle.wh_cell.specs.Scanned.{ScansLocked};
 
     ghost sweeps = { λ job count job2 count2.
@@ -47,7 +48,7 @@ pub fn scan_there<
     C: Ledger + Send + 'static,
     O: Ledger + Send + 'static,
     E: Ledger + Send + 'static,
-    B: Ties + Send + 'static,
+    B: CellAgreements + Send + 'static,
     H: PageHash + Drop + Send + 'static,
     R: Threads + Wait,
 >(

@@ -6,15 +6,15 @@ ghost use Rattle.wh_threads.specs.Counting.{turns_of};
 ghost use Rattle.wh_threads.specs.Handover.{SameMessages};
 ghost use Rattle.wh_workers.specs.Serving.{AreRun, AreTurns};
 
-use crate::jobs::{Desk, ReclaimJob, ScanJob, TurnJob, TurnSupply};
-use crate::patience::Patience;
-use crate::roster::Roster;
+use crate::jobs::{ReclaimJob, ScanJob, Schedule, TurnJob, TurnSupply};
+use crate::run_queue::RunQueue;
+use crate::spin_backoff::SpinBackoff;
 use std::alloc::{AllocError, Global};
 use std::sync::atomic::AtomicU64;
 use std::sync::ledger::Ledger;
 use std::sync::{Arc, Wait};
 use std::thread::Threads;
-use wh_cell::{HostCell, Ties};
+use wh_cell::{CellAgreements, HostCell};
 use wh_host_model::InstId;
 use wh_kernels::PageHash;
 use wh_swap::SwapDev;
@@ -23,7 +23,7 @@ use wh_workers::{Crew, Jobs, ServeError, Served, serve};
 
 /// How calls are run.
 #[derive(Clone, Copy, Debug)]
-pub struct Manner<H> {
+pub struct RunConfig<H> {
     /// How pages are hashed.
     pub hasher: H,
     /// How many charges a turn has.
@@ -32,8 +32,8 @@ pub struct Manner<H> {
     pub workers: usize,
 }
 
-// What the threads of a run do, and who hands the turns out.
-struct Staff<D: SwapDev, T: Ledger, C: Ledger, O: Ledger, E: Ledger, B: Ties, H> {
+// What the threads of a run do, and who dispatches the turns.
+struct Staff<D: SwapDev, T: Ledger, C: Ledger, O: Ledger, E: Ledger, B: CellAgreements, H> {
     jobs: Jobs<
         TurnJob<D, T, C, O, E, B>,
         ScanJob<D, T, C, O, E, B, H>,
@@ -49,16 +49,16 @@ fn staff_of<
     C: Ledger,
     O: Ledger,
     E: Ledger,
-    B: Ties,
+    B: CellAgreements,
     H: PageHash + Copy,
 >(
     alloc: Global,
     cell: &HostCell<D, T, C, O, E, B>,
     ids: &[InstId],
-    manner: Manner<H>,
+    run_config: RunConfig<H>,
 ) -> Result<Staff<D, T, C, O, E, B, H>, AllocError> {
-    let roster = Roster::new(alloc, ids)?;
-    let Ok(desk) = Arc::new(alloc, Desk::new(alloc, roster, manner.workers)?) else {
+    let run_queue = RunQueue::new(alloc, ids)?;
+    let Ok(schedule) = Arc::new(alloc, Schedule::new(alloc, run_queue, run_config.workers)?) else {
         return Err(AllocError);
     };
     let copies = Vec::from_slice(alloc, ids)?;
@@ -67,25 +67,25 @@ fn staff_of<
     };
     let turns = TurnJob {
         cell: cell.share()?,
-        desk: Arc::try_clone(&desk)?,
-        stint: AtomicU64::new(0),
+        schedule: Arc::try_clone(&schedule)?,
+        turns_held: AtomicU64::new(0),
     };
     let scans = ScanJob {
         cell: cell.share()?,
-        desk: Arc::try_clone(&desk)?,
+        schedule: Arc::try_clone(&schedule)?,
         ids: all,
-        hasher: manner.hasher,
+        hasher: run_config.hasher,
     };
     let reclaims = ReclaimJob {
         cell: cell.share()?,
-        desk: Arc::try_clone(&desk)?,
+        schedule: Arc::try_clone(&schedule)?,
     };
     let supply = TurnSupply {
         cell: cell.share()?,
-        desk,
-        due: Vec::with_capacity(alloc, ids.len())?,
-        given: 0,
-        patience: Patience::new(),
+        schedule,
+        queued: Vec::with_capacity(alloc, ids.len())?,
+        dispatched: 0,
+        spin_backoff: SpinBackoff::new(),
     };
     let jobs = Jobs {
         turns,
@@ -95,25 +95,23 @@ fn staff_of<
     Ok(Staff { jobs, supply })
 }
 
-/// Runs the calls of these instances until none can go on: turns by so many workers, each in a thread of its own. The calling
-/// thread hands the turns out. Beside them a scanner offers pages, from the 32nd turn on, and a reclaimer makes steps ready that
-/// wait for frames, from where the first one does. A run with fewer turns starts no scanner, and one in which no step waits for
-/// a frame no reclaimer.
+/// Runs the calls of `ids` until none can go on: turns by `run_config.workers`, each in a thread of its own; beside them a
+/// scanner offers pages, and a reclaimer makes steps ready that wait for frames. The calling thread dispatches the turns.
 ///
-/// What was handed out and run is told, however it ended. Where it ended well each turn that was handed out was received once,
-/// the workers' counts have grown by so many, and for each 64 turns a page was offered. No count gets smaller.
+/// Returns what was dispatched and run, however it ended. Where it ended well each dispatched turn was received once, the
+/// workers' counts have grown by so many, and for each 64 turns a page was offered. No count gets smaller.
 ///
 /// # Errors
 /// `Memory` where room was refused: no turn was run then. `Served::end` says so where not all workers could be started, or
 /// pages couldn't be offered that are owed. It is `NoThread` too where a step waited for a frame and the reclaimer couldn't be
-/// started: no further turn was handed out then, and calls may be left that can go on.
+/// started: no further turn was dispatched then, and calls may be left that can go on.
 pub fn run_calls<
     D: SwapDev + Drop + Send + 'static,
     T: Ledger + Send + 'static,
     C: Ledger + Send + 'static,
     O: Ledger + Send + 'static,
     E: Ledger + Send + 'static,
-    B: Ties + Send + 'static,
+    B: CellAgreements + Send + 'static,
     H: PageHash + Copy + Send + 'static,
     R: Threads + Wait + Copy + Send + 'static,
 >(
@@ -122,10 +120,10 @@ pub fn run_calls<
     cell: &HostCell<D, T, C, O, E, B>,
     shares: &mut Shares<T, C, O, E>,
     ids: &[InstId],
-    manner: Manner<H>,
+    run_config: RunConfig<H>,
 ) -> Result<Served, ServeError>
-    requires { (0 < manner.workers) × (manner.workers ≤ 64) }
-    ensures handed { IfOk result (λ s. AreTurns s.turns manner.quantum (view s.slip).sent) }
+    requires { (0 < run_config.workers) × (run_config.workers ≤ 64) }
+    ensures dispatched { IfOk result (λ s. AreTurns s.turns run_config.quantum (view s.slip).sent) }
     ensures grown { IfOk result (λ s. AreRun (turns_of shares.old.tallies) (view s.slip).received
         (turns_of shares.new.tallies)) }
     ensures once { IfOk result (λ s. OnOk s.end
@@ -138,13 +136,13 @@ pub fn run_calls<
     ensures offers { shares.old.offers ≤ shares.new.offers }
     ensures evictions { shares.old.evictions ≤ shares.new.evictions }
 {
-    let Ok(staff) = staff_of(alloc, cell, ids, manner) else {
+    let Ok(staff) = staff_of(alloc, cell, ids, run_config) else {
         return Err(ServeError::Memory);
     };
     let Staff { jobs, mut supply } = staff;
     let crew = Crew {
-        workers: manner.workers,
-        quantum: manner.quantum,
+        workers: run_config.workers,
+        quantum: run_config.quantum,
     };
     serve(rt, alloc, jobs, &mut supply, shares, crew)
 }

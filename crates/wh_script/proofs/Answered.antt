@@ -1,29 +1,29 @@
 -- What lines get.
 use Rattle.std.proofs.lemmas.Option.{same_Some}
 use Rattle.std.proofs.Common.{◌≡◌, ◌∙◌, ℕ, ℤ, ◌<◌, ◌⊎◌, inl, inr, true, false, List, [], ◌∷◌, ◌++◌, length, Result, Ok, Err, OnOk, OnErr, is_err, refl, sym, ap, subst, append-nil, append_assoc, true≢false, slice_index, ◌≢◌, arith}
-use Rattle.wh_host_model.specs.Script.{is_skipped, longest_line}
-use Rattle.wh_host_model.specs.Lines.Settings.{Settings}
-use Rattle.wh_host_model.specs.Lines.Commands.{Command, keep, load, admit, invoke, drain, refuel, cancel, retry, scan, report, release, AsksCommand, verb}
-use Rattle.wh_host_model.specs.Lines.Texts.{Reply, error}
-use Rattle.wh_host_model.specs.Lines.Made.{Made, NoGuest}
-use Rattle.wh_host_model.specs.Lines.Drains.{Drains}
-use Rattle.wh_host_model.specs.Lines.Receiving.{ReceivesCall}
-use Rattle.wh_host_model.specs.Lines.Answers.{Files, IsRead, no_such_guest, replies_text, AnswersLine, skipped, invoked, obeyed, too_long, no_command, line_wants}
+use Rattle.wh_script_model.specs.Lines.{is_skipped, longest_line}
+use Rattle.wh_script_model.specs.Settings.{Settings}
+use Rattle.wh_script_model.specs.Commands.{Command, keep, load, admit, invoke, drain, refuel, cancel, retry, scan, report, release, AsksCommand, verb}
+use Rattle.wh_script_model.specs.Texts.{Reply, error}
+use Rattle.wh_script_model.specs.ScriptState.{ScriptState, LacksInstance}
+use Rattle.wh_script_model.specs.Drains.{Drains}
+use Rattle.wh_script_model.specs.Receiving.{ReceivesCall}
+use Rattle.wh_script_model.specs.Answers.{Files, IsRead, no_such_instance, replies_text, AnswersLine, skipped, invoked, obeyed, too_long, no_command, line_out_of_memory}
 use Rattle.wh_commands.specs.declared.error.LineError.{LineError}
 use Rattle.wh_commands.specs.declared.error.LineError.TheVariants.{Syntax, NoName, NameTaken, File, Memory}
 use Rattle.wh_commands.specs.declared.command.Command.{Command as Code}
 use Rattle.wh_commands.specs.Causes.{cause_number}
-use Rattle.wh_commands.specs.Found.{FindsAsked}
-use Rattle.wh_script_model.specs.Said.{AllAreSaid, IsWellMade}
-use Rattle.wh_script_model.proofs.SaidObeyed.{call_well, obeys_well}
+use Rattle.wh_commands.specs.ParsedCommands.{FindsAsked}
+use Rattle.wh_script_laws.specs.Printed.{AllArePrinted, IsWellMade}
+use Rattle.wh_script_laws.proofs.PrintedObeyed.{call_well, obeys_well}
 use Rattle.wh_engine.specs.Obeying.{TakesInvoke, IsNamed}
-use Rattle.wh_engine.specs.Saying.{AddsLines}
-use Rattle.wh_engine.specs.Standing.{EngineState, StandsForScript}
+use Rattle.wh_engine.specs.Printing.{AddsLines}
+use Rattle.wh_engine.specs.RepresentedScript.{ScriptHostState, RepresentsScript}
 use Rattle.wh_script.specs.declared.lines.Line.{Line}
 use Rattle.wh_script.specs.declared.lines.Line.TheVariants.{Skipped, End}
 use Rattle.wh_script.specs.Coming.{IsKind}
 use Rattle.wh_script.specs.Answering.{HasDrained, Complains, GetsReplies, is_obeyed, is_wanting, AddsReplies, adds_replies, adds_report, Obeys, Answers, AnswersCommand}
-use Rattle.wh_script.specs.Speaking.{AsksReport, EndsInWant, IsLineText, says_replies, says_report}
+use Rattle.wh_script.specs.Speaking.{AsksReport, EndsOutOfMemory, IsLineText, prints_replies, prints_report}
 use Rattle.wh_script.proofs.Speaking.{adds_none, adds_more}
 use Rattle.wh_script.proofs.Drained.{no_guest_then}
 
@@ -54,39 +54,39 @@ one_command line command asks other = by_verb command (heads (verb command) (ver
 invoke_apart : (inst export : List ℕ) (fuel : ℕ) (args : List ℤ) → invoke inst export fuel args ≡ report → ⊥
 invoke_apart inst export fuel args e = absurd (cc e)
 
--- the text of these replies is that of a line which asks for no report, or for which memory was wanted
-only_replies : (settings : Settings) (number : ℕ) (line : List ℕ) (m : Made) (replies : List Reply) (text text2 : List ℕ) → (AsksReport line → EndsInWant number replies)
+-- the text of these replies is that of a line which asks for no report, or for which memory ran out
+only_replies : (settings : Settings) (number : ℕ) (line : List ℕ) (m : ScriptState) (replies : List Reply) (text text2 : List ℕ) → (AsksReport line → EndsOutOfMemory number replies)
     → AddsLines replies text text2 → (more : List ℕ) × IsLineText settings number line m replies more × (text2 ≡ text ++ more)
-only_replies settings number line m replies text text2 wants adds = (replies_text replies, says_replies wants, adds)
+only_replies settings number line m replies text text2 wants adds = (replies_text replies, prints_replies wants, adds)
 
-pub is_skipped_line : (files : Files) (number : ℕ) (line : List ℕ) (e : EngineState) (text : List ℕ) → is_skipped line ≡ true → Answers files number line e text e text
+pub is_skipped_line : (files : Files) (number : ℕ) (line : List ℕ) (e : ScriptHostState) (text : List ℕ) → is_skipped line ≡ true → Answers files number line e text e text
 is_skipped_line files number line e text is settings m s =
     let t = only_replies settings number line m [] text text (λ asks. absurd (true≢false (sym is ∙ asks.is_read.0))) (adds_none text) in
     ([], m, t.0, skipped is, t.1, t.2, s)
 
-pub is_too_long : (files : Files) (number : ℕ) (line text text2 : List ℕ) (e e2 : EngineState) → is_skipped line ≡ false → longest_line < length line
+pub is_too_long : (files : Files) (number : ℕ) (line text text2 : List ℕ) (e e2 : ScriptHostState) → is_skipped line ≡ false → longest_line < length line
     → Complains (error 1 number) e text e2 text2 → Answers files number line e text e2 text2
 is_too_long files number line text text2 e e2 read long complains settings m s =
     let c = complains settings m s in
     let t = only_replies settings number line c.1 (c.0 ++ error 1 number ∷ []) text text2 (λ asks. absurd (omega (arith, long, asks.is_read.1))) c.3 in
     (c.0 ++ error 1 number ∷ [], c.1, t.0, too_long read long c.2, t.1, t.2, c.4)
 
-pub is_no_command : (files : Files) (number : ℕ) (line text text2 : List ℕ) (e e2 : EngineState) → IsRead line → ((command : Command) → ¬ (AsksCommand line command))
+pub is_no_command : (files : Files) (number : ℕ) (line text text2 : List ℕ) (e e2 : ScriptHostState) → IsRead line → ((command : Command) → ¬ (AsksCommand line command))
     → Complains (error 1 number) e text e2 text2 → Answers files number line e text e2 text2
 is_no_command files number line text text2 e e2 read none complains settings m s =
     let c = complains settings m s in
     let t = only_replies settings number line c.1 (c.0 ++ error 1 number ∷ []) text text2 (λ asks. absurd (none report asks.asks)) c.3 in
     (c.0 ++ error 1 number ∷ [], c.1, t.0, no_command read none c.2, t.1, t.2, c.4)
 
-pub wants_memory : (files : Files) (number : ℕ) (line text text2 : List ℕ) (e e2 : EngineState) → IsRead line
+pub wants_memory : (files : Files) (number : ℕ) (line text text2 : List ℕ) (e e2 : ScriptHostState) → IsRead line
     → Complains (error 5 number) e text e2 text2 → Answers files number line e text e2 text2
 wants_memory files number line text text2 e e2 read complains settings m s =
     let c = complains settings m s in
     let t = only_replies settings number line c.1 (c.0 ++ error 5 number ∷ []) text text2 (λ asks. (c.0, refl)) c.3 in
-    (c.0 ++ error 5 number ∷ [], c.1, t.0, line_wants refl read c.2, t.1, t.2, c.4)
+    (c.0 ++ error 5 number ∷ [], c.1, t.0, line_out_of_memory refl read c.2, t.1, t.2, c.4)
 
 -- a line whose command isn't found
-pub isnt_found : (files : Files) (number : ℕ) (line text text2 : List ℕ) (e e2 : EngineState) (r : Result Code LineError) (cause : LineError) → r ≡ Err cause
+pub isnt_found : (files : Files) (number : ℕ) (line text text2 : List ℕ) (e e2 : ScriptHostState) (r : Result Code LineError) (cause : LineError) → r ≡ Err cause
     → ((asked : Command) → AsksCommand line asked → FindsAsked r asked) → (cause ≡ Syntax) ⊎ (cause ≡ Memory) → IsRead line
     → Complains (error (cause_number cause) number) e text e2 text2 → Answers files number line e text e2 text2
 isnt_found files number line text text2 e e2 r Syntax is only which read complains =
@@ -110,12 +110,12 @@ isnt_found files number line text text2 e e2 r Memory is only which read complai
 
 -- ---- commands
 
-no_report : (line inst export : List ℕ) (fuel : ℕ) (args : List ℤ) → AsksCommand line (invoke inst export fuel args) → (replies : List Reply) {number : ℕ} → AsksReport line → EndsInWant number replies
+no_report : (line inst export : List ℕ) (fuel : ℕ) (args : List ℤ) → AsksCommand line (invoke inst export fuel args) → (replies : List Reply) {number : ℕ} → AsksReport line → EndsOutOfMemory number replies
 no_report line inst export fuel args asks replies other = absurd (invoke_apart inst export fuel args (one_command line (invoke inst export fuel args) asks other.asks))
 
-pub is_received : (files : Files) (number i : ℕ) (inst export : List ℕ) (fuel : ℕ) (args : List ℤ) (e e2 : EngineState) (text : List ℕ)
-    → ((settings : Settings) (m : Made) → StandsForScript settings e m → IsNamed m i inst)
-    → ((settings : Settings) (m : Made) → StandsForScript settings e m → TakesInvoke settings m i export fuel args e2)
+pub is_received : (files : Files) (number i : ℕ) (inst export : List ℕ) (fuel : ℕ) (args : List ℤ) (e e2 : ScriptHostState) (text : List ℕ)
+    → ((settings : Settings) (m : ScriptState) → RepresentsScript settings e m → IsNamed m i inst)
+    → ((settings : Settings) (m : ScriptState) → RepresentsScript settings e m → TakesInvoke settings m i export fuel args e2)
     → AnswersCommand files number (invoke inst export fuel args) e text e2 text
 is_received files number i inst export fuel args e e2 text named takes line read asks settings m s =
     let has = named settings m s.0 in
@@ -132,8 +132,8 @@ is_received files number i inst export fuel args e e2 text named takes line read
       (took.4, call_well true m took.2 i has.0 export fuel args has.1.0 received s.1),
     )
 
-pub has_no_guest : (files : Files) (number : ℕ) (inst export : List ℕ) (fuel : ℕ) (args : List ℤ) (e e2 : EngineState) (text text2 : List ℕ)
-    → ((settings : Settings) (m : Made) → StandsForScript settings e m → NoGuest m inst)
+pub has_no_guest : (files : Files) (number : ℕ) (inst export : List ℕ) (fuel : ℕ) (args : List ℤ) (e e2 : ScriptHostState) (text text2 : List ℕ)
+    → ((settings : Settings) (m : ScriptState) → RepresentsScript settings e m → LacksInstance m inst)
     → Complains (error 2 number) e text e2 text2 → AnswersCommand files number (invoke inst export fuel args) e text e2 text2
 has_no_guest files number inst export fuel args e e2 text text2 none complains line read asks settings m s =
     let c = complains settings m s in
@@ -141,30 +141,30 @@ has_no_guest files number inst export fuel args e e2 text text2 none complains l
       c.0 ++ error 2 number ∷ [],
       c.1,
       t.0,
-      obeyed {command = invoke inst export fuel args} read asks c.2 (no_such_guest refl (no_guest_then m c.1 c.0 inst c.2 (none settings m s.0))),
+      obeyed {command = invoke inst export fuel args} read asks c.2 (no_such_instance refl (no_guest_then m c.1 c.0 inst c.2 (none settings m s.0))),
       t.1,
       t.2,
       c.4,
     )
 
-pub invoke_wants : (files : Files) (number : ℕ) (command : Command) (e e1 e2 : EngineState) (text text2 : List ℕ)
-    → ((settings : Settings) (m : Made) → StandsForScript settings e m → StandsForScript settings e1 m)
+pub invoke_wants : (files : Files) (number : ℕ) (command : Command) (e e1 e2 : ScriptHostState) (text text2 : List ℕ)
+    → ((settings : Settings) (m : ScriptState) → RepresentsScript settings e m → RepresentsScript settings e1 m)
     → Complains (error 5 number) e1 text e2 text2 → AnswersCommand files number command e text e2 text2
 invoke_wants files number command e e1 e2 text text2 stays complains line read asks settings m s =
     wants_memory files number line text text2 e1 e2 read complains settings m (stays settings m s.0, s.1)
 
-gets_line : (settings : Settings) (files : Files) (m m1 m2 : Made) (number : ℕ) (command : Command) (line : List ℕ) (lines replies : List Reply) → IsRead line → AsksCommand line command
+gets_line : (settings : Settings) (files : Files) (m m1 m2 : ScriptState) (number : ℕ) (command : Command) (line : List ℕ) (lines replies : List Reply) → IsRead line → AsksCommand line command
     → Drains m lines m1 → GetsReplies settings files m1 number command replies m2 → AnswersLine true settings files m number line (lines ++ replies) m2
 gets_line settings files m m1 m2 number command line lines replies read asks drains (is_obeyed o) = obeyed read asks drains o
-gets_line settings files m m1 _ number command line lines _ read asks drains is_wanting = line_wants refl read drains
+gets_line settings files m m1 _ number command line lines _ read asks drains is_wanting = line_out_of_memory refl read drains
 
-gets_well : (settings : Settings) (files : Files) (m1 m2 : Made) (number : ℕ) (command : Command) (replies : List Reply) → GetsReplies settings files m1 number command replies m2
-    → IsWellMade m1 → AllAreSaid m1 → IsWellMade m2
+gets_well : (settings : Settings) (files : Files) (m1 m2 : ScriptState) (number : ℕ) (command : Command) (replies : List Reply) → GetsReplies settings files m1 number command replies m2
+    → IsWellMade m1 → AllArePrinted m1 → IsWellMade m2
 gets_well settings files m1 m2 number command replies (is_obeyed o) well all = obeys_well true settings files m1 m2 number command replies o well all
 gets_well settings files m1 _ number command _ is_wanting well all = well
 
 -- the text of a drain, and behind it what the command gets
-says_both : (settings : Settings) (number : ℕ) (command : Command) (line : List ℕ) (m : Made) (lines replies : List Reply) (text mid text2 : List ℕ) → IsRead line
+says_both : (settings : Settings) (number : ℕ) (command : Command) (line : List ℕ) (m : ScriptState) (lines replies : List Reply) (text mid text2 : List ℕ) → IsRead line
     → AsksCommand line command → AddsLines lines text mid → AddsReplies settings number command m replies mid text2
     → (more : List ℕ) × IsLineText settings number line m (lines ++ replies) more × (text2 ≡ text ++ more)
 says_both settings number command line m lines replies text mid text2 read asks drained (adds_replies adds wants) =
@@ -174,11 +174,11 @@ says_both settings number command line m lines replies text mid text2 read asks 
     let asked : AsksReport line = record { is_read = read; asks = subst (λ c. AsksCommand line c) is asks } in
     let all : lines ++ replies ≡ lines = ap (λ xs. lines ++ xs) none ∙ append-nil lines in (
       replies_text (lines ++ replies) ++ shown,
-      says_report asked shows,
+      prints_report asked shows,
       at ∙ ap (λ xs. xs ++ shown) drained ∙ append_assoc text (replies_text lines) shown ∙ ap (λ (xs : List Reply). text ++ (replies_text xs ++ shown)) (sym all),
     )
 
-pub drained_obeyed : (files : Files) (number : ℕ) (command : Command) (e e1 e2 : EngineState) (text mid text2 : List ℕ) → HasDrained e text e1 mid → Obeys files number command e1 mid e2 text2
+pub drained_obeyed : (files : Files) (number : ℕ) (command : Command) (e e1 e2 : ScriptHostState) (text mid text2 : List ℕ) → HasDrained e text e1 mid → Obeys files number command e1 mid e2 text2
     → AnswersCommand files number command e text e2 text2
 drained_obeyed files number command e e1 e2 text mid text2 drained obeys line read asks settings m s =
     let d = drained settings m s in

@@ -1,11 +1,11 @@
 -- Which command of the definitions a command of the code is.
 use Rattle.std.proofs.Common.{◌≡◌, ◌∙◌, ℕ, ℤ, ◌⊎◌, inl, inr, List, Bor, refl, sym, ap, subst}
 use Rattle.std.specs.Global.{Vec}
-use Rattle.wh_host_model.specs.Lines.Hex.{IsHex}
-use Rattle.wh_host_model.specs.Lines.Commands.{Command, keep, load, admit, invoke, drain, refuel, cancel, retry, scan, report, release}
+use Rattle.wh_script_model.specs.Hex.{IsHex}
+use Rattle.wh_script_model.specs.Commands.{Command, keep, load, admit, invoke, drain, refuel, cancel, retry, scan, report, release}
 use Rattle.wh_commands.specs.declared.command.Command.{Command as Code}
 use Rattle.wh_commands.specs.declared.command.Command.TheVariants.{Module, Load, Admit, Invoke, Drain, Refuel, Cancel, Retry, Scan, Report, Release}
-use Rattle.wh_commands.specs.Found.{Says, params_of}
+use Rattle.wh_commands.specs.ParsedCommands.{Says, params_of}
 use Rattle.wh_script.specs.Answering.{IsNoInvoke}
 
 -- the bytes of a module are still in digits

@@ -5,7 +5,7 @@ use Rattle.std.specs.List.{AllByRecursion}
 use Rattle.std.proofs.lemmas.List.{take-append-le, take_all, drop-drop, drop-take, length-take, length-drop}
 use Rattle.std.proofs.lemmas.Grind.{common_steps}
 use Rattle.std.proofs.lemmas.List.Elements.{recursion_from_All, All-append}
-use Rattle.wh_host_model.specs.Script.{lines_of, onto_first}
+use Rattle.wh_script_model.specs.Lines.{lines_of, onto_first}
 use Rattle.wh_script.specs.declared.lines.Line.{Line}
 use Rattle.wh_script.specs.declared.lines.Line.TheVariants.{Kept, TooLong, Skipped, End}
 use Rattle.wh_engine.specs.declared.fault.ScriptFault.{ScriptFault}

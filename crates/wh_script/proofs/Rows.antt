@@ -2,20 +2,20 @@
 use Rattle.std.proofs.Common.{◌≡◌, ◌∙◌, ℕ, ◌+◌, ◌-◌, List, [], ◌∷◌, ◌++◌, length, Option, Some, None, refl, sym, ap, subst}
 use Rattle.std.specs.List.{AllZip}
 use Rattle.wh_host_model.specs.Host.Worlds.{Tenant, World}
-use Rattle.wh_host_model.specs.Lines.Texts.{Row, frames_text, row_text, shared_text, slots_text}
-use Rattle.wh_host_model.specs.Lines.Settings.{Settings}
-use Rattle.wh_host_model.specs.Lines.Made.{Guest, Made}
+use Rattle.wh_script_model.specs.Texts.{Row, frames_text, row_text, shared_text, slots_text}
+use Rattle.wh_script_model.specs.Settings.{Settings}
+use Rattle.wh_script_model.specs.ScriptState.{NamedInstance, ScriptState}
 use Rattle.wh_host.specs.Reporting.{ReportsHost, all_sharers, report_text, row_in, rows_text, shared_frames}
-use Rattle.wh_script_model.specs.Following.{AreSame, IsFollowed, is_there, is_gone, Knows}
-use Rattle.wh_engine.specs.Standing.{EngineState}
+use Rattle.wh_script_laws.specs.Following.{AreSame, IsFollowed, is_there, is_gone, Knows}
+use Rattle.wh_engine.specs.RepresentedScript.{ScriptHostState}
 use Rattle.wh_script.specs.Answering.{AddsReport}
 use Rattle.wh_script.specs.Reports.{AreRowsOf, no_rows, row_left_out, row_shown, IsReportOf, row_texts}
 
 module _ (settings : Settings) (w : World) (num : w.space.tax.num ≡ settings.num) (den : w.space.tax.den ≡ settings.den) where
-  abbrev RowsAre : ℕ → List Guest → List (Option Tenant) → Type 0
+  abbrev RowsAre : ℕ → List NamedInstance → List (Option Tenant) → Type 0
   RowsAre number gs ts = (rows : List Row) × AreRowsOf settings number gs rows × (rows_text w.space number ts ≡ row_texts rows)
 
-  one_row : (number : ℕ) (g : Guest) (gs : List Guest) (o : Option Tenant) (ts : List (Option Tenant)) → IsFollowed AreSame w g o
+  one_row : (number : ℕ) (g : NamedInstance) (gs : List NamedInstance) (o : Option Tenant) (ts : List (Option Tenant)) → IsFollowed AreSame w g o
       → RowsAre (number + 1) gs ts → RowsAre number (g ∷ gs) (o ∷ ts)
   one_row number g gs None ts (is_gone gone) rest = (rest.0, row_left_out gone rest.1, rest.2)
   one_row number g gs (Some t) ts (is_there of_one same faultless) rest = (
@@ -31,16 +31,16 @@ module _ (settings : Settings) (w : World) (num : w.space.tax.num ≡ settings.n
     ap (λ text. row_text (row_in w.space number t) ++ text) rest.2,
   )
 
-  rows_are : (number : ℕ) (gs : List Guest) (ts : List (Option Tenant)) → AllZip (IsFollowed AreSame w) gs ts → RowsAre number gs ts
+  rows_are : (number : ℕ) (gs : List NamedInstance) (ts : List (Option Tenant)) → AllZip (IsFollowed AreSame w) gs ts → RowsAre number gs ts
   rows_are number [] [] all = ([], no_rows, refl)
   rows_are number [] (o ∷ ts) all = absurd all
   rows_are number (g ∷ gs) [] all = absurd all
   rows_are number (g ∷ gs) (o ∷ ts) all = one_row number g gs o ts all.0 (rows_are (number + 1) gs ts all.1)
 
-is_report : (settings : Settings) (w : World) (m : Made) (places : List ℕ) → Knows settings w m places → IsReportOf settings m (report_text w)
+is_report : (settings : Settings) (w : World) (m : ScriptState) (places : List ℕ) → Knows settings w m places → IsReportOf settings m (report_text w)
 is_report settings w m places known =
     let s = w.space in
-    let rows = rows_are settings w known.tax_num known.tax_den 0 m.guests w.tenants known.guests in
+    let rows = rows_are settings w known.tax_num known.tax_den 0 m.instances w.tenants known.instances in
     let used = length s.pool.frames - length s.pool.free in
     let taken = length s.slots.uses - length s.slots.vacant in
     record {
@@ -55,6 +55,6 @@ is_report settings w m places known =
           ∙ ap (λ n. frames_text settings.frames used ++ slots_text n taken ++ shared_text (shared_frames s) (all_sharers s) ++ row_texts rows.0) known.slots;
     }
 
-pub shows_report : (e : EngineState) (report text text2 : List ℕ) → ReportsHost e.host report → text2 ≡ text ++ report → AddsReport e text text2
+pub shows_report : (e : ScriptHostState) (report text text2 : List ℕ) → ReportsHost e.host report → text2 ≡ text ++ report → AddsReport e text text2
 shows_report e report text text2 reports is settings m s =
     (report, subst (IsReportOf settings m) (sym (reports s.stands.world s.stands.is.0)) (is_report settings s.stands.world m _ s.stands.knows), is)

@@ -1,16 +1,16 @@
 -- A run line by line: what was read and written so far, and how it ends.
 use Rattle.std.proofs.Common.{◌≡◌, ◌≢◌, ℕ, ◌+◌, ◌⊎◌, inl, inr, true, List, [], ◌∷◌, ◌++◌, length, All, Option, Some, None, Result, Ok, Err, refl, sym, ap, subst, subst₂, ◌∙◌, append-nil, append_assoc, arith, length-append}
 use Rattle.std.specs.Io.KnownBytes.{Appends, Consumes, IsAtEnd, prepend_known}
-use Rattle.wh_host_model.specs.Script.{lines_of}
-use Rattle.wh_host_model.specs.Lines.Settings.{Settings}
-use Rattle.wh_host_model.specs.Lines.Texts.{Reply}
-use Rattle.wh_host_model.specs.Lines.Made.{Made, nothing_made, SomeCallIsOpen}
-use Rattle.wh_host_model.specs.Lines.Answers.{Files, AnswersLine, AnswersLines}
+use Rattle.wh_script_model.specs.Lines.{lines_of}
+use Rattle.wh_script_model.specs.Settings.{Settings}
+use Rattle.wh_script_model.specs.Texts.{Reply}
+use Rattle.wh_script_model.specs.ScriptState.{ScriptState, empty_script, SomeCallIsOpen}
+use Rattle.wh_script_model.specs.Answers.{Files, AnswersLine, AnswersLines}
 use Rattle.wh_engine.specs.declared.fault.ScriptFault.{ScriptFault}
 use Rattle.wh_engine.specs.declared.fault.ScriptFault.TheVariants.{Settings as SettingsFault, Script, Output, Swap, Memory, Threads, Transcript}
 use Rattle.wh_engine.specs.Draining.{StopsOnlyOpen, StopsOpenOr, StopsRun, WasOpen}
-use Rattle.wh_engine.specs.Standing.{EngineState, StandsForScript}
-use Rattle.wh_script_model.proofs.SaidObeyed.{nothing_well}
+use Rattle.wh_engine.specs.RepresentedScript.{ScriptHostState, RepresentsScript}
+use Rattle.wh_script_laws.proofs.PrintedObeyed.{nothing_well}
 use Rattle.wh_script.specs.declared.lines.Line.{Line}
 use Rattle.wh_script.specs.declared.lines.Line.TheVariants.{Kept, TooLong, Skipped, End}
 use Rattle.wh_script.specs.Coming.{TakesLines, IsKind, ReadsLine, FailsAt}
@@ -21,13 +21,13 @@ use Rattle.wh_script.proofs.Coming.{takes_more}
 use Rattle.wh_script.proofs.Written.{appends_nothing, appends_more}
 
 -- lines were taken up to this number, and what answers them was written
-abbrev pub SoFar : Settings → Files → Option (List ℕ) → Option (List ℕ) → Option (List ℕ) → Option (List ℕ) → ℕ → EngineState → Type 0
-SoFar settings files script coming before after number e = (lines : List (List ℕ)) × (replies : List Reply) × (m : Made) × (text : List ℕ)
-    × TakesLines script coming lines × (length lines + 1 ≡ number) × LinesSay settings files nothing_made 1 lines replies text m × Appends before after text
+abbrev pub SoFar : Settings → Files → Option (List ℕ) → Option (List ℕ) → Option (List ℕ) → Option (List ℕ) → ℕ → ScriptHostState → Type 0
+SoFar settings files script coming before after number e = (lines : List (List ℕ)) × (replies : List Reply) × (m : ScriptState) × (text : List ℕ)
+    × TakesLines script coming lines × (length lines + 1 ≡ number) × LinesSay settings files empty_script 1 lines replies text m × Appends before after text
     × ServesScript settings e m
 
 -- one more line gets its replies, and the text goes on
-says_more : (settings : Settings) (files : Files) (before mid after : Made) (number : ℕ) (lines : List (List ℕ)) (line text now : List ℕ) (replies reply : List Reply)
+says_more : (settings : Settings) (files : Files) (before mid after : ScriptState) (number : ℕ) (lines : List (List ℕ)) (line text now : List ℕ) (replies reply : List Reply)
     → LinesSay settings files before number lines replies text mid → AnswersLine true settings files mid (number + length lines) line reply after
     → IsLineText settings (number + length lines) line after reply now → LinesSay settings files before number (lines ++ line ∷ []) (replies ++ reply) (text ++ now) after
 says_more settings files before mid after number [] line text now replies reply p r says_it =
@@ -60,7 +60,7 @@ says_more settings files before mid after number (l ∷ lines) line text now rep
     )
 
 -- so lines that say replies get them
-are_answered : (settings : Settings) (files : Files) (before after : Made) (number : ℕ) (lines : List (List ℕ)) (replies : List Reply) (text : List ℕ)
+are_answered : (settings : Settings) (files : Files) (before after : ScriptState) (number : ℕ) (lines : List (List ℕ)) (replies : List Reply) (text : List ℕ)
     → LinesSay settings files before number lines replies text after → AnswersLines true settings files before number lines replies after
 are_answered settings files before after number [] replies text p = (p.0, p.2)
 are_answered settings files before after number (l ∷ lines) replies text p =
@@ -92,25 +92,25 @@ line_of TooLong a b held more reads = reads
 line_of Skipped a b held more reads = reads
 line_of End a b held more reads = absurd (more refl)
 
-pub starts : (settings : Settings) (files : Files) (a w : Option (List ℕ)) (left : List ℕ) (e : EngineState) → left ≡ [] → StandsForScript settings e nothing_made
+pub starts : (settings : Settings) (files : Files) (a w : Option (List ℕ)) (left : List ℕ) (e : ScriptHostState) → left ≡ [] → RepresentsScript settings e empty_script
     → SoFar settings files a (prepend_known left a) w w 1 e
-starts settings files None w left e none stands = ([], [], nothing_made, [], tt, refl, (refl, refl, refl), appends_nothing w, (stands, nothing_well))
+starts settings files None w left e none stands = ([], [], empty_script, [], tt, refl, (refl, refl, refl), appends_nothing w, (stands, nothing_well))
 starts settings files (Some xs) w left e none stands =
-    ([], [], nothing_made, [], rw none ([], refl, refl), refl, (refl, refl, refl), appends_nothing w, (stands, nothing_well))
+    ([], [], empty_script, [], rw none ([], refl, refl), refl, (refl, refl, refl), appends_nothing w, (stands, nothing_well))
 
 nothing_first : (a : Option (List ℕ)) → AreFirstLines a []
 nothing_first None = tt
 nothing_first (Some xs) = (lines_of xs, refl)
 
 pub begins_nothing : (settings : Settings) (files : Files) (a left w : Option (List ℕ)) → Runs settings files a left w w (Err Memory)
-begins_nothing settings files a left w = ([], [], nothing_first a, record { replies = []; made = nothing_made; answers = (refl, refl); says = (refl, refl, refl) }, appends_nothing w)
+begins_nothing settings files a left w = ([], [], nothing_first a, record { replies = []; made = empty_script; answers = (refl, refl); says = (refl, refl, refl) }, appends_nothing w)
 
-module _ (settings : Settings) (files : Files) (a b before mid : Option (List ℕ)) (number : ℕ) (e : EngineState) (so_far : SoFar settings files a b before mid number e) where
+module _ (settings : Settings) (files : Files) (a b before mid : Option (List ℕ)) (number : ℕ) (e : ScriptHostState) (so_far : SoFar settings files a b before mid number e) where
   partial : IsPartial settings files so_far.0 so_far.3
   partial = record {
     replies = so_far.1;
     made = so_far.2;
-    answers = are_answered settings files nothing_made so_far.2 1 so_far.0 so_far.1 so_far.3 so_far.6;
+    answers = are_answered settings files empty_script so_far.2 1 so_far.0 so_far.1 so_far.3 so_far.6;
     says = so_far.6;
   }
 
@@ -185,11 +185,11 @@ module _ (settings : Settings) (files : Files) (a b before mid : Option (List �
       neither (inl h) = absurd (cc h)
       neither (inr h) = absurd (cc h)
 
-  module _ (e2 : EngineState) (text : List ℕ) (after left : Option (List ℕ)) where
+  module _ (e2 : ScriptHostState) (text : List ℕ) (after left : Option (List ℕ)) where
     whole : HasDrained e [] e2 text → IsWhole settings files so_far.0 (so_far.3 ++ text)
     whole drained =
         let d = drained settings so_far.2 so_far.8 in
-        let answered = are_answered settings files nothing_made so_far.2 1 so_far.0 so_far.1 so_far.3 so_far.6 in
+        let answered = are_answered settings files empty_script so_far.2 1 so_far.0 so_far.1 so_far.3 so_far.6 in
         record {
           to_lines = so_far.1;
           last = d.0;
@@ -222,14 +222,14 @@ module _ (settings : Settings) (files : Files) (a b before mid : Option (List �
       takes_next : TakesLines a c (so_far.0 ++ next_line.0 ∷ [])
       takes_next = takes_more a b c so_far.0 (next_line.0 ∷ []) so_far.4 next_line.1
 
-      says_next : (replies : List Reply) × (m : Made) × LinesSay settings files nothing_made 1 (so_far.0 ++ next_line.0 ∷ []) replies (so_far.3 ++ text) m
+      says_next : (replies : List Reply) × (m : ScriptState) × LinesSay settings files empty_script 1 (so_far.0 ++ next_line.0 ∷ []) replies (so_far.3 ++ text) m
           × ServesScript settings e2 m
       says_next =
           let answer = answers next_line.0 next_line.2 settings so_far.2 so_far.8 in
           let n : number ≡ 1 + length so_far.0 = omega (arith, so_far.5) in (
             so_far.1 ++ answer.0,
             answer.1,
-            says_more settings files nothing_made so_far.2 answer.1 1 so_far.0 next_line.0 so_far.3 text so_far.1 answer.0 so_far.6
+            says_more settings files empty_script so_far.2 answer.1 1 so_far.0 next_line.0 so_far.3 text so_far.1 answer.0 so_far.6
                 (subst (λ k. AnswersLine true settings files so_far.2 k next_line.0 answer.0 answer.1) n answer.3)
                 (subst₂ (λ k xs. IsLineText settings k next_line.0 answer.1 answer.0 xs) n (sym answer.5) answer.4),
             answer.6,
@@ -256,7 +256,7 @@ module _ (settings : Settings) (files : Files) (a b before mid : Option (List �
         inl (record {
           replies = says_next.0;
           made = says_next.1;
-          answers = are_answered settings files nothing_made says_next.1 1 (so_far.0 ++ next_line.0 ∷ []) says_next.0 (so_far.3 ++ text) says_next.2;
+          answers = are_answered settings files empty_script says_next.1 1 (so_far.0 ++ next_line.0 ∷ []) says_next.0 (so_far.3 ++ text) says_next.2;
           says = says_next.2;
         }),
         front_of before mid after so_far.3 text so_far.7 sent,

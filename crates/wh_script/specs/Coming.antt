@@ -8,7 +8,7 @@ use Rattle.wh_script.specs.declared.lines.Line.{Line}
 use Rattle.wh_script.specs.declared.lines.Line.TheVariants.{Kept, TooLong, Skipped, End}
 use Rattle.wh_engine.specs.declared.fault.ScriptFault.{ScriptFault}
 use Rattle.wh_engine.specs.declared.fault.ScriptFault.TheVariants.{Script}
-use Rattle.wh_host_model.specs.Script.{lines_of, is_skipped, longest_line}
+use Rattle.wh_script_model.specs.Lines.{lines_of, is_skipped, longest_line}
 
 -- what lies unread in the chunk
 abbrev pub unread : Lines → List ℕ

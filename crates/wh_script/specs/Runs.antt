@@ -1,12 +1,12 @@
 -- What a run of a script reads and writes.
 use Rattle.std.specs.Prelude.{◌≡◌, ◌≢◌, ℕ, ◌+◌, true, List, [], ◌∷◌, ◌++◌, All, Result, Ok, Err, Option, None, Some, ⊤, ◌⊎◌}
 use Rattle.std.specs.Io.KnownBytes.{Appends}
-use Rattle.wh_host_model.specs.Script.{lines_of}
-use Rattle.wh_host_model.specs.Lines.Settings.{Settings}
-use Rattle.wh_host_model.specs.Lines.Texts.{Reply}
-use Rattle.wh_host_model.specs.Lines.Made.{Made, nothing_made, SomeCallIsOpen}
-use Rattle.wh_host_model.specs.Lines.Drains.{Drains}
-use Rattle.wh_host_model.specs.Lines.Answers.{Files, AnswersLine, AnswersLines, AnswersScript, replies_text}
+use Rattle.wh_script_model.specs.Lines.{lines_of}
+use Rattle.wh_script_model.specs.Settings.{Settings}
+use Rattle.wh_script_model.specs.Texts.{Reply}
+use Rattle.wh_script_model.specs.ScriptState.{ScriptState, empty_script, SomeCallIsOpen}
+use Rattle.wh_script_model.specs.Drains.{Drains}
+use Rattle.wh_script_model.specs.Answers.{Files, AnswersLine, AnswersLines, AnswersScript, replies_text}
 use Rattle.wh_engine.specs.declared.fault.ScriptFault.{ScriptFault}
 use Rattle.wh_engine.specs.declared.fault.ScriptFault.TheVariants.{Script, Output, Memory, Threads, Transcript}
 use Rattle.wh_script.specs.Speaking.{AsksScan, IsLineText}
@@ -46,10 +46,10 @@ Sent old new (Err fault) text = ⊥
 
 -- The lines get these replies, the first line having this number, and the text is made of those of the lines, one behind
 -- the other.
-abbrev pub LinesSay : Settings → Files → Made → ℕ → List (List ℕ) → List Reply → List ℕ → Made → Type 0
+abbrev pub LinesSay : Settings → Files → ScriptState → ℕ → List (List ℕ) → List Reply → List ℕ → ScriptState → Type 0
 LinesSay settings files w number [] replies text w2 = (replies ≡ []) × (text ≡ []) × (w2 ≡ w)
 LinesSay settings files w number (line ∷ lines) replies text w2 =
-    (here rest : List Reply) × (now later : List ℕ) × (between : Made) × (replies ≡ here ++ rest)
+    (here rest : List Reply) × (now later : List ℕ) × (between : ScriptState) × (replies ≡ here ++ rest)
     × (text ≡ now ++ later) × AnswersLine true settings files w number line here between
     × IsLineText settings number line between here now
     × LinesSay settings files between (number + 1) lines rest later w2
@@ -59,19 +59,19 @@ pub record IsWhole (settings : Settings) (files : Files) (lines : List (List ℕ
   pub to_lines : List Reply
   pub last : List Reply
   pub front : List ℕ
-  pub before : Made
-  pub after : Made
+  pub before : ScriptState
+  pub after : ScriptState
   pub answers : AnswersScript true settings files lines (to_lines ++ last)
-  pub says : LinesSay settings files nothing_made 1 lines to_lines front before
+  pub says : LinesSay settings files empty_script 1 lines to_lines front before
   pub drains : Drains before last after
   pub is : text ≡ front ++ replies_text last
 
 -- or these lines, with no drain behind them
 pub record IsPartial (settings : Settings) (files : Files) (lines : List (List ℕ)) (text : List ℕ) : Type 0 where
   pub replies : List Reply
-  pub made : Made
-  pub answers : AnswersLines true settings files nothing_made 1 lines replies made
-  pub says : LinesSay settings files nothing_made 1 lines replies text made
+  pub made : ScriptState
+  pub answers : AnswersLines true settings files empty_script 1 lines replies made
+  pub says : LinesSay settings files empty_script 1 lines replies text made
 
 -- and behind them an instance has an open call
 pub record IsPartialAtCall (settings : Settings) (files : Files) (lines : List (List ℕ)) (text : List ℕ) : Type 0 where
@@ -100,7 +100,7 @@ StopsAtScan settings files script before after =
 
 -- What a run did, from the script to what the reader has left, and from the writer's bytes before to those after, by
 -- how it ended. To the end: what answers the script was written. Where the writer failed: a beginning of what answers
--- the first lines. Where the reader failed: what answers the lines that it gave. Where memory was wanted: what answers
+-- the first lines. Where the reader failed: what answers the lines that it gave. Where memory ran out: what answers
 -- the first lines. Where a thread was wanted: what answers the first lines, behind which a call is open, or a line asks
 -- for a scan. Where calls didn't run to their ends: what answers the first lines, behind which a call is open. It ends in
 -- no other way.

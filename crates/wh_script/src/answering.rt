@@ -1,11 +1,11 @@
 // What one line gets.
 
 ghost use Rattle.std.specs.Prelude.{◌≡◌, ℕ, List, [], OnOk, IfErr, string_bytes};
-ghost use Rattle.wh_host_model.specs.Lines.Answers.{Files};
-ghost use Rattle.wh_host_model.specs.Lines.Commands as asked_of;
-ghost use Rattle.wh_commands.specs.Found.{Says};
+ghost use Rattle.wh_script_model.specs.Answers.{Files};
+ghost use Rattle.wh_script_model.specs.Commands as asked_of;
+ghost use Rattle.wh_commands.specs.ParsedCommands.{Says};
 ghost use Rattle.wh_engine.specs.Draining.{DeviceMayFail, DeviceServesWell, DeviceStaysTrue, StopsOnlyOpen, StopsOpenOr, StopsRun};
-ghost use Rattle.wh_engine.specs.Standing.{engine_on};
+ghost use Rattle.wh_engine.specs.RepresentedScript.{script_host_on};
 ghost use Rattle.wh_script.specs.Answering.{Answers, AnswersCommand};
 ghost use Rattle.wh_script.specs.Coming.{IsKind};
 ghost use Rattle.wh_script.specs.Speaking.{AsksScan};
@@ -16,7 +16,7 @@ use crate::session::Session;
 use std::sync::Wait;
 use std::sync::ledger::Ledger;
 use std::thread::Threads;
-use wh_cell::Ties;
+use wh_cell::CellAgreements;
 use wh_commands::{Command, LineError, parse};
 use wh_engine::ScriptFault;
 use wh_swap::SwapDev;
@@ -27,9 +27,9 @@ impl<
     C: Ledger + Send + 'static,
     O: Ledger + Send + 'static,
     E: Ledger + Send + 'static,
-    B: Ties + Send + 'static,
+    B: CellAgreements + Send + 'static,
 > Session<D, T, C, O, E, B> {
-    /// Puts what a line gets into the text, in place of what stood there.
+    /// Replaces the text by the replies to a line.
     ///
     /// # Errors
     /// `Memory` where room for it is refused; `Threads` and `Transcript` where calls don't run to their ends, and `Threads` also
@@ -48,11 +48,11 @@ impl<
         ensures faults { DeviceMayFail D.faults self.old.host.device self.new.host.device }
         ensures answers { OnOk result (DeviceServesWell D.honest D.faults self.old.host.device
             self.new.host.device → (line : List ℕ) → IsKind kind held.now line → Answers
-            (S.files source.now) number line (engine_on self.old.host.host self.old.engine) []
-            (engine_on self.new.host.host self.new.engine) (string_bytes self.new.text)) }
+            (S.files source.now) number line (script_host_on self.old.host.host self.old.script_host) []
+            (script_host_on self.new.host.host self.new.script_host) (string_bytes self.new.text)) }
         ensures err { IfErr result StopsRun }
         ensures open { IfErr result (λ fault. (line : List ℕ) → IsKind kind held.now line
-            → StopsOpenOr (AsksScan line) (engine_on self.old.host.host self.old.engine) fault) }
+            → StopsOpenOr (AsksScan line) (script_host_on self.old.host.host self.old.script_host) fault) }
     {
         self.text.clear();
         match kind {
@@ -65,7 +65,7 @@ impl<
         }
     }
 
-    /// Puts what a command gets behind the text. All but `invoke` drain first.
+    /// Appends the reply to a command. All but `invoke` drain first.
     ///
     /// # Errors
     /// As `answer`.
@@ -83,11 +83,11 @@ impl<
         ensures answers { OnOk result (DeviceServesWell D.honest D.faults self.old.host.device
             self.new.host.device → (asked : asked_of.Command) → Says command.entry asked
             → AnswersCommand (S.files source.now) number asked
-            (engine_on self.old.host.host self.old.engine) (string_bytes self.old.text)
-            (engine_on self.new.host.host self.new.engine) (string_bytes self.new.text)) }
+            (script_host_on self.old.host.host self.old.script_host) (string_bytes self.old.text)
+            (script_host_on self.new.host.host self.new.script_host) (string_bytes self.new.text)) }
         ensures err { IfErr result StopsRun }
         ensures open { IfErr result (StopsOpenOr (command.entry ≡ Command.Scan)
-            (engine_on self.old.host.host self.old.engine)) }
+            (script_host_on self.old.host.host self.old.script_host)) }
     {
         match command {
             Command::Invoke {
@@ -103,7 +103,7 @@ impl<
         }
     }
 
-    /// Asks a call of the instance of a name. Where there is none of this name, or memory is wanted, it drains, and says so.
+    /// Requests a call of the instance `inst`. Where there is none of this name, or memory runs out, drains and says so.
     ///
     /// # Errors
     /// As `answer`.
@@ -123,18 +123,18 @@ impl<
         ensures answers { OnOk result (DeviceServesWell D.honest D.faults self.old.host.device
             self.new.host.device → (files : Files) → AnswersCommand files number
             (asked_of.invoke inst.now export.now fuel args.now)
-            (engine_on self.old.host.host self.old.engine) (string_bytes self.old.text)
-            (engine_on self.new.host.host self.new.engine) (string_bytes self.new.text)) }
+            (script_host_on self.old.host.host self.old.script_host) (string_bytes self.old.text)
+            (script_host_on self.new.host.host self.new.script_host) (string_bytes self.new.text)) }
         ensures err { IfErr result StopsRun }
         ensures open { IfErr result
-            (StopsOnlyOpen (engine_on self.old.host.host self.old.engine)) }
+            (StopsOnlyOpen (script_host_on self.old.host.host self.old.script_host)) }
     {
-        let Some(guest) = self.guest_named(inst) else {
+        let Some(instance) = self.instance_named(inst) else {
             return self.complain_drained(rt, LineError::NoName, number);
         };
         let asked = self
-            .engine
-            .invoke(&mut self.host, self.alloc, guest, export, fuel, args);
+            .script_host
+            .invoke(&mut self.host, self.alloc, instance, export, fuel, args);
         if asked.is_err() {
             return self.complain_drained(rt, LineError::Memory, number);
         }

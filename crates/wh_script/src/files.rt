@@ -1,7 +1,7 @@
 //! Where the files come from that a script loads.
 
 ghost use Rattle.std.specs.Prelude.{◌≡◌, Some, None, true, IfOk, IfErr};
-ghost use Rattle.wh_host_model.specs.Lines.Answers.{Files};
+ghost use Rattle.wh_script_model.specs.Answers.{Files};
 
 use std::alloc::Global;
 use thiserror::Error;
@@ -22,7 +22,7 @@ pub trait Source {
     /// Which bytes the file of a path may hold, and whether it may be none that can be read, as far as that is known.
     ghost files: { Self → Files };
 
-    /// The bytes of the file of a path.
+    /// Reads the file at `path`.
     ///
     /// # Errors
     /// `Unreadable` where it can't be opened or read; `Memory` where there is none for its bytes.

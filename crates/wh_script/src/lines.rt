@@ -64,7 +64,7 @@ impl Lines {
         })
     }
 
-    /// The line that was read last.
+    /// Returns the line read last.
     pub fn line(&self) -> &[u8]
         ensures { result.now ≡ self.now.line.items }
     {
@@ -107,7 +107,7 @@ impl Lines {
         Err(ScriptFault::Memory)
     }
 
-    /// What the line is that was read.
+    /// Returns what the line is.
     fn kind(&self) -> Line
         ensures { (line : List ℕ) → Holds self.now.line.items self.now.is_long line
             → IsKind result self.now.line.items line }
@@ -119,7 +119,7 @@ impl Lines {
         }
     }
 
-    /// Whether more of the script is to come; then some of it lies in the chunk.
+    /// Returns whether more of the script is to come; some of it is in the chunk then.
     fn has_more<R: Read>(&mut self, reader: &mut R) -> Result<bool, ScriptFault>
         requires { IsInChunk self.old }
         ensures bytes { OnOk result
@@ -141,7 +141,7 @@ impl Lines {
         Ok(more)
     }
 
-    /// Reads more of the script; false at its end.
+    /// Reads more of the script. Returns false at its end.
     fn fill<R: Read>(&mut self, reader: &mut R) -> Result<bool, ScriptFault>
         requires { IsInChunk self.old }
         ensures bytes { OnOk result
@@ -168,7 +168,7 @@ impl Lines {
         Err(ScriptFault::Script)
     }
 
-    /// Takes what there is of the line; true where that is up to its newline.
+    /// Takes what there is of the line. Returns whether that is up to its newline.
     fn take(&mut self) -> Result<bool, ScriptFault>
         requires within { IsInChunk self.old }
         requires some { self.old.next < self.old.end }
@@ -190,7 +190,7 @@ impl Lines {
     }
 }
 
-/// The bytes up to the first newline, and whether there is one.
+/// Returns the bytes up to the first newline, and whether there is one.
 fn first_piece(bytes: &[u8]) -> (&[u8], bool)
     ensures free { All (λ b. b ≢ 10) result.0.now }
     ensures cut { MatchBool result.1
@@ -204,7 +204,7 @@ fn first_piece(bytes: &[u8]) -> (&[u8], bool)
     }
 }
 
-/// Puts bytes at the end of a line, as far as they are wanted: of a comment only its beginning is.
+/// Appends `bytes` to `line`, as far as they are wanted: of a comment only its beginning is.
 fn keep(line: &mut Vec<u8>, is_long: &mut bool, bytes: &[u8]) -> Result<(), ScriptFault>
     ensures held { OnOk result ((so_far : List ℕ) → Holds line.old.items is_long.old so_far
         → Holds line.new.items is_long.new (so_far ++ bytes.now)) }

@@ -1,14 +1,14 @@
 // What a command gets, once all calls have run.
 
 ghost use Rattle.std.specs.Prelude.{◌≡◌, ◌++◌, ℕ, List, None, OnOk, IfErr, string_bytes};
-ghost use Rattle.wh_host_model.specs.Lines.Hex.{IsHex};
-ghost use Rattle.wh_host_model.specs.Lines.Answers.{BringsBytes, Files, NamesModule};
-ghost use Rattle.wh_host_model.specs.Lines.Commands as asked_of;
-ghost use Rattle.wh_host_model.specs.Lines.Texts.{release_ok, reply_text};
-ghost use Rattle.wh_commands.specs.Found.{Says, params_of};
+ghost use Rattle.wh_script_model.specs.Hex.{IsHex};
+ghost use Rattle.wh_script_model.specs.Answers.{BringsBytes, Files, NamesModule};
+ghost use Rattle.wh_script_model.specs.Commands as asked_of;
+ghost use Rattle.wh_script_model.specs.Texts.{release_ok, reply_text};
+ghost use Rattle.wh_commands.specs.ParsedCommands.{Says, params_of};
 ghost use Rattle.wh_engine.specs.Draining.{StaysSo, StopsScan};
-ghost use Rattle.wh_names.specs.Places.{place_of_name};
-ghost use Rattle.wh_engine.specs.Standing.{engine_on};
+ghost use Rattle.wh_names.specs.NamePlaces.{place_of_name};
+ghost use Rattle.wh_engine.specs.RepresentedScript.{script_host_on};
 ghost use Rattle.wh_script.specs.Answering.{AddsReport, IsNoInvoke, Obeys};
 
 use crate::files::{FileError, Source};
@@ -16,8 +16,8 @@ use crate::session::Session;
 use std::sync::Wait;
 use std::sync::ledger::Ledger;
 use std::thread::Threads;
-use wh_cell::Ties;
-use wh_commands::{Command, Given, LineError};
+use wh_cell::CellAgreements;
+use wh_commands::{AdmitParams, Command, LineError};
 use wh_engine::ScriptFault;
 use wh_kernels::{ConstantHash, FnvHash};
 use wh_replies::{Reply, write_released};
@@ -30,9 +30,9 @@ impl<
     C: Ledger + Send + 'static,
     O: Ledger + Send + 'static,
     E: Ledger + Send + 'static,
-    B: Ties + Send + 'static,
+    B: CellAgreements + Send + 'static,
 > Session<D, T, C, O, E, B> {
-    /// Puts what a command gets behind the text. A call is asked for elsewhere, since it is taken before all calls have run.
+    /// Appends the reply to a command. A call is requested elsewhere, since it is accepted before all calls have run.
     ///
     /// # Errors
     /// `Memory` where room for the reply is refused, and for a scan also where room for its thread is, or `Threads` where that
@@ -46,8 +46,8 @@ impl<
     ) -> Result<(), ScriptFault>
         ensures obeys { OnOk result ((asked : asked_of.Command) → Says command.entry asked
             → IsNoInvoke asked → Obeys (S.files source.now) number asked
-            (engine_on self.old.host.host self.old.engine) (string_bytes self.old.text)
-            (engine_on self.new.host.host self.new.engine) (string_bytes self.new.text)) }
+            (script_host_on self.old.host.host self.old.script_host) (string_bytes self.old.text)
+            (script_host_on self.new.host.host self.new.script_host) (string_bytes self.new.text)) }
         ensures config { self.new.config ≡ self.old.config }
         ensures device { self.new.host.device ≡ self.old.host.device }
         ensures err { IfErr result StopsScan }
@@ -76,13 +76,13 @@ impl<
     fn module(&mut self, name: &str, hex: &str, number: u64) -> Result<(), ScriptFault>
         ensures obeys { OnOk result ((files : Files) (bytes : List ℕ) → IsHex hex.now bytes → Obeys
             files number (asked_of.keep name.now bytes)
-            (engine_on self.old.host.host self.old.engine) (string_bytes self.old.text)
-            (engine_on self.new.host.host self.new.engine) (string_bytes self.new.text)) }
+            (script_host_on self.old.host.host self.old.script_host) (string_bytes self.old.text)
+            (script_host_on self.new.host.host self.new.script_host) (string_bytes self.new.text)) }
         ensures config { self.new.config ≡ self.old.config }
         ensures device { self.new.host.device ≡ self.old.host.device }
         ensures err { IfErr result (λ e. e ≡ ScriptFault.Memory) }
     {
-        if self.engine.module_number(name).is_some() {
+        if self.script_host.module_number(name).is_some() {
             return self.complain(LineError::NameTaken, number);
         }
         let Ok(bytes) = hex::decode(self.alloc, hex) else {
@@ -100,14 +100,14 @@ impl<
         number: u64,
     ) -> Result<(), ScriptFault>
         ensures obeys { OnOk result (Obeys (S.files source.now) number
-            (asked_of.load name.now path.now) (engine_on self.old.host.host self.old.engine)
-            (string_bytes self.old.text) (engine_on self.new.host.host self.new.engine)
+            (asked_of.load name.now path.now) (script_host_on self.old.host.host self.old.script_host)
+            (string_bytes self.old.text) (script_host_on self.new.host.host self.new.script_host)
             (string_bytes self.new.text)) }
         ensures config { self.new.config ≡ self.old.config }
         ensures device { self.new.host.device ≡ self.old.host.device }
         ensures err { IfErr result (λ e. e ≡ ScriptFault.Memory) }
     {
-        if self.engine.module_number(name).is_some() {
+        if self.script_host.module_number(name).is_some() {
             return self.complain(LineError::NameTaken, number);
         }
         match source.read(self.alloc, path) {
@@ -117,18 +117,21 @@ impl<
         }
     }
 
-    /// Keeps the module of these bytes under a free name.
+    /// Keeps the module of `bytes` as `name`, which is free.
     fn keep(&mut self, name: &str, bytes: &[u8], number: u64) -> Result<(), ScriptFault>
-        requires free { place_of_name self.old.engine.module_names name.now ≡ None }
+        requires free { place_of_name self.old.script_host.module_names name.now ≡ None }
         ensures obeys { OnOk result ((files : Files) (asked : asked_of.Command) → NamesModule asked
             name.now → BringsBytes files asked bytes.now → Obeys files number asked
-            (engine_on self.old.host.host self.old.engine) (string_bytes self.old.text)
-            (engine_on self.new.host.host self.new.engine) (string_bytes self.new.text)) }
+            (script_host_on self.old.host.host self.old.script_host) (string_bytes self.old.text)
+            (script_host_on self.new.host.host self.new.script_host) (string_bytes self.new.text)) }
         ensures config { self.new.config ≡ self.old.config }
         ensures device { self.new.host.device ≡ self.old.host.device }
         ensures err { IfErr result (λ e. e ≡ ScriptFault.Memory) }
     {
-        match self.engine.keep(&mut self.host, self.alloc, name, bytes) {
+        match self
+            .script_host
+            .keep(&mut self.host, self.alloc, name, bytes)
+        {
             Ok(reply) => self.reply(reply),
             Err(_) => self.complain(LineError::Memory, number),
         }
@@ -139,13 +142,13 @@ impl<
         &mut self,
         inst: &str,
         name: &str,
-        given: Given,
+        given: AdmitParams,
         number: u64,
     ) -> Result<(), ScriptFault>
         ensures obeys { OnOk result ((files : Files) → Obeys files number
             (asked_of.admit inst.now name.now (params_of given))
-            (engine_on self.old.host.host self.old.engine) (string_bytes self.old.text)
-            (engine_on self.new.host.host self.new.engine) (string_bytes self.new.text)) }
+            (script_host_on self.old.host.host self.old.script_host) (string_bytes self.old.text)
+            (script_host_on self.new.host.host self.new.script_host) (string_bytes self.new.text)) }
         ensures config { self.new.config ≡ self.old.config }
         ensures device { self.new.host.device ≡ self.old.host.device }
         ensures err { IfErr result (λ e. e ≡ ScriptFault.Memory) }
@@ -153,11 +156,11 @@ impl<
         let Some(of) = self.module_named(name) else {
             return self.complain(LineError::NoName, number);
         };
-        if self.engine.guest_number(inst).is_some() {
+        if self.script_host.instance_number(inst).is_some() {
             return self.complain(LineError::NameTaken, number);
         }
         match self
-            .engine
+            .script_host
             .admit(&mut self.host, self.alloc, inst, of, given)
         {
             Ok(reply) => self.reply(reply),
@@ -168,57 +171,59 @@ impl<
     /// `refuel INST N`.
     fn refuel(&mut self, inst: &str, fuel: u64, number: u64) -> Result<(), ScriptFault>
         ensures obeys { OnOk result ((files : Files) → Obeys files number
-            (asked_of.refuel inst.now fuel) (engine_on self.old.host.host self.old.engine)
-            (string_bytes self.old.text) (engine_on self.new.host.host self.new.engine)
+            (asked_of.refuel inst.now fuel) (script_host_on self.old.host.host self.old.script_host)
+            (string_bytes self.old.text) (script_host_on self.new.host.host self.new.script_host)
             (string_bytes self.new.text)) }
         ensures config { self.new.config ≡ self.old.config }
         ensures device { self.new.host.device ≡ self.old.host.device }
         ensures err { IfErr result (λ e. e ≡ ScriptFault.Memory) }
     {
-        let Some(guest) = self.guest_named(inst) else {
+        let Some(instance) = self.instance_named(inst) else {
             return self.complain(LineError::NoName, number);
         };
-        let reply = self.engine.refuel(&mut self.host, guest, inst, fuel);
+        let reply = self
+            .script_host
+            .refuel(&mut self.host, instance, inst, fuel);
         self.reply(reply)
     }
 
     /// `cancel INST`.
     fn cancel(&mut self, inst: &str, number: u64) -> Result<(), ScriptFault>
         ensures obeys { OnOk result ((files : Files) → Obeys files number (asked_of.cancel inst.now)
-            (engine_on self.old.host.host self.old.engine) (string_bytes self.old.text)
-            (engine_on self.new.host.host self.new.engine) (string_bytes self.new.text)) }
+            (script_host_on self.old.host.host self.old.script_host) (string_bytes self.old.text)
+            (script_host_on self.new.host.host self.new.script_host) (string_bytes self.new.text)) }
         ensures config { self.new.config ≡ self.old.config }
         ensures device { self.new.host.device ≡ self.old.host.device }
         ensures err { IfErr result (λ e. e ≡ ScriptFault.Memory) }
     {
-        let Some(guest) = self.guest_named(inst) else {
+        let Some(instance) = self.instance_named(inst) else {
             return self.complain(LineError::NoName, number);
         };
-        let reply = self.engine.cancel(&mut self.host, guest, inst);
+        let reply = self.script_host.cancel(&mut self.host, instance, inst);
         self.reply(reply)
     }
 
     /// `retry INST`.
     fn retry(&mut self, inst: &str, number: u64) -> Result<(), ScriptFault>
         ensures obeys { OnOk result ((files : Files) → Obeys files number (asked_of.retry inst.now)
-            (engine_on self.old.host.host self.old.engine) (string_bytes self.old.text)
-            (engine_on self.new.host.host self.new.engine) (string_bytes self.new.text)) }
+            (script_host_on self.old.host.host self.old.script_host) (string_bytes self.old.text)
+            (script_host_on self.new.host.host self.new.script_host) (string_bytes self.new.text)) }
         ensures config { self.new.config ≡ self.old.config }
         ensures device { self.new.host.device ≡ self.old.host.device }
         ensures err { IfErr result (λ e. e ≡ ScriptFault.Memory) }
     {
-        let Some(guest) = self.guest_named(inst) else {
+        let Some(instance) = self.instance_named(inst) else {
             return self.complain(LineError::NoName, number);
         };
-        let reply = self.engine.retry(&mut self.host, guest, inst);
+        let reply = self.script_host.retry(&mut self.host, instance, inst);
         self.reply(reply)
     }
 
     /// `scan`.
     fn scan<X: Threads + Wait>(&mut self, rt: &X) -> Result<(), ScriptFault>
         ensures obeys { OnOk result ((files : Files) (number : ℕ) → Obeys files number asked_of.scan
-            (engine_on self.old.host.host self.old.engine) (string_bytes self.old.text)
-            (engine_on self.new.host.host self.new.engine) (string_bytes self.new.text)) }
+            (script_host_on self.old.host.host self.old.script_host) (string_bytes self.old.text)
+            (script_host_on self.new.host.host self.new.script_host) (string_bytes self.new.text)) }
         ensures config { self.new.config ≡ self.old.config }
         ensures device { self.new.host.device ≡ self.old.host.device }
         ensures err { IfErr result StopsScan }
@@ -229,17 +234,19 @@ impl<
 
     // Offers all pages for sharing, each under its hash.
     fn offer_pages<X: Threads + Wait>(&mut self, rt: &X) -> Result<(), ScriptFault>
-        ensures stands { StaysSo (engine_on self.old.host.host self.old.engine)
-            (engine_on self.new.host.host self.new.engine) }
+        ensures stands { StaysSo (script_host_on self.old.host.host self.old.script_host)
+            (script_host_on self.new.host.host self.new.script_host) }
         ensures config { self.new.config ≡ self.old.config }
         ensures device { self.new.host.device ≡ self.old.host.device }
         ensures text { self.new.text ≡ self.old.text }
         ensures err { IfErr result StopsScan }
     {
         match self.config.hash {
-            HashKind::Fnv64 => self.engine.scan(rt, self.alloc, &mut self.host, FnvHash),
+            HashKind::Fnv64 => self
+                .script_host
+                .scan(rt, self.alloc, &mut self.host, FnvHash),
             HashKind::Constant => self
-                .engine
+                .script_host
                 .scan(rt, self.alloc, &mut self.host, ConstantHash),
         }
     }
@@ -247,10 +254,10 @@ impl<
     /// `report`.
     fn report(&mut self) -> Result<(), ScriptFault>
         ensures obeys { OnOk result ((files : Files) (number : ℕ) → Obeys files number
-            asked_of.report (engine_on self.old.host.host self.old.engine)
-            (string_bytes self.old.text) (engine_on self.new.host.host self.new.engine)
+            asked_of.report (script_host_on self.old.host.host self.old.script_host)
+            (string_bytes self.old.text) (script_host_on self.new.host.host self.new.script_host)
             (string_bytes self.new.text)) }
-        ensures shows { OnOk result (AddsReport (engine_on self.old.host.host self.old.engine)
+        ensures shows { OnOk result (AddsReport (script_host_on self.old.host.host self.old.script_host)
             (string_bytes self.old.text) (string_bytes self.new.text)) }
         ensures config { self.new.config ≡ self.old.config }
         ensures device { self.new.host.device ≡ self.old.host.device }
@@ -268,18 +275,21 @@ impl<
     /// `release INST`.
     fn release(&mut self, inst: &str, number: u64) -> Result<(), ScriptFault>
         ensures obeys { OnOk result ((files : Files) → Obeys files number
-            (asked_of.release inst.now) (engine_on self.old.host.host self.old.engine)
-            (string_bytes self.old.text) (engine_on self.new.host.host self.new.engine)
+            (asked_of.release inst.now) (script_host_on self.old.host.host self.old.script_host)
+            (string_bytes self.old.text) (script_host_on self.new.host.host self.new.script_host)
             (string_bytes self.new.text)) }
         ensures config { self.new.config ≡ self.old.config }
         ensures device { self.new.host.device ≡ self.old.host.device }
         ensures err { IfErr result (λ e. e ≡ ScriptFault.Memory) }
     {
-        let Some(guest) = self.guest_named(inst) else {
+        let Some(instance) = self.instance_named(inst) else {
             return self.complain(LineError::NoName, number);
         };
-        match self.engine.release(&mut self.host, self.alloc, guest) {
-            Ok(output) => self.say_released(inst, &output),
+        match self
+            .script_host
+            .release(&mut self.host, self.alloc, instance)
+        {
+            Ok(output) => self.print_released(inst, &output),
             Err(error) => self.reply(Reply::ReleaseRefused {
                 inst,
                 fault: error.number(),
@@ -287,12 +297,12 @@ impl<
         }
     }
 
-    /// Puts the reply to a release behind the text.
-    fn say_released(&mut self, inst: &str, output: &[u8]) -> Result<(), ScriptFault>
-        ensures said { OnOk result (string_bytes self.new.text
+    /// Appends the reply to a release.
+    fn print_released(&mut self, inst: &str, output: &[u8]) -> Result<(), ScriptFault>
+        ensures printed { OnOk result (string_bytes self.new.text
             ≡ string_bytes self.old.text ++ reply_text (release_ok inst.now output.now)) }
-        ensures engine { engine_on self.new.host.host self.new.engine ≡ engine_on self.old.host.host
-            self.old.engine }
+        ensures script_host { script_host_on self.new.host.host self.new.script_host ≡ script_host_on self.old.host.host
+            self.old.script_host }
         ensures config { self.new.config ≡ self.old.config }
         ensures device { self.new.host.device ≡ self.old.host.device }
         ensures err { IfErr result (λ e. e ≡ ScriptFault.Memory) }

@@ -3,9 +3,9 @@
 ghost use Rattle.std.specs.Prelude.{◌≡◌, ◌<◌, IfSome};
 ghost use Rattle.wh_settings.specs.View.{settings_of};
 ghost use Rattle.wh_engine.specs.Draining.{DeviceMayFail, DeviceServesWell, DeviceStaysTrue, HasAdded, HasServed, StaysTrue};
-ghost use Rattle.wh_engine.specs.Standing.{StandsForScript, engine_on};
-ghost use Rattle.wh_host_model.specs.Lines.Made.{nothing_made};
-ghost use Rattle.wh_host_model.specs.Lines.Settings as lines;
+ghost use Rattle.wh_engine.specs.RepresentedScript.{RepresentsScript, script_host_on};
+ghost use Rattle.wh_script_model.specs.ScriptState.{empty_script};
+ghost use Rattle.wh_script_model.specs.Settings as lines;
 ghost use Rattle.wh_script.specs.Runs.{Runs};
 ghost use Rattle.wh_script.specs.Starting.{IsEmptyDevice};
 
@@ -19,21 +19,21 @@ use std::marker::Brand;
 use std::sync::Wait;
 use std::sync::ledger::Ledger;
 use std::thread::Threads;
-use wh_cell::{Fittings, Ties};
+use wh_cell::{CellAgreements, CellParts};
 use wh_engine::ScriptFault;
 use wh_settings::{Settings, Workers};
 use wh_swap::SwapDev;
 
-/// Reads a script to its end, obeys it on a host of its own, whose calls so many threads run, and writes the replies. Pages
-/// are swapped to the device, which has as many slots as the settings say, and nothing in them. The device comes back, but
-/// where room for the host was refused.
+/// Reads a script to its end, obeys it on a host of its own, whose calls `workers` threads run, and writes the replies. Pages
+/// are swapped to `device`, which has as many slots as the settings say, and nothing in them. Returns the device, but where
+/// room for the host was refused.
 ///
 /// # Errors
 /// `Script` where the reader fails, after the replies to the lines that it gave; `Output` where the writer fails, after a
 /// beginning of the replies; `Memory` where there is none for the host, for threads, for a reply or for a report, or where
 /// lines can't be counted, `Threads` where a thread can't be started, and `Transcript` where calls don't run to their ends,
 /// after the replies to the first lines; these two only where a call is open, and `Threads` also where the next line asks for a
-/// scan. Want of memory for a command is answered in its
+/// scan. Out of memory for a command is answered in its
 /// reply.
 pub fn run_script<
     R: Read,
@@ -62,21 +62,21 @@ pub fn run_script<
     ensures device { IfSome result.1 (λ after. StaysTrue (D.keeps device) (D.honest device)
         (D.keeps after) (D.honest after)) }
 {
-    let Ok(fittings) = Fittings::new(alloc, device) else {
+    let Ok(cell_parts) = CellParts::new(alloc, device) else {
         return (Err(ScriptFault::Memory), None);
     };
-    run_fitted::<Brand, Brand, Brand, Brand, Brand, R, W, S, D, X>(
-        rt, alloc, settings, workers, source, fittings, reader, writer,
+    run_on_cell_parts::<Brand, Brand, Brand, Brand, Brand, R, W, S, D, X>(
+        rt, alloc, settings, workers, source, cell_parts, reader, writer,
     )
 }
 
-/// Runs a script on a host with these fittings, whose ledgers and pacts its parameters name.
-fn run_fitted<
+/// Runs a script on a host with these parts, whose ledgers and agreements its parameters name.
+fn run_on_cell_parts<
     T: Ledger + Send + 'static,
     C: Ledger + Send + 'static,
     O: Ledger + Send + 'static,
     E: Ledger + Send + 'static,
-    B: Ties + Send + 'static,
+    B: CellAgreements + Send + 'static,
     R: Read,
     W: Write,
     S: Source,
@@ -88,32 +88,32 @@ fn run_fitted<
     settings: &Settings,
     workers: Workers,
     source: &S,
-    fittings: Fittings<D>,
+    cell_parts: CellParts<D>,
     reader: &mut R,
     writer: &mut W,
 ) -> (Result<(), ScriptFault>, Option<D>)
-    requires empty { IsEmptyDevice settings.now.slots (D.held fittings.device) }
-    requires owned { fittings.to_owner ≡ B.to_owner }
-    requires backed { fittings.to_device ≡ B.to_device }
-    requires turns { (fittings.turns.name ≡ T.name) × (fittings.turns.parts ≡ T.parts)
+    requires empty { IsEmptyDevice settings.now.slots (D.held cell_parts.device) }
+    requires owned { cell_parts.to_owner ≡ B.to_owner }
+    requires backed { cell_parts.to_device ≡ B.to_device }
+    requires turns { (cell_parts.turns.name ≡ T.name) × (cell_parts.turns.parts ≡ T.parts)
         × (64 < T.parts) }
-    requires charges { (fittings.charges.name ≡ C.name) × (fittings.charges.parts ≡ C.parts)
+    requires charges { (cell_parts.charges.name ≡ C.name) × (cell_parts.charges.parts ≡ C.parts)
         × (64 < C.parts) }
-    requires offers { (fittings.offers.name ≡ O.name) × (fittings.offers.parts ≡ O.parts)
+    requires offers { (cell_parts.offers.name ≡ O.name) × (cell_parts.offers.parts ≡ O.parts)
         × (1 < O.parts) }
-    requires evictions { (fittings.evictions.name ≡ E.name)
-        × (fittings.evictions.parts ≡ E.parts) × (1 < E.parts) }
-    ensures runs { let device = fittings.device in IfSome result.1 (λ after. HasServed
+    requires evictions { (cell_parts.evictions.name ≡ E.name)
+        × (cell_parts.evictions.parts ≡ E.parts) × (1 < E.parts) }
+    ensures runs { let device = cell_parts.device in IfSome result.1 (λ after. HasServed
         (D.honest after) (D.faults device) (D.faults after)) → Runs (settings_of settings.now)
         (S.files source.now) (R.remaining reader.old) (R.remaining reader.new)
         (W.contents writer.old) (W.contents writer.new) result.0 }
-    ensures faults { let device = fittings.device in
+    ensures faults { let device = cell_parts.device in
         IfSome result.1 (λ after. HasAdded (D.faults device) (D.faults after)) }
-    ensures device { let device = fittings.device in
+    ensures device { let device = cell_parts.device in
         IfSome result.1 (λ after. StaysTrue (D.keeps device) (D.honest device)
         (D.keeps after) (D.honest after)) }
 {
-    match Session::<D, T, C, O, E, B>::new(alloc, settings, workers, fittings) {
+    match Session::<D, T, C, O, E, B>::new(alloc, settings, workers, cell_parts) {
         Ok(mut session) => {
             let outcome = session.run_lines(rt, source, reader, writer);
             (outcome, Some(session.into_device()))
@@ -128,7 +128,7 @@ impl<
     C: Ledger + Send + 'static,
     O: Ledger + Send + 'static,
     E: Ledger + Send + 'static,
-    B: Ties + Send + 'static,
+    B: CellAgreements + Send + 'static,
 > Session<D, T, C, O, E, B> {
     /// Obeys the lines of a script that has made nothing yet, from the first to the last, and writes the replies.
     ///
@@ -141,8 +141,8 @@ impl<
         reader: &mut R,
         writer: &mut W,
     ) -> Result<(), ScriptFault>
-        ensures runs { (settings : lines.Settings) → StandsForScript settings
-            (engine_on self.old.host.host self.old.engine) nothing_made → DeviceServesWell D.honest
+        ensures runs { (settings : lines.Settings) → RepresentsScript settings
+            (script_host_on self.old.host.host self.old.script_host) empty_script → DeviceServesWell D.honest
             D.faults self.old.host.device self.new.host.device → Runs settings (S.files source.now)
             (R.remaining reader.old) (R.remaining reader.new) (W.contents writer.old)
             (W.contents writer.new) result }

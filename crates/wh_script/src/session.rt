@@ -2,14 +2,14 @@
 
 ghost use Rattle.std.specs.Prelude.{◌≡◌, ◌<◌, ◌≤◌, ◌++◌, ◌∷◌, [], IfOk, IfErr, IfSome, OnOk, MatchOption, Some, string_bytes};
 ghost use Rattle.wh_commands.specs.Causes.{cause_number};
-ghost use Rattle.wh_host_model.specs.Lines.Made.{Made, NoGuest, NoModule, nothing_made};
-ghost use Rattle.wh_host_model.specs.Lines.Settings as lines;
-ghost use Rattle.wh_host_model.specs.Lines.Texts.{error, reply_text};
+ghost use Rattle.wh_script_model.specs.ScriptState.{ScriptState, LacksInstance, NoModule, empty_script};
+ghost use Rattle.wh_script_model.specs.Settings as lines;
+ghost use Rattle.wh_script_model.specs.Texts.{error, reply_text};
 ghost use Rattle.wh_replies.specs.View.{reply_of};
 ghost use Rattle.wh_settings.specs.View.{settings_of};
 ghost use Rattle.wh_engine.specs.Draining.{DeviceMayFail, DeviceServesWell, DeviceStaysTrue, RunsEach, RunsTurns, StopsOnlyOpen, StopsRun};
 ghost use Rattle.wh_engine.specs.Obeying.{IsModuleNamed, IsNamed};
-ghost use Rattle.wh_engine.specs.Standing.{StandsForScript, engine_on};
+ghost use Rattle.wh_engine.specs.RepresentedScript.{RepresentsScript, script_host_on};
 ghost use Rattle.wh_script.specs.Answering.{HasDrained, Complains};
 ghost use Rattle.wh_script.specs.Starting.{IsEmptyDevice};
 
@@ -17,13 +17,13 @@ use std::alloc::Global;
 use std::sync::Wait;
 use std::sync::ledger::Ledger;
 use std::thread::Threads;
-use wh_cell::{Fittings, Ties};
+use wh_cell::{CellAgreements, CellParts};
 use wh_commands::LineError;
-use wh_engine::{Engine, ScriptFault};
+use wh_engine::{ScriptFault, ScriptHost};
 use wh_host::Host;
 use wh_kernels::{ConstantHash, FnvHash};
 use wh_replies::{Reply, write_reply};
-use wh_scheduler::{Manner, OwnedHost};
+use wh_scheduler::{OwnedHost, RunConfig};
 use wh_settings::{HashKind, Settings, Workers};
 use wh_swap::SwapDev;
 
@@ -41,21 +41,21 @@ pub struct SessionConfig {
 }
 
 /// What a script has made so far, the host on which it runs, and the text of the replies to the present line.
-pub struct Session<D: SwapDev, T: Ledger, C: Ledger, O: Ledger, E: Ledger, B: Ties> {
+pub struct Session<D: SwapDev, T: Ledger, C: Ledger, O: Ledger, E: Ledger, B: CellAgreements> {
     pub alloc: Global,
-    pub engine: Engine,
+    pub script_host: ScriptHost,
     pub host: OwnedHost<D, T, C, O, E, B>,
     pub text: String,
     pub config: SessionConfig,
 }
 
 // Written out, so that letting one go is one call, and not one for each part of its parts.
-impl<D: SwapDev + Drop, T: Ledger, C: Ledger, O: Ledger, E: Ledger, B: Ties> Drop
+impl<D: SwapDev + Drop, T: Ledger, C: Ledger, O: Ledger, E: Ledger, B: CellAgreements> Drop
     for Session<D, T, C, O, E, B> {
     fn drop(self) {
         let Session {
             alloc: _,
-            engine: _,
+            script_host: _,
             host: _,
             text: _,
             config: _,
@@ -63,7 +63,7 @@ impl<D: SwapDev + Drop, T: Ledger, C: Ledger, O: Ledger, E: Ledger, B: Ties> Dro
     }
 }
 
-impl<D: SwapDev + Drop, T: Ledger, C: Ledger, O: Ledger, E: Ledger, B: Ties> Session<
+impl<D: SwapDev + Drop, T: Ledger, C: Ledger, O: Ledger, E: Ledger, B: CellAgreements> Session<
     D,
     T,
     C,
@@ -71,7 +71,7 @@ impl<D: SwapDev + Drop, T: Ledger, C: Ledger, O: Ledger, E: Ledger, B: Ties> Ses
     E,
     B,
 > {
-    /// A script that has made nothing, on a new host.
+    /// Returns an empty script on a new host.
     ///
     /// # Errors
     /// `Memory` where room is refused. The device is gone then.
@@ -79,22 +79,22 @@ impl<D: SwapDev + Drop, T: Ledger, C: Ledger, O: Ledger, E: Ledger, B: Ties> Ses
         alloc: Global,
         settings: &Settings,
         workers: Workers,
-        fittings: Fittings<D>,
+        cell_parts: CellParts<D>,
     ) -> Result<Session<D, T, C, O, E, B>, ScriptFault>
-        requires empty { IsEmptyDevice settings.now.slots (D.held fittings.device) }
-        requires owned { fittings.to_owner ≡ B.to_owner }
-        requires backed { fittings.to_device ≡ B.to_device }
-        requires turns { (fittings.turns.name ≡ T.name) × (fittings.turns.parts ≡ T.parts)
+        requires empty { IsEmptyDevice settings.now.slots (D.held cell_parts.device) }
+        requires owned { cell_parts.to_owner ≡ B.to_owner }
+        requires backed { cell_parts.to_device ≡ B.to_device }
+        requires turns { (cell_parts.turns.name ≡ T.name) × (cell_parts.turns.parts ≡ T.parts)
             × (64 < T.parts) }
-        requires charges { (fittings.charges.name ≡ C.name) × (fittings.charges.parts ≡ C.parts)
+        requires charges { (cell_parts.charges.name ≡ C.name) × (cell_parts.charges.parts ≡ C.parts)
             × (64 < C.parts) }
-        requires offers { (fittings.offers.name ≡ O.name) × (fittings.offers.parts ≡ O.parts)
+        requires offers { (cell_parts.offers.name ≡ O.name) × (cell_parts.offers.parts ≡ O.parts)
             × (1 < O.parts) }
-        requires evictions { (fittings.evictions.name ≡ E.name)
-            × (fittings.evictions.parts ≡ E.parts) × (1 < E.parts) }
-        ensures stands { IfOk result (λ session. StandsForScript (settings_of settings.now)
-            (engine_on session.host.host session.engine) nothing_made) }
-        ensures device { IfOk result (λ session. session.host.device ≡ Some fittings.device) }
+        requires evictions { (cell_parts.evictions.name ≡ E.name)
+            × (cell_parts.evictions.parts ≡ E.parts) × (1 < E.parts) }
+        ensures stands { IfOk result (λ session. RepresentsScript (settings_of settings.now)
+            (script_host_on session.host.host session.script_host) empty_script) }
+        ensures device { IfOk result (λ session. session.host.device ≡ Some cell_parts.device) }
         ensures config { IfOk result (λ session. (session.config.quantum ≡ settings.now.quantum)
             × (session.config.hash ≡ settings.now.hash) × (session.config.workers ≡ workers)) }
         ensures err { IfErr result (λ e. e ≡ ScriptFault.Memory) }
@@ -102,7 +102,7 @@ impl<D: SwapDev + Drop, T: Ledger, C: Ledger, O: Ledger, E: Ledger, B: Ties> Ses
         let Ok(host) = Host::new(alloc, settings.frames, settings.slots, settings.tax) else {
             return Err(ScriptFault::Memory);
         };
-        let Ok(host) = OwnedHost::new(alloc, host, fittings) else {
+        let Ok(host) = OwnedHost::new(alloc, host, cell_parts) else {
             return Err(ScriptFault::Memory);
         };
         let Ok(text) = String::with_capacity(alloc, LONGEST_REPLY) else {
@@ -110,7 +110,7 @@ impl<D: SwapDev + Drop, T: Ledger, C: Ledger, O: Ledger, E: Ledger, B: Ties> Ses
         };
         Ok(Session {
             alloc,
-            engine: Engine::new(alloc),
+            script_host: ScriptHost::new(alloc),
             host,
             text,
             config: SessionConfig {
@@ -121,13 +121,13 @@ impl<D: SwapDev + Drop, T: Ledger, C: Ledger, O: Ledger, E: Ledger, B: Ties> Ses
         })
     }
 
-    /// The device, when the script is done with.
+    /// Returns the device, when the script is done.
     pub fn into_device(self) -> D
         ensures { self.host.device ≡ Some result }
     {
         let Session {
             alloc: _,
-            engine: _,
+            script_host: _,
             host,
             text: _,
             config: _,
@@ -136,58 +136,65 @@ impl<D: SwapDev + Drop, T: Ledger, C: Ledger, O: Ledger, E: Ledger, B: Ties> Ses
     }
 }
 
-impl<D: SwapDev, T: Ledger, C: Ledger, O: Ledger, E: Ledger, B: Ties> Session<D, T, C, O, E, B> {
-    /// The number of the module of this name, if there is one.
+impl<D: SwapDev, T: Ledger, C: Ledger, O: Ledger, E: Ledger, B: CellAgreements> Session<
+    D,
+    T,
+    C,
+    O,
+    E,
+    B,
+> {
+    /// Returns the number of the module `name`, if any.
     pub fn module_named(&self, name: &str) -> Option<usize>
-        ensures there { IfSome result (λ k. k < self.now.engine.modules) }
-        ensures named { (settings : lines.Settings) (m : Made) → StandsForScript settings
-            (engine_on self.now.host.host self.now.engine) m → MatchOption result
+        ensures there { IfSome result (λ k. k < self.now.script_host.modules) }
+        ensures named { (settings : lines.Settings) (m : ScriptState) → RepresentsScript settings
+            (script_host_on self.now.host.host self.now.script_host) m → MatchOption result
             (NoModule m name.now) (λ k. IsModuleNamed m k name.now) }
     {
-        let number = self.engine.module_number(name)?;
-        if number < self.engine.modules() {
+        let number = self.script_host.module_number(name)?;
+        if number < self.script_host.modules() {
             return Some(number);
         }
         None
     }
 
-    /// The number of the instance of this name, if there is one, released or not.
-    pub fn guest_named(&self, name: &str) -> Option<usize>
-        ensures there { IfSome result (λ k. k < self.now.engine.admitted) }
-        ensures named { (settings : lines.Settings) (m : Made) → StandsForScript settings
-            (engine_on self.now.host.host self.now.engine) m → MatchOption result
-            (NoGuest m name.now) (λ k. IsNamed m k name.now) }
+    /// Returns the number of the instance `name`, if any, released or not.
+    pub fn instance_named(&self, name: &str) -> Option<usize>
+        ensures there { IfSome result (λ k. k < self.now.script_host.admitted) }
+        ensures named { (settings : lines.Settings) (m : ScriptState) → RepresentsScript settings
+            (script_host_on self.now.host.host self.now.script_host) m → MatchOption result
+            (LacksInstance m name.now) (λ k. IsNamed m k name.now) }
     {
-        let number = self.engine.guest_number(name)?;
-        if number < self.engine.guests() {
+        let number = self.script_host.instance_number(name)?;
+        if number < self.script_host.instances() {
             return Some(number);
         }
         None
     }
 
     // How calls are run: in turns of the session's quantum, by its workers, with this hash.
-    fn manner<H>(&self, hasher: H) -> Manner<H>
+    fn run_config<H>(&self, hasher: H) -> RunConfig<H>
         ensures quantum { result.quantum ≡ self.now.config.quantum }
         ensures workers { result.workers ≡ self.now.config.workers.number }
         ensures hasher { result.hasher ≡ hasher }
         ensures few { result.workers ≤ 64 }
     {
-        Manner {
+        RunConfig {
             hasher,
             quantum: self.config.quantum,
             workers: self.config.workers.count(),
         }
     }
 
-    /// Puts a reply behind the text.
+    /// Appends a reply.
     ///
     /// # Errors
     /// `Memory` where room for it is refused.
     pub fn reply(&mut self, reply: Reply<'_>) -> Result<(), ScriptFault>
-        ensures said { OnOk result (string_bytes self.new.text
+        ensures printed { OnOk result (string_bytes self.new.text
             ≡ string_bytes self.old.text ++ reply_text (reply_of reply.entry)) }
-        ensures engine { engine_on self.new.host.host self.new.engine ≡ engine_on self.old.host.host
-            self.old.engine }
+        ensures script_host { script_host_on self.new.host.host self.new.script_host ≡ script_host_on self.old.host.host
+            self.old.script_host }
         ensures config { self.new.config ≡ self.old.config }
         ensures device { self.new.host.device ≡ self.old.host.device }
         ensures err { IfErr result (λ e. e ≡ ScriptFault.Memory) }
@@ -195,15 +202,15 @@ impl<D: SwapDev, T: Ledger, C: Ledger, O: Ledger, E: Ledger, B: Ties> Session<D,
         write_reply(&mut self.text, reply).map_err(|_| ScriptFault::Memory)
     }
 
-    /// Says behind the text why the line of this number can't be obeyed.
+    /// Appends why the line `number` can't be obeyed.
     ///
     /// # Errors
     /// `Memory` where room for it is refused.
     pub fn complain(&mut self, cause: LineError, number: u64) -> Result<(), ScriptFault>
-        ensures said { OnOk result (string_bytes self.new.text
+        ensures printed { OnOk result (string_bytes self.new.text
             ≡ string_bytes self.old.text ++ reply_text (error (cause_number cause) number)) }
-        ensures engine { engine_on self.new.host.host self.new.engine ≡ engine_on self.old.host.host
-            self.old.engine }
+        ensures script_host { script_host_on self.new.host.host self.new.script_host ≡ script_host_on self.old.host.host
+            self.old.script_host }
         ensures config { self.new.config ≡ self.old.config }
         ensures device { self.new.host.device ≡ self.old.host.device }
         ensures err { IfErr result (λ e. e ≡ ScriptFault.Memory) }
@@ -221,10 +228,10 @@ impl<
     C: Ledger + Send + 'static,
     O: Ledger + Send + 'static,
     E: Ledger + Send + 'static,
-    B: Ties + Send + 'static,
+    B: CellAgreements + Send + 'static,
 > Session<D, T, C, O, E, B> {
-    /// Runs all calls by threads until none can go on, in turns of the quantum, and puts the lines of that behind the text. An
-    /// epoch begins where some call can go on.
+    /// Runs all calls by threads until none can go on, in turns of the quantum, and appends the lines of that. Begins an epoch
+    /// where some call can go on.
     ///
     /// # Errors
     /// `Memory` where room is refused, `Threads` where a thread can't be started, and `Transcript` where calls can still go
@@ -238,17 +245,17 @@ impl<
             self.new.host.device }
         ensures faults { DeviceMayFail D.faults self.old.host.device self.new.host.device }
         ensures drains { OnOk result (DeviceServesWell D.honest D.faults self.old.host.device
-            self.new.host.device → HasDrained (engine_on self.old.host.host self.old.engine)
-            (string_bytes self.old.text) (engine_on self.new.host.host self.new.engine)
+            self.new.host.device → HasDrained (script_host_on self.old.host.host self.old.script_host)
+            (string_bytes self.old.text) (script_host_on self.new.host.host self.new.script_host)
             (string_bytes self.new.text)) }
         ensures turns { OnOk result (RunsTurns self.old.config.quantum self.old.host.books.turns
             self.new.host.books.turns) }
         ensures err { IfErr result StopsRun }
         ensures open { IfErr result
-            (StopsOnlyOpen (engine_on self.old.host.host self.old.engine)) }
+            (StopsOnlyOpen (script_host_on self.old.host.host self.old.script_host)) }
     {
         self.run(rt)?;
-        let Ok(()) = self.engine.say(self.host.host(), &mut self.text) else {
+        let Ok(()) = self.script_host.print(self.host.host(), &mut self.text) else {
             return Err(ScriptFault::Memory);
         };
         Ok(())
@@ -261,28 +268,30 @@ impl<
             self.new.host.device }
         ensures faults { DeviceMayFail D.faults self.old.host.device self.new.host.device }
         ensures runs { OnOk result (DeviceServesWell D.honest D.faults self.old.host.device
-            self.new.host.device → RunsEach (engine_on self.old.host.host self.old.engine)
-            (engine_on self.new.host.host self.new.engine)) }
+            self.new.host.device → RunsEach (script_host_on self.old.host.host self.old.script_host)
+            (script_host_on self.new.host.host self.new.script_host)) }
         ensures turns { OnOk result (RunsTurns self.old.config.quantum self.old.host.books.turns
             self.new.host.books.turns) }
         ensures text { self.new.text ≡ self.old.text }
         ensures err { IfErr result StopsRun }
         ensures open { IfErr result
-            (StopsOnlyOpen (engine_on self.old.host.host self.old.engine)) }
+            (StopsOnlyOpen (script_host_on self.old.host.host self.old.script_host)) }
     {
         match self.config.hash {
             HashKind::Fnv64 => {
-                let manner = self.manner(FnvHash);
-                self.engine.run(rt, self.alloc, &mut self.host, manner)
+                let run_config = self.run_config(FnvHash);
+                self.script_host
+                    .run(rt, self.alloc, &mut self.host, run_config)
             }
             HashKind::Constant => {
-                let manner = self.manner(ConstantHash);
-                self.engine.run(rt, self.alloc, &mut self.host, manner)
+                let run_config = self.run_config(ConstantHash);
+                self.script_host
+                    .run(rt, self.alloc, &mut self.host, run_config)
             }
         }
     }
 
-    /// Drains, and then says why the line of this number can't be obeyed.
+    /// Drains, and then appends why the line `number` can't be obeyed.
     ///
     /// # Errors
     /// Those of `drain`.
@@ -298,11 +307,11 @@ impl<
         ensures faults { DeviceMayFail D.faults self.old.host.device self.new.host.device }
         ensures complains { OnOk result (DeviceServesWell D.honest D.faults self.old.host.device
             self.new.host.device → Complains (error (cause_number cause) number)
-            (engine_on self.old.host.host self.old.engine) (string_bytes self.old.text)
-            (engine_on self.new.host.host self.new.engine) (string_bytes self.new.text)) }
+            (script_host_on self.old.host.host self.old.script_host) (string_bytes self.old.text)
+            (script_host_on self.new.host.host self.new.script_host) (string_bytes self.new.text)) }
         ensures err { IfErr result StopsRun }
         ensures open { IfErr result
-            (StopsOnlyOpen (engine_on self.old.host.host self.old.engine)) }
+            (StopsOnlyOpen (script_host_on self.old.host.host self.old.script_host)) }
     {
         self.drain(rt)?;
         self.complain(cause, number)

@@ -6,7 +6,7 @@ ghost use Rattle.wh_script.specs.Runs.{Sent};
 use std::io::{ErrorKind, Write};
 use wh_engine::ScriptFault;
 
-/// Writes the bytes, all of them and at once. Where there are none the writer isn't touched.
+/// Writes all `bytes` at once. Where there are none the writer isn't touched.
 ///
 /// # Errors
 /// `Output` where the writer fails; a beginning of the bytes may be written.

@@ -1,44 +1,22 @@
-//! What a script knows of the host that runs its calls, and how it stays true: each request with its answer makes of both what
-//! the definition of a script's answers says.
+//! The language of scripts: what a line asks for, the texts of replies, and which replies answer a script.
+//!
+//! The definitions are in `specs/`.
 #![tactic(auto)]
 
-ghost use Rattle.wh_script_model.specs.Determined.{AnswersAreDetermined, LinesAreDetermined, ScarceAnswersAreDetermined};
-ghost use Rattle.wh_script_model.specs.Laws.{AsksWell, BeginsWell, CallsFollow, CancelsFollow, DrainsBegin, DrainsEnd, EndedStays, GuestsFollow, ModulesFollow, MovesFollow, ObeysWell, OpenIsKnown, RefuelsFollow, ReleasesFollow, RetriesFollow, RunsWell, SayingFollows, SaysWell, TurnsFollow, WantsAreNamed};
+ghost use Rattle.wh_script_model.specs.AnswerLaws.{RunsOnce, DrainsOnce, LinesBegin};
+ghost use Rattle.wh_script_model.specs.Served.{ServedAsAlone};
+ghost use Rattle.wh_script_model.specs.WorkedScripts.{SevenIsAnswered, SevenIsPrinted, LoopIsAnswered, RefuelIsRefused};
 
-/// A script and the host that runs its calls, after every list of events. The function does nothing; what it ensures are the
-/// laws: a request and its answer lead from one that follows the script to one that follows it then; turns bring calls further;
-/// and where no call can go on, each has come as far as it does alone. What lines make is well made: all its calls are there,
-/// and of those of released instances it was said how they were; and what was last said to have ended stays so. Where no reply names want of memory, the answers are those
-/// that a script gets where there is enough.
-pub fn scripts_follow()
-    ensures modules { ModulesFollow }
-    ensures guests { GuestsFollow }
-    ensures calls { CallsFollow }
-    ensures refuels { RefuelsFollow }
-    ensures cancels { CancelsFollow }
-    ensures retries { RetriesFollow }
-    ensures releases { ReleasesFollow }
-    ensures begin { DrainsBegin }
-    ensures turns { TurnsFollow }
-    ensures moves { MovesFollow }
-    ensures end { DrainsEnd }
-    ensures open { OpenIsKnown }
-    ensures saying { SayingFollows }
-    ensures begins_well { BeginsWell }
-    ensures runs_well { RunsWell }
-    ensures says_well { SaysWell }
-    ensures asks_well { AsksWell }
-    ensures obeys_well { ObeysWell }
-    ensures ended { EndedStays }
-    ensures wants { WantsAreNamed }
-{}
-
-/// The answers to a script are determined, where it is known what the files hold that it loads, and memory isn't scarce or no
-/// reply names want of it. The function does nothing; what it ensures are the laws: two lists of replies to the same lines are the
-/// same, reply by reply, but that where both refuse a module for a fault of the validator each may name another one; and what the
-/// lines have made is the same in any case.
-pub fn answers_are_determined()
-    ensures lines { LinesAreDetermined }
-    ensures script { AnswersAreDetermined }
-    ensures scarce { ScarceAnswersAreDetermined }
+/// What holds of the definition of the answers to a script: what a drain prints is determined, an instance of a host that has
+/// been served has come as far as alone, and what the commands of three scripts get. The function does nothing; what it ensures
+/// are the laws and the examples.
+pub fn answers_hold()
+    ensures runs_once { RunsOnce }
+    ensures drains_once { DrainsOnce }
+    ensures lines_begin { LinesBegin }
+    ensures served_as_alone { ServedAsAlone }
+    ensures seven_is_answered { SevenIsAnswered }
+    ensures seven_is_printed { SevenIsPrinted }
+    ensures loop_is_answered { LoopIsAnswered }
+    ensures refuel_is_refused { RefuelIsRefused }
 {}

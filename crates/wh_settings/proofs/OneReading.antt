@@ -3,7 +3,7 @@ use Rattle.std.proofs.Common.{◌≡◌, ℕ, ◌⊎◌, inl, inr, List, Option,
 use Rattle.std.proofs.lemmas.Option.{none-some, same_Some}
 use Rattle.toml.specs.Data.{Data, string, integer, Members, get_member}
 use Rattle.toml.specs.Parse.{parse_document}
-use Rattle.wh_host_model.specs.Lines.Settings.{PageHashing, by_fnv64, by_constant, Settings}
+use Rattle.wh_script_model.specs.Settings.{PageHashing, by_fnv64, by_constant, Settings}
 use Rattle.wh_settings.specs.declared.error.SettingsError.{SettingsError}
 use Rattle.wh_settings.specs.declared.error.SettingsError.TheVariants.{Invalid}
 use Rattle.wh_settings.specs.declared.settings.Settings as code

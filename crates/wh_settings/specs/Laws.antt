@@ -1,6 +1,6 @@
 -- What holds of the definitions alone.
 use Rattle.std.specs.Prelude.{◌≡◌, ℕ, List}
-use Rattle.wh_host_model.specs.Lines.Settings.{Settings}
+use Rattle.wh_script_model.specs.Settings.{Settings}
 use Rattle.wh_settings.specs.Spelled.{SpellsSettings}
 
 -- bytes spell settings in one way at most

@@ -2,7 +2,7 @@
 use Rattle.std.specs.Prelude.{◌≡◌, ℕ, ◌<◌, ◌≤◌, ◌⊎◌, List, Option, Some, None, codes, pos, IsUtf8}
 use Rattle.toml.specs.Data.{string, integer, Members, no_members, member, get_member}
 use Rattle.toml.specs.Parse.{parse_document}
-use Rattle.wh_host_model.specs.Lines.Settings.{PageHashing, by_fnv64, by_constant, Settings, default_settings}
+use Rattle.wh_script_model.specs.Settings.{PageHashing, by_fnv64, by_constant, Settings, default_settings}
 
 -- the keys that there are
 abbrev pub IsKnownKey : List ℕ → Type 0

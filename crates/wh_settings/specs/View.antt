@@ -1,7 +1,7 @@
 -- Settings as the definitions see them.
 use Rattle.std.specs.Prelude.{option_map, string_bytes}
-use Rattle.wh_host_model.specs.Lines.Settings as host
-use Rattle.wh_host_model.specs.Lines.Settings.{PageHashing, by_fnv64, by_constant}
+use Rattle.wh_script_model.specs.Settings as host
+use Rattle.wh_script_model.specs.Settings.{PageHashing, by_fnv64, by_constant}
 use Rattle.wh_settings.specs.declared.settings.HashKind.{HashKind}
 use Rattle.wh_settings.specs.declared.settings.HashKind.TheVariants.{Fnv64, Constant}
 use Rattle.wh_settings.specs.declared.settings.Settings.{Settings}

@@ -2,7 +2,7 @@
 
 ghost use Rattle.std.specs.Prelude.{◌≡◌, ℕ, List, Option, IfOk, IfErr, option_map, string_bytes};
 ghost use Rattle.toml.specs.View.{table_view};
-ghost use Rattle.wh_host_model.specs.Lines.Settings as host;
+ghost use Rattle.wh_script_model.specs.Settings as host;
 ghost use Rattle.wh_settings.specs.Spelled.{HasSettings, SpellsSettings, SetsPath};
 ghost use Rattle.wh_settings.specs.View.{settings_of};
 

@@ -38,7 +38,7 @@ pub struct Settings {
 
 impl Settings {
     ghost use Rattle.std.specs.Prelude.{◌≡◌};
-    ghost use Rattle.wh_host_model.specs.Lines.Settings.{default_settings};
+    ghost use Rattle.wh_script_model.specs.Settings.{default_settings};
     ghost use Rattle.wh_settings.specs.View.{settings_of};
 
     /// The settings where nothing is said: 1024 frames, 4096 slots, a tax of 3/4, turns of 1000 charges, FNV-1a, and no

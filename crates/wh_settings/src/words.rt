@@ -4,7 +4,7 @@ ghost use Rattle.std.specs.Prelude.{◌≡◌, option_map, IfSome, IfNone};
 ghost use Rattle.std.specs.Bool.{MatchBool};
 ghost use Rattle.toml.specs.Data.{get_member};
 ghost use Rattle.toml.specs.View.{view, table_view};
-ghost use Rattle.wh_host_model.specs.Lines.Settings.{PageHashing, by_fnv64};
+ghost use Rattle.wh_script_model.specs.Settings.{PageHashing, by_fnv64};
 ghost use Rattle.wh_settings.specs.Spelled.{IsKnownKey, HasKnownKeys, SetsHash};
 ghost use Rattle.wh_settings.specs.View.{hashing_of};
 

@@ -12,7 +12,7 @@ use Rattle.wh_host_model.specs.Space.Parts.{Occupant, Space, occupant_at, sharer
 use Rattle.wh_host_model.specs.Space.States.{at, page_at, shares}
 use Rattle.wh_host_model.proofs.Space.Charging.{in_row, number_is, occupied, on_once}
 use Rattle.wh_tables.specs.declared.page_id.PageId.{PageId}
-use Rattle.wh_tables.specs.Linking.{IsEarlierStop, IsStop}
+use Rattle.wh_tables.specs.PageLinks.{IsEarlierStop, IsStop}
 use Rattle.wh_tables.specs.Order.{ComesBefore, StandsOn}
 use Rattle.wh_tables.specs.Index.{number_in}
 use Rattle.wh_tables.proofs.InOrder.{order_of_pages}

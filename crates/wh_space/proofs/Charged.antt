@@ -16,23 +16,23 @@ use Rattle.wh_tables.specs.declared.page_id.PageId.{PageId}
 use Rattle.wh_tables.specs.Index.{number_in}
 use Rattle.wh_tables.proofs.Keeping.{frame_stands}
 use Rattle.wh_tables.proofs.Standing.{one_frame, page_of_standing}
-use Rattle.wh_space.specs.declared.guest.Guest.{Guest}
+use Rattle.wh_space.specs.declared.occupant_entry.OccupantEntry.{OccupantEntry}
 use Rattle.wh_space.specs.declared.memory.Memory.TheInside.{Inside}
 use Rattle.wh_space.specs.Parts.{IsWell, occupant_of, space_of}
 
 -- ---- the numbers of those who have pages
 
-seen_number : (xs : List (Option Guest)) (j : ℕ) (x : Option Guest) → slice_get xs j ≡ Some x → get_or (map occupant_of xs) j None ≡ occupant_of x
+seen_number : (xs : List (Option OccupantEntry)) (j : ℕ) (x : Option OccupantEntry) → slice_get xs j ≡ Some x → get_or (map occupant_of xs) j None ≡ occupant_of x
 seen_number [] j x is = absurd (cc is)
 seen_number (y ∷ xs) zero x is = let e : y ≡ x = cc in rw e refl
 seen_number (y ∷ xs) (suc j) x is = seen_number xs j x is
 
-seen : (xs : List (Option Guest)) (k : ℕ) (x : Option Guest) → slice_get xs k ≡ Some x → slice_get (map occupant_of xs) k ≡ Some (occupant_of x)
+seen : (xs : List (Option OccupantEntry)) (k : ℕ) (x : Option OccupantEntry) → slice_get xs k ≡ Some x → slice_get (map occupant_of xs) k ≡ Some (occupant_of x)
 seen [] k x is = absurd (cc is)
 seen (y ∷ xs) zero x is = let e : y ≡ x = cc in rw e refl
 seen (y ∷ xs) (suc k) x is = seen xs k x is
 
-some_guest : (xs : List (Option Guest)) (k : ℕ) → k < length xs → (x : Option Guest) × (slice_get xs k ≡ Some x)
+some_guest : (xs : List (Option OccupantEntry)) (k : ℕ) → k < length xs → (x : Option OccupantEntry) × (slice_get xs k ≡ Some x)
 some_guest [] k less = absurd (omega arith)
 some_guest (x ∷ xs) zero less = (x, refl)
 some_guest (x ∷ xs) (suc k) less = some_guest xs k (omega arith)
@@ -46,15 +46,15 @@ pub number_same : (a : Inside) (j : ℕ) → IsWell a → 1 ≤ length (get_or a
 number_same a j was some =
     let within = row_there a.tables.pages j some in
     let many = was.sound.occupants.tables in
-    let l = length-map a.guests.items occupant_of in
-    let guest = some_guest a.guests.items j (omega arith) in
-    go guest.0 guest.1 where
-      go : (x : Option Guest) → slice_get a.guests.items j ≡ Some x → number_in a.tables.numbers j ≡ occupant_number (space_of a) j
+    let l = length-map a.occupant_entries.items occupant_of in
+    let occupant_entry = some_guest a.occupant_entries.items j (omega arith) in
+    go occupant_entry.0 occupant_entry.1 where
+      go : (x : Option OccupantEntry) → slice_get a.occupant_entries.items j ≡ Some x → number_in a.tables.numbers j ≡ occupant_number (space_of a) j
       go None is = absurd (
-          let empty : get_or (space_of a).tables j [] ≡ [] = was.sound.occupants.have j None (seen a.guests.items j None is) in
+          let empty : get_or (space_of a).tables j [] ≡ [] = was.sound.occupants.have j None (seen a.occupant_entries.items j None is) in
           let none = ap length empty in
           omega arith)
-      go (Some g) is = was.numbers j g is ∙ rw (seen_number a.guests.items j (Some g) is) refl
+      go (Some g) is = was.numbers j g is ∙ rw (seen_number a.occupant_entries.items j (Some g) is) refl
 
 -- a page that stands somewhere is a page
 pub has_row : (pages : List (List Page)) (j q f : ℕ) → IsOnFrame pages j q f → 1 ≤ length (get_or pages j [])
@@ -163,28 +163,28 @@ row_few a i was =
       | inl some ↦
           (let within = row_there a.tables.pages i some in
           let many = was.sound.occupants.tables in
-          let l = length-map a.guests.items occupant_of in
-          let guest = some_guest a.guests.items i (omega arith) in
-          go guest.0 guest.1)
+          let l = length-map a.occupant_entries.items occupant_of in
+          let occupant_entry = some_guest a.occupant_entries.items i (omega arith) in
+          go occupant_entry.0 occupant_entry.1)
     ] where
-      go : (x : Option Guest) → slice_get a.guests.items i ≡ Some x → length (get_or a.tables.pages i []) ≤ 65536
-      go None is = (let empty : get_or (space_of a).tables i [] ≡ [] = was.sound.occupants.have i None (seen a.guests.items i None is) in let none = ap length empty in omega arith)
-      go (Some g) is = (let table = was.sound.occupants.have i (occupant_of (Some g)) (seen a.guests.items i (Some g) is) in let most = table.2 in let max = table.4 in omega arith)
+      go : (x : Option OccupantEntry) → slice_get a.occupant_entries.items i ≡ Some x → length (get_or a.tables.pages i []) ≤ 65536
+      go None is = (let empty : get_or (space_of a).tables i [] ≡ [] = was.sound.occupants.have i None (seen a.occupant_entries.items i None is) in let none = ap length empty in omega arith)
+      go (Some g) is = (let table = was.sound.occupants.have i (occupant_of (Some g)) (seen a.occupant_entries.items i (Some g) is) in let most = table.2 in let max = table.4 in omega arith)
 
 -- the shares of one that is there
-pub shares_few : (a : Inside) (i : ℕ) (g : Guest) → IsWell a → slice_get a.guests.items i ≡ Some (Some g) → (1 ≤ g.shares) × (g.shares ≤ 1000000)
-shares_few a i g was is = let table = was.sound.occupants.have i (occupant_of (Some g)) (seen a.guests.items i (Some g) is) in (table.5, table.6)
+pub shares_few : (a : Inside) (i : ℕ) (g : OccupantEntry) → IsWell a → slice_get a.occupant_entries.items i ≡ Some (Some g) → (1 ≤ g.shares) × (g.shares ≤ 1000000)
+shares_few a i g was is = let table = was.sound.occupants.have i (occupant_of (Some g)) (seen a.occupant_entries.items i (Some g) is) in (table.5, table.6)
 
-pub guest_at : (xs : List (Option Guest)) (i : ℕ) (x : Option Guest) (g : Guest) → i < length xs → x ≡ get_or xs i x → x ≡ Some g → slice_get xs i ≡ Some (Some g)
+pub guest_at : (xs : List (Option OccupantEntry)) (i : ℕ) (x : Option OccupantEntry) (g : OccupantEntry) → i < length xs → x ≡ get_or xs i x → x ≡ Some g → slice_get xs i ≡ Some (Some g)
 guest_at [] i x g less is some = absurd (omega arith)
 guest_at (y ∷ xs) zero x g less is some = ap Some (sym is ∙ some)
 guest_at (y ∷ xs) (suc i) x g less is some = guest_at xs i x g (omega arith) is some
 
-abbrev pub occupant_by : Guest → Occupant
+abbrev pub occupant_by : OccupantEntry → Occupant
 occupant_by g = record { number = g.number; live = g.live; shares = g.shares; min = g.min; max = g.max; stands = g.stands; leaves = g.leaves }
 
-pub occupant_of_guest : (a : Inside) (i : ℕ) (g : Guest) → slice_get a.guests.items i ≡ Some (Some g) → slice_get (space_of a).occupants i ≡ Some (Some (occupant_by g))
-occupant_of_guest a i g is = seen a.guests.items i (Some g) is
+pub occupant_of_guest : (a : Inside) (i : ℕ) (g : OccupantEntry) → slice_get a.occupant_entries.items i ≡ Some (Some g) → slice_get (space_of a).occupants i ≡ Some (Some (occupant_by g))
+occupant_of_guest a i g is = seen a.occupant_entries.items i (Some g) is
 
 -- ---- what the tests tell
 

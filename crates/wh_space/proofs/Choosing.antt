@@ -8,7 +8,7 @@ use Rattle.wh_host_model.specs.Space.Claims.{CanBeTaken, CanLeave, IsTakenFrom, 
 use Rattle.wh_host_model.specs.Space.Parts.{Occupant, Space, occupant_at}
 use Rattle.wh_host_model.specs.Space.States.{at, page_at, resident}
 use Rattle.wh_host_model.proofs.Space.Putting.{there_of}
-use Rattle.wh_space.specs.declared.guest.Guest.{Guest}
+use Rattle.wh_space.specs.declared.occupant_entry.OccupantEntry.{OccupantEntry}
 use Rattle.wh_pages.specs.Seeking.{IsFirstFrom}
 use Rattle.wh_tables.specs.Tables.{IsSoughtAt}
 use Rattle.wh_host_model.specs.Space.Moves.{frame_of}
@@ -28,7 +28,7 @@ either q n = grind arith
 
 -- ---- who is there
 
-pub occupant_there : (xs : List (Option Guest)) (j : ℕ) (x : Option Guest) → j < length xs → x ≡ get_or xs j x → slice_get (map occupant_of xs) j ≡ Some (occupant_of x)
+pub occupant_there : (xs : List (Option OccupantEntry)) (j : ℕ) (x : Option OccupantEntry) → j < length xs → x ≡ get_or xs j x → slice_get (map occupant_of xs) j ≡ Some (occupant_of x)
 occupant_there [] j x less is = absurd (omega arith)
 occupant_there (y ∷ xs) zero x less is = let e : x ≡ y = is in rw e refl
 occupant_there (y ∷ xs) (suc j) x less is = occupant_there xs j x (omega arith) is

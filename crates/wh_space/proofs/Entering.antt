@@ -19,8 +19,8 @@ use Rattle.wh_host_model.proofs.Space.Entered.{enters_soundly, free_within}
 use Rattle.wh_host_model.proofs.Space.Putting.{get_or_is, here_or, there_of}
 use Rattle.wh_host_model.proofs.Space.Rows.{past_there, row_other, row_same}
 use Rattle.wh_space.specs.Arrivals.{claimed}
-use Rattle.wh_space.specs.declared.guest.Guest.{Guest}
-use Rattle.wh_space.specs.declared.guest.Promise.{Promise}
+use Rattle.wh_space.specs.declared.occupant_entry.OccupantEntry.{OccupantEntry}
+use Rattle.wh_space.specs.declared.occupant_entry.Promise.{Promise}
 use Rattle.wh_space.specs.declared.memory.Memory.TheInside.{Inside}
 use Rattle.wh_space.specs.Parts.{IsWell, occupant_of, space_of}
 
@@ -48,7 +48,7 @@ pub record MayEnter (s : Space) (i : ℕ) (p : Promise) (size : ℕ) : Type 0 wh
   pub fits : 16 * size ≤ p.max
   pub fresh : (j : ℕ) (t : Occupant) → occupant_at s j t → t.number ≢ p.number
 
-abbrev pub guest_of : Promise → Guest
+abbrev pub guest_of : Promise → OccupantEntry
 guest_of p = record { number = p.number; live = true; shares = p.shares; min = p.min; max = p.max; stands = None; leaves = None; tickets = 0 }
 
 abbrev pub with_table : TablesState → ℕ → Promise → ℕ → TablesState
@@ -61,15 +61,15 @@ with_table tables i p size = record {
 }
 
 -- whoever else has pages has another number than one that is there
-pub other_guest : (a : Inside) (i j : ℕ) (g : Guest) → IsWell a → slice_get a.guests.items i ≡ Some (Some g) → j ≢ i → 1 ≤ length (get_or a.tables.pages j []) → get_or a.tables.numbers j 0 ≢ get_or a.tables.numbers i 0
+pub other_guest : (a : Inside) (i j : ℕ) (g : OccupantEntry) → IsWell a → slice_get a.occupant_entries.items i ≡ Some (Some g) → j ≢ i → 1 ≤ length (get_or a.tables.pages j []) → get_or a.tables.numbers j 0 ≢ get_or a.tables.numbers i 0
 other_guest a i j g was there other some same =
     let s : Space = space_of a in
     let within = row_there s.tables j some in
     let many = was.sound.occupants.tables in
-    let l = length-map a.guests.items occupant_of in
-    let guest = some_guest a.guests.items j (omega arith) in
-    go guest.0 guest.1 where
-      some_guest : (xs : List (Option Guest)) (k : ℕ) → k < length xs → (x : Option Guest) × (slice_get xs k ≡ Some x)
+    let l = length-map a.occupant_entries.items occupant_of in
+    let occupant_entry = some_guest a.occupant_entries.items j (omega arith) in
+    go occupant_entry.0 occupant_entry.1 where
+      some_guest : (xs : List (Option OccupantEntry)) (k : ℕ) → k < length xs → (x : Option OccupantEntry) × (slice_get xs k ≡ Some x)
       some_guest [] k less = absurd (omega arith)
       some_guest (x ∷ xs) zero less = (x, refl)
       some_guest (x ∷ xs) (suc k) less = some_guest xs k (omega arith)
@@ -79,17 +79,17 @@ other_guest a i j g was there other some same =
       row_there (xs ∷ xss) zero some = omega arith
       row_there (xs ∷ xss) (suc k) some = let r = row_there xss k some in omega arith
 
-      seen : (xs : List (Option Guest)) (k : ℕ) (x : Option Guest) → slice_get xs k ≡ Some x → slice_get (map occupant_of xs) k ≡ Some (occupant_of x)
+      seen : (xs : List (Option OccupantEntry)) (k : ℕ) (x : Option OccupantEntry) → slice_get xs k ≡ Some x → slice_get (map occupant_of xs) k ≡ Some (occupant_of x)
       seen [] k x is = absurd (cc is)
       seen (y ∷ xs) zero x is = let e : y ≡ x = cc in rw e refl
       seen (y ∷ xs) (suc k) x is = seen xs k x is
 
-      go : (x : Option Guest) → slice_get a.guests.items j ≡ Some x → ⊥
+      go : (x : Option OccupantEntry) → slice_get a.occupant_entries.items j ≡ Some x → ⊥
       go None is = (
-          let empty : get_or (space_of a).tables j [] ≡ [] = was.sound.occupants.have j None (seen a.guests.items j None is) in
+          let empty : get_or (space_of a).tables j [] ≡ [] = was.sound.occupants.have j None (seen a.occupant_entries.items j None is) in
           let none = ap length empty in
           omega arith)
-      go (Some h) is = other (was.sound.occupants.numbers j i _ _ (seen a.guests.items j (Some h) is) (seen a.guests.items i (Some g) there) (sym (was.numbers j h is) ∙ same ∙ was.numbers i g there))
+      go (Some h) is = other (was.sound.occupants.numbers j i _ _ (seen a.occupant_entries.items j (Some h) is) (seen a.occupant_entries.items i (Some g) there) (sym (was.numbers j h is) ∙ same ∙ was.numbers i g there))
 
 -- no pages are at a free place, and whoever has pages has another number
 pub none_at_free : (s : Space) (i : ℕ) → IsSound s → IsFreePlace s i → get_or s.tables i [] ≡ []
@@ -101,10 +101,10 @@ other_number a j n was fresh some same =
     let s : Space = space_of a in
     let within = row_there s.tables j some in
     let many = was.sound.occupants.tables in
-    let l = length-map a.guests.items occupant_of in
-    let guest = some_guest a.guests.items j (omega arith) in
-    go guest.0 guest.1 where
-      some_guest : (xs : List (Option Guest)) (k : ℕ) → k < length xs → (x : Option Guest) × (slice_get xs k ≡ Some x)
+    let l = length-map a.occupant_entries.items occupant_of in
+    let occupant_entry = some_guest a.occupant_entries.items j (omega arith) in
+    go occupant_entry.0 occupant_entry.1 where
+      some_guest : (xs : List (Option OccupantEntry)) (k : ℕ) → k < length xs → (x : Option OccupantEntry) × (slice_get xs k ≡ Some x)
       some_guest [] k less = absurd (omega arith)
       some_guest (x ∷ xs) zero less = (x, refl)
       some_guest (x ∷ xs) (suc k) less = some_guest xs k (omega arith)
@@ -114,17 +114,17 @@ other_number a j n was fresh some same =
       row_there (xs ∷ xss) zero some = omega arith
       row_there (xs ∷ xss) (suc k) some = let r = row_there xss k some in omega arith
 
-      seen : (xs : List (Option Guest)) (k : ℕ) (x : Option Guest) → slice_get xs k ≡ Some x → slice_get (map occupant_of xs) k ≡ Some (occupant_of x)
+      seen : (xs : List (Option OccupantEntry)) (k : ℕ) (x : Option OccupantEntry) → slice_get xs k ≡ Some x → slice_get (map occupant_of xs) k ≡ Some (occupant_of x)
       seen [] k x is = absurd (cc is)
       seen (y ∷ xs) zero x is = let e : y ≡ x = cc in rw e refl
       seen (y ∷ xs) (suc k) x is = seen xs k x is
 
-      go : (x : Option Guest) → slice_get a.guests.items j ≡ Some x → ⊥
+      go : (x : Option OccupantEntry) → slice_get a.occupant_entries.items j ≡ Some x → ⊥
       go None is = (
-          let empty : get_or (space_of a).tables j [] ≡ [] = was.sound.occupants.have j None (seen a.guests.items j None is) in
+          let empty : get_or (space_of a).tables j [] ≡ [] = was.sound.occupants.have j None (seen a.occupant_entries.items j None is) in
           let none = ap length empty in
           omega arith)
-      go (Some g) is = fresh j _ (seen a.guests.items j (Some g) is) (sym (was.numbers j g is) ∙ same)
+      go (Some g) is = fresh j _ (seen a.occupant_entries.items j (Some g) is) (sym (was.numbers j g is) ∙ same)
 
 -- ---- nobody's tickets
 
@@ -171,7 +171,7 @@ row_few xs i x n few less within = elim (cases_lt i (length xs)) [
 ]
 
 -- the one who came, or one who was there
-now_there : (xs : List (Option Guest)) (i j : ℕ) (p : Promise) (t : Guest) → i ≤ length xs → slice_get (with_row xs i (Some (guest_of p))) j ≡ Some (Some t)
+now_there : (xs : List (Option OccupantEntry)) (i j : ℕ) (p : Promise) (t : OccupantEntry) → i ≤ length xs → slice_get (with_row xs i (Some (guest_of p))) j ≡ Some (Some t)
     → ((j ≡ i) × (guest_of p ≡ t)) ⊎ ((j ≢ i) × (slice_get xs j ≡ Some (Some t)))
 now_there xs i j p t there is = elim (here_or i j) [
   | inr other ↦ inr (λ e. other e, sym (row_other xs i j (Some (guest_of p)) there (λ e. other e)) ∙ is)
@@ -190,12 +190,12 @@ got_same xs ys j none same = got xs j none ∙ ap (λ o. or_else o none) same �
   got (x ∷ xs) zero none = refl
   got (x ∷ xs) (suc j) none = got xs j none
 
-pub entered : (a b : Inside) (i : ℕ) (p : Promise) (size : ℕ) → IsWell a → MayEnter (space_of a) i p size → b.guests.items ≡ with_row a.guests.items i (Some (guest_of p))
+pub entered : (a b : Inside) (i : ℕ) (p : Promise) (size : ℕ) → IsWell a → MayEnter (space_of a) i p size → b.occupant_entries.items ≡ with_row a.occupant_entries.items i (Some (guest_of p))
     → b.tables ≡ with_table a.tables i p size → length a.tables.limits ≡ length a.tables.pages → length a.tables.numbers ≡ length a.tables.pages → b.pool ≡ a.pool → b.content ≡ a.content → b.slots ≡ a.slots → b.pins ≡ a.pins → b.tax ≡ a.tax → i < 2 ^ 32
     → Enters (space_of a) i (claimed p) size (space_of b) × IsWell b
-entered a b i p size was may guests tables limits_long numbers_long pool content slots pins tax place =
+entered a b i p size was may occupant_entries tables limits_long numbers_long pool content slots pins tax place =
     let s : Space = space_of a in
-    let occupants : (space_of b).occupants ≡ with_row s.occupants i (Some (newcomer (claimed p))) = ap (map occupant_of) guests ∙ map_row occupant_of a.guests.items i (Some (guest_of p)) in
+    let occupants : (space_of b).occupants ≡ with_row s.occupants i (Some (newcomer (claimed p))) = ap (map occupant_of) occupant_entries ∙ map_row occupant_of a.occupant_entries.items i (Some (guest_of p)) in
     let pages : (space_of b).tables ≡ with_row s.tables i (replicate (16 * size) Untouched) = ap (λ (z : TablesState). z.pages) tables in
     let marks : (space_of b).touched ≡ with_row s.touched i (replicate (16 * size) false) = ap (λ (z : TablesState). z.marks) tables in
     let enters : Enters s i (claimed p) size (space_of b) = record {
@@ -212,47 +212,47 @@ entered a b i p size was may guests tables limits_long numbers_long pool content
         sound = enters_soundly s i (claimed p) size (space_of b) was.sound enters;
         limits = λ j t is.
             (let most = free_within s i may.free in
-            let l = length-map a.guests.items occupant_of in
+            let l = length-map a.occupant_entries.items occupant_of in
             let o = was.sound.occupants.tables in
-            let there : i ≤ length a.guests.items = omega arith in
+            let there : i ≤ length a.occupant_entries.items = omega arith in
             let within : i ≤ length a.tables.limits = omega arith in
             let now = ap (λ (z : TablesState). z.limits) tables in
-            let is2 : slice_get (with_row a.guests.items i (Some (guest_of p))) j ≡ Some (Some t) = ap (λ (z : List (Option Guest)). slice_get z j) (sym guests) ∙ is in
-            elim (now_there a.guests.items i j p t there is2) [
+            let is2 : slice_get (with_row a.occupant_entries.items i (Some (guest_of p))) j ≡ Some (Some t) = ap (λ (z : List (Option OccupantEntry)). slice_get z j) (sym occupant_entries) ∙ is in
+            elim (now_there a.occupant_entries.items i j p t there is2) [
               | inr (other, before) ↦ ap (λ (z : List ℕ). slice_get z j) now ∙ (row_other a.tables.limits i j p.max within (λ e. other e) ∙ was.limits j t before)
               | inl (same, one) ↦
-                  ap (λ (z : List ℕ). slice_get z j) now ∙ (ap (λ (z : ℕ). slice_get (with_row a.tables.limits i p.max) z) same ∙ (row_same a.tables.limits i p.max within ∙ ap (λ (g : Guest). Some g.max) one))
+                  ap (λ (z : List ℕ). slice_get z j) now ∙ (ap (λ (z : ℕ). slice_get (with_row a.tables.limits i p.max) z) same ∙ (row_same a.tables.limits i p.max within ∙ ap (λ (g : OccupantEntry). Some g.max) one))
             ]);
         numbers = λ j t is.
             (let most = free_within s i may.free in
-            let l = length-map a.guests.items occupant_of in
+            let l = length-map a.occupant_entries.items occupant_of in
             let o = was.sound.occupants.tables in
-            let there : i ≤ length a.guests.items = omega arith in
+            let there : i ≤ length a.occupant_entries.items = omega arith in
             let within : i ≤ length a.tables.numbers = omega arith in
             let now = ap (λ (z : TablesState). z.numbers) tables in
-            let is2 : slice_get (with_row a.guests.items i (Some (guest_of p))) j ≡ Some (Some t) = ap (λ (z : List (Option Guest)). slice_get z j) (sym guests) ∙ is in
-            elim (now_there a.guests.items i j p t there is2) [
+            let is2 : slice_get (with_row a.occupant_entries.items i (Some (guest_of p))) j ≡ Some (Some t) = ap (λ (z : List (Option OccupantEntry)). slice_get z j) (sym occupant_entries) ∙ is in
+            elim (now_there a.occupant_entries.items i j p t there is2) [
               | inr (other, before) ↦ ap (λ (z : List ℕ). get_or z j 0) now ∙ (got_same _ a.tables.numbers j 0 (row_other a.tables.numbers i j p.number within (λ e. other e)) ∙ was.numbers j t before)
               | inl (same, one) ↦
-                  ap (λ (z : List ℕ). get_or z j 0) now ∙ (ap (λ (z : ℕ). get_or (with_row a.tables.numbers i p.number) z 0) same ∙ (get_or_is (with_row a.tables.numbers i p.number) i p.number 0 (row_same a.tables.numbers i p.number within) ∙ ap (λ (g : Guest). g.number) one))
+                  ap (λ (z : List ℕ). get_or z j 0) now ∙ (ap (λ (z : ℕ). get_or (with_row a.tables.numbers i p.number) z 0) same ∙ (get_or_is (with_row a.tables.numbers i p.number) i p.number 0 (row_same a.tables.numbers i p.number within) ∙ ap (λ (g : OccupantEntry). g.number) one))
             ]);
         frames = ap (λ (z : TablesState). z.frames) tables ∙ was.frames ∙ sym (ap (λ (z : Pool). length z.frames) pool);
         counted = λ j t is.
             (let most = free_within s i may.free in
-            let l = length-map a.guests.items occupant_of in
-            let there : i ≤ length a.guests.items = omega arith in
-            let is2 : slice_get (with_row a.guests.items i (Some (guest_of p))) j ≡ Some (Some t) = ap (λ (z : List (Option Guest)). slice_get z j) (sym guests) ∙ is in
+            let l = length-map a.occupant_entries.items occupant_of in
+            let there : i ≤ length a.occupant_entries.items = omega arith in
+            let is2 : slice_get (with_row a.occupant_entries.items i (Some (guest_of p))) j ≡ Some (Some t) = ap (λ (z : List (Option OccupantEntry)). slice_get z j) (sym occupant_entries) ∙ is in
             let same_slots : tally (ticket_of j) b.slots.uses ≡ tally (ticket_of j) a.slots.uses = ap (λ (z : Slots). tally (ticket_of j) z.uses) slots in
-            elim (now_there a.guests.items i j p t there is2) [
+            elim (now_there a.occupant_entries.items i j p t there is2) [
               | inr (other, before) ↦ was.counted j t before ∙ sym same_slots
               | inl (same, one) ↦
                   (let none = no_tickets s i was.sound may.free in
-                  let zero_now : t.tickets ≡ 0 = ap (λ (g : Guest). g.tickets) (sym one) in
+                  let zero_now : t.tickets ≡ 0 = ap (λ (g : OccupantEntry). g.tickets) (sym one) in
                   zero_now ∙ sym (same_slots ∙ (rw same none)))
             ]);
         places =
             (let most = free_within s i may.free in
-            let l = length-map a.guests.items occupant_of in
-            rw guests (row_few a.guests.items i (Some (guest_of p)) (2 ^ 32) was.places place (omega arith)));
+            let l = length-map a.occupant_entries.items occupant_of in
+            rw occupant_entries (row_few a.occupant_entries.items i (Some (guest_of p)) (2 ^ 32) was.places place (omega arith)));
       },
     )

@@ -14,7 +14,7 @@ use Rattle.wh_host_model.proofs.Space.Putting.{there_of}
 use Rattle.wh_host_model.proofs.Space.Rooms.{get_there}
 use Rattle.wh_host_model.proofs.Space.Slotting.{slot_taken}
 use Rattle.wh_space.specs.declared.memory.Memory.TheInside.{Inside}
-use Rattle.wh_space.specs.Pages.{fixed_in}
+use Rattle.wh_space.specs.UnchangedTables.{fixed_in}
 use Rattle.wh_space.specs.Parts.{IsWell, space_of}
 use Rattle.wh_space.specs.Pinning.{pins_of}
 use Rattle.wh_space.proofs.Transiting.{other_tickets}
@@ -82,15 +82,15 @@ pub fetched_now : (a b : Inside) (i p k f : ℕ) (bytes : List ℕ) (taken : Poo
     → b.slots ≡ record a.slots { uses = slice_set a.slots.uses k Vacant; vacant = a.slots.vacant ++ k ∷ [] }
     → b.tables.pages ≡ put a.tables.pages i p (Private f) → b.tables.marks ≡ a.tables.marks → fixed_in b.tables ≡ fixed_in a.tables
     → pins_of b.pins ≡ Some (record { place = i; pages = p ∷ pinned_by (pins_of a.pins) i; frames = [] })
-    → b.guests ≡ a.guests → b.content ≡ a.content → b.tax ≡ a.tax
+    → b.occupant_entries ≡ a.occupant_entries → b.content ≡ a.content → b.tax ≡ a.tax
     → Fetches (space_of a) i p bytes (space_of b) × IsWell b
-fetched_now a b i p k f bytes taken was there whole none takes pool slots pages marks limits pins guests content tax =
+fetched_now a b i p k f bytes taken was there whole none takes pool slots pages marks limits pins occupant_entries content tax =
     let s : Space = space_of a in
     let lies = lies_there s i p k was.sound there in
     let frames : b.pool ≡ record { frames = slice_set a.pool.frames f bytes; free = taken.free } =
     pool ∙ ap (λ (z : List (List ℕ)). record { frames = slice_set z f bytes; free = taken.free }) takes.frames in
-    let now : space_of b ≡ fetched s i p f k taken.free bytes = rw (guests, pages, marks, frames, content, slots, pins, tax, none) refl in (
+    let now : space_of b ≡ fetched s i p f k taken.free bytes = rw (occupant_entries, pages, marks, frames, content, slots, pins, tax, none) refl in (
       record { frame = f; slot = k; others = taken.free; free = takes.free; page = there; whole = whole; leaves = now },
-      well_with a b was guests limits (ap (λ (z : Pool). length z.frames) frames ∙ length-set a.pool.frames f bytes) (λ j. rw slots (other_tickets a.slots.uses j k Taken Vacant lies.taken refl))
+      well_with a b was occupant_entries limits (ap (λ (z : Pool). length z.frames) frames ∙ length-set a.pool.frames f bytes) (λ j. rw slots (other_tickets a.slots.uses j k Taken Vacant lies.taken refl))
           (subst IsSound (sym now) (is_sound_fetched s i p f k taken.free bytes was.sound there takes.free lies.taken whole)),
     )

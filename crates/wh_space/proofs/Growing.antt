@@ -9,29 +9,29 @@ use Rattle.wh_host_model.proofs.Space.Putting.{get_or_is}
 use Rattle.wh_host_model.proofs.Space.Rooms.{get_there}
 use Rattle.wh_host_model.proofs.Space.Rows.{past_there}
 use Rattle.wh_space.specs.declared.memory.Memory.TheInside.{Inside}
-use Rattle.wh_space.specs.declared.guest.Guest.{Guest}
-use Rattle.wh_space.specs.Pages.{fixed_in}
+use Rattle.wh_space.specs.declared.occupant_entry.OccupantEntry.{OccupantEntry}
+use Rattle.wh_space.specs.UnchangedTables.{fixed_in}
 use Rattle.wh_space.specs.Parts.{IsWell, occupant_of, space_of}
 use Rattle.wh_space.specs.Steps.{limit_by, page_limit}
 use Rattle.wh_space.proofs.Wellness.{well}
 
--- the occupant who a guest stands for
-abbrev pub occupant : Guest → Occupant
+-- the occupant who an occupant stands for
+abbrev pub occupant : OccupantEntry → Occupant
 occupant t = record { number = t.number; live = t.live; shares = t.shares; min = t.min; max = t.max; stands = t.stands; leaves = t.leaves }
 
 -- somebody is there, or nobody
-pub record IsThere (guests : List (Option Guest)) (i : ℕ) : Type 0 where
-  pub guest : Guest
-  pub there : slice_get guests i ≡ Some (Some guest)
-  pub occupies : slice_get (map occupant_of guests) i ≡ Some (Some (occupant guest))
+pub record IsThere (occupant_entries : List (Option OccupantEntry)) (i : ℕ) : Type 0 where
+  pub occupant_entry : OccupantEntry
+  pub there : slice_get occupant_entries i ≡ Some (Some occupant_entry)
+  pub occupies : slice_get (map occupant_of occupant_entries) i ≡ Some (Some (occupant occupant_entry))
 
-pub somebody : (guests : List (Option Guest)) (i : ℕ) → IsThere guests i ⊎ (get_or (map occupant_of guests) i None ≡ None)
+pub somebody : (occupant_entries : List (Option OccupantEntry)) (i : ℕ) → IsThere occupant_entries i ⊎ (get_or (map occupant_of occupant_entries) i None ≡ None)
 somebody [] i = inr refl
-somebody (None ∷ guests) zero = inr refl
-somebody (Some t ∷ guests) zero = inl (record { guest = t; there = refl; occupies = refl })
-somebody (x ∷ guests) (suc i) =
-    elim (somebody guests i) [
-      | inl here ↦ inl (record { guest = here.guest; there = here.there; occupies = here.occupies })
+somebody (None ∷ occupant_entries) zero = inr refl
+somebody (Some t ∷ occupant_entries) zero = inl (record { occupant_entry = t; there = refl; occupies = refl })
+somebody (x ∷ occupant_entries) (suc i) =
+    elim (somebody occupant_entries i) [
+      | inl here ↦ inl (record { occupant_entry = here.occupant_entry; there = here.there; occupies = here.occupies })
       | inr none ↦ inr none
     ]
 
@@ -62,29 +62,29 @@ claim_live t live = rw live refl
 claim_gone : (t : Occupant) → t.live ≡ false → limit_by (claim_of (Some t)) ≡ 0
 claim_gone t gone = rw gone refl
 
-pub limit_at : (a : Inside) (i : ℕ) (here : IsThere a.guests.items i) → here.guest.live ≡ true → page_limit (space_of a) i ≡ here.guest.max / 16
+pub limit_at : (a : Inside) (i : ℕ) (here : IsThere a.occupant_entries.items i) → here.occupant_entry.live ≡ true → page_limit (space_of a) i ≡ here.occupant_entry.max / 16
 limit_at a i here live =
-    ap (λ (o : Option Occupant). limit_by (claim_of o)) (get_or_is (map occupant_of a.guests.items) i (Some (occupant here.guest)) None here.occupies) ∙ claim_live (occupant here.guest) live
+    ap (λ (o : Option Occupant). limit_by (claim_of o)) (get_or_is (map occupant_of a.occupant_entries.items) i (Some (occupant here.occupant_entry)) None here.occupies) ∙ claim_live (occupant here.occupant_entry) live
 
-pub limit_gone : (a : Inside) (i : ℕ) (here : IsThere a.guests.items i) → here.guest.live ≡ false → page_limit (space_of a) i ≡ 0
+pub limit_gone : (a : Inside) (i : ℕ) (here : IsThere a.occupant_entries.items i) → here.occupant_entry.live ≡ false → page_limit (space_of a) i ≡ 0
 limit_gone a i here gone =
-    ap (λ (o : Option Occupant). limit_by (claim_of o)) (get_or_is (map occupant_of a.guests.items) i (Some (occupant here.guest)) None here.occupies) ∙ claim_gone (occupant here.guest) gone
+    ap (λ (o : Option Occupant). limit_by (claim_of o)) (get_or_is (map occupant_of a.occupant_entries.items) i (Some (occupant here.occupant_entry)) None here.occupies) ∙ claim_gone (occupant here.occupant_entry) gone
 
 -- it lives there, or it was released
 lives_or : (b : Bool) → (b ≡ true) ⊎ (b ≡ false)
 lives_or true = inl refl
 lives_or false = inr refl
 
-pub limit_nowhere : (a : Inside) (i : ℕ) → get_or (map occupant_of a.guests.items) i None ≡ None → page_limit (space_of a) i ≡ 0
+pub limit_nowhere : (a : Inside) (i : ℕ) → get_or (map occupant_of a.occupant_entries.items) i None ≡ None → page_limit (space_of a) i ≡ 0
 limit_nowhere a i none = ap (λ (o : Option Occupant). limit_by (claim_of o)) none
 
 pub size_within : (a : Inside) (i n : ℕ) → IsSound (space_of a) → length (get_or a.tables.pages i []) ≡ 16 * n → n ≤ page_limit (space_of a) i
 size_within a i n sound long =
-    elim (somebody a.guests.items i) [
+    elim (somebody a.occupant_entries.items i) [
       | inl here ↦
-          (let has = sound.occupants.have i (Some (occupant here.guest)) here.occupies in
+          (let has = sound.occupants.have i (Some (occupant here.occupant_entry)) here.occupies in
           let most = has.2 in
-          elim (lives_or here.guest.live) [
+          elim (lives_or here.occupant_entry.live) [
             | inl live ↦ (let limit = limit_at a i here live in omega arith)
             | inr gone ↦ (let empty = ap length (has.3 gone) in omega arith)
           ])
@@ -92,9 +92,9 @@ size_within a i n sound long =
     ]
 
 -- who may grow is there, and lives
-pub grower : (a : Inside) (i : ℕ) → 1 ≤ page_limit (space_of a) i → (here : IsThere a.guests.items i) × (here.guest.live ≡ true)
-grower a i some = elim (somebody a.guests.items i) [
-  | inl here ↦ elim (lives_or here.guest.live) [
+pub grower : (a : Inside) (i : ℕ) → 1 ≤ page_limit (space_of a) i → (here : IsThere a.occupant_entries.items i) × (here.occupant_entry.live ≡ true)
+grower a i some = elim (somebody a.occupant_entries.items i) [
+  | inl here ↦ elim (lives_or here.occupant_entry.live) [
     | inl live ↦ (here, live)
     | inr gone ↦ absurd (let z = limit_gone a i here gone in omega arith)
   ]
@@ -103,15 +103,15 @@ grower a i some = elim (somebody a.guests.items i) [
 
 -- ---- what it grew to
 
-pub grew_well : (a b : Inside) (i n : ℕ) (here : IsThere a.guests.items i) → here.guest.live ≡ true → IsWell a → b.guests ≡ a.guests → fixed_in b.tables ≡ fixed_in a.tables → length b.pool.frames ≡ length a.pool.frames → b.slots ≡ a.slots → Grew (space_of a) i n (space_of b)
-    → length (get_or a.tables.pages i []) + 16 * n ≤ here.guest.max → IsWell b
-grew_well a b i n here live was guests limits frames slots grew fits = well a b was guests limits frames slots (grows_soundly (space_of a) i n (occupant here.guest) (space_of b) was.sound here.occupies live fits grew)
+pub grew_well : (a b : Inside) (i n : ℕ) (here : IsThere a.occupant_entries.items i) → here.occupant_entry.live ≡ true → IsWell a → b.occupant_entries ≡ a.occupant_entries → fixed_in b.tables ≡ fixed_in a.tables → length b.pool.frames ≡ length a.pool.frames → b.slots ≡ a.slots → Grew (space_of a) i n (space_of b)
+    → length (get_or a.tables.pages i []) + 16 * n ≤ here.occupant_entry.max → IsWell b
+grew_well a b i n here live was occupant_entries limits frames slots grew fits = well a b was occupant_entries limits frames slots (grows_soundly (space_of a) i n (occupant here.occupant_entry) (space_of b) was.sound here.occupies live fits grew)
 
 -- there is somebody, and room for so many pages more
 pub record CanGrow (a : Inside) (i n : ℕ) : Type 0 where
-  pub here : IsThere a.guests.items i
-  pub live : here.guest.live ≡ true
-  pub room : length (get_or a.tables.pages i []) + 16 * n ≤ here.guest.max
+  pub here : IsThere a.occupant_entries.items i
+  pub live : here.occupant_entry.live ≡ true
+  pub room : length (get_or a.tables.pages i []) + 16 * n ≤ here.occupant_entry.max
   pub few : 16 * n ≤ 65536
 
 pub can_grow : (a : Inside) (i before n : ℕ) → IsWell a → length (get_or a.tables.pages i []) ≡ 16 * before → 1 ≤ n → before + n ≤ page_limit (space_of a) i → CanGrow a i n
@@ -119,6 +119,6 @@ can_grow a i before n was long some fits =
     let found = grower a i (omega arith) in
     let here = found.0 in
     let limit = limit_at a i here found.1 in
-    let has = was.sound.occupants.have i (Some (occupant here.guest)) here.occupies in
+    let has = was.sound.occupants.have i (Some (occupant here.occupant_entry)) here.occupies in
     let most = has.4 in
     record { here = here; live = found.1; room = omega arith; few = omega arith }

@@ -19,8 +19,8 @@ use Rattle.wh_host_model.proofs.Space.Filled.{stores_are_right, stores_soundly}
 use Rattle.wh_host_model.proofs.Space.Quiet.{grew_own, steps_quiet}
 use Rattle.wh_host_model.proofs.Space.Steady.{touches_soundly}
 use Rattle.wh_space.specs.Steps.{LeavesGrowth, LeavesLoad, LeavesStore}
-use Rattle.wh_space.specs.Stepping.{takes_none, loads_first, stores_first, grows_first}
-use Rattle.wh_space.specs.Views.{KeepsRest, keeps_all}
+use Rattle.wh_space.specs.InstanceSteps.{takes_none, loads_first, stores_first, grows_first}
+use Rattle.wh_space.specs.StepViews.{KeepsRest, keeps_all}
 
 -- ---- nothing is done
 

@@ -20,13 +20,13 @@ use Rattle.wh_host_model.proofs.Space.Reserved.{is_sound_unpinned}
 use Rattle.wh_host_model.proofs.Space.Rooms.{get_there}
 use Rattle.wh_host_model.proofs.Space.Rows.{rows_sum}
 use Rattle.wh_host_model.proofs.Space.Sums.{get_tally}
-use Rattle.wh_space.specs.declared.guest.Guest.{Guest}
+use Rattle.wh_space.specs.declared.occupant_entry.OccupantEntry.{OccupantEntry}
 use Rattle.wh_space.specs.declared.memory.Memory.TheInside.{Inside}
-use Rattle.wh_space.specs.Guests.{guest_gone}
+use Rattle.wh_space.specs.OccupantEntries.{occupant_gone}
 use Rattle.wh_space.specs.Leaving.{CanAllGo, Holdings, pages_gone}
 use Rattle.wh_space.specs.Pinning.{pins_of}
 use Rattle.wh_space.specs.Slotting.{leaver_of, slots_gone, voids_slot}
-use Rattle.wh_space.specs.Pages.{Fixed, fixed_in}
+use Rattle.wh_space.specs.UnchangedTables.{Fixed, fixed_in}
 use Rattle.wh_space.specs.Parts.{IsWell, Named, named, occupant_of, space_of}
 use Rattle.wh_space.proofs.LeavingPages.{AllGo, all_go, mark_after}
 use Rattle.wh_space.proofs.Owning.{page_there}
@@ -112,14 +112,14 @@ pub record IsHere (a : Inside) (i : ℕ) : Type 0 where
   pub occupant : Occupant
   pub there : occupant_at (space_of a) i occupant
   pub live : occupant.live ≡ true
-  pub place : i < length a.guests.items
+  pub place : i < length a.occupant_entries.items
   pub row : i < length a.tables.pages
 
 pub is_here : (a : Inside) (i : ℕ) (s : Space) → space_of a ≡ s → IsSound (space_of a) → (t : Occupant) × occupant_at s i t × (t.live ≡ true) → IsHere a i
 is_here a i s is sound somebody =
     let there : occupant_at (space_of a) i somebody.0 = ap (λ (z : Space). slice_get z.occupants i) is ∙ somebody.1 in
-    let within = there_of (map occupant_of a.guests.items) i (Some somebody.0) there in
-    let guests = length-map a.guests.items occupant_of in
+    let within = there_of (map occupant_of a.occupant_entries.items) i (Some somebody.0) there in
+    let occupant_entries = length-map a.occupant_entries.items occupant_of in
     let same = sound.occupants.tables in
     record { occupant = somebody.0; there = there; live = somebody.2; place = omega arith; row = omega arith }
 
@@ -137,34 +137,34 @@ slots_can a i sound here = all_leave (space_of a) (get_or a.tables.pages i []) s
 
 -- ---- who is there then
 
-gone_guest : (g : Guest) (n : ℕ) → g.tickets ≡ n → occupant_of (guest_gone (Some g)) ≡ stays_occupant (Some (record (occupant g) { live = false; stands = None })) n
+gone_guest : (g : OccupantEntry) (n : ℕ) → g.tickets ≡ n → occupant_of (occupant_gone (Some g)) ≡ stays_occupant (Some (record (occupant g) { live = false; stands = None })) n
 gone_guest g n same = go (g.tickets == 0) ∙ ap (λ (z : ℕ). cond (z == 0) None (Some (record (occupant g) { live = false; stands = None }))) same where
   go : (b : Bool) → occupant_of (cond b None (Some (record g { live = false; stands = None }))) ≡ cond b None (Some (record (occupant g) { live = false; stands = None }))
   go true = refl
   go false = refl
 
-pub guest_here : (guests : List (Option Guest)) (i : ℕ) (t : Occupant) → slice_get (map occupant_of guests) i ≡ Some (Some t) → (g : Guest) × (slice_get guests i ≡ Some (Some g)) × (occupant g ≡ t)
+pub guest_here : (occupant_entries : List (Option OccupantEntry)) (i : ℕ) (t : Occupant) → slice_get (map occupant_of occupant_entries) i ≡ Some (Some t) → (g : OccupantEntry) × (slice_get occupant_entries i ≡ Some (Some g)) × (occupant g ≡ t)
 guest_here [] i t is = absurd (cc is)
-guest_here (None ∷ guests) zero t is = absurd (cc is)
-guest_here (Some g ∷ guests) zero t is = let e : occupant g ≡ t = cc in (g, refl, e)
-guest_here (x ∷ guests) (suc i) t is = guest_here guests i t is
+guest_here (None ∷ occupant_entries) zero t is = absurd (cc is)
+guest_here (Some g ∷ occupant_entries) zero t is = let e : occupant g ≡ t = cc in (g, refl, e)
+guest_here (x ∷ occupant_entries) (suc i) t is = guest_here occupant_entries i t is
 
 -- who keeps the place had it, with the same maximum and as many tickets
-keeps_place : (x : Option Guest) (t : Guest) → guest_gone x ≡ Some t → (g : Guest) × (x ≡ Some g) × (named g ≡ named t) × (g.tickets ≡ t.tickets)
+keeps_place : (x : Option OccupantEntry) (t : OccupantEntry) → occupant_gone x ≡ Some t → (g : OccupantEntry) × (x ≡ Some g) × (named g ≡ named t) × (g.tickets ≡ t.tickets)
 keeps_place None t is = absurd (cc is)
 keeps_place (Some g) t is = go (g.tickets == 0) is where
-  go : (b : Bool) → cond b None (Some (record g { live = false; stands = None })) ≡ Some t → (h : Guest) × (Some g ≡ Some h) × (named h ≡ named t) × (h.tickets ≡ t.tickets)
+  go : (b : Bool) → cond b None (Some (record g { live = false; stands = None })) ≡ Some t → (h : OccupantEntry) × (Some g ≡ Some h) × (named h ≡ named t) × (h.tickets ≡ t.tickets)
   go true is = absurd (cc is)
-  go false is = let e : record g { live = false; stands = None } ≡ t = cc in (g, refl, ap named e, ap (λ (z : Guest). z.tickets) e)
+  go false is = let e : record g { live = false; stands = None } ≡ t = cc in (g, refl, ap named e, ap (λ (z : OccupantEntry). z.tickets) e)
 
 -- who is there now was there
-stays_there : (xs : List (Option Guest)) (i j : ℕ) (t : Guest) → i < length xs → slice_get (slice_set xs i (guest_gone (get_or xs i None))) j ≡ Some (Some t)
-    → (g : Guest) × (slice_get xs j ≡ Some (Some g)) × (named g ≡ named t) × (g.tickets ≡ t.tickets)
+stays_there : (xs : List (Option OccupantEntry)) (i j : ℕ) (t : OccupantEntry) → i < length xs → slice_get (slice_set xs i (occupant_gone (get_or xs i None))) j ≡ Some (Some t)
+    → (g : OccupantEntry) × (slice_get xs j ≡ Some (Some g)) × (named g ≡ named t) × (g.tickets ≡ t.tickets)
 stays_there xs i j t less is = elim (here_or i j) [
   | inr other ↦ (t, sym (set_other xs i j _ (λ e. other e)) ∙ is, refl, refl)
   | inl same ↦
-      (let both : Some (guest_gone (get_or xs i None)) ≡ Some (Some t) = sym (set_same xs i (guest_gone (get_or xs i None)) less) ∙ subst (λ z. slice_get (slice_set xs i (guest_gone (get_or xs i None))) z ≡ Some (Some t)) same is in
-      let one : guest_gone (get_or xs i None) ≡ Some t = cc in
+      (let both : Some (occupant_gone (get_or xs i None)) ≡ Some (Some t) = sym (set_same xs i (occupant_gone (get_or xs i None)) less) ∙ subst (λ z. slice_get (slice_set xs i (occupant_gone (get_or xs i None))) z ≡ Some (Some t)) same is in
+      let one : occupant_gone (get_or xs i None) ≡ Some t = cc in
       let k = keeps_place (get_or xs i None) t one in
       let there = get_there xs i less in
       let found : slice_get xs i ≡ Some (Some k.0) = there.1 ∙ ap Some (sym (get_or_is xs i there.0 None there.1) ∙ k.1) in
@@ -176,12 +176,12 @@ pub record IsGone (a b : Inside) (i : ℕ) : Type 0 where
   pub exits : Exits (space_of a) i (space_of b)
   pub well : IsWell b
 
-pub is_gone : (a b : Inside) (i : ℕ) (pool : Pool) → IsWell a → IsHere a i → b.guests.items ≡ slice_set a.guests.items i (guest_gone (get_or a.guests.items i None))
+pub is_gone : (a b : Inside) (i : ℕ) (pool : Pool) → IsWell a → IsHere a i → b.occupant_entries.items ≡ slice_set a.occupant_entries.items i (occupant_gone (get_or a.occupant_entries.items i None))
     → b.tables.pages ≡ slice_set a.tables.pages i [] → b.tables.marks ≡ slice_set a.tables.marks i [] → fixed_in b.tables ≡ fixed_in a.tables
     → record (space_of a) { pool = pool; pins = pins_of b.pins } ≡ unpinned_of (space_of a) i
     → record { pool = b.pool; marks = b.content } ≡ pages_gone (get_or a.tables.pages i []) (record { pool = pool; marks = a.content })
-    → b.slots ≡ voids_slot (leaver_of (get_or a.guests.items i None)) (slots_gone (get_or a.tables.pages i []) a.slots) → b.tax ≡ a.tax → IsGone a b i
-is_gone a b i pool was here guests pages marks limits ended frames slots tax =
+    → b.slots ≡ voids_slot (leaver_of (get_or a.occupant_entries.items i None)) (slots_gone (get_or a.tables.pages i []) a.slots) → b.tax ≡ a.tax → IsGone a b i
+is_gone a b i pool was here occupant_entries pages marks limits ended frames slots tax =
     let s : Space = space_of a in
     let u : Space = record s { pool = pool; pins = pins_of b.pins } in
     let sound : IsSound u = subst IsSound (sym ended) (ends s i was.sound).sound in
@@ -189,13 +189,13 @@ is_gone a b i pool was here guests pages marks limits ended frames slots tax =
     let free_then : (f : ℕ) → tally (one_if f) (unpinned_of s i).pool.free ≡ tally (one_if f) pool.free = λ f. ap (λ (z : Space). tally (one_if f) z.pool.free) (sym ended) in
     let bytes_then : pool.frames ≡ s.pool.frames = ap (λ (z : Space). z.pool.frames) ended ∙ (ends s i was.sound).frames in
     let t : Occupant = here.occupant in
-    let leaves = leaver_is a.guests.items i t here.there in
+    let leaves = leaver_is a.occupant_entries.items i t here.there in
     let left : HaveGone s i b.slots = subst (HaveGone s i) (sym (slots ∙ ap (λ (o : Option ℕ). voids_slot o (slots_gone (get_or s.tables i []) a.slots)) leaves)) (have_gone s i t was.sound.slots here.row here.there (slots_can a i was.sound here)) in
-    let guest = guest_here a.guests.items i t here.there in
-    let counted = was.counted i guest.0 guest.1 in
-    let now : occupant_of (guest_gone (get_or a.guests.items i None)) ≡ stays_occupant (Some (record t { live = false; stands = None })) (tally (ticket_of i) a.slots.uses) =
-    ap (λ (o : Option Guest). occupant_of (guest_gone o)) (get_or_is a.guests.items i (Some guest.0) None guest.1)
-    ∙ (gone_guest guest.0 (tally (ticket_of i) a.slots.uses) counted ∙ ap (λ (z : Occupant). stays_occupant (Some (record z { live = false; stands = None })) (tally (ticket_of i) a.slots.uses)) guest.2) in
+    let occupant_entry = guest_here a.occupant_entries.items i t here.there in
+    let counted = was.counted i occupant_entry.0 occupant_entry.1 in
+    let now : occupant_of (occupant_gone (get_or a.occupant_entries.items i None)) ≡ stays_occupant (Some (record t { live = false; stands = None })) (tally (ticket_of i) a.slots.uses) =
+    ap (λ (o : Option OccupantEntry). occupant_of (occupant_gone o)) (get_or_is a.occupant_entries.items i (Some occupant_entry.0) None occupant_entry.1)
+    ∙ (gone_guest occupant_entry.0 (tally (ticket_of i) a.slots.uses) counted ∙ ap (λ (z : Occupant). stays_occupant (Some (record z { live = false; stands = None })) (tally (ticket_of i) a.slots.uses)) occupant_entry.2) in
     let exits : Exits s i (space_of b) = record {
       occupant = t;
       was = (here.there, here.live);
@@ -209,12 +209,12 @@ is_gone a b i pool was here guests pages marks limits ended frames slots tax =
       slots = left.many;
       vacant = left.vacant;
       uses = left.uses;
-      occupants = ap (map occupant_of) guests ∙ (map-set occupant_of a.guests.items i (guest_gone (get_or a.guests.items i None)) ∙ ap (slice_set s.occupants i) now);
+      occupants = ap (map occupant_of) occupant_entries ∙ (map-set occupant_of a.occupant_entries.items i (occupant_gone (get_or a.occupant_entries.items i None)) ∙ ap (slice_set s.occupants i) now);
       pins = ap (λ (z : Space). z.pins) ended;
       tax = tax;
     } in
-    let before : (j : ℕ) (g : Guest) → slice_get b.guests.items j ≡ Some (Some g) → (h : Guest) × (slice_get a.guests.items j ≡ Some (Some h)) × (named h ≡ named g) × (h.tickets ≡ g.tickets) =
-    λ j g at. stays_there a.guests.items i j g here.place (ap (λ (z : List (Option Guest)). slice_get z j) (sym guests) ∙ at) in
+    let before : (j : ℕ) (g : OccupantEntry) → slice_get b.occupant_entries.items j ≡ Some (Some g) → (h : OccupantEntry) × (slice_get a.occupant_entries.items j ≡ Some (Some h)) × (named h ≡ named g) × (h.tickets ≡ g.tickets) =
+    λ j g at. stays_there a.occupant_entries.items i j g here.place (ap (λ (z : List (Option OccupantEntry)). slice_get z j) (sym occupant_entries) ∙ at) in
     record {
       exits = exits;
       well = record {
@@ -223,7 +223,7 @@ is_gone a b i pool was here guests pages marks limits ended frames slots tax =
         numbers = λ j g at. (let k = before j g at in ap (λ (z : Fixed). get_or z.numbers j 0) limits ∙ (was.numbers j k.0 k.1 ∙ ap (λ (z : Named). z.number) k.2));
         frames = ap (λ (z : Fixed). z.frames) limits ∙ was.frames ∙ sym (ap length exits.bytes);
         counted = λ j g at. (let k = before j g at in sym k.3 ∙ (was.counted j k.0 k.1 ∙ sym (same_tickets s i j b.slots left)));
-        places = (let long = ap length guests ∙ length-set a.guests.items i _ in rw long was.places);
+        places = (let long = ap length occupant_entries ∙ length-set a.occupant_entries.items i _ in rw long was.places);
       };
     }
 

@@ -23,3 +23,4 @@ pub mod Framing
 pub mod Charged
 pub mod Numbering
 pub mod Besides
+pub mod Blocks

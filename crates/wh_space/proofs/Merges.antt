@@ -1,8 +1,8 @@
 -- What an offer of a page leaves.
 use Rattle.std.proofs.Common.{◌≡◌, ◌≢◌, inl, inr, ℕ, ◌+◌, ◌-◌, ◌<◌, ◌≤◌, ◌^◌, Bool, List, [], ◌∷◌, Option, Some, None, length, get_or, slice_get, slice_set, suc, refl, sym, subst, arith}
 use Rattle.std.proofs.lemmas.Bool.Decides.{nat_tests}
-use Rattle.wh_content.specs.declared.entry.Entry.{Entry}
-use Rattle.wh_content.specs.declared.entry.Entry.TheVariants as entry
+use Rattle.wh_content.specs.declared.entry.ContentEntry.{ContentEntry}
+use Rattle.wh_content.specs.declared.entry.ContentEntry.TheVariants as entry
 use Rattle.wh_content.specs.Marks.{IsOnlyWith, frame_of_entry, mark_of_entry}
 use Rattle.wh_host_model.specs.Frames.{IsTaken, Pool, one_if, tally}
 use Rattle.wh_host_model.specs.Pages.{zero_page}
@@ -38,7 +38,7 @@ is_alone s i p g sound there =
     let taken = taken_under s i p (Private g) g sound.frames there refl in
     record { taken = taken; entry = omega (arith, sound.frames.marks, taken.0); number = (is_page s.tables i p (Private g) there).1 }
 
-pub entry_taken : (s : Space) (hash : ℕ) (e : Entry) → IsSound s → slice_get s.marks (frame_of_entry e) ≡ Some (mark_of_entry hash e) → IsTaken s.pool (frame_of_entry e)
+pub entry_taken : (s : Space) (hash : ℕ) (e : ContentEntry) → IsSound s → slice_get s.marks (frame_of_entry e) ≡ Some (mark_of_entry hash e) → IsTaken s.pool (frame_of_entry e)
 entry_taken s hash (entry.Hint f j q) sound found =
     let names : Names s f (Some (Hint hash j q)) = subst (Names s f) found (sound.frames.names f) in
     let x = page_there (owns f) (page_at s.tables j q) names.0 in
@@ -107,10 +107,10 @@ few_sharers s i p g f n hash sound few there found =
 
 -- ---- what the memory is then
 
-pub remade_is : (a b : Inside) (tables : List (List Page)) (touched : List (List Bool)) (pool : Pool) (marks : List Mark) → b.guests ≡ a.guests → b.slots ≡ a.slots → b.pins ≡ a.pins → b.tax ≡ a.tax
+pub remade_is : (a b : Inside) (tables : List (List Page)) (touched : List (List Bool)) (pool : Pool) (marks : List Mark) → b.occupant_entries ≡ a.occupant_entries → b.slots ≡ a.slots → b.pins ≡ a.pins → b.tax ≡ a.tax
     → b.tables.pages ≡ tables → b.tables.marks ≡ touched → b.pool ≡ pool → b.content ≡ marks
     → space_of b ≡ record (space_of a) { tables = tables; touched = touched; pool = pool; marks = marks }
-remade_is a b tables touched pool marks guests slots pins tax pages stamps frames entries = rw (guests, slots, pins, tax, pages, stamps, frames, entries) refl
+remade_is a b tables touched pool marks occupant_entries slots pins tax pages stamps frames entries = rw (occupant_entries, slots, pins, tax, pages, stamps, frames, entries) refl
 
 pub emptied_sound : (s : Space) (i p g : ℕ) → IsSound s → IsOffered s i p g → IsSound (emptied s i p g)
 emptied_sound s i p g sound offered = untouched_soundly (gives_up s i p g Untouched) i p (zeroed_sound s i p g sound offered)

@@ -23,10 +23,10 @@ use Rattle.wh_host_model.specs.Space.States.{at, leaving, page_at, put}
 use Rattle.wh_host_model.specs.Space.Tickets.{CommitsEvict, as_before, as_leaving, departing, sent_off, unpinned_page, leaving_by, not_sent, sent_for, settled, with_free, with_leaving, without_slot, has_come, not_come}
 use Rattle.wh_host_model.proofs.Tally.{one_other, one_same}
 use Rattle.wh_host_model.proofs.Space.Putting.{get_or_is, is_page, there_of}
-use Rattle.wh_space.specs.declared.guest.Guest.{Guest}
+use Rattle.wh_space.specs.declared.occupant_entry.OccupantEntry.{OccupantEntry}
 use Rattle.wh_space.specs.declared.memory.Memory.TheInside.{Inside}
-use Rattle.wh_space.specs.Guests.{begins_coming, begins_leaving, ends_coming, ends_leaving, settles}
-use Rattle.wh_space.specs.Pages.{fixed_in}
+use Rattle.wh_space.specs.OccupantEntries.{begins_coming, begins_leaving, ends_coming, ends_leaving, settles}
+use Rattle.wh_space.specs.UnchangedTables.{fixed_in}
 use Rattle.wh_space.specs.Parts.{IsWell, space_of}
 use Rattle.wh_space.specs.Pinning.{pins_of}
 use Rattle.wh_space.specs.Transits.{back_again}
@@ -67,7 +67,7 @@ is_void s k j sound is =
     let t = sound.slots.by_one j k (subst (LeavesBy j) (sym is) refl) in
     record { slot = there_of s.slots.uses k (EvictVoid j) is; taken = used.2; occupant = t.0; there = t.1 }
 
--- ---- slots and guests, part by part
+-- ---- slots and occupants, part by part
 
 pub given : (old new : Slots) (k : ℕ) → new.uses ≡ slice_set old.uses k Vacant → new.vacant ≡ old.vacant ++ k ∷ [] → new.held ≡ old.held
     → new ≡ record old { uses = slice_set old.uses k Vacant; vacant = old.vacant ++ k ∷ [] }
@@ -78,8 +78,8 @@ within_set xs ys i j x is less = let long = ap length is ∙ length-set xs i x i
 
 -- ---- a void ticket of a page that was to leave
 
-pub ended_void : (a b : Inside) (mid : List (Option Guest)) (k j : ℕ) → IsWell a → IsSound (settled (with_leaving (without_slot (space_of a) k) j None) j) → slice_get a.slots.uses k ≡ Some (EvictVoid j)
-    → mid ≡ slice_set a.guests.items j (ends_leaving (get_or a.guests.items j None)) → b.guests.items ≡ slice_set mid j (settles (get_or mid j None))
+pub ended_void : (a b : Inside) (mid : List (Option OccupantEntry)) (k j : ℕ) → IsWell a → IsSound (settled (with_leaving (without_slot (space_of a) k) j None) j) → slice_get a.slots.uses k ≡ Some (EvictVoid j)
+    → mid ≡ slice_set a.occupant_entries.items j (ends_leaving (get_or a.occupant_entries.items j None)) → b.occupant_entries.items ≡ slice_set mid j (settles (get_or mid j None))
     → b.slots ≡ record a.slots { uses = slice_set a.slots.uses k Vacant; vacant = a.slots.vacant ++ k ∷ [] } → b.tables ≡ a.tables → b.pool ≡ a.pool → b.content ≡ a.content → b.pins ≡ a.pins → b.tax ≡ a.tax
     → (space_of b ≡ settled (with_leaving (without_slot (space_of a) k) j None) j) × IsWell b
 ended_void a b mid k j was sound is first second slots tables pool content pins tax =
@@ -87,52 +87,52 @@ ended_void a b mid k j was sound is first second slots tables pool content pins 
     let void = is_void s k j was.sound is in
     let less = guest_within a j void.occupant void.there in
     let fewer = fewer_tickets a.slots.uses j k (EvictVoid j) Vacant is (one_same j j refl) refl in
-    let mine : (g : Guest) → slice_get a.guests.items j ≡ Some (Some g) → g.tickets - 1 ≡ tally (ticket_of j) (slice_set a.slots.uses k Vacant) = λ g at_it. (let n = was.counted j g at_it in omega arith) in
-    let before = changed ends_leaving (λ o. leaving_by o None) seen_left a.guests.items mid j first in
-    let after = settled_after ends_leaving (λ o. leaving_by o None) (λ n. n - 1) seen_left changes_left a.guests.items mid b.guests.items j (tally (ticket_of j) (slice_set a.slots.uses k Vacant)) less first second mine in
+    let mine : (g : OccupantEntry) → slice_get a.occupant_entries.items j ≡ Some (Some g) → g.tickets - 1 ≡ tally (ticket_of j) (slice_set a.slots.uses k Vacant) = λ g at_it. (let n = was.counted j g at_it in omega arith) in
+    let before = changed ends_leaving (λ o. leaving_by o None) seen_left a.occupant_entries.items mid j first in
+    let after = settled_after ends_leaving (λ o. leaving_by o None) (λ n. n - 1) seen_left changes_left a.occupant_entries.items mid b.occupant_entries.items j (tally (ticket_of j) (slice_set a.slots.uses k Vacant)) less first second mine in
     let now : space_of b ≡ settled (with_leaving (without_slot s k) j None) j = rw (after, before, slots, tables, pool, content, pins, tax) refl in (
       now,
       well_by a b j (λ y. settles (ends_leaving y)) (λ n. n - 1) (changes_settled ends_leaving (λ n. n - 1) changes_left) was (subst IsSound (sym now) sound) less
-          (changed_twice ends_leaving settles a.guests.items mid b.guests.items j less first second) (rw tables refl) (ap (λ (z : Pool). length z.frames) pool)
+          (changed_twice ends_leaving settles a.occupant_entries.items mid b.occupant_entries.items j less first second) (rw tables refl) (ap (λ (z : Pool). length z.frames) pool)
           (λ g at_it. rw slots (mine g at_it)) (λ i other. rw slots (other_tickets a.slots.uses i k (EvictVoid j) Vacant is (one_other i j other))),
     )
 
 -- ---- a page that stays
 
 pub stayed : (a b : Inside) (k j p : ℕ) (old : Page) → IsWell a → IsSound (not_sent (space_of a) j p k old) → slice_get a.slots.uses k ≡ Some (Evicting j p)
-    → b.guests.items ≡ slice_set a.guests.items j (ends_leaving (get_or a.guests.items j None))
+    → b.occupant_entries.items ≡ slice_set a.occupant_entries.items j (ends_leaving (get_or a.occupant_entries.items j None))
     → b.slots ≡ record a.slots { uses = slice_set a.slots.uses k Vacant; vacant = a.slots.vacant ++ k ∷ [] }
     → b.tables.pages ≡ put a.tables.pages j p old → b.tables.marks ≡ a.tables.marks → fixed_in b.tables ≡ fixed_in a.tables
     → b.pool ≡ a.pool → b.content ≡ a.content → b.pins ≡ a.pins → b.tax ≡ a.tax
     → (space_of b ≡ not_sent (space_of a) j p k old) × IsWell b
-stayed a b k j p old was sound is guests slots pages marks limits pool content pins tax =
+stayed a b k j p old was sound is occupant_entries slots pages marks limits pool content pins tax =
     let s : Space = space_of a in
     let out = is_out s k j p was.sound is in
     let less = guest_within a j out.occupant out.there in
-    let occupants = changed ends_leaving (λ o. leaving_by o None) seen_left a.guests.items b.guests.items j guests in
+    let occupants = changed ends_leaving (λ o. leaving_by o None) seen_left a.occupant_entries.items b.occupant_entries.items j occupant_entries in
     let now : space_of b ≡ not_sent s j p k old = rw (occupants, slots, pages, marks, pool, content, pins, tax) refl in
     let fewer = fewer_tickets a.slots.uses j k (Evicting j p) Vacant is (one_same j j refl) refl in (
       now,
-      well_by a b j ends_leaving (λ n. n - 1) changes_left was (subst IsSound (sym now) sound) less guests limits (ap (λ (z : Pool). length z.frames) pool)
+      well_by a b j ends_leaving (λ n. n - 1) changes_left was (subst IsSound (sym now) sound) less occupant_entries limits (ap (λ (z : Pool). length z.frames) pool)
           (λ g at_it. (let n = was.counted j g at_it in rw slots (omega arith))) (λ i other. rw slots (other_tickets a.slots.uses i k (Evicting j p) Vacant is (one_other i j other))),
     )
 
 -- ---- a page that begins to leave
 
 pub departed_now : (a b : Inside) (j p k : ℕ) (others : List ℕ) (new : Page) (t : Occupant) → IsWell a → IsSound (departing (space_of a) j p k others new) → slice_get a.slots.uses k ≡ Some Vacant → occupant_at (space_of a) j t
-    → b.guests.items ≡ slice_set a.guests.items j (begins_leaving k (get_or a.guests.items j None))
+    → b.occupant_entries.items ≡ slice_set a.occupant_entries.items j (begins_leaving k (get_or a.occupant_entries.items j None))
     → b.slots ≡ record a.slots { uses = slice_set a.slots.uses k (Evicting j p); vacant = others }
     → b.tables.pages ≡ put a.tables.pages j p new → b.tables.marks ≡ a.tables.marks → fixed_in b.tables ≡ fixed_in a.tables
     → b.pool ≡ a.pool → b.content ≡ a.content → b.pins ≡ a.pins → b.tax ≡ a.tax
     → (space_of b ≡ departing (space_of a) j p k others new) × IsWell b
-departed_now a b j p k others new t was sound is there guests slots pages marks limits pool content pins tax =
+departed_now a b j p k others new t was sound is there occupant_entries slots pages marks limits pool content pins tax =
     let s : Space = space_of a in
     let less = guest_within a j t there in
-    let occupants = changed (begins_leaving k) (λ o. leaving_by o (Some k)) (seen_leaving k) a.guests.items b.guests.items j guests in
+    let occupants = changed (begins_leaving k) (λ o. leaving_by o (Some k)) (seen_leaving k) a.occupant_entries.items b.occupant_entries.items j occupant_entries in
     let now : space_of b ≡ departing s j p k others new = rw (occupants, slots, pages, marks, pool, content, pins, tax) refl in
     let more = more_tickets a.slots.uses j k Vacant (Evicting j p) is refl (one_same j j refl) in (
       now,
-      well_by a b j (begins_leaving k) (λ n. n + 1) (changes_leaving k) was (subst IsSound (sym now) sound) less guests limits (ap (λ (z : Pool). length z.frames) pool)
+      well_by a b j (begins_leaving k) (λ n. n + 1) (changes_leaving k) was (subst IsSound (sym now) sound) less occupant_entries limits (ap (λ (z : Pool). length z.frames) pool)
           (λ g at_it. (let n = was.counted j g at_it in rw slots (omega arith))) (λ i other. rw slots (other_tickets a.slots.uses i k Vacant (Evicting j p) is (sym (one_other i j other)))),
     )
 
@@ -170,8 +170,8 @@ fetched_into s k f x sound is one =
       | inr past ↦ absurd (let none = sound.frames.none f past in omega arith)
     ]
 
-pub ended_void_fetch : (a b : Inside) (mid : List (Option Guest)) (k i f : ℕ) → IsWell a → IsSound (settled (with_free (without_slot (space_of a) k) f) i) → slice_get a.slots.uses k ≡ Some (FetchVoid i f)
-    → mid ≡ slice_set a.guests.items i (ends_coming (get_or a.guests.items i None)) → b.guests.items ≡ slice_set mid i (settles (get_or mid i None))
+pub ended_void_fetch : (a b : Inside) (mid : List (Option OccupantEntry)) (k i f : ℕ) → IsWell a → IsSound (settled (with_free (without_slot (space_of a) k) f) i) → slice_get a.slots.uses k ≡ Some (FetchVoid i f)
+    → mid ≡ slice_set a.occupant_entries.items i (ends_coming (get_or a.occupant_entries.items i None)) → b.occupant_entries.items ≡ slice_set mid i (settles (get_or mid i None))
     → b.slots ≡ record a.slots { uses = slice_set a.slots.uses k Vacant; vacant = a.slots.vacant ++ k ∷ [] } → b.tables ≡ a.tables → b.pool ≡ record a.pool { free = a.pool.free ++ f ∷ [] } → b.content ≡ a.content → b.pins ≡ a.pins → b.tax ≡ a.tax
     → (space_of b ≡ settled (with_free (without_slot (space_of a) k) f) i) × IsWell b
 ended_void_fetch a b mid k i f was sound is first second slots tables pool content pins tax =
@@ -179,66 +179,66 @@ ended_void_fetch a b mid k i f was sound is first second slots tables pool conte
     let void = is_void_fetch s k i f was.sound is in
     let less = guest_within a i void.occupant void.there in
     let fewer = fewer_tickets a.slots.uses i k (FetchVoid i f) Vacant is (one_same i i refl) refl in
-    let mine : (g : Guest) → slice_get a.guests.items i ≡ Some (Some g) → g.tickets - 1 ≡ tally (ticket_of i) (slice_set a.slots.uses k Vacant) = λ g at_it. (let n = was.counted i g at_it in omega arith) in
-    let before = unchanged ends_coming seen_came a.guests.items mid i first in
-    let after = settled_after ends_coming (λ o. o) (λ n. n - 1) seen_came changes_came a.guests.items mid b.guests.items i (tally (ticket_of i) (slice_set a.slots.uses k Vacant)) less first second mine in
+    let mine : (g : OccupantEntry) → slice_get a.occupant_entries.items i ≡ Some (Some g) → g.tickets - 1 ≡ tally (ticket_of i) (slice_set a.slots.uses k Vacant) = λ g at_it. (let n = was.counted i g at_it in omega arith) in
+    let before = unchanged ends_coming seen_came a.occupant_entries.items mid i first in
+    let after = settled_after ends_coming (λ o. o) (λ n. n - 1) seen_came changes_came a.occupant_entries.items mid b.occupant_entries.items i (tally (ticket_of i) (slice_set a.slots.uses k Vacant)) less first second mine in
     let now : space_of b ≡ settled (with_free (without_slot s k) f) i = rw (after, before, slots, tables, pool, content, pins, tax) refl in (
       now,
       well_by a b i (λ y. settles (ends_coming y)) (λ n. n - 1) (changes_settled ends_coming (λ n. n - 1) changes_came) was (subst IsSound (sym now) sound) less
-          (changed_twice ends_coming settles a.guests.items mid b.guests.items i less first second) (rw tables refl) (ap (λ (z : Pool). length z.frames) pool)
+          (changed_twice ends_coming settles a.occupant_entries.items mid b.occupant_entries.items i less first second) (rw tables refl) (ap (λ (z : Pool). length z.frames) pool)
           (λ g at_it. rw slots (mine g at_it)) (λ j other. rw slots (other_tickets a.slots.uses j k (FetchVoid i f) Vacant is (one_other j i other))),
     )
 
 pub came : (a b : Inside) (k i p f : ℕ) (bytes : List ℕ) → IsWell a → IsSound (has_come (space_of a) i p f k bytes) → slice_get a.slots.uses k ≡ Some (Fetching i p f)
-    → b.guests.items ≡ slice_set a.guests.items i (ends_coming (get_or a.guests.items i None))
+    → b.occupant_entries.items ≡ slice_set a.occupant_entries.items i (ends_coming (get_or a.occupant_entries.items i None))
     → b.slots ≡ record a.slots { uses = slice_set a.slots.uses k Vacant; vacant = a.slots.vacant ++ k ∷ [] }
     → b.tables.pages ≡ put a.tables.pages i p (Private f) → b.tables.marks ≡ a.tables.marks → fixed_in b.tables ≡ fixed_in a.tables
     → b.pool ≡ record a.pool { frames = slice_set a.pool.frames f bytes } → b.content ≡ a.content → b.pins ≡ a.pins → b.tax ≡ a.tax
     → (space_of b ≡ has_come (space_of a) i p f k bytes) × IsWell b
-came a b k i p f bytes was sound is guests slots pages marks limits pool content pins tax =
+came a b k i p f bytes was sound is occupant_entries slots pages marks limits pool content pins tax =
     let s : Space = space_of a in
     let out = is_awaited s k i p f was.sound is in
     let less = table_within a i was.sound out.row in
-    let occupants = unchanged ends_coming seen_came a.guests.items b.guests.items i guests in
+    let occupants = unchanged ends_coming seen_came a.occupant_entries.items b.occupant_entries.items i occupant_entries in
     let now : space_of b ≡ has_come s i p f k bytes = rw (occupants, slots, pages, marks, pool, content, pins, tax) refl in
     let fewer = fewer_tickets a.slots.uses i k (Fetching i p f) Vacant is (one_same i i refl) refl in (
       now,
-      well_by a b i ends_coming (λ n. n - 1) changes_came was (subst IsSound (sym now) sound) less guests limits (ap (λ (z : Pool). length z.frames) pool ∙ length-set a.pool.frames f bytes)
+      well_by a b i ends_coming (λ n. n - 1) changes_came was (subst IsSound (sym now) sound) less occupant_entries limits (ap (λ (z : Pool). length z.frames) pool ∙ length-set a.pool.frames f bytes)
           (λ g at_it. (let n = was.counted i g at_it in rw slots (omega arith))) (λ j other. rw slots (other_tickets a.slots.uses j k (Fetching i p f) Vacant is (one_other j i other))),
     )
 
 pub stayed_away : (a b : Inside) (k i p f : ℕ) → IsWell a → IsSound (not_come (space_of a) i p f k) → slice_get a.slots.uses k ≡ Some (Fetching i p f)
-    → b.guests.items ≡ slice_set a.guests.items i (ends_coming (get_or a.guests.items i None))
+    → b.occupant_entries.items ≡ slice_set a.occupant_entries.items i (ends_coming (get_or a.occupant_entries.items i None))
     → b.slots ≡ record a.slots { uses = slice_set a.slots.uses k Taken }
     → b.tables.pages ≡ put a.tables.pages i p (Swapped k) → b.tables.marks ≡ a.tables.marks → fixed_in b.tables ≡ fixed_in a.tables
     → b.pool ≡ record a.pool { free = a.pool.free ++ f ∷ [] } → b.content ≡ a.content → b.pins ≡ a.pins → b.tax ≡ a.tax
     → (space_of b ≡ not_come (space_of a) i p f k) × IsWell b
-stayed_away a b k i p f was sound is guests slots pages marks limits pool content pins tax =
+stayed_away a b k i p f was sound is occupant_entries slots pages marks limits pool content pins tax =
     let s : Space = space_of a in
     let out = is_awaited s k i p f was.sound is in
     let less = table_within a i was.sound out.row in
-    let occupants = unchanged ends_coming seen_came a.guests.items b.guests.items i guests in
+    let occupants = unchanged ends_coming seen_came a.occupant_entries.items b.occupant_entries.items i occupant_entries in
     let now : space_of b ≡ not_come s i p f k = rw (occupants, slots, pages, marks, pool, content, pins, tax) refl in
     let fewer = fewer_tickets a.slots.uses i k (Fetching i p f) Taken is (one_same i i refl) refl in (
       now,
-      well_by a b i ends_coming (λ n. n - 1) changes_came was (subst IsSound (sym now) sound) less guests limits (ap (λ (z : Pool). length z.frames) pool)
+      well_by a b i ends_coming (λ n. n - 1) changes_came was (subst IsSound (sym now) sound) less occupant_entries limits (ap (λ (z : Pool). length z.frames) pool)
           (λ g at_it. (let n = was.counted i g at_it in rw slots (omega arith))) (λ j other. rw slots (other_tickets a.slots.uses j k (Fetching i p f) Taken is (one_other j i other))),
     )
 
 -- a page begins to come
-pub sent : (a b : Inside) (k i p f : ℕ) (others : List ℕ) → IsWell a → IsSound (sent_for (space_of a) i p f k others) → slice_get a.slots.uses k ≡ Some Taken → i < length a.guests.items
-    → b.guests.items ≡ slice_set a.guests.items i (begins_coming (get_or a.guests.items i None))
+pub sent : (a b : Inside) (k i p f : ℕ) (others : List ℕ) → IsWell a → IsSound (sent_for (space_of a) i p f k others) → slice_get a.slots.uses k ≡ Some Taken → i < length a.occupant_entries.items
+    → b.occupant_entries.items ≡ slice_set a.occupant_entries.items i (begins_coming (get_or a.occupant_entries.items i None))
     → b.slots ≡ record a.slots { uses = slice_set a.slots.uses k (Fetching i p f) }
     → b.tables.pages ≡ put a.tables.pages i p (Coming k) → b.tables.marks ≡ a.tables.marks → fixed_in b.tables ≡ fixed_in a.tables
     → b.pool ≡ a.pool → b.content ≡ a.content → pins_of b.pins ≡ Some (record { place = i; pages = pinned_by (pins_of a.pins) i; frames = others }) → b.tax ≡ a.tax
     → (space_of b ≡ sent_for (space_of a) i p f k others) × IsWell b
-sent a b k i p f others was sound is less guests slots pages marks limits pool content pins tax =
+sent a b k i p f others was sound is less occupant_entries slots pages marks limits pool content pins tax =
     let s : Space = space_of a in
-    let occupants = unchanged begins_coming seen_coming a.guests.items b.guests.items i guests in
+    let occupants = unchanged begins_coming seen_coming a.occupant_entries.items b.occupant_entries.items i occupant_entries in
     let now : space_of b ≡ sent_for s i p f k others = rw (occupants, slots, pages, marks, pool, content, pins, tax) refl in
     let more = more_tickets a.slots.uses i k Taken (Fetching i p f) is refl (one_same i i refl) in (
       now,
-      well_by a b i begins_coming (λ n. n + 1) changes_coming was (subst IsSound (sym now) sound) less guests limits (ap (λ (z : Pool). length z.frames) pool)
+      well_by a b i begins_coming (λ n. n + 1) changes_coming was (subst IsSound (sym now) sound) less occupant_entries limits (ap (λ (z : Pool). length z.frames) pool)
           (λ g at_it. (let n = was.counted i g at_it in rw slots (omega arith))) (λ j other. rw slots (other_tickets a.slots.uses j k Taken (Fetching i p f) is (sym (one_other j i other)))),
     )
 
@@ -280,7 +280,7 @@ pub record MayDepart (a : Inside) (j p : ℕ) : Type 0 where
   pub stays : stays page ≡ 1
   pub occupant : Occupant
   pub there : occupant_at (space_of a) j occupant
-  pub less : j < length a.guests.items
+  pub less : j < length a.occupant_entries.items
 
 pub may_depart : (a : Inside) (j p : ℕ) → CanLeave (space_of a) j p → MayDepart a j p
 may_depart a j p can =
@@ -309,24 +309,24 @@ fewer_is s f sound within = elim (cases_lt 1 (sharers s f)) [
 
 pub left_now : (a b : Inside) (k j p f : ℕ) (page : Page) → IsWell a → slice_get a.slots.uses k ≡ Some (Evicting j p) → page_at (space_of a).tables j p ≡ Some page → frame_of page ≡ Some f
     → get_or a.slots.held k [] ≡ frame_bytes (space_of a) f → f < length a.content
-    → b.guests.items ≡ slice_set a.guests.items j (ends_leaving (get_or a.guests.items j None))
+    → b.occupant_entries.items ≡ slice_set a.occupant_entries.items j (ends_leaving (get_or a.occupant_entries.items j None))
     → b.slots ≡ record a.slots { uses = slice_set a.slots.uses k Taken }
     → b.tables.pages ≡ put a.tables.pages j p (Swapped k) → b.tables.marks ≡ put a.tables.marks j p false → fixed_in b.tables ≡ fixed_in a.tables
     → b.content ≡ slice_set a.content f (cond (nat_lt 1 (sharers (space_of a) f)) (fewer_sharers 1 (get_or a.content f Plain)) Plain)
     → b.pool ≡ record a.pool { free = cond (nat_lt 1 (sharers (space_of a) f)) a.pool.free (a.pool.free ++ f ∷ []) }
     → pins_of b.pins ≡ unpinned_page (pins_of a.pins) j p → b.tax ≡ a.tax
     → (space_of b ≡ sent_off (space_of a) j p f k) × IsWell b
-left_now a b k j p f page was is there on held within guests slots pages marks limits content pool pins tax =
+left_now a b k j p f page was is there on held within occupant_entries slots pages marks limits content pool pins tax =
     let s : Space = space_of a in
     let out = is_out s k j p was.sound is in
     let less = guest_within a j out.occupant out.there in
-    let occupants = changed ends_leaving (λ o. leaving_by o None) seen_left a.guests.items b.guests.items j guests in
+    let occupants = changed ends_leaving (λ o. leaving_by o None) seen_left a.occupant_entries.items b.occupant_entries.items j occupant_entries in
     let entries : b.content ≡ slice_set a.content f (cond (nat_lt 1 (sharers s f)) (one_fewer (slice_get a.content f)) Plain) = content ∙ ap (slice_set a.content f) (fewer_is s f was.sound.frames within) in
     let now : space_of b ≡ sent_off s j p f k = rw (occupants, slots, pages, marks, pool, entries, pins, tax) refl in
     let sound = is_sound_sent s j p f k page was.sound is there on held in
     let fewer = fewer_tickets a.slots.uses j k (Evicting j p) Taken is (one_same j j refl) refl in (
       now,
-      well_by a b j ends_leaving (λ n. n - 1) changes_left was (subst IsSound (sym now) sound) less guests limits (ap (λ (z : Pool). length z.frames) pool)
+      well_by a b j ends_leaving (λ n. n - 1) changes_left was (subst IsSound (sym now) sound) less occupant_entries limits (ap (λ (z : Pool). length z.frames) pool)
           (λ g at_it. (let n = was.counted j g at_it in rw slots (omega arith))) (λ i other. rw slots (other_tickets a.slots.uses i k (Evicting j p) Taken is (one_other i j other))),
     )
 

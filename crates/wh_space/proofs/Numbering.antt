@@ -26,7 +26,7 @@ pub next_small : (a : Inside) (after : Option ℕ) (id : InstId) → IsWell a �
 next_small a after id was next =
     let within : id.place < length a.tables.pages = has_row a.tables.pages id.place next.later.0 in
     let many = was.sound.occupants.tables in
-    let l = length-map a.guests.items occupant_of in
+    let l = length-map a.occupant_entries.items occupant_of in
     let few = was.places in
     omega arith
 

@@ -18,7 +18,7 @@ use Rattle.wh_host_model.proofs.Space.Filled.{breaks_soundly}
 use Rattle.wh_host_model.proofs.Space.Putting.{get_pages, is_page, put_this}
 use Rattle.wh_host_model.proofs.Space.Reading.{shared_taken}
 use Rattle.wh_space.specs.declared.memory.Memory.TheInside.{Inside}
-use Rattle.wh_space.specs.Pages.{fixed_in}
+use Rattle.wh_space.specs.UnchangedTables.{fixed_in}
 use Rattle.wh_space.specs.Parts.{IsWell, space_of}
 use Rattle.wh_space.specs.Steps.{CanBreak, Owns}
 use Rattle.wh_space.specs.Pinning.{FrameGoes, pins_of}
@@ -147,26 +147,26 @@ gets_long s i (LeavingShared f) g s2 gets = leaves_long s i f g s2 gets
 gets_long s i (Coming k) g s2 gets = absurd gets
 gets_long s i (Swapped k) g s2 gets = absurd gets
 
-pub owned_by : (a b : Inside) (i p g : ℕ) (x y : Page) → IsWell a → b.guests ≡ a.guests → b.slots ≡ voids_leaver (leaver_of (get_or a.guests.items i None)) y a.slots → b.tax ≡ a.tax
+pub owned_by : (a b : Inside) (i p g : ℕ) (x y : Page) → IsWell a → b.occupant_entries ≡ a.occupant_entries → b.slots ≡ voids_leaver (leaver_of (get_or a.occupant_entries.items i None)) y a.slots → b.tax ≡ a.tax
     → b.tables.pages ≡ put a.tables.pages i p (Private g) → b.tables.marks ≡ put a.tables.marks i p true
     → fixed_in b.tables ≡ fixed_in a.tables → page_at a.tables.pages i p ≡ Some x → page_at a.tables.pages i p ≡ Some y
     → GetsFrame (space_of a) i x g (record (space_of a) { pool = b.pool; marks = b.content; pins = pins_of b.pins }) → IsOwned a b i p g
-owned_by a b i p g x y was guests slots tax pages marks limits there also gets =
+owned_by a b i p g x y was occupant_entries slots tax pages marks limits there also gets =
     let s : Space = space_of a in
     let mid : Space = record s { pool = b.pool; marks = b.content; pins = pins_of b.pins } in
     let void = slots ∙ voided_is a i p y was.sound.slots also in
-    let after : space_of b ≡ standing_alone mid i p g = rw (pages, marks, guests, void, tax) refl in
+    let after : space_of b ≡ standing_alone mid i p g = rw (pages, marks, occupant_entries, void, tax) refl in
     let breaks : Breaks s i p (space_of b) = record { page = x; was = there; frame = g; mid = mid; gets = gets; after = after } in
     let tickets : (j : ℕ) → tally (ticket_of j) b.slots.uses ≡ tally (ticket_of j) a.slots.uses = λ j. ap (λ (z : Slots). tally (ticket_of j) z.uses) void ∙ void_tickets j i p a.slots.uses in
     record {
-      well = well_with a b was guests limits (gets_long s i x g mid gets) tickets (breaks_soundly s i p (space_of b) was.sound breaks).0;
+      well = well_with a b was occupant_entries limits (gets_long s i x g mid gets) tickets (breaks_soundly s i p (space_of b) was.sound breaks).0;
       breaks = breaks;
       page = ap (λ (t : List (List Page)). page_at t i p) pages ∙ put_this a.tables.pages i p x (Private g) there;
     }
 
 -- ---- a page that was alone already, or nothing was done
 
-put_found : {X : Type 0} (xss : List (List X)) (i p : ℕ) (x : X) → page_at xss i p ≡ Some x → put xss i p x ≡ xss
+pub put_found : {X : Type 0} (xss : List (List X)) (i p : ℕ) (x : X) → page_at xss i p ≡ Some x → put xss i p x ≡ xss
 put_found [] i p x there = refl
 put_found (xs ∷ xss) zero p x there = ap (λ z. z ∷ xss) (same xs p x there) where
   same : {X : Type 0} (xs : List X) (p : ℕ) (x : X) → slice_get xs p ≡ Some x → slice_set xs p x ≡ xs
@@ -183,17 +183,17 @@ pub record IsQuick (a b : Inside) (i p : ℕ) (found : Option ℕ) : Type 0 wher
 one_own : (g : ℕ) → owns g (Private g) ≡ 1
 one_own g = grind (arith, nat_tests)
 
-pub quickly : (a b : Inside) (i p : ℕ) (found : Option ℕ) → IsWell a → b.guests ≡ a.guests → b.pool ≡ a.pool → b.content ≡ a.content → b.slots ≡ a.slots → b.pins ≡ a.pins → b.tax ≡ a.tax
+pub quickly : (a b : Inside) (i p : ℕ) (found : Option ℕ) → IsWell a → b.occupant_entries ≡ a.occupant_entries → b.pool ≡ a.pool → b.content ≡ a.content → b.slots ≡ a.slots → b.pins ≡ a.pins → b.tax ≡ a.tax
     → IfSome found (λ frame. page_at a.tables.pages i p ≡ Some (Private frame)) → b.tables.pages ≡ a.tables.pages
     → IfSome found (λ frame. b.tables.marks ≡ put a.tables.marks i p true) → fixed_in b.tables ≡ fixed_in a.tables
     → IfNone found (b.tables.marks ≡ a.tables.marks) → IsQuick a b i p found
-quickly a b i p None was guests pool content slots pins tax there pages marked limits same =
-    let is : space_of b ≡ space_of a = rw (guests, pages, same, pool, content, slots, pins, tax) refl in
-    record { well = well a b was guests limits (ap (λ (z : Pool). length z.frames) pool) slots (subst IsSound (sym is) was.sound); owns = tt; same = is }
-quickly a b i p (Some g) was guests pool content slots pins tax there pages marked limits same =
+quickly a b i p None was occupant_entries pool content slots pins tax there pages marked limits same =
+    let is : space_of b ≡ space_of a = rw (occupant_entries, pages, same, pool, content, slots, pins, tax) refl in
+    record { well = well a b was occupant_entries limits (ap (λ (z : Pool). length z.frames) pool) slots (subst IsSound (sym is) was.sound); owns = tt; same = is }
+quickly a b i p (Some g) was occupant_entries pool content slots pins tax there pages marked limits same =
     let s : Space = space_of a in
     let gets : GetsFrame s i (Private g) g (record s { pool = b.pool; marks = b.content; pins = pins_of b.pins }) = (refl, rw (pool, content, pins) refl) in
-    let o = owned_by a b i p g (Private g) (Private g) was guests slots tax (pages ∙ sym (put_found a.tables.pages i p (Private g) there)) marked limits there there gets in
+    let o = owned_by a b i p g (Private g) (Private g) was occupant_entries slots tax (pages ∙ sym (put_found a.tables.pages i p (Private g) there)) marked limits there there gets in
     record {
       well = o.well;
       owns = (can_keep s i p g (Private g) was.sound there (one_own g), o.breaks, o.page);

@@ -9,24 +9,24 @@ use Rattle.wh_host_model.specs.declared.states.Slot.TheVariants.{Vacant, Taken, 
 use Rattle.wh_host_model.specs.Space.Errands.{ticket_of}
 use Rattle.wh_host_model.specs.Space.Parts.{Occupant, Space, occupant_at}
 use Rattle.wh_host_model.specs.Space.Sound.{IsSound}
-use Rattle.wh_host_model.specs.Space.Tickets.{StandsForFrame, leaving_by, stays_occupant}
+use Rattle.wh_host_model.specs.Space.Tickets.{WaitsForBytes, leaving_by, stays_occupant}
 use Rattle.wh_host_model.proofs.Space.Putting.{get_or_is, here_or, set_other, set_same, there_of}
 use Rattle.wh_host_model.proofs.Space.Rooms.{get_there}
 use Rattle.wh_host_model.proofs.Space.Sent.{set_set}
 use Rattle.wh_host_model.proofs.Space.Sums.{set_tally}
-use Rattle.wh_space.specs.declared.guest.Guest.{Guest}
+use Rattle.wh_space.specs.declared.occupant_entry.OccupantEntry.{OccupantEntry}
 use Rattle.wh_space.specs.declared.memory.Memory.TheInside.{Inside}
-use Rattle.wh_space.specs.Guests.{begins_coming, begins_leaving, ends_coming, ends_leaving, settles}
-use Rattle.wh_space.specs.Pages.{Fixed, fixed_in}
+use Rattle.wh_space.specs.OccupantEntries.{begins_coming, begins_leaving, ends_coming, ends_leaving, settles}
+use Rattle.wh_space.specs.UnchangedTables.{Fixed, fixed_in}
 use Rattle.wh_space.specs.Parts.{IsWell, Named, named, occupant_of, space_of}
 
 -- ---- how who is there changes: with so many tickets
 
-abbrev pub Changes : (Option Guest → Option Guest) → (ℕ → ℕ) → Type 0
-Changes change count = (y : Option Guest) (t : Guest) → change y ≡ Some t → (g : Guest) × (y ≡ Some g) × (named g ≡ named t) × (t.tickets ≡ count g.tickets)
+abbrev pub Changes : (Option OccupantEntry → Option OccupantEntry) → (ℕ → ℕ) → Type 0
+Changes change count = (y : Option OccupantEntry) (t : OccupantEntry) → change y ≡ Some t → (g : OccupantEntry) × (y ≡ Some g) × (named g ≡ named t) × (t.tickets ≡ count g.tickets)
 
-both_of : {g t : Guest} → Some g ≡ Some t → (named g ≡ named t) × (t.tickets ≡ g.tickets)
-both_of {g} {t} e = let k : g ≡ t = cc in (ap named k, ap (λ (z : Guest). z.tickets) (sym k))
+both_of : {g t : OccupantEntry} → Some g ≡ Some t → (named g ≡ named t) × (t.tickets ≡ g.tickets)
+both_of {g} {t} e = let k : g ≡ t = cc in (ap named k, ap (λ (z : OccupantEntry). z.tickets) (sym k))
 
 pub changes_leaving : (k : ℕ) → Changes (begins_leaving k) (λ n. n + 1)
 changes_leaving k None t is = absurd (cc is)
@@ -44,70 +44,70 @@ pub changes_came : Changes ends_coming (λ n. n - 1)
 changes_came None t is = absurd (cc is)
 changes_came (Some g) t is = let e = both_of is in (g, refl, e.0, e.1)
 
-settled_same : (g t : Guest) → settles (Some g) ≡ Some t → (named g ≡ named t) × (t.tickets ≡ g.tickets)
+settled_same : (g t : OccupantEntry) → settles (Some g) ≡ Some t → (named g ≡ named t) × (t.tickets ≡ g.tickets)
 settled_same g t is = go g.live (g.tickets == 0) is where
   go : (a b : Bool) → cond a (Some g) (cond b None (Some g)) ≡ Some t → (named g ≡ named t) × (t.tickets ≡ g.tickets)
   go true b is = both_of is
   go false true is = absurd (cc is)
   go false false is = both_of is
 
-pub changes_settled : (change : Option Guest → Option Guest) (count : ℕ → ℕ) → Changes change count → Changes (λ y. settles (change y)) count
+pub changes_settled : (change : Option OccupantEntry → Option OccupantEntry) (count : ℕ → ℕ) → Changes change count → Changes (λ y. settles (change y)) count
 changes_settled change count so y t is = go (change y) refl is where
-  go : (z : Option Guest) → change y ≡ z → settles z ≡ Some t → (g : Guest) × (y ≡ Some g) × (named g ≡ named t) × (t.tickets ≡ count g.tickets)
+  go : (z : Option OccupantEntry) → change y ≡ z → settles z ≡ Some t → (g : OccupantEntry) × (y ≡ Some g) × (named g ≡ named t) × (t.tickets ≡ count g.tickets)
   go None e is = absurd (cc is)
   go (Some h) e is = let same = settled_same h t is in let k = so y h e in (k.0, k.1, k.2 ∙ same.0, same.1 ∙ k.3)
 
 -- ---- the memory is well then
 
-pub well_by : (a b : Inside) (i : ℕ) (change : Option Guest → Option Guest) (count : ℕ → ℕ) → Changes change count → IsWell a → IsSound (space_of b) → i < length a.guests.items
-    → b.guests.items ≡ slice_set a.guests.items i (change (get_or a.guests.items i None)) → fixed_in b.tables ≡ fixed_in a.tables → length b.pool.frames ≡ length a.pool.frames
-    → ((g : Guest) → slice_get a.guests.items i ≡ Some (Some g) → count g.tickets ≡ tally (ticket_of i) b.slots.uses)
+pub well_by : (a b : Inside) (i : ℕ) (change : Option OccupantEntry → Option OccupantEntry) (count : ℕ → ℕ) → Changes change count → IsWell a → IsSound (space_of b) → i < length a.occupant_entries.items
+    → b.occupant_entries.items ≡ slice_set a.occupant_entries.items i (change (get_or a.occupant_entries.items i None)) → fixed_in b.tables ≡ fixed_in a.tables → length b.pool.frames ≡ length a.pool.frames
+    → ((g : OccupantEntry) → slice_get a.occupant_entries.items i ≡ Some (Some g) → count g.tickets ≡ tally (ticket_of i) b.slots.uses)
     → ((j : ℕ) → j ≢ i → tally (ticket_of j) b.slots.uses ≡ tally (ticket_of j) a.slots.uses) → IsWell b
-well_by a b i change count so was sound less guests fixed frames mine others =
-    let xs : List (Option Guest) = a.guests.items in
+well_by a b i change count so was sound less occupant_entries fixed frames mine others =
+    let xs : List (Option OccupantEntry) = a.occupant_entries.items in
     let there = get_there xs i less in
     let row : get_or xs i None ≡ there.0 = get_or_is xs i there.0 None there.1 in
-    let here : (t : Guest) → slice_get b.guests.items i ≡ Some (Some t) → (g : Guest) × (slice_get xs i ≡ Some (Some g)) × (named g ≡ named t) × (t.tickets ≡ count g.tickets) = λ t is.
-    (let both : Some (change (get_or xs i None)) ≡ Some (Some t) = sym (set_same xs i (change (get_or xs i None)) less) ∙ (sym (ap (λ (z : List (Option Guest)). slice_get z i) guests) ∙ is) in
+    let here : (t : OccupantEntry) → slice_get b.occupant_entries.items i ≡ Some (Some t) → (g : OccupantEntry) × (slice_get xs i ≡ Some (Some g)) × (named g ≡ named t) × (t.tickets ≡ count g.tickets) = λ t is.
+    (let both : Some (change (get_or xs i None)) ≡ Some (Some t) = sym (set_same xs i (change (get_or xs i None)) less) ∙ (sym (ap (λ (z : List (Option OccupantEntry)). slice_get z i) occupant_entries) ∙ is) in
     let one : change (get_or xs i None) ≡ Some t = cc in
     let k = so (get_or xs i None) t one in
     (k.0, there.1 ∙ ap Some (sym row ∙ k.1), k.2, k.3)) in
-    let away : (j : ℕ) (t : Guest) → j ≢ i → slice_get b.guests.items j ≡ Some (Some t) → slice_get xs j ≡ Some (Some t) =
-    λ j t other is. sym (ap (λ (z : List (Option Guest)). slice_get z j) guests ∙ set_other xs i j (change (get_or xs i None)) other) ∙ is in
+    let away : (j : ℕ) (t : OccupantEntry) → j ≢ i → slice_get b.occupant_entries.items j ≡ Some (Some t) → slice_get xs j ≡ Some (Some t) =
+    λ j t other is. sym (ap (λ (z : List (Option OccupantEntry)). slice_get z j) occupant_entries ∙ set_other xs i j (change (get_or xs i None)) other) ∙ is in
     record {
       sound = sound;
       limits = λ j t is. ap (λ (z : Fixed). slice_get z.limits j) fixed ∙ elim (here_or i j) [
         | inr other ↦ was.limits j t (away j t (λ e. other e) is)
         | inl same ↦
-            (let k = here t (subst (λ z. slice_get b.guests.items z ≡ Some (Some t)) same is) in
+            (let k = here t (subst (λ z. slice_get b.occupant_entries.items z ≡ Some (Some t)) same is) in
             subst (λ z. slice_get a.tables.limits z ≡ Some t.max) (sym same) (was.limits i k.0 k.1 ∙ ap (λ (z : Named). Some z.max) k.2))
       ];
       numbers = λ j t is. ap (λ (z : Fixed). get_or z.numbers j 0) fixed ∙ elim (here_or i j) [
         | inr other ↦ was.numbers j t (away j t (λ e. other e) is)
         | inl same ↦
-            (let k = here t (subst (λ z. slice_get b.guests.items z ≡ Some (Some t)) same is) in
+            (let k = here t (subst (λ z. slice_get b.occupant_entries.items z ≡ Some (Some t)) same is) in
             subst (λ z. get_or a.tables.numbers z 0 ≡ t.number) (sym same) (was.numbers i k.0 k.1 ∙ ap (λ (z : Named). z.number) k.2))
       ];
       frames = ap (λ (z : Fixed). z.frames) fixed ∙ was.frames ∙ sym frames;
       counted = λ j t is. elim (here_or i j) [
         | inr other ↦ was.counted j t (away j t (λ e. other e) is) ∙ sym (others j (λ e. other e))
         | inl same ↦
-            (let k = here t (subst (λ z. slice_get b.guests.items z ≡ Some (Some t)) same is) in
+            (let k = here t (subst (λ z. slice_get b.occupant_entries.items z ≡ Some (Some t)) same is) in
             subst (λ z. t.tickets ≡ tally (ticket_of z) b.slots.uses) (sym same) (k.3 ∙ mine k.0 k.1))
       ];
-      places = (let long = ap length guests ∙ length-set xs i _ in rw long was.places);
+      places = (let long = ap length occupant_entries ∙ length-set xs i _ in rw long was.places);
     }
 
 -- ---- who has the place, as the definitions have it
 
-pub got_occupant : (xs : List (Option Guest)) (i : ℕ) → get_or (map occupant_of xs) i None ≡ occupant_of (get_or xs i None)
+pub got_occupant : (xs : List (Option OccupantEntry)) (i : ℕ) → get_or (map occupant_of xs) i None ≡ occupant_of (get_or xs i None)
 got_occupant [] i = refl
 got_occupant (x ∷ xs) zero = refl
 got_occupant (x ∷ xs) (suc i) = got_occupant xs i
 
 -- this change is that one
-abbrev pub IsSeenAs : (Option Guest → Option Guest) → (Option Occupant → Option Occupant) → Type 0
-IsSeenAs change seen = (y : Option Guest) → occupant_of (change y) ≡ seen (occupant_of y)
+abbrev pub IsSeenAs : (Option OccupantEntry → Option OccupantEntry) → (Option Occupant → Option Occupant) → Type 0
+IsSeenAs change seen = (y : Option OccupantEntry) → occupant_of (change y) ≡ seen (occupant_of y)
 
 pub seen_leaving : (k : ℕ) → IsSeenAs (begins_leaving k) (λ o. leaving_by o (Some k))
 seen_leaving k None = refl
@@ -125,7 +125,7 @@ pub seen_came : IsSeenAs ends_coming (λ o. o)
 seen_came None = refl
 seen_came (Some g) = refl
 
-pub changed : (change : Option Guest → Option Guest) (seen : Option Occupant → Option Occupant) → IsSeenAs change seen → (xs ys : List (Option Guest)) (i : ℕ)
+pub changed : (change : Option OccupantEntry → Option OccupantEntry) (seen : Option Occupant → Option Occupant) → IsSeenAs change seen → (xs ys : List (Option OccupantEntry)) (i : ℕ)
     → ys ≡ slice_set xs i (change (get_or xs i None)) → map occupant_of ys ≡ slice_set (map occupant_of xs) i (seen (get_or (map occupant_of xs) i None))
 changed change seen seeing xs ys i is =
     ap (map occupant_of) is ∙ (map-set occupant_of xs i (change (get_or xs i None))
@@ -137,19 +137,19 @@ set_itself (x ∷ xs) zero none = refl
 set_itself (x ∷ xs) (suc i) none = ap (λ z. x ∷ z) (set_itself xs i none)
 
 -- nothing is seen of it
-pub unchanged : (change : Option Guest → Option Guest) → IsSeenAs change (λ o. o) → (xs ys : List (Option Guest)) (i : ℕ)
+pub unchanged : (change : Option OccupantEntry → Option OccupantEntry) → IsSeenAs change (λ o. o) → (xs ys : List (Option OccupantEntry)) (i : ℕ)
     → ys ≡ slice_set xs i (change (get_or xs i None)) → map occupant_of ys ≡ map occupant_of xs
 unchanged change seeing xs ys i is = changed change (λ o. o) seeing xs ys i is ∙ set_itself (map occupant_of xs) i None
 
 -- one change after the other
-pub changed_twice : (change also : Option Guest → Option Guest) (xs ys zs : List (Option Guest)) (i : ℕ) → i < length xs → ys ≡ slice_set xs i (change (get_or xs i None))
+pub changed_twice : (change also : Option OccupantEntry → Option OccupantEntry) (xs ys zs : List (Option OccupantEntry)) (i : ℕ) → i < length xs → ys ≡ slice_set xs i (change (get_or xs i None))
     → zs ≡ slice_set ys i (also (get_or ys i None)) → zs ≡ slice_set xs i (also (change (get_or xs i None)))
 changed_twice change also xs ys zs i less first second =
-    let v : Option Guest = change (get_or xs i None) in
-    let at_it : get_or ys i None ≡ v = ap (λ (z : List (Option Guest)). get_or z i None) first ∙ get_or-set_same xs i v None less in
-    second ∙ (ap (λ (o : Option Guest). slice_set ys i (also o)) at_it ∙ (ap (λ (z : List (Option Guest)). slice_set z i (also v)) first ∙ set_set xs i v (also v)))
+    let v : Option OccupantEntry = change (get_or xs i None) in
+    let at_it : get_or ys i None ≡ v = ap (λ (z : List (Option OccupantEntry)). get_or z i None) first ∙ get_or-set_same xs i v None less in
+    second ∙ (ap (λ (o : Option OccupantEntry). slice_set ys i (also o)) at_it ∙ (ap (λ (z : List (Option OccupantEntry)). slice_set z i (also v)) first ∙ set_set xs i v (also v)))
 
-settled_as : (y : Option Guest) (n : ℕ) → ((t : Guest) → y ≡ Some t → t.tickets ≡ n) → occupant_of (settles y) ≡ stays_occupant (occupant_of y) n
+settled_as : (y : Option OccupantEntry) (n : ℕ) → ((t : OccupantEntry) → y ≡ Some t → t.tickets ≡ n) → occupant_of (settles y) ≡ stays_occupant (occupant_of y) n
 settled_as None n same = refl
 settled_as (Some g) n same = go g.live (g.tickets == 0) ∙ ap (λ (z : ℕ). cond g.live (occupant_of (Some g)) (cond (z == 0) None (occupant_of (Some g)))) (same g refl) where
   go : (a b : Bool) → occupant_of (cond a (Some g) (cond b None (Some g))) ≡ cond a (occupant_of (Some g)) (cond b None (occupant_of (Some g)))
@@ -158,16 +158,16 @@ settled_as (Some g) n same = go g.live (g.tickets == 0) ∙ ap (λ (z : ℕ). co
   go false false = refl
 
 -- and the place may be free then
-pub settled_after : (change : Option Guest → Option Guest) (seen : Option Occupant → Option Occupant) (count : ℕ → ℕ) → IsSeenAs change seen → Changes change count → (xs ys zs : List (Option Guest)) (i n : ℕ)
+pub settled_after : (change : Option OccupantEntry → Option OccupantEntry) (seen : Option Occupant → Option Occupant) (count : ℕ → ℕ) → IsSeenAs change seen → Changes change count → (xs ys zs : List (Option OccupantEntry)) (i n : ℕ)
     → i < length xs → ys ≡ slice_set xs i (change (get_or xs i None)) → zs ≡ slice_set ys i (settles (get_or ys i None))
-    → ((g : Guest) → slice_get xs i ≡ Some (Some g) → count g.tickets ≡ n)
+    → ((g : OccupantEntry) → slice_get xs i ≡ Some (Some g) → count g.tickets ≡ n)
     → map occupant_of zs ≡ slice_set (map occupant_of ys) i (stays_occupant (get_or (map occupant_of ys) i None) n)
 settled_after change seen count seeing so xs ys zs i n less first second mine =
     let there = get_there xs i less in
     let row : get_or xs i None ≡ there.0 = get_or_is xs i there.0 None there.1 in
-    let v : Option Guest = change (get_or xs i None) in
-    let at_it : get_or ys i None ≡ v = ap (λ (z : List (Option Guest)). get_or z i None) first ∙ get_or-set_same xs i v None less in
-    let tickets : (t : Guest) → get_or ys i None ≡ Some t → t.tickets ≡ n = λ t is.
+    let v : Option OccupantEntry = change (get_or xs i None) in
+    let at_it : get_or ys i None ≡ v = ap (λ (z : List (Option OccupantEntry)). get_or z i None) first ∙ get_or-set_same xs i v None less in
+    let tickets : (t : OccupantEntry) → get_or ys i None ≡ Some t → t.tickets ≡ n = λ t is.
     (let k = so (get_or xs i None) t (sym at_it ∙ is) in k.3 ∙ mine k.0 (there.1 ∙ ap Some (sym row ∙ k.1))) in
     ap (map occupant_of) second ∙ (map-set occupant_of ys i (settles (get_or ys i None))
     ∙ ap (slice_set (map occupant_of ys) i) (settled_as (get_or ys i None) n tickets ∙ ap (λ (o : Option Occupant). stays_occupant o n) (sym (got_occupant ys i))))
@@ -199,27 +199,27 @@ tickets_most : (i : ℕ) (uses : List Slot) → tally (ticket_of i) uses ≤ len
 tickets_most i [] = omega arith
 tickets_most i (x ∷ uses) = let a = one_ticket i x in let b = tickets_most i uses in omega arith
 
-pub tickets_few : (a : Inside) (i : ℕ) → IsWell a → length a.slots.uses < 2 ^ 32 → i < length a.guests.items → IfSome (get_or a.guests.items i None) (λ guest. guest.tickets + 1 < 2 ^ 64)
+pub tickets_few : (a : Inside) (i : ℕ) → IsWell a → length a.slots.uses < 2 ^ 32 → i < length a.occupant_entries.items → IfSome (get_or a.occupant_entries.items i None) (λ occupant_entry. occupant_entry.tickets + 1 < 2 ^ 64)
 tickets_few a i was few less =
-    let there = get_there a.guests.items i less in
-    let row : get_or a.guests.items i None ≡ there.0 = get_or_is a.guests.items i there.0 None there.1 in
+    let there = get_there a.occupant_entries.items i less in
+    let row : get_or a.occupant_entries.items i None ≡ there.0 = get_or_is a.occupant_entries.items i there.0 None there.1 in
     rw row (go there.0 there.1) where
-      go : (y : Option Guest) → slice_get a.guests.items i ≡ Some y → IfSome y (λ guest. guest.tickets + 1 < 2 ^ 64)
+      go : (y : Option OccupantEntry) → slice_get a.occupant_entries.items i ≡ Some y → IfSome y (λ occupant_entry. occupant_entry.tickets + 1 < 2 ^ 64)
       go None is = tt
       go (Some g) is = let n = was.counted i g is in let most = tickets_most i a.slots.uses in omega arith
 
 -- ---- who stands is there, with the bytes in its table
 
-pub stands_there : (s : Space) (i : ℕ) (need : Need) → StandsForFrame s i need → (t : Occupant) × occupant_at s i t × (t.live ≡ true)
+pub stands_there : (s : Space) (i : ℕ) (need : Need) → WaitsForBytes s i need → (t : Occupant) × occupant_at s i t × (t.live ≡ true)
 stands_there s i need stands = (stands.0, stands.1, stands.2)
 
-pub stands_within : (s : Space) (i : ℕ) (need : Need) → IsSound s → StandsForFrame s i need → (need.at + need.length ≤ 4096 * length (get_or s.tables i [])) × (need.length ≤ 4096)
+pub stands_within : (s : Space) (i : ℕ) (need : Need) → IsSound s → WaitsForBytes s i need → (need.at + need.length ≤ 4096 * length (get_or s.tables i [])) × (need.length ≤ 4096)
 stands_within s i need sound stands = let n = sound.occupants.needs i stands.0 need stands.1 stands.3 in (n.1, n.2)
 
--- a place of an occupant is one of the guests'
-pub guest_within : (a : Inside) (i : ℕ) (t : Occupant) → occupant_at (space_of a) i t → i < length a.guests.items
-guest_within a i t there = let within = there_of (map occupant_of a.guests.items) i (Some t) there in let long = length-map a.guests.items occupant_of in omega arith
+-- a place of an occupant is one of the occupants'
+pub guest_within : (a : Inside) (i : ℕ) (t : Occupant) → occupant_at (space_of a) i t → i < length a.occupant_entries.items
+guest_within a i t there = let within = there_of (map occupant_of a.occupant_entries.items) i (Some t) there in let long = length-map a.occupant_entries.items occupant_of in omega arith
 
 -- and so is one of a table's
-pub table_within : (a : Inside) (i : ℕ) → IsSound (space_of a) → i < length (space_of a).tables → i < length a.guests.items
-table_within a i sound less = let long = length-map a.guests.items occupant_of in let same = sound.occupants.tables in omega arith
+pub table_within : (a : Inside) (i : ℕ) → IsSound (space_of a) → i < length (space_of a).tables → i < length a.occupant_entries.items
+table_within a i sound less = let long = length-map a.occupant_entries.items occupant_of in let same = sound.occupants.tables in omega arith

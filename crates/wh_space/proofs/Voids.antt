@@ -12,28 +12,28 @@ use Rattle.wh_host_model.specs.Space.Sound.{IsUsed, LeavesBy, SlotsAreSound}
 use Rattle.wh_host_model.specs.Space.States.{at, leaving, page_at}
 use Rattle.wh_host_model.proofs.Space.Breaking.{void_case, void_same}
 use Rattle.wh_host_model.proofs.Space.Putting.{get_or_is, there_of}
-use Rattle.wh_space.specs.declared.guest.Guest.{Guest}
+use Rattle.wh_space.specs.declared.occupant_entry.OccupantEntry.{OccupantEntry}
 use Rattle.wh_space.specs.declared.memory.Memory.TheInside.{Inside}
 use Rattle.wh_space.specs.Parts.{occupant_of, space_of}
 use Rattle.wh_space.specs.Slotting.{leaver_of, void_use, voids_leaver, voids_slot}
 
 -- ---- who leaves by which slot
 
-pub leaver_is : (guests : List (Option Guest)) (i : ℕ) (t : Occupant) → slice_get (map occupant_of guests) i ≡ Some (Some t) → leaver_of (get_or guests i None) ≡ t.leaves
+pub leaver_is : (occupant_entries : List (Option OccupantEntry)) (i : ℕ) (t : Occupant) → slice_get (map occupant_of occupant_entries) i ≡ Some (Some t) → leaver_of (get_or occupant_entries i None) ≡ t.leaves
 leaver_is [] i t is = absurd (cc is)
-leaver_is (None ∷ guests) zero t is = absurd (cc is)
-leaver_is (Some g ∷ guests) zero t is = ap leaves is where
+leaver_is (None ∷ occupant_entries) zero t is = absurd (cc is)
+leaver_is (Some g ∷ occupant_entries) zero t is = ap leaves is where
   leaves : Option (Option Occupant) → Option ℕ
   leaves None = None
   leaves (Some None) = None
   leaves (Some (Some t)) = t.leaves
-leaver_is (x ∷ guests) (suc i) t is = leaver_is guests i t is
+leaver_is (x ∷ occupant_entries) (suc i) t is = leaver_is occupant_entries i t is
 
-pub leaver_there : (guests : List (Option Guest)) (i k : ℕ) → leaver_of (get_or guests i None) ≡ Some k → (t : Occupant) × (slice_get (map occupant_of guests) i ≡ Some (Some t)) × (t.leaves ≡ Some k)
+pub leaver_there : (occupant_entries : List (Option OccupantEntry)) (i k : ℕ) → leaver_of (get_or occupant_entries i None) ≡ Some k → (t : Occupant) × (slice_get (map occupant_of occupant_entries) i ≡ Some (Some t)) × (t.leaves ≡ Some k)
 leaver_there [] i k is = absurd (cc is)
-leaver_there (None ∷ guests) zero k is = absurd (cc is)
-leaver_there (Some g ∷ guests) zero k is = (_, refl, is)
-leaver_there (x ∷ guests) (suc i) k is = leaver_there guests i k is
+leaver_there (None ∷ occupant_entries) zero k is = absurd (cc is)
+leaver_there (Some g ∷ occupant_entries) zero k is = (_, refl, is)
+leaver_there (x ∷ occupant_entries) (suc i) k is = leaver_there occupant_entries i k is
 
 -- the slot is there
 used_within : (uses : List Slot) (i k : ℕ) → LeavesBy i (slice_get uses k) → k < length uses
@@ -42,10 +42,10 @@ used_within uses i k by = go (slice_get uses k) refl by where
   go None is by = absurd by
   go (Some x) is by = there_of uses k x is
 
-pub leaver_within : (a : Inside) (i : ℕ) (o : Option ℕ) → SlotsAreSound (space_of a) → o ≡ leaver_of (get_or a.guests.items i None) → IfSome o (λ k. k < length a.slots.uses)
+pub leaver_within : (a : Inside) (i : ℕ) (o : Option ℕ) → SlotsAreSound (space_of a) → o ≡ leaver_of (get_or a.occupant_entries.items i None) → IfSome o (λ k. k < length a.slots.uses)
 leaver_within a i None sound is = tt
 leaver_within a i (Some k) sound is =
-    let t = leaver_there a.guests.items i k (sym is) in
+    let t = leaver_there a.occupant_entries.items i k (sym is) in
     used_within a.slots.uses i k (sound.by_this i k t.0 t.1 t.2)
 
 -- ---- uses of slots when it is void
@@ -92,19 +92,19 @@ stays_so s i p y sound there none =
     ap (λ (u : List Slot). record s.slots { uses = u }) (sym (void_none s.slots.uses i p never))
 
 is_void : (a : Inside) (i p : ℕ) (y : Page) → SlotsAreSound (space_of a) → page_at a.tables.pages i p ≡ Some y → leaving y ≡ 1
-    → voids_slot (leaver_of (get_or a.guests.items i None)) a.slots ≡ record a.slots { uses = map (voided i (p ∷ [])) a.slots.uses }
+    → voids_slot (leaver_of (get_or a.occupant_entries.items i None)) a.slots ≡ record a.slots { uses = map (voided i (p ∷ [])) a.slots.uses }
 is_void a i p y sound there one =
     let found = sound.leaving i p (rw there one) in
     let k : ℕ = found.0 in
-    let by : (m : ℕ) → slice_get a.slots.uses m ≡ Some (Evicting i p) → leaver_of (get_or a.guests.items i None) ≡ Some m = λ m is.
-    (let t = sound.by_one i m (subst (LeavesBy i) (sym is) refl) in leaver_is a.guests.items i t.0 t.1 ∙ t.2) in
+    let by : (m : ℕ) → slice_get a.slots.uses m ≡ Some (Evicting i p) → leaver_of (get_or a.occupant_entries.items i None) ≡ Some m = λ m is.
+    (let t = sound.by_one i m (subst (LeavesBy i) (sym is) refl) in leaver_is a.occupant_entries.items i t.0 t.1 ∙ t.2) in
     let only : (m : ℕ) → slice_get a.slots.uses m ≡ Some (Evicting i p) → m ≡ k = λ m is. (let both : Some m ≡ Some k = sym (by m is) ∙ by k found.1 in cc) in
     let now : void_use (get_or a.slots.uses k Vacant) ≡ EvictVoid i = ap void_use (get_or_is a.slots.uses k (Evicting i p) Vacant found.1) in
     ap (λ (o : Option ℕ). voids_slot o a.slots) (by k found.1)
     ∙ ap (λ (u : List Slot). record a.slots { uses = u }) (ap (slice_set a.slots.uses k) now ∙ void_at a.slots.uses k i p found.1 only)
 
 pub voided_is : (a : Inside) (i p : ℕ) (y : Page) → SlotsAreSound (space_of a) → page_at a.tables.pages i p ≡ Some y
-    → voids_leaver (leaver_of (get_or a.guests.items i None)) y a.slots ≡ record a.slots { uses = map (voided i (p ∷ [])) a.slots.uses }
+    → voids_leaver (leaver_of (get_or a.occupant_entries.items i None)) y a.slots ≡ record a.slots { uses = map (voided i (p ∷ [])) a.slots.uses }
 voided_is a i p Untouched sound there = stays_so (space_of a) i p Untouched sound there refl
 voided_is a i p (Private f) sound there = stays_so (space_of a) i p (Private f) sound there refl
 voided_is a i p (Shared f) sound there = stays_so (space_of a) i p (Shared f) sound there refl

@@ -4,16 +4,16 @@ use Rattle.wh_host_model.specs.Frames.{tally}
 use Rattle.wh_host_model.specs.Space.Errands.{ticket_of}
 use Rattle.wh_host_model.specs.Space.Parts.{Slots}
 use Rattle.wh_host_model.specs.Space.Sound.{IsSound}
-use Rattle.wh_space.specs.declared.guest.Guest.{Guest}
+use Rattle.wh_space.specs.declared.occupant_entry.OccupantEntry.{OccupantEntry}
 use Rattle.wh_space.specs.declared.memory.Memory.TheInside.{Inside}
-use Rattle.wh_space.specs.Pages.{Fixed, fixed_in}
+use Rattle.wh_space.specs.UnchangedTables.{Fixed, fixed_in}
 use Rattle.wh_space.specs.Parts.{IsWell, space_of}
 
--- the same guests, tables with the same limits, numbers and frames, as many frames, and as many tickets of each
-pub well_with : (a b : Inside) → IsWell a → b.guests ≡ a.guests → fixed_in b.tables ≡ fixed_in a.tables → length b.pool.frames ≡ length a.pool.frames
+-- the same occupants, tables with the same limits, numbers and frames, as many frames, and as many tickets of each
+pub well_with : (a b : Inside) → IsWell a → b.occupant_entries ≡ a.occupant_entries → fixed_in b.tables ≡ fixed_in a.tables → length b.pool.frames ≡ length a.pool.frames
     → ((i : ℕ) → tally (ticket_of i) b.slots.uses ≡ tally (ticket_of i) a.slots.uses) → IsSound (space_of b) → IsWell b
 well_with a b was same fixed frames tickets sound =
-    let here : (i : ℕ) (t : Guest) → slice_get b.guests.items i ≡ Some (Some t) → slice_get a.guests.items i ≡ Some (Some t) = λ i t is. sym (ap (λ (z : _). slice_get z.items i) same) ∙ is in
+    let here : (i : ℕ) (t : OccupantEntry) → slice_get b.occupant_entries.items i ≡ Some (Some t) → slice_get a.occupant_entries.items i ≡ Some (Some t) = λ i t is. sym (ap (λ (z : _). slice_get z.items i) same) ∙ is in
     record {
       sound = sound;
       limits = λ i t is. ap (λ (z : Fixed). slice_get z.limits i) fixed ∙ was.limits i t (here i t is);
@@ -24,5 +24,5 @@ well_with a b was same fixed frames tickets sound =
     }
 
 -- and the same slots
-pub well : (a b : Inside) → IsWell a → b.guests ≡ a.guests → fixed_in b.tables ≡ fixed_in a.tables → length b.pool.frames ≡ length a.pool.frames → b.slots ≡ a.slots → IsSound (space_of b) → IsWell b
+pub well : (a b : Inside) → IsWell a → b.occupant_entries ≡ a.occupant_entries → fixed_in b.tables ≡ fixed_in a.tables → length b.pool.frames ≡ length a.pool.frames → b.slots ≡ a.slots → IsSound (space_of b) → IsWell b
 well a b was same fixed frames slots sound = well_with a b was same fixed frames (λ i. ap (λ (z : Slots). tally (ticket_of i) z.uses) slots) sound

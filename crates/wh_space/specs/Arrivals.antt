@@ -4,7 +4,7 @@ use Rattle.wh_host_model.specs.declared.Tax.{Tax}
 use Rattle.wh_host_model.specs.Frames.{tally, one_if}
 use Rattle.wh_host_model.specs.Pages.{zero_page}
 use Rattle.wh_host_model.specs.Space.Parts.{Claimed, Space, empty_space}
-use Rattle.wh_space.specs.declared.guest.Promise.{Promise}
+use Rattle.wh_space.specs.declared.occupant_entry.Promise.{Promise}
 
 -- so many frames and slots, and nobody there; the free frames stand in some order
 pub record IsNew (s : Space) (frames slots : ℕ) (tax : Tax) : Type 0 where

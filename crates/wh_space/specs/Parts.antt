@@ -4,12 +4,12 @@ use Rattle.wh_host_model.specs.Frames.{tally}
 use Rattle.wh_host_model.specs.Space.Errands.{ticket_of}
 use Rattle.wh_host_model.specs.Space.Parts.{Occupant, Space}
 use Rattle.wh_host_model.specs.Space.Sound.{IsSound}
-use Rattle.wh_space.specs.declared.guest.Guest.{Guest}
+use Rattle.wh_space.specs.declared.occupant_entry.OccupantEntry.{OccupantEntry}
 use Rattle.wh_space.specs.declared.memory.Memory.TheInside.{Inside}
 use Rattle.wh_space.specs.Pinning.{pins_of}
 
 -- who has a place
-abbrev pub occupant_of : Option Guest → Option Occupant
+abbrev pub occupant_of : Option OccupantEntry → Option Occupant
 occupant_of None = None
 occupant_of (Some t) =
     Some (record {
@@ -24,7 +24,7 @@ occupant_of (Some t) =
 
 abbrev pub space_of : Inside → Space
 space_of a = record {
-  occupants = map occupant_of a.guests.items;
+  occupants = map occupant_of a.occupant_entries.items;
   tables = a.tables.pages;
   touched = a.tables.marks;
   pool = a.pool;
@@ -39,18 +39,18 @@ pub record Named : Type 0 where
   pub max : ℕ
   pub number : ℕ
 
-abbrev pub named : Guest → Named
+abbrev pub named : OccupantEntry → Named
 named t = record { max = t.max; number = t.number }
 
 -- The memory is sound, each instance's table has room for its maximum and knows its number, and its tickets are counted.
 -- The tables know of all frames. Places are numbers of 32 bits.
 pub record IsWell (a : Inside) : Type 0 where
   pub sound : IsSound (space_of a)
-  pub limits : (i : ℕ) (t : Guest) → slice_get a.guests.items i ≡ Some (Some t)
+  pub limits : (i : ℕ) (t : OccupantEntry) → slice_get a.occupant_entries.items i ≡ Some (Some t)
       → slice_get a.tables.limits i ≡ Some t.max
-  pub numbers : (i : ℕ) (t : Guest) → slice_get a.guests.items i ≡ Some (Some t)
+  pub numbers : (i : ℕ) (t : OccupantEntry) → slice_get a.occupant_entries.items i ≡ Some (Some t)
       → get_or a.tables.numbers i 0 ≡ t.number
   pub frames : a.tables.frames ≡ length a.pool.frames
-  pub counted : (i : ℕ) (t : Guest) → slice_get a.guests.items i ≡ Some (Some t)
+  pub counted : (i : ℕ) (t : OccupantEntry) → slice_get a.occupant_entries.items i ≡ Some (Some t)
       → t.tickets ≡ tally (ticket_of i) a.slots.uses
-  pub places : length a.guests.items ≤ 2 ^ 32
+  pub places : length a.occupant_entries.items ≤ 2 ^ 32

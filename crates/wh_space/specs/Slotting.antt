@@ -6,10 +6,10 @@ use Rattle.wh_host_model.specs.declared.states.Page.TheVariants.{Untouched, Priv
 use Rattle.wh_host_model.specs.declared.states.Slot.{Slot}
 use Rattle.wh_host_model.specs.declared.states.Slot.TheVariants.{Vacant, Taken, Evicting, EvictVoid, Fetching, FetchVoid}
 use Rattle.wh_host_model.specs.Space.Parts.{Slots}
-use Rattle.wh_space.specs.declared.guest.Guest.{Guest}
+use Rattle.wh_space.specs.declared.occupant_entry.OccupantEntry.{OccupantEntry}
 
 -- the slot by which a page of whoever is there leaves
-abbrev pub leaver_of : Option Guest → Option ℕ
+abbrev pub leaver_of : Option OccupantEntry → Option ℕ
 leaver_of None = None
 leaver_of (Some t) = t.leaves
 

@@ -6,8 +6,8 @@ ghost use Rattle.wh_host_model.specs.Space.Parts.{Occupant, occupant_at};
 ghost use Rattle.wh_host_model.specs.Space.Places.{Enters, HasRoomFor, IsFreePlace, with_row};
 ghost use Rattle.wh_space.specs.Arrivals.{IsNew, claimed};
 
-use crate::guest::{Guest, Promise};
 use crate::memory::Memory;
+use crate::occupant_entry::{OccupantEntry, Promise};
 use std::alloc::{AllocError, Global};
 use wh_content::Table;
 use wh_frames::{FrameError, FramePool};
@@ -16,15 +16,19 @@ use wh_swap::Slots;
 use wh_tables::Tables;
 
 // Puts a row at a place, which may be the next one.
-fn put_guest(guests: &mut Vec<Option<Guest>>, place: usize, guest: Guest)
-    requires place { place ≤ length guests.old.items }
-    requires room { vec_len guests.old < vec_capacity guests.old }
-    ensures { guests.new.items ≡ with_row guests.old.items place (Some guest) }
+fn put_occupant(
+    occupant_entries: &mut Vec<Option<OccupantEntry>>,
+    place: usize,
+    occupant_entry: OccupantEntry,
+)
+    requires place { place ≤ length occupant_entries.old.items }
+    requires room { vec_len occupant_entries.old < vec_capacity occupant_entries.old }
+    ensures { occupant_entries.new.items ≡ with_row occupant_entries.old.items place (Some occupant_entry) }
 {
-    if place < guests.len() {
-        guests[place] = Some(guest);
+    if place < occupant_entries.len() {
+        occupant_entries[place] = Some(occupant_entry);
     } else {
-        guests.push_reserved(Some(guest));
+        occupant_entries.push_reserved(Some(occupant_entry));
     }
 }
 
@@ -51,7 +55,7 @@ impl Memory {
             return Err(FrameError::Memory);
         };
         Ok(Memory {
-            guests: Vec::new(alloc),
+            occupant_entries: Vec::new(alloc),
             tables,
             pool,
             content,
@@ -88,10 +92,14 @@ impl Memory {
         }
         // Its contract says that there are as many limits and numbers.
         let _ = self.tables.places();
-        self.guests.reserve(1)?;
+        self.occupant_entries.reserve(1)?;
         self.tables
             .enter(alloc, place, promise.number, 16 * size, promise.max)?;
-        put_guest(&mut self.guests, place, Guest::new(promise));
+        put_occupant(
+            &mut self.occupant_entries,
+            place,
+            OccupantEntry::new(promise),
+        );
         Ok(())
     }
 }

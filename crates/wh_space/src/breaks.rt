@@ -32,7 +32,11 @@ impl Memory {
         ensures { Owns self.old place number (Some frame) self.new }
     {
         let page = self.tables.page(place, number);
-        void_written(&mut self.slots, leaver_at(&self.guests, place), page);
+        void_written(
+            &mut self.slots,
+            leaver_at(&self.occupant_entries, place),
+            page,
+        );
         stand_alone(&mut self.tables, place, number, frame);
     }
 
@@ -55,7 +59,11 @@ impl Memory {
     {
         self.content.drop_sharer(frame);
         let page = self.tables.page(place, number);
-        void_written(&mut self.slots, leaver_at(&self.guests, place), page);
+        void_written(
+            &mut self.slots,
+            leaver_at(&self.occupant_entries, place),
+            page,
+        );
         stand_alone(&mut self.tables, place, number, frame);
     }
 
@@ -69,7 +77,11 @@ impl Memory {
         self.pool.copy(frame, fresh);
         self.content.drop_sharer(frame);
         let page = self.tables.page(place, number);
-        void_written(&mut self.slots, leaver_at(&self.guests, place), page);
+        void_written(
+            &mut self.slots,
+            leaver_at(&self.occupant_entries, place),
+            page,
+        );
         stand_alone(&mut self.tables, place, number, fresh);
         Some(fresh)
     }

@@ -8,8 +8,8 @@ ghost use Rattle.wh_pages.specs.Seeking.{IsFirstFrom};
 ghost use Rattle.wh_space.specs.Claiming.{GivesNone, IsClaimOf, MightBeTaken, MightLeave, TakesNoPage};
 
 use crate::frames::frame_under;
-use crate::guest::Guest;
 use crate::memory::Memory;
+use crate::occupant_entry::OccupantEntry;
 use crate::pins::has_page_pinned;
 use wh_host_model::{Claim, Page, Tax};
 use wh_tables::PageId;
@@ -23,19 +23,19 @@ fn is_staying(page: Page) -> bool
 
 // What an instance claims to which so many frames are charged, on so many of which a touched page stands, if one of their
 // pages can leave.
-fn claim_by(guest: Guest, pages: u32, active: u32) -> Claim
-    requires shares { (1 ≤ guest.shares) × (guest.shares ≤ 1000000) }
+fn claim_by(occupant_entry: OccupantEntry, pages: u32, active: u32) -> Claim
+    requires shares { (1 ≤ occupant_entry.shares) × (occupant_entry.shares ≤ 1000000) }
     requires pages { pages ≤ 65536 }
     requires active { active ≤ pages }
-    ensures shares { result.shares ≡ guest.shares }
-    ensures min { result.min ≡ guest.min }
+    ensures shares { result.shares ≡ occupant_entry.shares }
+    ensures min { result.min ≡ occupant_entry.min }
     ensures pages { result.pages ≡ pages }
     ensures active { result.active ≡ active }
     ensures leaves { result.can_leave ≡ true }
 {
     Claim {
-        shares: guest.shares,
-        min: guest.min,
+        shares: occupant_entry.shares,
+        min: occupant_entry.min,
         pages,
         active,
         can_leave: true,
@@ -54,7 +54,7 @@ impl Memory {
     pub fn places(&self) -> usize
         ensures { result ≡ length self.now.occupants }
     {
-        self.guests.len()
+        self.occupant_entries.len()
     }
 
     // Whether no page of the instance at a place is leaving.
@@ -65,8 +65,8 @@ impl Memory {
             (¬ ((t : Occupant) × occupant_at self.now place t × (t.leaves ≡ None))) }
     {
         let _ = &self.tax;
-        match self.guests[place] {
-            Some(guest) => guest.leaves.is_none(),
+        match self.occupant_entries[place] {
+            Some(occupant_entry) => occupant_entry.leaves.is_none(),
             None => false,
         }
     }
@@ -199,13 +199,16 @@ impl Memory {
             × (it.0 ≡ t.number) × IsClaimOf self.now place t it.1) }
         ensures none { IfNone result ((t : Occupant) → ¬ occupant_at self.now place t) }
     {
-        if place >= self.guests.len() {
+        if place >= self.occupant_entries.len() {
             return None;
         }
-        let Some(guest) = self.guests[place] else {
+        let Some(occupant_entry) = self.occupant_entries[place] else {
             return None;
         };
         let (pages, active) = self.charged_at(place);
-        Some((guest.number, claim_by(guest, pages, active)))
+        Some((
+            occupant_entry.number,
+            claim_by(occupant_entry, pages, active),
+        ))
     }
 }

@@ -8,8 +8,8 @@ ghost use Rattle.wh_host_model.specs.Space.Parts.{kept_by};
 ghost use Rattle.wh_host_model.specs.Space.States.{page_at};
 ghost use Rattle.wh_space.specs.Transits.{IsDeparting, IsLeavingAs, IsSentFor};
 
-use crate::guests::{begin_coming, begin_leaving};
 use crate::memory::Memory;
+use crate::occupant_entries::{begin_coming, begin_leaving};
 use crate::pages::put_page;
 use crate::pins::take_earmark;
 use wh_host_model::{Page, Slot};
@@ -47,7 +47,7 @@ impl Memory {
         };
         *into = *self.pool.bytes(frame);
         put_page(&mut self.tables, place, page, now);
-        begin_leaving(&mut self.guests, place, slot);
+        begin_leaving(&mut self.occupant_entries, place, slot);
         let _ = slots;
         slot
     }
@@ -71,7 +71,7 @@ impl Memory {
         };
         self.slots.set(slot, ticket);
         put_page(&mut self.tables, place, page, Page::Coming(slot));
-        begin_coming(&mut self.guests, place);
+        begin_coming(&mut self.occupant_entries, place);
         let _ = slots;
     }
 }

@@ -10,12 +10,12 @@ ghost use Rattle.wh_host_model.specs.Space.Moves.{frame_of};
 ghost use Rattle.wh_host_model.specs.Space.Parts.{frame_bytes};
 ghost use Rattle.wh_host_model.specs.Space.States.{page_at, put};
 ghost use Rattle.wh_host_model.specs.Space.Tickets.{CommitsEvict, CommitsFetch, IsEvicting, IsWritten, has_come, not_come, not_sent, sent_off, settled, with_free, with_leaving, without_slot};
-ghost use Rattle.wh_space.specs.Pages.{fixed_in};
+ghost use Rattle.wh_space.specs.UnchangedTables.{fixed_in};
 ghost use Rattle.wh_space.specs.Transits.{IsFetching, back_again};
 
 use crate::frames::{frame_under, set_frame};
-use crate::guests::{end_coming, end_leaving, settle};
 use crate::memory::Memory;
+use crate::occupant_entries::{end_coming, end_leaving, settle};
 use crate::pages::{put_page, swap_page};
 use crate::pins::unpin_page;
 use wh_content::Table;
@@ -69,8 +69,8 @@ impl Memory {
             ≡ settled (with_leaving (without_slot self.old slot) place None) place }
     {
         self.slots.give(slot);
-        end_leaving(&mut self.guests, place as usize);
-        settle(&mut self.guests, place as usize);
+        end_leaving(&mut self.occupant_entries, place as usize);
+        settle(&mut self.occupant_entries, place as usize);
     }
 
     // The ticket of a page comes back that stays as it was.
@@ -81,7 +81,7 @@ impl Memory {
     {
         let was = self.tables.page(place as usize, page);
         self.slots.give(slot);
-        end_leaving(&mut self.guests, place as usize);
+        end_leaving(&mut self.occupant_entries, place as usize);
         put_page(&mut self.tables, place as usize, page, as_it_was(was));
     }
 
@@ -97,7 +97,7 @@ impl Memory {
         let sharers = self.sharers_of(frame);
         leave_frame(&mut self.content, &mut self.pool, frame, sharers);
         self.slots.set(slot, Slot::Taken);
-        end_leaving(&mut self.guests, place as usize);
+        end_leaving(&mut self.occupant_entries, place as usize);
         swap_page(&mut self.tables, place as usize, page, slot);
         unpin_page(&mut self.pins, place as usize, page);
     }
@@ -110,8 +110,8 @@ impl Memory {
     {
         self.slots.give(slot);
         self.pool.give(frame);
-        end_coming(&mut self.guests, place as usize);
-        settle(&mut self.guests, place as usize);
+        end_coming(&mut self.occupant_entries, place as usize);
+        settle(&mut self.occupant_entries, place as usize);
     }
 
     // The ticket of a page comes back that has come, with these bytes.
@@ -121,7 +121,7 @@ impl Memory {
     {
         set_frame(&mut self.pool, frame, bytes);
         self.slots.give(slot);
-        end_coming(&mut self.guests, place as usize);
+        end_coming(&mut self.occupant_entries, place as usize);
         put_page(&mut self.tables, place as usize, page, Page::Private(frame));
     }
 
@@ -132,7 +132,7 @@ impl Memory {
     {
         self.pool.give(frame);
         self.slots.set(slot, Slot::Taken);
-        end_coming(&mut self.guests, place as usize);
+        end_coming(&mut self.occupant_entries, place as usize);
         put_page(&mut self.tables, place as usize, page, Page::Swapped(slot));
     }
 

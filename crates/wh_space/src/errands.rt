@@ -1,7 +1,7 @@
 // Whose page a slot's ticket is for.
 
 ghost use Rattle.std.specs.Prelude.{◌≡◌};
-ghost use Rattle.wh_space.specs.Errands.{place_of_use, ticket_place};
+ghost use Rattle.wh_space.specs.TicketOwners.{place_of_use, ticket_place};
 
 use crate::memory::Memory;
 use wh_host_model::Slot;

@@ -1,6 +1,6 @@
 // How an instance grows.
 
-ghost use Rattle.std.specs.Prelude.{◌≡◌, ◌+◌, ◌*◌, [], length, get_or};
+ghost use Rattle.std.specs.Prelude.{◌≡◌, ◌+◌, ◌*◌, ◌^◌, ◌<◌, [], length, get_or};
 ghost use Rattle.wh_host_model.specs.Space.Parts.{view};
 ghost use Rattle.wh_model.specs.Execution.Memory.{Grows};
 ghost use Rattle.wh_space.specs.Steps.{LeavesGrowth, page_limit};
@@ -19,13 +19,20 @@ impl Memory {
 
     /// To how many pages of 65536 bytes the instance at this place may grow, 0 where nobody is.
     pub fn limit(&self, place: usize) -> u32
-        ensures { result ≡ page_limit self.now place }
+        ensures limit { result ≡ page_limit self.now place }
+        ensures few { result < 2 ^ 28 }
     {
-        if place >= self.guests.len() {
+        if place >= self.occupant_entries.len() {
             return 0;
         }
-        match self.guests[place] {
-            Some(guest) => { if guest.live { guest.max / 16 } else { 0 } }
+        match self.occupant_entries[place] {
+            Some(occupant_entry) => {
+                if occupant_entry.live {
+                    occupant_entry.max / 16
+                } else {
+                    0
+                }
+            }
             None => 0,
         }
     }

@@ -4,7 +4,7 @@ ghost use Rattle.std.specs.Prelude.{◌≡◌, ◌+◌, ◌*◌, ◌<◌, ◌≤
 ghost use Rattle.wh_host_model.specs.Space.Moves.{IsFirstSwapped};
 ghost use Rattle.wh_host_model.specs.Space.Ready.{among, frames_in_all, frames_to_write, may_take, pages_of_need};
 ghost use Rattle.wh_host_model.specs.Space.States.{at, page_at, swapped};
-ghost use Rattle.wh_host_model.specs.Space.Tickets.{StandsForFrame};
+ghost use Rattle.wh_host_model.specs.Space.Tickets.{WaitsForBytes};
 ghost use Rattle.wh_host_model.specs.declared.states.Page.TheVariants.{Swapped};
 ghost use Rattle.wh_space.specs.Lacking.{slot_under};
 
@@ -92,9 +92,9 @@ impl Memory {
         self.wanted(place, first)
     }
 
-    /// How many frames the step wants for its writes for which the instance at this place stands, at most 2.
+    /// How many frames the step wants for its writes for which the instance at this place waits, at most 2.
     pub fn frames_to_write(&self, place: usize, need: Need) -> u32
-        requires { StandsForFrame self.now place need }
+        requires { WaitsForBytes self.now place need }
         ensures count { result ≡ frames_to_write self.now place need }
         ensures few { result ≤ 2 }
     {
@@ -104,7 +104,7 @@ impl Memory {
 
     /// How many it wants for its swapped pages and its writes, at most 2.
     pub fn frames_in_all(&self, place: usize, need: Need) -> u32
-        requires { StandsForFrame self.now place need }
+        requires { WaitsForBytes self.now place need }
         ensures count { result ≡ frames_in_all self.now place need }
         ensures few { result ≤ 2 }
     {
@@ -147,9 +147,9 @@ impl Memory {
         None
     }
 
-    /// The first page, with its slot, that lies in one of the step for which the instance at this place stands.
+    /// The first page, with its slot, that lies in one of the step for which the instance at this place waits.
     pub fn swapped_page(&self, place: usize, need: Need) -> Option<(u32, u32)>
-        requires { StandsForFrame self.now place need }
+        requires { WaitsForBytes self.now place need }
         ensures { MatchOption result (among swapped self.now place (pages_of_need need) ≡ 0)
             (λ it. IsFirstSwapped self.now place need it.0
             × (page_at self.now.tables place it.0 ≡ Some (Swapped it.1))) }

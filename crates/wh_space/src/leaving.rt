@@ -4,13 +4,13 @@ ghost use Rattle.std.specs.Prelude.{◌≡◌, ◌<◌, [], None, true, length, 
 ghost use Rattle.wh_host_model.specs.Frames.{IsTaken};
 ghost use Rattle.wh_host_model.specs.Space.Parts.{Occupant, occupant_at};
 ghost use Rattle.wh_host_model.specs.Space.Places.{Exits};
-ghost use Rattle.wh_space.specs.Guests.{guest_gone};
+ghost use Rattle.wh_space.specs.OccupantEntries.{occupant_gone};
 ghost use Rattle.wh_space.specs.Slotting.{CanLeaveSlots, slots_gone};
 ghost use Rattle.wh_space.specs.Leaving.{CanAllGo, CanGo, owner_gone, page_gone, pages_gone, sharer_gone};
-ghost use Rattle.wh_space.specs.Pages.{fixed_in};
+ghost use Rattle.wh_space.specs.UnchangedTables.{fixed_in};
 
-use crate::guest::Guest;
 use crate::memory::Memory;
+use crate::occupant_entry::OccupantEntry;
 use crate::pins::end_pins;
 use crate::slotting::{leave_slot, leaver_at, void_slot};
 use wh_content::Table;
@@ -85,20 +85,20 @@ fn let_pages_go(
 }
 
 // The instance at a place goes. It keeps the place while a ticket of it is out.
-fn let_guest_go(guests: &mut Vec<Option<Guest>>, place: usize)
-    requires { place < length guests.old.items }
-    ensures { guests.new.items ≡ slice_set guests.old.items place
-        (guest_gone (get_or guests.old.items place None)) }
+fn let_occupant_go(occupant_entries: &mut Vec<Option<OccupantEntry>>, place: usize)
+    requires { place < length occupant_entries.old.items }
+    ensures { occupant_entries.new.items ≡ slice_set occupant_entries.old.items place
+        (occupant_gone (get_or occupant_entries.old.items place None)) }
 {
-    guests[place] = match guests[place] {
-        Some(guest) => {
-            if guest.tickets == 0 {
+    occupant_entries[place] = match occupant_entries[place] {
+        Some(occupant_entry) => {
+            if occupant_entry.tickets == 0 {
                 None
             } else {
-                Some(Guest {
+                Some(OccupantEntry {
                     live: false,
                     stands: None,
-                    ..guest
+                    ..occupant_entry
                 })
             }
         }
@@ -126,8 +126,8 @@ impl Memory {
             &mut self.pool,
             &mut self.slots,
         );
-        void_slot(&mut self.slots, leaver_at(&self.guests, place));
+        void_slot(&mut self.slots, leaver_at(&self.occupant_entries, place));
         self.tables.clear(place);
-        let_guest_go(&mut self.guests, place);
+        let_occupant_go(&mut self.occupant_entries, place);
     }
 }

@@ -27,7 +27,7 @@ fn clear(into: &mut [u8])
 }
 
 // Reads bytes of a page. Where it isn't at hand nothing is done, and the answer is false.
-fn read_page(pool: &FramePool, page: Page, offset: usize, into: &mut [u8]) -> bool
+pub fn read_page(pool: &FramePool, page: Page, offset: usize, into: &mut [u8]) -> bool
     requires taken { (f : ℕ) → frame_of page ≡ Some f → IsTaken pool.now f }
     requires inside { offset + length into.old ≤ 4096 }
     ensures hand { MatchBool result (IsAtHand (Some page)) (¬ IsAtHand (Some page)) }

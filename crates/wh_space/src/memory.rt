@@ -2,7 +2,7 @@
 
 ghost use Rattle.wh_host_model.specs.Space.Sound.{IsSound};
 
-use crate::guest::Guest;
+use crate::occupant_entry::OccupantEntry;
 use crate::pins::Pinned;
 use std::marker::Model;
 use wh_content::Table;
@@ -13,7 +13,7 @@ use wh_tables::Tables;
 
 /// The memory of all instances, by their places, on one pool of frames.
 pub struct Memory {
-    pub(crate) guests: Vec<Option<Guest>>,
+    pub(crate) occupant_entries: Vec<Option<OccupantEntry>>,
     pub(crate) tables: Tables,
     pub(crate) pool: FramePool,
     pub(crate) content: Table,
@@ -26,7 +26,7 @@ pub struct Memory {
 impl Drop for Memory {
     fn drop(self) {
         let Memory {
-            guests: _,
+            occupant_entries: _,
             tables: _,
             pool: _,
             content: _,
@@ -52,7 +52,7 @@ impl Model for Memory {
 impl Memory {
     /// What always holds of the memory.
     #[inline(always)]
-    pub fn known(&self)
+    pub fn invariant(&self)
         ensures sound { IsSound self.now }
     {
         let _ = &self.tax;

@@ -11,12 +11,12 @@ ghost use Rattle.wh_host_model.specs.Space.States.{page_at, put};
 ghost use Rattle.wh_host_model.specs.declared.states.Page.TheVariants.{Private, Untouched};
 ghost use Rattle.wh_space.specs.Merges.{HasFewPages, IsNotPrivate, emptied, rehinted};
 ghost use Rattle.wh_space.specs.Numbered.{ComesAfter, IsNextInstance};
-ghost use Rattle.wh_space.specs.Pages.{fixed_in};
+ghost use Rattle.wh_space.specs.UnchangedTables.{fixed_in};
 
 use crate::memory::Memory;
 use crate::pages::{empty_page, put_page};
 use crate::pins::has_page_pinned;
-use wh_content::Entry;
+use wh_content::ContentEntry;
 use wh_host_model::{InstId, Page};
 use wh_tables::Tables;
 
@@ -45,11 +45,11 @@ impl Memory {
         ensures { result ≡ has_number (get_or self.now.occupants place None) number }
     {
         let place = place as usize;
-        if place >= self.guests.len() {
+        if place >= self.occupant_entries.len() {
             return false;
         }
-        match self.guests[place] {
-            Some(guest) => guest.live && guest.number == number,
+        match self.occupant_entries[place] {
+            Some(occupant_entry) => occupant_entry.live && occupant_entry.number == number,
             None => false,
         }
     }
@@ -89,7 +89,7 @@ impl Memory {
     }
 
     /// What is found under this hash. Its frame isn't free.
-    pub fn entry(&self, hash: u64) -> Option<Entry>
+    pub fn entry(&self, hash: u64) -> Option<ContentEntry>
         ensures found { IfSome result (λ entry.
             slice_get self.now.marks (frame_of_entry entry) ≡ Some (mark_of_entry hash entry)) }
         ensures taken { IfSome result (λ entry. IsTaken self.now.pool (frame_of_entry entry)) }

@@ -5,7 +5,7 @@ ghost use Rattle.wh_host_model.specs.Space.Moves.{frame_of};
 ghost use Rattle.wh_host_model.specs.Space.Ready.{IsAtHand};
 ghost use Rattle.wh_host_model.specs.Space.States.{page_at, put};
 ghost use Rattle.wh_host_model.specs.declared.states.Page.TheVariants.{Private, Swapped, Untouched};
-ghost use Rattle.wh_space.specs.Pages.{fixed_in};
+ghost use Rattle.wh_space.specs.UnchangedTables.{fixed_in};
 
 use wh_host_model::Page;
 use wh_tables::Tables;

@@ -5,7 +5,7 @@ ghost use Rattle.wh_host_model.specs.Space.Moves.{Earmarks, pinned, residents, u
 ghost use Rattle.wh_host_model.specs.Space.Parts.{Occupant, kept, occupant_at, wants};
 ghost use Rattle.wh_host_model.specs.Space.Ready.{pages_of_need};
 ghost use Rattle.wh_host_model.specs.Space.States.{at, page_at, resident};
-ghost use Rattle.wh_host_model.specs.Space.Tickets.{StandsForFrame};
+ghost use Rattle.wh_host_model.specs.Space.Tickets.{WaitsForBytes};
 ghost use Rattle.wh_space.specs.Pinning.{numbers_in};
 
 use crate::frames::frame_under;
@@ -14,15 +14,21 @@ use crate::pins::{Few, Pinned, chosen, end_all_pins, pages_pinned, take_frames};
 use wh_model::Need;
 
 impl Memory {
-    /// The bytes of the step for which the instance at this place stands for a frame, if it does.
+    /// The bytes of the step for which the instance at this place waits for a frame, if it does.
     pub fn wanted_step(&self, place: usize) -> Option<Need>
         ensures { result ≡ wants self.now place }
     {
-        if place >= self.guests.len() {
+        if place >= self.occupant_entries.len() {
             return None;
         }
-        match self.guests[place] {
-            Some(guest) => { if guest.live { guest.stands } else { None } }
+        match self.occupant_entries[place] {
+            Some(occupant_entry) => {
+                if occupant_entry.live {
+                    occupant_entry.stands
+                } else {
+                    None
+                }
+            }
             None => None,
         }
     }
@@ -55,10 +61,10 @@ impl Memory {
         chosen(first, here, first, false)
     }
 
-    /// The resident pages of the step for which the instance at this place stands are pinned for it, and no others. All
+    /// The resident pages of the step for which the instance at this place waits are pinned for it, and no others. All
     /// earmarked frames are free again.
     pub fn pin(&mut self, place: usize, need: Need)
-        requires { StandsForFrame self.old place need }
+        requires { WaitsForBytes self.old place need }
         ensures { self.new ≡ pinned self.old place need }
     {
         let pages = self.residents_of(place, need);

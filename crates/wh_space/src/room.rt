@@ -6,51 +6,52 @@ ghost use Rattle.wh_host_model.specs.Space.Parts.{Occupant, minima, occupant_at,
 ghost use Rattle.wh_host_model.specs.Space.Places.{IsFreePlace};
 ghost use Rattle.wh_space.specs.Parts.{occupant_of};
 
-use crate::guest::Guest;
 use crate::memory::Memory;
+use crate::occupant_entry::OccupantEntry;
 
 // The least number of pages that was promised to whoever is there, 0 where nobody is.
-fn min_of(guest: Option<Guest>) -> u32
-    ensures { result ≡ of_occupant (λ t. t.min) (occupant_of guest) }
+fn min_of(occupant_entry: Option<OccupantEntry>) -> u32
+    ensures { result ≡ of_occupant (λ t. t.min) (occupant_of occupant_entry) }
 {
-    match guest {
-        Some(guest) => guest.min,
+    match occupant_entry {
+        Some(occupant_entry) => occupant_entry.min,
         None => 0,
     }
 }
 
 // By how many pages it may go beyond, and one more.
-fn spread_of(guest: Option<Guest>) -> u64
-    ensures { result ≡ of_occupant (λ t. (t.max - t.min) + 1) (occupant_of guest) }
+fn spread_of(occupant_entry: Option<OccupantEntry>) -> u64
+    ensures { result ≡ of_occupant (λ t. (t.max - t.min) + 1) (occupant_of occupant_entry) }
 {
-    match guest {
-        Some(guest) => u64::from(guest.max.saturating_sub(guest.min)) + 1,
+    match occupant_entry {
+        Some(occupant_entry) => u64::from(occupant_entry.max.saturating_sub(occupant_entry.min))
+            + 1,
         None => 0,
     }
 }
 
 // The sum of all minima.
-fn minima_of(guests: &Vec<Option<Guest>>) -> u64
-    requires { tally (of_occupant (λ t. t.min)) (map occupant_of guests.now.items) < 2 ^ 64 }
-    ensures { result ≡ tally (of_occupant (λ t. t.min)) (map occupant_of guests.now.items) }
+fn minima_of(occupant_entries: &Vec<Option<OccupantEntry>>) -> u64
+    requires { tally (of_occupant (λ t. t.min)) (map occupant_of occupant_entries.now.items) < 2 ^ 64 }
+    ensures { result ≡ tally (of_occupant (λ t. t.min)) (map occupant_of occupant_entries.now.items) }
 {
     let mut sum: u64 = 0;
-    for place in 0..guests.len() {
-        sum += u64::from(min_of(guests[place]));
+    for place in 0..occupant_entries.len() {
+        sum += u64::from(min_of(occupant_entries[place]));
     }
     sum
 }
 
 // The sum of all spreads.
-fn spreads_of(guests: &Vec<Option<Guest>>) -> u64
-    requires { tally (of_occupant (λ t. (t.max - t.min) + 1)) (map occupant_of guests.now.items)
+fn spreads_of(occupant_entries: &Vec<Option<OccupantEntry>>) -> u64
+    requires { tally (of_occupant (λ t. (t.max - t.min) + 1)) (map occupant_of occupant_entries.now.items)
         < 2 ^ 64 }
     ensures { result
-        ≡ tally (of_occupant (λ t. (t.max - t.min) + 1)) (map occupant_of guests.now.items) }
+        ≡ tally (of_occupant (λ t. (t.max - t.min) + 1)) (map occupant_of occupant_entries.now.items) }
 {
     let mut sum: u64 = 0;
-    for place in 0..guests.len() {
-        sum += spread_of(guests[place]);
+    for place in 0..occupant_entries.len() {
+        sum += spread_of(occupant_entries[place]);
     }
     sum
 }
@@ -60,10 +61,10 @@ impl Memory {
     pub fn is_free(&self, place: usize) -> bool
         ensures { IsTrue result ↔ IsFreePlace self.now place }
     {
-        if place < self.guests.len() {
-            self.guests[place].is_none()
+        if place < self.occupant_entries.len() {
+            self.occupant_entries[place].is_none()
         } else {
-            place == self.guests.len()
+            place == self.occupant_entries.len()
         }
     }
 
@@ -72,9 +73,9 @@ impl Memory {
         ensures { IsTrue result
             ↔ ((j : ℕ) (t : Occupant) → occupant_at self.now j t → t.number ≢ number) }
     {
-        for place in 0..self.guests.len() {
-            if let Some(guest) = self.guests[place] {
-                if guest.number == number {
+        for place in 0..self.occupant_entries.len() {
+            if let Some(occupant_entry) = self.occupant_entries[place] {
+                if occupant_entry.number == number {
                     return false;
                 }
             }
@@ -88,7 +89,7 @@ impl Memory {
     {
         let _ = &self.tax;
         let frames = u64::from(self.pool.used()) + u64::from(self.pool.free());
-        frames - minima_of(&self.guests)
+        frames - minima_of(&self.occupant_entries)
     }
 
     /// How many slots are left beside all pages by which instances may go beyond their least numbers, one more for each.
@@ -97,7 +98,7 @@ impl Memory {
         ensures { result + spreads self.now ≡ length self.now.slots.uses }
     {
         let _ = &self.tax;
-        u64::from(self.slots.len()) - spreads_of(&self.guests)
+        u64::from(self.slots.len()) - spreads_of(&self.occupant_entries)
     }
 
     /// Whether the frames suffice for the least numbers of pages of all instances and this one beside. It looks at each

@@ -6,7 +6,7 @@ ghost use Rattle.wh_host_model.specs.Space.Charges.{IsOnFrame, frame_charge};
 ghost use Rattle.wh_host_model.specs.Space.Claims.{IsBeside, IsShed, NobodyIsShed};
 ghost use Rattle.wh_host_model.specs.Space.Ready.{among, pages_of_need};
 ghost use Rattle.wh_host_model.specs.Space.States.{shares};
-ghost use Rattle.wh_host_model.specs.Space.Tickets.{StandsForFrame};
+ghost use Rattle.wh_host_model.specs.Space.Tickets.{WaitsForBytes};
 ghost use Rattle.wh_space.specs.Shedding.{IsLastBeside, IsNoneBeside, IsShedOf, ShedsNone};
 
 use crate::memory::Memory;
@@ -157,12 +157,12 @@ impl Memory {
         None
     }
 
-    /// The sharer that leaves for the step for which the instance at this place stands, where nobody pays: where the step
+    /// The sharer that leaves for the step for which the instance at this place waits, where nobody pays: where the step
     /// writes a page on a frame that is charged to the instance and has more sharers than the step writes of it, the greatest
     /// of these, by the numbers of instances and then of pages, that is no page of the step and can leave; the frame of the
     /// step's lower such page first. None where there is none.
     pub fn shed_page(&self, place: usize, need: Need) -> Option<PageId>
-        requires { StandsForFrame self.now place need }
+        requires { WaitsForBytes self.now place need }
         ensures { MatchOption result (NobodyIsShed self.now place need)
             (λ id. IsShed self.now place need id.place id.page) }
     {

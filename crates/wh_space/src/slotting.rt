@@ -3,7 +3,7 @@
 ghost use Rattle.std.specs.Prelude.{◌≡◌, ◌<◌, IfSome, None, length, get_or};
 ghost use Rattle.wh_space.specs.Slotting.{CanLeaveSlot, leaver_of, slot_gone, void_use, voids_leaver, voids_slot};
 
-use crate::guest::Guest;
+use crate::occupant_entry::OccupantEntry;
 use wh_host_model::{Page, Slot};
 use wh_swap::Slots;
 
@@ -22,14 +22,14 @@ fn voided_use(used: Slot) -> Slot
 }
 
 // The slot by which a page of the instance at a place leaves, if one does.
-pub fn leaver_at(guests: &Vec<Option<Guest>>, place: usize) -> Option<u32>
-    ensures { result ≡ leaver_of (get_or guests.now.items place None) }
+pub fn leaver_at(occupant_entries: &Vec<Option<OccupantEntry>>, place: usize) -> Option<u32>
+    ensures { result ≡ leaver_of (get_or occupant_entries.now.items place None) }
 {
-    if place >= guests.len() {
+    if place >= occupant_entries.len() {
         return None;
     }
-    match guests[place] {
-        Some(guest) => guest.leaves,
+    match occupant_entries[place] {
+        Some(occupant_entry) => occupant_entry.leaves,
         None => None,
     }
 }

@@ -1,32 +1,32 @@
-// Where an instance stands for a frame.
+// Where an instance waits for a frame.
 
 ghost use Rattle.std.specs.Prelude.{◌≡◌, ◌+◌, ◌*◌, ◌<◌, ◌≤◌, [], None, Some, true, length, get_or, slice_set};
 ghost use Rattle.wh_host_model.specs.Space.Parts.{Occupant, occupant_at};
 ghost use Rattle.wh_host_model.specs.Space.Stores.{ended, stood};
 ghost use Rattle.wh_model.specs.declared.memory.Need.{Need as Bytes};
-ghost use Rattle.wh_space.specs.Guests.{stands_for};
+ghost use Rattle.wh_space.specs.OccupantEntries.{entry_awaiting};
 
-use crate::guest::Guest;
 use crate::memory::Memory;
+use crate::occupant_entry::OccupantEntry;
 use crate::pins::end_pins;
 use wh_model::Need;
 
-// Whoever is at this place stands for a frame at these bytes, or for none.
-fn stand_at(guests: &mut Vec<Option<Guest>>, place: usize, need: Option<Need>)
-    requires { place < length guests.old.items }
-    ensures { guests.new.items ≡ slice_set guests.old.items place
-        (stands_for (get_or guests.old.items place None) need) }
+// Whoever is at this place waits for a frame at these bytes, or for none.
+fn stand_at(occupant_entries: &mut Vec<Option<OccupantEntry>>, place: usize, need: Option<Need>)
+    requires { place < length occupant_entries.old.items }
+    ensures { occupant_entries.new.items ≡ slice_set occupant_entries.old.items place
+        (entry_awaiting (get_or occupant_entries.old.items place None) need) }
 {
-    if let Some(guest) = guests[place] {
-        guests[place] = Some(Guest {
+    if let Some(occupant_entry) = occupant_entries[place] {
+        occupant_entries[place] = Some(OccupantEntry {
             stands: need,
-            ..guest
+            ..occupant_entry
         });
     }
 }
 
 impl Memory {
-    /// The instance at this place stands for a frame at these bytes, which are in its memory and at most 4096; or for
+    /// The instance at this place waits for a frame at these bytes, which are in its memory and at most 4096; or for
     /// none.
     pub fn stand(&mut self, place: usize, need: Option<Need>)
         requires there { (t : Occupant) × occupant_at self.old place t × (t.live ≡ true) }
@@ -35,7 +35,7 @@ impl Memory {
         requires few { (want : Bytes) → need ≡ Some want → want.length ≤ 4096 }
         ensures { self.new ≡ stood self.old place need }
     {
-        stand_at(&mut self.guests, place, need);
+        stand_at(&mut self.occupant_entries, place, need);
     }
 
     /// The step was taken for which the instance at this place stood, or its call was cancelled: it stands for none, and its
@@ -45,7 +45,7 @@ impl Memory {
         ensures { self.new ≡ ended self.old place }
     {
         let _ = &self.tax;
-        stand_at(&mut self.guests, place, None);
+        stand_at(&mut self.occupant_entries, place, None);
         end_pins(&mut self.pins, &mut self.pool, place);
     }
 }

@@ -17,7 +17,14 @@ use wh_model::{Got, Need};
 impl Memory {
     // Writes bytes into a page that stands alone on this frame.
     #[inline(always)]
-    fn write_own(&mut self, place: usize, number: u32, frame: u32, offset: usize, given: &[u8])
+    pub(crate) fn write_own(
+        &mut self,
+        place: usize,
+        number: u32,
+        frame: u32,
+        offset: usize,
+        given: &[u8],
+    )
         requires own { page_at self.old.tables place number ≡ Some (Private frame) }
         requires inside { offset + length given.now ≤ 4096 }
         requires some { 1 ≤ length given.now }

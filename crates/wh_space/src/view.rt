@@ -5,7 +5,7 @@ ghost use Rattle.std.specs.Prelude.{◌≡◌, min, refl};
 ghost use Rattle.wh_host_model.specs.Space.Parts.{view};
 ghost use Rattle.wh_host_model.specs.Space.Ready.{Ready};
 ghost use Rattle.wh_space.specs.Steps.{page_limit};
-ghost use Rattle.wh_space.specs.Views.{KeepsRest, keeps_all, keeps_on, keeps_page_limit, keeps_least};
+ghost use Rattle.wh_space.specs.StepViews.{KeepsRest, keeps_all, keeps_on, keeps_page_limit, keeps_least};
 
 use crate::memory::Memory;
 use wh_linmem::LinearMem;
@@ -42,25 +42,25 @@ impl<'a> LinearMem for View<'a> {
 
     #[inline(always)]
     fn load(&mut self, at: u64, into: &mut [u8]) -> Got {
-        self.memory.known();
+        self.memory.invariant();
         self.memory.load(self.place, at, into)
     }
 
     #[inline(always)]
     fn store(&mut self, at: u64, given: &[u8]) -> Got {
-        self.memory.known();
+        self.memory.invariant();
         self.memory.store(self.place, at, given)
     }
 
     #[inline(always)]
     fn quick_load(&mut self, at: u64, into: &mut [u8]) -> bool {
-        self.memory.known();
+        self.memory.invariant();
         self.memory.quick_load(self.place, at, into)
     }
 
     #[inline(always)]
     fn quick_store(&mut self, at: u64, given: &[u8]) -> bool {
-        self.memory.known();
+        self.memory.invariant();
         self.memory.quick_store(self.place, at, given)
     }
 
@@ -74,7 +74,7 @@ impl<'a> LinearMem for View<'a> {
             return Grown::Refused;
         }
         let grown = self.memory.grow(self.place, pages);
-        self.memory.known();
+        self.memory.invariant();
         grown
     }
 

@@ -1,7 +1,7 @@
 -- Slots of which the first ones are there.
 use Rattle.std.proofs.Common.{◌≡◌, ◌≤◌, ◌<◌, ℕ, ◌+◌, ◌-◌, ◌++◌, suc, List, [], ◌∷◌, Option, Some, None, length, map, replicate, slice_set, ap, sym, ◌∙◌, arith}
 use Rattle.std.proofs.lemmas.List.{append_assoc, length-append, length-map, length-replicate, length-set, map-append, map-set, replicate-append-replicate, set-append_left}
-use Rattle.wh_swap.specs.Memory.{slots_held, slot_bytes}
+use Rattle.wh_swap.specs.MemorySwaps.{slots_held, slot_bytes}
 use Rattle.wh_swap.proofs.Seen.{map-replicate}
 
 -- more of them are there, to which nothing was written

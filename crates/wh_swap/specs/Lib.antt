@@ -1,3 +1,3 @@
-pub mod Memory
+pub mod MemorySwaps
 pub mod SlotParts
 pub mod Written

@@ -1,7 +1,7 @@
 // What contracts count of a device's calls. It takes no bytes.
 
 ghost use Rattle.std.specs.Prelude.{◌≡◌, [], ◌∷◌, map};
-ghost use Rattle.wh_host_model.specs.Faults.{swap_number};
+ghost use Rattle.wh_host_model.specs.SwapFaults.{swap_number};
 ghost use Rattle.wh_swap.specs.Written.{counted_misread, fault_numbered};
 
 use crate::written::Written;

@@ -2,7 +2,7 @@
 
 ghost use Rattle.std.specs.Prelude.{◌≡◌, ◌≢◌, ◌+◌, ◌-◌, ◌<◌, ◌≤◌, ◌++◌, ⊤, None, [], length, get_or, replicate, slice_set, IsOk, IfOk, OnOk};
 ghost use Rattle.std.specs.Vec.{vec_capacity};
-ghost use Rattle.wh_swap.specs.Memory.{memory_held, memory_writes};
+ghost use Rattle.wh_swap.specs.MemorySwaps.{memory_held, memory_writes};
 
 use crate::SwapDev;
 use crate::counts::one_more;
@@ -25,7 +25,7 @@ pub struct MemSwap {
 }
 
 impl Model for MemSwap {
-    ghost use Rattle.wh_swap.specs.Memory.{Contents, contents_of, HasRoomForSlots};
+    ghost use Rattle.wh_swap.specs.MemorySwaps.{Contents, contents_of, HasRoomForSlots};
 
     ghost Value = { Contents };
 

@@ -1,7 +1,7 @@
 //! Modules as the decoder makes them: plain data, with instructions in binary order.
 //!
 //! Section numbers are those of the W3C WebAssembly Core Specification 1.0. `specs/View.antt` says which abstract syntax
-//! each type stands for.
+//! each type represents.
 #![tactic(auto)]
 
 mod expr;

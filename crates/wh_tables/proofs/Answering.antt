@@ -9,7 +9,7 @@ use Rattle.wh_host_model.proofs.Space.Sums.{below_le, below_one, below_tally, be
 use Rattle.wh_tables.specs.declared.page_id.PageId.{PageId}
 use Rattle.wh_host_model.specs.Space.Charges.{IsFirstOn, IsOnFrame, before_in, charge_in, charged_in, standing_at, stands_on}
 use Rattle.wh_tables.specs.Order.{Chains, ComesBefore, IsInOrder, StandsOn, next_in, prior_in}
-use Rattle.wh_tables.specs.Linking.{Turned}
+use Rattle.wh_tables.specs.PageLinks.{Turned}
 use Rattle.wh_tables.specs.Index.{number_in}
 use Rattle.wh_tables.proofs.Stops.{lead_nearest, lead_there}
 use Rattle.wh_tables.proofs.Charging.{first_is}

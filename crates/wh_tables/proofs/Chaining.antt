@@ -5,7 +5,7 @@ use Rattle.wh_host_model.specs.declared.states.Page.TheVariants.{Untouched}
 use Rattle.wh_host_model.specs.Space.States.{page_at, put}
 use Rattle.wh_tables.specs.declared.page_id.PageId.{PageId}
 use Rattle.wh_host_model.specs.Space.Charges.{stands_on}
-use Rattle.wh_tables.specs.Linking.{IsEarlierStop, IsStop, LeadsToNearest, Turned, stop_of}
+use Rattle.wh_tables.specs.PageLinks.{IsEarlierStop, IsStop, LeadsToNearest, Turned, stop_of}
 use Rattle.wh_tables.specs.Order.{AreLinked, Chains, ComesBefore, ComesBehind, HasLinks, HasNext, HasPrior, IsAsLarge, IsInOrder, IsInRange, StandsOn, next_in, prior_in}
 use Rattle.wh_tables.proofs.Linking.{IsBehind}
 use Rattle.wh_tables.proofs.Stops.{back_again, lead_nearest, lead_there, order_turned}

@@ -1,7 +1,7 @@
 -- Links from each member to the next in order: they stay so when one comes and when one goes. With the order turned they
 -- are those to the one before.
 use Rattle.std.proofs.Common.{◌≡◌, ◌≢◌, ◌⊎◌, inl, inr, Option, Some, sym, ap, ◌∙◌, subst}
-use Rattle.wh_tables.specs.Linking.{LeadsToNearest}
+use Rattle.wh_tables.specs.PageLinks.{LeadsToNearest}
 
 pub record IsOrder {X : Type 0} (Before : X → X → Type 0) : Type 0 where
   pub apart : (x : X) → ¬ Before x x

@@ -12,7 +12,7 @@ use Rattle.wh_pages.specs.Table.{PageTableState}
 use Rattle.wh_tables.specs.declared.page_id.PageId.{PageId}
 use Rattle.wh_tables.specs.declared.index.Counts.{Counts}
 use Rattle.wh_host_model.specs.Space.Charges.{charge_in, charged_in, standing_at, stands_on, touched_on, touchers_in}
-use Rattle.wh_tables.specs.Linking.{IsEarlierStop, IsStop, LeadsToNearest, stop_of}
+use Rattle.wh_tables.specs.PageLinks.{IsEarlierStop, IsStop, LeadsToNearest, stop_of}
 use Rattle.wh_tables.specs.Order.{StandsOn, next_in, prior_in}
 use Rattle.wh_tables.specs.Index.{HaveOwnNumbers, Counted, IsIndexOf, IsMeasured, Marked, activity_in, counts_at, empty_index, number_in, without_active}
 use Rattle.wh_tables.specs.Tables.{AreIndexed, limits_by_place, marked_of, marks_by_place, pages_by_place, tables_with, without_marks, without_touched}

@@ -2,7 +2,7 @@
 use Rattle.std.proofs.Common.{◌≡◌, ℕ, ◌<◌, inl, inr, List, Option, Some, None, IfSome, subst, arith}
 use Rattle.wh_host_model.specs.declared.states.Page.{Page}
 use Rattle.wh_tables.specs.declared.page_id.PageId.{PageId}
-use Rattle.wh_tables.specs.Linking.{IsEarlierStop, Turned}
+use Rattle.wh_tables.specs.PageLinks.{IsEarlierStop, Turned}
 use Rattle.wh_tables.specs.Order.{Chains, ComesBefore, IsInOrder, StandsOn, prior_in}
 use Rattle.wh_tables.proofs.Stops.{lead_nearest, lead_there}
 use Rattle.wh_tables.proofs.InOrder.{order_of_pages}

@@ -6,7 +6,7 @@ use Rattle.wh_host_model.specs.Space.States.{page_at, put}
 use Rattle.wh_host_model.proofs.Space.Putting.{here_or}
 use Rattle.wh_tables.specs.declared.page_id.PageId.{PageId}
 use Rattle.wh_host_model.specs.Space.Charges.{stands_on}
-use Rattle.wh_tables.specs.Linking.{IsEarlierStop, IsStop, LeadsToNearest, stop_of}
+use Rattle.wh_tables.specs.PageLinks.{IsEarlierStop, IsStop, LeadsToNearest, stop_of}
 use Rattle.wh_tables.specs.Order.{AreLinked, IsElsewhere, IsRelinked, StandsOn}
 use Rattle.wh_tables.proofs.Linking.{ButNot, IsBehind, IsOrder, OrIs, link_put, link_taken}
 use Rattle.wh_tables.proofs.Stops.{order_of_stops, to_stop}

@@ -1,4 +1,4 @@
-pub mod Linking
+pub mod PageLinks
 pub mod Order
 pub mod Line
 pub mod Index

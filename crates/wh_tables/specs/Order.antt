@@ -6,10 +6,10 @@ use Rattle.wh_host_model.specs.Space.States.{page_at}
 use Rattle.wh_tables.specs.declared.page_id.PageId.{PageId}
 use Rattle.wh_tables.specs.declared.order.Link.{Link}
 use Rattle.wh_tables.specs.declared.order.Ends.{Ends}
-use Rattle.wh_tables.specs.declared.order.Order.TheInside.{Inside}
+use Rattle.wh_tables.specs.declared.order.PageOrder.TheInside.{Inside}
 use Rattle.wh_host_model.specs.Space.Charges.{IsOnFrame, stands_on}
 use Rattle.wh_tables.specs.Line.{IsLineOf}
-use Rattle.wh_tables.specs.Linking.{IsEarlierStop, IsStop, LeadsToNearest, Turned, stop_of}
+use Rattle.wh_tables.specs.PageLinks.{IsEarlierStop, IsStop, LeadsToNearest, Turned, stop_of}
 
 -- the numbers of the instances by place, the links of each page of each, and of each frame the first and the last page
 pub record Chains : Type 0 where

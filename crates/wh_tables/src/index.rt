@@ -8,7 +8,7 @@ ghost use Rattle.wh_tables.specs.Index.{CountsOneMore, HoldsOff, HoldsOn, IsInde
 ghost use Rattle.wh_tables.specs.Line.{IsLineOf};
 ghost use Rattle.wh_tables.specs.Order.{HasLinks, IsAsLarge, IsInRange, next_in, prior_in};
 
-use crate::order::{Order, put_row};
+use crate::order::{PageOrder, put_row};
 use crate::page_id::PageId;
 use std::alloc::{AllocError, Global};
 use std::marker::Model;
@@ -23,7 +23,7 @@ pub struct Counts {
 
 #[derive(Drop)]
 pub struct Index {
-    order: Order,
+    order: PageOrder,
     // By place.
     counts: Vec<Counts>,
     // By frame, how many touched pages stand on it.
@@ -188,7 +188,7 @@ impl Index {
     pub fn new(alloc: Global, frames: u32) -> Result<Index, AllocError>
         ensures { IfOk result (λ index. index ≡ empty_index frames) }
     {
-        let order = Order::new(alloc, frames)?;
+        let order = PageOrder::new(alloc, frames)?;
         let touchers = vec![in alloc; 0; frames as usize]?;
         Ok(Index {
             order,

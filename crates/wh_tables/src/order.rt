@@ -33,14 +33,14 @@ pub struct Ends {
 // ordered by the numbers of their instances, and then by their own. Beside them the instances stand in the order of their
 // numbers.
 #[derive(Drop)]
-pub struct Order {
+pub struct PageOrder {
     numbers: Vec<u64>,
     links: Vec<Vec<Link>>,
     ends: Vec<Ends>,
     line: Vec<InstId>,
 }
 
-impl Model for Order {
+impl Model for PageOrder {
     ghost use Rattle.wh_tables.specs.Order.{Chains, chains_of};
 
     ghost Value = { Chains };
@@ -65,9 +65,9 @@ pub fn put_row<T: Drop>(rows: &mut Vec<T>, place: usize, row: T)
     }
 }
 
-impl Order {
+impl PageOrder {
     // Nobody is there, and no page stands on any of so many frames.
-    pub fn new(alloc: Global, frames: u32) -> Result<Order, AllocError>
+    pub fn new(alloc: Global, frames: u32) -> Result<PageOrder, AllocError>
         ensures { IfOk result (λ order. order ≡ record {
           numbers = [];
           links = [];
@@ -79,7 +79,7 @@ impl Order {
             last: None,
         };
         let ends = vec![in alloc; none; frames as usize]?;
-        Ok(Order {
+        Ok(PageOrder {
             numbers: Vec::new(alloc),
             links: Vec::new(alloc),
             ends,

@@ -5,7 +5,7 @@ use Rattle.std.proofs.lemmas.List.Elements.{filter_map-append}
 use Rattle.wh_threads.specs.declared.channel.Message.{Message}
 use Rattle.wh_threads.specs.declared.channel.Message.TheVariants.{Turn, Last}
 use Rattle.wh_threads.specs.declared.channel.Traffic.{Traffic}
-use Rattle.wh_threads.specs.Handover.{is_turn, turns_in, turn_number, HandsOutLast, HasQuantum, HaveQuantum}
+use Rattle.wh_threads.specs.Handover.{is_turn, turns_in, turn_number, DispatchesLast, HasQuantum, HaveQuantum}
 use Rattle.wh_threads.proofs.Views.{sum_by-new}
 use Rattle.wh_host_model.specs.declared.plain.InstId.{InstId}
 
@@ -30,10 +30,10 @@ pub quanta_more : (q : ℕ) (messages : List Message) (m : Message) → HasQuant
 quanta_more q [] m is all = (is, tt)
 quanta_more q (x ∷ xs) m is all = (all.0, quanta_more q xs m is all.1)
 
-pub last_none : (v : Traffic) → HandsOutLast v v
+pub last_none : (v : Traffic) → DispatchesLast v v
 last_none v = record { parts = refl; received = refl; turns = refl; numbers = refl; quanta = λ q all. all }
 
-pub last_more : (u v w : Traffic) → HandsOutLast u v → w ≡ record v { sent = v.sent ++ Last ∷ [] } → HandsOutLast u w
+pub last_more : (u v w : Traffic) → DispatchesLast u v → w ≡ record v { sent = v.sent ++ Last ∷ [] } → DispatchesLast u w
 last_more u v w were is = record {
   parts = ap (λ (x : Traffic). x.parts) is ∙ were.parts;
   received = ap (λ (x : Traffic). x.received) is ∙ were.received;

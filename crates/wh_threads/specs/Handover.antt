@@ -1,4 +1,4 @@
--- What was handed out is what was received and what the channel holds.
+-- What was dispatched is what was received and what the channel holds.
 use Rattle.std.specs.Prelude.{◌≡◌, ℕ, ◌+◌, List, [], sum_by, ⊤}
 use Rattle.std.specs.List.{AllByRecursion, filter_map, range_with_len}
 use Rattle.std.specs.Prelude.{Option, Some, None}
@@ -15,12 +15,12 @@ traffic parts sent received = record { parts = parts; sent = sent; received = re
 abbrev pub all_parts : ℕ
 all_parts = 128
 
--- a pass without a part has handed out and received nothing
+-- a pass without a part has dispatched and received nothing
 abbrev pub IdleIsEmpty : List Traffic → Type 0
 IdleIsEmpty views =
     (pass : ℕ) (v : Traffic) → get_elem? views pass ≡ some v → v.parts ≡ 0 → (v.sent ≡ []) × (v.received ≡ [])
 
--- The rule: what all passes handed out is what they received and what the channel holds, whatever weight each message
+-- The rule: what all passes dispatched is what they received and what the channel holds, whatever weight each message
 -- is given.
 abbrev pub Balanced : List Message → List Traffic → Type 0
 Balanced held views =
@@ -60,24 +60,24 @@ HasQuantum q Last = ⊤
 abbrev pub HaveQuantum : ℕ → List Message → Type 0
 HaveQuantum q messages = AllByRecursion (HasQuantum q) messages
 
--- last signs were handed out, and nothing else has changed
-pub record HandsOutLast (old new : Traffic) : Type 0 where
+-- last signs were dispatched, and nothing else has changed
+pub record DispatchesLast (old new : Traffic) : Type 0 where
   pub parts : new.parts ≡ old.parts
   pub received : new.received ≡ old.received
   pub turns : turns_in new.sent ≡ turns_in old.sent
   pub numbers : filter_map turn_number new.sent ≡ filter_map turn_number old.sent
   pub quanta : (q : ℕ) → HaveQuantum q old.sent → HaveQuantum q new.sent
 
--- through a slip that had handed out nothing, turns of q charges were handed out, so many and numbered, and nothing was
+-- through a slip that had dispatched nothing, turns of q charges were dispatched, so many and numbered, and nothing was
 -- received
-pub record HandsOut (old : Traffic) (count q : ℕ) (new : Traffic) : Type 0 where
+pub record Dispatches (old : Traffic) (count q : ℕ) (new : Traffic) : Type 0 where
   pub parts : new.parts ≡ old.parts
   pub received : new.received ≡ old.received
   pub turns : turns_in new.sent ≡ count
   pub numbered : AreNumbered new.sent
   pub quanta : HaveQuantum q new.sent
 
--- a slip with one part came back, through which nothing was handed out
+-- a slip with one part came back, through which nothing was dispatched
 pub record TakesBack (old new : Traffic) : Type 0 where
   pub parts : new.parts ≡ old.parts + 1
   pub sent : new.sent ≡ old.sent

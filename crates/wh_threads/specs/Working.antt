@@ -13,12 +13,12 @@ use Rattle.wh_threads.specs.Counting.{WorkerState}
 use Rattle.wh_threads.specs.Handover.{traffic, turns_in}
 
 -- a turn that was received: whose it is, and how many charges it has at most
-pub record OrderState : Type 0 where
+pub record ReceivedTurnState : Type 0 where
   pub instance : InstId
   pub quantum : ℕ
 
 -- what a worker's thread returns
-pub record ReplyState : Type 0 where
+pub record WorkerResultState : Type 0 where
   pub worker : WorkerState
   pub slip : Pass Message Traffic
 

@@ -6,7 +6,7 @@ ghost use Rattle.wh_threads.specs.Counting.{RanTurn, IsZero, turns_of, charges_o
 use crate::count::Count;
 use crate::helper::Helper;
 use crate::lender::Lender;
-use crate::order::Order;
+use crate::received_turn::ReceivedTurn;
 use crate::shares::Shares;
 use crate::tally::Tally;
 use crate::worker::Worker;
@@ -81,7 +81,7 @@ impl<T: Ledger, C: Ledger, O: Ledger, E: Ledger> Books<T, C, O, E> {
     }
 
     /// The turn of this order is counted, which took so many charges: the order is spent.
-    pub fn turn(&mut self, worker: &mut Worker<T, C>, order: Order, taken: u32)
+    pub fn turn(&mut self, worker: &mut Worker<T, C>, order: ReceivedTurn, taken: u32)
         requires room { worker.old.tally.turns < 2 ^ 64 - 1 }
         ensures books { self.new ≡ record self.old {
           turns = self.old.turns + 1;

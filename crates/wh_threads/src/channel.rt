@@ -1,4 +1,4 @@
-// The channel through which turns are handed out.
+// The channel through which turns are dispatched.
 
 ghost use Rattle.std.specs.Prelude.{◌≡◌, ◌+◌, ◌-◌, ◌<◌, [], ◌∷◌, ◌++◌, IfOk, IfSome, IfNone};
 ghost use Rattle.std.specs.Bool.{MatchBool};
@@ -13,10 +13,10 @@ use std::collections::LinkedList;
 use std::sync::Wait;
 use wh_host_model::InstId;
 
-/// What is handed out to a worker.
+/// What is dispatched to a worker.
 #[derive(Clone, Copy, Debug, PartialEq, Eq)]
 pub enum Message {
-    /// A turn of this instance, of so many charges at most. Turns are numbered in the order in which they are handed out.
+    /// A turn of this instance, of so many charges at most. Turns are numbered in the order in which they are dispatched.
     Turn {
         number: u64,
         instance: InstId,
@@ -26,18 +26,18 @@ pub enum Message {
     Last,
 }
 
-/// What a pass knows: what was handed out and received through it, and how many of the 128 parts of the right to know
+/// What a pass knows: what was dispatched and received through it, and how many of the 128 parts of the right to know
 /// the whole it has. It is a value of contracts alone.
 pub struct Traffic {
     /// Its parts.
     pub parts: u64,
-    /// What was handed out through it.
+    /// What was dispatched through it.
     pub sent: LinkedList<Message>,
     /// What was received through it.
     pub received: LinkedList<Message>,
 }
 
-/// The rule of the channel: what was handed out is what was received and what the channel holds.
+/// The rule of the channel: what was dispatched is what was received and what the channel holds.
 pub struct Balance;
 
 impl Protocol<Message, Traffic> for Balance {
@@ -70,7 +70,7 @@ impl Join<Traffic> for OnePart {
     ghost spent = { traffic 0 [] [] };
 }
 
-// A message is handed out.
+// A message is dispatched.
 struct Sends;
 
 impl Outcome<Message, Traffic> for Sends {
@@ -111,20 +111,23 @@ impl Lesson<Message, Traffic> for ReceivesOfAll {
         → sum_by weight v.sent ≡ sum_by weight v.received + sum_by weight held };
 }
 
-/// The end through which messages are handed out.
-pub type Outlet = RuledSender<Message, Traffic, Balance>;
+/// The end through which messages are dispatched.
+pub type TurnSender = RuledSender<Message, Traffic, Balance>;
 
 /// An end through which they are received.
-pub type Inlet = RuledReceiver<Message, Traffic, Balance>;
+pub type TurnReceiver = RuledReceiver<Message, Traffic, Balance>;
 
-/// A pass of the channel: who hands out or receives a message notes it there. It takes no bytes.
+/// A pass of the channel: who dispatches or receives a message notes it there. It takes no bytes.
 pub type Slip = Pass<Message, Traffic>;
 
 /// A channel that holds up to so many messages, with the slip that has all parts.
 ///
 /// # Errors
 /// Where room was refused.
-pub fn open_channel(alloc: Global, capacity: usize) -> Result<(Outlet, Inlet, Slip), AllocError>
+pub fn open_channel(
+    alloc: Global,
+    capacity: usize,
+) -> Result<(TurnSender, TurnReceiver, Slip), AllocError>
     requires { 0 < capacity }
     ensures ends { IfOk result (λ r. receives_on r.1 ≡ sends_on r.0) }
     ensures slip { IfOk result (λ r. IsSeatAt (sends_on r.0) r.2
@@ -133,65 +136,65 @@ pub fn open_channel(alloc: Global, capacity: usize) -> Result<(Outlet, Inlet, Sl
     bounded_with(alloc, capacity)
 }
 
-/// Hands out a message, and waits for room. False where no receiver is left: nothing was handed out then.
-pub fn hand_out<R: Wait>(rt: &R, outlet: &Outlet, slip: &mut Slip, message: Message) -> bool
-    requires channel { IsSeatAt (sends_on outlet.now) slip.old }
+/// Dispatches a message, and waits for room. False where no receiver is left: nothing was dispatched then.
+pub fn dispatch<R: Wait>(rt: &R, sender: &TurnSender, slip: &mut Slip, message: Message) -> bool
+    requires channel { IsSeatAt (sends_on sender.now) slip.old }
     requires part { 0 < (view slip.old).parts }
-    ensures channel { IsSeatAt (sends_on outlet.now) slip.new }
+    ensures channel { IsSeatAt (sends_on sender.now) slip.new }
     ensures sent { MatchBool result
         (view slip.new ≡ record (view slip.old) { sent = (view slip.old).sent ++ message ∷ [] })
         (view slip.new ≡ view slip.old) }
 {
-    outlet.send_as::<Sends, R>(rt, slip, message).is_ok()
+    sender.send_as::<Sends, R>(rt, slip, message).is_ok()
 }
 
 /// Waits for a message, and receives it. None where the channel was empty and no sender was left.
-pub fn receive<R: Wait>(rt: &R, inlet: &Inlet, slip: &mut Slip) -> Option<Message>
-    requires channel { IsSeatAt (receives_on inlet.now) slip.old }
+pub fn receive<R: Wait>(rt: &R, receiver: &TurnReceiver, slip: &mut Slip) -> Option<Message>
+    requires channel { IsSeatAt (receives_on receiver.now) slip.old }
     requires part { 0 < (view slip.old).parts }
-    ensures channel { IsSeatAt (receives_on inlet.now) slip.new }
+    ensures channel { IsSeatAt (receives_on receiver.now) slip.new }
     ensures some { IfSome result (λ message. view slip.new
         ≡ record (view slip.old) { received = (view slip.old).received ++ message ∷ [] }) }
     ensures none { IfNone result (view slip.new ≡ view slip.old) }
 {
-    inlet.recv_as::<Receives, R>(rt, slip).ok()
+    receiver.recv_as::<Receives, R>(rt, slip).ok()
 }
 
 /// A slip with one part, for a thread that receives. It begins with nothing received.
-pub fn pass_for(outlet: &Outlet, slip: &mut Slip) -> Slip
-    requires channel { IsSeatAt (sends_on outlet.now) slip.old }
+pub fn pass_for(sender: &TurnSender, slip: &mut Slip) -> Slip
+    requires channel { IsSeatAt (sends_on sender.now) slip.old }
     requires parts { 1 < (view slip.old).parts }
-    ensures channel { IsSeatAt (sends_on outlet.now) slip.new
-        × IsSeatAt (sends_on outlet.now) result }
+    ensures channel { IsSeatAt (sends_on sender.now) slip.new
+        × IsSeatAt (sends_on sender.now) result }
     ensures left { view slip.new ≡ record (view slip.old) { parts = (view slip.old).parts - 1 } }
     ensures new { view result ≡ traffic 1 [] [] }
 {
-    outlet.another::<OnePart>(slip)
+    sender.another::<OnePart>(slip)
 }
 
-/// A thread's slip comes back: what was handed out and received through it was so through this one.
-pub fn put_back(outlet: &Outlet, slip: &mut Slip, other: Slip)
-    requires channel { IsSeatAt (sends_on outlet.now) slip.old
-        × IsSeatAt (sends_on outlet.now) other }
+/// A thread's slip comes back: what was dispatched and received through it was so through this one.
+pub fn put_back(sender: &TurnSender, slip: &mut Slip, other: Slip)
+    requires channel { IsSeatAt (sends_on sender.now) slip.old
+        × IsSeatAt (sends_on sender.now) other }
     requires part { 0 < (view slip.old).parts }
-    ensures channel { IsSeatAt (sends_on outlet.now) slip.new }
+    ensures channel { IsSeatAt (sends_on sender.now) slip.new }
     ensures both { view slip.new ≡ traffic ((view slip.old).parts + (view other).parts)
         ((view slip.old).sent ++ (view other).sent)
         ((view slip.old).received ++ (view other).received) }
 {
-    outlet.absorb::<OnePart>(slip, other)
+    sender.absorb::<OnePart>(slip, other)
 }
 
 /// Once all parts are in one slip: a message that nobody has received. None only where each message was received as
-/// often as it was handed out.
-pub fn left_over<R: Wait>(rt: &R, inlet: &Inlet, slip: &mut Slip) -> Option<Message>
-    requires channel { IsSeatAt (receives_on inlet.now) slip.old }
+/// often as it was dispatched.
+pub fn left_over<R: Wait>(rt: &R, receiver: &TurnReceiver, slip: &mut Slip) -> Option<Message>
+    requires channel { IsSeatAt (receives_on receiver.now) slip.old }
     requires all { (view slip.old).parts ≡ all_parts }
-    ensures channel { IsSeatAt (receives_on inlet.now) slip.new }
+    ensures channel { IsSeatAt (receives_on receiver.now) slip.new }
     ensures some { IfSome result (λ message. view slip.new
         ≡ record (view slip.old) { received = (view slip.old).received ++ message ∷ [] }) }
     ensures none { IfNone result ((view slip.new ≡ view slip.old)
         × SameMessages (view slip.new).sent (view slip.new).received) }
 {
-    inlet.try_recv_as::<ReceivesOfAll, R>(rt, slip).ok()
+    receiver.try_recv_as::<ReceivesOfAll, R>(rt, slip).ok()
 }

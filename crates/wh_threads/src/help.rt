@@ -13,11 +13,11 @@ use std::thread::{Promise, PromisedHandle, Threads};
 use std::time::Duration;
 
 // So long a helper that waits sleeps at most, in seconds, though nobody rings.
-const LONGEST_SLEEP: u64 = 1;
+const LONGEST_SLEEP_SECONDS: u64 = 1;
 
 /// What came of what a scanner or a reclaimer was to do.
 #[derive(Clone, Copy, Debug, PartialEq, Eq)]
-pub enum Progress {
+pub enum HelpOutcome {
     /// It was done.
     Did,
     /// There is nothing to do now: its bell rings where there may be something.
@@ -29,7 +29,7 @@ pub enum Progress {
 /// What a scanner or a reclaimer does, again and again.
 pub trait Help<K: Ledger> {
     /// Does it once, and counts what it did.
-    fn help<R: Wait>(&self, rt: &R, helper: &mut Helper<K>) -> Progress
+    fn help<R: Wait>(&self, rt: &R, helper: &mut Helper<K>) -> HelpOutcome
         requires room { helper.old.count < 2 ^ 64 - 1 }
         ensures from { helper.new.from ≡ helper.old.from };
 
@@ -105,12 +105,12 @@ fn help_until_told<K: Ledger, H: Help<K> + Drop, R: Wait + Drop>(
             break;
         }
         match job.help(&rt, &mut helper) {
-            Progress::Did => thread::yield_now(),
-            Progress::Waits => {
-                let longest = Duration::from_secs(LONGEST_SLEEP);
+            HelpOutcome::Did => thread::yield_now(),
+            HelpOutcome::Waits => {
+                let longest = Duration::from_secs(LONGEST_SLEEP_SECONDS);
                 job.bell().sleep(&rt, rings, longest);
             },
-            Progress::Ended => break,
+            HelpOutcome::Ended => break,
         }
     }
     Helped { helper }

@@ -8,11 +8,11 @@ ghost use Rattle.wh_threads.specs.Handover.{TakesBack, turns_in};
 ghost use Rattle.wh_threads.specs.Working.{HasWorked};
 ghost use Rattle.wh_threads.specs.declared.tally.Tally.{Tally};
 
-use crate::channel::{Outlet, Slip, put_back};
+use crate::channel::{Slip, TurnSender, put_back};
 use crate::help::{Helped, Helps};
 use crate::lender::Lender;
 use crate::sweep::{Sweep, Sweeps, Swept};
-use crate::work::{Reply, Works};
+use crate::work::{WorkerResult, Works};
 use std::sync::ledger::Ledger;
 use std::thread::{PromisedHandle, Threads};
 
@@ -23,15 +23,15 @@ impl<T: Ledger, C: Ledger, O: Ledger, E: Ledger> Lender<T, C, O, E> {
         &mut self,
         rt: &R,
         seat: usize,
-        handle: PromisedHandle<Reply<T, C>, Works>,
-        outlet: &Outlet,
+        handle: PromisedHandle<WorkerResult<T, C>, Works>,
+        sender: &TurnSender,
         slip: &mut Slip,
     )
-        requires channel { IsSeatAt (sends_on outlet.now) slip.old }
+        requires channel { IsSeatAt (sends_on sender.now) slip.old }
         requires part { 0 < (view slip.old).parts }
         requires seat { slice_get self.old.tallies seat ≡ Some handle.promise.from }
-        requires inlet { receives_on handle.promise.inlet.value ≡ sends_on outlet.now }
-        ensures channel { IsSeatAt (sends_on outlet.now) slip.new }
+        requires receiver { receives_on handle.promise.receiver.value ≡ sends_on sender.now }
+        ensures channel { IsSeatAt (sends_on sender.now) slip.new }
         ensures back { TakesBack (view slip.old) (view slip.new) }
         ensures out { self.new.workers_out + 1 ≡ self.old.workers_out }
         ensures only { (t : Tally) × (self.new ≡ record self.old {
@@ -42,7 +42,7 @@ impl<T: Ledger, C: Ledger, O: Ledger, E: Ledger> Lender<T, C, O, E> {
             ≡ turns_of self.old.tallies + turns_in (view slip.new).received }
     {
         let (worker, other) = handle.join(rt).into_parts();
-        put_back(outlet, slip, other);
+        put_back(sender, slip, other);
         self.take_worker(seat, worker);
     }
 
@@ -50,24 +50,24 @@ impl<T: Ledger, C: Ledger, O: Ledger, E: Ledger> Lender<T, C, O, E> {
     pub fn take_refused_worker(
         &mut self,
         seat: usize,
-        reply: Reply<T, C>,
-        outlet: &Outlet,
+        reply: WorkerResult<T, C>,
+        sender: &TurnSender,
         slip: &mut Slip,
     )
-        requires channel { IsSeatAt (sends_on outlet.now) slip.old }
+        requires channel { IsSeatAt (sends_on sender.now) slip.old }
         requires part { 0 < (view slip.old).parts }
         requires seat { slice_get self.old.tallies seat ≡ Some reply.worker.from }
-        requires worked { HasWorked (sends_on outlet.now) reply.worker.from reply.worker
+        requires worked { HasWorked (sends_on sender.now) reply.worker.from reply.worker
             reply.slip }
         requires idle { reply.worker.tally ≡ reply.worker.from }
-        ensures channel { IsSeatAt (sends_on outlet.now) slip.new }
+        ensures channel { IsSeatAt (sends_on sender.now) slip.new }
         ensures back { TakesBack (view slip.old) (view slip.new) }
         ensures out { self.new.workers_out + 1 ≡ self.old.workers_out }
         ensures same { self.new ≡ record self.old { workers_out = self.new.workers_out } }
         ensures turns { turns_in (view slip.new).received ≡ turns_in (view slip.old).received }
     {
         let (worker, other) = reply.into_parts();
-        put_back(outlet, slip, other);
+        put_back(sender, slip, other);
         self.take_worker(seat, worker);
     }
 

@@ -1,26 +1,26 @@
-// What the passes of a pact know, and its rule.
+// What the passes of an agreement know, and its rule.
 
 use crossbeam_queue::protocol::{Join, Lesson, Protocol, Split};
 use std::marker::{Brand, PhantomData};
 
-/// What the holders of a pact agree on: a kind of value of contracts.
-pub trait Matter {
+/// What the holders of an agreement agree on: a kind of value of contracts.
+pub trait AgreedValue {
     /// What is known before anything was told.
     ghost nothing: { Self };
 }
 
 // What a pass knows: its parts of the two; the value that both holders know; and, once both parts are in one pass, the
 // same value as the other part knew it. It is a value of contracts alone: none is made.
-pub struct Known<V> {
+pub struct PassKnowledge<V> {
     pub parts: u64,
     pub mine: Option<V>,
     pub other: Option<V>,
 }
 
-// The rule of a pact: both holders know one value.
+// The rule of an agreement: both holders know one value.
 pub struct Agree;
 
-impl<V> Protocol<u8, Known<V>> for Agree {
+impl<V> Protocol<u8, PassKnowledge<V>> for Agree {
     ghost use Rattle.std.specs.Prelude.{None};
     ghost use Rattle.wh_threads.specs.Agreement.{Agreed, knowing};
 
@@ -47,7 +47,7 @@ pub struct Apart<K> {
     of: PhantomData<K>,
 }
 
-impl<V, K: Picks<V>> Split<Known<V>> for Apart<K> {
+impl<V, K: Picks<V>> Split<PassKnowledge<V>> for Apart<K> {
     ghost use Rattle.wh_threads.specs.Agreement.{knowing};
 
     ghost left = { λ _. knowing 1 K.picked K.picked };
@@ -58,7 +58,7 @@ impl<V, K: Picks<V>> Split<Known<V>> for Apart<K> {
 // A pass without a part is cut off.
 pub struct Idle;
 
-impl<V> Split<Known<V>> for Idle {
+impl<V> Split<PassKnowledge<V>> for Idle {
     ghost use Rattle.std.specs.Prelude.{None};
     ghost use Rattle.wh_threads.specs.Agreement.{knowing};
 
@@ -70,7 +70,7 @@ impl<V> Split<Known<V>> for Idle {
 // Both parts are put into one pass.
 pub struct Together;
 
-impl<V> Join<Known<V>> for Together {
+impl<V> Join<PassKnowledge<V>> for Together {
     ghost use Rattle.std.specs.Prelude.{◌+◌, None};
     ghost use Rattle.wh_threads.specs.Agreement.{knowing};
 
@@ -82,7 +82,7 @@ impl<V> Join<Known<V>> for Together {
 // Who has both parts learns that they know the same.
 pub struct Same;
 
-impl<V> Lesson<u8, Known<V>> for Same {
+impl<V> Lesson<u8, PassKnowledge<V>> for Same {
     ghost use Rattle.std.specs.Prelude.{◌≡◌};
 
     ghost fact = { λ v _. v.mine ≡ v.other };

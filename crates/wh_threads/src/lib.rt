@@ -2,6 +2,7 @@
 //! joins it, and a value on which two locks agree. What a thread has counted comes back by its join alone.
 #![tactic(auto)]
 
+mod agreement;
 mod books;
 mod changes;
 mod channel;
@@ -11,8 +12,7 @@ mod helper;
 mod joins;
 mod known;
 mod lender;
-mod order;
-mod pact;
+mod received_turn;
 mod shares;
 mod start;
 mod sweep;
@@ -20,22 +20,22 @@ mod tally;
 mod work;
 mod worker;
 
+pub use agreement::{Agreement, AgreementHalf, AgreementId, BlankAgreement};
 pub use books::Books;
 pub use changes::Change;
 pub use channel::{
-    Balance, Inlet, Message, Outlet, Slip, Traffic, hand_out, left_over, open_channel, pass_for,
-    put_back, receive,
+    Balance, Message, Slip, Traffic, TurnReceiver, TurnSender, dispatch, left_over, open_channel,
+    pass_for, put_back, receive,
 };
 pub use count::Count;
-pub use help::{Help, Helped, Helps, Progress, start_helper};
+pub use help::{Help, HelpOutcome, Helped, Helps, start_helper};
 pub use helper::Helper;
-pub use known::Matter;
+pub use known::AgreedValue;
 pub use lender::Lender;
-pub use order::Order;
-pub use pact::{BlankPact, Bond, Half, Pact};
+pub use received_turn::ReceivedTurn;
 pub use shares::Shares;
 pub use start::{Equipment, start_worker, stop};
 pub use sweep::{Sweep, Sweeps, Swept, start_sweep};
 pub use tally::Tally;
-pub use work::{Reply, Turns, Works, receive_turn};
+pub use work::{Turns, WorkerResult, Works, receive_turn};
 pub use worker::Worker;

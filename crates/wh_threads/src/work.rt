@@ -7,8 +7,8 @@ ghost use Rattle.wh_threads.specs.Handover.{traffic, turns_in};
 ghost use Rattle.wh_threads.specs.Working.{HasWorked};
 ghost use Rattle.wh_threads.specs.declared.channel.Message.TheVariants.{Turn};
 
-use crate::channel::{Inlet, Message, Slip, receive};
-use crate::order::Order;
+use crate::channel::{Message, Slip, TurnReceiver, receive};
+use crate::received_turn::ReceivedTurn;
 use crate::tally::Tally;
 use crate::worker::Worker;
 use std::alloc::AllocError;
@@ -21,13 +21,13 @@ use std::thread::Promise;
 /// What a worker does with a turn. Each worker has a value of its own.
 pub trait Turns<T: Ledger, C: Ledger> {
     /// Waits until this worker may receive a turn. Where turns are run under one lock, whoever waits here doesn't wait there.
-    fn await_place<R: Wait>(&self, rt: &R);
+    fn acquire_turn_lock<R: Wait>(&self, rt: &R);
 
     /// This worker receives no further turn, so another one may.
-    fn leave_place(&self);
+    fn release_turn_lock(&self);
 
     /// Runs the turn that was received, which the worker counts: there the order is spent.
-    fn run<R: Wait>(&self, rt: &R, order: Order, worker: &mut Worker<T, C>)
+    fn run<R: Wait>(&self, rt: &R, order: ReceivedTurn, worker: &mut Worker<T, C>)
         requires room { worker.old.tally.turns < 2 ^ 64 - 1 }
         ensures from { worker.new.from ≡ worker.old.from }
         ensures turns { worker.new.tally.turns ≡ worker.old.tally.turns + 1 };
@@ -42,20 +42,20 @@ pub trait Turns<T: Ledger, C: Ledger> {
 /// What a worker's thread returns: its counts, and what it received. None is made elsewhere, so what it has was counted by
 /// a worker's thread.
 #[derive(Drop)]
-pub struct Reply<T: Ledger, C: Ledger> {
+pub struct WorkerResult<T: Ledger, C: Ledger> {
     worker: Worker<T, C>,
     slip: Slip,
 }
 
-impl<T: Ledger, C: Ledger> Model for Reply<T, C> {
-    ghost use Rattle.wh_threads.specs.Working.{ReplyState};
+impl<T: Ledger, C: Ledger> Model for WorkerResult<T, C> {
+    ghost use Rattle.wh_threads.specs.Working.{WorkerResultState};
 
-    ghost Value = { ReplyState };
+    ghost Value = { WorkerResultState };
 
     ghost view = { λ r. record { worker = r.worker; slip = r.slip } };
 }
 
-impl<T: Ledger, C: Ledger> Reply<T, C> {
+impl<T: Ledger, C: Ledger> WorkerResult<T, C> {
     /// Whether the worker has run no turn.
     pub fn is_idle(&self) -> bool
         ensures { IsTrue result ↔ (self.now.worker.tally ≡ self.now.worker.from) }
@@ -67,7 +67,7 @@ impl<T: Ledger, C: Ledger> Reply<T, C> {
     pub(crate) fn into_parts(self) -> (Worker<T, C>, Slip)
         ensures { (result.0 ≡ self.worker) × (result.1 ≡ self.slip) }
     {
-        let Reply { worker, slip } = self;
+        let WorkerResult { worker, slip } = self;
         (worker, slip)
     }
 }
@@ -78,23 +78,27 @@ pub struct Works {
     /// With which counts it began.
     pub from: Tally,
     /// Where it receives.
-    pub inlet: Snapshot<Inlet>,
+    pub receiver: Snapshot<TurnReceiver>,
 }
 
-impl<T: Ledger, C: Ledger> Promise<Reply<T, C>> for Works {
+impl<T: Ledger, C: Ledger> Promise<WorkerResult<T, C>> for Works {
     ghost use Rattle.crossbeam_channel.specs.Ends.{receives_on};
     ghost use Rattle.wh_threads.specs.Working.{HasWorked};
 
-    ghost kept_by = { λ p r. HasWorked (receives_on p.inlet.value) p.from r.worker r.slip };
+    ghost kept_by = { λ p r. HasWorked (receives_on p.receiver.value) p.from r.worker r.slip };
 }
 
 /// Waits for a message, and receives it: the turn that it is. None at the last sign, and where the channel was empty and no
 /// sender was left.
 #[tactic(auto, using(crate::proofs::Runs::turns_in_turn, crate::proofs::Runs::turns_in_last))]
-pub fn receive_turn<R: Wait>(rt: &R, inlet: &Inlet, slip: &mut Slip) -> Option<Order>
-    requires channel { IsSeatAt (receives_on inlet.now) slip.old }
+pub fn receive_turn<R: Wait>(
+    rt: &R,
+    receiver: &TurnReceiver,
+    slip: &mut Slip,
+) -> Option<ReceivedTurn>
+    requires channel { IsSeatAt (receives_on receiver.now) slip.old }
     requires hand { view slip.old ≡ traffic 1 [] (view slip.old).received }
-    ensures channel { IsSeatAt (receives_on inlet.now) slip.new }
+    ensures channel { IsSeatAt (receives_on receiver.now) slip.new }
     ensures hand { view slip.new ≡ traffic 1 [] (view slip.new).received }
     ensures order { IfSome result (λ order. (number : ℕ) × ((view slip.new).received
         ≡ (view slip.old).received ++ Turn number order.instance order.quantum ∷ [])) }
@@ -103,12 +107,12 @@ pub fn receive_turn<R: Wait>(rt: &R, inlet: &Inlet, slip: &mut Slip) -> Option<O
     ensures none { IfNone result (turns_in (view slip.new).received
         ≡ turns_in (view slip.old).received) }
 {
-    match receive(rt, inlet, slip)? {
+    match receive(rt, receiver, slip)? {
         Message::Turn {
             instance,
             quantum,
             ..
-        } => Some(Order::of(instance, quantum)),
+        } => Some(ReceivedTurn::of(instance, quantum)),
         Message::Last => None,
     }
 }
@@ -117,14 +121,14 @@ pub fn receive_turn<R: Wait>(rt: &R, inlet: &Inlet, slip: &mut Slip) -> Option<O
 fn work<T: Ledger, C: Ledger, J: Turns<T, C>, R: Wait>(
     rt: &R,
     job: &J,
-    inlet: &Inlet,
+    receiver: &TurnReceiver,
     worker: Worker<T, C>,
     slip: Slip,
-) -> Reply<T, C>
-    requires channel { IsSeatAt (receives_on inlet.now) slip }
+) -> WorkerResult<T, C>
+    requires channel { IsSeatAt (receives_on receiver.now) slip }
     requires new { view slip ≡ traffic 1 [] [] }
     requires begun { worker.tally ≡ worker.from }
-    ensures { HasWorked (receives_on inlet.now) worker.from result.worker result.slip }
+    ensures { HasWorked (receives_on receiver.now) worker.from result.worker result.slip }
 {
     let mut worker = worker;
     let mut slip = slip;
@@ -132,28 +136,28 @@ fn work<T: Ledger, C: Ledger, J: Turns<T, C>, R: Wait>(
         if worker.is_full() {
             break;
         }
-        job.await_place(rt);
-        match receive_turn(rt, inlet, &mut slip) {
+        job.acquire_turn_lock(rt);
+        match receive_turn(rt, receiver, &mut slip) {
             Some(order) => job.run(rt, order, &mut worker),
             None => break,
         }
     }
-    job.leave_place();
-    Reply { worker, slip }
+    job.release_turn_lock();
+    WorkerResult { worker, slip }
 }
 
 // The same with all that the thread owns.
 pub fn work_with<T: Ledger, C: Ledger, J: Turns<T, C> + Drop, R: Wait + Drop>(
     rt: R,
     job: J,
-    inlet: Inlet,
+    receiver: TurnReceiver,
     worker: Worker<T, C>,
     slip: Slip,
-) -> Reply<T, C>
-    requires channel { IsSeatAt (receives_on inlet) slip }
+) -> WorkerResult<T, C>
+    requires channel { IsSeatAt (receives_on receiver) slip }
     requires new { view slip ≡ traffic 1 [] [] }
     requires begun { worker.tally ≡ worker.from }
-    ensures { HasWorked (receives_on inlet) worker.from result.worker result.slip }
+    ensures { HasWorked (receives_on receiver) worker.from result.worker result.slip }
 {
-    work(&rt, &job, &inlet, worker, slip)
+    work(&rt, &job, &receiver, worker, slip)
 }

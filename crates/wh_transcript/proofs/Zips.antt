@@ -8,7 +8,7 @@ use lib.Pointwise.{pointwise}
 use Rattle.std.specs.List.{AllZip}
 use Rattle.wh_journal.specs.Calls.{JournalCallState}
 use Rattle.wh_transcript.specs.declared.requests.RequestedCall.{RequestedCall}
-use Rattle.wh_transcript.specs.Asked.{EndsAsSaid, IsCallAsked}
+use Rattle.wh_transcript.specs.RequestedCalls.{EndsAsSaid, IsCallAsked}
 
 same_value : {A : Type 0} (x y : A) → Some x ≡ Some y → x ≡ y
 same_value x y e = cc e

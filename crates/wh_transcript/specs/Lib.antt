@@ -1,3 +1,3 @@
 pub mod Transcripts
 pub mod Stored
-pub mod Asked
+pub mod RequestedCalls

@@ -29,6 +29,6 @@ stored_transcript =
     code_by (List ℕ × (Params × (List JournalCallState × Option Suspension)))
     (coded× (coded_list coded_ℕ) (coded× stored_params
     (coded× (coded_list stored_call) (coded_option suspension_type.the_row.coded))))
-    (λ t. (t.bytes, (t.params, (t.calls, t.stands_for))))
-    (λ q. record { bytes = q.0; params = q.1.0; calls = q.1.1.0; stands_for = q.1.1.1 })
+    (λ t. (t.bytes, (t.params, (t.calls, t.waiting_for))))
+    (λ q. record { bytes = q.0; params = q.1.0; calls = q.1.1.0; waiting_for = q.1.1.1 })
     (λ _. refl)

@@ -10,7 +10,7 @@ use Rattle.wh_host_model.specs.Host.Worlds.{Rest, Doing, journal_calls, store_wi
 use Rattle.wh_host_model.specs.Owners.{Entry}
 use Rattle.wh_host_model.specs.Owners.{Params, given_of}
 use Rattle.wh_host_model.specs.Host.Journals.{InOrder}
-use Rattle.wh_host_model.specs.Host.Standing.{FirstStandsDuly}
+use Rattle.wh_host_model.specs.Host.Suspensions.{FirstWaitsDuly}
 use Rattle.wh_journal.specs.Calls.{JournalCallState}
 use Rattle.wh_instance.specs.declared.stages.Suspension.{Suspension}
 use Rattle.wh_instance.specs.Tenancy.{RepresentsEach, suspension_of}
@@ -21,7 +21,7 @@ pub record TranscriptState : Type 0 where
   pub bytes : List ℕ
   pub params : Params
   pub calls : List JournalCallState
-  pub stands_for : Option Suspension
+  pub waiting_for : Option Suspension
 
 -- The bytes spell a module that is accepted. An instance of it, which is given that, has these calls: those that have
 -- ended, and then the open ones. They lead to this store, at which the first open one is there, and what it stands for
@@ -43,4 +43,4 @@ pub record IsReplayable (t : TranscriptState) : Type 0 where
   pub doing : Doing
   pub replay : Replay m (given_of t.params) (journal_calls (ended ++ open_calls)) (standing_with seen rest doing)
   pub wanted : Option Need
-  pub stands : FirstStandsDuly inst (store_with seen rest) doing open_calls wanted (suspension_of t.stands_for)
+  pub stands : FirstWaitsDuly inst (store_with seen rest) doing open_calls wanted (suspension_of t.waiting_for)

@@ -1,7 +1,7 @@
 //! Transcripts.
 
 ghost use Rattle.std.specs.Prelude.{◌≡◌};
-ghost use Rattle.wh_admit.specs.Views.{view_params};
+ghost use Rattle.wh_admit.specs.View.{view_params};
 
 use std::marker::Model;
 use std::sync::Arc;
@@ -16,11 +16,11 @@ pub struct Transcript {
     bytes: Arc<Vec<u8>>,
     params: Params,
     calls: Vec<JournalCall>,
-    stands_for: Option<Suspension>,
+    waiting_for: Option<Suspension>,
 }
 
 impl Model for Transcript {
-    ghost use Rattle.wh_admit.specs.Views.{view_params as params_of};
+    ghost use Rattle.wh_admit.specs.View.{view_params as params_of};
     ghost use Rattle.wh_transcript.specs.Transcripts.{TranscriptState};
 
     ghost Value = { TranscriptState };
@@ -33,7 +33,7 @@ impl Model for Transcript {
       bytes = t.bytes.value.items;
       params = params_of t.params;
       calls = t.calls.items;
-      stands_for = t.stands_for;
+      waiting_for = t.waiting_for;
     } };
 }
 
@@ -43,20 +43,20 @@ impl Transcript {
         bytes: Arc<Vec<u8>>,
         params: Params,
         calls: Vec<JournalCall>,
-        stands_for: Option<Suspension>,
+        waiting_for: Option<Suspension>,
     ) -> Transcript
         ensures { result ≡ record {
           bytes = bytes.value.items;
           params = view_params params;
           calls = calls.items;
-          stands_for = stands_for;
+          waiting_for = waiting_for;
         } }
     {
         Transcript {
             bytes,
             params,
             calls,
-            stands_for,
+            waiting_for,
         }
     }
 
@@ -82,9 +82,9 @@ impl Transcript {
     }
 
     /// For what its first open call stands, if no turn of it is taken.
-    pub fn stands_for(&self) -> Option<Suspension>
-        ensures { result ≡ self.now.stands_for }
+    pub fn waiting_for(&self) -> Option<Suspension>
+        ensures { result ≡ self.now.waiting_for }
     {
-        self.stands_for
+        self.waiting_for
     }
 }

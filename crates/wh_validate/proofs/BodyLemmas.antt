@@ -7,10 +7,10 @@ use Rattle.wh_model.specs.Validity.Valid.{ValidBody, ValidBodies}
 use Rattle.wh_model.specs.Validity.Heights.{FitsBody, FitBodies}
 use Rattle.wh_syntax.specs.View.{view_body}
 use Rattle.wh_syntax.specs.declared.module.Body.{Body as Given}
-use Rattle.wh_bodies.specs.Table.{Table, table_of}
-use Rattle.wh_validate.specs.Soundness.{Checked}
+use Rattle.wh_bodies.specs.SideTables.{Table, table_of}
+use Rattle.wh_validate.specs.CheckedBodies.{Checked}
 use Rattle.wh_model.specs.declared.faults.ValidKind.{ValidKind}
-use Rattle.wh_bodies.specs.Faults.{IsOfBody, HasInstr}
+use Rattle.wh_bodies.specs.BodyFaults.{IsOfBody, HasInstr}
 use Rattle.wh_validate.specs.declared.error.ValidError.{ValidError}
 use Rattle.wh_validate.specs.Blaming.{IsBadBody, Blames}
 use Rattle.wh_validate.proofs.Lists.{get_there, get_mapped}

@@ -9,7 +9,7 @@ use Rattle.wh_model.specs.Validity.Valid.{ConstantOf}
 use Rattle.wh_syntax.specs.declared.instr.Instr.{Instr}
 use Rattle.wh_syntax.specs.declared.instr.Instr.TheVariants.{I32Const, I64Const, GlobalGet}
 use Rattle.wh_syntax.specs.Shown.{instr_of}
-use Rattle.wh_validate.specs.Constants.{IsConstant}
+use Rattle.wh_validate.specs.ConstantInstructions.{IsConstant}
 use Rattle.wh_validate.proofs.Deciding.{Same}
 
 -- ---- two instructions

@@ -6,7 +6,7 @@ use Rattle.wh_model.specs.Validity.Valid.{Exported}
 use Rattle.wh_syntax.specs.View.{view_global_type, view_table, view_limits, view_type}
 use Rattle.wh_syntax.specs.declared.module.Export.{Export}
 use Rattle.wh_bodies.specs.declared.context.Context.{Context as Given}
-use Rattle.wh_bodies.specs.Views.{view_context, type_at}
+use Rattle.wh_bodies.specs.View.{view_context, type_at}
 use Rattle.wh_validate.specs.Parts.{IsExport}
 use Rattle.wh_validate.proofs.Lists.{item_at, item_below}
 use Rattle.wh_validate.proofs.Deciding.{Same}

@@ -15,7 +15,7 @@ use Rattle.std.specs.Ordering.{nat_cmp}
 use Rattle.std.specs.BTreeMap.{BTreeMap, get_by, UpdatesBy}
 use Rattle.std.proofs.lemmas.Map.Text.{btree_map_updates_str}
 use denote.Ref.{Bor}
-use Rattle.wh_validate.specs.Names.{has_name, HasSeen}
+use Rattle.wh_validate.specs.SeenNames.{has_name, HasSeen}
 
 pub name_added : {X : Type 0} (bs : List ℕ) (m n : BTreeMap (Bor (List ℕ)) X) (x : X) → UpdatesBy (λ x y. slice_cmp nat_cmp x.now y.now) (λ k. slice_cmp nat_cmp bs k.now) m n (Some x)
     → (q : List ℕ) → has_name n q ≡ (bytes_eq bs q || has_name m q)

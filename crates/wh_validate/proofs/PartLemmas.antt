@@ -10,7 +10,7 @@ use Rattle.wh_syntax.specs.declared.module.FuncType.{FuncType as Func}
 use Rattle.wh_syntax.specs.declared.module.Element.{Element}
 use Rattle.wh_syntax.specs.declared.module.Data.{Data}
 use Rattle.wh_bodies.specs.declared.context.Context.{Context as Given}
-use Rattle.wh_bodies.specs.Views.{view_context, type_at}
+use Rattle.wh_bodies.specs.View.{view_context, type_at}
 use Rattle.wh_validate.specs.Parts.{IsValidElement, IsSegment}
 use Rattle.wh_validate.proofs.Lists.{item_at, item_below, take_whole, each_recursion, recursion_each, get_mapped}
 use Rattle.wh_validate.proofs.Deciding.{Same}

@@ -13,15 +13,15 @@ use Rattle.wh_syntax.specs.declared.module.ImportDesc.TheVariants.{Func, Global 
 use Rattle.wh_syntax.specs.declared.module.Global.{Global}
 use Rattle.wh_syntax.specs.View.{view_module, view_import, view_desc, view_type, view_table, view_limits, view_global, view_global_type, view_element, view_data, view_export, view_body}
 use Rattle.wh_bodies.specs.declared.context.Context.{Context as Given}
-use Rattle.wh_bodies.specs.Table.{Table}
+use Rattle.wh_bodies.specs.SideTables.{Table}
 use Rattle.wh_syntax.specs.declared.module.Body.{Body}
-use Rattle.wh_bodies.specs.Views.{view_context, type_at}
+use Rattle.wh_bodies.specs.View.{view_context, type_at}
 use Rattle.wh_validate.specs.declared.whole.Gathered.{Gathered}
 use Rattle.wh_validate.specs.Gathering.{HasValidOutline, IsGathered, IsAround}
 use Rattle.wh_validate.specs.Sizing.{IsTable}
 use Rattle.wh_validate.specs.Naming.{NamesTypeOf, NamesType}
 use Rattle.wh_validate.specs.Parts.{IsGlobal, IsExport, IsValidElement, IsSegment}
-use Rattle.wh_validate.specs.Soundness.{Checked, IsChecked}
+use Rattle.wh_validate.specs.CheckedBodies.{Checked, IsChecked}
 use Rattle.wh_validate.proofs.Lists.{each_recursion}
 use Rattle.wh_validate.specs.declared.error.ValidError.{ValidError}
 use Rattle.wh_model.specs.declared.faults.ValidKind.TheVariants.{Memory}

@@ -7,7 +7,7 @@ use Rattle.wh_model.specs.Validity.Typing.{Context}
 use Rattle.wh_model.specs.Validity.Valid.{ValidBody, IsContext, imported_funcs, Valid}
 use Rattle.wh_model.specs.Validity.Heights.{FitsBody, Fits}
 use Rattle.wh_model.specs.declared.faults.ValidKind.{ValidKind}
-use Rattle.wh_bodies.specs.Faults.{IsOfBody, HasInstr}
+use Rattle.wh_bodies.specs.BodyFaults.{IsOfBody, HasInstr}
 
 -- ---- in a function
 

@@ -1,9 +1,9 @@
 pub mod Deciding
 pub mod Naming
-pub mod Constants
+pub mod ConstantInstructions
 pub mod Parts
-pub mod Names
-pub mod Soundness
+pub mod SeenNames
+pub mod CheckedBodies
 pub mod ValidModuleState
 pub mod Gathering
 pub mod Sizing

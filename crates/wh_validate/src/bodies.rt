@@ -5,9 +5,9 @@ ghost use Rattle.std.specs.List.{All, AllByRecursion};
 ghost use Rattle.wh_syntax.specs.View.{view_body, view_type};
 ghost use Rattle.wh_model.specs.Validity.Valid.{ValidType, ValidBodies};
 ghost use Rattle.wh_model.specs.Validity.Heights.{FitBodies};
-ghost use Rattle.wh_bodies.specs.Views.{view_context, view_side};
+ghost use Rattle.wh_bodies.specs.View.{view_context, view_side};
 ghost use Rattle.wh_validate.specs.Blaming.{Blames};
-ghost use Rattle.wh_validate.specs.Soundness.{Checked};
+ghost use Rattle.wh_validate.specs.CheckedBodies.{Checked};
 
 use crate::error::ValidError;
 use std::alloc::Global;

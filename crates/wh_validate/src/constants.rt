@@ -4,7 +4,7 @@ ghost use Rattle.std.specs.Prelude.{◌≡◌, ◌≢◌, map, take, slice_get, 
 ghost use Rattle.wh_model.specs.Validity.Valid.{ConstantOf};
 ghost use Rattle.wh_syntax.specs.View.{view_global_type};
 ghost use Rattle.wh_validate.specs.Deciding.{Decides};
-ghost use Rattle.wh_validate.specs.Constants.{IsConstant};
+ghost use Rattle.wh_validate.specs.ConstantInstructions.{IsConstant};
 
 use wh_model::{Mutability, ValType, ValidKind};
 use wh_syntax::{Expr, GlobalType, Instr};

@@ -5,10 +5,10 @@ ghost use Rattle.std.specs.Str.{bytes_eq};
 ghost use Rattle.std.specs.List.{All};
 ghost use Rattle.wh_model.specs.Validity.Valid.{DifferentNames};
 ghost use Rattle.wh_syntax.specs.View.{view_export};
-ghost use Rattle.wh_bodies.specs.Views.{view_context};
+ghost use Rattle.wh_bodies.specs.View.{view_context};
 ghost use Rattle.wh_validate.specs.Deciding.{Decides};
 ghost use Rattle.wh_validate.specs.Parts.{IsExport};
-ghost use Rattle.wh_validate.specs.Names.{has_name};
+ghost use Rattle.wh_validate.specs.SeenNames.{has_name};
 
 use crate::indices::check_index;
 use std::alloc::Global;

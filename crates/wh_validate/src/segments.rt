@@ -6,7 +6,7 @@ ghost use Rattle.wh_model.specs.Validity.Valid.{ValidStart};
 ghost use Rattle.wh_syntax.specs.View.{view_global_type, view_type};
 ghost use Rattle.wh_model.specs.Validity.Heights.{no_type};
 ghost use Rattle.std.specs.Bool.{MatchBool};
-ghost use Rattle.wh_bodies.specs.Views.{view_context};
+ghost use Rattle.wh_bodies.specs.View.{view_context};
 ghost use Rattle.wh_validate.specs.Deciding.{Decides};
 ghost use Rattle.wh_validate.specs.Parts.{IsGlobal, IsValidElement, IsSegment};
 

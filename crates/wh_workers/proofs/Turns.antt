@@ -1,11 +1,11 @@
--- Turns that are handed out, and their numbers.
+-- Turns that are dispatched, and their numbers.
 use Rattle.std.proofs.Common.{◌≡◌, ℕ, zero, suc, ◌+◌, ◌-◌, ◌<◌, List, [], ◌∷◌, ◌++◌, sym, ap, ◌∙◌, arith}
 use Rattle.std.specs.List.{filter_map, range_with_len}
 use Rattle.std.proofs.lemmas.List.Elements.{filter_map-append}
 use Rattle.wh_threads.specs.declared.channel.Message.{Message}
 use Rattle.wh_threads.specs.declared.channel.Message.TheVariants.{Turn}
 use Rattle.wh_threads.specs.declared.channel.Traffic.{Traffic}
-use Rattle.wh_threads.specs.Handover.{turns_in, turn_number, AreNumbered, HandsOut, HandsOutLast}
+use Rattle.wh_threads.specs.Handover.{turns_in, turn_number, AreNumbered, Dispatches, DispatchesLast}
 use Rattle.wh_threads.proofs.Runs.{quanta_more, turns_in_turn}
 use Rattle.wh_host_model.specs.declared.plain.InstId.{InstId}
 use Rattle.wh_workers.specs.Serving.{AreTurns}
@@ -33,8 +33,8 @@ numbered_turn messages number instance quantum were is =
 
 -- ---- turns
 
-pub turn_more : (u v w : Traffic) (count q : ℕ) (instance : InstId) → HandsOut u count q v
-    → w ≡ record v { sent = v.sent ++ Turn count instance q ∷ [] } → HandsOut u (count + 1) q w
+pub turn_more : (u v w : Traffic) (count q : ℕ) (instance : InstId) → Dispatches u count q v
+    → w ≡ record v { sent = v.sent ++ Turn count instance q ∷ [] } → Dispatches u (count + 1) q w
 turn_more u v w count q instance were is = record {
   parts = ap (λ (x : Traffic). x.parts) is ∙ were.parts;
   received = ap (λ (x : Traffic). x.received) is ∙ were.received;
@@ -44,7 +44,7 @@ turn_more u v w count q instance were is = record {
 }
 
 -- last signs behind them
-pub handed_with_last : (u v w : Traffic) (count q : ℕ) → HandsOut u count q v → HandsOutLast v w → HandsOut u count q w
+pub handed_with_last : (u v w : Traffic) (count q : ℕ) → Dispatches u count q v → DispatchesLast v w → Dispatches u count q w
 handed_with_last u v w count q were last = record {
   parts = last.parts ∙ were.parts;
   received = last.received ∙ were.received;
@@ -53,14 +53,14 @@ handed_with_last u v w count q were last = record {
   quanta = last.quanta q were.quanta;
 }
 
--- the turns are those that were handed out
-pub turns_handed : (u v : Traffic) (sent : List Message) (count q : ℕ) → HandsOut u count q v → sent ≡ v.sent
+-- the turns are those that were dispatched
+pub turns_handed : (u v : Traffic) (sent : List Message) (count q : ℕ) → Dispatches u count q v → sent ≡ v.sent
     → AreTurns count q sent
 turns_handed u v sent count q were same =
     rw same (record { many = were.turns; numbered = were.numbered; quanta = were.quanta })
 
 -- last signs alone
-pub turns_none : (u v : Traffic) → u.sent ≡ [] → HandsOutLast u v → (q : ℕ) → AreTurns 0 q v.sent
+pub turns_none : (u v : Traffic) → u.sent ≡ [] → DispatchesLast u v → (q : ℕ) → AreTurns 0 q v.sent
 turns_none u v fresh last q =
     let none : turns_in v.sent ≡ 0 = last.turns ∙ ap turns_in fresh in
     record {
@@ -76,7 +76,7 @@ turns_none_still sent sent2 were same q = rw same (were q)
 
 -- ---- slips
 
--- one part less is there, and nothing was handed out or received yet
+-- one part less is there, and nothing was dispatched or received yet
 pub one_part_less : (u w : Traffic) (seat : ℕ) → w ≡ record u { parts = u.parts - 1 } → u.sent ≡ []
     → u.received ≡ [] → u.parts + seat ≡ 128 → seat < 64
     → (w.sent ≡ []) × (w.received ≡ []) × (w.parts + (seat + 1) ≡ 128)

@@ -1,3 +1,3 @@
 pub mod EachAt
-pub mod Lent
+pub mod LentHelpers
 pub mod Serving

@@ -1,4 +1,4 @@
--- What a call of `serve` has handed out, and what was run of it.
+-- What a call of `serve` has dispatched, and what was run of it.
 use Rattle.std.specs.Prelude.{◌≡◌, ℕ, ◌+◌, ◌≤◌, List, ◌++◌, length}
 use Rattle.wh_threads.specs.declared.channel.Message.{Message}
 use Rattle.wh_threads.specs.Handover.{AreNumbered, HaveQuantum, turns_in}

@@ -5,8 +5,8 @@ ghost use Rattle.crossbeam_channel.specs.Claims.{view, IsSeatAt};
 ghost use Rattle.crossbeam_channel.specs.Ends.{sends_on, receives_on};
 ghost use Rattle.wh_threads.specs.Counting.{LenderState, turns_of};
 ghost use Rattle.wh_workers.specs.EachAt.{EachAt};
-ghost use Rattle.wh_workers.specs.Lent.{AreLent};
-ghost use Rattle.wh_threads.specs.Handover.{TakesBack, HandsOut, SameMessages, turns_in, traffic, all_parts};
+ghost use Rattle.wh_workers.specs.LentHelpers.{AreLent};
+ghost use Rattle.wh_threads.specs.Handover.{TakesBack, Dispatches, SameMessages, turns_in, traffic, all_parts};
 ghost use Rattle.wh_workers.specs.Serving.{AreRun, AreTurns};
 ghost use Rattle.wh_threads.specs.Working.{HasWorked};
 
@@ -17,8 +17,8 @@ use std::sync::Wait;
 use std::sync::ledger::Ledger;
 use std::thread::{PromisedHandle, Threads};
 use wh_threads::{
-    Equipment, Help, Inlet, Lender, Outlet, Reply, Slip, Turns, Works, left_over, open_channel,
-    pass_for, start_worker, stop,
+    Equipment, Help, Lender, Slip, TurnReceiver, TurnSender, Turns, WorkerResult, Works, left_over,
+    open_channel, pass_for, start_worker, stop,
 };
 
 // How many messages the channel holds: room for all last signs.
@@ -33,14 +33,14 @@ pub enum ServeError {
     NoThread,
 }
 
-/// Turns that were handed out and run.
+/// Turns that were dispatched and run.
 #[derive(Drop)]
 pub struct Served {
-    /// How many were handed out.
+    /// How many were dispatched.
     pub turns: u64,
-    /// What was handed out and received.
+    /// What was dispatched and received.
     pub slip: Slip,
-    /// Whether all of it was done: each turn that was handed out was run.
+    /// Whether all of it was done: each turn that was dispatched was run.
     pub end: Result<(), ServeError>,
 }
 
@@ -48,20 +48,20 @@ pub struct Served {
 #[derive(Drop)]
 pub struct Team<J> {
     job: J,
-    inlet: Inlet,
-    outlet: Outlet,
-    ghost one: { receives_on inlet ≡ sends_on outlet },
+    receiver: TurnReceiver,
+    sender: TurnSender,
+    ghost one: { receives_on receiver ≡ sends_on sender },
 }
 
 // What a further worker gets of it.
 fn share_of<T: Ledger, C: Ledger, J: Turns<T, C> + Drop>(
     team: &Team<J>,
-) -> Result<(J, Inlet), AllocError>
-    ensures { IfOk result (λ r. receives_on r.1 ≡ sends_on team.now.outlet) }
+) -> Result<(J, TurnReceiver), AllocError>
+    ensures { IfOk result (λ r. receives_on r.1 ≡ sends_on team.now.sender) }
 {
     let job = team.job.share()?;
-    let inlet = team.inlet.try_clone()?;
-    Ok((job, inlet))
+    let receiver = team.receiver.try_clone()?;
+    Ok((job, receiver))
 }
 
 // A worker that found no thread was told to stop before it began. One that ran a turn all the same is never met, and
@@ -70,14 +70,14 @@ fn take_refused<T: Ledger, C: Ledger, O: Ledger, E: Ledger, R: Wait>(
     rt: &R,
     lender: &mut Lender<T, C, O, E>,
     seat: usize,
-    reply: Reply<T, C>,
-    outlet: &Outlet,
+    reply: WorkerResult<T, C>,
+    sender: &TurnSender,
     slip: &mut Slip,
 )
-    requires channel { IsSeatAt (sends_on outlet.now) slip.old × (0 < (view slip.old).parts) }
+    requires channel { IsSeatAt (sends_on sender.now) slip.old × (0 < (view slip.old).parts) }
     requires seat { slice_get lender.old.tallies seat ≡ Some reply.worker.from }
-    requires worked { HasWorked (sends_on outlet.now) reply.worker.from reply.worker reply.slip }
-    ensures channel { IsSeatAt (sends_on outlet.now) slip.new }
+    requires worked { HasWorked (sends_on sender.now) reply.worker.from reply.worker reply.slip }
+    ensures channel { IsSeatAt (sends_on sender.now) slip.new }
     ensures back { TakesBack (view slip.old) (view slip.new) }
     ensures out { lender.new.workers_out + 1 ≡ lender.old.workers_out }
     ensures same { lender.new ≡ record lender.old { workers_out = lender.new.workers_out } }
@@ -87,7 +87,7 @@ fn take_refused<T: Ledger, C: Ledger, O: Ledger, E: Ledger, R: Wait>(
         for _ in rt.forever() {}
         unreachable!()
     }
-    lender.take_refused_worker(seat, reply, outlet, slip);
+    lender.take_refused_worker(seat, reply, sender, slip);
 }
 
 // Starts the workers. Where one can't be started all others have their last signs.
@@ -105,17 +105,17 @@ fn start_all<
     lender: &mut Lender<T, C, O, E>,
     slip: &mut Slip,
     workers: usize,
-    running: Vec<PromisedHandle<Reply<T, C>, Works>>,
+    running: Vec<PromisedHandle<WorkerResult<T, C>, Works>>,
 ) -> (
-    Vec<PromisedHandle<Reply<T, C>, Works>>,
+    Vec<PromisedHandle<WorkerResult<T, C>, Works>>,
     Result<(), ServeError>,
 )
-    requires channel { IsSeatAt (sends_on team.now.outlet) slip.old }
+    requires channel { IsSeatAt (sends_on team.now.sender) slip.old }
     requires fresh { view slip.old ≡ traffic all_parts [] [] }
     requires few { workers ≤ 64 }
     requires lender { lender.old.workers_out ≡ 0 }
     requires room { (running.items ≡ []) × (workers ≤ vec_capacity running) }
-    ensures channel { IsSeatAt (sends_on team.now.outlet) slip.new }
+    ensures channel { IsSeatAt (sends_on team.now.sender) slip.new }
     ensures parts { ((view slip.new).parts + vec_len result.0 ≡ all_parts)
         × (vec_len result.0 ≤ 64) }
     ensures fresh { IfOk result.1 (λ _. (view slip.new).sent ≡ []) }
@@ -123,25 +123,25 @@ fn start_all<
         × (turns_in (view slip.new).received ≡ 0) }
     ensures running { EachAt result.0.items (λ i h.
         (slice_get lender.new.tallies i ≡ Some h.promise.from)
-        × (receives_on h.promise.inlet.value ≡ sends_on team.now.outlet)) }
+        × (receives_on h.promise.receiver.value ≡ sends_on team.now.sender)) }
     ensures lender { lender.new ≡ record lender.old { workers_out = vec_len result.0 } }
 {
     let mut running = running;
     for seat in 0..workers {
-        let Ok((job, inlet)) = share_of::<T, C, J>(team) else {
-            stop(&rt, &team.outlet, slip, seat);
+        let Ok((job, receiver)) = share_of::<T, C, J>(team) else {
+            stop(&rt, &team.sender, slip, seat);
             return (running, Err(ServeError::Memory));
         };
         let with = Equipment {
             job,
-            inlet,
+            receiver,
             worker: lender.lend_worker(seat),
-            slip: pass_for(&team.outlet, slip),
+            slip: pass_for(&team.sender, slip),
         };
-        match start_worker(rt, with, &team.outlet, slip, seat + 1) {
+        match start_worker(rt, with, &team.sender, slip, seat + 1) {
             Ok(handle) => running.push_reserved(handle),
             Err(reply) => {
-                take_refused(&rt, lender, seat, reply, &team.outlet, slip);
+                take_refused(&rt, lender, seat, reply, &team.sender, slip);
                 return (running, Err(ServeError::NoThread));
             }
         }
@@ -152,16 +152,16 @@ fn start_all<
 // Joins the workers, the last one first.
 fn join_all<T: Ledger, C: Ledger, O: Ledger, E: Ledger, R: Threads>(
     rt: &R,
-    outlet: &Outlet,
+    sender: &TurnSender,
     lender: &mut Lender<T, C, O, E>,
     slip: &mut Slip,
-    running: Vec<PromisedHandle<Reply<T, C>, Works>>,
+    running: Vec<PromisedHandle<WorkerResult<T, C>, Works>>,
 )
-    requires channel { IsSeatAt (sends_on outlet.now) slip.old × (0 < (view slip.old).parts) }
+    requires channel { IsSeatAt (sends_on sender.now) slip.old × (0 < (view slip.old).parts) }
     requires running { EachAt running.items (λ i h.
         (slice_get lender.old.tallies i ≡ Some h.promise.from)
-        × (receives_on h.promise.inlet.value ≡ sends_on outlet.now)) }
-    ensures channel { IsSeatAt (sends_on outlet.now) slip.new }
+        × (receives_on h.promise.receiver.value ≡ sends_on sender.now)) }
+    ensures channel { IsSeatAt (sends_on sender.now) slip.new }
     ensures parts { (view slip.new).parts ≡ (view slip.old).parts + vec_len running }
     ensures sent { (view slip.new).sent ≡ (view slip.old).sent }
     ensures out { lender.new.workers_out + vec_len running ≡ lender.old.workers_out }
@@ -175,13 +175,13 @@ fn join_all<T: Ledger, C: Ledger, O: Ledger, E: Ledger, R: Threads>(
     let mut running = running;
     while let Some(handle) = running.pop() {
         let seat = running.len();
-        lender.join_worker(rt, seat, handle, outlet, slip);
+        lender.join_worker(rt, seat, handle, sender, slip);
     }
 }
 
-// Hands out all turns, of so many charges each, and then the last signs. It gives how many turns, and whether these were all.
+// Dispatches all turns, of so many charges each, and then the last signs. It gives how many turns, and whether these were all.
 #[tactic(auto, using(crate::proofs::Turns::handed_with_last))]
-fn hand_out_all<
+fn dispatch_all<
     T: Ledger,
     C: Ledger,
     O: Ledger + Send + 'static,
@@ -195,28 +195,28 @@ fn hand_out_all<
     supply: &mut S,
     helpers: &mut Helpers<O, E, H, P>,
     lender: &mut Lender<T, C, O, E>,
-    outlet: &Outlet,
+    sender: &TurnSender,
     slip: &mut Slip,
     workers: usize,
     quantum: u32,
 ) -> (u64, Result<(), ServeError>)
-    requires channel { IsSeatAt (sends_on outlet.now) slip.old }
+    requires channel { IsSeatAt (sends_on sender.now) slip.old }
     requires fresh { ((view slip.old).sent ≡ []) × (0 < (view slip.old).parts) }
     requires lent { AreLent helpers.old.scanner helpers.old.reclaimer lender.old }
-    ensures channel { IsSeatAt (sends_on outlet.now) slip.new }
-    ensures out { HandsOut (view slip.old) result.0 quantum (view slip.new) }
+    ensures channel { IsSeatAt (sends_on sender.now) slip.new }
+    ensures out { Dispatches (view slip.old) result.0 quantum (view slip.new) }
     ensures lent { AreLent helpers.new.scanner helpers.new.reclaimer lender.new }
     ensures only { lender.new ≡ record lender.old {
       scanners_out = lender.new.scanners_out;
       reclaimers_out = lender.new.reclaimers_out;
     } }
 {
-    let fed = feed(rt, supply, helpers, lender, outlet, slip, quantum);
-    stop(&rt, outlet, slip, workers);
+    let fed = feed(rt, supply, helpers, lender, sender, slip, quantum);
+    stop(&rt, sender, slip, workers);
     fed
 }
 
-// Starts the workers, hands out all turns, and joins the workers. It gives how many turns, and whether all workers were
+// Starts the workers, dispatches all turns, and joins the workers. It gives how many turns, and whether all workers were
 // started and these were all turns.
 #[tactic(auto, using(crate::proofs::Turns::turns_handed, crate::proofs::Turns::turns_none_still))]
 fn run_crew<
@@ -240,14 +240,14 @@ fn run_crew<
     workers: usize,
     quantum: u32,
 ) -> (u64, Result<(), ServeError>)
-    requires channel { IsSeatAt (sends_on team.now.outlet) slip.old }
+    requires channel { IsSeatAt (sends_on team.now.sender) slip.old }
     requires fresh { view slip.old ≡ traffic all_parts [] [] }
     requires few { workers ≤ 64 }
     requires lender { lender.old.workers_out ≡ 0 }
     requires lent { AreLent helpers.old.scanner helpers.old.reclaimer lender.old }
-    ensures channel { IsSeatAt (sends_on team.now.outlet) slip.new }
+    ensures channel { IsSeatAt (sends_on team.now.sender) slip.new }
     ensures whole { (view slip.new).parts ≡ all_parts }
-    ensures handed { AreTurns result.0 quantum (view slip.new).sent }
+    ensures dispatched { AreTurns result.0 quantum (view slip.new).sent }
     ensures grown { turns_of lender.new.tallies
         ≡ turns_of lender.old.tallies + turns_in (view slip.new).received }
     ensures lent { AreLent helpers.new.scanner helpers.new.reclaimer lender.new }
@@ -263,25 +263,25 @@ fn run_crew<
     let (running, started) = start_all(rt, team, lender, slip, workers, running);
     let (turns, end) = match started {
         Ok(()) => {
-            let outlet = &team.outlet;
-            hand_out_all(rt, supply, helpers, lender, outlet, slip, workers, quantum)
+            let sender = &team.sender;
+            dispatch_all(rt, supply, helpers, lender, sender, slip, workers, quantum)
         }
         Err(error) => (0, Err(error)),
     };
-    join_all(&rt, &team.outlet, lender, slip, running);
+    join_all(&rt, &team.sender, lender, slip, running);
     (turns, end)
 }
 
 /// Runs all turns that come, of so many charges each, by so many workers, each in a thread of its own. The calling thread
 /// hands them out, and starts helpers where they are wanted.
 ///
-/// Turns are numbered in the order in which they are handed out; the workers' counts grow by those that they received. Where
-/// it ends well each turn that was handed out was received once. All parts of the workers are back, whatever it answers.
+/// Turns are numbered in the order in which they are dispatched; the workers' counts grow by those that they received. Where
+/// it ends well each turn that was dispatched was received once. All parts of the workers are back, whatever it answers.
 ///
 /// # Errors
 /// `Memory` where room for the channel was refused: nothing is done then. `Served::end` says `Memory` or `NoThread` where
 /// not all workers could be started: none ran a turn then; `NoThread` where a reclaimer was wanted that couldn't be started:
-/// no further turn was handed out then; and `NoThread` where a turn was left that no worker received.
+/// no further turn was dispatched then; and `NoThread` where a turn was left that no worker received.
 pub fn serve_turns<
     T: Ledger + Send + 'static,
     C: Ledger + Send + 'static,
@@ -306,7 +306,7 @@ pub fn serve_turns<
     requires few { workers ≤ 64 }
     requires whole { lender.old.workers_out ≡ 0 }
     requires lent { AreLent helpers.old.scanner helpers.old.reclaimer lender.old }
-    ensures handed { IfOk result (λ s. AreTurns s.turns quantum (view s.slip).sent) }
+    ensures dispatched { IfOk result (λ s. AreTurns s.turns quantum (view s.slip).sent) }
     ensures grown { IfOk result (λ s. AreRun (turns_of lender.old.tallies) (view s.slip).received
         (turns_of lender.new.tallies)) }
     ensures once { IfOk result (λ s. OnOk s.end
@@ -321,15 +321,19 @@ pub fn serve_turns<
       reclaimers_out = lender.new.reclaimers_out;
     } }
 {
-    let Ok((outlet, inlet, first)) = open_channel(alloc, CAPACITY) else {
+    let Ok((sender, receiver, first)) = open_channel(alloc, CAPACITY) else {
         return Err(ServeError::Memory);
     };
     let mut slip = first;
-    let team = Team { job, inlet, outlet };
+    let team = Team {
+        job,
+        receiver,
+        sender,
+    };
     let (turns, end) = run_crew(
         rt, alloc, &team, supply, helpers, lender, &mut slip, workers, quantum,
     );
-    let end = match left_over(&rt, &team.inlet, &mut slip) {
+    let end = match left_over(&rt, &team.receiver, &mut slip) {
         None => end,
         Some(_) => Err(ServeError::NoThread),
     };

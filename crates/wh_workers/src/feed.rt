@@ -1,12 +1,12 @@
-// Turns are handed out, and then the signs that no further one comes. Helpers are started where they are wanted.
+// Turns are dispatched, and then the signs that no further one comes. Helpers are started where they are wanted.
 
 ghost use Rattle.std.specs.Prelude.{◌≡◌, ◌+◌, ◌<◌, ◌∷◌, ◌++◌, []};
 ghost use Rattle.std.specs.Bool.{MatchBool};
 ghost use Rattle.crossbeam_channel.specs.Claims.{view, IsSeatAt};
 ghost use Rattle.crossbeam_channel.specs.Ends.{sends_on};
 ghost use Rattle.wh_threads.specs.Counting.{LenderState};
-ghost use Rattle.wh_threads.specs.Handover.{HandsOut};
-ghost use Rattle.wh_workers.specs.Lent.{AreLent};
+ghost use Rattle.wh_threads.specs.Handover.{Dispatches};
+ghost use Rattle.wh_workers.specs.LentHelpers.{AreLent};
 
 use crate::crew::ServeError;
 use crate::helpers::Helpers;
@@ -14,7 +14,7 @@ use std::sync::Wait;
 use std::sync::ledger::Ledger;
 use std::thread::Threads;
 use wh_host_model::InstId;
-use wh_threads::{Help, Lender, Message, Outlet, Slip, hand_out};
+use wh_threads::{Help, Lender, Message, Slip, TurnSender, dispatch};
 
 // The scanner is started behind so many turns: half of those for which a page is owed.
 const TURNS_BEFORE_A_SCANNER: u64 = 32;
@@ -22,7 +22,7 @@ const TURNS_BEFORE_A_SCANNER: u64 = 32;
 /// What is to be done next.
 #[derive(Clone, Copy, Debug, PartialEq, Eq)]
 pub enum Next {
-    /// A turn of this instance is to be handed out.
+    /// A turn of this instance is to be dispatched.
     Turn(InstId),
     /// A reclaimer is to be started: a call waits for a frame, and none is at work.
     Reclaimer,
@@ -30,7 +30,7 @@ pub enum Next {
     End,
 }
 
-/// Which turns are handed out.
+/// Which turns are dispatched.
 pub trait Supply {
     /// What is to be done next, once it is known. Where no reclaimer is at work it says so rather than wait for one.
     fn next<R: Wait>(&mut self, rt: &R, has_reclaimer: bool) -> Next;
@@ -58,7 +58,7 @@ fn begin_scanner<
     }
 }
 
-// Hands out turns of so many charges as they come, until no further one comes, no worker is left, or a reclaimer is wanted
+// Dispatches turns of so many charges as they come, until no further one comes, no worker is left, or a reclaimer is wanted
 // that can't be started. It gives how many, and whether it was the last. A scanner that can't be started is done without.
 pub fn feed<
     T: Ledger,
@@ -74,15 +74,15 @@ pub fn feed<
     supply: &mut S,
     helpers: &mut Helpers<O, E, H, P>,
     lender: &mut Lender<T, C, O, E>,
-    outlet: &Outlet,
+    sender: &TurnSender,
     slip: &mut Slip,
     quantum: u32,
 ) -> (u64, Result<(), ServeError>)
-    requires channel { IsSeatAt (sends_on outlet.now) slip.old }
+    requires channel { IsSeatAt (sends_on sender.now) slip.old }
     requires fresh { ((view slip.old).sent ≡ []) × (0 < (view slip.old).parts) }
     requires lent { AreLent helpers.old.scanner helpers.old.reclaimer lender.old }
-    ensures channel { IsSeatAt (sends_on outlet.now) slip.new }
-    ensures out { HandsOut (view slip.old) result.0 quantum (view slip.new) }
+    ensures channel { IsSeatAt (sends_on sender.now) slip.new }
+    ensures out { Dispatches (view slip.old) result.0 quantum (view slip.new) }
     ensures lent { AreLent helpers.new.scanner helpers.new.reclaimer lender.new }
     ensures only { lender.new ≡ record lender.old {
       scanners_out = lender.new.scanners_out;
@@ -102,7 +102,7 @@ pub fn feed<
                     instance,
                     quantum,
                 };
-                if !hand_out(&rt, outlet, slip, message) {
+                if !dispatch(&rt, sender, slip, message) {
                     return (count, Ok(()));
                 }
                 count += 1;

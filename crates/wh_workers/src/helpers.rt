@@ -2,7 +2,7 @@
 
 ghost use Rattle.std.specs.Prelude.{◌≡◌, ◌≤◌, None, IfOk, IsSome, OnErr, OnOk};
 ghost use Rattle.wh_threads.specs.Counting.{LenderState};
-ghost use Rattle.wh_workers.specs.Lent.{IsLent};
+ghost use Rattle.wh_workers.specs.LentHelpers.{IsLent};
 
 use crate::crew::ServeError;
 use std::alloc::{AllocError, Global};

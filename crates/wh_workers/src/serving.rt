@@ -57,11 +57,11 @@ fn turns_with_helpers<
     scans: &H,
     reclaims: &P,
     lender: &mut Lender<T, C, O, E>,
-    manner: Crew,
+    run_config: Crew,
 ) -> Result<Served, ServeError>
-    requires crew { (0 < manner.workers) × (manner.workers ≤ 64) }
+    requires crew { (0 < run_config.workers) × (run_config.workers ≤ 64) }
     requires whole { HasAllParts lender.old }
-    ensures handed { IfOk result (λ s. AreTurns s.turns manner.quantum (view s.slip).sent) }
+    ensures dispatched { IfOk result (λ s. AreTurns s.turns run_config.quantum (view s.slip).sent) }
     ensures grown { IfOk result (λ s. AreRun (turns_of lender.old.tallies) (view s.slip).received
         (turns_of lender.new.tallies)) }
     ensures once { IfOk result (λ s. OnOk s.end
@@ -77,7 +77,7 @@ fn turns_with_helpers<
         return Err(ServeError::Memory);
     };
     let mut helpers = helpers;
-    let Crew { workers, quantum } = manner;
+    let Crew { workers, quantum } = run_config;
     let served = serve_turns(
         rt,
         alloc,
@@ -154,18 +154,18 @@ fn pay_offers<
     settle_offers(rt, alloc, scans, lender, wanted)
 }
 
-/// Runs all turns that come, by a crew, each worker in a thread of its own; the calling thread hands the turns out. Beside
+/// Runs all turns that come, by a crew, each worker in a thread of its own; the calling thread dispatches the turns. Beside
 /// it a scanner offers pages and a reclaimer evicts them, each in a thread that is started where it is first wanted: the
 /// scanner with the 32nd turn, the reclaimer where the supply says that a call waits for a frame.
 ///
-/// Turns are numbered in the order in which they are handed out, and the workers' counts grow by those that they received.
-/// Where it ends well each turn that was handed out was received once, and for each 64 turns a page was offered. What was
+/// Turns are numbered in the order in which they are dispatched, and the workers' counts grow by those that they received.
+/// Where it ends well each turn that was dispatched was received once, and for each 64 turns a page was offered. What was
 /// done before it ended otherwise is told too (`Served`), and no count gets smaller.
 ///
 /// # Errors
 /// `Memory` where room was refused: no thread was started then. `Served::end` says so where not all workers could be
 /// started: no turn was run then. It is `NoThread` too where a reclaimer was wanted that couldn't be started: no further
-/// turn was handed out then; where a turn was left that no worker received; and, or `Memory`, where a further scanner
+/// turn was dispatched then; where a turn was left that no worker received; and, or `Memory`, where a further scanner
 /// couldn't be started for pages that are owed, or came to its end before all were offered.
 pub fn serve<
     T: Ledger + Send + 'static,
@@ -183,10 +183,10 @@ pub fn serve<
     jobs: Jobs<J, H, P>,
     supply: &mut S,
     shares: &mut Shares<T, C, O, E>,
-    manner: Crew,
+    run_config: Crew,
 ) -> Result<Served, ServeError>
-    requires crew { (0 < manner.workers) × (manner.workers ≤ 64) }
-    ensures handed { IfOk result (λ s. AreTurns s.turns manner.quantum (view s.slip).sent) }
+    requires crew { (0 < run_config.workers) × (run_config.workers ≤ 64) }
+    ensures dispatched { IfOk result (λ s. AreTurns s.turns run_config.quantum (view s.slip).sent) }
     ensures grown { IfOk result (λ s. AreRun (turns_of shares.old.tallies) (view s.slip).received
         (turns_of shares.new.tallies)) }
     ensures once { IfOk result (λ s. OnOk s.end
@@ -206,7 +206,9 @@ pub fn serve<
     } = jobs;
     let lender = &mut shares.all;
     let before = lender.offers();
-    let served = turns_with_helpers(rt, alloc, job, supply, &scans, &reclaims, lender, manner)?;
+    let served = turns_with_helpers(
+        rt, alloc, job, supply, &scans, &reclaims, lender, run_config,
+    )?;
     let Served { turns, slip, end } = served;
     let end = match end {
         Ok(()) => pay_offers(rt, alloc, &scans, lender, before, turns),

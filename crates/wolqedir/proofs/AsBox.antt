@@ -8,8 +8,8 @@ use Rattle.std_heap.specs.contracts.GlobalAllocator.TheImpl.{ghosts, dict}
 use Rattle.std_heap.proofs.Global.TheLaws as heap
 use Rattle.wh_hand.specs.contracts.hand.Hand as Hand
 use Rattle.wh_hand.proofs.hand.Hand.TheLaws as hand
-use Rattle.wh_sealing.specs.contracts.Parts as Parts
-use Rattle.wolqedir.specs.contracts.slot.Slot as Place
+use Rattle.wh_sealing.specs.contracts.SealedParts as Parts
+use Rattle.wolqedir.specs.contracts.slot.HandleSlot as Place
 
 abbrev pub E : Bx
 E = record { row = Hand.the_row; laws = hand.the_row_laws; al = record { row = Heap.the_row; laws = heap.the_row_laws; g = ghosts; d = dict; drops = impl [] tnil dnil } }

@@ -1,9 +1,9 @@
 -- What is held, where something is, and where nothing was done.
 use Rattle.std.proofs.Common.{◌≡◌, ◌≢◌, ℕ, Option, Some, None, IsSome, Result, Ok, Err, OnErr, refl, sym, ap, ◌∙◌, true≢false}
 use Rattle.std.specs.Prelude.{⊤}
-use Rattle.wh_hand.specs.InHand.{HandState}
+use Rattle.wh_hand.specs.HandStates.{HandState}
 use Rattle.wolqedir.specs.Codes.{code_by}
-use Rattle.wolqedir.specs.Serving.{TellsCaller}
+use Rattle.wolqedir.specs.ExportContracts.{TellsCaller}
 
 pub is_held : (held : Option HandState) → IsSome held → (h : HandState) × (held ≡ Some h)
 is_held (Some h) is = (h, refl)

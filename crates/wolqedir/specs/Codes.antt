@@ -4,14 +4,14 @@ use Rattle.std.specs.Prelude.{ℕ, ◌+◌, Result, Ok, Err}
 use Rattle.wh_model.specs.declared.Trap.{Trap}
 use Rattle.wh_model.specs.Format.Numbering.{fault_number, valid_number, import_number, trap_number}
 use Rattle.wh_host_model.specs.declared.plain.SwapError.{SwapError}
-use Rattle.wh_host_model.specs.Faults.{swap_number}
+use Rattle.wh_host_model.specs.SwapFaults.{swap_number}
 use Rattle.wh_imports.specs.declared.error.LinkError.{LinkError}
 use Rattle.wh_imports.specs.declared.error.LinkError.TheVariants as links
 use Rattle.wh_load.specs.declared.error.LoadError.TheVariants.{Decode, Valid, Link}
 use Rattle.wh_admit.specs.declared.error.AdmitError.{AdmitError}
-use Rattle.wh_admit.specs.Faults.{admit_number}
+use Rattle.wh_admit.specs.AdmitErrors.{admit_number}
 use Rattle.wh_host.specs.declared.error.HostError.{HostError}
-use Rattle.wh_host.specs.Asking.{host_number}
+use Rattle.wh_host.specs.CallRequests.{host_number}
 use Rattle.wh_host.specs.declared.error.ModuleError.{ModuleError}
 use Rattle.wh_host.specs.declared.error.ModuleError.TheVariants.{Bytes, ModulesFull, Memory}
 

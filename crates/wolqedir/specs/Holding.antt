@@ -2,9 +2,9 @@
 use Rattle.std.specs.Prelude.{◌≡◌, ◌⊎◌, ◌<◌, ◌≤◌, ℕ, [], Option, Some, None}
 use Rattle.wh_host_model.specs.declared.Tax.{Tax}
 use Rattle.wh_host.specs.Hosting.{IsNewHost}
-use Rattle.wh_hand.specs.InHand.{HandState}
+use Rattle.wh_hand.specs.HandStates.{HandState}
 use Rattle.wolqedir.specs.Codes.{full_code, memory_code, tax_code}
-use Rattle.wolqedir.specs.Serving.{IsLeft}
+use Rattle.wolqedir.specs.ExportContracts.{IsLeft}
 
 -- the fraction is a tax: below one, with a denominator of 1 to 1000
 abbrev pub IsTax : ℕ → ℕ → Type 0

@@ -2,7 +2,7 @@ pub mod Codes
 pub mod Held
 pub mod Holding
 pub mod Rooms
-pub mod Serving
+pub mod ExportContracts
 pub mod Shapes
-pub mod Texts
+pub mod CodeTexts
 pub mod Transcribed

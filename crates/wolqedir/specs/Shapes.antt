@@ -10,21 +10,21 @@ use Rattle.wh_instance.specs.declared.stages.CallValue.{CallValue}
 use Rattle.wh_instance.specs.declared.stages.Suspension.{Suspension}
 use Rattle.wh_instance.specs.declared.stages.Suspension.TheVariants.{Fuel, Frame, Device}
 use Rattle.wh_hand.specs.declared.running.Ran.{Ran}
-use Rattle.wolqedir.specs.declared.shapes.Instance.{Instance}
-use Rattle.wolqedir.specs.declared.shapes.Params.{Params}
+use Rattle.wolqedir.specs.declared.shapes.RawInstance.{RawInstance}
+use Rattle.wolqedir.specs.declared.shapes.RawParams.{RawParams}
 use Rattle.wolqedir.specs.declared.shapes.Progress.{Progress}
-use Rattle.wolqedir.specs.declared.shapes.Status.{Status}
+use Rattle.wolqedir.specs.declared.shapes.RawStatus.{RawStatus}
 use Rattle.wolqedir.specs.Codes.{swap_code, trap_code}
 
 -- the instance that C names, and its name for C
-abbrev pub id_of : Instance → InstId
+abbrev pub id_of : RawInstance → InstId
 id_of x = record { place = x.place; number = x.number }
 
-abbrev pub instance_of : InstId → Instance
+abbrev pub instance_of : InstId → RawInstance
 instance_of id = record { place = id.place; number = id.number }
 
 -- what its owner gives an instance, with these words as its input
-abbrev pub given_by : Params → List ℕ → owners.Params
+abbrev pub given_by : RawParams → List ℕ → owners.Params
 given_by p inputs = record {
   shares = p.shares;
   min = p.min;
@@ -56,7 +56,7 @@ abbrev pub word_of : Option CallValue → ℕ
 word_of None = 0
 word_of (Some value) = value.word
 
--- the present call goes on, or stands for fuel, for a frame, or for the device, with the fault's code
+-- the present call goes on, or waits for fuel, for a frame, or for the device, with the fault's code
 abbrev pub standing_kind : Option Suspension → ℕ
 standing_kind None = 2
 standing_kind (Some Fuel) = 3
@@ -70,7 +70,7 @@ standing_code (Some Frame) = 0
 standing_code (Some (Device e)) = swap_code e
 
 -- how far a call is that has taken so many charges
-abbrev pub shown_status : CallStatus → ℕ → Status
+abbrev pub shown_status : CallStatus → ℕ → RawStatus
 shown_status Waiting charges = record { kind = 1; code = 0; bits = 0; value = 0; charges = charges }
 shown_status (Present stands taken) charges =
     record { kind = standing_kind stands; code = standing_code stands; bits = 0; value = 0; charges = charges }

@@ -8,10 +8,10 @@ use Rattle.wh_journal.specs.declared.calls.CallEnd.TheVariants.{Open, Returned, 
 use Rattle.wh_transcript.specs.Transcripts.{IsReplayable, TranscriptState}
 use Rattle.wh_host.specs.declared.error.HostError.{HostError}
 use Rattle.wh_host.specs.Showing.{ShowsInstance}
-use Rattle.wh_hand.specs.InHand.{HandState}
+use Rattle.wh_hand.specs.HandStates.{HandState}
 use Rattle.wolqedir.specs.Codes.{code_by, host_error_code}
 use Rattle.wolqedir.specs.Rooms.{laid_in}
-use Rattle.wolqedir.specs.Serving.{TellsCaller}
+use Rattle.wolqedir.specs.ExportContracts.{TellsCaller}
 
 -- a function's index; none is 2^64 - 1
 abbrev pub func_word : Option ℕ → ℕ

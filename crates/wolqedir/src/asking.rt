@@ -3,12 +3,12 @@
 ghost use Rattle.std.specs.Prelude.{◌≡◌, IfOk, ⊤};
 ghost use Rattle.wh_host_model.specs.Host.Happens.{IsCancel, IsRefuel, IsRetry};
 ghost use Rattle.wolqedir.specs.Codes.{code_by, host_error_code};
-ghost use Rattle.wolqedir.specs.Serving.{ExportAsks, ExportInvokes, ExportReleases, ServesHandle, ServesNamed, TellsCaller};
+ghost use Rattle.wolqedir.specs.ExportContracts.{ExportAsks, ExportInvokes, ExportReleases, ServesHandle, ServesNamed, TellsCaller};
 ghost use Rattle.wolqedir.specs.Shapes.{id_of};
 
 use crate::codes::{DONE, MEMORY, NAME, NONE, of_host};
 use crate::handle::Handle;
-use crate::shapes::{Instance, named};
+use crate::shapes::{RawInstance, named};
 use std::alloc::{AllocError, Global};
 use std::str;
 use wh_hand::HostError;
@@ -73,7 +73,7 @@ fn widened(alloc: Global, args: &[i64]) -> Result<Vec<i128>, AllocError>
 pub extern "C" fn wq_invoke(
     alloc: Global,
     handle: &mut Handle,
-    instance: &Instance,
+    instance: &RawInstance,
     name: &[u8],
     args: &[i64],
     fuel: u64,
@@ -97,7 +97,7 @@ pub extern "C" fn wq_invoke(
     tell_place(answer, call)
 }
 
-/// Gives the present call of an instance so much more fuel; what passes 2^64 - 1 is lost. A call that stands for fuel can then
+/// Gives the present call of an instance so much more fuel; what passes 2^64 - 1 is lost. A call that waits for fuel can then
 /// go on, if it was given any.
 ///
 /// It answers NONE, H1, or H8 where no call is open.
@@ -105,7 +105,7 @@ pub extern "C" fn wq_invoke(
 pub extern "C" fn wq_refuel(
     alloc: Global,
     handle: &mut Handle,
-    instance: &Instance,
+    instance: &RawInstance,
     fuel: u64,
 ) -> u32
     ensures { ServesHandle handle.old.slot.held
@@ -124,7 +124,7 @@ pub extern "C" fn wq_refuel(
 ///
 /// It answers NONE, H1, or H8 where it doesn't stand for one.
 #[unsafe(no_mangle)]
-pub extern "C" fn wq_retry(alloc: Global, handle: &mut Handle, instance: &Instance) -> u32
+pub extern "C" fn wq_retry(alloc: Global, handle: &mut Handle, instance: &RawInstance) -> u32
     ensures { ServesHandle handle.old.slot.held
         (ExportAsks (λ w answer w2. IsRetry w (id_of instance.now) answer w2) result) result
         handle.new.slot.held ⊤ }
@@ -142,7 +142,7 @@ pub extern "C" fn wq_retry(alloc: Global, handle: &mut Handle, instance: &Instan
 ///
 /// It answers NONE, H1, or H8 where no call is open.
 #[unsafe(no_mangle)]
-pub extern "C" fn wq_cancel(alloc: Global, handle: &mut Handle, instance: &Instance) -> u32
+pub extern "C" fn wq_cancel(alloc: Global, handle: &mut Handle, instance: &RawInstance) -> u32
     ensures { ServesHandle handle.old.slot.held
         (ExportAsks (λ w answer w2. IsCancel w (id_of instance.now) answer w2) result) result
         handle.new.slot.held ⊤ }
@@ -163,7 +163,7 @@ pub extern "C" fn wq_cancel(alloc: Global, handle: &mut Handle, instance: &Insta
 pub extern "C" fn wq_release(
     alloc: Global,
     handle: &mut Handle,
-    instance: &Instance,
+    instance: &RawInstance,
     len: &mut usize,
 ) -> u32
     ensures { ServesHandle handle.old.slot.held

@@ -1,19 +1,19 @@
 //! How modules and instances come to a host.
 
 ghost use Rattle.std.specs.Prelude.{◌≡◌, IfOk, OnErr, Result};
-ghost use Rattle.wh_admit.specs.Views.{view_params};
+ghost use Rattle.wh_admit.specs.View.{view_params};
 ghost use Rattle.wolqedir.specs.Codes.{code_by, admit_error_code, module_error_code};
-ghost use Rattle.wolqedir.specs.Serving.{ExportAdmits, ExportLoads, ServesHandle, ServesWithRoom, TellsCaller};
+ghost use Rattle.wolqedir.specs.ExportContracts.{ExportAdmits, ExportLoads, ServesHandle, ServesWithRoom, TellsCaller};
 ghost use Rattle.wolqedir.specs.Shapes.{given_by, instance_of};
 
 use crate::codes::{DONE, MEMORY, NONE, of_admit, of_module};
 use crate::handle::Handle;
-use crate::shapes::{Instance, Params, name_of};
+use crate::shapes::{RawInstance, RawParams, name_of};
 use std::alloc::{AllocError, Global};
 use wh_hand::{AdmitError, InstId, ModuleError, ModuleId};
 
 // What its owner gives an instance, with a copy of these words as its input.
-fn given(alloc: Global, params: &Params, inputs: &[u64]) -> Result<wh_hand::Params, AllocError>
+fn given(alloc: Global, params: &RawParams, inputs: &[u64]) -> Result<wh_hand::Params, AllocError>
     ensures { IfOk result (λ given. view_params given ≡ given_by params.now inputs.now) }
 {
     let inputs = Vec::from_slice(alloc, inputs)?;
@@ -43,7 +43,7 @@ fn tell_module(answer: Result<ModuleId, ModuleError>, number: &mut usize) -> u32
 }
 
 // Tells the name of an instance that was admitted, or says why it wasn't.
-fn tell_instance(answer: Result<InstId, AdmitError>, instance: &mut Instance) -> u32
+fn tell_instance(answer: Result<InstId, AdmitError>, instance: &mut RawInstance) -> u32
     ensures code { result ≡ code_by admit_error_code answer }
     ensures told { TellsCaller instance_of answer instance.old instance.new }
 {
@@ -87,9 +87,9 @@ pub extern "C" fn wq_admit(
     alloc: Global,
     handle: &mut Handle,
     of: usize,
-    params: &Params,
+    params: &RawParams,
     inputs: &[u64],
-    instance: &mut Instance,
+    instance: &mut RawInstance,
 ) -> u32
     ensures { ServesWithRoom handle.old.slot.held
         (ExportAdmits of (given_by params.now inputs.now) instance.old instance.new result) result

@@ -1,13 +1,13 @@
 //! The handle that C keeps.
 
 ghost use Rattle.std.specs.Prelude.{◌≡◌, ◌≢◌, true, false, Some, None, IfSome, IfNone, IsNone, IsSome};
-ghost use Rattle.wh_hand.specs.InHand.{IsSoundByEvents};
+ghost use Rattle.wh_hand.specs.HandStates.{IsSoundByEvents};
 
-use crate::slot::Slot;
+use crate::slot::HandleSlot;
 use std::alloc::Global;
 use std::mem;
 use wh_hand::Hand;
-use wh_sealing::Parts;
+use wh_sealing::SealedParts;
 
 /// A host, or none. All bytes 0 is none.
 #[repr(C)]
@@ -15,7 +15,7 @@ use wh_sealing::Parts;
 pub struct Handle {
     full: u32,
     /// Where the host lies.
-    pub slot: Slot,
+    pub slot: HandleSlot,
     ghost filled: { full ≢ 0 → IsSome slot.held },
     ghost empty: { full ≡ 0 → IsNone slot.held },
 }
@@ -27,7 +27,7 @@ impl Handle {
     {
         Handle {
             full: 0,
-            slot: Slot::empty(alloc),
+            slot: HandleSlot::empty(alloc),
         }
     }
 
@@ -37,7 +37,7 @@ impl Handle {
     {
         Handle {
             full: 1,
-            slot: Slot::of_parts(Parts::of(hand)),
+            slot: HandleSlot::of_parts(SealedParts::of(hand)),
         }
     }
 
@@ -68,7 +68,7 @@ impl Handle {
         ensures held { self.new.slot.held ≡ Some hand.value }
         ensures sound { IsSoundByEvents hand.value.host }
     {
-        hand.known();
+        hand.invariant();
         *self = Handle::of(hand);
     }
 }

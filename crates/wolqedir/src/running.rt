@@ -1,7 +1,7 @@
 //! Runs, and what memory does meanwhile.
 
 ghost use Rattle.std.specs.Prelude.{◌≡◌, ⊤};
-ghost use Rattle.wolqedir.specs.Serving.{ExportBeginsEpoch, ExportRuns, ExportScans, ServesHandle};
+ghost use Rattle.wolqedir.specs.ExportContracts.{ExportBeginsEpoch, ExportRuns, ExportScans, ServesHandle};
 
 use crate::codes::{DONE, LARGE, NONE};
 use crate::handle::Handle;

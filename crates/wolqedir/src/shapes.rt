@@ -10,7 +10,7 @@ use wh_model::ValType;
 /// An instance, as it was admitted.
 #[repr(C)]
 #[derive(Drop)]
-pub struct Instance {
+pub struct RawInstance {
     /// Its place.
     pub place: usize,
     /// How many instances were admitted before it.
@@ -20,7 +20,7 @@ pub struct Instance {
 /// What the owner of an instance gives it, but for the words of its input.
 #[repr(C)]
 #[derive(Drop)]
-pub struct Params {
+pub struct RawParams {
     /// Its shares of memory, 1 to 1000000.
     pub shares: u64,
     /// How many frames of 4096 bytes it may keep in any case; 2 to `max`.
@@ -48,8 +48,8 @@ pub struct Progress {
 /// How far a call is.
 #[repr(C)]
 #[derive(Drop)]
-pub struct Status {
-    /// 1 waits behind another call, 2 goes on, 3 stands for fuel, 4 for a frame, 5 for the swap device; 6 has returned,
+pub struct RawStatus {
+    /// 1 waits behind another call, 2 goes on, 3 waits for fuel, 4 for a frame, 5 for the swap device; 6 has returned,
     /// 7 trapped, 8 was cancelled, 9 did nothing behind a start that failed.
     pub kind: u32,
     /// The code of the trap, or of the device's fault; else 0.
@@ -63,7 +63,7 @@ pub struct Status {
 }
 
 /// The instance that C names.
-pub fn named(instance: &Instance) -> InstId
+pub fn named(instance: &RawInstance) -> InstId
     ensures { result ≡ id_of instance.now }
 {
     InstId {
@@ -73,10 +73,10 @@ pub fn named(instance: &Instance) -> InstId
 }
 
 /// The name of an instance for C.
-pub fn name_of(id: InstId) -> Instance
+pub fn name_of(id: InstId) -> RawInstance
     ensures { result ≡ instance_of id }
 {
-    Instance {
+    RawInstance {
         place: id.place,
         number: id.number,
     }
@@ -114,10 +114,10 @@ fn result_word(value: Option<CallValue>) -> u64
 }
 
 // The kind of a call that waits for its next turn or stands for something, and the code of its fault.
-fn standing(stands_for: Option<Suspension>) -> (u32, u32)
-    ensures { result ≡ (standing_kind stands_for, standing_code stands_for) }
+fn standing(waiting_for: Option<Suspension>) -> (u32, u32)
+    ensures { result ≡ (standing_kind waiting_for, standing_code waiting_for) }
 {
-    match stands_for {
+    match waiting_for {
         None => (2, 0),
         Some(Suspension::Fuel) => (3, 0),
         Some(Suspension::Frame) => (4, 0),
@@ -126,13 +126,13 @@ fn standing(stands_for: Option<Suspension>) -> (u32, u32)
 }
 
 /// How far a call is that has taken so many charges.
-pub fn shown(status: CallStatus, charges: u64) -> Status
+pub fn shown(status: CallStatus, charges: u64) -> RawStatus
     ensures { result ≡ shown_status status charges }
 {
     let (kind, code, value) = match status {
         CallStatus::Waiting => (1, 0, None),
-        CallStatus::Present { stands_for, .. } => {
-            let (kind, code) = standing(stands_for);
+        CallStatus::Present { waiting_for, .. } => {
+            let (kind, code) = standing(waiting_for);
             (kind, code, None)
         }
         CallStatus::Returned { value, .. } => (6, 0, value),
@@ -140,7 +140,7 @@ pub fn shown(status: CallStatus, charges: u64) -> Status
         CallStatus::Cancelled { .. } => (8, 0, None),
         CallStatus::Dead => (9, 0, None),
     };
-    Status {
+    RawStatus {
         kind,
         code,
         bits: result_bits(value),

@@ -1,14 +1,14 @@
 //! Where a host lies, or none, in a form that C can hold: its type names no other type.
 
 ghost use Rattle.std.specs.Prelude.{◌≡◌, Option, Some, None, IsSome};
-ghost use Rattle.wh_hand.specs.InHand.{HandState};
+ghost use Rattle.wh_hand.specs.HandStates.{HandState};
 ghost use Rattle.wolqedir.specs.Held.{held_coded, slot_owns};
 
 use std::alloc::Global;
 use std::marker::Model;
 use std::ptr;
 use wh_hand::Hand;
-use wh_sealing::Parts;
+use wh_sealing::SealedParts;
 
 /// What C sees of what lies at a pointer: nothing.
 #[repr(C)]
@@ -19,46 +19,46 @@ pub struct Opaque {
 /// A host, or none. Letting one go that is full would lose the host: `Handle` never does.
 #[repr(C)]
 #[derive(Drop)]
-pub struct Slot {
+pub struct HandleSlot {
     at: *mut Opaque,
     alloc: Global,
     /// The host.
     pub ghost held: { Option HandState } by { held_coded },
 }
 
-impl Model for Slot {
+impl Model for HandleSlot {
     ghost also_owns = { λ s. slot_owns s.alloc s.at s.held };
 }
 
-impl Slot {
+impl HandleSlot {
     /// One without a host.
-    pub fn empty(alloc: Global) -> Slot
+    pub fn empty(alloc: Global) -> HandleSlot
         ensures { result.held ≡ None }
     {
-        Slot {
+        HandleSlot {
             at: ptr::null_mut(),
             alloc,
         }
     }
 
     /// One with the host of these parts.
-    pub fn of_parts(parts: Parts<Hand, Global>) -> Slot
+    pub fn of_parts(parts: SealedParts<Hand, Global>) -> HandleSlot
         ensures { result.held ≡ Some parts.value }
     {
-        let Parts { ptr, alloc } = parts;
-        Slot {
+        let SealedParts { ptr, alloc } = parts;
+        HandleSlot {
             at: ptr as *mut Opaque,
             alloc,
         }
     }
 
     /// The parts of the host.
-    pub fn into_parts(self) -> Parts<Hand, Global>
+    pub fn into_parts(self) -> SealedParts<Hand, Global>
         requires { IsSome self.held }
         ensures { self.held ≡ Some result.value }
     {
-        let Slot { at, alloc } = self;
-        Parts {
+        let HandleSlot { at, alloc } = self;
+        SealedParts {
             ptr: at as *mut Hand,
             alloc,
         }

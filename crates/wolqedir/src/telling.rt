@@ -1,15 +1,15 @@
 //! What a host tells.
 
 ghost use Rattle.std.specs.Prelude.{◌≡◌};
-ghost use Rattle.wolqedir.specs.Serving.{ServesHandle, ServesWithRoom, ExportTellsReport, ExportTellsStatus, ExportTellsTaken};
+ghost use Rattle.wolqedir.specs.ExportContracts.{ServesHandle, ServesWithRoom, ExportTellsReport, ExportTellsStatus, ExportTellsTaken};
 ghost use Rattle.wolqedir.specs.Shapes.{id_of};
-ghost use Rattle.wolqedir.specs.Texts.{TellsText};
+ghost use Rattle.wolqedir.specs.CodeTexts.{TellsText};
 ghost use Rattle.wolqedir.specs.Transcribed.{ExportTellsTranscript};
 
 use crate::codes::{DONE, MEMORY, NONE, UNKNOWN, of_host};
 use crate::handle::Handle;
 use crate::rooms::lay;
-use crate::shapes::{Instance, Status, named, shown};
+use crate::shapes::{RawInstance, RawStatus, named, shown};
 use crate::texts::sentence;
 use crate::transcripts::words_of;
 use std::alloc::Global;
@@ -21,9 +21,9 @@ use std::alloc::Global;
 pub extern "C" fn wq_status_of(
     alloc: Global,
     handle: &mut Handle,
-    instance: &Instance,
+    instance: &RawInstance,
     call: u32,
-    status: &mut Status,
+    status: &mut RawStatus,
 ) -> u32
     ensures { ServesHandle handle.old.slot.held
         (ExportTellsStatus (id_of instance.now) call status.old result status.new) result
@@ -102,7 +102,7 @@ pub extern "C" fn wq_report_of(
 pub extern "C" fn wq_transcript_of(
     alloc: Global,
     handle: &mut Handle,
-    instance: &Instance,
+    instance: &RawInstance,
     room: &mut [u64],
     len: &mut usize,
 ) -> u32

@@ -1,7 +1,7 @@
 //! A sentence for each code.
 
 ghost use Rattle.std.specs.Prelude.{◌≡◌, MatchOption, length};
-ghost use Rattle.wolqedir.specs.Texts.{IsLibraryCode, most_number};
+ghost use Rattle.wolqedir.specs.CodeTexts.{IsLibraryCode, most_number};
 
 // The library's own codes: 0 to 7.
 const OWN: [&str; 8] = [

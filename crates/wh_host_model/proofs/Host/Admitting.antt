@@ -23,7 +23,7 @@ use Rattle.wh_host_model.specs.Host.Spaces.{Arrives}
 use Rattle.wh_host_model.specs.Host.Worlds.{Doing, Loaded, World, computing, empty_world, has_left, promised, resting}
 use Rattle.wh_host_model.specs.Owners.{Entry, start_entry}
 use Rattle.wh_host_model.specs.Owners.{Params, given_of, AdmitFault, frames, memory, min_max, no_module, segments, shares, swap, most_fuel}
-use Rattle.wh_host_model.specs.Host.Answers.{Faces}
+use Rattle.wh_host_model.specs.Host.CallAnswers.{Faces}
 use Rattle.wh_host_model.specs.Host.Admission.{MeetsFault, StartsAs}
 use Rattle.wh_host_model.specs.Host.Admission as admission
 use Rattle.wh_host_model.specs.Host.Happens.{IsAdmit, admit_ok, is_admitted}

@@ -11,7 +11,7 @@ use Rattle.wh_host_model.specs.Space.Parts.{Space, view}
 use Rattle.wh_host_model.specs.Host.Worlds.{Rest, Doing, computing, Suspension, for_fuel, Tenant, store_with, store_in}
 use Rattle.wh_host_model.specs.Owners.{Entry}
 use Rattle.wh_host_model.specs.Host.Turns.{Upshot, to_end, out_of_fuel, to_go_on}
-use Rattle.wh_host_model.specs.Host.Answers.{gone_further, ended_by, gone_on, Faces, Closes, faces_next, is_dead, Turn, is_idle, has_ended, has_no_fuel, has_no_frame, can_go_on, keeps_its_fault}
+use Rattle.wh_host_model.specs.Host.CallAnswers.{gone_further, ended_by, gone_on, Faces, Closes, faces_next, is_dead, Turn, is_idle, has_ended, has_no_fuel, has_no_frame, can_go_on, keeps_its_fault}
 use Rattle.wh_host_model.specs.Host.Admission.{rest_of}
 use Rattle.wh_host_model.specs.Host.Laws.{SameTurn, OneTurn}
 use Rattle.wh_host_model.proofs.Host.Stopping.{Reached, by_steps, at_turn, is_settled, reached, SameReach, reach_same}
@@ -59,7 +59,7 @@ faces_same inst s s2 (w ∷ ws) {d2 = d2} e f g =
 
 closes_same : {s s2 : Space} {t t2 t3 : Tenant} {e : Entry} {es : List Entry} {r : Rest} → view s t.place ≡ view s2 t.place → Closes s t e es r t2 → Closes s2 t e es r t3 → t2 ≡ t3
 closes_same {s = s} {s2 = s2} {t = t} {e = e} {es = es} {r = r} v (faces_next alive f) (faces_next alive2 g) =
-    ap (λ d. record t { rest = r; doing = d; ended = t.ended ++ e ∷ []; open_calls = es; stands_for = None })
+    ap (λ d. record t { rest = r; doing = d; ended = t.ended ++ e ∷ []; open_calls = es; waiting_for = None })
     (faces_same t.inst (store_with (view s t.place) r) (store_with (view s2 t.place) r) es (ap (λ b. store_with b r) v) f g)
 closes_same v (faces_next alive f) (is_dead died) = absurd (let no : false ≡ true = sym alive ∙ died in cc no)
 closes_same v (is_dead died) (faces_next alive f) = absurd (let no : false ≡ true = sym alive ∙ died in cc no)

@@ -14,7 +14,7 @@ use Rattle.wh_model.proofs.Instance.{one_beginning}
 use Rattle.wh_host_model.specs.Space.Parts.{minima, spreads}
 use Rattle.wh_host_model.specs.Host.Worlds.{Loaded, Tenant, World, journal}
 use Rattle.wh_host_model.specs.Owners.{Params, given_of, AdmitFault, admit_rank, frames, instances, memory, min_max, most_instances, no_module, segments, shares, swap, AreArguments, ExportsOwn, InvokeFault, IsArgument, arguments, instance_dead, journal_full, most_calls, most_open, no_export, queue_full, rank}
-use Rattle.wh_host_model.specs.Host.Calls.{IsFirst, Meets, open_count}
+use Rattle.wh_host_model.specs.Host.OwnerCalls.{IsFirst, Meets, open_count}
 use Rattle.wh_model.specs.Linking.Accepting.{IsAccepted}
 use Rattle.wh_host_model.specs.Host.Admission.{IsFirstMet, MeetsFault, live_count}
 use Rattle.wh_model.proofs.Beginnings.{some_beginning}

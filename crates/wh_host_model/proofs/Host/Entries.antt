@@ -9,7 +9,7 @@ use Rattle.wh_model.specs.Execution.Histories.{Past, none_yet, one_more}
 use Rattle.wh_model.proofs.Histories.{past_then}
 use Rattle.wh_host_model.specs.Host.Worlds.{Rest, Doing, journal_calls, store_with, standing_with}
 use Rattle.wh_host_model.specs.Owners.{Entry}
-use Rattle.wh_host_model.specs.Host.Answers.{ended_by, Faces}
+use Rattle.wh_host_model.specs.Host.CallAnswers.{ended_by, Faces}
 
 -- ---- calls that are open
 

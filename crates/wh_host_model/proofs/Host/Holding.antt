@@ -14,7 +14,7 @@ use Rattle.wh_model.proofs.Journals.{fuel_suffices}
 use Rattle.wh_host_model.specs.Host.Worlds.{Rest, Doing, Tenant, computing, journal, journal_calls, store_with, standing_with, standing_in, empty_world}
 use Rattle.wh_host_model.specs.Owners.{Entry}
 use Rattle.wh_host_model.specs.Host.Turns.{to_wait, to_go_on, Proceeds, waits, waits_to_write, has_had_its_turn}
-use Rattle.wh_host_model.specs.Host.Answers.{has_no_frame, can_go_on, keeps_its_fault}
+use Rattle.wh_host_model.specs.Host.CallAnswers.{has_no_frame, can_go_on, keeps_its_fault}
 use Rattle.wh_host_model.specs.Host.Laws.{MemoryIsSound, PlacesAreRight, InstancesReplay, ChargesAreWithin, JournalsAreInOrder, SuspensionsAreRight, FrameIsLacking, AgainIsReady}
 use Rattle.wh_host_model.proofs.Host.Entries.{now_replays, calls_join}
 use Rattle.wh_host_model.proofs.Host.Ordered.{order_journal}

@@ -14,17 +14,17 @@ use Rattle.std.proofs.lemmas.List.{take-append-drop, length-drop, length-take, l
 use Rattle.std.proofs.Math.Seq.{take-append_seam, drop-append_seam}
 use Rattle.wh_host_model.specs.declared.plain.TurnEnd.{TurnEnd}
 use Rattle.wh_host_model.specs.Space.Parts.{Space, view, wants}
-use Rattle.wh_host_model.specs.Host.Spaces.{StandsAlone}
+use Rattle.wh_host_model.specs.Host.Spaces.{WaitsAlone}
 use Rattle.wh_host_model.specs.Host.Worlds.{Rest, Doing, resting, has_left, computing, Suspension, for_fuel, for_frame, for_device, Tenant, journal_calls, store_with, store_in, standing_with}
 use Rattle.wh_host_model.specs.Owners.{Entry, start_entry, new_entry}
 use Rattle.wh_host_model.specs.Owners.{Params, most_fuel, most_calls, most_open}
 use Rattle.wh_host_model.specs.Host.Turns.{HaveTypes, Upshot, to_end, out_of_fuel, to_wait, to_go_on, Proceeds, returns, traps, writes_all, uses_fuel, waits, waits_to_write, has_had_its_turn}
-use Rattle.wh_host_model.specs.Host.Answers.{gone_further, ended_by, gone_on, Faces, Closes, faces_next, is_dead, at_frame, Turn, is_idle, has_ended, has_no_fuel, has_no_frame, can_go_on, keeps_its_fault}
-use Rattle.wh_host_model.specs.Host.Calls as requests
-use Rattle.wh_host_model.specs.Host.Calls.{open_count, TakesCall, more_fuel, StandsAfter, Refuels, has_more, Cancels, Retries, may_try}
+use Rattle.wh_host_model.specs.Host.CallAnswers.{gone_further, ended_by, gone_on, Faces, Closes, faces_next, is_dead, at_frame, Turn, is_idle, has_ended, has_no_fuel, has_no_frame, can_go_on, keeps_its_fault}
+use Rattle.wh_host_model.specs.Host.OwnerCalls as requests
+use Rattle.wh_host_model.specs.Host.OwnerCalls.{open_count, TakesCall, more_fuel, WaitsAfter, Refuels, has_more, Cancels, Retries, may_try}
 use Rattle.wh_host_model.specs.Host.Admission.{StartsAs, writes, runs, ends, rest_of}
 use Rattle.wh_host_model.specs.Host.Journals.{IsOpenCall, ReturnsTyped, HasEnded, InOrder, is_starting, has_started}
-use Rattle.wh_host_model.specs.Host.Standing.{NextAsks, a_piece, a_step, StandsDuly, FirstStandsDuly}
+use Rattle.wh_host_model.specs.Host.Suspensions.{NextAsks, a_piece, a_step, WaitsDuly, FirstWaitsDuly}
 use Rattle.wh_host_model.proofs.Host.Entries.{Now, faces_now, past_dead, calls_join, all_join, joined, invoked_alike}
 use Rattle.wh_host_model.proofs.Host.Ordered.{SameCall, order_on, order_ends, order_dies, order_comes, order_fuel}
 use Rattle.wh_host_model.proofs.Host.Opening.{computes_call, writes_view, whole, counted}
@@ -43,7 +43,7 @@ pub record Kept (m : Module) (p : Parameters) (t : Tenant) (bytes : List ℕ) (w
   pub order : InOrder m t.inst t.dead t.ended t.open_calls
   pub few : length t.ended + length t.open_calls ≤ most_calls
   pub few_open : open_count t ≤ most_open
-  pub duly : FirstStandsDuly t.inst (store_with bytes t.rest) t.doing t.open_calls want t.stands_for
+  pub duly : FirstWaitsDuly t.inst (store_with bytes t.rest) t.doing t.open_calls want t.waiting_for
 
 -- what is known where a call is present
 record Present (m : Module) (p : Parameters) (t : Tenant) (bytes : List ℕ) (want : Option Need) (e : Entry) (es : List Entry) : Type 0 where
@@ -60,7 +60,7 @@ record Present (m : Module) (p : Parameters) (t : Tenant) (bytes : List ℕ) (wa
   order : InOrder m t.inst t.dead t.ended (e ∷ es)
   few : length t.ended + suc (length es) ≤ most_calls
   few_open : suc (length es) - (1 - min 1 (length t.ended)) ≤ most_open
-  duly : StandsDuly t.inst (store_with bytes t.rest) t.doing e.call want t.stands_for
+  duly : WaitsDuly t.inst (store_with bytes t.rest) t.doing e.call want t.waiting_for
 
 present : {m : Module} {p : Parameters} {t : Tenant} {bytes : List ℕ} {want : Option Need} {e : Entry} {es : List Entry} → Kept m p t bytes want → t.open_calls ≡ e ∷ es → Present m p t bytes want e es
 present {m = m} {t = t} {bytes = bytes} {want = want} k same =
@@ -79,12 +79,12 @@ present {m = m} {t = t} {bytes = bytes} {want = want} k same =
       order = subst (λ xs. InOrder m t.inst t.dead t.ended xs) same k.order;
       few = subst (λ xs. length t.ended + length xs ≤ most_calls) same k.few;
       few_open = subst (λ xs. length xs - (1 - min 1 (length t.ended)) ≤ most_open) same k.few_open;
-      duly = subst (λ xs. FirstStandsDuly t.inst (store_with bytes t.rest) t.doing xs want t.stands_for) same k.duly;
+      duly = subst (λ xs. FirstWaitsDuly t.inst (store_with bytes t.rest) t.doing xs want t.waiting_for) same k.duly;
     }
 
 -- ---- the present call ends
 
-duly_none : (inst : Instance) (s : Store) (d : Doing) {want : Option Need} (es : List Entry) → want ≡ None → FirstStandsDuly inst s d es want None
+duly_none : (inst : Instance) (s : Store) (d : Doing) {want : Option Need} (es : List Entry) → want ≡ None → FirstWaitsDuly inst s d es want None
 duly_none inst s d [] none = (none, refl)
 duly_none inst s d (e ∷ es) none = none
 
@@ -173,7 +173,7 @@ all_written r m m2 ps (is_under_way p l i b z) e w func = absurd (cc e)
 -- what a turn makes of a call, in the journal's words
 abbrev Makes : {M : Type 0} (bytes : M → List ℕ) (inst : Instance) (s1 : Store) (ps1 : List Piece) (e : Entry) (k n : ℕ) (m2 : M) (r2 : Rest) (d2 : Doing) → Upshot → Type 0
 Makes bytes inst s1 ps1 e k n m2 r2 d2 (to_end o) = Ends inst s1 ps1 (ended_by (gone_further e k n) o).call (store_with (bytes m2) r2) × HasEnded o × ReturnsTyped inst (ended_by (gone_further e k n) o).call o
-Makes bytes inst s1 ps1 e k n m2 r2 d2 out_of_fuel = Stands inst s1 ps1 (gone_further e k n).call (standing_with (bytes m2) r2 d2) × StandsDuly inst (store_with (bytes m2) r2) d2 (gone_further e k n).call None (Some for_fuel)
+Makes bytes inst s1 ps1 e k n m2 r2 d2 out_of_fuel = Stands inst s1 ps1 (gone_further e k n).call (standing_with (bytes m2) r2 d2) × WaitsDuly inst (store_with (bytes m2) r2) d2 (gone_further e k n).call None (Some for_fuel)
 Makes bytes inst s1 ps1 e k n m2 r2 d2 (to_wait need) = Stands inst s1 ps1 (gone_further e k n).call (standing_with (bytes m2) r2 d2) × NextAsks inst (store_with (bytes m2) r2) (gone_further e k n).call d2 need
 Makes bytes inst s1 ps1 e k n m2 r2 d2 to_go_on = Stands inst s1 ps1 (gone_further e k n).call (standing_with (bytes m2) r2 d2)
 
@@ -207,7 +207,7 @@ makes e {k = k} {n = n} st (has_had_its_turn x next u v y) =
 
 on_kept : {m : Module} {p : Parameters} {bytes : List ℕ} {want : Option Need} {s2 s3 : Space} {t : Tenant} {e : Entry} {es : List Entry} (k n : ℕ) {r : Rest} {d : Doing} (o : Option Suspension) (stands : Option Need) (pr : Present m p t bytes want e es)
     → Stands t.inst pr.s1 pr.ps1 (gone_further e k n).call (standing_with (view s2 t.place) r d)
-    → StandsDuly t.inst (store_with (view s2 t.place) r) d (gone_further e k n).call stands o → StandsAlone t.place stands s2 s3
+    → WaitsDuly t.inst (store_with (view s2 t.place) r) d (gone_further e k n).call stands o → WaitsAlone t.place stands s2 s3
     → Kept m p (gone_on t (gone_further e k n) es r d o) (view s3 t.place) (wants s3 t.place)
 on_kept {s2 = s2} {s3 = s3} {t = t} {e = e} k n {r = r} {d = d} o stands pr at duly leaves = record {
   given = pr.given;
@@ -222,11 +222,11 @@ on_kept {s2 = s2} {s3 = s3} {t = t} {e = e} k n {r = r} {d = d} o stands pr at d
   few = pr.few;
   few_open = pr.few_open;
   duly =
-      subst (λ w. StandsDuly t.inst (store_with (view s3 t.place) r) d (gone_further e k n).call w o) (sym leaves.wants)
-      (subst (λ b. StandsDuly t.inst (store_with b r) d (gone_further e k n).call stands o) (sym leaves.view) duly);
+      subst (λ w. WaitsDuly t.inst (store_with (view s3 t.place) r) d (gone_further e k n).call w o) (sym leaves.wants)
+      (subst (λ b. WaitsDuly t.inst (store_with b r) d (gone_further e k n).call stands o) (sym leaves.view) duly);
 }
 
-frame_duly : {inst : Instance} {s : Store} {d : Doing} {call : Call} {need : Need} (j : ℕ) (o : Option Suspension) → NextAsks inst s call d need → StandsDuly inst s d call (Some need) (at_frame j o)
+frame_duly : {inst : Instance} {s : Store} {d : Doing} {call : Call} {need : Need} (j : ℕ) (o : Option Suspension) → NextAsks inst s call d need → WaitsDuly inst s d call (Some need) (at_frame j o)
 frame_duly {need = need} zero None asks = (need, refl, asks)
 frame_duly {need = need} zero (Some for_fuel) asks = (need, refl, asks)
 frame_duly {need = need} zero (Some for_frame) asks = (need, refl, asks)
@@ -243,7 +243,7 @@ turn_kept {t = t} k (has_ended {e = e} {es = es} {o = o} {k = pieces} {n = n} {s
 turn_kept {t = t} k (has_no_fuel {e = e} {k = pieces} {n = n} {r = r} {d = d} there g leaves pins) =
     let pr = present k there in let made = makes e pr.stands g in on_kept {t = t} pieces n (Some for_fuel) None pr made.0 made.1 leaves
 turn_kept {t = t} k (has_no_frame {e = e} {need = need} {k = pieces} {n = n} {r = r} {d = d} there g leaves pins) =
-    let pr = present k there in let made = makes e pr.stands g in on_kept {t = t} pieces n (at_frame (pieces + n) t.stands_for) (Some need) pr made.0 (frame_duly (pieces + n) t.stands_for made.1) leaves
+    let pr = present k there in let made = makes e pr.stands g in on_kept {t = t} pieces n (at_frame (pieces + n) t.waiting_for) (Some need) pr made.0 (frame_duly (pieces + n) t.waiting_for made.1) leaves
 turn_kept {t = t} k (can_go_on {e = e} {k = pieces} {n = n} {r = r} {d = d} there g leaves pins fault) =
     let pr = present k there in on_kept {t = t} pieces n None None pr (makes e pr.stands g) refl leaves
 turn_kept k (keeps_its_fault there stands doing none next fuel now) = k
@@ -275,19 +275,19 @@ more_asks : {inst : Instance} {s : Store} {d : Doing} {call : Call} {need : Need
 more_asks f le a_piece = a_piece
 more_asks f le (a_step lt next a) = a_step (omega (arith, lt, le)) next a
 
-more_duly : (inst : Instance) (s : Store) (d : Doing) (call : Call) (want : Option Need) (f : ℕ) → call.fuel ≤ f → (old o : Option Suspension) → StandsDuly inst s d call want old → StandsAfter (record call { fuel = f }) old o → StandsDuly inst s d (record call { fuel = f }) want o
-more_duly inst s d call want f le None o duly after = subst (λ z. StandsDuly inst s d (record call { fuel = f }) want z) (sym after) duly
+more_duly : (inst : Instance) (s : Store) (d : Doing) (call : Call) (want : Option Need) (f : ℕ) → call.fuel ≤ f → (old o : Option Suspension) → WaitsDuly inst s d call want old → WaitsAfter (record call { fuel = f }) old o → WaitsDuly inst s d (record call { fuel = f }) want o
+more_duly inst s d call want f le None o duly after = subst (λ z. WaitsDuly inst s d (record call { fuel = f }) want z) (sym after) duly
 more_duly inst s d call want f le (Some for_fuel) o duly after =
     ⊎_elim
-    (λ (x : (call.charges < f) × (o ≡ None)). subst (λ z. StandsDuly inst s d (record call { fuel = f }) want z) (sym x.1) duly.0)
+    (λ (x : (call.charges < f) × (o ≡ None)). subst (λ z. WaitsDuly inst s d (record call { fuel = f }) want z) (sym x.1) duly.0)
     (λ (x : (f ≤ call.charges) × (o ≡ Some for_fuel)).
     let used = duly.1 in
     let low = x.0 in
     let same : call.charges ≡ f = omega (arith, used, low, le) in
-    subst (λ z. StandsDuly inst s d (record call { fuel = f }) want z) (sym x.1) (duly.0, same, duly.2))
+    subst (λ z. WaitsDuly inst s d (record call { fuel = f }) want z) (sym x.1) (duly.0, same, duly.2))
     after
-more_duly inst s d call want f le (Some for_frame) o duly after = subst (λ z. StandsDuly inst s d (record call { fuel = f }) want z) (sym after) (duly.0, duly.1, more_asks f le duly.2)
-more_duly inst s d call want f le (Some (for_device x)) o duly after = subst (λ z. StandsDuly inst s d (record call { fuel = f }) want z) (sym after) (duly.0, duly.1, more_asks f le duly.2)
+more_duly inst s d call want f le (Some for_frame) o duly after = subst (λ z. WaitsDuly inst s d (record call { fuel = f }) want z) (sym after) (duly.0, duly.1, more_asks f le duly.2)
+more_duly inst s d call want f le (Some (for_device x)) o duly after = subst (λ z. WaitsDuly inst s d (record call { fuel = f }) want z) (sym after) (duly.0, duly.1, more_asks f le duly.2)
 
 pub refuel_kept : {m : Module} {p : Parameters} {n : ℕ} {t t2 : Tenant} {bytes : List ℕ} {want : Option Need} → Kept m p t bytes want → Refuels t n t2 → Kept m p t2 bytes want
 refuel_kept {n = n} {t = t} {bytes = bytes} {want = want} k (has_more {e = e} {o = o} there after) =
@@ -307,10 +307,10 @@ refuel_kept {n = n} {t = t} {bytes = bytes} {want = want} k (has_more {e = e} {o
       order = order_on (more_fuel e n) (record { func = refl; args = refl; given = refl; fuel = λ h. omega arith }) pr.pending pr.order;
       few = pr.few;
       few_open = pr.few_open;
-      duly = more_duly t.inst (store_with bytes t.rest) t.doing e.call want f le t.stands_for o pr.duly after;
+      duly = more_duly t.inst (store_with bytes t.rest) t.doing e.call want f le t.waiting_for o pr.duly after;
     }
 
-duly_faulted : (inst : Instance) (s : Store) (d : Doing) (call : Call) (want : Option Need) (a b : Suspension) → a ≢ for_fuel → b ≢ for_fuel → StandsDuly inst s d call want (Some a) → StandsDuly inst s d call want (Some b)
+duly_faulted : (inst : Instance) (s : Store) (d : Doing) (call : Call) (want : Option Need) (a b : Suspension) → a ≢ for_fuel → b ≢ for_fuel → WaitsDuly inst s d call want (Some a) → WaitsDuly inst s d call want (Some b)
 duly_faulted inst s d call want for_fuel b from to h = absurd (from refl)
 duly_faulted inst s d call want for_frame for_fuel from to h = absurd (to refl)
 duly_faulted inst s d call want for_frame for_frame from to h = h
@@ -319,12 +319,12 @@ duly_faulted inst s d call want (for_device x) for_fuel from to h = absurd (to r
 duly_faulted inst s d call want (for_device x) for_frame from to h = h
 duly_faulted inst s d call want (for_device x) (for_device y) from to h = h
 
-first_faulted : (inst : Instance) (s : Store) (d : Doing) (want : Option Need) (es : List Entry) (a b : Suspension) → a ≢ for_fuel → b ≢ for_fuel → FirstStandsDuly inst s d es want (Some a) → FirstStandsDuly inst s d es want (Some b)
+first_faulted : (inst : Instance) (s : Store) (d : Doing) (want : Option Need) (es : List Entry) (a b : Suspension) → a ≢ for_fuel → b ≢ for_fuel → FirstWaitsDuly inst s d es want (Some a) → FirstWaitsDuly inst s d es want (Some b)
 first_faulted inst s d want [] a b from to h = let none = h.1 in absurd (cc none)
 first_faulted inst s d want (e ∷ es) a b from to h = duly_faulted inst s d e.call want a b from to h
 
 -- what is wanted stays so, whether a device has failed or not
-pub faulted_kept : {m : Module} {p : Parameters} {t : Tenant} {bytes : List ℕ} {want : Option Need} {a b : Suspension} → Kept m p t bytes want → t.stands_for ≡ Some a → a ≢ for_fuel → b ≢ for_fuel → Kept m p (record t { stands_for = Some b }) bytes want
+pub faulted_kept : {m : Module} {p : Parameters} {t : Tenant} {bytes : List ℕ} {want : Option Need} {a b : Suspension} → Kept m p t bytes want → t.waiting_for ≡ Some a → a ≢ for_fuel → b ≢ for_fuel → Kept m p (record t { waiting_for = Some b }) bytes want
 faulted_kept {t = t} {bytes = bytes} {want = want} {a = a} {b = b} k was from to = record {
   given = k.given;
   s0 = k.s0;
@@ -337,7 +337,7 @@ faulted_kept {t = t} {bytes = bytes} {want = want} {a = a} {b = b} k was from to
   order = k.order;
   few = k.few;
   few_open = k.few_open;
-  duly = first_faulted t.inst (store_with bytes t.rest) t.doing want t.open_calls a b from to (subst (λ o. FirstStandsDuly t.inst (store_with bytes t.rest) t.doing t.open_calls want o) was k.duly);
+  duly = first_faulted t.inst (store_with bytes t.rest) t.doing want t.open_calls a b from to (subst (λ o. FirstWaitsDuly t.inst (store_with bytes t.rest) t.doing t.open_calls want o) was k.duly);
 }
 
 pub retry_kept : {m : Module} {p : Parameters} {t t2 : Tenant} {bytes : List ℕ} {want : Option Need} → Kept m p t bytes want → Retries t t2 → Kept m p t2 bytes want
@@ -361,7 +361,7 @@ accepted {m = m} {t = t} s x vs given fuel d k asked alive few room first later 
     let now = subst (λ xs. Now t.inst k.s1 k.ps1 (journal_calls xs) (standing_with (view s t.place) t.rest t.doing)) none k.now in
     let store : store_with (view s t.place) t.rest ≡ k.s1 = idle_store (view s t.place) t.rest t.doing k.s1 now.1 in
     let faced = faces_now t.inst (view s t.place) t.rest (new_entry x vs given fuel ∷ []) d (new_waits x vs given fuel) (first none) in
-    let duly = subst (λ xs. FirstStandsDuly t.inst (store_in s t) t.doing xs (wants s t.place) t.stands_for) none k.duly in
+    let duly = subst (λ xs. FirstWaitsDuly t.inst (store_in s t) t.doing xs (wants s t.place) t.waiting_for) none k.duly in
     record {
       given = k.given;
       s0 = k.s0;
@@ -374,7 +374,7 @@ accepted {m = m} {t = t} s x vs given fuel d k asked alive few room first later 
       order = order_comes (new_entry x vs given fuel) alive asked (subst (λ xs. InOrder m t.inst t.dead t.ended xs) none k.order);
       few = omega (arith, few, ap length none);
       few_open = omega arith;
-      duly = subst (λ o. StandsDuly t.inst (store_in s t) d (new_entry x vs given fuel).call (wants s t.place) o) (sym duly.1) duly.0;
+      duly = subst (λ o. WaitsDuly t.inst (store_in s t) d (new_entry x vs given fuel).call (wants s t.place) o) (sym duly.1) duly.0;
     }
 accepted {m = m} {t = t} s x vs given fuel d k asked alive few room first later (e ∷ es) there =
     let pr = present k there in
@@ -395,7 +395,7 @@ accepted {m = m} {t = t} s x vs given fuel d k asked alive few room first later 
       order = order_comes (new_entry x vs given fuel) alive asked pr.order;
       few = let n = length-append es (new_entry x vs given fuel ∷ []) in let l = ap length there in omega (arith, few, n, l);
       few_open = let n = length-append es (new_entry x vs given fuel ∷ []) in let l = ap length there in omega (arith, room, n, l);
-      duly = subst (λ z. StandsDuly t.inst (store_in s t) z e.call (wants s t.place) t.stands_for) (sym same) pr.duly;
+      duly = subst (λ z. WaitsDuly t.inst (store_in s t) z e.call (wants s t.place) t.waiting_for) (sym same) pr.duly;
     }
 
 pub accept_kept : {m mm : Module} {p : Parameters} {t t2 : Tenant} {name : List ℕ} {given : List ℤ} {fuel at : ℕ} (s : Space) → Kept m p t (view s t.place) (wants s t.place) → TakesCall mm s t name given fuel at t2 → Kept m p t2 (view s t.place) (wants s t.place)
@@ -416,7 +416,7 @@ some_pieces (p ∷ ps) some = omega arith
 
 abbrev pub beginner : ℕ → ℕ → Params → Instance → Store → Doing → List Entry → List Entry → Tenant
 beginner place of p inst s d es os =
-    record { place = place; of = of; params = p; inst = inst; rest = rest_of s; doing = d; ended = es; open_calls = os; stands_for = None; dead = false }
+    record { place = place; of = of; params = p; inst = inst; rest = rest_of s; doing = d; ended = es; open_calls = os; waiting_for = None; dead = false }
 
 pub begins_kept : (m : Module) (place of : ℕ) (params : Params) (p : Parameters) (inst : Instance) (s : Store) (ps : List Piece) (fuel : ℕ) {d : Doing} {es os : List Entry} → AreGiven p → IsInitial m p (begins inst s ps) → fuel ≤ most_fuel
     → StartsAs inst s ps m.start fuel d es os → Kept m p (beginner place of params inst s d es os) s.bytes None

@@ -15,9 +15,9 @@ use Rattle.wh_host_model.specs.Host.Worlds.{Rest, Doing, Suspension, for_fuel, f
 use Rattle.wh_host_model.specs.Owners.{Entry, new_entry}
 use Rattle.wh_host_model.specs.Owners.{Params, most_fuel, most_calls, most_open}
 use Rattle.wh_host_model.specs.Host.Turns.{Opens, by_invocation, as_it_was, Computes, Upshot, to_end, Proceeds, returns, traps, writes_all, uses_fuel, waits, waits_to_write, has_had_its_turn}
-use Rattle.wh_host_model.specs.Host.Answers.{gone_further, ended_by, Closes, faces_next, is_dead, at_frame, Turn, is_idle, has_ended, has_no_fuel, has_no_frame, can_go_on, keeps_its_fault}
-use Rattle.wh_host_model.specs.Host.Calls as requests
-use Rattle.wh_host_model.specs.Host.Calls.{open_count, TakesCall, more_fuel, StandsAfter, Refuels, has_more, Cancels, Retries, may_try}
+use Rattle.wh_host_model.specs.Host.CallAnswers.{gone_further, ended_by, Closes, faces_next, is_dead, at_frame, Turn, is_idle, has_ended, has_no_fuel, has_no_frame, can_go_on, keeps_its_fault}
+use Rattle.wh_host_model.specs.Host.OwnerCalls as requests
+use Rattle.wh_host_model.specs.Host.OwnerCalls.{open_count, TakesCall, more_fuel, WaitsAfter, Refuels, has_more, Cancels, Retries, may_try}
 use Rattle.wh_host_model.specs.Host.Admission.{StartsAs, writes, runs, ends}
 use Rattle.wh_host_model.specs.Host.Journals.{IsOpenCall, ReturnsTyped, HasEnded, InOrder, is_starting, has_started}
 use Rattle.wh_host_model.specs.Host.Misreading.{AllSeeAsMany, Step, by_event, by_misreading, Befalls, AllBefall, ComesAbout, MemoryStaysSound, PlacesStayRight, ModulesStayAccepted, JournalsStayInOrder, InputsStay, FramesAreAwaited}
@@ -29,7 +29,7 @@ use Rattle.wh_host_model.proofs.Host.Running.{IsKeptUp, IsGoodBy, events_keep}
 
 -- ---- what is kept of an instance
 
--- whoever stands for a frame, or for a fault of the device, wants bytes
+-- whoever waits for a frame, or for a fault of the device, wants bytes
 abbrev pub IsWanted : Option Need → Option Suspension → Type 0
 IsWanted want None = Unit {0}
 IsWanted want (Some for_fuel) = Unit {0}
@@ -41,7 +41,7 @@ pub record Lasts (m : Module) (p : Parameters) (t : Tenant) (bytes : List ℕ) (
   pub few : length t.ended + length t.open_calls ≤ most_calls
   pub few_open : open_count t ≤ most_open
   pub inputs : t.rest.inputs ≡ p.inputs
-  pub wanted : IsWanted want t.stands_for
+  pub wanted : IsWanted want t.waiting_for
 
 -- ---- the words of its input never change
 
@@ -96,7 +96,7 @@ still_open (is_starting st p rest) = p
 still_open (has_started st h f r es os) = os.0.open_yet
 
 goes_lasting : {m : Module} {p : Parameters} {t : Tenant} {e : Entry} {es : List Entry} {bytes : List ℕ} {want : Option Need} (n k : ℕ) (r : Rest) (d : Doing) (o : Option Suspension) → t.open_calls ≡ e ∷ es → Lasts m p t bytes want → r.inputs ≡ t.rest.inputs → (bytes2 : List ℕ) (want2 : Option Need) → IsWanted want2 o
-    → Lasts m p (record t { rest = r; doing = d; open_calls = gone_further e n k ∷ es; stands_for = o }) bytes2 want2
+    → Lasts m p (record t { rest = r; doing = d; open_calls = gone_further e n k ∷ es; waiting_for = o }) bytes2 want2
 goes_lasting {m = m} {t = t} {e = e} {es = es} n k r d o there last inputs bytes2 want2 wanted =
     let order = subst (λ xs. InOrder m t.inst t.dead t.ended xs) there last.order in
     record {
@@ -123,14 +123,14 @@ turn_lasting {t = t} k (has_ended {e = e} {o = o} {k = pieces} {n = n} {s3 = s3}
     closes_lasting (ended_by (gone_further e pieces n) o) r there k (record { func = refl; args = refl; given = refl; fuel = λ h. h }) typed.0 typed.1 (proceeds_inputs g) c (view s3 t.place) (wants s3 t.place)
 turn_lasting {t = t} k (has_no_fuel {k = pieces} {n = n} {s3 = s3} {r = r} {d = d} there g leaves pins) = goes_lasting pieces n r d (Some for_fuel) there k (proceeds_inputs g) (view s3 t.place) (wants s3 t.place) tt
 turn_lasting {t = t} k (has_no_frame {need = need} {k = pieces} {n = n} {s3 = s3} {r = r} {d = d} there g leaves pins) =
-    goes_lasting pieces n r d (at_frame (pieces + n) t.stands_for) there k (proceeds_inputs g) (view s3 t.place) (wants s3 t.place) (wanted_at (pieces + n) t.stands_for (wants s3 t.place) need leaves.wants)
+    goes_lasting pieces n r d (at_frame (pieces + n) t.waiting_for) there k (proceeds_inputs g) (view s3 t.place) (wants s3 t.place) (wanted_at (pieces + n) t.waiting_for (wants s3 t.place) need leaves.wants)
 turn_lasting {t = t} k (can_go_on {k = pieces} {n = n} {s3 = s3} {r = r} {d = d} there g leaves pins fault) = goes_lasting pieces n r d None there k (proceeds_inputs g) (view s3 t.place) (wants s3 t.place) tt
 turn_lasting k (keeps_its_fault there stands doing none next fuel now) = k
 
 cancel_lasting : {m : Module} {p : Parameters} {s s2 : Space} {t t2 : Tenant} → Lasts m p t (view s t.place) (wants s t.place) → Cancels s t s2 t2 → Lasts m p t2 (view s2 t.place) (wants s2 t.place)
 cancel_lasting {s2 = s2} {t = t} k (requests.ends {e = e} there leaves pins c) = closes_lasting (ended_by e cancelled) t.rest there k (record { func = refl; args = refl; given = refl; fuel = λ h. h }) tt tt refl c (view s2 t.place) (wants s2 t.place)
 
-wanted_after : (call : Call) (want : Option Need) (old o : Option Suspension) → IsWanted want old → StandsAfter call old o → IsWanted want o
+wanted_after : (call : Call) (want : Option Need) (old o : Option Suspension) → IsWanted want old → WaitsAfter call old o → IsWanted want o
 wanted_after call want None o h after = subst (IsWanted want) (sym after) tt
 wanted_after call want (Some for_fuel) o h after = elim after [ inl x ↦ subst (IsWanted want) (sym x.1) tt | inr x ↦ subst (IsWanted want) (sym x.1) tt ]
 wanted_after call want (Some for_frame) o h after = subst (IsWanted want) (sym after) h
@@ -144,7 +144,7 @@ refuel_lasting {m = m} {n = n} {t = t} {want = want} k (has_more {e = e} {es = e
       few = (let few = k.few in let l = ap length there in omega (arith, few, l));
       few_open = (let few = k.few_open in let l = ap length there in omega (arith, few, l));
       inputs = k.inputs;
-      wanted = wanted_after (more_fuel e n).call want t.stands_for o k.wanted after;
+      wanted = wanted_after (more_fuel e n).call want t.waiting_for o k.wanted after;
     }
 
 wanted_too : (want : Option Need) (a b : Suspension) → a ≢ for_fuel → b ≢ for_fuel → IsWanted want (Some a) → IsWanted want (Some b)
@@ -156,7 +156,7 @@ wanted_too want (for_device x) for_fuel from to h = tt
 wanted_too want (for_device x) for_frame from to h = h
 wanted_too want (for_device x) (for_device y) from to h = h
 
-fault_lasting : {m : Module} {p : Parameters} {t : Tenant} {bytes : List ℕ} {want : Option Need} {a b : Suspension} → Lasts m p t bytes want → t.stands_for ≡ Some a → a ≢ for_fuel → b ≢ for_fuel → Lasts m p (record t { stands_for = Some b }) bytes want
+fault_lasting : {m : Module} {p : Parameters} {t : Tenant} {bytes : List ℕ} {want : Option Need} {a b : Suspension} → Lasts m p t bytes want → t.waiting_for ≡ Some a → a ≢ for_fuel → b ≢ for_fuel → Lasts m p (record t { waiting_for = Some b }) bytes want
 fault_lasting {t = t} {want = want} {a = a} {b = b} k was from to = record {
   order = k.order;
   few = k.few;
@@ -250,7 +250,7 @@ misread_lasting w s2 last same = record {
         loaded = f.loaded;
         is_loaded = f.is_loaded;
         claimed = alike.claim ∙ f.claimed;
-        kept = record { order = k.order; few = k.few; few_open = k.few_open; inputs = k.inputs; wanted = subst (λ o. IsWanted o t.stands_for) (sym alike.wants) k.wanted };
+        kept = record { order = k.order; few = k.few; few_open = k.few_open; inputs = k.inputs; wanted = subst (λ o. IsWanted o t.waiting_for) (sym alike.wants) k.wanted };
       };
 }
 

@@ -15,11 +15,11 @@ use Rattle.wh_host_model.proofs.Space.Exited.{exits_soundly}
 use Rattle.wh_host_model.proofs.Space.Entered.{enters_soundly, enters_at_zeros}
 use Rattle.wh_host_model.proofs.Space.Rows.{same_there, row_same, row_other}
 use Rattle.std.proofs.lemmas.Bool.Decides.{nat_tests}
-use Rattle.wh_host_model.specs.Space.Stores.{Epochs, Touches, standing_for, stood, ended}
+use Rattle.wh_host_model.specs.Space.Stores.{Epochs, Touches, awaiting, stood, ended}
 use Rattle.wh_host_model.specs.Space.Sight.{HasNoPins}
 use Rattle.wh_host_model.proofs.Space.Quiet.{steps_quiet, enters_own, exits_own, pins_end}
-use Rattle.wh_host_model.proofs.Space.Steady.{touches_soundly, epochs_soundly, stands_soundly, ends_soundly}
-use Rattle.wh_host_model.specs.Host.Spaces.{AllLeftAlone, KeepsPromise, LeftAlone, StepsAlone, StandsAlone, Arrives, Departs}
+use Rattle.wh_host_model.proofs.Space.Steady.{touches_soundly, epochs_soundly, waits_soundly, ends_soundly}
+use Rattle.wh_host_model.specs.Host.Spaces.{AllLeftAlone, KeepsPromise, LeftAlone, StepsAlone, WaitsAlone, Arrives, Departs}
 
 -- ---- one after the other
 
@@ -68,21 +68,21 @@ live_wants : (t : Occupant) (need : Option Need) → t.live ≡ true → need_of
 live_wants t need live = rw live refl
 
 pub stood_alone : (s : Space) (i : ℕ) (t : Occupant) (need : Option Need) → IsSound s → occupant_at s i t → t.live ≡ true
-    → ((want : Need) → need ≡ Some want → (want.at + want.length ≤ 4096 * length (get_or s.tables i [])) × (want.length ≤ 4096)) → StandsAlone i need s (stood s i need)
+    → ((want : Need) → need ≡ Some want → (want.at + want.length ≤ 4096 * length (get_or s.tables i [])) × (want.length ≤ 4096)) → WaitsAlone i need s (stood s i need)
 stood_alone s i t need sound is live fits =
     let there = within s.occupants i t is in
     let quiet = steps_quiet s i in
     let bytes : all_bytes (stood s i need) ≡ all_bytes s = quiet.stands need in
     let now : get_or (stood s i need).occupants i None ≡ Some (record t { stands = need }) =
-    get_or-set_same s.occupants i (standing_for (get_or s.occupants i None) need) None there.0 ∙ ap (λ o. standing_for o need) there.1 in
+    get_or-set_same s.occupants i (awaiting (get_or s.occupants i None) need) None there.0 ∙ ap (λ o. awaiting o need) there.1 in
     record {
       steps = record {
         others = λ j other.
-            let same = get_or-set_other s.occupants i j (standing_for (get_or s.occupants i None) need) None other in
+            let same = get_or-set_other s.occupants i j (awaiting (get_or s.occupants i None) need) None other in
             record { view = ap (λ (b : List (List (List ℕ))). joined (get_or b j [])) bytes; wants = ap need_of same; claim = ap claim_of same; promise = inl (ap promised_to same) };
-        places = λ j other. ap promised_to (get_or-set_other s.occupants i j (standing_for (get_or s.occupants i None) need) None other);
+        places = λ j other. ap promised_to (get_or-set_other s.occupants i j (awaiting (get_or s.occupants i None) need) None other);
         claim = ap claim_of now ∙ sym (ap claim_of there.1);
-        sound = stands_soundly s i t need sound is (λ want e. let f = fits want e in (live, f.0, f.1));
+        sound = waits_soundly s i t need sound is (λ want e. let f = fits want e in (live, f.0, f.1));
       };
       view = ap (λ (b : List (List (List ℕ))). joined (get_or b i [])) bytes;
       wants = ap need_of now ∙ live_wants t need live;
@@ -117,7 +117,7 @@ unpinned_there : (s : Space) (b : Bool) → (cond b (unpinned s) s).occupants �
 unpinned_there s true = refl
 unpinned_there s false = refl
 
-pub ended_alone : (s : Space) (i : ℕ) (t : Occupant) → IsSound s → occupant_at s i t → t.live ≡ true → StandsAlone i None s (ended s i) × HasNoPins (ended s i) i
+pub ended_alone : (s : Space) (i : ℕ) (t : Occupant) → IsSound s → occupant_at s i t → t.live ≡ true → WaitsAlone i None s (ended s i) × HasNoPins (ended s i) i
 ended_alone s i t sound is live =
     let a = stood_alone s i t None sound is live (λ want e. absurd (cc e)) in
     let steps = a.steps in

@@ -8,8 +8,8 @@ use Rattle.wh_host_model.specs.Space.Parts.{Claimed, Occupant, Promised, Space, 
 use Rattle.wh_host_model.specs.Host.Spaces.{AllLeftAlone, KeepsPromise}
 use Rattle.wh_host_model.specs.Host.Worlds.{Tenant, World, empty_world, promised, with_tenant}
 use Rattle.wh_host_model.specs.Owners.{Params}
-use Rattle.wh_host_model.specs.Host.Calls.{Cancels}
-use Rattle.wh_host_model.specs.Host.Calls as requests
+use Rattle.wh_host_model.specs.Host.OwnerCalls.{Cancels}
+use Rattle.wh_host_model.specs.Host.OwnerCalls as requests
 use Rattle.wh_host_model.specs.Host.Admission.{LetsGo, LetsIn}
 use Rattle.wh_host_model.specs.Host.Events.{Event, turn, load, admit, invoke, refuel, cancel, retry, release, offer, evict_begin, evict_commit, fetch_begin, fetch_commit, provide, epoch}
 use Rattle.wh_host_model.specs.Host.Happens as happens

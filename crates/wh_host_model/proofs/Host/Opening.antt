@@ -17,7 +17,7 @@ use Rattle.wh_host_model.proofs.Host.Leaving.{left_then}
 use Rattle.wh_host_model.specs.Host.Worlds.{Rest, Doing, Tenant, store_with, standing_with}
 use Rattle.wh_host_model.specs.Owners.{Entry}
 use Rattle.wh_host_model.specs.Host.Turns.{Opens, by_invocation, as_it_was, Computes, Upshot, Proceeds, returns, traps, writes_all, uses_fuel, waits, waits_to_write, has_had_its_turn}
-use Rattle.wh_host_model.specs.Host.Answers.{ProceedsIn}
+use Rattle.wh_host_model.specs.Host.CallAnswers.{ProceedsIn}
 
 -- ---- pieces that are written
 

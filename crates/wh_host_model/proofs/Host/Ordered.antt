@@ -7,7 +7,7 @@ use Rattle.wh_model.specs.Execution.Store.{Instance}
 use Rattle.wh_model.specs.Execution.Replay.{Outcome, returned, stopped, cancelled, dead, pending, Call, fails, NamesFunction, IsDead, IsNotDead, IsJournal}
 use Rattle.wh_host_model.specs.Host.Worlds.{journal_calls}
 use Rattle.wh_host_model.specs.Owners.{Entry}
-use Rattle.wh_host_model.specs.Host.Answers.{ended_by, dies}
+use Rattle.wh_host_model.specs.Host.CallAnswers.{ended_by, dies}
 use Rattle.wh_host_model.specs.Owners.{most_fuel}
 use Rattle.wh_host_model.specs.Host.Journals.{IsAsked, IsStart, ReturnsTyped, HasEnded, IsEnded, IsOpenCall, IsDeadCall, InOrder, is_starting, has_started, has_died}
 use Rattle.wh_host_model.proofs.Host.Entries.{all_join}

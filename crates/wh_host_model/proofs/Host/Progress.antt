@@ -17,20 +17,20 @@ use Rattle.wh_host_model.specs.declared.plain.TurnEnd.TheVariants.{Fuel}
 use Rattle.wh_host_model.specs.Space.Parts.{Claimed, Occupant, Space, claim, claim_of, occupant_at, view, wants}
 use Rattle.wh_host_model.specs.Space.Sound.{IsSound}
 use Rattle.wh_host_model.specs.Space.Stores.{ended}
-use Rattle.wh_host_model.specs.Host.Spaces.{StandsAlone}
+use Rattle.wh_host_model.specs.Host.Spaces.{WaitsAlone}
 use Rattle.wh_host_model.specs.Host.Worlds.{Doing, Rest, Suspension, Tenant, World, computing, journal, empty_world, for_device, for_frame, for_fuel, resting, store_in, store_with, tenant, with_tenant}
 use Rattle.wh_host_model.specs.Owners.{Entry, new_entry}
 use Rattle.wh_host_model.specs.Owners.{Params, AreArguments, ExportsOwn, IsArgument, arguments, instance_dead, journal_full, most_calls, most_open, queue_full}
 use Rattle.wh_host_model.specs.Host.Turns.{as_it_was, uses_fuel}
-use Rattle.wh_host_model.specs.Host.Answers.{Closes, Faces, dies, ended_by, faces_next, has_no_fuel, is_dead, is_idle}
-use Rattle.wh_host_model.specs.Host.Calls.{Meets, Retries, StandsAfter, has_more, may_try, more_fuel, open_count}
-use Rattle.wh_host_model.specs.Host.Calls as requests
-use Rattle.wh_host_model.specs.Host.Admission.{decoder_wants}
+use Rattle.wh_host_model.specs.Host.CallAnswers.{Closes, Faces, dies, ended_by, faces_next, has_no_fuel, is_dead, is_idle}
+use Rattle.wh_host_model.specs.Host.OwnerCalls.{Meets, Retries, WaitsAfter, has_more, may_try, more_fuel, open_count}
+use Rattle.wh_host_model.specs.Host.OwnerCalls as requests
+use Rattle.wh_host_model.specs.Host.Admission.{decoder_out_of_memory}
 use Rattle.wh_host_model.specs.Host.Events.{Event, turn, load, admit, invoke, refuel, cancel, retry, release, offer, evict_begin, evict_commit, fetch_begin, fetch_commit, provide, epoch}
-use Rattle.wh_host_model.specs.Host.Happens.{AwaitsFrame, AwaitsFrameFor, Happens, IsLive, IsTurn, MovesPages, NoInstance, OnlyMoves, admit_refused, admit_wants_memory, has_no_instance, invoke_no_instance, invoke_refused, invoke_wants_memory, isnt_admitted, isnt_invoked, no_memory_to_admit, no_memory_to_invoke, call_no_call, call_no_instance, call_ok, has_failed, is_cancelled, is_invoked, is_loaded, is_refueled, is_released, is_retried, load_wants_memory, moved, no_call_to_cancel, no_call_to_refuel, no_fault_to_retry, no_memory_to_load, no_one_to_cancel, no_one_to_refuel, no_one_to_release, no_one_to_retry, of_none, of_one}
+use Rattle.wh_host_model.specs.Host.Happens.{AwaitsFrame, AwaitsFrameFor, Happens, IsLive, IsTurn, MovesPages, NoInstance, OnlyMoves, admit_refused, admit_out_of_memory, has_no_instance, invoke_no_instance, invoke_refused, invoke_out_of_memory, isnt_admitted, isnt_invoked, no_memory_to_admit, no_memory_to_invoke, call_no_call, call_no_instance, call_ok, has_failed, is_cancelled, is_invoked, is_loaded, is_refueled, is_released, is_retried, load_out_of_memory, moved, no_call_to_cancel, no_call_to_refuel, no_fault_to_retry, no_memory_to_load, no_one_to_cancel, no_one_to_refuel, no_one_to_release, no_one_to_retry, of_none, of_one}
 use Rattle.wh_host_model.specs.Host.Journals.{InOrder, IsAsked, IsOpenCall, is_starting, has_started}
 use Rattle.wh_host_model.specs.Host.Progress.{CallsAreTaken, FuelTurnsHappen, IdleTurnsHappen, LoadsAreTaken}
-use Rattle.wh_host_model.specs.Host.Standing.{FirstStandsDuly}
+use Rattle.wh_host_model.specs.Host.Suspensions.{FirstWaitsDuly}
 use Rattle.wh_host_model.proofs.Host.Deciding.{arguments_or_not, exported_or_not, first_to_admit, first_to_invoke}
 use Rattle.wh_host_model.proofs.Host.Empty.{good_empty}
 use Rattle.wh_host_model.proofs.Host.Leaving.{alone_self, ended_alone, exits_alone}
@@ -59,7 +59,7 @@ calls_of (e ∷ es) = inr (e, es, refl)
 
 -- ---- more fuel
 
-stands_after : (call : _) (o : Option Suspension) → (new : Option Suspension) × StandsAfter call o new
+stands_after : (call : _) (o : Option Suspension) → (new : Option Suspension) × WaitsAfter call o new
 stands_after call None = (None, refl)
 stands_after call (Some for_fuel) = elim (cases_lt call.charges call.fuel) [ inl more ↦ (None, inl (more, refl)) | inr none ↦ (Some for_fuel, inr (none, refl)) ]
 stands_after call (Some for_frame) = (Some for_frame, refl)
@@ -71,8 +71,8 @@ refuels w id n = elim (live_or_not w id) [
   | inl (t, live) ↦ elim (calls_of t.open_calls) [
     | inl empty ↦ (w, (call_no_call, no_call_to_refuel live empty))
     | inr (e, es, there) ↦
-        (let o = stands_after (more_fuel e n).call t.stands_for in
-        (with_tenant w id.number (Some (record t { open_calls = more_fuel e n ∷ es; stands_for = o.0 })) w.space, (call_ok, is_refueled live (has_more there o.1))))
+        (let o = stands_after (more_fuel e n).call t.waiting_for in
+        (with_tenant w id.number (Some (record t { open_calls = more_fuel e n ∷ es; waiting_for = o.0 })) w.space, (call_ok, is_refueled live (has_more there o.1))))
   ]
 ]
 
@@ -83,20 +83,20 @@ retries w id = elim (live_or_not w id) [
   | inr none ↦ (w, (call_no_instance, no_one_to_retry none))
   | inl (t, live) ↦ elim (calls_of t.open_calls) [
     | inl empty ↦ (w, (call_no_call, no_fault_to_retry live (never_empty t empty)))
-    | inr (e, es, there) ↦ go t live e es there t.stands_for refl
+    | inr (e, es, there) ↦ go t live e es there t.waiting_for refl
   ]
 ] where
   never_empty : (t : Tenant) → t.open_calls ≡ [] → (t2 : Tenant) → Retries t t2 → ⊥
   never_empty t empty t2 (may_try {e = e} {es = es} there stands) = (let bad : [] ≡ e ∷ es = sym empty ∙ there in cc bad)
 
-  never_so : (t : Tenant) → ((fault : SwapError) → t.stands_for ≢ Some (for_device fault)) → (t2 : Tenant) → Retries t t2 → ⊥
+  never_so : (t : Tenant) → ((fault : SwapError) → t.waiting_for ≢ Some (for_device fault)) → (t2 : Tenant) → Retries t t2 → ⊥
   never_so t never t2 (may_try {fault = fault} there stands) = never fault stands
 
-  go : (t : Tenant) → IsLive w id t → (e : Entry) (es : List Entry) → t.open_calls ≡ e ∷ es → (o : Option Suspension) → t.stands_for ≡ o → (w2 : World) × Happens w (retry id) w2
+  go : (t : Tenant) → IsLive w id t → (e : Entry) (es : List Entry) → t.open_calls ≡ e ∷ es → (o : Option Suspension) → t.waiting_for ≡ o → (w2 : World) × Happens w (retry id) w2
   go t live e es there None is = (w, (call_no_call, no_fault_to_retry live (never_so t (λ fault f. (let bad : None ≡ Some (for_device fault) = sym is ∙ f in cc bad)))))
   go t live e es there (Some for_fuel) is = (w, (call_no_call, no_fault_to_retry live (never_so t (λ fault f. (let bad : Some for_fuel ≡ Some (for_device fault) = sym is ∙ f in cc bad)))))
   go t live e es there (Some for_frame) is = (w, (call_no_call, no_fault_to_retry live (never_so t (λ fault f. (let bad : Some for_frame ≡ Some (for_device fault) = sym is ∙ f in cc bad)))))
-  go t live e es there (Some (for_device fault)) is = (with_tenant w id.number (Some (record t { stands_for = Some for_frame })) w.space, (call_ok, is_retried live (may_try there is)))
+  go t live e es there (Some (for_device fault)) is = (with_tenant w id.number (Some (record t { waiting_for = Some for_frame })) w.space, (call_ok, is_retried live (may_try there is)))
 
 -- ---- a cancelled call
 
@@ -169,7 +169,7 @@ cancels w id good = elim (live_or_not w id) [
 admits : (w : World) (k : ℕ) (p : Params) → IsGood w → (w2 : World) × Happens w (admit k p) w2
 admits w k p good = elim (first_to_admit w k p good.modules) [
   | inl (fault, first) ↦ (w, (admit_refused fault, isnt_admitted first))
-  | inr none ↦ (w, (admit_wants_memory, no_memory_to_admit none))
+  | inr none ↦ (w, (admit_out_of_memory, no_memory_to_admit none))
 ]
 
 invokes : (w : World) (id : InstId) (name : List ℕ) (given : List ℤ) (fuel : ℕ) → IsGood w → (w2 : World) × Happens w (invoke id name given fuel) w2
@@ -179,7 +179,7 @@ invokes w id name given fuel good = elim (live_or_not w id) [
       (let fine = good.each id.number t live.0 in
       elim (first_to_invoke fine.loaded.m t name given) [
         | inl (fault, first) ↦ (w, (invoke_refused fault, isnt_invoked live fine.is_loaded first))
-        | inr none ↦ (w, (invoke_wants_memory, no_memory_to_invoke live fine.is_loaded none))
+        | inr none ↦ (w, (invoke_out_of_memory, no_memory_to_invoke live fine.is_loaded none))
       ])
 ]
 
@@ -268,8 +268,8 @@ only_moves_self : (w : World) → IsGood w → OnlyMoves w w
 only_moves_self w good = (w.space, alone_self w.space good.sound, refl)
 
 awaits_or_not : (t : Tenant) → AwaitsFrame t ⊎ ¬ AwaitsFrame t
-awaits_or_not t = go t.stands_for refl where
-  go : (o : Option Suspension) → t.stands_for ≡ o → (t.stands_for ≡ Some for_frame) ⊎ ¬ (t.stands_for ≡ Some for_frame)
+awaits_or_not t = go t.waiting_for refl where
+  go : (o : Option Suspension) → t.waiting_for ≡ o → (t.waiting_for ≡ Some for_frame) ⊎ ¬ (t.waiting_for ≡ Some for_frame)
   go None e = inr (λ f. (let bad : None ≡ Some for_frame = sym e ∙ f in cc bad))
   go (Some for_fuel) e = inr (λ f. (let bad : Some for_fuel ≡ Some for_frame = sym e ∙ f in cc bad))
   go (Some for_frame) e = inl e
@@ -300,7 +300,7 @@ IsNoTurn other = Unit {0}
 
 pub happens : (w : World) (e : Event) → IsGood w → IsNoTurn e → (w2 : World) × Happens w e w2
 happens w (turn id q) good none = absurd none
-happens w (load bytes) good some = (w, (load_wants_memory decoder_wants, no_memory_to_load tt))
+happens w (load bytes) good some = (w, (load_out_of_memory decoder_out_of_memory, no_memory_to_load tt))
 happens w (admit k p) good some = admits w k p good
 happens w (invoke id name given fuel) good some = invokes w id name given fuel good
 happens w (refuel id n) good some = refuels w id n
@@ -321,9 +321,9 @@ idle_turns_happen frames slots tax events w r id q empty = elim (live_or_not w i
   | inl (t, live) ↦ (with_tenant w id.number (Some t) w.space, of_one live (is_idle (empty t live)))
 ]
 
--- ---- a turn of one that stands for fuel
+-- ---- a turn of one that waits for fuel
 
-stands_alone : (s : Space) (i : ℕ) → IsSound s → wants s i ≡ None → StandsAlone i None s s
+stands_alone : (s : Space) (i : ℕ) → IsSound s → wants s i ≡ None → WaitsAlone i None s s
 stands_alone s i sound none = record {
   steps = record { others = λ j other. record { view = refl; wants = refl; claim = refl; promise = inl refl }; places = λ j other. refl; claim = refl; sound = sound };
   view = refl;
@@ -331,19 +331,19 @@ stands_alone s i sound none = record {
   ready = λ need. (λ h. h, λ h. h);
 }
 
-fuel_turn : (w : World) (id : InstId) (q : ℕ) (t : Tenant) → IsGood w → IsLive w id t → t.stands_for ≡ Some for_fuel → (w2 : World) × IsTurn w id q Fuel w2
+fuel_turn : (w : World) (id : InstId) (q : ℕ) (t : Tenant) → IsGood w → IsLive w id t → t.waiting_for ≡ Some for_fuel → (w2 : World) × IsTurn w id q Fuel w2
 fuel_turn w id q t good live stands =
     let fine = good.each id.number t live.0 in
-    let duly = subst (λ o. FirstStandsDuly t.inst (store_in w.space t) t.doing t.open_calls (wants w.space t.place) o) stands fine.kept.duly in
+    let duly = subst (λ o. FirstWaitsDuly t.inst (store_in w.space t) t.doing t.open_calls (wants w.space t.place) o) stands fine.kept.duly in
     elim (calls_of t.open_calls) [
-      | inl empty ↦ absurd (let d = subst (λ xs. FirstStandsDuly t.inst (store_in w.space t) t.doing xs (wants w.space t.place) (Some for_fuel)) empty duly in let bad = d.1 in cc bad)
+      | inl empty ↦ absurd (let d = subst (λ xs. FirstWaitsDuly t.inst (store_in w.space t) t.doing xs (wants w.space t.place) (Some for_fuel)) empty duly in let bad = d.1 in cc bad)
       | inr (e, es, there) ↦
-          (let d = subst (λ xs. FirstStandsDuly t.inst (store_in w.space t) t.doing xs (wants w.space t.place) (Some for_fuel)) there duly in
+          (let d = subst (λ xs. FirstWaitsDuly t.inst (store_in w.space t) t.doing xs (wants w.space t.place) (Some for_fuel)) there duly in
           let term : Term = d.2.0 in
           let used = d.1 in (
             _,
             of_one live (has_no_fuel there
-                (subst (λ x. Rattle.wh_host_model.specs.Host.Answers.ProceedsIn q w.space (record t { doing = x }) e Rattle.wh_host_model.specs.Host.Turns.out_of_fuel 0 0 w.space t.rest (computing term)) (sym d.2.1)
+                (subst (λ x. Rattle.wh_host_model.specs.Host.CallAnswers.ProceedsIn q w.space (record t { doing = x }) e Rattle.wh_host_model.specs.Host.Turns.out_of_fuel 0 0 w.space t.rest (computing term)) (sym d.2.1)
                 (uses_fuel (record {
                   between = w.space;
                   opened = config (store_in w.space t) [] term;

@@ -8,7 +8,7 @@ use Rattle.wh_host_model.specs.Host.Spaces.{AllLeftAlone, KeepsPromise}
 use Rattle.wh_host_model.specs.Host.Worlds.{Tenant, World, empty_world, promised}
 use Rattle.wh_host_model.specs.Owners.{Params}
 use Rattle.wh_host_model.specs.Host.Admission.{LetsGo, LetsIn}
-use Rattle.wh_host_model.specs.Host.Calls as requests
+use Rattle.wh_host_model.specs.Host.OwnerCalls as requests
 use Rattle.wh_host_model.specs.Host.Events.{Event, turn, load, admit, invoke, refuel, cancel, retry, release, offer, evict_begin, evict_commit, fetch_begin, fetch_commit, provide, epoch}
 use Rattle.wh_host_model.specs.Host.Happens as happens
 use Rattle.wh_host_model.specs.Host.Happens.{AwaitsFrame, AwaitsFrameFor, Happens, IsTurn, MovesPages, OnlyMoves, has_failed, moved, of_none, of_one}

@@ -15,9 +15,9 @@ use Rattle.wh_host_model.specs.Host.Spaces.{LeftAlone, AllLeftAlone}
 use Rattle.wh_host_model.specs.Host.Worlds.{Doing, Rest, Suspension, Tenant, Loaded, World, for_device, for_fuel, promised, tenant, with_tenant}
 use Rattle.wh_host_model.specs.Owners.{Entry}
 use Rattle.wh_host_model.specs.Owners.{Params, given_of, most_fuel}
-use Rattle.wh_host_model.specs.Host.Answers.{Closes, faces_next, is_dead, Turn, is_idle, has_ended, has_no_fuel, has_no_frame, can_go_on, keeps_its_fault}
-use Rattle.wh_host_model.specs.Host.Calls.{TakesCall, Refuels, has_more, Cancels, Retries, may_try}
-use Rattle.wh_host_model.specs.Host.Calls as requests
+use Rattle.wh_host_model.specs.Host.CallAnswers.{Closes, faces_next, is_dead, Turn, is_idle, has_ended, has_no_fuel, has_no_frame, can_go_on, keeps_its_fault}
+use Rattle.wh_host_model.specs.Host.OwnerCalls.{TakesCall, Refuels, has_more, Cancels, Retries, may_try}
+use Rattle.wh_host_model.specs.Host.OwnerCalls as requests
 use Rattle.wh_model.specs.Linking.Accepting.{IsAccepted}
 use Rattle.wh_host_model.specs.Host.Admission.{LoadsModule, LetsIn, LetsGo, StartsAs}
 use Rattle.wh_host_model.specs.Host.Events.{Event, turn, load, admit, invoke, refuel, cancel, retry, release, offer, evict_begin, evict_commit, fetch_begin, fetch_commit, provide, epoch}
@@ -37,7 +37,7 @@ pub record IsKeptUp (K : Keeping) : Type 0 where
   pub turned : {m : Module} {p : Parameters} {q : ℕ} {s s2 : Space} {t t2 : Tenant} {answer : TurnEnd} → K m p t (view s t.place) (wants s t.place) → Turn q s t answer s2 t2 → K m p t2 (view s2 t.place) (wants s2 t.place)
   pub cancelled : {m : Module} {p : Parameters} {s s2 : Space} {t t2 : Tenant} → K m p t (view s t.place) (wants s t.place) → Cancels s t s2 t2 → K m p t2 (view s2 t.place) (wants s2 t.place)
   pub refuelled : {m : Module} {p : Parameters} {n : ℕ} {t t2 : Tenant} {bytes : List ℕ} {want : Option Need} → K m p t bytes want → Refuels t n t2 → K m p t2 bytes want
-  pub faulted : {m : Module} {p : Parameters} {t : Tenant} {bytes : List ℕ} {want : Option Need} {a b : Suspension} → K m p t bytes want → t.stands_for ≡ Some a → a ≢ for_fuel → b ≢ for_fuel → K m p (record t { stands_for = Some b }) bytes want
+  pub faulted : {m : Module} {p : Parameters} {t : Tenant} {bytes : List ℕ} {want : Option Need} {a b : Suspension} → K m p t bytes want → t.waiting_for ≡ Some a → a ≢ for_fuel → b ≢ for_fuel → K m p (record t { waiting_for = Some b }) bytes want
   pub retried : {m : Module} {p : Parameters} {t t2 : Tenant} {bytes : List ℕ} {want : Option Need} → K m p t bytes want → Retries t t2 → K m p t2 bytes want
   pub accepted : {m mm : Module} {p : Parameters} {t t2 : Tenant} {name : List ℕ} {given : List ℤ} {fuel at : ℕ} (s : Space) → K m p t (view s t.place) (wants s t.place) → TakesCall mm s t name given fuel at t2 → K m p t2 (view s t.place) (wants s t.place)
   pub begun : (m : Module) (place of : ℕ) (params : Params) (p : Parameters) (inst : Instance) (s : Store) (ps : List Piece) (fuel : ℕ) {d : Doing} {es os : List Entry} → AreGiven p → IsInitial m p (begins inst s ps) → fuel ≤ most_fuel → StartsAs inst s ps m.start fuel d es os → K m p (beginner place of params inst s d es os) s.bytes None
@@ -210,7 +210,7 @@ module _ (K : Keeping) (up : IsKeptUp K) where
   moves_good w w2 id awaits fault await good (moved {s2 = s2} same which) = same_space w s2 good same
   moves_good w w2 id awaits fault await good (has_failed {t = t} {e = f} {s2 = s2} same is live waits) =
       let alike = same.0 t.place in
-      changed w id.number t (record t { stands_for = Some (for_device f) }) s2 good live.0 (record { place = refl; of = refl; params = refl }) (same_apart t.place w.space s2 same) same.1
+      changed w id.number t (record t { waiting_for = Some (for_device f) }) s2 good live.0 (record { place = refl; of = refl; params = refl }) (same_apart t.place w.space s2 same) same.1
       (λ m k.
       let there : K m (given_of t.params) t (view s2 t.place) (wants s2 t.place) =
       subst (λ x. K m (given_of t.params) t (view s2 t.place) x) (sym alike.wants) (subst (λ b. K m (given_of t.params) t b (wants w.space t.place)) (sym alike.view) k) in

@@ -41,13 +41,13 @@ use Rattle.wh_host_model.specs.Host.Worlds.{Doing, Suspension, Tenant, World, co
 use Rattle.wh_host_model.specs.Owners.{Entry}
 use Rattle.wh_host_model.specs.Owners.{given_of}
 use Rattle.wh_host_model.specs.Host.Turns.{as_it_was, by_invocation, to_end, to_wait, waits, waits_to_write, writes_all}
-use Rattle.wh_host_model.specs.Host.Answers.{KeepsNoFault, Turn, is_idle, keeps_its_fault}
+use Rattle.wh_host_model.specs.Host.CallAnswers.{KeepsNoFault, Turn, is_idle, keeps_its_fault}
 use Rattle.wh_host_model.specs.Host.Events.{Event, turn}
 use Rattle.wh_host_model.specs.Host.Happens.{Happens, of_none, of_one}
 use Rattle.wh_host_model.specs.Host.Journals.{InOrder, has_started, is_starting}
 use Rattle.wh_host_model.specs.Host.Laws.{IsReplayed}
 use Rattle.wh_host_model.specs.Host.Progress.{EventsHappen, ReadyTurnsHappen}
-use Rattle.wh_host_model.specs.Host.Standing.{FirstStandsDuly, NextAsks, StandsDuly, a_piece, a_step}
+use Rattle.wh_host_model.specs.Host.Suspensions.{FirstWaitsDuly, NextAsks, WaitsDuly, a_piece, a_step}
 use Rattle.wh_host_model.proofs.Space.Deciding.{ready_decided}
 use Rattle.wh_host_model.proofs.Space.Filling.{some_store}
 use Rattle.wh_host_model.proofs.Space.Reading.{view_length}
@@ -303,7 +303,7 @@ no_fault_kept : (q k n : ℕ) (o : Option Suspension) → n ≡ q → (q ≡ 0 �
 no_fault_kept q k n o whole none still = none (omega (arith, whole, still))
 
 computing_turn : (q : ℕ) (w : World) (id : InstId) (t : Tenant) (e : Entry) (es : List Entry) (term : Term) → IsGood w → IsReplayed w t → tenant w id.number ≡ Some t → t.open_calls ≡ e ∷ es → t.doing ≡ computing term → e.call.charges ≤ e.call.fuel
-    → (q ≡ 0 → (fault : SwapError) → t.stands_for ≢ Some (for_device fault)) → TurnsSome q w t
+    → (q ≡ 0 → (fault : SwapError) → t.waiting_for ≢ Some (for_device fault)) → TurnsSome q w t
 computing_turn q w id t e es term good at live there doing fuel no_fault =
     let s : Space = w.space in
     let fine = good.each id.number t live in
@@ -326,10 +326,10 @@ computing_turn q w id t e es term good at live there doing fuel no_fault =
     let still = claimed_there far.mid t.place mine far.claims in
     let order = subst (λ xs. InOrder fine.loaded.m t.inst t.dead t.ended xs) there fine.kept.order in
     let come = far.come in
-    some_turn s far.mid t fine.loaded.m e es still.0 q 0 far.charges far.sound still.1 still.2 there order come (λ go_on. no_fault_kept q 0 far.charges t.stands_for (come.full go_on) no_fault)
+    some_turn s far.mid t fine.loaded.m e es still.0 q 0 far.charges far.sound still.1 still.2 there order come (λ go_on. no_fault_kept q 0 far.charges t.waiting_for (come.full go_on) no_fault)
 
 -- a turn without charges of a call with a device fault
-fault_turn : (w : World) (id : InstId) (t : Tenant) (e : Entry) (es : List Entry) (term : Term) (fault : SwapError) (need : Need) → IsGood w → tenant w id.number ≡ Some t → t.open_calls ≡ e ∷ es → t.doing ≡ computing term → t.stands_for ≡ Some (for_device fault)
+fault_turn : (w : World) (id : InstId) (t : Tenant) (e : Entry) (es : List Entry) (term : Term) (fault : SwapError) (need : Need) → IsGood w → tenant w id.number ≡ Some t → t.open_calls ≡ e ∷ es → t.doing ≡ computing term → t.waiting_for ≡ Some (for_device fault)
     → e.call.charges < e.call.fuel → IsNext t.inst (config (store_in w.space t) [] term) → Asks t.inst (config (store_in w.space t) [] term) need → TurnsSome 0 w t
 fault_turn w id t e es term fault need good live there doing stands fuel next asks =
     let s : Space = w.space in
@@ -370,7 +370,7 @@ within_fuel (has_pieces lt none) = omega (arith, none)
 within_fuel (is_invoked p q i) = omega (arith, q)
 within_fuel (is_under_way p l i b x) = l
 
-asked_turn : (w : World) (id : InstId) (t : Tenant) (e : Entry) (es : List Entry) (fault : SwapError) (need : Need) (d : Doing) → IsGood w → tenant w id.number ≡ Some t → t.open_calls ≡ e ∷ es → t.doing ≡ d → t.stands_for ≡ Some (for_device fault)
+asked_turn : (w : World) (id : InstId) (t : Tenant) (e : Entry) (es : List Entry) (fault : SwapError) (need : Need) (d : Doing) → IsGood w → tenant w id.number ≡ Some t → t.open_calls ≡ e ∷ es → t.doing ≡ d → t.waiting_for ≡ Some (for_device fault)
     → NextAsks t.inst (store_in w.space t) e.call d need → TurnsSome 0 w t
 asked_turn w id t e es fault need d good live there doing stands (a_piece {p = p} {ps = ps}) = pieces_turn 0 w id t e es (p ∷ ps) good live there doing
 asked_turn w id t e es fault need d good live there doing stands (a_step {term = term} fuel next asks) = fault_turn w id t e es term fault need good live there doing stands fuel next asks
@@ -386,20 +386,20 @@ any_turn q w id t e es good at live there = go t.doing refl where
   stands : Stands t.inst fine.kept.s1 fine.kept.ps1 e.call (standing_with (view w.space t.place) t.rest t.doing)
   stands = (let now = subst (λ xs. Now t.inst fine.kept.s1 fine.kept.ps1 (journal_calls xs) (standing_with (view w.space t.place) t.rest t.doing)) there fine.kept.now in now.1)
 
-  duly : (o : Option Suspension) → t.stands_for ≡ o → StandsDuly t.inst (store_in w.space t) t.doing e.call (wants w.space t.place) o
-  duly o is = subst (λ z. StandsDuly t.inst (store_in w.space t) t.doing e.call (wants w.space t.place) z) is (subst (λ xs. FirstStandsDuly t.inst (store_in w.space t) t.doing xs (wants w.space t.place) t.stands_for) there fine.kept.duly)
+  duly : (o : Option Suspension) → t.waiting_for ≡ o → WaitsDuly t.inst (store_in w.space t) t.doing e.call (wants w.space t.place) o
+  duly o is = subst (λ z. WaitsDuly t.inst (store_in w.space t) t.doing e.call (wants w.space t.place) z) is (subst (λ xs. FirstWaitsDuly t.inst (store_in w.space t) t.doing xs (wants w.space t.place) t.waiting_for) there fine.kept.duly)
 
-  by_standing : (term : Term) → t.doing ≡ computing term → (n : ℕ) → q ≡ n → (o : Option Suspension) → t.stands_for ≡ o → TurnsSome q w t
+  by_standing : (term : Term) → t.doing ≡ computing term → (n : ℕ) → q ≡ n → (o : Option Suspension) → t.waiting_for ≡ o → TurnsSome q w t
   by_standing term doing (suc n) is o so = computing_turn q w id t e es term good at live there doing (within_fuel stands) (λ none fault. absurd (omega (arith, is, none)))
-  by_standing term doing zero is None so = computing_turn q w id t e es term good at live there doing (within_fuel stands) (λ none. not_fault t.stands_for None so (λ fault a. cc a))
-  by_standing term doing zero is (Some for_fuel) so = computing_turn q w id t e es term good at live there doing (within_fuel stands) (λ none. not_fault t.stands_for (Some for_fuel) so (λ fault a. cc a))
-  by_standing term doing zero is (Some for_frame) so = computing_turn q w id t e es term good at live there doing (within_fuel stands) (λ none. not_fault t.stands_for (Some for_frame) so (λ fault a. cc a))
+  by_standing term doing zero is None so = computing_turn q w id t e es term good at live there doing (within_fuel stands) (λ none. not_fault t.waiting_for None so (λ fault a. cc a))
+  by_standing term doing zero is (Some for_fuel) so = computing_turn q w id t e es term good at live there doing (within_fuel stands) (λ none. not_fault t.waiting_for (Some for_fuel) so (λ fault a. cc a))
+  by_standing term doing zero is (Some for_frame) so = computing_turn q w id t e es term good at live there doing (within_fuel stands) (λ none. not_fault t.waiting_for (Some for_frame) so (λ fault a. cc a))
   by_standing term doing zero is (Some (for_device fault)) so = (let asks = duly (Some (for_device fault)) so in subst (λ n. TurnsSome n w t) (sym is) (asked_turn w id t e es fault asks.0 t.doing good live there refl so asks.2))
 
   go : (d : Doing) → t.doing ≡ d → TurnsSome q w t
   go resting doing = absurd (standing_calls (store_in w.space t) stands (ap (standing_with (view w.space t.place) t.rest) doing))
   go (has_left ps) doing = pieces_turn q w id t e es ps good live there doing
-  go (computing term) doing = by_standing term doing q refl t.stands_for refl
+  go (computing term) doing = by_standing term doing q refl t.waiting_for refl
 
 calls_of : (es : List Entry) → (es ≡ []) ⊎ ((e : Entry) × (rest : List Entry) × (es ≡ e ∷ rest))
 calls_of [] = inl refl

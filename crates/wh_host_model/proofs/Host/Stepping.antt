@@ -33,13 +33,13 @@ use Rattle.wh_host_model.specs.Space.Sight.{HasNoPins}
 use Rattle.wh_host_model.specs.Space.Stores.{ended, stood}
 use Rattle.wh_host_model.specs.declared.plain.TurnEnd.{TurnEnd}
 use Rattle.wh_host_model.specs.declared.plain.TurnEnd.TheVariants.{Again, Ended, Frame, Fuel}
-use Rattle.wh_host_model.specs.Host.Spaces.{StandsAlone, StepsAlone}
+use Rattle.wh_host_model.specs.Host.Spaces.{WaitsAlone, StepsAlone}
 use Rattle.wh_host_model.specs.Host.Worlds.{Doing, Rest, Tenant, World, computing, journal, journal_calls, resting, standing_in, standing_with, store_in, store_with, tenant}
 use Rattle.wh_host_model.specs.Owners.{Entry}
 use Rattle.wh_host_model.specs.Owners.{given_of}
 use Rattle.wh_host_model.specs.Host.Turns.{Computes, HaveTypes, Opens, Proceeds, Upshot, has_had_its_turn, out_of_fuel, returns, to_end, to_go_on, to_wait, traps, uses_fuel, waits}
 use Rattle.wh_host_model.specs.Host.Admission.{rest_of}
-use Rattle.wh_host_model.specs.Host.Answers.{KeepsNoFault, Turn, can_go_on, ended_by, gone_further, has_ended, has_no_frame, has_no_fuel}
+use Rattle.wh_host_model.specs.Host.CallAnswers.{KeepsNoFault, Turn, can_go_on, ended_by, gone_further, has_ended, has_no_frame, has_no_fuel}
 use Rattle.wh_host_model.specs.declared.plain.InstId.{InstId}
 use Rattle.wh_host_model.specs.Host.Laws.{IsReplayed}
 use Rattle.wh_host_model.specs.Host.Journals.{HasEnded, InOrder, IsEnded, has_started, is_starting}
@@ -182,8 +182,8 @@ occupant_claim t = record { number = t.number; shares = t.shares; min = t.min; m
 claim_there : (s : Space) (i : ℕ) (t : Occupant) → occupant_at s i t → t.live ≡ true → claim s i ≡ Some (occupant_claim t)
 claim_there s i t at live = ap claim_of (get_or_is s.occupants i (Some t) None at) ∙ rw live refl
 
--- its pins have ended, and it stands for these bytes
-stands_then : (i : ℕ) (a b c : Space) (need : Need) → StandsAlone i None a b → StandsAlone i (Some need) b c → StandsAlone i (Some need) a c
+-- its pins have ended, and it waits for these bytes
+stands_then : (i : ℕ) (a b c : Space) (need : Need) → WaitsAlone i None a b → WaitsAlone i (Some need) b c → WaitsAlone i (Some need) a c
 stands_then i a b c need ab bc = record {
   steps = record {
     others = λ j other. left_then (ab.steps.others j other) (bc.steps.others j other);
@@ -197,9 +197,9 @@ stands_then i a b c need ab bc = record {
 }
 
 pub some_turn : (s mid : Space) (t : Tenant) (m : Module) (e : Entry) (es : List Entry) (occ : Occupant) (q k n : ℕ) → IsSound mid → occupant_at mid t.place occ → occ.live ≡ true → t.open_calls ≡ e ∷ es → InOrder m t.inst t.dead t.ended (e ∷ es)
-    → (come : Comes q t.place t.inst e.call s t.rest t.doing k n mid) → (come.to ≡ to_go_on → KeepsNoFault (k + n) t.stands_for) → (answer : TurnEnd) × (s2 : Space) × (t2 : Tenant) × Turn q s t answer s2 t2
+    → (come : Comes q t.place t.inst e.call s t.rest t.doing k n mid) → (come.to ≡ to_go_on → KeepsNoFault (k + n) t.waiting_for) → (answer : TurnEnd) × (s2 : Space) × (t2 : Tenant) × Turn q s t answer s2 t2
 some_turn s mid t m e es occ q k n sound at live there order come no_fault = go come.to refl come.proceeds where
-  off : StandsAlone t.place None mid (ended mid t.place) × HasNoPins (ended mid t.place) t.place
+  off : WaitsAlone t.place None mid (ended mid t.place) × HasNoPins (ended mid t.place) t.place
   off = ended_alone mid t.place occ sound at live
 
   go : (to : Upshot) → come.to ≡ to → Proceeds (λ x. view x t.place) (λ x. Ready x t.place) (StepsAlone t.place) t.inst q e.call s t.rest t.doing to k n mid come.rest come.doing

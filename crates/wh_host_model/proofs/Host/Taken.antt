@@ -16,8 +16,8 @@ use Rattle.wh_host_model.specs.Host.Spaces.{StepsAlone}
 use Rattle.wh_host_model.specs.Host.Worlds.{Rest, Doing, has_left, computing, Tenant, journal, store_with}
 use Rattle.wh_host_model.specs.Owners.{Entry}
 use Rattle.wh_host_model.specs.Host.Turns.{Opens, by_invocation, as_it_was, Computes, Upshot, Proceeds, returns, traps, writes_all, uses_fuel, waits, waits_to_write, has_had_its_turn}
-use Rattle.wh_host_model.specs.Host.Answers.{gone_further, ended_by, Closes, faces_next, is_dead, is_idle, has_ended, has_no_fuel, has_no_frame, can_go_on, keeps_its_fault}
-use Rattle.wh_host_model.specs.Host.Taking.{IsStepReady, piece_is_ready, charge_is_ready, HasGoneOn, ReadyStepsAreTaken}
+use Rattle.wh_host_model.specs.Host.CallAnswers.{gone_further, ended_by, Closes, faces_next, is_dead, is_idle, has_ended, has_no_fuel, has_no_frame, can_go_on, keeps_its_fault}
+use Rattle.wh_host_model.specs.Host.TakenSteps.{IsStepReady, piece_is_ready, charge_is_ready, HasGoneOn, ReadyStepsAreTaken}
 use Rattle.wh_host_model.proofs.Host.Stopping.{done_has_no_next, trap_has_no_next}
 
 -- ---- the present call

@@ -25,7 +25,7 @@ use Rattle.wh_host_model.proofs.Space.Quiet.{offers_quiet}
 use Rattle.wh_host_model.proofs.Space.Provided.{provision_is_right, serves_way}
 use Rattle.wh_host_model.proofs.Space.Reserved.{begin_evict_sound, is_sound_unpinned}
 use Rattle.wh_host_model.proofs.Space.Sent.{commits_soundly}
-use Rattle.wh_host_model.proofs.Space.Steady.{ends_soundly, epochs_soundly, held_soundly, stands_soundly, touches_soundly, writes_soundly}
+use Rattle.wh_host_model.proofs.Space.Steady.{ends_soundly, epochs_soundly, held_soundly, waits_soundly, touches_soundly, writes_soundly}
 
 -- a slot to which a write failed
 vacant_held : (s : Space) (k : ℕ) (bytes : List ℕ) → IsSound s → slice_get s.slots.uses k ≡ Some Vacant → IsSound (with_held s k bytes)
@@ -108,7 +108,7 @@ befalls_soundly : (hashes : List ℕ → ℕ) (s s2 : Space) → IsSound s → B
 befalls_soundly hashes s s2 sound (loads i first n is) = touches_soundly s i first n s2 sound is
 befalls_soundly hashes s s2 sound (stores i at given is) = stores_soundly s i at given s2 sound is
 befalls_soundly hashes s s2 sound (new_epoch is) = epochs_soundly s s2 sound is
-befalls_soundly hashes s s2 sound (stands i t need was may is) = subst IsSound (sym is) (stands_soundly s i t need sound was may)
+befalls_soundly hashes s s2 sound (stands i t need was may is) = subst IsSound (sym is) (waits_soundly s i t need sound was may)
 befalls_soundly hashes s s2 sound (ends i t was is) = subst IsSound (sym is) (ends_soundly s i t sound was)
 befalls_soundly hashes s s2 sound (offered i p hash answer is) = offers_soundly hashes s i p hash answer s2 sound is
 befalls_soundly hashes s s2 sound (begins_evict i slot bytes is) = begin_evict_sound s s2 i slot bytes sound is

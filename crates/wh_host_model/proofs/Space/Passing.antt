@@ -166,16 +166,16 @@ content_before s s2 bytes less a (i, p, f, page, there, on, is) =
 
 -- ---- entries
 
-abbrev Made : (List ℕ → ℕ) → List (List ℕ) → List Mark → Type 0
-Made hashes frames marks = (f hash n : ℕ) → slice_get marks f ≡ Some (Sharers hash n) → hashes (get_or frames f []) ≡ hash
+abbrev ScriptState : (List ℕ → ℕ) → List (List ℕ) → List Mark → Type 0
+ScriptState hashes frames marks = (f hash n : ℕ) → slice_get marks f ≡ Some (Sharers hash n) → hashes (get_or frames f []) ≡ hash
 
-made_with : (hashes : List ℕ → ℕ) (frames : List (List ℕ)) (marks : List Mark) (g : ℕ) (m : Mark) → Made hashes frames marks → g < length marks → ((x n : ℕ) → m ≢ Sharers x n) → Made hashes frames (slice_set marks g m)
+made_with : (hashes : List ℕ → ℕ) (frames : List (List ℕ)) (marks : List Mark) (g : ℕ) (m : Mark) → ScriptState hashes frames marks → g < length marks → ((x n : ℕ) → m ≢ Sharers x n) → ScriptState hashes frames (slice_set marks g m)
 made_with hashes frames marks g m made within never f x n is = elim (here_or g f) [
   | inr other ↦ made f x n (sym (set_other marks g f m (λ e. other e)) ∙ is)
   | inl same ↦ absurd (let both : Some m ≡ Some (Sharers x n) = sym (set_same marks g m within) ∙ subst (λ z. slice_get (slice_set marks g m) z ≡ Some (Sharers x n)) same is in never x n (cc both))
 ]
 
-made_shared : (hashes : List ℕ → ℕ) (frames : List (List ℕ)) (marks : List Mark) (g hash k : ℕ) → Made hashes frames marks → g < length marks → hashes (get_or frames g []) ≡ hash → Made hashes frames (slice_set marks g (Sharers hash k))
+made_shared : (hashes : List ℕ → ℕ) (frames : List (List ℕ)) (marks : List Mark) (g hash k : ℕ) → ScriptState hashes frames marks → g < length marks → hashes (get_or frames g []) ≡ hash → ScriptState hashes frames (slice_set marks g (Sharers hash k))
 made_shared hashes frames marks g hash k made within own f x n is = elim (here_or g f) [
   | inr other ↦ made f x n (sym (set_other marks g f (Sharers hash k) (λ e. other e)) ∙ is)
   | inl same ↦
@@ -249,7 +249,7 @@ zeroed_step hashes s i p hash g s2 scan offered zeros is =
 
 -- the page is the hint now, other entries being these
 hint_step : (hashes : List ℕ → ℕ) (s : Space) (i p hash g : ℕ) (answer : Offer) (marks : List Mark) → IsScanning hashes s → IsHashOf hashes s i p hash → IsOffered s i p g → frame_bytes s g ≢ zero_page
-    → Offers hashes s i p hash answer (hinted (record s { marks = marks }) i p g hash) → length marks ≡ length s.marks → Made hashes s.pool.frames marks
+    → Offers hashes s i p hash answer (hinted (record s { marks = marks }) i p g hash) → length marks ≡ length s.marks → ScriptState hashes s.pool.frames marks
     → ((h a b : ℕ) → h ≢ g → slice_get s.marks h ≡ Some (Hint (hashes (frame_bytes s h)) a b) → slice_get marks h ≡ Some (Hint (hashes (frame_bytes s h)) a b)) → IsStep hashes s i p (hinted (record s { marks = marks }) i p g hash)
 hint_step hashes s i p hash g answer marks scan its offered some offer long made others =
     let s3 : Space = hinted (record s { marks = marks }) i p g hash in
@@ -282,7 +282,7 @@ merge_step hashes s i p hash g f n s2 scan offered offer own there_f frames free
     let long = length-set s.marks g Plain in
     let within_f : f < length (slice_set s.marks g Plain) = omega arith in
     let counted : slice_get s2.marks f ≡ Some (Sharers hash n) = ap (λ m. slice_get m f) marks ∙ set_same (slice_set s.marks g Plain) f (Sharers hash n) within_f in
-    let made : Made hashes s.pool.frames (slice_set (slice_set s.marks g Plain) f (Sharers hash n)) = made_shared hashes s.pool.frames (slice_set s.marks g Plain) f hash n (made_with hashes s.pool.frames s.marks g Plain scan.made_under within plain_never) within_f own in
+    let made : ScriptState hashes s.pool.frames (slice_set (slice_set s.marks g Plain) f (Sharers hash n)) = made_shared hashes s.pool.frames (slice_set s.marks g Plain) f hash n (made_with hashes s.pool.frames s.marks g Plain scan.made_under within plain_never) within_f own in
     record {
       scanning = scanning_after hashes s s2 scan sound (offers_quiet hashes s i p hash Merged s2 offer) less slots pins (λ h x m is. ap (λ z. hashes (get_or z h [])) frames ∙ made h x m (ap (λ z. slice_get z h) (sym marks) ∙ is));
       now = record { entry = λ h there. absurd (gone h there); some = λ h there. absurd (gone h there) };

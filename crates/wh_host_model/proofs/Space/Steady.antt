@@ -5,7 +5,7 @@ use Rattle.wh_model.specs.declared.memory.Need.{Need}
 use Rattle.wh_model.specs.Execution.Memory.{reading}
 use Rattle.wh_host_model.specs.Frames.{tally}
 use Rattle.wh_host_model.specs.declared.states.Slot.TheVariants.{Evicting, EvictVoid}
-use Rattle.wh_host_model.specs.Space.Kept.{EndsSoundly, EpochsSoundly, StandsSoundly, TouchesSoundly, WritesSoundly}
+use Rattle.wh_host_model.specs.Space.Kept.{EndsSoundly, EpochsSoundly, WaitsSoundly, TouchesSoundly, WritesSoundly}
 use Rattle.wh_host_model.specs.Space.Sound.{HasTable, IsSound, IsUsed}
 use Rattle.wh_host_model.specs.Space.Tickets.{IsEvicting, with_held}
 use Rattle.wh_host_model.specs.Space.Parts.{Occupant, Space, occupant_at, of_occupant}
@@ -133,8 +133,8 @@ stood_after s i need j u is =
           (record u { stands = need }, subst (λ z. occupant_at (stood s i need) z (record u { stands = need })) (sym same) (stood_now s i need u is2), refl, refl))
     ]
 
-pub stands_soundly : StandsSoundly
-stands_soundly s i mine need sound was fits =
+pub waits_soundly : WaitsSoundly
+waits_soundly s i mine need sound was fits =
     let s2 : Space = stood s i need in
     record {
       frames = record {
@@ -196,7 +196,7 @@ stands_soundly s i mine need sound was fits =
 pub ends_soundly : EndsSoundly
 ends_soundly s i mine sound was = go (has_pins s.pins i) where
   now : IsSound (stood s i None)
-  now = stands_soundly s i mine None sound was (λ want is. absurd (let bad : None ≡ Some want = is in cc))
+  now = waits_soundly s i mine None sound was (λ want is. absurd (let bad : None ≡ Some want = is in cc))
 
   go : (b : Bool) → IsSound (cond b (unpinned (stood s i None)) (stood s i None))
   go true = is_sound_unpinned (stood s i None) now

@@ -16,7 +16,7 @@ use Rattle.wh_host_model.specs.Host.Spaces.{Arrives, Departs}
 use Rattle.wh_host_model.specs.Host.Worlds.{Rest, Doing, resting, has_left, Tenant, Loaded, World, promised, with_tenant}
 use Rattle.wh_host_model.specs.Owners.{Entry}
 use Rattle.wh_host_model.specs.Owners.{Params, given_of, most_fuel}
-use Rattle.wh_host_model.specs.Host.Answers.{Faces}
+use Rattle.wh_host_model.specs.Host.CallAnswers.{Faces}
 use Rattle.wh_host_model.specs.Owners.{AdmitFault, admit_rank, frames, instances, memory, min_max, most_instances, most_modules, no_module, segments, shares, swap}
 use Rattle.wh_host_model.specs.Owners.{start_entry}
 
@@ -37,17 +37,17 @@ RefusesLoad w bytes (unlinked fault place) =
 RefusesLoad w bytes modules_full = (m : Module) × IsAccepted bytes m × (most_modules ≤ length w.modules)
 
 -- who may want memory, each where those before it are done: the decoder, the validator, the linker, and the host
-pub data LoadWant : Type 0 where
-  decoder_wants : LoadWant
-  validator_wants : LoadWant
-  linker_wants : LoadWant
-  host_wants : LoadWant
+pub data LoadOutOfMemory : Type 0 where
+  decoder_out_of_memory : LoadOutOfMemory
+  validator_out_of_memory : LoadOutOfMemory
+  linker_out_of_memory : LoadOutOfMemory
+  host_out_of_memory : LoadOutOfMemory
 
-abbrev pub MayWant : World → List ℕ → LoadWant → Type 0
-MayWant w bytes decoder_wants = Unit {0}
-MayWant w bytes validator_wants = (m : Module) × IsModule bytes m
-MayWant w bytes linker_wants = (m : Module) × IsModule bytes m × Valid m × Fits m
-MayWant w bytes host_wants = (m : Module) × IsAccepted bytes m × (length w.modules < most_modules)
+abbrev pub MayRunOut : World → List ℕ → LoadOutOfMemory → Type 0
+MayRunOut w bytes decoder_out_of_memory = Unit {0}
+MayRunOut w bytes validator_out_of_memory = (m : Module) × IsModule bytes m
+MayRunOut w bytes linker_out_of_memory = (m : Module) × IsModule bytes m × Valid m × Fits m
+MayRunOut w bytes host_out_of_memory = (m : Module) × IsAccepted bytes m × (length w.modules < most_modules)
 
 -- it is loaded under the next number
 pub record LoadsModule (w : World) (bytes : List ℕ) (number : ℕ) (w2 : World) : Type 0 where
@@ -120,7 +120,7 @@ pub record LetsIn (w : World) (k : ℕ) (p : Params) (place number : ℕ) (w2 : 
       doing = doing;
       ended = ended;
       open_calls = open_calls;
-      stands_for = None;
+      waiting_for = None;
       dead = false;
     }) ∷ [];
     space = space;

@@ -9,14 +9,14 @@ use Rattle.wh_host_model.specs.Space.Parts.{Space, Occupant, Claimed, occupant_a
 use Rattle.wh_host_model.specs.Space.Errands.{tickets}
 use Rattle.wh_host_model.specs.Space.Sound.{IsSound}
 use Rattle.wh_host_model.specs.Space.Sight.{HasNoPins}
-use Rattle.wh_host_model.specs.Space.Chain.{MayStandFor}
+use Rattle.wh_host_model.specs.Space.Chain.{MayWaitFor}
 use Rattle.wh_host_model.specs.Space.Stores.{Epochs, Grew, Overwrites, Touches, ended, stood}
 use Rattle.wh_host_model.specs.Space.Offers.{Offers}
 use Rattle.wh_host_model.specs.Space.Places.{Enters, Exits}
-use Rattle.wh_host_model.specs.Space.Tickets.{BeginsEvict, BeginsFetch, CommitsEvict, CommitsFetch, IsWritten, StandsForFrame}
+use Rattle.wh_host_model.specs.Space.Tickets.{BeginsEvict, BeginsFetch, CommitsEvict, CommitsFetch, IsWritten, WaitsForBytes}
 use Rattle.wh_host_model.specs.Space.Provide.{FailsToProvide, FailsTruly, Provides, ProvidesTruly}
 use Rattle.wh_host_model.specs.Host.Misreading.{AllSeeAsMany}
-use Rattle.wh_host_model.specs.Host.Spaces.{AllLeftAlone, Arrives, Departs, StandsAlone, StepsAlone}
+use Rattle.wh_host_model.specs.Host.Spaces.{AllLeftAlone, Arrives, Departs, WaitsAlone, StepsAlone}
 
 -- ---- steps of one instance, and what it sees after them
 
@@ -41,17 +41,17 @@ GrowthSteps =
 
 -- ---- where a turn or a request leaves it
 
--- it stands for a frame at bytes for which it may stand, or for none
-abbrev pub StandsWell : Type 0
-StandsWell =
+-- it waits for a frame at bytes for which it may stand, or for none
+abbrev pub WaitsWell : Type 0
+WaitsWell =
     (s : Space) (i : ℕ) (t : Occupant) (need : Option Need) → IsSound s → occupant_at s i t → t.live ≡ true
-    → ((want : Need) → need ≡ Some want → MayStandFor s i t want) → StandsAlone i need s (stood s i need)
+    → ((want : Need) → need ≡ Some want → MayWaitFor s i t want) → WaitsAlone i need s (stood s i need)
 
 -- its step was taken, or its call cancelled: its pins end too
 abbrev pub EndsWell : Type 0
 EndsWell =
     (s : Space) (i : ℕ) (t : Occupant) → IsSound s → occupant_at s i t → t.live ≡ true
-    → StandsAlone i None s (ended s i) × HasNoPins (ended s i) i
+    → WaitsAlone i None s (ended s i) × HasNoPins (ended s i) i
 
 -- ---- moves that leave all alone
 
@@ -91,12 +91,12 @@ FetchesEnd =
 -- a provision, and one that fails, where the device tells what its slots hold
 abbrev pub ProvisionsLeaveAll : Type 0
 ProvisionsLeaveAll =
-    (s : Space) (i : ℕ) (need : Need) (n : ℕ) (s2 : Space) → IsSound s → tickets s ≡ 0 → StandsForFrame s i need
+    (s : Space) (i : ℕ) (need : Need) (n : ℕ) (s2 : Space) → IsSound s → tickets s ≡ 0 → WaitsForBytes s i need
     → ProvidesTruly s i need n s2 → AllLeftAlone s s2
 
 abbrev pub FailuresLeaveAll : Type 0
 FailuresLeaveAll =
-    (s : Space) (i : ℕ) (need : Need) (s2 : Space) → IsSound s → tickets s ≡ 0 → StandsForFrame s i need
+    (s : Space) (i : ℕ) (need : Need) (s2 : Space) → IsSound s → tickets s ≡ 0 → WaitsForBytes s i need
     → FailsTruly s i need s2 → AllLeftAlone s s2
 
 -- ---- the same moves whatever bytes the device gives
@@ -108,12 +108,12 @@ FetchesSeeAsMany =
 
 abbrev pub ProvisionsSeeAsMany : Type 0
 ProvisionsSeeAsMany =
-    (s : Space) (i : ℕ) (need : Need) (n : ℕ) (s2 : Space) → IsSound s → tickets s ≡ 0 → StandsForFrame s i need
+    (s : Space) (i : ℕ) (need : Need) (n : ℕ) (s2 : Space) → IsSound s → tickets s ≡ 0 → WaitsForBytes s i need
     → Provides s i need n s2 → AllSeeAsMany s s2
 
 abbrev pub FailuresSeeAsMany : Type 0
 FailuresSeeAsMany =
-    (s : Space) (i : ℕ) (need : Need) (s2 : Space) → IsSound s → tickets s ≡ 0 → StandsForFrame s i need
+    (s : Space) (i : ℕ) (need : Need) (s2 : Space) → IsSound s → tickets s ≡ 0 → WaitsForBytes s i need
     → FailsToProvide s i need s2 → AllSeeAsMany s s2
 
 -- ---- coming and going

@@ -22,7 +22,7 @@ pub data Event : Type 0 where
   release : (id : InstId) → Event
   -- a page is offered for sharing, under any hash value
   offer : (page : PageId) (hash : ℕ) → Event
-  -- a page is to leave, or to come, for an instance that stands for a frame; and that is committed, by the ticket of
+  -- a page is to leave, or to come, for an instance that waits for a frame; and that is committed, by the ticket of
   -- the call at this place in its journal, with the fault of the device if the answer is that it failed
   evict_begin : (id : InstId) → Event
   evict_commit : (id : InstId) (call : ℕ) (fault : Option SwapError) → Event

@@ -8,9 +8,9 @@ use Rattle.wh_host_model.specs.Space.Parts.{Space}
 use Rattle.wh_host_model.specs.Host.Spaces.{AllLeftAlone}
 use Rattle.wh_host_model.specs.Host.Worlds.{for_frame, for_device, Tenant, Loaded, World, tenant, with_tenant}
 use Rattle.wh_host_model.specs.Owners.{Params, AdmitFault, InvokeFault}
-use Rattle.wh_host_model.specs.Host.Answers.{Turn}
-use Rattle.wh_host_model.specs.Host.Calls.{Meets, IsFirst, TakesCall, Refuels, Cancels, Retries}
-use Rattle.wh_host_model.specs.Host.Admission.{LoadFault, RefusesLoad, LoadWant, MayWant, LoadsModule, MeetsFault, IsFirstMet, LetsIn, LetsGo}
+use Rattle.wh_host_model.specs.Host.CallAnswers.{Turn}
+use Rattle.wh_host_model.specs.Host.OwnerCalls.{Meets, IsFirst, TakesCall, Refuels, Cancels, Retries}
+use Rattle.wh_host_model.specs.Host.Admission.{LoadFault, RefusesLoad, LoadOutOfMemory, MayRunOut, LoadsModule, MeetsFault, IsFirstMet, LetsIn, LetsGo}
 use Rattle.wh_host_model.specs.Host.Events.{Event, turn, load, admit, invoke, refuel, cancel, retry, release, offer, evict_begin, evict_commit, fetch_begin, fetch_commit, provide, epoch}
 
 -- the number is that of a live instance, and it lies there
@@ -21,7 +21,7 @@ IsLive w id t = (tenant w id.number ≡ Some t) × (t.place ≡ id.place)
 abbrev pub NoInstance : World → InstId → Type 0
 NoInstance w id = (t : Tenant) → ¬ (IsLive w id t)
 
--- ---- one relation a request, with its answer; at every refusal, want of memory included, the host is as it was
+-- ---- one relation a request, with its answer; at every refusal, out of memory included, the host is as it was
 
 -- a turn
 pub data IsTurn (w : World) (id : InstId) (q : ℕ) : TurnEnd → World → Type 0 where
@@ -32,28 +32,28 @@ pub data IsTurn (w : World) (id : InstId) (q : ℕ) : TurnEnd → World → Type
 pub data LoadAnswer : Type 0 where
   load_ok : (number : ℕ) → LoadAnswer
   load_refused : LoadFault → LoadAnswer
-  load_wants_memory : LoadWant → LoadAnswer
+  load_out_of_memory : LoadOutOfMemory → LoadAnswer
 
 pub data IsLoad (w : World) (bytes : List ℕ) : LoadAnswer → World → Type 0 where
   is_loaded : {number : ℕ} {w2 : World} → LoadsModule w bytes number w2 → IsLoad w bytes (load_ok number) w2
   isnt_loaded : {fault : LoadFault} → RefusesLoad w bytes fault → IsLoad w bytes (load_refused fault) w
-  no_memory_to_load : {want : LoadWant} → MayWant w bytes want → IsLoad w bytes (load_wants_memory want) w
+  no_memory_to_load : {want : LoadOutOfMemory} → MayRunOut w bytes want → IsLoad w bytes (load_out_of_memory want) w
 
 pub data AdmitAnswer : Type 0 where
   admit_ok : InstId → AdmitAnswer
   admit_refused : AdmitFault → AdmitAnswer
-  admit_wants_memory : AdmitAnswer
+  admit_out_of_memory : AdmitAnswer
 
 pub data IsAdmit (w : World) (k : ℕ) (p : Params) : AdmitAnswer → World → Type 0 where
   is_admitted : {id : InstId} {w2 : World} → LetsIn w k p id.place id.number w2 → IsAdmit w k p (admit_ok id) w2
   isnt_admitted : {fault : AdmitFault} → IsFirstMet w k p fault → IsAdmit w k p (admit_refused fault) w
-  no_memory_to_admit : ((fault : AdmitFault) → ¬ (MeetsFault w k p fault)) → IsAdmit w k p admit_wants_memory w
+  no_memory_to_admit : ((fault : AdmitFault) → ¬ (MeetsFault w k p fault)) → IsAdmit w k p admit_out_of_memory w
 
 pub data InvokeAnswer : Type 0 where
   invoke_ok : (at : ℕ) → InvokeAnswer
   invoke_no_instance : InvokeAnswer
   invoke_refused : InvokeFault → InvokeAnswer
-  invoke_wants_memory : InvokeAnswer
+  invoke_out_of_memory : InvokeAnswer
 
 pub data IsInvoke (w : World) (id : InstId) (name : List ℕ) (given : List ℤ) (fuel : ℕ)
     : InvokeAnswer → World → Type 0 where
@@ -66,7 +66,7 @@ pub data IsInvoke (w : World) (id : InstId) (name : List ℕ) (given : List ℤ)
       → IsInvoke w id name given fuel (invoke_refused fault) w
   no_memory_to_invoke : {t : Tenant} {l : Loaded}
       → IsLive w id t → slice_get w.modules t.of ≡ Some l → ((fault : InvokeFault) → ¬ (Meets l.m t name given fault))
-      → IsInvoke w id name given fuel invoke_wants_memory w
+      → IsInvoke w id name given fuel invoke_out_of_memory w
 
 -- the answers to refuel, cancel and retry
 pub data CallAnswer : Type 0 where
@@ -99,9 +99,9 @@ pub data IsRelease (w : World) (id : InstId) : Option (List ℕ) → World → T
 
 -- ---- pages that move
 
--- its present call stands for a frame, and for no device fault
+-- its present call waits for a frame, and for no device fault
 abbrev pub AwaitsFrame : Tenant → Type 0
-AwaitsFrame t = t.stands_for ≡ Some for_frame
+AwaitsFrame t = t.waiting_for ≡ Some for_frame
 
 -- and is the one at this place of its journal
 abbrev pub AwaitsFrameFor : ℕ → Tenant → Type 0
@@ -116,7 +116,7 @@ pub data MovesPages (w : World) (id : InstId) (awaits : Tenant → Type 0) (faul
       → MovesPages w id awaits fault (record w { space = s2 })
   has_failed : {t : Tenant} {e : SwapError} {s2 : Space}
       → AllLeftAlone w.space s2 → fault ≡ Some e → IsLive w id t → awaits t
-      → MovesPages w id awaits fault (with_tenant w id.number (Some (record t { stands_for = Some (for_device e) })) s2)
+      → MovesPages w id awaits fault (with_tenant w id.number (Some (record t { waiting_for = Some (for_device e) })) s2)
 
 -- pages are moved or merged, and no device has failed
 abbrev pub OnlyMoves : World → World → Type 0

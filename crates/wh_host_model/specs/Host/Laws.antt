@@ -15,13 +15,13 @@ use Rattle.wh_host_model.specs.Space.Sound.{IsSound}
 use Rattle.wh_host_model.specs.Space.Ready.{Ready}
 use Rattle.wh_host_model.specs.Host.Worlds.{computing, Tenant, Loaded, World, promised, journal, journal_calls, store_in, standing_in, tenant, empty_world}
 use Rattle.wh_host_model.specs.Owners.{given_of, most_calls, most_open}
-use Rattle.wh_host_model.specs.Host.Answers.{Turn}
-use Rattle.wh_host_model.specs.Host.Calls.{open_count}
+use Rattle.wh_host_model.specs.Host.CallAnswers.{Turn}
+use Rattle.wh_host_model.specs.Host.OwnerCalls.{open_count}
 use Rattle.wh_model.specs.Linking.Accepting.{IsAccepted}
 use Rattle.wh_host_model.specs.Host.Events.{Event}
 use Rattle.wh_host_model.specs.Host.Happens.{Happens, AllHappen}
 use Rattle.wh_host_model.specs.Host.Journals.{InOrder}
-use Rattle.wh_host_model.specs.Host.Standing.{StandsRightly}
+use Rattle.wh_host_model.specs.Host.Suspensions.{WaitsRightly}
 
 -- it holds after every list of events from an empty host
 abbrev pub AfterEvents : (World → Type 0) → Type 0
@@ -91,7 +91,7 @@ JournalsAreInOrder = AfterEvents (EachHas HasJournal)
 
 -- what the present call stands for is right
 abbrev pub SuspensionsAreRight : Type 0
-SuspensionsAreRight = AfterEvents (EachHas (λ w t. StandsRightly w.space t))
+SuspensionsAreRight = AfterEvents (EachHas (λ w t. WaitsRightly w.space t))
 
 -- ---- a turn's answers
 

@@ -73,7 +73,7 @@ JournalsStayInOrder = HoldsAnyhow (EachHas HasJournal)
 abbrev pub InputsStay : Type 0
 InputsStay = HoldsAnyhow (EachHas (λ w t. t.rest.inputs ≡ t.params.inputs))
 
--- who stands for a frame stands for some bytes
+-- who waits for a frame stands for some bytes
 abbrev pub FramesAreAwaited : Type 0
 FramesAreAwaited =
-    HoldsAnyhow (EachHas (λ w t. t.stands_for ≡ Some for_frame → (need : Need) × (wants w.space t.place ≡ Some need)))
+    HoldsAnyhow (EachHas (λ w t. t.waiting_for ≡ Some for_frame → (need : Need) × (wants w.space t.place ≡ Some need)))

@@ -7,7 +7,7 @@ use Rattle.wh_host_model.specs.declared.plain.TurnEnd.TheVariants.{Idle, Fuel}
 use Rattle.wh_host_model.specs.Host.Worlds.{Tenant, Loaded, World, for_fuel, with_tenant}
 use Rattle.wh_host_model.specs.Owners.{Entry}
 use Rattle.wh_host_model.specs.Owners.{Params, given_of, AdmitFault, most_modules, InvokeFault, most_fuel}
-use Rattle.wh_host_model.specs.Host.Calls.{Meets}
+use Rattle.wh_host_model.specs.Host.OwnerCalls.{Meets}
 use Rattle.wh_model.specs.Execution.Instance.{AreGiven}
 use Rattle.wh_host_model.specs.Space.Parts.{Space}
 use Rattle.wh_model.specs.Linking.Accepting.{IsAccepted}
@@ -15,7 +15,7 @@ use Rattle.wh_host_model.specs.Host.Admission.{MeetsFault}
 use Rattle.wh_host_model.specs.Host.Events.{Event}
 use Rattle.wh_host_model.specs.Host.Happens.{Happens, IsLive, IsTurn, IsLoad, load_ok, IsAdmit, admit_ok, IsInvoke, invoke_ok}
 use Rattle.wh_host_model.specs.Host.Laws.{AfterEvents}
-use Rattle.wh_host_model.specs.Host.Taking.{IsStepReady, HasGoneOn}
+use Rattle.wh_host_model.specs.Host.TakenSteps.{IsStepReady, HasGoneOn}
 
 -- whatever is asked for can happen, with some answer
 abbrev pub EventsHappen : Type 0
@@ -48,10 +48,10 @@ IdleTurnsHappen =
     AfterEvents (λ w. (id : InstId) (q : ℕ) → ((t : Tenant) → IsLive w id t → t.open_calls ≡ [])
     → (w2 : World) × IsTurn w id q Idle w2)
 
--- and one of an instance that stands for fuel is answered Fuel again
+-- and one of an instance that waits for fuel is answered Fuel again
 abbrev pub FuelTurnsHappen : Type 0
 FuelTurnsHappen =
-    AfterEvents (λ w. (id : InstId) (q : ℕ) (t : Tenant) → IsLive w id t → t.stands_for ≡ Some for_fuel
+    AfterEvents (λ w. (id : InstId) (q : ℕ) (t : Tenant) → IsLive w id t → t.waiting_for ≡ Some for_fuel
     → (w2 : World) × IsTurn w id q Fuel w2)
 
 -- and where the next step is ready, a piece or a charge, a turn can happen that takes it

@@ -38,9 +38,9 @@ pub record StepsAlone (i : ℕ) (s s2 : Space) : Type 0 where
   pub claim : claim s2 i ≡ claim s i
   pub sound : IsSound s2
 
--- A turn or a request leaves it, and it stands for these bytes, or for none: it sees what it saw, and what was ready
+-- A turn or a request leaves it, and it waits for these bytes, or for none: it sees what it saw, and what was ready
 -- is ready.
-pub record StandsAlone (i : ℕ) (stands : Option Need) (s s2 : Space) : Type 0 where
+pub record WaitsAlone (i : ℕ) (stands : Option Need) (s s2 : Space) : Type 0 where
   pub steps : StepsAlone i s s2
   pub view : view s2 i ≡ view s i
   pub wants : wants s2 i ≡ stands

@@ -46,7 +46,7 @@ pub record Tenant : Type 0 where
   pub doing : Doing
   pub ended : List Entry
   pub open_calls : List Entry
-  pub stands_for : Option Suspension
+  pub waiting_for : Option Suspension
   pub dead : Bool
 
 -- a module that was loaded, and the bytes that spell it

@@ -10,14 +10,14 @@ use Rattle.wh_host_model.specs.Space.Errands.{tickets}
 use Rattle.wh_host_model.specs.Space.Sound.{IsSound}
 use Rattle.wh_host_model.specs.Space.Offers.{Offers}
 use Rattle.wh_host_model.specs.Space.Scanning.{IsDistinct, IsFullPass, Scans}
-use Rattle.wh_host_model.specs.Space.Tickets.{BeginsEvict, BeginsFetch, CommitsEvict, CommitsFetch, IsWritten, StandsForFrame}
+use Rattle.wh_host_model.specs.Space.Tickets.{BeginsEvict, BeginsFetch, CommitsEvict, CommitsFetch, IsWritten, WaitsForBytes}
 use Rattle.wh_host_model.specs.Space.Stores.{Epochs, Grew, Overwrites, Touches, ended, stood}
 use Rattle.wh_host_model.specs.Space.Places.{Enters, Exits}
 use Rattle.wh_host_model.specs.Space.Provide.{FailsToProvide, Provides}
 
 -- the bytes lie in the table of this live instance, and are at most a page's
-abbrev pub MayStandFor : Space → ℕ → Occupant → Need → Type 0
-MayStandFor s i t need =
+abbrev pub MayWaitFor : Space → ℕ → Occupant → Need → Type 0
+MayWaitFor s i t need =
     (t.live ≡ true) × (need.at + need.length ≤ 4096 * length (get_or s.tables i [])) × (need.length ≤ 4096)
 
 -- One thing befalls the memory.
@@ -26,7 +26,7 @@ pub data Befalls (hashes : List ℕ → ℕ) (s s2 : Space) : Type 0 where
   stores : (i at : ℕ) (given : List ℕ) → Overwrites s i at given s2 → Befalls hashes s s2
   new_epoch : Epochs s s2 → Befalls hashes s s2
   stands : (i : ℕ) (t : Occupant) (need : Option Need) → occupant_at s i t
-      → ((want : Need) → need ≡ Some want → MayStandFor s i t want) → s2 ≡ stood s i need → Befalls hashes s s2
+      → ((want : Need) → need ≡ Some want → MayWaitFor s i t want) → s2 ≡ stood s i need → Befalls hashes s s2
   ends : (i : ℕ) (t : Occupant) → occupant_at s i t → s2 ≡ ended s i → Befalls hashes s s2
   offered : (i p hash : ℕ) (answer : Offer) → Offers hashes s i p hash answer s2 → Befalls hashes s s2
   begins_evict : (i : ℕ) (slot : Option ℕ) (bytes : List ℕ) → BeginsEvict s i slot bytes s2 → Befalls hashes s s2
@@ -36,9 +36,9 @@ pub data Befalls (hashes : List ℕ → ℕ) (s s2 : Space) : Type 0 where
   begins_fetch : (i : ℕ) (slot : Option ℕ) → BeginsFetch s i slot s2 → Befalls hashes s s2
   commits_fetch : (k : ℕ) (read : Bool) (bytes : List ℕ) (end : FetchEnd) → CommitsFetch s k read bytes end s2
       → Befalls hashes s s2
-  provides : (i n : ℕ) (need : Need) → tickets s ≡ 0 → StandsForFrame s i need → Provides s i need n s2
+  provides : (i n : ℕ) (need : Need) → tickets s ≡ 0 → WaitsForBytes s i need → Provides s i need n s2
       → Befalls hashes s s2
-  fails : (i : ℕ) (need : Need) → tickets s ≡ 0 → StandsForFrame s i need → FailsToProvide s i need s2
+  fails : (i : ℕ) (need : Need) → tickets s ≡ 0 → WaitsForBytes s i need → FailsToProvide s i need s2
       → Befalls hashes s s2
   grows : (i n : ℕ) (t : Occupant) → occupant_at s i t → t.live ≡ true
       → length (get_or s.tables i []) + 16 * n ≤ t.max → Grew s i n s2 → Befalls hashes s s2
@@ -53,7 +53,7 @@ Follows hashes s (suc n) s2 = (mid : Space) × Follows hashes s n mid × Befalls
 -- a provision that fails leaves all sound
 abbrev pub FailsSoundly : Type 0
 FailsSoundly =
-    (s : Space) (i : ℕ) (need : Need) (s2 : Space) → IsSound s → tickets s ≡ 0 → StandsForFrame s i need
+    (s : Space) (i : ℕ) (need : Need) (s2 : Space) → IsSound s → tickets s ≡ 0 → WaitsForBytes s i need
     → FailsToProvide s i need s2 → IsSound s2
 
 -- a memory in which nobody is yet is sound

@@ -25,9 +25,9 @@ WritesSoundly =
     (s : Space) (k : ℕ) (bytes : List ℕ) (wrote : Bool) (s2 : Space) → IsSound s → IsWritten s k bytes wrote s2
     → IsSound s2
 
--- to stand for a frame at bytes that are in the table of a live instance, or for none
-abbrev pub StandsSoundly : Type 0
-StandsSoundly =
+-- to wait for a frame at bytes that are in the table of a live instance, or for none
+abbrev pub WaitsSoundly : Type 0
+WaitsSoundly =
     (s : Space) (i : ℕ) (t : Occupant) (need : Option Need) → IsSound s → occupant_at s i t
     → ((want : Need) → need ≡ Some want
     → (t.live ≡ true) × (want.at + want.length ≤ 4096 * length (get_or s.tables i [])) × (want.length ≤ 4096))

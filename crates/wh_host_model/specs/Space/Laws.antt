@@ -14,7 +14,7 @@ use Rattle.wh_host_model.specs.Space.Charges.{IsChargedFor, frame_charge, charge
 use Rattle.wh_host_model.specs.Space.Claims.{CanLeave, MustLeave, NoneMustLeave}
 use Rattle.wh_host_model.specs.Space.Moves.{Evicts, Fetches}
 use Rattle.wh_host_model.specs.Space.Provide.{IsServing, LacksFree, HasPinned, Move, OthersKeepMinimum, Provides, Serves, leaves}
-use Rattle.wh_host_model.specs.Space.Tickets.{BeginsEvict, BeginsFetch, CommitsEvict, CommitsFetch, StandsForFrame}
+use Rattle.wh_host_model.specs.Space.Tickets.{BeginsEvict, BeginsFetch, CommitsEvict, CommitsFetch, WaitsForBytes}
 
 -- whether a step is ready can be told
 abbrev pub ReadyIsDecided : Type 0
@@ -79,7 +79,7 @@ FetchKeepsBytes =
 abbrev pub MovesAreFew : Type 0
 MovesAreFew =
     (s : Space) (i : ℕ) (need : Need) (moves : List Move) (mid : Space) → IsSound s → tickets s ≡ 0
-    → StandsForFrame s i need
+    → WaitsForBytes s i need
     → Serves s i need moves mid → tally leaves moves ≤ count resident s.tables + 2
 
 -- After a provision all is sound, the step ready and pinned, so many pages have left at most, and no other instance is
@@ -93,7 +93,7 @@ pub record IsProvided (s : Space) (i : ℕ) (need : Need) (n : ℕ) (s2 : Space)
 
 abbrev pub ProvisionIsRight : Type 0
 ProvisionIsRight =
-    (s : Space) (i : ℕ) (need : Need) (n : ℕ) (s2 : Space) → IsSound s → tickets s ≡ 0 → StandsForFrame s i need
+    (s : Space) (i : ℕ) (need : Need) (n : ℕ) (s2 : Space) → IsSound s → tickets s ≡ 0 → WaitsForBytes s i need
     → Provides s i need n s2
     → IsProvided s i need n s2
 

@@ -26,7 +26,7 @@ pub record Occupant : Type 0 where
   pub shares : ℕ
   pub min : ℕ
   pub max : ℕ
-  -- the bytes of the step for which it stands, where it stands for a frame
+  -- the bytes of the step for which it stands, where it waits for a frame
   pub stands : Option Need
   -- the slot of the ticket with which a page of it leaves, void or not
   pub leaves : Option ℕ
@@ -102,7 +102,7 @@ abbrev pub need_of : Option Occupant → Option Need
 need_of None = None
 need_of (Some t) = cond t.live t.stands None
 
--- the bytes of the step for which the live instance at a place stands, if it stands for a frame
+-- the bytes of the step for which the live instance at a place stands, if it waits for a frame
 abbrev pub wants : Space → ℕ → Option Need
 wants s i = need_of (get_or s.occupants i None)
 

@@ -30,7 +30,7 @@ WritesQuietly =
     (s : Space) (k : ℕ) (bytes : List ℕ) (wrote : Bool) (s2 : Space) → IsSound s → IsWritten s k bytes wrote s2
     → all_bytes s2 ≡ all_bytes s
 
--- nor does a load, a new epoch, or whether an instance stands for a frame
+-- nor does a load, a new epoch, or whether an instance waits for a frame
 pub record KeepsBytes (s : Space) (i : ℕ) : Type 0 where
   pub touches : (first n : ℕ) (s2 : Space) → Touches s i first n s2 → all_bytes s2 ≡ all_bytes s
   pub epochs : (s2 : Space) → Epochs s s2 → all_bytes s2 ≡ all_bytes s

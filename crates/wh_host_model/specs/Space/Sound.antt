@@ -97,7 +97,7 @@ HasTable (Some t) table =
     (2 ≤ t.min) × (t.min ≤ t.max) × (length table ≤ t.max) × (t.live ≡ false → table ≡ [])
     × (t.max ≤ 65536) × (1 ≤ t.shares) × (t.shares ≤ 1000000) × ((n : ℕ) × (length table ≡ 16 * n))
 
--- A released instance has a ticket out. One that stands for a frame is live, and the bytes are in its table.
+-- A released instance has a ticket out. One that waits for a frame is live, and the bytes are in its table.
 pub record OccupantsAreSound (s : Space) : Type 0 where
   pub tables : length s.tables ≡ length s.occupants
   pub touched : length s.touched ≡ length s.occupants

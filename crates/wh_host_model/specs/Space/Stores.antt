@@ -1,4 +1,4 @@
--- What the steps of an instance leave: loads, stores and growth, and where it stands and no longer stands for a frame.
+-- What the steps of an instance leave: loads, stores and growth, and where it stands and no longer waits for a frame.
 -- And what a new epoch leaves.
 use Rattle.std.specs.Prelude.{ℕ, ◌≡◌, ◌*◌, ◌++◌, map, replicate, Bool, true, false, List, [], ◌∷◌, Option, Some, None, length, get_or, slice_set}
 use Rattle.wh_model.specs.declared.memory.Need.{Need}
@@ -50,13 +50,13 @@ Grew s i n s2 = s2 ≡ record s {
 abbrev pub Epochs : Space → Space → Type 0
 Epochs s s2 = s2 ≡ record s { touched = map (map (λ mark. false)) s.touched }
 
--- the instance stands for a frame at these bytes, or doesn't stand for one
-abbrev pub standing_for : Option Occupant → Option Need → Option Occupant
-standing_for None need = None
-standing_for (Some t) need = Some (record t { stands = need })
+-- the instance waits for a frame at these bytes, or doesn't stand for one
+abbrev pub awaiting : Option Occupant → Option Need → Option Occupant
+awaiting None need = None
+awaiting (Some t) need = Some (record t { stands = need })
 
 abbrev pub stood : Space → ℕ → Option Need → Space
-stood s i need = record s { occupants = slice_set s.occupants i (standing_for (get_or s.occupants i None) need) }
+stood s i need = record s { occupants = slice_set s.occupants i (awaiting (get_or s.occupants i None) need) }
 
 -- The step for which it stood was taken, or its call cancelled: its pins and earmarks end with it.
 abbrev pub ended : Space → ℕ → Space

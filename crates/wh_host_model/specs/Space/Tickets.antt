@@ -17,9 +17,9 @@ use Rattle.wh_host_model.specs.Space.Ready.{frames_in_all, may_take}
 use Rattle.wh_host_model.specs.Space.Claims.{MustLeave, NoneMustLeave}
 use Rattle.wh_host_model.specs.Space.Moves.{pinned, Earmarks, IsFirstSwapped, departed, frame_of}
 
--- the instance is there, and stands for a frame at these bytes
-abbrev pub StandsForFrame : Space → ℕ → Need → Type 0
-StandsForFrame s i need = (t : Occupant) × occupant_at s i t × (t.live ≡ true) × (t.stands ≡ Some need)
+-- the instance is there, and waits for a frame at these bytes
+abbrev pub WaitsForBytes : Space → ℕ → Need → Type 0
+WaitsForBytes s i need = (t : Occupant) × occupant_at s i t × (t.live ≡ true) × (t.stands ≡ Some need)
 
 -- The step's resident pages are pinned for the instance, and frames earmarked: as many as it wants, or all that are
 -- free. Another's pins and earmarks, and its own earlier ones, have ended.
@@ -57,14 +57,14 @@ departing s j p k others page = record (with_leaving (with_slot s k (Evicting j 
 }
 
 -- An eviction begins for the instance at place i: a ticket for a slot, with the bytes that are to be written; or none,
--- where it doesn't stand for a frame, lacks none, no slot is vacant, or there is no page to take.
+-- where it doesn't wait for a frame, lacks none, no slot is vacant, or there is no page to take.
 abbrev pub BeginsEvict : Space → ℕ → Option ℕ → List ℕ → Space → Type 0
 BeginsEvict s i None bytes s2 =
-    (((need : Need) → ¬ StandsForFrame s i need) × (s2 ≡ s))
-    ⊎ ((need : Need) × StandsForFrame s i need × Reserves s i need s2
+    (((need : Need) → ¬ WaitsForBytes s i need) × (s2 ≡ s))
+    ⊎ ((need : Need) × WaitsForBytes s i need × Reserves s i need s2
     × ((frames_in_all s2 i need ≤ may_take s2 i) ⊎ ((s2.slots.vacant ≡ []) ⊎ NoneMustLeave s2 i need)))
 BeginsEvict s i (Some k) bytes s2 =
-    (need : Need) × StandsForFrame s i need × (s1 : Space) × Reserves s i need s1
+    (need : Need) × WaitsForBytes s i need × (s1 : Space) × Reserves s i need s1
     × (may_take s1 i < frames_in_all s1 i need)
     × (j p f : ℕ) × MustLeave s1 i need j p × (old new : Page) × (page_at s1.tables j p ≡ Some old)
     × (frame_of old ≡ Some f)
@@ -146,14 +146,14 @@ sent_for s i p f k others = let a : Space = with_slot s k (Fetching i p f) in re
 }
 
 -- A fetch begins for the instance at place i: a ticket for the slot of its step's first swapped page; or none, where
--- it doesn't stand for a frame, has no such page, or has no frame to take.
+-- it doesn't wait for a frame, has no such page, or has no frame to take.
 abbrev pub BeginsFetch : Space → ℕ → Option ℕ → Space → Type 0
 BeginsFetch s i None s2 =
-    (((need : Need) → ¬ StandsForFrame s i need) × (s2 ≡ s))
-    ⊎ ((need : Need) × StandsForFrame s i need × Reserves s i need s2
+    (((need : Need) → ¬ WaitsForBytes s i need) × (s2 ≡ s))
+    ⊎ ((need : Need) × WaitsForBytes s i need × Reserves s i need s2
     × (((p : ℕ) → ¬ IsFirstSwapped s2 i need p) ⊎ (may_take s2 i ≡ 0)))
 BeginsFetch s i (Some k) s2 =
-    (need : Need) × StandsForFrame s i need × (s1 : Space) × Reserves s i need s1
+    (need : Need) × WaitsForBytes s i need × (s1 : Space) × Reserves s i need s1
     × (p f : ℕ) × IsFirstSwapped s1 i need p × (page_at s1.tables i p ≡ Some (Swapped k))
     × (others : List ℕ) × (kept_by s1.pins i ≡ others ++ f ∷ [])
     × (s2 ≡ sent_for s1 i p f k others)

@@ -1,7 +1,7 @@
 use Rattle.std.proofs.Common.{map, subst, ◌∙◌}
 use Rattle.wh_syntax.specs.View.{view_module}
-use Rattle.wh_bodies.specs.Views.{view_side}
-use Rattle.wh_validate.specs.Soundness.{IsChecked}
+use Rattle.wh_bodies.specs.View.{view_side}
+use Rattle.wh_validate.specs.CheckedBodies.{IsChecked}
 use Rattle.wh_imports.specs.Resolving.{IsResolved}
 use Rattle.wh_initial.specs.Begins.{first_store}
 use Rattle.bench_machine.proofs.Callable.{represented}

@@ -8,11 +8,11 @@ use Rattle.wh_initial.specs.Begins.{Instantiates, first_store}
 use Rattle.wh_initial.specs.declared.outcome.Instantiated.{Instantiated}
 use Rattle.wh_instance.specs.Beginning.{BeginsTenant}
 use Rattle.wh_instance.specs.Invoked.{IsSomeTenant}
-use Rattle.wh_instance.specs.Tenancy.{TenantState}
+use Rattle.wh_instance.specs.Tenancy.{HostInstanceState}
 use Rattle.test_parts.proofs.arguments.begin.Goals as goal
 
 -- one that has begun stands for one of the definitions', whatever numbers its owner gave
-begun_tenant : (l : LinkedState) (p : Parameters) (begun : Instantiated) (fuel : ℕ) (x : TenantState)
+begun_tenant : (l : LinkedState) (p : Parameters) (begun : Instantiated) (fuel : ℕ) (x : HostInstanceState)
     → Instantiates (view_module l.valid.decoded) p begun → BeginsTenant l begun fuel x → IsSomeTenant l x
 begun_tenant l p begun fuel x i begins =
     let made = begins p i in
@@ -25,10 +25,10 @@ begun_tenant l p begun fuel x i begins =
       doing = made.0;
       ended = made.1;
       open_calls = made.2;
-      stands_for = None;
+      waiting_for = None;
       dead = false;
     } in
-    (begun.page_limit, replicate (begun.pages * 65536) 0, t, made.4 t (record { inst_is = refl; rest = refl; doing = refl; ended_are = refl; open_are = refl; stands_for = refl; dead = refl }))
+    (begun.page_limit, replicate (begun.pages * 65536) 0, t, made.4 t (record { inst_is = refl; rest = refl; doing = refl; ended_are = refl; open_are = refl; waiting_for = refl; dead = refl }))
 
 pub returns-2 : goal.returns-2
 returns-2 c = begun_tenant c.args.linked.now _ _ _ _ c.in_ok-begun.ensures.ok c.in_ok-new.ensures

@@ -5,4 +5,4 @@ use Rattle.test_space.proofs.paging.stored.Goals as goal
 
 pub returns : goal.returns
 returns g c =
-    same_pass c.args.memory.now c.store.new.self _ (keeps_store c.args.memory.now c.args.place c.args.at (c.args.byte ∷ []) c.store.result c.store.new.self c.known.ensures.sound c.store.ensures.leaves).pass c.requires
+    same_pass c.args.memory.now c.store.new.self _ (keeps_store c.args.memory.now c.args.place c.args.at (c.args.byte ∷ []) c.store.result c.store.new.self c.invariant.ensures.sound c.store.ensures.leaves).pass c.requires

@@ -1,6 +1,6 @@
 use Rattle.std.proofs.Common.{map, string_bytes}
 use Rattle.clap.specs.Words.{HasMatchesOf, IsParsedFrom, app_of}
-use Rattle.wasmhost_program.specs.Found.{FindsIn}
+use Rattle.wasmhost_program.specs.ParsedArguments.{FindsIn}
 use Rattle.wasmhost_program.proofs.Parsed.{finds_in, if_both}
 use Rattle.wasmhost_program.proofs.arguments.matches_of.Goals as goal
 

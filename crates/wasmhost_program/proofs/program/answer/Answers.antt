@@ -1,5 +1,5 @@
 use Rattle.std.proofs.Common.{◌∙◌, map, refl, string_bytes, subst, sym}
-use Rattle.wasmhost_program.specs.Written.{EndsSo, HasServedSo, is_unread}
+use Rattle.wasmhost_program.specs.ProgramOutput.{EndsSo, HasServedSo, is_unread}
 use Rattle.wasmhost_program.proofs.Runs.{asked_ends, ends_stopped, ends_well}
 use Rattle.wasmhost_program.proofs.program.answer.Goals.{in-Ok, in-Err-Memory, in-Ok-outcome, in-Err}
 use Rattle.wasmhost_program.proofs.program.answer.Goals as goal

@@ -1,6 +1,6 @@
 use Rattle.std.proofs.Common.{option_map}
 use Rattle.wh_settings.specs.View.{settings_of}
-use Rattle.wasmhost_program.specs.Written.{has_settings}
+use Rattle.wasmhost_program.specs.ProgramOutput.{has_settings}
 use Rattle.wasmhost_program.proofs.Runs.{no_settings}
 use Rattle.wasmhost_program.proofs.program.run_given.Goals as goal
 

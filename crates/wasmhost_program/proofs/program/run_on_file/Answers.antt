@@ -2,7 +2,7 @@ use denote.Exit.{no}
 use denote.Param.Send.{arg_send, param_send}
 use Rattle.std.proofs.Common.{option_map}
 use Rattle.wh_settings.specs.View.{settings_of}
-use Rattle.wasmhost_program.specs.Written.{has_run}
+use Rattle.wasmhost_program.specs.ProgramOutput.{has_run}
 use Rattle.wasmhost_program.proofs.Runs.{no_device, served_back}
 use Rattle.wasmhost_program.proofs.Sent.{swap_send}
 use Rattle.wasmhost_program.proofs.program.run_on_file.Goals as goal

@@ -1,6 +1,6 @@
 use Rattle.std.proofs.Common.{option_map, refl, subst, sym}
 use Rattle.wh_settings.specs.View.{settings_of}
-use Rattle.wasmhost_program.specs.Written.{RunsScript}
+use Rattle.wasmhost_program.specs.ProgramOutput.{RunsScript}
 use Rattle.wasmhost_program.proofs.program.run_over.Goals as goal
 
 pub returns : goal.returns

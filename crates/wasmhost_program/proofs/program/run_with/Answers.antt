@@ -1,5 +1,5 @@
 use Rattle.std.proofs.Common.{ap, is_some, option_map, refl, string_bytes}
-use Rattle.wasmhost_program.specs.Written.{has_no_swap, has_run}
+use Rattle.wasmhost_program.specs.ProgramOutput.{has_no_swap, has_run}
 use Rattle.wasmhost_program.proofs.program.run_with.Goals as goal
 
 pub returns-in_default : goal.returns-in_default

@@ -4,7 +4,7 @@ use Rattle.wh_alone.specs.declared.outcome.Outcome.TheVariants.{Returned}
 use Rattle.wh_alone.specs.declared.outcome.CallResult.TheVariants.{NoCall}
 use Rattle.wh_alone.specs.declared.outcome.Outcome.{Outcome}
 use Rattle.wh_alone.specs.Journal.{InstanceState}
-use Rattle.wh_alone.specs.Runs.{RunsModule}
+use Rattle.wh_alone.specs.ModuleRuns.{RunsModule}
 use Rattle.wh_alone.proofs.Replaying.{Began, began_some, began_none, stopped_start, no_call, one_call}
 use Rattle.wh_alone.proofs.alone.call_module.Goals.{in-None, in-Some+in-Returned}
 use Rattle.wh_alone.proofs.alone.call_module.Goals as goal

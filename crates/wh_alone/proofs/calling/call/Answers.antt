@@ -2,9 +2,9 @@ use Rattle.std.proofs.Common.{[], reverse}
 use Rattle.wh_model.specs.Format.Syntax.{nothing}
 use Rattle.wh_model.specs.Execution.Configuration.{called, config}
 use Rattle.wh_control.specs.Represents.{result_of}
-use Rattle.wh_machine.specs.States.{call_state}
+use Rattle.wh_machine.specs.CallStates.{call_state}
 use Rattle.wh_call.specs.Ends.{TakesTo}
-use Rattle.wh_alone.specs.Kept.{flat_setting}
+use Rattle.wh_alone.specs.InstanceStates.{flat_setting}
 use Rattle.wh_alone.proofs.Ending.{answered, comes_by}
 use Rattle.wh_alone.proofs.calling.call.Goals as goal
 

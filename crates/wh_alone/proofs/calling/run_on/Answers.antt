@@ -1,7 +1,7 @@
 use Rattle.wh_model.specs.Execution.Reduction.{stays}
-use Rattle.wh_machine.specs.States.{call_state}
+use Rattle.wh_machine.specs.CallStates.{call_state}
 use Rattle.wh_call.specs.Ends.{TakesTo}
-use Rattle.wh_alone.specs.Kept.{flat_setting}
+use Rattle.wh_alone.specs.InstanceStates.{flat_setting}
 use Rattle.wh_alone.proofs.Ending.{answered, comes_by}
 use Rattle.wh_alone.proofs.calling.run_on.Goals as goal
 

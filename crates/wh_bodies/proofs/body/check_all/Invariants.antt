@@ -1,7 +1,7 @@
 use Rattle.std.proofs.Common.{◌≡◌, map, drop}
 use Rattle.wh_syntax.specs.Shown.{instr_of}
-use Rattle.wh_bodies.specs.Stepping.{run}
-use Rattle.wh_bodies.specs.Views.{view_around, state_of}
+use Rattle.wh_bodies.specs.CheckSteps.{run}
+use Rattle.wh_bodies.specs.View.{view_around, state_of}
 use Rattle.wh_bodies.proofs.body.check_all.Given as goal
 
 abbrev pub invariant-loop-at : goal.invariant-loop-at

@@ -1,7 +1,7 @@
 use Rattle.std.proofs.Common.{◌≡◌, ◌∙◌, ap}
 use Rattle.std.specs.Prelude.{slice_get}
 use Rattle.wh_syntax.specs.View.{view_type, view_body}
-use Rattle.wh_bodies.specs.Views.{view_context, state_of}
+use Rattle.wh_bodies.specs.View.{view_context, state_of}
 use Rattle.wh_bodies.proofs.Bodies.{around_is, body_shown}
 use Rattle.std.proofs.lemmas.Result.{err_from_is_err_and}
 use Rattle.wh_bodies.proofs.BodyKinds.{whole_fault}

@@ -1,5 +1,5 @@
 use Rattle.std.proofs.Common.{length, ap, ◌∙◌}
-use Rattle.wh_bodies.specs.Starting.{started}
+use Rattle.wh_bodies.specs.CheckEnds.{started}
 use Rattle.wh_bodies.proofs.body.prepare.Goals as goal
 
 pub returns-clause-ok : goal.returns-clause-ok

@@ -2,10 +2,10 @@ use Rattle.std.proofs.Common.{map, sym, ap, ◌∙◌}
 use Rattle.std.proofs.lemmas.List.{length-map}
 use Rattle.std.proofs.lemmas.Result.{err_from_is_err_and}
 use Rattle.wh_syntax.specs.Shown.{instr_of}
-use Rattle.wh_bodies.specs.Marks.{all_marks}
-use Rattle.wh_bodies.specs.Stepping.{run}
-use Rattle.wh_bodies.specs.Starting.{started}
-use Rattle.wh_bodies.specs.Views.{view_around}
+use Rattle.wh_bodies.specs.ConstructEnds.{all_marks}
+use Rattle.wh_bodies.specs.CheckSteps.{run}
+use Rattle.wh_bodies.specs.CheckEnds.{started}
+use Rattle.wh_bodies.specs.View.{view_around}
 use Rattle.wh_bodies.proofs.body.run_body.Goals as goal
 
 pub returns : goal.returns

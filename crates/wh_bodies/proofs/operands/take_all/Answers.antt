@@ -2,7 +2,7 @@ use Rattle.std.proofs.Common.{◌≡◌, List, [], ◌∷◌, Ok, refl, ap, sym,
 use Rattle.std.proofs.lemmas.Bool.Decides.{nat_tests}
 use Rattle.std.proofs.lemmas.List.{length-reverse}
 use Rattle.wh_model.specs.declared.ValType.{ValType}
-use Rattle.wh_bodies.specs.Faults.{follow}
+use Rattle.wh_bodies.specs.BodyFaults.{follow}
 use Rattle.wh_bodies.specs.Known.{Known, known, take_one, take_all}
 use Rattle.wh_bodies.proofs.operands.take_all.Goals as goal
 

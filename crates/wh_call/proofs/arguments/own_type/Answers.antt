@@ -1,8 +1,8 @@
 use Rattle.std.proofs.Common.{◌≡◌, ◌<◌, ◌≤◌, ◌-◌, ◌+◌, length, map, slice_get, sym, ap, subst, ◌∙◌, arith, IfNone}
 use Rattle.wh_syntax.specs.declared.module.Module.{Module}
 use Rattle.wh_syntax.specs.View.{view_module}
-use Rattle.wh_bodies.specs.Views.{view_side}
-use Rattle.wh_validate.specs.Soundness.{IsChecked}
+use Rattle.wh_bodies.specs.View.{view_side}
+use Rattle.wh_validate.specs.CheckedBodies.{IsChecked}
 use Rattle.wh_call.specs.Arguments.{LacksOwn}
 use Rattle.wh_call.proofs.Callable.{refused_low, refused_high, type_there, typed_at}
 use Rattle.wh_call.proofs.arguments.own_type.Goals as goal

@@ -1,6 +1,6 @@
 use Rattle.std.proofs.Common.{◌<◌, ◌^◌, sym, subst, arith}
 use Rattle.wh_host_model.specs.Host.Happens.{IsTurn}
-use Rattle.wh_cell.specs.Leaving.{HasTakenOn}
+use Rattle.wh_cell.specs.LeftByOwner.{HasTakenOn}
 use Rattle.wh_cell.proofs.Asked.{turned_taken}
 use Rattle.wh_cell.proofs.taken.counted_turn.Goals as goal
 
@@ -16,4 +16,4 @@ returns-clause-taken c =
     let few : c.from.result < 2 ^ 32 = omega (arith, fits, same) in
     subst (λ n. HasTakenOn c.args.host.now n c.turn-end.new.self) (sym c.charges_of_turn.ensures)
     (turned_taken c.args.host.now c.turn-end.new.self c.args.id c.from.result c.present_call-call.result c.turn-end.result c.charges-before.result c.charges-after.result
-    c.known.ensures c.turn-end.ensures.turns few c.present_call-call.ensures c.charges-before.ensures c.charges-after.ensures)
+    c.invariant.ensures c.turn-end.ensures.turns few c.present_call-call.ensures c.charges-before.ensures c.charges-after.ensures)

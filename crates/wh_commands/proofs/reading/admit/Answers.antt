@@ -1,6 +1,6 @@
 use Rattle.std.proofs.Common.{refl}
-use Rattle.wh_host_model.specs.Lines.Commands.{admit}
-use Rattle.wh_commands.specs.Found.{params_of}
+use Rattle.wh_script_model.specs.Commands.{admit}
+use Rattle.wh_commands.specs.ParsedCommands.{params_of}
 use Rattle.wh_commands.proofs.Asking.{one_more}
 use Rattle.wh_commands.proofs.reading.admit.Goals as goal
 

@@ -1,6 +1,6 @@
 use Rattle.std.proofs.Common.{length}
-use Rattle.wh_host_model.specs.Lines.Words.{IsNumber}
-use Rattle.wh_commands.specs.Left.{words_left}
+use Rattle.wh_script_model.specs.Words.{IsNumber}
+use Rattle.wh_commands.specs.WordsLeft.{words_left}
 use Rattle.wh_commands.proofs.Asking.{HasRead}
 use Rattle.wh_commands.proofs.reading.args.Given as goal
 

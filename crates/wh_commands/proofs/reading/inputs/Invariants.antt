@@ -1,7 +1,7 @@
 use Rattle.std.proofs.Common.{length}
 use Rattle.wh_model.specs.declared.ValType.TheVariants.{I64}
-use Rattle.wh_host_model.specs.Lines.Words.{IsBits}
-use Rattle.wh_commands.specs.Left.{words_left}
+use Rattle.wh_script_model.specs.Words.{IsBits}
+use Rattle.wh_commands.specs.WordsLeft.{words_left}
 use Rattle.wh_commands.proofs.Asking.{HasRead}
 use Rattle.wh_commands.proofs.reading.inputs.Given as goal
 

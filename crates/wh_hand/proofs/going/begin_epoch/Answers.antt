@@ -6,4 +6,4 @@ pub returns-then-not-begins_epoch : goal.returns-then-not-begins_epoch
 returns-then-not-begins_epoch c = moved_itself c.args.host.now
 
 pub returns : goal.returns
-returns c = moved_by c.args.host.now c.epoch.new.self epoch tt (λ w w2 only. only) (λ w w2. tt) c.known.ensures c.epoch.ensures.moves c.epoch.ensures.backing
+returns c = moved_by c.args.host.now c.epoch.new.self epoch tt (λ w w2 only. only) (λ w w2. tt) c.invariant.ensures c.epoch.ensures.moves c.epoch.ensures.backing

@@ -1,5 +1,5 @@
 use Rattle.std.proofs.Common.{sym, subst, arith}
-use Rattle.wh_hand.specs.Runs.{RunsPart}
+use Rattle.wh_hand.specs.RunParts.{RunsPart}
 use Rattle.wh_hand.proofs.Events.{live_turned, on_turned, turned_to}
 use Rattle.wh_hand.proofs.Steps.{turned_keeps}
 use Rattle.wh_hand.proofs.going.counted_turn.Goals as goal
@@ -12,7 +12,7 @@ returns-clause-runs c =
 
 pub returns-clause-few : goal.returns-clause-few
 returns-clause-few c =
-    let some = c.known.ensures in
+    let some = c.invariant.ensures in
     let x = c.turn.ensures.turns some.0 some.1 in
     let counts = turned_to c.args.host.now c.turn.new.self c.args.id c.args.q c.present_call-call.result c.turn.result c.charges-before.result c.charges-after.result
     some.0 x.0 some.1 x.2 x.1 c.present_call-call.ensures c.charges-before.ensures c.charges-after.ensures in
@@ -22,9 +22,9 @@ returns-clause-few c =
 
 pub returns-clause-others : goal.returns-clause-others
 returns-clause-others c =
-    turned_keeps c.args.host.now c.turn.new.self c.args.id c.args.q c.turn.result c.known.ensures c.turn.ensures.turns
+    turned_keeps c.args.host.now c.turn.new.self c.args.id c.args.q c.turn.result c.invariant.ensures c.turn.ensures.turns
 
 pub returns-clause-live : goal.returns-clause-live
 returns-clause-live c =
     live_turned c.args.host.now c.turn.new.self c.args.id c.args.q c.present_call-call.result c.turn.result c.charges-before.result c.charges-after.result
-    c.known.ensures c.turn.ensures.turns c.present_call-call.ensures c.charges-before.ensures c.charges-after.ensures
+    c.invariant.ensures c.turn.ensures.turns c.present_call-call.ensures c.charges-before.ensures c.charges-after.ensures

@@ -15,13 +15,13 @@ returns-clause-runs c = on_provided c.args.host.now c.provide.new.self c.args.id
 
 pub returns-clause-others : goal.returns-clause-others
 returns-clause-others c =
-    moved_keeps c.args.host.now c.provide.new.self c.known.ensures (provided_moves c.args.host.now c.provide.new.self c.args.id (well c))
+    moved_keeps c.args.host.now c.provide.new.self c.invariant.ensures (provided_moves c.args.host.now c.provide.new.self c.args.id (well c))
 
 pub returns-clause-live : goal.returns-clause-live
 returns-clause-live c =
-    live_moved c.args.host.now c.provide.new.self c.known.ensures (provided_moves c.args.host.now c.provide.new.self c.args.id (well c))
+    live_moved c.args.host.now c.provide.new.self c.invariant.ensures (provided_moves c.args.host.now c.provide.new.self c.args.id (well c))
 
 pub returns-clause-ready : goal.returns-clause-ready
 returns-clause-ready c =
-    made_ready c.args.host.now c.provide.new.self c.args.id c.provide.result [] refl c.known.ensures
+    made_ready c.args.host.now c.provide.new.self c.args.id c.provide.result [] refl c.invariant.ensures
     (provided_moves c.args.host.now c.provide.new.self c.args.id (well c)) c.provide.ensures.err c.provide.ensures.right

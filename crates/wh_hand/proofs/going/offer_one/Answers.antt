@@ -11,4 +11,4 @@ returns-in_default-sample c = moved_itself c.args.host.now
 pub returns : goal.returns
 returns c =
     let page : PageId = record { id = c.args.id; page = c.in-Some.page } in
-    moved_by c.args.host.now c.offer.new.self (offer page c.hash-hash.result) tt (λ w w2 only. only) (λ w w2. tt) c.known.ensures c.offer.ensures.moves c.offer.ensures.backing
+    moved_by c.args.host.now c.offer.new.self (offer page c.hash-hash.result) tt (λ w w2 only. only) (λ w w2. tt) c.invariant.ensures c.offer.ensures.moves c.offer.ensures.backing

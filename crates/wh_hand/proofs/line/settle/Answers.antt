@@ -10,7 +10,7 @@ pub returns-then-goes-stands-clause-lists : goal.returns-then-goes-stands-clause
 returns-then-goes-stands-clause-lists c =
     let h = c.args.host.now in
     let same = told_same c.can_go_on-goes.result c.args.stands c.if-goes-stands.true in
-    settled_so h c.args.line.now.items c.args.id c.args.stands c.known.ensures c.requires.settles
+    settled_so h c.args.line.now.items c.args.id c.args.stands c.invariant.ensures c.requires.settles
     (subst (λ b. Tells h b (λ w. IsGoing w c.args.id)) same c.can_go_on-goes.ensures)
 
 pub returns-then-stands-clause-lists : goal.returns-then-stands-clause-lists
@@ -19,12 +19,12 @@ returns-then-stands-clause-lists c =
     let line = c.args.line.now.items in
     let rests = told_not c.can_go_on-goes.result c.args.stands c.if-goes-stands.false c.if-stands.true in
     subst (Lists h) (sym c.leave.ensures.items)
-    (settled_out h line (filter (differs c.args.id) line) c.args.id c.args.stands c.known.ensures c.requires.settles
+    (settled_out h line (filter (differs c.args.id) line) c.args.id c.args.stands c.invariant.ensures c.requires.settles
     (subst (λ b. Tells h b (λ w. IsGoing w c.args.id)) rests c.can_go_on-goes.ensures) (without c.args.id line))
 
 pub push_back_reserved-requires : goal.push_back_reserved-requires
 push_back_reserved-requires c =
-    let less = room_to_settle c.args.host.now c.args.line.now.items c.args.id c.known.ensures
+    let less = room_to_settle c.args.host.now c.args.line.now.items c.args.id c.invariant.ensures
     (subst (IsToSettle c.args.host.now c.args.line.now.items c.args.id) c.if-stands.false c.requires.settles)
     (subst (λ b. Tells c.args.host.now b (λ w. IsGoing w c.args.id))
     (told_so c.can_go_on-goes.result c.args.stands c.if-goes-stands.false c.if-stands.false) c.can_go_on-goes.ensures) in
@@ -38,7 +38,7 @@ returns-clause-lists c =
     let h = c.args.host.now in
     let line = c.args.line.now.items in
     subst (Lists h) (sym c.push_back_reserved.ensures.items)
-    (settled_in h line c.args.id c.known.ensures
+    (settled_in h line c.args.id c.invariant.ensures
     (subst (IsToSettle h line c.args.id) c.if-stands.false c.requires.settles)
     (subst (λ b. Tells h b (λ w. IsGoing w c.args.id))
     (told_so c.can_go_on-goes.result c.args.stands c.if-goes-stands.false c.if-stands.false) c.can_go_on-goes.ensures))

@@ -1,5 +1,5 @@
 use Rattle.std.proofs.Common.{◌≡◌, ◌++◌, arith, string_bytes, ◌∙◌}
-use Rattle.wh_host_model.specs.Lines.Texts.{shared_text}
+use Rattle.wh_script_model.specs.Texts.{shared_text}
 use Rattle.wh_host.specs.Reporting.{head_text}
 use Rattle.wh_host.proofs.Reports.{few_vacant, head_written, on_ok}
 use Rattle.wh_host.proofs.Sharings.{frames_shared, pages_sharing}

@@ -19,7 +19,7 @@ evict_commit-requires-clause-held c =
     let w1 = subst (λ n. IsWritten s n c.bytes.result.now c.is_ok.result mid) c.slot.ensures c.written.ensures in
     let w2 = subst (λ b. IsWritten s k b c.is_ok.result mid) c.bytes.ensures w1 in
     let w3 = subst (λ b. IsWritten s k c.args.ticket.bytes b mid) c.is_ok.ensures.value w2 in
-    on_ok c.args.device _ (λ e. written_holds s k c.args.ticket.bytes (is_ok c.args.device) mid c.known.ensures.sound w3 e)
+    on_ok c.args.device _ (λ e. written_holds s k c.args.ticket.bytes (is_ok c.args.device) mid c.invariant.ensures.sound w3 e)
 
 pub returns-clause-ends : goal.returns-clause-ends
 returns-clause-ends c =

@@ -1,16 +1,16 @@
 use Rattle.std.proofs.Common.{Some, slice_set, inl, refl, sym, subst, ◌∙◌}
-use Rattle.wh_host.specs.Carried.{HasKept, KeepsFault}
+use Rattle.wh_host.specs.TicketsOut.{HasKept, KeepsFault}
 use Rattle.wh_host.proofs.Paged.{keeps_fault}
 use Rattle.wh_host.proofs.transit.keep_fault.Goals as goal
 
 pub returns : goal.returns
 returns c =
-    let rs = c.args.residents.now.slots in
-    let x = c.in-Some-get_mut.resident.now in
+    let rs = c.args.entries.now.slots in
+    let x = c.in-Some-get_mut.entry.now in
     let rs2 = slice_set rs c.args.id.place (Some (record x { tenant = c.fail.new.self })) in
     let keeps = keeps_fault x.tenant c.fail.new.self c.in-Some.fault c.fail.result c.fail.ensures.some c.fail.ensures.none c.if-not-awaits_frame.ensures in
     let kept : HasKept rs c.args.id c.args.call c.in-Some.fault rs2 = record {
-      resident = x;
+      entry = x;
       there = sym c.in-Some-get_mut.ensures.value;
       number = c.if-not-has_number.ensures;
       tenant = c.fail.new.self;

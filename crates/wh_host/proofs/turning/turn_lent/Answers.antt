@@ -1,7 +1,7 @@
 use Rattle.std.proofs.Common.{rules, ◌≡◌, refl, subst}
 use Rattle.wh_host.specs.Lent.{TurnsLent}
 use Rattle.wh_host.specs.Backing.{KeepsBacking}
-use Rattle.wh_space.specs.Stepping.{TakesSteps}
+use Rattle.wh_space.specs.InstanceSteps.{TakesSteps}
 use Rattle.wh_host.proofs.Backed.{rest_backing}
 use Rattle.wh_host.proofs.Turns.{lent_turn, lent_open}
 use Rattle.wh_host.proofs.turning.turn_lent.Goals as goal
@@ -16,7 +16,7 @@ returns-clause-turns c t some lies =
     let keeps = c.turn.ensures.keeps in
     let back : c.turn.new.memory.memory.now ≡ _ = search rules in
     subst (λ z. TurnsLent c.args.linked.now c.args.page_limit c.args.q c.args.memory.now t c.args.place c.turn.new.self z c.turn.result) back
-    (lent_turn c.args.linked.now c.args.q c.args.tenant.now c.turn.new.self _ c.turn.new.memory t c.turn.result (record { sound = c.known.ensures.sound; keeps = keeps; lies = lies; turns = c.turn.ensures.turns }) some c.turn.result refl)
+    (lent_turn c.args.linked.now c.args.q c.args.tenant.now c.turn.new.self _ c.turn.new.memory t c.turn.result (record { sound = c.invariant.ensures.sound; keeps = keeps; lies = lies; turns = c.turn.ensures.turns }) some c.turn.result refl)
 
 pub returns-clause-backing : goal.returns-clause-backing
 returns-clause-backing c =

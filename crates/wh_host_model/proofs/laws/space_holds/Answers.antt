@@ -4,7 +4,7 @@ use Rattle.wh_host_model.proofs.Space.Reserved.{begin_evict_sound}
 use Rattle.wh_host_model.proofs.Space.Transit.{begin_evict_bytes, begin_fetch_bytes, commit_evict_bytes, commit_fetch_bytes}
 use Rattle.wh_host_model.proofs.Space.Quiet.{offers_quiet, written_quiet, steps_quiet, grew_own, enters_own, exits_own, pins_end, gone_is_skipped}
 use Rattle.wh_host_model.proofs.Space.Voiding.{written_is_void, released_is_void, nothing_needless}
-use Rattle.wh_host_model.proofs.Space.Steady.{touches_soundly, epochs_soundly, writes_soundly, stands_soundly, ends_soundly}
+use Rattle.wh_host_model.proofs.Space.Steady.{touches_soundly, epochs_soundly, writes_soundly, waits_soundly, ends_soundly}
 use Rattle.wh_host_model.proofs.Space.Sent.{commits_soundly}
 use Rattle.wh_host_model.proofs.Space.Merging.{offers_soundly}
 use Rattle.wh_host_model.proofs.Space.Awaited.{begin_fetch_sound}
@@ -107,8 +107,8 @@ returns-clause-epochs_soundly c = epochs_soundly
 pub returns-clause-writes_soundly : goal.returns-clause-writes_soundly
 returns-clause-writes_soundly c = writes_soundly
 
-pub returns-clause-stands_soundly : goal.returns-clause-stands_soundly
-returns-clause-stands_soundly c = stands_soundly
+pub returns-clause-waits_soundly : goal.returns-clause-waits_soundly
+returns-clause-waits_soundly c = waits_soundly
 
 pub returns-clause-ends_soundly : goal.returns-clause-ends_soundly
 returns-clause-ends_soundly c = ends_soundly

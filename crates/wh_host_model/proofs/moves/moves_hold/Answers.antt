@@ -1,5 +1,5 @@
 use Rattle.wh_host_model.proofs.Host.AsMany.{fetches_see_as_many, provisions_see_as_many, failures_see_as_many}
-use Rattle.wh_host_model.proofs.Host.Bridges.{loads_step, stores_step, growth_steps, stands_well, ends_well, epochs_leave_all, offers_leave_all, evictions_begin, writes_leave_all, evictions_end, fetches_begin, fetches_end, provisions_leave_all, failures_leave_all, entrants_arrive, exits_depart}
+use Rattle.wh_host_model.proofs.Host.Bridges.{loads_step, stores_step, growth_steps, waits_well, ends_well, epochs_leave_all, offers_leave_all, evictions_begin, writes_leave_all, evictions_end, fetches_begin, fetches_end, provisions_leave_all, failures_leave_all, entrants_arrive, exits_depart}
 use Rattle.wh_host_model.proofs.moves.moves_hold.Goals as goal
 
 pub returns-clause-loads_step : goal.returns-clause-loads_step
@@ -11,8 +11,8 @@ returns-clause-stores_step c = stores_step
 pub returns-clause-growth_steps : goal.returns-clause-growth_steps
 returns-clause-growth_steps c = growth_steps
 
-pub returns-clause-stands_well : goal.returns-clause-stands_well
-returns-clause-stands_well c = stands_well
+pub returns-clause-waits_well : goal.returns-clause-waits_well
+returns-clause-waits_well c = waits_well
 
 pub returns-clause-ends_well : goal.returns-clause-ends_well
 returns-clause-ends_well c = ends_well

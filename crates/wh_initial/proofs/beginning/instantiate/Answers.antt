@@ -1,6 +1,6 @@
 use Rattle.std.proofs.Common.{rules, ◌^◌, ◌<◌, IfOk, IfErr, map, sym, subst}
 use Rattle.wh_syntax.specs.View.{view_module}
-use Rattle.wh_bodies.specs.Views.{view_side}
+use Rattle.wh_bodies.specs.View.{view_side}
 use Rattle.wh_imports.specs.Resolving.{IsResolved}
 use Rattle.wh_initial.specs.Given.{view_parameters}
 use Rattle.wh_initial.specs.Begins.{Instantiates, RefusesInstance}

@@ -1,7 +1,7 @@
 use Rattle.std.proofs.Common.{rules, ◌∙◌, ap, sym, w32, w64, of_z, SFits}
 use Rattle.std.proofs.lemmas.Int.{to_z-of_z}
 use Rattle.wh_intops.proofs.Numerals.{narrow_32, unsigned_64}
-use Rattle.wh_initial.specs.Words.{word_at}
+use Rattle.wh_initial.specs.ConstantWords.{word_at}
 use Rattle.wh_initial.proofs.constants.constant_of_instr.Goals as goal
 
 pub returns-in-I32Const : goal.returns-in-I32Const

@@ -1,7 +1,7 @@
 use Rattle.std.proofs.Common.{arith, ◌∙◌, ◌-◌, ap, length, subst, sym}
 use Rattle.wh_syntax.specs.declared.module.Global.{Global}
 use Rattle.wh_initial.specs.Given.{view_parameters}
-use Rattle.wh_initial.specs.Words.{word_in, IsSeen}
+use Rattle.wh_initial.specs.ConstantWords.{word_in, IsSeen}
 use Rattle.wh_initial.specs.InBasis.{host_words_in}
 use Rattle.wh_initial.proofs.InWordsLemmas.{own_there, imported_at, own_at}
 use Rattle.wh_initial.proofs.constants.global_word.Goals as goal

@@ -1,5 +1,5 @@
 use Rattle.std.proofs.Common.{◌≡◌, ◌++◌, map, take}
-use Rattle.wh_initial.specs.Words.{word_in}
+use Rattle.wh_initial.specs.ConstantWords.{word_in}
 use Rattle.wh_initial.specs.InBasis.{host_words_in}
 use Rattle.wh_initial.proofs.globals.add_own.Given as goal
 

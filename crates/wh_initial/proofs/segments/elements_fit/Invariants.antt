@@ -1,6 +1,6 @@
 use Rattle.std.proofs.Common.{ℕ, ◌+◌, ◌<◌, ◌≤◌, length, get_or}
 use Rattle.wh_syntax.specs.declared.module.Element.{Element}
-use Rattle.wh_initial.specs.Words.{word_in}
+use Rattle.wh_initial.specs.ConstantWords.{word_in}
 use Rattle.wh_initial.specs.InBasis.{words_of_basis}
 use Rattle.wh_initial.proofs.segments.elements_fit.Given as goal
 

@@ -1,5 +1,5 @@
 use Rattle.std.proofs.Common.{◌≡◌, map, take}
-use Rattle.wh_initial.specs.Words.{word_in}
+use Rattle.wh_initial.specs.ConstantWords.{word_in}
 use Rattle.wh_initial.specs.InBasis.{words_of_basis}
 use Rattle.wh_initial.proofs.segments.segment_places.Given as goal
 

@@ -1,4 +1,4 @@
-use Rattle.wh_machine.specs.States.{setting_of, call_state}
+use Rattle.wh_machine.specs.CallStates.{setting_of, call_state}
 use Rattle.wh_instance.proofs.Coming.{came_returned, came_trapped, came_to_wait, taken, still_standing, came_to_fuel, came_to_frame, came_to_again}
 use Rattle.std.proofs.Common.{ℕ, subst}
 use Rattle.wh_instance.specs.Computed.{AsksUnready, AsksReady}

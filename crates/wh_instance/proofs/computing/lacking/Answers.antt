@@ -1,4 +1,4 @@
-use Rattle.wh_machine.specs.States.{setting_of, call_state}
+use Rattle.wh_machine.specs.CallStates.{setting_of, call_state}
 use Rattle.wh_instance.proofs.Coming.{asked_alone, asked_none}
 use Rattle.wh_instance.proofs.computing.lacking.Goals as goal
 

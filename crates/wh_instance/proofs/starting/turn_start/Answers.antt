@@ -1,7 +1,7 @@
 use Rattle.std.proofs.Common.{◌≡◌, ℕ, List, [], None, Some, sym, ap, subst, ◌∙◌}
 use Rattle.wh_syntax.specs.declared.module.Data.{Data}
 use Rattle.wh_syntax.specs.declared.module.Module.{Module}
-use Rattle.wh_machine.specs.States.{setting_of, call_state}
+use Rattle.wh_machine.specs.CallStates.{setting_of, call_state}
 use Rattle.wh_instance.specs.Pieces.{pieces_left, HasWritten, NextWaits}
 use Rattle.wh_instance.specs.Computed.{ComputesWithin}
 use Rattle.wh_instance.proofs.Beginnings.{other_bytes, can_begin, has_begun, waits_now, ends_now, started_now}

@@ -1,5 +1,5 @@
 use Rattle.std.proofs.Common.{ℕ, sym, subst}
-use Rattle.wh_machine.specs.States.{setting_of, call_state}
+use Rattle.wh_machine.specs.CallStates.{setting_of, call_state}
 use Rattle.wh_instance.specs.Computed.{ComputesWithin}
 use Rattle.wh_instance.proofs.Beginnings.{can_begin, has_begun, own_call, first_now}
 use Rattle.wh_instance.proofs.turning.turn_first.Goals as goal

@@ -1,6 +1,6 @@
 use Rattle.std.proofs.Common.{◌-◌, arith}
 use Rattle.wh_control.specs.Represents.{result_of}
-use Rattle.wh_machine.specs.States.{setting_of, call_state}
+use Rattle.wh_machine.specs.CallStates.{setting_of, call_state}
 use Rattle.wh_instance.proofs.Beginnings.{on_now}
 use Rattle.wh_instance.proofs.turning.turn_on.Goals as goal
 

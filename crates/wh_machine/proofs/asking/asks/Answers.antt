@@ -1,5 +1,5 @@
 use Rattle.std.proofs.Common.{sym, ◌∙◌}
-use Rattle.wh_machine.specs.States.{setting_of}
+use Rattle.wh_machine.specs.CallStates.{setting_of}
 use Rattle.wh_machine.proofs.Holding.{while_running}
 use Rattle.wh_machine.proofs.Running.{sound_in, rests_in}
 use Rattle.wh_machine.proofs.Seeing.{resting_here, seen_some, seen_none}

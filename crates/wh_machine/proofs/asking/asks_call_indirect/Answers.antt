@@ -2,8 +2,8 @@ use Rattle.std.proofs.Common.{◌≡◌, ◌∷◌, ℕ, List, Option, Some, sli
 use Rattle.wh_model.specs.Format.Syntax.{call_indirect}
 use Rattle.wh_syntax.specs.declared.instr.Instr.TheVariants.{CallIndirect}
 use Rattle.wh_control.proofs.Constructs.{at_now}
-use Rattle.wh_machine.specs.declared.calling.Element.{Element}
-use Rattle.wh_machine.specs.declared.calling.Element.TheVariants.{Func}
+use Rattle.wh_machine.specs.declared.calling.TableElement.{TableElement}
+use Rattle.wh_machine.specs.declared.calling.TableElement.TheVariants.{Func}
 use Rattle.wh_machine.specs.declared.machine.Stack.{Stack}
 use Rattle.wh_machine.specs.Entering.{HasElement}
 use Rattle.wh_machine.specs.Looking.{Looks}
@@ -17,7 +17,7 @@ use Rattle.wh_machine.proofs.ExecutingLemmas.{here}
 use Rattle.wh_machine.proofs.asking.asks_call_indirect.Goals as goal
 
 -- the function that the table names at the topmost word
-named : {table seen : List (Option ℕ)} {w top x : ℕ} (e : Element) → top ≡ w → seen ≡ table → HasElement seen top e → e ≡ Func x → slice_get table w ≡ Some (Some x)
+named : {table seen : List (Option ℕ)} {w top x : ℕ} (e : TableElement) → top ≡ w → seen ≡ table → HasElement seen top e → e ≡ Func x → slice_get table w ≡ Some (Some x)
 named {table} {seen} {w} {top} {x} e is same at func = ap (slice_get table) (sym is) ∙ ap (λ t. slice_get t top) (sym same) ∙ subst (HasElement seen top) func at
 
 pub top-requires : goal.top-requires

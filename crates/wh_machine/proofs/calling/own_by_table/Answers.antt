@@ -2,7 +2,7 @@ use Rattle.std.proofs.Common.{◌+◌, ℕ, sym, ap, subst, ◌∙◌, length, s
 use Rattle.wh_model.specs.Format.Syntax.{call_indirect}
 use Rattle.wh_model.specs.Execution.Store.{own}
 use Rattle.wh_control.specs.Represents.{RepresentsCalls}
-use Rattle.wh_control.specs.Moves.{entered}
+use Rattle.wh_control.specs.ControlSteps.{entered}
 use Rattle.wh_control.proofs.Constructs.{at_now}
 use Rattle.wh_control.proofs.Calling.{own_at, indirect_stops, indirect_next, indirect_room}
 use Rattle.wh_control.specs.Parts.{funcs_in}

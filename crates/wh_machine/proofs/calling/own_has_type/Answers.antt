@@ -3,7 +3,7 @@ use Rattle.std.proofs.lemmas.Option.{slice_get_within, slice_get_read}
 use Rattle.wh_control.proofs.Standing.{mapped_at}
 use Rattle.wh_machine.proofs.SameTypes.{type_matches}
 use Rattle.wh_syntax.specs.View.{view_type, view_body}
-use Rattle.wh_bodies.specs.Views.{view_side, type_at}
+use Rattle.wh_bodies.specs.View.{view_side, type_at}
 use Rattle.std.specs.Prelude.{map}
 use Rattle.wh_control.specs.Represents.{Func}
 use Rattle.wh_machine.proofs.Lookups.{parts_of, all_of, read_at, type_is, type_there}

@@ -1,6 +1,6 @@
 use Rattle.std.proofs.Common.{◌++◌, sym, ap, subst, ◌∙◌, ◌+◌, arith, refl}
 use Rattle.wh_model.specs.Focus.Focused.{running}
-use Rattle.wh_control.specs.Moves.{goes_to}
+use Rattle.wh_control.specs.ControlSteps.{goes_to}
 use Rattle.wh_control.specs.Next.{Next}
 use Rattle.wh_control.proofs.Room.{in_room}
 use Rattle.wh_control.proofs.Constructs.{at_now}

@@ -1,7 +1,7 @@
 use Rattle.std.proofs.Common.{◌-◌, refl, sym, subst, arith, length}
 use Rattle.wh_machine.specs.Program.{parts_in}
 use Rattle.wh_machine.specs.Opening.{CanBegin, BeginsCall}
-use Rattle.wh_machine.specs.Runs.{IsSettledIn}
+use Rattle.wh_machine.specs.MachineRuns.{IsSettledIn}
 use Rattle.wh_machine.proofs.Reaching.{func_now}
 use Rattle.wh_machine.proofs.Running.{running_with}
 use Rattle.wh_machine.proofs.Opened.{own_of, own_at, has_params, has_few, opens_with, open_sound, begins_so, settled_with}

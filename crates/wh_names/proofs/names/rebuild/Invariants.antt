@@ -1,6 +1,6 @@
 use Rattle.std.proofs.Common.{◌≡◌, length, vec_capacity}
-use Rattle.wh_names.specs.Chains.{AreNameChains}
-use Rattle.wh_names.specs.Hash.{bucket_at}
+use Rattle.wh_names.specs.NameChains.{AreNameChains}
+use Rattle.wh_names.specs.NameHash.{bucket_at}
 use Rattle.wh_names.proofs.names.rebuild.Given as goal
 
 -- so many names are in the chains

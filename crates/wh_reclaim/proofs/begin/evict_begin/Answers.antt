@@ -19,7 +19,7 @@ returns-clause-begins c =
 
 pub returns-clause-out : goal.returns-clause-out
 returns-clause-out c =
-    evicting_now c.reserve.new.memory c.in-Some-page_to_take.taken.place c.in-Some-page_to_take.taken.page c.depart-slot.result c.depart-slot.new.into c.depart-slot.new.self c.known.ensures.sound c.depart-slot.ensures
+    evicting_now c.reserve.new.memory c.in-Some-page_to_take.taken.place c.in-Some-page_to_take.taken.page c.depart-slot.result c.depart-slot.new.into c.depart-slot.new.self c.invariant.ensures.sound c.depart-slot.ensures
 
 pub depart-slot-requires-clause-can : goal.depart-slot-requires-clause-can
 depart-slot-requires-clause-can c = can_leave c.reserve.new.memory c.args.place c.in-Some.need c.in-Some-page_to_take.taken.place c.in-Some-page_to_take.taken.page c.in-Some-page_to_take.ensures

@@ -20,4 +20,4 @@ returns-clause-begins c =
 
 pub returns-clause-out : goal.returns-clause-out
 returns-clause-out c =
-    fetching_now c.reserve.new.memory c.args.place c.in-Some-swapped_page.page c.in-Some-swapped_page.slot c.send_for.new.self c.known.ensures.sound c.in-Some-swapped_page.ensures.1 c.send_for.ensures
+    fetching_now c.reserve.new.memory c.args.place c.in-Some-swapped_page.page c.in-Some-swapped_page.slot c.send_for.new.self c.invariant.ensures.sound c.in-Some-swapped_page.ensures.1 c.send_for.ensures

@@ -3,8 +3,8 @@ use Rattle.wh_reclaim.proofs.Beginning.{some_swapped}
 use Rattle.wh_reclaim.proofs.Going.{few_pinned}
 use Rattle.wh_reclaim.proofs.ready.go_on.Goals as goal
 
-pub bring-requires-clause-pinned : goal.bring-requires-clause-pinned
-bring-requires-clause-pinned g c = few_pinned c.args.memory.now c.args.place c.args.need c.in-Some.page c.known.ensures.sound c.requires.serving c.requires.once c.in-Some.ensures.0
+pub fetch_now-requires-clause-pinned : goal.fetch_now-requires-clause-pinned
+fetch_now-requires-clause-pinned g c = few_pinned c.args.memory.now c.args.place c.args.need c.in-Some.page c.invariant.ensures.sound c.requires.serving c.requires.once c.in-Some.ensures.0
 
 pub returns-in-Ok-clause-goes_on : goal.returns-in-Ok-clause-goes_on
 returns-in-Ok-clause-goes_on g c =

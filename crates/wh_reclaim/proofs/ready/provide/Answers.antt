@@ -18,7 +18,7 @@ returns-clause-provides g c = λ need stands.
 
 pub returns-clause-right : goal.returns-clause-right
 returns-clause-right g c = λ need stands.
-    is_right c.provide_for.result c.args.memory.now c.args.place need c.provide_for.new.memory c.known.ensures.sound c.requires.none_out stands
+    is_right c.provide_for.result c.args.memory.now c.args.place need c.provide_for.new.memory c.invariant.ensures.sound c.requires.none_out stands
     (subst (λ n. IfOk c.provide_for.result (λ left. Provides c.args.memory.now c.args.place n left c.provide_for.new.memory)) (one_need c.args.memory.now c.args.place c.in-Some.need need (wants_stands c.args.memory.now c.args.place c.in-Some.need (sym c.wanted_step.ensures ∙ c.in-Some.is)) stands) c.provide_for.ensures.provides)
 
 pub returns-clause-truly : goal.returns-clause-truly
@@ -37,11 +37,11 @@ returns-clause-fails_truly g c = λ need stands honest.
 
 pub returns-clause-others : goal.returns-clause-others
 returns-clause-others g c =
-    keeps_others c.provide_for.result c.args.memory.now c.args.place c.in-Some.need c.provide_for.new.memory c.known.ensures.sound c.requires.none_out (wants_stands c.args.memory.now c.args.place c.in-Some.need (sym c.wanted_step.ensures ∙ c.in-Some.is)) c.provide_for.ensures.provides c.provide_for.ensures.fails
+    keeps_others c.provide_for.result c.args.memory.now c.args.place c.in-Some.need c.provide_for.new.memory c.invariant.ensures.sound c.requires.none_out (wants_stands c.args.memory.now c.args.place c.in-Some.need (sym c.wanted_step.ensures ∙ c.in-Some.is)) c.provide_for.ensures.provides c.provide_for.ensures.fails
 
 pub returns-clause-none_out : goal.returns-clause-none_out
 returns-clause-none_out g c =
-    none_left c.provide_for.result c.args.memory.now c.args.place c.in-Some.need c.provide_for.new.memory c.known.ensures.sound c.requires.none_out (wants_stands c.args.memory.now c.args.place c.in-Some.need (sym c.wanted_step.ensures ∙ c.in-Some.is)) c.provide_for.ensures.provides c.provide_for.ensures.fails
+    none_left c.provide_for.result c.args.memory.now c.args.place c.in-Some.need c.provide_for.new.memory c.invariant.ensures.sound c.requires.none_out (wants_stands c.args.memory.now c.args.place c.in-Some.need (sym c.wanted_step.ensures ∙ c.in-Some.is)) c.provide_for.ensures.provides c.provide_for.ensures.fails
 
 pub returns-clause-whole : goal.returns-clause-whole
 returns-clause-whole g c =

@@ -23,31 +23,31 @@ loop-memory-init g c = record {
 
 pub go_on-requires-clause-stands : goal.go_on-requires-clause-stands
 go_on-requires-clause-stands g c =
-    let way = serves_way c.args.memory.now c.args.place c.args.need c.loop-memory.invariant.moves c.loop-memory.memory c.known.ensures.sound c.requires.none_out c.requires.stands c.loop-memory.invariant.serves in
+    let way = serves_way c.args.memory.now c.args.place c.args.need c.loop-memory.invariant.moves c.loop-memory.memory c.invariant.ensures.sound c.requires.none_out c.requires.stands c.loop-memory.invariant.serves in
     stands_still c.args.memory.now c.args.place c.args.need c.loop-memory.memory way.1.occupants c.requires.stands
 
 pub go_on-requires-clause-serving : goal.go_on-requires-clause-serving
-go_on-requires-clause-serving g c = (serves_way c.args.memory.now c.args.place c.args.need c.loop-memory.invariant.moves c.loop-memory.memory c.known.ensures.sound c.requires.none_out c.requires.stands c.loop-memory.invariant.serves).1.serving
+go_on-requires-clause-serving g c = (serves_way c.args.memory.now c.args.place c.args.need c.loop-memory.invariant.moves c.loop-memory.memory c.invariant.ensures.sound c.requires.none_out c.requires.stands c.loop-memory.invariant.serves).1.serving
 
 pub go_on-requires-clause-none_out : goal.go_on-requires-clause-none_out
-go_on-requires-clause-none_out g c = (serves_way c.args.memory.now c.args.place c.args.need c.loop-memory.invariant.moves c.loop-memory.memory c.known.ensures.sound c.requires.none_out c.requires.stands c.loop-memory.invariant.serves).1.none_out
+go_on-requires-clause-none_out g c = (serves_way c.args.memory.now c.args.place c.args.need c.loop-memory.invariant.moves c.loop-memory.memory c.invariant.ensures.sound c.requires.none_out c.requires.stands c.loop-memory.invariant.serves).1.none_out
 
 pub frames_to_write-wanted-requires : goal.frames_to_write-wanted-requires
 frames_to_write-wanted-requires g c =
-    let way = serves_way c.args.memory.now c.args.place c.args.need c.loop-memory.invariant.moves c.loop-memory.memory c.known.ensures.sound c.requires.none_out c.requires.stands c.loop-memory.invariant.serves in
+    let way = serves_way c.args.memory.now c.args.place c.args.need c.loop-memory.invariant.moves c.loop-memory.memory c.invariant.ensures.sound c.requires.none_out c.requires.stands c.loop-memory.invariant.serves in
     let done = goes_done (g.D.SwapDev.honest c.go_on.new.device) c.loop-memory.memory c.args.place c.args.need c.in-Ok-Done.field-0 c.go_on.new.memory c.in-Ok-Done.field-0-is c.in-Ok-Done.ensures.goes_on in
     stands_still c.args.memory.now c.args.place c.args.need c.go_on.new.memory (ap (λ (z : Space). z.occupants) done.1 ∙ way.1.occupants) c.requires.stands
 
 pub earmark-requires-clause-there : goal.earmark-requires-clause-there
 earmark-requires-clause-there g c =
-    let way = serves_way c.args.memory.now c.args.place c.args.need c.loop-memory.invariant.moves c.loop-memory.memory c.known.ensures.sound c.requires.none_out c.requires.stands c.loop-memory.invariant.serves in
+    let way = serves_way c.args.memory.now c.args.place c.args.need c.loop-memory.invariant.moves c.loop-memory.memory c.invariant.ensures.sound c.requires.none_out c.requires.stands c.loop-memory.invariant.serves in
     let done = goes_done (g.D.SwapDev.honest c.go_on.new.device) c.loop-memory.memory c.args.place c.args.need c.in-Ok-Done.field-0 c.go_on.new.memory c.in-Ok-Done.field-0-is c.in-Ok-Done.ensures.goes_on in
     let stands = stands_still c.args.memory.now c.args.place c.args.need c.go_on.new.memory (ap (λ (z : Space). z.occupants) done.1 ∙ way.1.occupants) c.requires.stands in
     (stands.0, stands.1, stands.2)
 
 pub earmark-requires-clause-none : goal.earmark-requires-clause-none
 earmark-requires-clause-none g c =
-    let way = serves_way c.args.memory.now c.args.place c.args.need c.loop-memory.invariant.moves c.loop-memory.memory c.known.ensures.sound c.requires.none_out c.requires.stands c.loop-memory.invariant.serves in
+    let way = serves_way c.args.memory.now c.args.place c.args.need c.loop-memory.invariant.moves c.loop-memory.memory c.invariant.ensures.sound c.requires.none_out c.requires.stands c.loop-memory.invariant.serves in
     let done = goes_done (g.D.SwapDev.honest c.go_on.new.device) c.loop-memory.memory c.args.place c.args.need c.in-Ok-Done.field-0 c.go_on.new.memory c.in-Ok-Done.field-0-is c.in-Ok-Done.ensures.goes_on in
     none_kept c.go_on.new.memory (ap (λ (z : Space). length (kept z.pins)) done.1 ∙ way.1.serving.kept)
 
@@ -65,13 +65,13 @@ returns-in-Ok-Done-clause-truly g c = λ honest.
 
 pub loop-memory-smaller-in-Ok-Came : goal.loop-memory-smaller-in-Ok-Came
 loop-memory-smaller-in-Ok-Came g c =
-    let way = serves_way c.args.memory.now c.args.place c.args.need c.loop-memory.invariant.moves c.loop-memory.memory c.known.ensures.sound c.requires.none_out c.requires.stands c.loop-memory.invariant.serves in
+    let way = serves_way c.args.memory.now c.args.place c.args.need c.loop-memory.invariant.moves c.loop-memory.memory c.invariant.ensures.sound c.requires.none_out c.requires.stands c.loop-memory.invariant.serves in
     let came = goes_came (g.D.SwapDev.honest c.go_on.new.device) c.loop-memory.memory c.args.place c.args.need c.in-Ok-Came.field-0 c.go_on.new.memory c.in-Ok-Came.field-0-is c.in-Ok-Came.ensures.goes_on in
     came_nearer c.args.memory.now c.args.place c.args.need _ c.loop-memory.memory came.0 c.go_on.new.memory way.0 way.1 came.1
 
 pub loop-memory-preserved-in-Ok-Came : goal.loop-memory-preserved-in-Ok-Came
 loop-memory-preserved-in-Ok-Came g c =
-    let way = serves_way c.args.memory.now c.args.place c.args.need c.loop-memory.invariant.moves c.loop-memory.memory c.known.ensures.sound c.requires.none_out c.requires.stands c.loop-memory.invariant.serves in
+    let way = serves_way c.args.memory.now c.args.place c.args.need c.loop-memory.invariant.moves c.loop-memory.memory c.invariant.ensures.sound c.requires.none_out c.requires.stands c.loop-memory.invariant.serves in
     let came = goes_came (g.D.SwapDev.honest c.go_on.new.device) c.loop-memory.memory c.args.place c.args.need c.in-Ok-Came.field-0 c.go_on.new.memory c.in-Ok-Came.field-0-is c.in-Ok-Came.ensures.goes_on in
     let inv = c.loop-memory.invariant in
     let e = c.in-Ok-Came.ensures in
@@ -92,14 +92,14 @@ loop-memory-preserved-in-Ok-Came g c =
 
 pub overflow_add-left : goal.overflow_add-left
 overflow_add-left g c =
-    let most = moves_nearer c.args.memory.now c.args.place c.args.need c.loop-memory.invariant.moves c.loop-memory.memory c.known.ensures.sound c.requires.none_out c.requires.stands c.loop-memory.invariant.serves in
+    let most = moves_nearer c.args.memory.now c.args.place c.args.need c.loop-memory.invariant.moves c.loop-memory.memory c.invariant.ensures.sound c.requires.none_out c.requires.stands c.loop-memory.invariant.serves in
     let many = c.loop-memory.invariant.many in
     let few = c.known_pages.ensures in
     omega arith
 
 pub loop-memory-smaller : goal.loop-memory-smaller
 loop-memory-smaller g c =
-    let way = serves_way c.args.memory.now c.args.place c.args.need c.loop-memory.invariant.moves c.loop-memory.memory c.known.ensures.sound c.requires.none_out c.requires.stands c.loop-memory.invariant.serves in
+    let way = serves_way c.args.memory.now c.args.place c.args.need c.loop-memory.invariant.moves c.loop-memory.memory c.invariant.ensures.sound c.requires.none_out c.requires.stands c.loop-memory.invariant.serves in
     let left = goes_left (g.D.SwapDev.honest c.go_on.new.device) c.loop-memory.memory c.args.place c.args.need c.in-Ok-Left.field-0 c.go_on.new.memory c.in-Ok-Left.field-0-is c.in-Ok-Left.ensures.goes_on in
     left_nearer c.args.memory.now c.args.place c.args.need _ c.loop-memory.memory c.go_on.new.memory way.0 way.1 left
 

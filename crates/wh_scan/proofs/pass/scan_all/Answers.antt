@@ -24,24 +24,24 @@ loop-next-init g c = (pass_begun (g.H.PageHash.hashes c.args.hasher.now) c.args.
 
 pub overflow_add-offered : goal.overflow_add-offered
 overflow_add-offered g c =
-    let on = offered_next (g.H.PageHash.hashes c.args.hasher.now) c.args.memory.now c.loop-next.after c.loop-next.offered c.loop-next.memory c.in-Some.next c.scan_place.result c.scan_place.new.memory c.known.ensures.sound
+    let on = offered_next (g.H.PageHash.hashes c.args.hasher.now) c.args.memory.now c.loop-next.after c.loop-next.offered c.loop-next.memory c.in-Some.next c.scan_place.result c.scan_place.new.memory c.invariant.ensures.sound
     c.loop-next.invariant c.in-Some.ensures.some c.scan_place.ensures.scans c.scan_place.ensures.offers in
-    let few = few_counted c.args.memory.now (Some c.in-Some.next.number) (c.loop-next.offered + c.scan_place.result) c.known.ensures.sound c.requires on.1 in
+    let few = few_counted c.args.memory.now (Some c.in-Some.next.number) (c.loop-next.offered + c.scan_place.result) c.invariant.ensures.sound c.requires on.1 in
     omega arith
 
 pub loop-next-preserved : goal.loop-next-preserved
 loop-next-preserved g c =
-    offered_next (g.H.PageHash.hashes c.args.hasher.now) c.args.memory.now c.loop-next.after c.loop-next.offered c.loop-next.memory c.in-Some.next c.from-offered.result c.scan_place.new.memory c.known.ensures.sound
+    offered_next (g.H.PageHash.hashes c.args.hasher.now) c.args.memory.now c.loop-next.after c.loop-next.offered c.loop-next.memory c.in-Some.next c.from-offered.result c.scan_place.new.memory c.invariant.ensures.sound
     c.loop-next.invariant c.in-Some.ensures.some c.scan_place.ensures.scans (c.from-offered.ensures ∙ c.scan_place.ensures.offers)
 
 all_scanned : (g : _) (c : goal.In_default g) → ScansAll (g.H.PageHash.hashes c.args.hasher.now) c.args.memory.now c.loop-next.memory
-all_scanned g c = pass_done (g.H.PageHash.hashes c.args.hasher.now) c.args.memory.now c.loop-next.after c.loop-next.offered c.loop-next.memory c.known.ensures.sound c.loop-next.invariant.0 c.in_default.ensures.none
+all_scanned g c = pass_done (g.H.PageHash.hashes c.args.hasher.now) c.args.memory.now c.loop-next.after c.loop-next.offered c.loop-next.memory c.invariant.ensures.sound c.loop-next.invariant.0 c.in_default.ensures.none
 
 pub returns-clause-scans : goal.returns-clause-scans
 returns-clause-scans g c = all_scanned g c
 
 pub returns-clause-offers : goal.returns-clause-offers
-returns-clause-offers g c = pass_many (g.H.PageHash.hashes c.args.hasher.now) c.args.memory.now c.loop-next.after c.loop-next.offered c.loop-next.memory c.known.ensures.sound c.loop-next.invariant.0 c.in_default.ensures.none
+returns-clause-offers g c = pass_many (g.H.PageHash.hashes c.args.hasher.now) c.args.memory.now c.loop-next.after c.loop-next.offered c.loop-next.memory c.invariant.ensures.sound c.loop-next.invariant.0 c.in_default.ensures.none
 
 pub returns-clause-full : goal.returns-clause-full
 returns-clause-full g c = λ may. full_pass (g.H.PageHash.hashes c.args.hasher.now) c.args.memory.now c.loop-next.memory may (all_scanned g c)
@@ -49,4 +49,4 @@ returns-clause-full g c = λ may. full_pass (g.H.PageHash.hashes c.args.hasher.n
 pub returns-clause-counts : goal.returns-clause-counts
 returns-clause-counts g c = λ may all distinct.
     (let over = full_pass (g.H.PageHash.hashes c.args.hasher.now) c.args.memory.now c.loop-next.memory may (all_scanned g c) in
-    passes_fully (g.H.PageHash.hashes c.args.hasher.now) c.args.memory.now over.0 c.loop-next.memory all c.known.ensures.sound over.2 distinct)
+    passes_fully (g.H.PageHash.hashes c.args.hasher.now) c.args.memory.now over.0 c.loop-next.memory all c.invariant.ensures.sound over.2 distinct)

@@ -6,7 +6,7 @@ use Rattle.wh_scan.proofs.pass.scan_place.Goals as goal
 
 pub overflow_mul-pages : goal.overflow_mul-pages
 overflow_mul-pages g c =
-    let most = few_rows c.args.memory.now c.args.place c.known.ensures.sound in
+    let most = few_rows c.args.memory.now c.args.place c.invariant.ensures.sound in
     let pages = c.size-pages.ensures.pages in
     omega arith
 

@@ -1,6 +1,6 @@
 use Rattle.std.proofs.Common.{ap}
 use Rattle.wh_tables.specs.Tables.{TablesState}
-use Rattle.wh_space.specs.Pages.{fixed_in}
+use Rattle.wh_space.specs.UnchangedTables.{fixed_in}
 use Rattle.wh_space.proofs.Marking.{marked_none, marked_some, private_found}
 use Rattle.wh_space.proofs.pages.touch_private.Goals as goal
 

@@ -1,6 +1,6 @@
 use Rattle.std.proofs.Common.{ap}
 use Rattle.wh_tables.specs.Tables.{TablesState}
-use Rattle.wh_space.specs.Pages.{fixed_in}
+use Rattle.wh_space.specs.UnchangedTables.{fixed_in}
 use Rattle.wh_space.proofs.Marking.{frame_found, marked_none, marked_some}
 use Rattle.wh_space.proofs.pages.touch_resident.Goals as goal
 

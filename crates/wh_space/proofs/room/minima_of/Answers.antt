@@ -5,7 +5,7 @@ use Rattle.wh_space.proofs.room.minima_of.Goals as goal
 
 pub overflow_add-sum : goal.overflow_add-sum
 overflow_add-sum c =
-    let xs = c.args.guests.now.items in
+    let xs = c.args.occupant_entries.now.items in
     let within : c.loop-place.place < length xs = (search rules) in
     let step = sum_step (of_occupant (λ t. t.min)) xs c.loop-place.place c.index.result.now within c.index.ensures in
     let part = sum_part (of_occupant (λ t. t.min)) xs (c.loop-place.place + 1) in
@@ -15,7 +15,7 @@ overflow_add-sum c =
 
 pub loop-place-preserved : goal.loop-place-preserved
 loop-place-preserved c =
-    let xs = c.args.guests.now.items in
+    let xs = c.args.occupant_entries.now.items in
     let within : c.loop-place.place < length xs = (search rules) in
     let step = sum_step (of_occupant (λ t. t.min)) xs c.loop-place.place c.index.result.now within c.index.ensures in
     let value = c.from-sum.ensures ∙ c.min_of.ensures in

@@ -6,4 +6,4 @@ use Rattle.wh_space.proofs.room.spreads_of.Given as goal
 
 -- the sum so far
 abbrev pub invariant-loop-place : goal.invariant-loop-place
-invariant-loop-place l = l.sum ≡ tally (of_occupant (λ t. (t.max - t.min) + 1)) (map occupant_of (take l.place l.guests.items))
+invariant-loop-place l = l.sum ≡ tally (of_occupant (λ t. (t.max - t.min) + 1)) (map occupant_of (take l.place l.occupant_entries.items))

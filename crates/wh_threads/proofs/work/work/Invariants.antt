@@ -5,4 +5,4 @@ use Rattle.wh_threads.proofs.work.work.Given as goal
 abbrev pub invariant-loop : goal.invariant-loop
 invariant-loop g l =
     (goal.iterator-loop g).can_next l.iterator' × (goal.iterator-loop g).is_finite l.iterator'
-    × HasWorked (receives_on l.inlet) l.fn.worker.from l.worker l.slip
+    × HasWorked (receives_on l.receiver) l.fn.worker.from l.worker l.slip

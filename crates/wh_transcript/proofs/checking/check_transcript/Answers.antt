@@ -1,6 +1,6 @@
 use Rattle.std.proofs.Common.{ap, length, sym, ◌∙◌}
 use Rattle.std.proofs.lemmas.Slice.Zip.{AllZip-long}
-use Rattle.wh_transcript.specs.Asked.{IsCallAsked}
+use Rattle.wh_transcript.specs.RequestedCalls.{IsCallAsked}
 use Rattle.wh_transcript.proofs.checking.check_transcript.Goals as goal
 
 pub returns-then-calls-requested-clause-err : goal.returns-then-calls-requested-clause-err

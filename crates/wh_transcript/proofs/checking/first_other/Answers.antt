@@ -1,5 +1,5 @@
 use Rattle.std.proofs.Common.{arith}
-use Rattle.wh_transcript.specs.Asked.{IsCallAsked}
+use Rattle.wh_transcript.specs.RequestedCalls.{IsCallAsked}
 use Rattle.wh_transcript.proofs.Zips.{read_at, zip_at, zip_further}
 use Rattle.wh_transcript.proofs.checking.first_other.Goals as goal
 

@@ -1,6 +1,6 @@
 use Rattle.std.proofs.Common.{take}
 use Rattle.std.specs.List.{AllZip}
-use Rattle.wh_transcript.specs.Asked.{IsCallAsked}
+use Rattle.wh_transcript.specs.RequestedCalls.{IsCallAsked}
 use Rattle.wh_transcript.proofs.checking.first_other.Given as goal
 
 -- so far each is the one that was asked for

@@ -1,7 +1,7 @@
 use Rattle.std.proofs.Common.{◌∷◌, [], map, get_or, refl, sym, ap, subst, arith, ◌∙◌, ◌+◌, ◌≢◌}
 use Rattle.std.proofs.lemmas.List.{map-append}
 use Rattle.wh_syntax.specs.View.{view_type, view_body}
-use Rattle.wh_bodies.specs.Views.{view_context, view_side}
+use Rattle.wh_bodies.specs.View.{view_context, view_side}
 use Rattle.wh_model.specs.declared.faults.ValidKind.TheVariants.{Memory}
 use Rattle.wh_validate.specs.declared.error.ValidError.{ValidError}
 use Rattle.wh_validate.proofs.Lists.{get_mapped}

@@ -1,8 +1,8 @@
 use Rattle.std.proofs.Common.{List, map, drop, ◌++◌}
 use Rattle.wh_syntax.specs.View.{view_body}
-use Rattle.wh_bodies.specs.Table.{Table}
-use Rattle.wh_bodies.specs.Views.{view_context, view_side}
-use Rattle.wh_validate.specs.Soundness.{Checked}
+use Rattle.wh_bodies.specs.SideTables.{Table}
+use Rattle.wh_bodies.specs.View.{view_context, view_side}
+use Rattle.wh_validate.specs.CheckedBodies.{Checked}
 use Rattle.wh_validate.proofs.bodies.check_bodies.Given as goal
 
 -- where the bodies to come are right, all are

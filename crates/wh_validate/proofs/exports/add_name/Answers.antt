@@ -1,5 +1,5 @@
 use Rattle.std.proofs.Common.{rules, is_some, ap, sym, ◌∙◌}
-use Rattle.wh_validate.specs.Names.{has_name}
+use Rattle.wh_validate.specs.SeenNames.{has_name}
 use Rattle.wh_validate.proofs.NameLemmas.{name_added}
 use Rattle.wh_validate.proofs.exports.add_name.Goals as goal
 

@@ -1,5 +1,5 @@
 use Rattle.std.proofs.Common.{arith}
-use Rattle.wh_bodies.specs.Views.{view_context}
+use Rattle.wh_bodies.specs.View.{view_context}
 use Rattle.wh_validate.specs.Parts.{IsExport}
 use Rattle.wh_validate.proofs.Lists.{each_more}
 use Rattle.wh_validate.proofs.NameLemmas.{none_seen, adds_seen, repeats_seen}

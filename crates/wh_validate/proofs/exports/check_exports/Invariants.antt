@@ -1,8 +1,8 @@
 use Rattle.std.proofs.Common.{ℕ, ◌<◌, get_or, take}
 use Rattle.wh_syntax.specs.declared.module.Export.{Export}
-use Rattle.wh_bodies.specs.Views.{view_context}
+use Rattle.wh_bodies.specs.View.{view_context}
 use Rattle.wh_validate.specs.Parts.{IsExport}
-use Rattle.wh_validate.specs.Names.{HasSeen}
+use Rattle.wh_validate.specs.SeenNames.{HasSeen}
 use Rattle.wh_validate.proofs.exports.check_exports.Given as goal
 
 abbrev pub invariant-loop-export : goal.invariant-loop-export

@@ -1,6 +1,6 @@
 use Rattle.std.proofs.Common.{ℕ, ◌<◌, get_or}
 use Rattle.wh_syntax.specs.declared.module.Element.{Element}
-use Rattle.wh_bodies.specs.Views.{view_context}
+use Rattle.wh_bodies.specs.View.{view_context}
 use Rattle.wh_validate.specs.Parts.{IsValidElement}
 use Rattle.wh_validate.proofs.segments.check_elements.Given as goal
 

@@ -1,6 +1,6 @@
 use Rattle.std.proofs.Common.{ℕ, ◌<◌, get_or}
 use Rattle.wh_syntax.specs.declared.module.Data.{Data}
-use Rattle.wh_bodies.specs.Views.{view_context}
+use Rattle.wh_bodies.specs.View.{view_context}
 use Rattle.wh_validate.specs.Parts.{IsSegment}
 use Rattle.wh_validate.proofs.segments.check_segments.Given as goal
 

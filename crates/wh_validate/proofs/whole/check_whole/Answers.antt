@@ -1,7 +1,7 @@
 use Rattle.std.proofs.Common.{ap, map, length, rules, refl, ◌∙◌}
 use Rattle.wh_bodies.specs.declared.context.Context.{Context}
 use Rattle.wh_validate.specs.declared.error.ValidError.{ValidError}
-use Rattle.wh_bodies.specs.Views.{view_side}
+use Rattle.wh_bodies.specs.View.{view_side}
 use Rattle.wh_syntax.specs.View.{view_module}
 use Rattle.wh_validate.proofs.WholeLemmas.{all_named, ok_turned, err_turned, blame_turned, no_function, around_given}
 use Rattle.wh_validate.proofs.CompleteLemmas.{outline_of, count_of}

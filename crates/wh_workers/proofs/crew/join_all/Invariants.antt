@@ -11,13 +11,13 @@ decreases-loop-handle g l = vec_len l.running
 
 abbrev pub invariant-loop-handle : goal.invariant-loop-handle
 invariant-loop-handle g l =
-    IsSeatAt (sends_on l.outlet) l.slip
+    IsSeatAt (sends_on l.sender) l.slip
     × (0 < (view l.slip).parts)
     × ((view l.slip).sent ≡ (view l.fn.slip).sent)
     × ((view l.slip).parts + vec_len l.running ≡ (view l.fn.slip).parts + vec_len l.fn.running)
     × EachAt l.running.items (λ i h.
     (slice_get l.lender.tallies i ≡ Some h.promise.from)
-    × (receives_on h.promise.inlet.value ≡ sends_on l.outlet))
+    × (receives_on h.promise.receiver.value ≡ sends_on l.sender))
     × (turns_of l.lender.tallies + turns_in (view l.fn.slip).received
     ≡ turns_of l.fn.lender.tallies + turns_in (view l.slip).received)
     × (l.lender.workers_out + vec_len l.fn.running ≡ l.fn.lender.workers_out + vec_len l.running)

@@ -6,7 +6,7 @@ use Rattle.wh_workers.proofs.crew.start_all.Given as goal
 
 abbrev pub invariant-loop-seat : goal.invariant-loop-seat
 invariant-loop-seat g l =
-    IsSeatAt (sends_on l.team.outlet) l.slip
+    IsSeatAt (sends_on l.team.sender) l.slip
     × ((view l.slip).sent ≡ [])
     × ((view l.slip).received ≡ [])
     × ((view l.slip).parts + l.seat ≡ 128)
@@ -14,5 +14,5 @@ invariant-loop-seat g l =
     × (l.workers ≤ vec_capacity l.running)
     × EachAt l.running.items (λ i h.
     (slice_get l.lender.tallies i ≡ Some h.promise.from)
-    × (receives_on h.promise.inlet.value ≡ sends_on l.team.outlet))
+    × (receives_on h.promise.receiver.value ≡ sends_on l.team.sender))
     × (l.lender ≡ record l.fn.lender { workers_out = l.seat })

@@ -1,6 +1,6 @@
 use Rattle.std.proofs.Common.{inr, Some, ap, sym, ◌∙◌, subst}
-use Rattle.wh_host.specs.Asking.{AnswersInvoke}
-use Rattle.wolqedir.specs.Serving.{ExportInvokes}
+use Rattle.wh_host.specs.CallRequests.{AnswersInvoke}
+use Rattle.wolqedir.specs.ExportContracts.{ExportInvokes}
 use Rattle.wolqedir.specs.Codes.{host_error_code}
 use Rattle.wolqedir.proofs.Helding.{left_at, same_held, untold}
 use Rattle.wolqedir.proofs.asking.wq_invoke.Goals as goal

@@ -1,5 +1,5 @@
 use Rattle.std.proofs.Common.{inr, Some, ap, sym, ◌∙◌, subst, length}
-use Rattle.wolqedir.specs.Serving.{ExportReleases, TellsCaller}
+use Rattle.wolqedir.specs.ExportContracts.{ExportReleases, TellsCaller}
 use Rattle.wolqedir.specs.Codes.{host_error_code}
 use Rattle.wolqedir.proofs.Helding.{left_at, same_held, untold}
 use Rattle.wolqedir.proofs.asking.wq_release.Goals as goal

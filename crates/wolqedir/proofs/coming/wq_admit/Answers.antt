@@ -1,5 +1,5 @@
 use Rattle.std.proofs.Common.{inr, Some, ap, sym, ◌∙◌, subst}
-use Rattle.wolqedir.specs.Serving.{ExportAdmits}
+use Rattle.wolqedir.specs.ExportContracts.{ExportAdmits}
 use Rattle.wolqedir.specs.Codes.{admit_error_code}
 use Rattle.wolqedir.proofs.Helding.{left_at, same_held, untold}
 use Rattle.wolqedir.proofs.coming.wq_admit.Goals as goal

@@ -1,5 +1,5 @@
 use Rattle.std.proofs.Common.{inr, Some, None, ap, sym, refl, ◌∙◌, subst}
-use Rattle.wolqedir.specs.Serving.{ExportTellsStatus}
+use Rattle.wolqedir.specs.ExportContracts.{ExportTellsStatus}
 use Rattle.wolqedir.proofs.Helding.{same_held}
 use Rattle.wolqedir.proofs.telling.wq_status_of.Goals as goal
 

@@ -1,6 +1,6 @@
 use Rattle.std.proofs.Common.{refl, sym, ap, subst, ◌∙◌}
 use Rattle.wh_alone.specs.declared.outcome.Stage.TheVariants.{Idle}
-use Rattle.wh_alone.specs.Kept.{Kept}
+use Rattle.wh_alone.specs.InstanceStates.{Kept}
 use Rattle.wh_alone.specs.Journal.{InstanceState, IsSomewhere, CallEnds}
 use Rattle.wh_alone.specs.Stages.{IsNoCall}
 use Rattle.wh_model.specs.Execution.Replay.{store_at}

@@ -1,6 +1,6 @@
 use Rattle.std.proofs.Common.{⊎_elim, subst}
 use Rattle.wh_alone.specs.declared.outcome.Stage.TheVariants.{Fresh, Starting, Idle, Calling, Dead}
-use Rattle.wh_alone.specs.Kept.{Kept}
+use Rattle.wh_alone.specs.InstanceStates.{Kept}
 use Rattle.wh_alone.specs.Journal.{InstanceState, IsSomewhere, GivenUp}
 use Rattle.wh_alone.specs.Stages.{IsOpen}
 use Rattle.wh_alone.proofs.Moving.{fresh_up, starting_up, calling_up, somewhere_up}

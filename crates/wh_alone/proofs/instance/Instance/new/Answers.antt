@@ -3,15 +3,15 @@ use Rattle.wh_model.specs.Execution.Instance.{AreGiven, fragments}
 use Rattle.wh_model.specs.Execution.Replay.{with_pieces}
 use Rattle.wh_syntax.specs.declared.module.Module.{Module}
 use Rattle.wh_syntax.specs.View.{view_module}
-use Rattle.wh_bodies.specs.Views.{view_side}
-use Rattle.wh_validate.specs.Soundness.{IsChecked}
+use Rattle.wh_bodies.specs.View.{view_side}
+use Rattle.wh_validate.specs.CheckedBodies.{IsChecked}
 use Rattle.wh_imports.specs.Resolving.{IsResolved}
 use Rattle.wh_initial.specs.Given.{view_parameters}
 use Rattle.wh_initial.specs.Begins.{first_store}
-use Rattle.wh_machine.specs.Runs.{linked_parts, RepresentsInstance}
-use Rattle.wh_alone.specs.Kept.{Kept}
+use Rattle.wh_machine.specs.MachineRuns.{linked_parts, RepresentsInstance}
+use Rattle.wh_alone.specs.InstanceStates.{Kept}
 use Rattle.wh_alone.specs.Journal.{IsAtStanding}
-use Rattle.wh_alone.specs.Beginnings.{IsFresh}
+use Rattle.wh_alone.specs.FirstStages.{IsFresh}
 use Rattle.wh_alone.proofs.Present.{record_of}
 use Rattle.wh_alone.proofs.Fresh.{begun_at}
 use Rattle.std.specs.List.{AllByRecursion}

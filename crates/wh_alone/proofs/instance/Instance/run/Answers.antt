@@ -1,7 +1,7 @@
 use Rattle.std.proofs.Common.{refl, sym, ap, subst, ◌∙◌}
 use Rattle.wh_syntax.specs.declared.module.Module.{Module}
 use Rattle.wh_alone.specs.declared.outcome.Stage.TheVariants.{Fresh, Starting, Calling}
-use Rattle.wh_alone.specs.Kept.{Kept}
+use Rattle.wh_alone.specs.InstanceStates.{Kept}
 use Rattle.wh_alone.specs.Journal.{InstanceState, IsSomewhere, GoesOnWith}
 use Rattle.wh_alone.specs.Stages.{IsOpen}
 use Rattle.wh_alone.specs.Stages.{after_start, after_call}

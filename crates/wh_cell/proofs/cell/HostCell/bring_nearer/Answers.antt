@@ -10,7 +10,7 @@ returns-in-Ok-clause-ready g c is =
       c.deref-2.result.now,
       subst (IsInStep g.D.SwapDev.held g.D.SwapDev.keeps g.D.SwapDev.honest g.D.SwapDev.faults)
           (sym c.deref_mut-2.ensures.value) c.lock-locked.ensures,
-      c.known.ensures,
+      c.invariant.ensures,
       λ need waits. (
         c.in-Ok.field-0,
         subst (λ (l : LockedState g.row.D.Denot). IsProvided before.host.space c.args.id.place need c.in-Ok.field-0 l.host.space)

@@ -1,6 +1,6 @@
 use Rattle.std.proofs.Common.{◌∙◌, Some, sym, ap, subst}
 use Rattle.wh_host_model.specs.Space.Errands.{pass_of, to_write}
-use Rattle.wh_host.specs.Carried.{slot_to_write}
+use Rattle.wh_host.specs.TicketsOut.{slot_to_write}
 use Rattle.wh_cell.specs.Knowing.{AgreesWith, with_ticket}
 use Rattle.wh_cell.specs.Locking.{LockedState}
 use Rattle.wh_cell.proofs.Beginning.{eviction_passes, goes_out, may_wait, sound_of}

@@ -3,7 +3,7 @@ use Rattle.wh_host_model.specs.declared.plain.InstId.{InstId}
 use Rattle.wh_host_model.specs.Host.Happens.{IsTurn}
 use Rattle.wh_host_model.specs.Host.Worlds.{World}
 use Rattle.wh_host.specs.Hosting.{HostState, IsHost}
-use Rattle.wh_cell.specs.Leaving.{HasTakenOn}
+use Rattle.wh_cell.specs.LeftByOwner.{HasTakenOn}
 use Rattle.wh_cell.specs.Locking.{BooksState, LockedState}
 use Rattle.wh_cell.proofs.Steps.{turned_in_step}
 use Rattle.wh_cell.proofs.locked.Locked.turn.Goals as goal

@@ -1,6 +1,6 @@
 use Rattle.std.proofs.Common.{ap, ◌∙◌}
 use Rattle.wh_commands.proofs.Cut.{words_cut, one_word}
-use Rattle.wh_commands.specs.Left.{words_behind}
+use Rattle.wh_commands.specs.WordsLeft.{words_behind}
 use Rattle.wh_commands.proofs.words.Words.next.Goals as goal
 
 pub returns-in-Some-clause-some : goal.returns-in-Some-clause-some

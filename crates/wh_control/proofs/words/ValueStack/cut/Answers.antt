@@ -1,6 +1,6 @@
 use Rattle.std.proofs.Common.{[], ◌∷◌, ◌++◌, length, reverse, ap, ◌∙◌, arith, length-append}
 use Rattle.std.proofs.lemmas.List.{length-reverse}
-use Rattle.wh_control.specs.Moves.{cut, words_carried}
+use Rattle.wh_control.specs.ControlSteps.{cut, words_carried}
 use Rattle.wh_control.proofs.Cuts.{cut_none, cut_one}
 use Rattle.wh_control.proofs.words.ValueStack.cut.Goals as goal
 

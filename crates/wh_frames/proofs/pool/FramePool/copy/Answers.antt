@@ -1,5 +1,5 @@
 use Rattle.std.proofs.Common.{◌≡◌, ◌∙◌, List, ℕ, [], get_or, ap, arith}
-use Rattle.wh_frames.specs.Lending.{with_bytes}
+use Rattle.wh_frames.specs.LentFrames.{with_bytes}
 use Rattle.wh_frames.specs.Parts.{pool_of}
 use Rattle.wh_frames.proofs.Free.{taken_of, get_or_front, pool_of-write}
 use Rattle.wh_frames.proofs.pool.FramePool.copy.Goals as goal

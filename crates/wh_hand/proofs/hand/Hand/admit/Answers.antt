@@ -1,10 +1,10 @@
-use Rattle.wh_hand.specs.InHand.{HandState}
+use Rattle.wh_hand.specs.HandStates.{HandState}
 use Rattle.wh_host.specs.Admitting.{AnswersAdmit}
 use Rattle.std.specs.Prelude.{Ok, Err}
 use Rattle.std.proofs.Common.{◌≤◌, sym, subst}
 use Rattle.std.specs.VecDeque.{deque_capacity}
-use Rattle.wh_admit.specs.Views.{view_params}
-use Rattle.wh_swap.specs.Memory.{memory_held}
+use Rattle.wh_admit.specs.View.{view_params}
+use Rattle.wh_swap.specs.MemorySwaps.{memory_held}
 use Rattle.wh_hand.proofs.Asked.{admit_leads, comer_few, comer_in_hand, comer_settles}
 use Rattle.wh_hand.proofs.hand.Hand.admit.Goals as goal
 

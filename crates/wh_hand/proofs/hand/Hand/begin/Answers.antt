@@ -1,6 +1,6 @@
 use Rattle.wh_hand.proofs.Events.{on_itself}
 use Rattle.std.specs.VecDeque.{deque_capacity}
-use Rattle.wh_swap.specs.Memory.{memory_held}
+use Rattle.wh_swap.specs.MemorySwaps.{memory_held}
 use Rattle.wh_hand.proofs.Steps.{moved_in_hand}
 use Rattle.wh_hand.proofs.hand.Hand.begin.Goals as goal
 

@@ -1,8 +1,8 @@
 use Rattle.std.proofs.Common.{subst}
-use Rattle.wh_hand.specs.InHand.{HandState}
+use Rattle.wh_hand.specs.HandStates.{HandState}
 use Rattle.wh_host.specs.Paging.{MovesOnly}
 use Rattle.std.specs.VecDeque.{deque_capacity}
-use Rattle.wh_swap.specs.Memory.{memory_held}
+use Rattle.wh_swap.specs.MemorySwaps.{memory_held}
 use Rattle.wh_hand.proofs.Steps.{only_moved_in_hand}
 use Rattle.wh_hand.proofs.hand.Hand.epoch.Goals as goal
 

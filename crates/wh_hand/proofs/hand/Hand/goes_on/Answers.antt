@@ -1,6 +1,6 @@
 use Rattle.std.proofs.Common.{not, subst}
 use Rattle.wh_host.specs.Paging.{Tells}
-use Rattle.wh_hand.specs.InHand.{HandState}
+use Rattle.wh_hand.specs.HandStates.{HandState}
 use Rattle.wh_hand.specs.Running.{AnyGoesOn}
 use Rattle.wh_hand.proofs.Steps.{told_by_line}
 use Rattle.wh_hand.proofs.hand.Hand.goes_on.Goals as goal

@@ -1,5 +1,5 @@
 use Rattle.std.specs.VecDeque.{deque_capacity}
-use Rattle.wh_swap.specs.Memory.{memory_held}
+use Rattle.wh_swap.specs.MemorySwaps.{memory_held}
 use Rattle.wh_hand.proofs.Asked.{loaded_in_hand}
 use Rattle.wh_hand.proofs.hand.Hand.load.Goals as goal
 

@@ -3,10 +3,10 @@ use Rattle.std.specs.Prelude.{IfSome}
 use Rattle.wh_host_model.specs.Space.Scanning.{IsDistinct}
 use Rattle.wh_host_model.specs.Hash.{fnv64}
 use Rattle.wh_scan.specs.Pass.{MayPass, PassesOverAll}
-use Rattle.wh_hand.specs.InHand.{HandState}
+use Rattle.wh_hand.specs.HandStates.{HandState}
 use Rattle.wh_host.specs.Paging.{MovesOnly}
 use Rattle.std.specs.VecDeque.{deque_capacity}
-use Rattle.wh_swap.specs.Memory.{memory_held}
+use Rattle.wh_swap.specs.MemorySwaps.{memory_held}
 use Rattle.wh_hand.proofs.Steps.{only_moved_in_hand}
 use Rattle.wh_hand.proofs.hand.Hand.scan.Goals as goal
 

@@ -1,6 +1,6 @@
 use Rattle.std.proofs.Common.{None, subst}
 use Rattle.wh_host.specs.Telling.{TellsChargesOf, TellsOf}
-use Rattle.wh_hand.specs.InHand.{HandState}
+use Rattle.wh_hand.specs.HandStates.{HandState}
 use Rattle.wh_hand.proofs.hand.Hand.status.Goals as goal
 
 pub returns-in_default-clause-charges : goal.returns-in_default-clause-charges

@@ -1,5 +1,5 @@
 use Rattle.std.proofs.Common.{◌≡◌, ◌-◌, ◌∙◌, refl, sym, subst, arith}
-use Rattle.wh_hand.specs.Runs.{LeavesOf, RunsPart}
+use Rattle.wh_hand.specs.RunParts.{LeavesOf, RunsPart}
 use Rattle.wh_hand.proofs.Events.{on_itself}
 use Rattle.wh_hand.proofs.Steps.{leaves_many, leaves_none, leaves_rest, on_more}
 use Rattle.wh_hand.proofs.Together.{whole_both, whole_itself}

@@ -1,6 +1,6 @@
 use Rattle.std.proofs.Common.{◌≡◌, ◌-◌, ◌≤◌}
 use Rattle.wh_reclaim.specs.Whole.{IsAsWhole}
-use Rattle.wh_hand.specs.Runs.{RunsPart}
+use Rattle.wh_hand.specs.RunParts.{RunsPart}
 use Rattle.wh_hand.proofs.hand.Hand.take.Given as goal
 
 -- so many charges were taken in so many turns

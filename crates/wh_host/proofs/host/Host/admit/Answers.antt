@@ -1,14 +1,14 @@
 use Rattle.std.proofs.Common.{◌≡◌, Some, slice_get, refl, sym, ap, subst, ◌∙◌, ◌+◌, arith, Option, List}
 use Rattle.slab.specs.Slab.{Updates}
 use Rattle.wh_host_model.specs.Owners.{no_module}
-use Rattle.wh_host_model.specs.Host.Happens.{admit_ok, admit_refused, admit_wants_memory, no_memory_to_admit}
+use Rattle.wh_host_model.specs.Host.Happens.{admit_ok, admit_refused, admit_out_of_memory, no_memory_to_admit}
 use Rattle.wh_host_model.specs.Host.Worlds.{promised}
 use Rattle.wh_host_model.specs.Space.Places.{Enters}
 use Rattle.wh_load.specs.Refusing.{view_linked}
 use Rattle.wh_admit.specs.declared.room.Room.{Room}
-use Rattle.wh_admit.specs.Faults.{fault_of}
-use Rattle.wh_admit.specs.Views.{view_params}
-use Rattle.wh_host.specs.declared.parts.Resident.{Resident}
+use Rattle.wh_admit.specs.AdmitErrors.{fault_of}
+use Rattle.wh_admit.specs.View.{view_params}
+use Rattle.wh_host.specs.declared.parts.InstanceEntry.{InstanceEntry}
 use Rattle.wh_host.specs.Admitting.{fault_answer}
 use Rattle.wh_host.specs.Hosting.{HostState, IsHost}
 use Rattle.wh_host.proofs.Comers.{admitted_here, begins_as, claim_is, few_live, module_is_small, no_module_is_there, refused_as, room_for, stands}
@@ -17,14 +17,14 @@ use Rattle.wh_host.proofs.host.Host.admit.Goals as goal
 pub returns-in_default-clause-admits : goal.returns-in_default-clause-admits
 returns-in_default-clause-admits c w st =
     let i = c.self.inside in
-    let h : HostState = record { modules = i.modules.items; residents = i.residents.slots; live = i.live; space = i.memory; next = i.next } in
+    let h : HostState = record { modules = i.modules.items; entries = i.entries.slots; live = i.live; space = i.memory; next = i.next } in
     let here = subst (λ z. IsHost z w) (sym c.self.view_is) st in
     (admit_refused no_module, w, refl, no_module_is_there h w c.args.of.number (view_params c.args.params) here (sym c.in_default.ensures), st)
 
 pub returns-in-Err-clause-admits : goal.returns-in-Err-clause-admits
 returns-in-Err-clause-admits c w st =
     let i = c.self.inside in
-    let h : HostState = record { modules = i.modules.items; residents = i.residents.slots; live = i.live; space = i.memory; next = i.next } in
+    let h : HostState = record { modules = i.modules.items; entries = i.entries.slots; live = i.live; space = i.memory; next = i.next } in
     let here = subst (λ z. IsHost z w) (sym c.self.view_is) st in
     let is : slice_get i.modules.items c.args.of.number ≡ Some c.in-Some.module.now = sym c.in-Some.ensures in
     let room : Room = record { frames = c.frames_left.result; slots = c.slots_left.result; live = i.live } in
@@ -34,38 +34,38 @@ returns-in-Err-clause-admits c w st =
 pub returns-in_default-checked_add-clause-admits : goal.returns-in_default-checked_add-clause-admits
 returns-in_default-checked_add-clause-admits c w st =
     let i = c.self.inside in
-    let h : HostState = record { modules = i.modules.items; residents = i.residents.slots; live = i.live; space = i.memory; next = i.next } in
+    let h : HostState = record { modules = i.modules.items; entries = i.entries.slots; live = i.live; space = i.memory; next = i.next } in
     let here = subst (λ z. IsHost z w) (sym c.self.view_is) st in
     let is : slice_get i.modules.items c.args.of.number ≡ Some c.in-Some.module.now = sym c.in-Some.ensures in
     let room : Room = record { frames = c.frames_left.result; slots = c.slots_left.result; live = i.live } in
     let stand = stands h w c.args.of.number c.in-Some.module.now room here is c.frames_left.ensures c.slots_left.ensures refl in
     let p = view_params c.args.params in
     let none = c.in-Ok.ensures.ok w c.args.of.number stand in
-    (admit_wants_memory, w, refl, no_memory_to_admit none, st)
+    (admit_out_of_memory, w, refl, no_memory_to_admit none, st)
 
-pub new_resident-made-requires : goal.new_resident-made-requires
-new_resident-made-requires c =
+pub new_entry_for-made-requires : goal.new_entry_for-made-requires
+new_entry_for-made-requires c =
     let i = c.self.inside in
-    let h : HostState = record { modules = i.modules.items; residents = i.residents.slots; live = i.live; space = i.memory; next = i.next } in
+    let h : HostState = record { modules = i.modules.items; entries = i.entries.slots; live = i.live; space = i.memory; next = i.next } in
     let inv = c.self.invariant in
     record { few = module_is_small h inv.0 c.args.of.number c.in-Some.module.now inv.1 (sym c.in-Some.ensures) }
 
 pub returns-in_default-made-clause-admits : goal.returns-in_default-made-clause-admits
 returns-in_default-made-clause-admits c w st =
     let i = c.self.inside in
-    let h : HostState = record { modules = i.modules.items; residents = i.residents.slots; live = i.live; space = i.memory; next = i.next } in
+    let h : HostState = record { modules = i.modules.items; entries = i.entries.slots; live = i.live; space = i.memory; next = i.next } in
     let here = subst (λ z. IsHost z w) (sym c.self.view_is) st in
     let is : slice_get i.modules.items c.args.of.number ≡ Some c.in-Some.module.now = sym c.in-Some.ensures in
     let room : Room = record { frames = c.frames_left.result; slots = c.slots_left.result; live = i.live } in
     let stand = stands h w c.args.of.number c.in-Some.module.now room here is c.frames_left.ensures c.slots_left.ensures refl in
     let p = view_params c.args.params in
     let none = c.in-Ok.ensures.ok w c.args.of.number stand in
-    (admit_wants_memory, w, refl, no_memory_to_admit none, st)
+    (admit_out_of_memory, w, refl, no_memory_to_admit none, st)
 
 pub enter_next-entered-requires-clause-room : goal.enter_next-entered-requires-clause-room
 enter_next-entered-requires-clause-room c =
     let i = c.self.inside in
-    let h : HostState = record { modules = i.modules.items; residents = i.residents.slots; live = i.live; space = i.memory; next = i.next } in
+    let h : HostState = record { modules = i.modules.items; entries = i.entries.slots; live = i.live; space = i.memory; next = i.next } in
     let inv = c.self.invariant in
     let is : slice_get i.modules.items c.args.of.number ≡ Some c.in-Some.module.now = sym c.in-Some.ensures in
     let room : Room = record { frames = c.frames_left.result; slots = c.slots_left.result; live = i.live } in
@@ -78,27 +78,27 @@ enter_next-entered-requires-clause-room c =
 pub invariant_of-self : goal.invariant_of-self
 invariant_of-self c =
     let i = c.self.inside in
-    let h : HostState = record { modules = i.modules.items; residents = i.residents.slots; live = i.live; space = i.memory; next = i.next } in
+    let h : HostState = record { modules = i.modules.items; entries = i.entries.slots; live = i.live; space = i.memory; next = i.next } in
     let inv = c.self.invariant in
-    (inv.0, subst (λ s. IsHost (record h { residents = c.enter_next-entered.new.residents.slots; space = s }) inv.0) (sym c.in_default-entered.ensures.memory) (subst (λ (zs : List (Option Resident)). IsHost (record h { residents = zs }) inv.0) (sym c.in_default-entered.ensures.residents) inv.1))
+    (inv.0, subst (λ s. IsHost (record h { entries = c.enter_next-entered.new.entries.slots; space = s }) inv.0) (sym c.in_default-entered.ensures.memory) (subst (λ (zs : List (Option InstanceEntry)). IsHost (record h { entries = zs }) inv.0) (sym c.in_default-entered.ensures.entries) inv.1))
 
 pub returns-in_default-entered-clause-admits : goal.returns-in_default-entered-clause-admits
 returns-in_default-entered-clause-admits c w st =
     let i = c.self.inside in
-    let h : HostState = record { modules = i.modules.items; residents = i.residents.slots; live = i.live; space = i.memory; next = i.next } in
+    let h : HostState = record { modules = i.modules.items; entries = i.entries.slots; live = i.live; space = i.memory; next = i.next } in
     let here = subst (λ z. IsHost z w) (sym c.self.view_is) st in
     let is : slice_get i.modules.items c.args.of.number ≡ Some c.in-Some.module.now = sym c.in-Some.ensures in
     let room : Room = record { frames = c.frames_left.result; slots = c.slots_left.result; live = i.live } in
     let stand = stands h w c.args.of.number c.in-Some.module.now room here is c.frames_left.ensures c.slots_left.ensures refl in
     let p = view_params c.args.params in
     let none = c.in-Ok.ensures.ok w c.args.of.number stand in
-    let kept = subst (λ s. IsHost (record h { residents = c.enter_next-entered.new.residents.slots; space = s }) w) (sym c.in_default-entered.ensures.memory) (subst (λ (zs : List (Option Resident)). IsHost (record h { residents = zs }) w) (sym c.in_default-entered.ensures.residents) here) in
-    (admit_wants_memory, w, refl, no_memory_to_admit none, kept)
+    let kept = subst (λ s. IsHost (record h { entries = c.enter_next-entered.new.entries.slots; space = s }) w) (sym c.in_default-entered.ensures.memory) (subst (λ (zs : List (Option InstanceEntry)). IsHost (record h { entries = zs }) w) (sym c.in_default-entered.ensures.entries) here) in
+    (admit_out_of_memory, w, refl, no_memory_to_admit none, kept)
 
 pub overflow_add-self : goal.overflow_add-self
 overflow_add-self c =
     let i = c.self.inside in
-    let h : HostState = record { modules = i.modules.items; residents = i.residents.slots; live = i.live; space = i.memory; next = i.next } in
+    let h : HostState = record { modules = i.modules.items; entries = i.entries.slots; live = i.live; space = i.memory; next = i.next } in
     let inv = c.self.invariant in
     let is : slice_get i.modules.items c.args.of.number ≡ Some c.in-Some.module.now = sym c.in-Some.ensures in
     let room : Room = record { frames = c.frames_left.result; slots = c.slots_left.result; live = i.live } in
@@ -111,7 +111,7 @@ overflow_add-self c =
 pub invariant_of-self-2 : goal.invariant_of-self-2
 invariant_of-self-2 c =
     let i = c.self.inside in
-    let h : HostState = record { modules = i.modules.items; residents = i.residents.slots; live = i.live; space = i.memory; next = i.next } in
+    let h : HostState = record { modules = i.modules.items; entries = i.entries.slots; live = i.live; space = i.memory; next = i.next } in
     let inv = c.self.invariant in
     let is : slice_get i.modules.items c.args.of.number ≡ Some c.in-Some.module.now = sym c.in-Some.ensures in
     let room : Room = record { frames = c.frames_left.result; slots = c.slots_left.result; live = i.live } in
@@ -119,13 +119,13 @@ invariant_of-self-2 c =
     let p = view_params c.args.params in
     let none = c.in-Ok.ensures.ok inv.0 c.args.of.number stand in
     let begins = begins_as (view_linked c.in-Some.module.now.linked) p c.in-Ok.admitted c.in-Ok.ensures.begins in
-    let made = admitted_here h inv.0 c.args.of.number p c.in-Some.module.now c.in-Ok.admitted c.in-Ok-made.resident c.in-Ok-entered.place i.residents c.enter_next-entered.new.residents c.insert_reserved.new.self c.enter_next-entered.new.memory inv.1 is none begins c.in-Ok-made.ensures refl c.in-Ok-entered.ensures.ok (subst (λ n. Updates c.enter_next-entered.new.residents c.insert_reserved.new.self n (Some c.in-Ok-made.resident)) (c.insert_reserved.ensures.key ∙ c.in-Ok-entered.ensures.ok.next) c.insert_reserved.ensures.updates) in
-    (made.0, subst (λ n. IsHost (record h { residents = c.insert_reserved.new.self.slots; live = i.live + 1; space = c.enter_next-entered.new.memory; next = n }) made.0) (sym c.in-Some-checked_add.ensures.1) made.2)
+    let made = admitted_here h inv.0 c.args.of.number p c.in-Some.module.now c.in-Ok.admitted c.in-Ok-made.entry c.in-Ok-entered.place i.entries c.enter_next-entered.new.entries c.insert_reserved.new.self c.enter_next-entered.new.memory inv.1 is none begins c.in-Ok-made.ensures refl c.in-Ok-entered.ensures.ok (subst (λ n. Updates c.enter_next-entered.new.entries c.insert_reserved.new.self n (Some c.in-Ok-made.entry)) (c.insert_reserved.ensures.key ∙ c.in-Ok-entered.ensures.ok.next) c.insert_reserved.ensures.updates) in
+    (made.0, subst (λ n. IsHost (record h { entries = c.insert_reserved.new.self.slots; live = i.live + 1; space = c.enter_next-entered.new.memory; next = n }) made.0) (sym c.in-Some-checked_add.ensures.1) made.2)
 
 pub returns-clause-admits : goal.returns-clause-admits
 returns-clause-admits c w st =
     let i = c.self.inside in
-    let h : HostState = record { modules = i.modules.items; residents = i.residents.slots; live = i.live; space = i.memory; next = i.next } in
+    let h : HostState = record { modules = i.modules.items; entries = i.entries.slots; live = i.live; space = i.memory; next = i.next } in
     let here = subst (λ z. IsHost z w) (sym c.self.view_is) st in
     let is : slice_get i.modules.items c.args.of.number ≡ Some c.in-Some.module.now = sym c.in-Some.ensures in
     let room : Room = record { frames = c.frames_left.result; slots = c.slots_left.result; live = i.live } in
@@ -133,8 +133,8 @@ returns-clause-admits c w st =
     let p = view_params c.args.params in
     let none = c.in-Ok.ensures.ok w c.args.of.number stand in
     let begins = begins_as (view_linked c.in-Some.module.now.linked) p c.in-Ok.admitted c.in-Ok.ensures.begins in
-    let made = admitted_here h w c.args.of.number p c.in-Some.module.now c.in-Ok.admitted c.in-Ok-made.resident c.in-Ok-entered.place i.residents c.enter_next-entered.new.residents c.insert_reserved.new.self c.enter_next-entered.new.memory here is none begins c.in-Ok-made.ensures refl c.in-Ok-entered.ensures.ok (subst (λ n. Updates c.enter_next-entered.new.residents c.insert_reserved.new.self n (Some c.in-Ok-made.resident)) (c.insert_reserved.ensures.key ∙ c.in-Ok-entered.ensures.ok.next) c.insert_reserved.ensures.updates) in
-    (admit_ok _, made.0, refl, made.1, subst (λ n. IsHost (record h { residents = c.insert_reserved.new.self.slots; live = i.live + 1; space = c.enter_next-entered.new.memory; next = n }) made.0) (sym c.in-Some-checked_add.ensures.1) made.2)
+    let made = admitted_here h w c.args.of.number p c.in-Some.module.now c.in-Ok.admitted c.in-Ok-made.entry c.in-Ok-entered.place i.entries c.enter_next-entered.new.entries c.insert_reserved.new.self c.enter_next-entered.new.memory here is none begins c.in-Ok-made.ensures refl c.in-Ok-entered.ensures.ok (subst (λ n. Updates c.enter_next-entered.new.entries c.insert_reserved.new.self n (Some c.in-Ok-made.entry)) (c.insert_reserved.ensures.key ∙ c.in-Ok-entered.ensures.ok.next) c.insert_reserved.ensures.updates) in
+    (admit_ok _, made.0, refl, made.1, subst (λ n. IsHost (record h { entries = c.insert_reserved.new.self.slots; live = i.live + 1; space = c.enter_next-entered.new.memory; next = n }) made.0) (sym c.in-Some-checked_add.ensures.1) made.2)
 
 pub returns-clause-memory : goal.returns-clause-memory
 returns-clause-memory c =

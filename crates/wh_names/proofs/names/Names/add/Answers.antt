@@ -1,8 +1,8 @@
 use Rattle.std.proofs.Common.{arith, ◌≡◌, ◌∷◌, ◌++◌, [], ◌%◌, ◌∙◌, None, length, ap, sym, subst}
 use Rattle.std.proofs.lemmas.List.{length_push}
-use Rattle.wh_names.specs.Hash.{hash_of}
-use Rattle.wh_names.specs.Index.{IsIndex}
-use Rattle.wh_names.specs.Places.{place_of_name, AreNamedOnce}
+use Rattle.wh_names.specs.NameHash.{hash_of}
+use Rattle.wh_names.specs.NameIndex.{IsIndex}
+use Rattle.wh_names.specs.NamePlaces.{place_of_name, AreNamedOnce}
 use Rattle.wh_names.proofs.Indexed.{index_more}
 use Rattle.wh_names.proofs.Places.{apart_more}
 use Rattle.wh_names.proofs.names.Names.add.Goals as goal

@@ -4,9 +4,9 @@ use Rattle.std.proofs.lemmas.Bool.Decides.{Decides-eqb}
 use Rattle.std.proofs.lemmas.List.{get_or_read}
 use Rattle.std.proofs.lemmas.Option.{same_Some}
 use Rattle.std.proofs.lemmas.Slice.Eq.{slice_eq-Decides}
-use Rattle.wh_names.specs.Chains.{LeadsToName}
-use Rattle.wh_names.specs.Hash.{hash_of, bucket_at}
-use Rattle.wh_names.specs.Places.{place_of_name}
+use Rattle.wh_names.specs.NameChains.{LeadsToName}
+use Rattle.wh_names.specs.NameHash.{hash_of, bucket_at}
+use Rattle.wh_names.specs.NamePlaces.{place_of_name}
 use Rattle.wh_names.proofs.Indexed.{without_from, without_past, there_from, leads_down}
 use Rattle.wh_names.proofs.Places.{place_is, place_none}
 use Rattle.wh_names.proofs.names.Names.place.Goals as goal

@@ -1,5 +1,5 @@
 use Rattle.std.proofs.Common.{◌≡◌, ◌≢◌, ℕ, ◌+◌, ◌<◌, ◌≤◌, length, slice_get, Some}
-use Rattle.wh_names.specs.Hash.{bucket_at}
+use Rattle.wh_names.specs.NameHash.{bucket_at}
 use Rattle.wh_names.proofs.names.Names.place.Given as goal
 
 -- the link is to a name of the bucket or to none, and no name from there on is the one

@@ -1,8 +1,8 @@
 use Rattle.std.proofs.Common.{arith, ◌≡◌, ◌+◌, ◌-◌, ◌%◌, ◌∙◌, length, take, ap, sym, subst}
 use Rattle.std.proofs.lemmas.List.{length-take}
-use Rattle.wh_names.specs.Hash.{hash_of}
-use Rattle.wh_names.specs.Index.{IsIndex}
-use Rattle.wh_names.specs.Places.{AreNamedOnce}
+use Rattle.wh_names.specs.NameHash.{hash_of}
+use Rattle.wh_names.specs.NameIndex.{IsIndex}
+use Rattle.wh_names.specs.NamePlaces.{AreNamedOnce}
 use Rattle.wh_names.proofs.Indexed.{index_fewer}
 use Rattle.wh_names.proofs.Places.{apart_take}
 use Rattle.wh_names.proofs.names.Names.remove_last.Goals as goal

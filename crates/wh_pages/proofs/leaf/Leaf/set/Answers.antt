@@ -4,7 +4,7 @@ use Rattle.std.specs.Vec.{with_item}
 use Rattle.std.proofs.lemmas.List.{length-set}
 use Rattle.std.proofs.lemmas.Option.{slice_get-get_or}
 use Rattle.wh_host_model.proofs.Space.Sums.{get_tally, set_tally}
-use Rattle.wh_pages.specs.declared.entry.Entry.{Entry}
+use Rattle.wh_pages.specs.declared.entry.PageEntry.{PageEntry}
 use Rattle.wh_pages.specs.Leaves.{actives_of, residents_of}
 use Rattle.wh_pages.proofs.LeafCounts.{actives_most, residents_most}
 use Rattle.wh_pages.proofs.leaf.Leaf.set.Goals as goal
@@ -53,4 +53,4 @@ invariant_of-self c =
     }
 
 pub returns : goal.returns
-returns c = ap (λ (v : Vec Entry). with_item v c.args.at c.args.entry) c.self.view_is
+returns c = ap (λ (v : Vec PageEntry). with_item v c.args.at c.args.entry) c.self.view_is

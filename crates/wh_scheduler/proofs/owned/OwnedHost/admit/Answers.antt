@@ -2,9 +2,9 @@ use Rattle.std.specs.Prelude.{IfOk}
 use Rattle.std.proofs.Common.{ℕ, ap, sym}
 use Rattle.wh_host_model.specs.Space.Places.{Enters}
 use Rattle.wh_host_model.specs.Host.Worlds.{promised}
-use Rattle.wh_admit.specs.Views.{view_params}
+use Rattle.wh_admit.specs.View.{view_params}
 use Rattle.wh_host.specs.Admitting.{AnswersAdmit}
-use Rattle.wh_cell.specs.Leaving.{LeftState}
+use Rattle.wh_cell.specs.LeftByOwner.{LeftState}
 use Rattle.wh_scheduler.proofs.InHand.{books_on, in_hand_on, on_owned}
 use Rattle.wh_scheduler.proofs.owned.OwnedHost.admit.Goals as goal
 

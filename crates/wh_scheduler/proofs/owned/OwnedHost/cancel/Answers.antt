@@ -2,8 +2,8 @@ use Rattle.std.specs.Prelude.{OnOk}
 use Rattle.std.proofs.Common.{◌≡◌, ap, sym}
 use Rattle.wh_host_model.specs.Space.Stores.{ended}
 use Rattle.wh_host_model.specs.Host.Happens.{IsCancel}
-use Rattle.wh_host.specs.Asking.{AnswersCall}
-use Rattle.wh_cell.specs.Leaving.{LeftState}
+use Rattle.wh_host.specs.CallRequests.{AnswersCall}
+use Rattle.wh_cell.specs.LeftByOwner.{LeftState}
 use Rattle.wh_scheduler.proofs.InHand.{books_on, in_hand_on, on_owned}
 use Rattle.wh_scheduler.proofs.owned.OwnedHost.cancel.Goals as goal
 

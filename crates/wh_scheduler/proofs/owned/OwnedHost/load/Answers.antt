@@ -1,6 +1,6 @@
 use Rattle.std.proofs.Common.{ap, sym}
 use Rattle.wh_host.specs.Loading.{AnswersLoad}
-use Rattle.wh_cell.specs.Leaving.{LeftState}
+use Rattle.wh_cell.specs.LeftByOwner.{LeftState}
 use Rattle.wh_scheduler.proofs.InHand.{books_on, in_hand_on, on_owned}
 use Rattle.wh_scheduler.proofs.owned.OwnedHost.load.Goals as goal
 

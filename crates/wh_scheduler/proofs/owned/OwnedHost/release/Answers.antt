@@ -2,7 +2,7 @@ use Rattle.std.specs.Prelude.{OnOk}
 use Rattle.std.proofs.Common.{ap, sym}
 use Rattle.wh_host_model.specs.Space.Places.{Exits}
 use Rattle.wh_host.specs.Releasing.{AnswersRelease}
-use Rattle.wh_cell.specs.Leaving.{LeftState}
+use Rattle.wh_cell.specs.LeftByOwner.{LeftState}
 use Rattle.wh_scheduler.proofs.InHand.{books_on, in_hand_on, on_owned}
 use Rattle.wh_scheduler.proofs.owned.OwnedHost.release.Goals as goal
 

@@ -12,48 +12,48 @@ use Rattle.wh_scheduler.proofs.owned.OwnedHost.run.Goals as goal
 pub invariant_of-self : goal.invariant_of-self
 invariant_of-self g c =
     let a = c.agree.ensures in
-    let agree = c.meet.ensures.known ∙ a.same.1 ∙ ap (λ (l : LockedState g.row.D.Denot). l.known) c.face.ensures.same.0 ∙ c.face.ensures.agreed
-    ∙ ap (λ (b : BackingState g.row.D.Denot). known_of b) (sym c.face.ensures.same.1) in
-    in_hand_still c.meet.new.owner c.agree.new.shares c.meet.new.self c.face.new.backing agree c.meet.ensures.knows
-    (sums_of c.face.new.self.books c.meet.new.self.books _ c.agree.new.shares a.turns a.charges a.offers a.evictions (c.meet.ensures.books ∙ a.same.2) a.same.4)
+    let agree = c.sync_owner.ensures.known ∙ a.same.1 ∙ ap (λ (l : LockedState g.row.D.Denot). l.known) c.sync_device.ensures.same.0 ∙ c.sync_device.ensures.agreed
+    ∙ ap (λ (b : BackingState g.row.D.Denot). known_of b) (sym c.sync_device.ensures.same.1) in
+    in_hand_still c.sync_owner.new.owner c.agree.new.shares c.sync_owner.new.self c.sync_device.new.backing agree c.sync_owner.ensures.knows
+    (sums_of c.sync_device.new.self.books c.sync_owner.new.self.books _ c.agree.new.shares a.turns a.charges a.offers a.evictions (c.sync_owner.ensures.books ∙ a.same.2) a.same.4)
 
 pub returns-clause-came : goal.returns-clause-came
 returns-clause-came g c =
-    comes_on g.D.SwapDev.keeps g.D.SwapDev.honest g.D.SwapDev.faults c.self.inside.locked c.self.inside.owner c.args.self.now c.meet.new.owner c.agree.new.self c.self.view_is c.meet.ensures.came
-    (c.meet.ensures.knows ∙ now_same c.meet.new.self c.agree.new.self c.meet.ensures.host c.meet.ensures.known)
+    comes_on g.D.SwapDev.keeps g.D.SwapDev.honest g.D.SwapDev.faults c.self.inside.locked c.self.inside.owner c.args.self.now c.sync_owner.new.owner c.agree.new.self c.self.view_is c.sync_owner.ensures.came
+    (c.sync_owner.ensures.knows ∙ now_same c.sync_owner.new.self c.agree.new.self c.sync_owner.ensures.host c.sync_owner.ensures.known)
 
 pub returns-clause-grown : goal.returns-clause-grown
 returns-clause-grown g c =
     let was = sums_before c.self.inside.locked c.self.inside.backing c.self.inside.owner c.self.inside.shares c.args.self.now c.self.invariant c.self.view_is in
-    let is = ap (λ (z : BooksState). z.turns) (c.meet.ensures.books ∙ c.agree.ensures.same.2) ∙ c.agree.ensures.turns in
+    let is = ap (λ (z : BooksState). z.turns) (c.sync_owner.ensures.books ∙ c.agree.ensures.same.2) ∙ c.agree.ensures.turns in
     at_ok (λ a b (s : Served). AreRun a (view s.slip).received b) c.run_between-served.result.0 _ _ _ _ was.turns is c.run_between-served.ensures.grown
 
 pub returns-clause-turns : goal.returns-clause-turns
 returns-clause-turns g c =
     let was = sums_before c.self.inside.locked c.self.inside.backing c.self.inside.owner c.self.inside.shares c.args.self.now c.self.invariant c.self.view_is in
-    let is = ap (λ (z : BooksState). z.turns) (c.meet.ensures.books ∙ c.agree.ensures.same.2) ∙ c.agree.ensures.turns in
+    let is = ap (λ (z : BooksState). z.turns) (c.sync_owner.ensures.books ∙ c.agree.ensures.same.2) ∙ c.agree.ensures.turns in
     at_ok (λ a b (s : Served). OnOk s.end (b ≡ a + s.turns)) c.run_between-served.result.0 _ _ _ _ was.turns is c.run_between-served.ensures.turns
 
 pub returns-clause-owed : goal.returns-clause-owed
 returns-clause-owed g c =
     let was = sums_before c.self.inside.locked c.self.inside.backing c.self.inside.owner c.self.inside.shares c.args.self.now c.self.invariant c.self.view_is in
-    let is = ap (λ (z : BooksState). z.offers) (c.meet.ensures.books ∙ c.agree.ensures.same.2) ∙ c.agree.ensures.offers in
+    let is = ap (λ (z : BooksState). z.offers) (c.sync_owner.ensures.books ∙ c.agree.ensures.same.2) ∙ c.agree.ensures.offers in
     at_ok (λ a b (s : Served). OnOk s.end (a + s.turns / 64 ≤ b)) c.run_between-served.result.0 _ _ _ _ was.offers is c.run_between-served.ensures.owed
 
 pub returns-clause-err : goal.returns-clause-err
 returns-clause-err g c =
     let was = sums_before c.self.inside.locked c.self.inside.backing c.self.inside.owner c.self.inside.shares c.args.self.now c.self.invariant c.self.view_is in
-    let is = ap (λ (z : BooksState). z.turns) (c.meet.ensures.books ∙ c.agree.ensures.same.2) ∙ c.agree.ensures.turns in
+    let is = ap (λ (z : BooksState). z.turns) (c.sync_owner.ensures.books ∙ c.agree.ensures.same.2) ∙ c.agree.ensures.turns in
     at_err _ _ c.run_between-served.result.0 (λ same. is ∙ ap turns_of same ∙ sym was.turns) c.run_between-served.ensures.err
 
 pub returns-clause-offers : goal.returns-clause-offers
 returns-clause-offers g c =
     let was = sums_before c.self.inside.locked c.self.inside.backing c.self.inside.owner c.self.inside.shares c.args.self.now c.self.invariant c.self.view_is in
-    let is = ap (λ (z : BooksState). z.offers) (c.meet.ensures.books ∙ c.agree.ensures.same.2) ∙ c.agree.ensures.offers in
+    let is = ap (λ (z : BooksState). z.offers) (c.sync_owner.ensures.books ∙ c.agree.ensures.same.2) ∙ c.agree.ensures.offers in
     rw (was.offers, is) c.run_between-served.ensures.offers
 
 pub returns-clause-evictions : goal.returns-clause-evictions
 returns-clause-evictions g c =
     let was = sums_before c.self.inside.locked c.self.inside.backing c.self.inside.owner c.self.inside.shares c.args.self.now c.self.invariant c.self.view_is in
-    let is = ap (λ (z : BooksState). z.evictions) (c.meet.ensures.books ∙ c.agree.ensures.same.2) ∙ c.agree.ensures.evictions in
+    let is = ap (λ (z : BooksState). z.evictions) (c.sync_owner.ensures.books ∙ c.agree.ensures.same.2) ∙ c.agree.ensures.evictions in
     rw (was.evictions, is) c.run_between-served.ensures.evictions

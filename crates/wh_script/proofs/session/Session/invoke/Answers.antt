@@ -1,8 +1,8 @@
 use Rattle.std.proofs.Common.{subst, sym, string_bytes}
-use Rattle.wh_host_model.specs.Lines.Commands as asked_of
-use Rattle.wh_engine.proofs.Sayings.{on_ok_then}
+use Rattle.wh_script_model.specs.Commands as asked_of
+use Rattle.wh_engine.proofs.Printings.{on_ok_then}
 use Rattle.wh_engine.specs.Draining.{DeviceMayFail, DeviceServesWell, DeviceStaysTrue}
-use Rattle.wh_engine.specs.Standing.{engine_on}
+use Rattle.wh_engine.specs.RepresentedScript.{script_host_on}
 use Rattle.wh_engine.proofs.Opened.{err_before}
 use Rattle.wh_script.proofs.Answered.{is_received, has_no_guest, invoke_wants, where_ok, where_err}
 use Rattle.wh_script.proofs.Devices.{true_same, fails_same}
@@ -13,7 +13,7 @@ returns-in_default-clause-answers g c =
     let before = c.args.self.now in
     let after = c.complain_drained.new.self in
     on_ok_then c.complain_drained.result c.complain_drained.ensures.complains (λ complains same files.
-    has_no_guest files c.args.number c.args.inst.now c.args.export.now c.args.fuel c.args.args.now (engine_on before.host.host before.engine) (engine_on after.host.host after.engine)
+    has_no_guest files c.args.number c.args.inst.now c.args.export.now c.args.fuel c.args.args.now (script_host_on before.host.host before.script_host) (script_host_on after.host.host after.script_host)
     (string_bytes before.text) (string_bytes after.text) c.in_default.ensures.named (complains same))
 
 pub returns-then-is_err-clause-answers : goal.returns-then-is_err-clause-answers
@@ -22,8 +22,8 @@ returns-then-is_err-clause-answers g c =
     let mid = c.invoke-asked.new in
     let after = c.complain_drained-then-is_err.new.self in
     on_ok_then c.complain_drained-then-is_err.result c.complain_drained-then-is_err.ensures.complains (λ complains same files.
-    invoke_wants files c.args.number (asked_of.invoke c.args.inst.now c.args.export.now c.args.fuel c.args.args.now) (engine_on before.host.host before.engine) (engine_on mid.host.host mid.self)
-    (engine_on after.host.host after.engine) (string_bytes before.text) (string_bytes after.text)
+    invoke_wants files c.args.number (asked_of.invoke c.args.inst.now c.args.export.now c.args.fuel c.args.args.now) (script_host_on before.host.host before.script_host) (script_host_on mid.host.host mid.self)
+    (script_host_on after.host.host after.script_host) (string_bytes before.text) (string_bytes after.text)
     (where_err c.invoke-asked.result c.if-is_err.ensures.value c.invoke-asked.ensures.err)
     (complains (subst (λ o. DeviceServesWell g.D.SwapDev.honest g.D.SwapDev.faults o after.host.device) (sym c.invoke-asked.ensures.device) same)))
 
@@ -31,14 +31,14 @@ pub returns-then-is_err-clause-open : goal.returns-then-is_err-clause-open
 returns-then-is_err-clause-open g c =
     let before = c.args.self.now in
     let mid = c.invoke-asked.new in
-    err_before (engine_on before.host.host before.engine) (engine_on mid.host.host mid.self) c.complain_drained-then-is_err.result
+    err_before (script_host_on before.host.host before.script_host) (script_host_on mid.host.host mid.self) c.complain_drained-then-is_err.result
     (where_err c.invoke-asked.result c.if-is_err.ensures.value c.invoke-asked.ensures.err) c.complain_drained-then-is_err.ensures.open
 
 pub returns-clause-answers : goal.returns-clause-answers
 returns-clause-answers g c same files =
     let before = c.args.self.now in
     let mid = c.invoke-asked.new in
-    is_received files c.args.number c.in-Some.guest c.args.inst.now c.args.export.now c.args.fuel c.args.args.now (engine_on before.host.host before.engine) (engine_on mid.host.host mid.self)
+    is_received files c.args.number c.in-Some.instance c.args.inst.now c.args.export.now c.args.fuel c.args.args.now (script_host_on before.host.host before.script_host) (script_host_on mid.host.host mid.self)
     (string_bytes before.text) c.in-Some.ensures.named (where_ok c.invoke-asked.result c.if-is_err.ensures.value c.invoke-asked.ensures.ok)
 
 pub returns-clause-device : goal.returns-clause-device

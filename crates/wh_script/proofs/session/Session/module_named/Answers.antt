@@ -1,8 +1,8 @@
 use Rattle.std.proofs.Common.{arith, MatchOption, sym, subst}
-use Rattle.wh_host_model.specs.Lines.Made.{NoModule}
+use Rattle.wh_script_model.specs.ScriptState.{NoModule}
 use Rattle.wh_engine.specs.Obeying.{IsModuleNamed}
 use Rattle.wh_script.proofs.Within.{module_within}
-use Rattle.wh_engine.specs.Standing.{engine_on}
+use Rattle.wh_engine.specs.RepresentedScript.{script_host_on}
 use Rattle.wh_script.proofs.session.Session.module_named.Goals as goal
 
 pub returns-in_err-number-clause-named : goal.returns-in_err-number-clause-named
@@ -11,7 +11,7 @@ returns-in_err-number-clause-named g c settings m s =
 
 pub returns-clause-named : goal.returns-clause-named
 returns-clause-named g c settings m s x has =
-    let within = module_within settings (engine_on c.args.self.now.host.host c.args.self.now.engine) m c.in_ok-number.number c.args.name.now s (c.in_ok-number.ensures.named settings m c.args.self.now.host.host s) in
+    let within = module_within settings (script_host_on c.args.self.now.host.host c.args.self.now.script_host) m c.in_ok-number.number c.args.name.now s (c.in_ok-number.ensures.named settings m c.args.self.now.host.host s) in
     absurd (omega (arith, within, c.modules.ensures, c.if-number-modules.false))
 
 pub returns-then-number-modules-clause-named : goal.returns-then-number-modules-clause-named

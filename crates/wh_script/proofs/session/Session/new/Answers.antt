@@ -1,10 +1,10 @@
 use Rattle.std.proofs.Common.{ap, refl, subst, sym}
 use Rattle.wh_reclaim.specs.Together.{AreTogether}
-use Rattle.wh_cell.specs.Leaving.{LeftState}
+use Rattle.wh_cell.specs.LeftByOwner.{LeftState}
 use Rattle.wh_cell.proofs.Begun.{new_agrees, new_led, new_uncharged}
-use Rattle.wh_host_model.specs.Lines.Made.{nothing_made}
+use Rattle.wh_script_model.specs.ScriptState.{empty_script}
 use Rattle.wh_settings.specs.View.{settings_of}
-use Rattle.wh_engine.specs.Standing.{StandsForScript, engine_on}
+use Rattle.wh_engine.specs.RepresentedScript.{RepresentsScript, script_host_on}
 use Rattle.wh_script.proofs.session.Session.new.Goals as goal
 
 pub new-requires-2-clause-uncharged : goal.new-requires-2-clause-uncharged
@@ -21,4 +21,4 @@ pub returns-clause-stands : goal.returns-clause-stands
 returns-clause-stands g c =
     let settings = settings_of c.args.settings.now in
     let same = ap (λ (o : LeftState g.row.D.Denot). o.host) c.in-Ok-new.ensures.host in
-    subst (λ h. StandsForScript settings (engine_on h c.new-3.result) nothing_made) (sym same) (c.new-3.ensures settings c.args.settings.now.tax c.in-Ok.host refl refl c.in-Ok.ensures.ok)
+    subst (λ h. RepresentsScript settings (script_host_on h c.new-3.result) empty_script) (sym same) (c.new-3.ensures settings c.args.settings.now.tax c.in-Ok.host refl refl c.in-Ok.ensures.ok)

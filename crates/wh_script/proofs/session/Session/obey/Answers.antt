@@ -1,20 +1,20 @@
 use Rattle.std.proofs.Common.{◌≡◌, subst, sym, string_bytes}
 use Rattle.wh_engine.proofs.Opened.{err_scans, memory_scans, memory_threads}
-use Rattle.wh_engine.proofs.Sayings.{on_ok_then}
+use Rattle.wh_engine.proofs.Printings.{on_ok_then}
 use Rattle.wh_script.specs.Answering.{Obeys}
 use Rattle.wh_commands.specs.declared.command.Command.TheVariants.{Module, Load, Admit, Refuel, Cancel, Retry, Scan, Report, Release}
-use Rattle.wh_commands.specs.Found.{Says}
+use Rattle.wh_commands.specs.ParsedCommands.{Says}
 use Rattle.wh_script.proofs.Asked.{asked_as, is_drain}
 use Rattle.wh_script.proofs.Obeyed.{only_drained}
-use Rattle.wh_engine.specs.Standing.{engine_on}
+use Rattle.wh_engine.specs.RepresentedScript.{script_host_on}
 use Rattle.wh_script.proofs.session.Session.obey.Goals as goal
 
 pub returns-in-Module-clause-obeys : goal.returns-in-Module-clause-obeys
 returns-in-Module-clause-obeys g c =
     let files = g.S.Source.files c.args.source.now in
-    let e = engine_on c.args.self.now.host.host c.args.self.now.engine in
+    let e = script_host_on c.args.self.now.host.host c.args.self.now.script_host in
     let text = string_bytes c.args.self.now.text in
-    let e2 = engine_on c.module.new.self.host.host c.module.new.self.engine in
+    let e2 = script_host_on c.module.new.self.host.host c.module.new.self.script_host in
     let text2 = string_bytes c.module.new.self.text in
     on_ok_then c.module.result c.module.ensures.obeys (λ obeys asked says free.
     let is = asked_as (Module c.in-Module.name c.in-Module.hex) asked (subst (λ k. Says k asked) c.in-Module.is says) in
@@ -23,9 +23,9 @@ returns-in-Module-clause-obeys g c =
 pub returns-in-Load-clause-obeys : goal.returns-in-Load-clause-obeys
 returns-in-Load-clause-obeys g c =
     let files = g.S.Source.files c.args.source.now in
-    let e = engine_on c.args.self.now.host.host c.args.self.now.engine in
+    let e = script_host_on c.args.self.now.host.host c.args.self.now.script_host in
     let text = string_bytes c.args.self.now.text in
-    let e2 = engine_on c.load.new.self.host.host c.load.new.self.engine in
+    let e2 = script_host_on c.load.new.self.host.host c.load.new.self.script_host in
     let text2 = string_bytes c.load.new.self.text in
     on_ok_then c.load.result c.load.ensures.obeys (λ obeys asked says free.
     let is = asked_as (Load c.in-Load.name c.in-Load.path) asked (subst (λ k. Says k asked) c.in-Load.is says) in
@@ -34,9 +34,9 @@ returns-in-Load-clause-obeys g c =
 pub returns-in-Admit-clause-obeys : goal.returns-in-Admit-clause-obeys
 returns-in-Admit-clause-obeys g c =
     let files = g.S.Source.files c.args.source.now in
-    let e = engine_on c.args.self.now.host.host c.args.self.now.engine in
+    let e = script_host_on c.args.self.now.host.host c.args.self.now.script_host in
     let text = string_bytes c.args.self.now.text in
-    let e2 = engine_on c.admit.new.self.host.host c.admit.new.self.engine in
+    let e2 = script_host_on c.admit.new.self.host.host c.admit.new.self.script_host in
     let text2 = string_bytes c.admit.new.self.text in
     on_ok_then c.admit.result c.admit.ensures.obeys (λ obeys asked says free.
     let is = asked_as (Admit c.in-Admit.inst c.in-Admit.module c.in-Admit.given) asked (subst (λ k. Says k asked) c.in-Admit.is says) in
@@ -45,9 +45,9 @@ returns-in-Admit-clause-obeys g c =
 pub returns-in-Refuel-clause-obeys : goal.returns-in-Refuel-clause-obeys
 returns-in-Refuel-clause-obeys g c =
     let files = g.S.Source.files c.args.source.now in
-    let e = engine_on c.args.self.now.host.host c.args.self.now.engine in
+    let e = script_host_on c.args.self.now.host.host c.args.self.now.script_host in
     let text = string_bytes c.args.self.now.text in
-    let e2 = engine_on c.refuel.new.self.host.host c.refuel.new.self.engine in
+    let e2 = script_host_on c.refuel.new.self.host.host c.refuel.new.self.script_host in
     let text2 = string_bytes c.refuel.new.self.text in
     on_ok_then c.refuel.result c.refuel.ensures.obeys (λ obeys asked says free.
     let is = asked_as (Refuel c.in-Refuel.inst c.in-Refuel.fuel) asked (subst (λ k. Says k asked) c.in-Refuel.is says) in
@@ -56,9 +56,9 @@ returns-in-Refuel-clause-obeys g c =
 pub returns-in-Cancel-clause-obeys : goal.returns-in-Cancel-clause-obeys
 returns-in-Cancel-clause-obeys g c =
     let files = g.S.Source.files c.args.source.now in
-    let e = engine_on c.args.self.now.host.host c.args.self.now.engine in
+    let e = script_host_on c.args.self.now.host.host c.args.self.now.script_host in
     let text = string_bytes c.args.self.now.text in
-    let e2 = engine_on c.cancel.new.self.host.host c.cancel.new.self.engine in
+    let e2 = script_host_on c.cancel.new.self.host.host c.cancel.new.self.script_host in
     let text2 = string_bytes c.cancel.new.self.text in
     on_ok_then c.cancel.result c.cancel.ensures.obeys (λ obeys asked says free.
     let is = asked_as (Cancel c.in-Cancel.inst) asked (subst (λ k. Says k asked) c.in-Cancel.is says) in
@@ -67,9 +67,9 @@ returns-in-Cancel-clause-obeys g c =
 pub returns-in-Retry-clause-obeys : goal.returns-in-Retry-clause-obeys
 returns-in-Retry-clause-obeys g c =
     let files = g.S.Source.files c.args.source.now in
-    let e = engine_on c.args.self.now.host.host c.args.self.now.engine in
+    let e = script_host_on c.args.self.now.host.host c.args.self.now.script_host in
     let text = string_bytes c.args.self.now.text in
-    let e2 = engine_on c.retry.new.self.host.host c.retry.new.self.engine in
+    let e2 = script_host_on c.retry.new.self.host.host c.retry.new.self.script_host in
     let text2 = string_bytes c.retry.new.self.text in
     on_ok_then c.retry.result c.retry.ensures.obeys (λ obeys asked says free.
     let is = asked_as (Retry c.in-Retry.inst) asked (subst (λ k. Says k asked) c.in-Retry.is says) in
@@ -78,9 +78,9 @@ returns-in-Retry-clause-obeys g c =
 pub returns-in-Scan-clause-obeys : goal.returns-in-Scan-clause-obeys
 returns-in-Scan-clause-obeys g c =
     let files = g.S.Source.files c.args.source.now in
-    let e = engine_on c.args.self.now.host.host c.args.self.now.engine in
+    let e = script_host_on c.args.self.now.host.host c.args.self.now.script_host in
     let text = string_bytes c.args.self.now.text in
-    let e2 = engine_on c.scan.new.self.host.host c.scan.new.self.engine in
+    let e2 = script_host_on c.scan.new.self.host.host c.scan.new.self.script_host in
     let text2 = string_bytes c.scan.new.self.text in
     on_ok_then c.scan.result c.scan.ensures.obeys (λ obeys asked says free.
     let is = asked_as Scan asked (subst (λ k. Says k asked) c.in-Scan.is says) in
@@ -89,9 +89,9 @@ returns-in-Scan-clause-obeys g c =
 pub returns-in-Report-clause-obeys : goal.returns-in-Report-clause-obeys
 returns-in-Report-clause-obeys g c =
     let files = g.S.Source.files c.args.source.now in
-    let e = engine_on c.args.self.now.host.host c.args.self.now.engine in
+    let e = script_host_on c.args.self.now.host.host c.args.self.now.script_host in
     let text = string_bytes c.args.self.now.text in
-    let e2 = engine_on c.report.new.self.host.host c.report.new.self.engine in
+    let e2 = script_host_on c.report.new.self.host.host c.report.new.self.script_host in
     let text2 = string_bytes c.report.new.self.text in
     on_ok_then c.report.result c.report.ensures.obeys (λ obeys asked says free.
     let is = asked_as Report asked (subst (λ k. Says k asked) c.in-Report.is says) in
@@ -100,9 +100,9 @@ returns-in-Report-clause-obeys g c =
 pub returns-clause-obeys : goal.returns-clause-obeys
 returns-clause-obeys g c =
     let files = g.S.Source.files c.args.source.now in
-    let e = engine_on c.args.self.now.host.host c.args.self.now.engine in
+    let e = script_host_on c.args.self.now.host.host c.args.self.now.script_host in
     let text = string_bytes c.args.self.now.text in
-    let e2 = engine_on c.release.new.self.host.host c.release.new.self.engine in
+    let e2 = script_host_on c.release.new.self.host.host c.release.new.self.script_host in
     let text2 = string_bytes c.release.new.self.text in
     on_ok_then c.release.result c.release.ensures.obeys (λ obeys asked says free.
     let is = asked_as (Release c.in-Release.inst) asked (subst (λ k. Says k asked) c.in-Release.is says) in
@@ -110,7 +110,7 @@ returns-clause-obeys g c =
 
 pub returns-in-Drain-clause-obeys : goal.returns-in-Drain-clause-obeys
 returns-in-Drain-clause-obeys g c asked says free =
-    let e = engine_on c.args.self.now.host.host c.args.self.now.engine in
+    let e = script_host_on c.args.self.now.host.host c.args.self.now.script_host in
     let text = string_bytes c.args.self.now.text in
     let files = g.S.Source.files c.args.source.now in
     subst (λ a. Obeys files c.args.number a e text e text) (sym (is_drain c.args.command asked c.in-Drain.is says free))

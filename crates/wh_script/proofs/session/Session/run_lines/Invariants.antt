@@ -1,8 +1,8 @@
 use Rattle.std.specs.Prelude.{◌≡◌}
-use Rattle.wh_host_model.specs.Lines.Made.{nothing_made}
-use Rattle.wh_host_model.specs.Lines.Settings.{Settings}
+use Rattle.wh_script_model.specs.ScriptState.{empty_script}
+use Rattle.wh_script_model.specs.Settings.{Settings}
 use Rattle.wh_engine.specs.Draining.{DeviceMayFail, DeviceServesWell, DeviceStaysTrue}
-use Rattle.wh_engine.specs.Standing.{StandsForScript, engine_on}
+use Rattle.wh_engine.specs.RepresentedScript.{RepresentsScript, script_host_on}
 use Rattle.wh_script.specs.Coming.{coming, IsInChunk}
 use Rattle.wh_script.proofs.Runs.{SoFar}
 use Rattle.wh_script.proofs.session.Session.run_lines.Given as goal
@@ -13,8 +13,8 @@ invariant-loop-number g l = record {
   device : DeviceStaysTrue g.D.SwapDev.keeps g.D.SwapDev.honest l.fn.self.host.device l.self.host.device;
   faults : DeviceMayFail g.D.SwapDev.faults l.fn.self.host.device l.self.host.device;
   config : l.self.config ≡ l.fn.self.config;
-  so_far : (settings : Settings) → StandsForScript settings (engine_on l.fn.self.host.host l.fn.self.engine) nothing_made
+  so_far : (settings : Settings) → RepresentsScript settings (script_host_on l.fn.self.host.host l.fn.self.script_host) empty_script
       → DeviceServesWell g.D.SwapDev.honest g.D.SwapDev.faults l.fn.self.host.device l.self.host.device
       → SoFar settings (g.S.Source.files l.fn.source) (g.R.Read.remaining l.fn.reader) (coming l.lines (g.R.Read.remaining l.reader)) (g.W.Write.contents l.fn.writer) (g.W.Write.contents l.writer) l.number
-      (engine_on l.self.host.host l.self.engine);
+      (script_host_on l.self.host.host l.self.script_host);
 }

@@ -36,8 +36,8 @@ pub begin_leaving-requires-clause-few : goal.begin_leaving-requires-clause-few
 begin_leaving-requires-clause-few c =
     tickets_few c.self.inside c.args.place c.self.invariant (omega (arith, c.len-slots.ensures)) (may_depart c.self.inside c.args.place c.args.page (rw (← c.self.view_is) at c.requires.can)).less
 
-ended : (c : goal.After-begin_leaving) → (space_of (record c.self.inside { guests = c.begin_leaving.new.guests; slots = c.take.new.self; tables = c.put_page.new.tables }) ≡ departing (space_of c.self.inside) c.args.place c.args.page c.in-Some-take.slot c.take.new.self.vacant c.in-Some.now)
-    × IsWell (record c.self.inside { guests = c.begin_leaving.new.guests; slots = c.take.new.self; tables = c.put_page.new.tables })
+ended : (c : goal.After-begin_leaving) → (space_of (record c.self.inside { occupant_entries = c.begin_leaving.new.occupant_entries; slots = c.take.new.self; tables = c.put_page.new.tables }) ≡ departing (space_of c.self.inside) c.args.place c.args.page c.in-Some-take.slot c.take.new.self.vacant c.in-Some.now)
+    × IsWell (record c.self.inside { occupant_entries = c.begin_leaving.new.occupant_entries; slots = c.take.new.self; tables = c.put_page.new.tables })
 ended c =
     let a : Inside = c.self.inside in
     let s : Space = space_of a in
@@ -45,7 +45,7 @@ ended c =
     let may = may_depart a c.args.place c.args.page can in
     let list = c.in-Some-take.ensures.vacant in
     let vacant = vacant_there s c.in-Some-take.slot c.take.new.self.vacant c.self.invariant.sound.slots list in
-    departed_now a (record a { guests = c.begin_leaving.new.guests; slots = c.take.new.self; tables = c.put_page.new.tables }) c.args.place c.args.page c.in-Some-take.slot c.take.new.self.vacant c.in-Some.now may.occupant c.self.invariant
+    departed_now a (record a { occupant_entries = c.begin_leaving.new.occupant_entries; slots = c.take.new.self; tables = c.put_page.new.tables }) c.args.place c.args.page c.in-Some-take.slot c.take.new.self.vacant c.in-Some.now may.occupant c.self.invariant
     (is_sound_begun s c.args.place c.args.page c.in-Some-take.slot c.take.new.self.vacant c.page.result c.in-Some.now c.self.invariant.sound can c.page.ensures c.in-Some.ensures.1 list) vacant may.there c.begin_leaving.ensures
     (taken_slot a.slots c.take.new.self c.in-Some-take.slot (Evicting c.args.place c.args.page) c.in-Some-take.ensures.uses c.in-Some-take.ensures.held)
     c.put_page.ensures.pages c.put_page.ensures.marks c.put_page.ensures.limits refl refl refl refl

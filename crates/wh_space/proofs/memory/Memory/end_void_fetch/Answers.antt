@@ -26,14 +26,14 @@ end_coming-requires c =
 pub settle-requires : goal.settle-requires
 settle-requires c =
     let void = is_void_fetch (space_of c.self.inside) c.args.slot c.args.place c.args.frame c.self.invariant.sound (rw (← c.self.view_is) at c.requires) in
-    within_set c.self.inside.guests.items c.end_coming.new.guests.items c.args.place c.args.place _ c.end_coming.ensures (guest_within c.self.inside c.args.place void.occupant void.there)
+    within_set c.self.inside.occupant_entries.items c.end_coming.new.occupant_entries.items c.args.place c.args.place _ c.end_coming.ensures (guest_within c.self.inside c.args.place void.occupant void.there)
 
-ended : (c : goal.After-settle) → (space_of (record c.self.inside { guests = c.settle.new.guests; slots = c.give.new.self; pool = c.give-2.new.self }) ≡ settled (with_free (without_slot (space_of c.self.inside) c.args.slot) c.args.frame) c.args.place)
-    × IsWell (record c.self.inside { guests = c.settle.new.guests; slots = c.give.new.self; pool = c.give-2.new.self })
+ended : (c : goal.After-settle) → (space_of (record c.self.inside { occupant_entries = c.settle.new.occupant_entries; slots = c.give.new.self; pool = c.give-2.new.self }) ≡ settled (with_free (without_slot (space_of c.self.inside) c.args.slot) c.args.frame) c.args.place)
+    × IsWell (record c.self.inside { occupant_entries = c.settle.new.occupant_entries; slots = c.give.new.self; pool = c.give-2.new.self })
 ended c =
     let a : Inside = c.self.inside in
     let is : slice_get a.slots.uses c.args.slot ≡ Some (FetchVoid c.args.place c.args.frame) = rw (← c.self.view_is) at c.requires in
-    ended_void_fetch a (record a { guests = c.settle.new.guests; slots = c.give.new.self; pool = c.give-2.new.self }) c.end_coming.new.guests.items c.args.slot c.args.place c.args.frame c.self.invariant
+    ended_void_fetch a (record a { occupant_entries = c.settle.new.occupant_entries; slots = c.give.new.self; pool = c.give-2.new.self }) c.end_coming.new.occupant_entries.items c.args.slot c.args.place c.args.frame c.self.invariant
     (is_sound_fetch_void (space_of a) c.args.slot c.args.place c.args.frame c.self.invariant.sound is) is c.end_coming.ensures c.settle.ensures
     (given a.slots c.give.new.self c.args.slot c.give.ensures.uses c.give.ensures.vacant c.give.ensures.held) refl c.give-2.ensures.gives refl refl refl
 

@@ -31,27 +31,27 @@ enter-requires-clause-fresh c j some =
 pub invariant_of-self-2 : goal.invariant_of-self-2
 invariant_of-self-2 c =
     let a : Inside = c.self.inside in
-    let b : Inside = record a { guests = c.put_guest.new.guests; tables = c.enter.new.self } in
+    let b : Inside = record a { occupant_entries = c.put_occupant.new.occupant_entries; tables = c.enter.new.self } in
     let may : MayEnter (space_of a) c.args.place c.args.promise c.args.size =
     subst (λ (s : Space). MayEnter s c.args.place c.args.promise c.args.size) (sym c.self.view_is)
     (record { free = c.requires.free; room = c.requires.room; shares = c.requires.shares; bounds = c.requires.bounds; fits = c.requires.fits; fresh = c.requires.fresh }) in
-    let guests : b.guests.items ≡ with_row a.guests.items c.args.place (Some (guest_of c.args.promise)) = rw (c.put_guest.ensures, c.in_ok-reserve.ensures.items, c.new.ensures) refl in
+    let occupant_entries : b.occupant_entries.items ≡ with_row a.occupant_entries.items c.args.place (Some (guest_of c.args.promise)) = rw (c.put_occupant.ensures, c.in_ok-reserve.ensures.items, c.new.ensures) refl in
     let tables : b.tables ≡ with_table a.tables c.args.place c.args.promise c.args.size = c.in_ok-enter.ensures.ok in
     let place : c.args.place < 2 ^ 32 = omega (arith, c.if-place.false) in
     let limits = sym c.places.ensures.limits ∙ c.places.ensures.pages in
     let numbers = sym c.places.ensures.numbers ∙ c.places.ensures.pages in
-    (entered a b c.args.place c.args.promise c.args.size c.self.invariant may guests tables limits numbers refl refl refl refl refl place).1
+    (entered a b c.args.place c.args.promise c.args.size c.self.invariant may occupant_entries tables limits numbers refl refl refl refl refl place).1
 
 pub returns-clause-ok : goal.returns-clause-ok
 returns-clause-ok c =
     let a : Inside = c.self.inside in
-    let b : Inside = record a { guests = c.put_guest.new.guests; tables = c.enter.new.self } in
+    let b : Inside = record a { occupant_entries = c.put_occupant.new.occupant_entries; tables = c.enter.new.self } in
     let may : MayEnter (space_of a) c.args.place c.args.promise c.args.size =
     subst (λ (s : Space). MayEnter s c.args.place c.args.promise c.args.size) (sym c.self.view_is)
     (record { free = c.requires.free; room = c.requires.room; shares = c.requires.shares; bounds = c.requires.bounds; fits = c.requires.fits; fresh = c.requires.fresh }) in
-    let guests : b.guests.items ≡ with_row a.guests.items c.args.place (Some (guest_of c.args.promise)) = rw (c.put_guest.ensures, c.in_ok-reserve.ensures.items, c.new.ensures) refl in
+    let occupant_entries : b.occupant_entries.items ≡ with_row a.occupant_entries.items c.args.place (Some (guest_of c.args.promise)) = rw (c.put_occupant.ensures, c.in_ok-reserve.ensures.items, c.new.ensures) refl in
     let tables : b.tables ≡ with_table a.tables c.args.place c.args.promise c.args.size = c.in_ok-enter.ensures.ok in
     let place : c.args.place < 2 ^ 32 = omega (arith, c.if-place.false) in
     let limits = sym c.places.ensures.limits ∙ c.places.ensures.pages in
     let numbers = sym c.places.ensures.numbers ∙ c.places.ensures.pages in
-    rw (← c.self.view_is) (entered a b c.args.place c.args.promise c.args.size c.self.invariant may guests tables limits numbers refl refl refl refl refl place).0
+    rw (← c.self.view_is) (entered a b c.args.place c.args.promise c.args.size c.self.invariant may occupant_entries tables limits numbers refl refl refl refl refl place).0

@@ -1,5 +1,5 @@
 use Rattle.std.proofs.Common.{◌≡◌, ℕ, Option, Some, None, IfSome, slice_get}
-use Rattle.wh_content.specs.declared.entry.Entry.{Entry}
+use Rattle.wh_content.specs.declared.entry.ContentEntry.{ContentEntry}
 use Rattle.wh_content.specs.Marks.{frame_of_entry, mark_of_entry}
 use Rattle.wh_host_model.specs.Frames.{IsTaken}
 use Rattle.wh_host_model.specs.Space.Parts.{Space}
@@ -8,7 +8,7 @@ use Rattle.wh_space.specs.Parts.{space_of}
 use Rattle.wh_space.proofs.Merges.{entry_taken}
 use Rattle.wh_space.proofs.memory.Memory.entry.Goals as goal
 
-each_taken : (s : Space) (hash : ℕ) (o : Option Entry) → IsSound s → IfSome o (λ e. slice_get s.marks (frame_of_entry e) ≡ Some (mark_of_entry hash e)) → IfSome o (λ e. IsTaken s.pool (frame_of_entry e))
+each_taken : (s : Space) (hash : ℕ) (o : Option ContentEntry) → IsSound s → IfSome o (λ e. slice_get s.marks (frame_of_entry e) ≡ Some (mark_of_entry hash e)) → IfSome o (λ e. IsTaken s.pool (frame_of_entry e))
 each_taken s hash None sound found = found
 each_taken s hash (Some e) sound found = entry_taken s hash e sound found
 

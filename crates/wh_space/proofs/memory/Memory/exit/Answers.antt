@@ -8,7 +8,7 @@ use Rattle.wh_space.proofs.Earmarked.{ends_pins, may_end}
 use Rattle.wh_space.proofs.LeavingMemory.{IsGone, is_gone, is_here, pages_can, slots_can}
 use Rattle.wh_space.proofs.Voids.{leaver_within}
 use Rattle.wh_tables.specs.Tables.{TablesState}
-use Rattle.wh_space.specs.Pages.{fixed_in}
+use Rattle.wh_space.specs.UnchangedTables.{fixed_in}
 use Rattle.wh_space.proofs.memory.Memory.exit.Goals as goal
 
 pub end_pins-requires-clause-once : goal.end_pins-requires-clause-once
@@ -40,19 +40,19 @@ void_slot-requires c =
 pub clear-requires : goal.clear-requires
 clear-requires c = (is_here c.self.inside c.args.place c.args.self.now c.self.view_is c.self.invariant.sound c.requires).row
 
-pub let_guest_go-requires : goal.let_guest_go-requires
-let_guest_go-requires c = (is_here c.self.inside c.args.place c.args.self.now c.self.view_is c.self.invariant.sound c.requires).place
+pub let_occupant_go-requires : goal.let_occupant_go-requires
+let_occupant_go-requires c = (is_here c.self.inside c.args.place c.args.self.now c.self.view_is c.self.invariant.sound c.requires).place
 
-gone : (c : goal.After-let_guest_go) → IsGone c.self.inside (record c.self.inside { guests = c.let_guest_go.new.guests; tables = c.clear.new.self; pool = c.let_pages_go.new.pool; content = c.let_pages_go.new.content; slots = c.void_slot.new.slots; pins = c.end_pins.new.pins }) c.args.place
+gone : (c : goal.After-let_occupant_go) → IsGone c.self.inside (record c.self.inside { occupant_entries = c.let_occupant_go.new.occupant_entries; tables = c.clear.new.self; pool = c.let_pages_go.new.pool; content = c.let_pages_go.new.content; slots = c.void_slot.new.slots; pins = c.end_pins.new.pins }) c.args.place
 gone c =
     let a : Inside = c.self.inside in
-    let b : Inside = record a { guests = c.let_guest_go.new.guests; tables = c.clear.new.self; pool = c.let_pages_go.new.pool; content = c.let_pages_go.new.content; slots = c.void_slot.new.slots; pins = c.end_pins.new.pins } in
+    let b : Inside = record a { occupant_entries = c.let_occupant_go.new.occupant_entries; tables = c.clear.new.self; pool = c.let_pages_go.new.pool; content = c.let_pages_go.new.content; slots = c.void_slot.new.slots; pins = c.end_pins.new.pins } in
     let here = is_here a c.args.place c.args.self.now c.self.view_is c.self.invariant.sound c.requires in
     let ended = ends_pins (space_of a) c.args.place c.end_pins.new.pool (pins_of c.end_pins.new.pins) c.end_pins.ensures.pins c.end_pins.ensures.pool in
     let slots = c.void_slot.ensures
     ∙ (ap (λ (o : Option ℕ). voids_slot o c.let_pages_go.new.slots) c.leaver_at.ensures
-    ∙ ap (λ (z : Slots). voids_slot (leaver_of (get_or a.guests.items c.args.place None)) z) c.let_pages_go.ensures.slots) in
-    is_gone a b c.args.place c.end_pins.new.pool c.self.invariant here c.let_guest_go.ensures (ap (λ (z : TablesState). z.pages) c.clear.ensures) (ap (λ (z : TablesState). z.marks) c.clear.ensures) (ap fixed_in c.clear.ensures) ended c.let_pages_go.ensures.frames slots refl
+    ∙ ap (λ (z : Slots). voids_slot (leaver_of (get_or a.occupant_entries.items c.args.place None)) z) c.let_pages_go.ensures.slots) in
+    is_gone a b c.args.place c.end_pins.new.pool c.self.invariant here c.let_occupant_go.ensures (ap (λ (z : TablesState). z.pages) c.clear.ensures) (ap (λ (z : TablesState). z.marks) c.clear.ensures) (ap fixed_in c.clear.ensures) ended c.let_pages_go.ensures.frames slots refl
 
 pub invariant_of-self : goal.invariant_of-self
 invariant_of-self c = (gone c).well

@@ -5,7 +5,7 @@ use Rattle.wh_host_model.specs.Space.Stores.{Grew}
 use Rattle.wh_host_model.proofs.Space.Enlarged.{grows_by_zeros}
 use Rattle.wh_host_model.proofs.Space.Putting.{get_or_is}
 use Rattle.wh_space.specs.declared.memory.Memory.TheInside.{Inside}
-use Rattle.wh_space.specs.Pages.{fixed_in}
+use Rattle.wh_space.specs.UnchangedTables.{fixed_in}
 use Rattle.wh_space.specs.Parts.{space_of}
 use Rattle.wh_space.specs.Steps.{page_limit}
 use Rattle.wh_space.proofs.Growing.{CanGrow, can_grow, grew_well, occupant, size_within}
@@ -34,13 +34,13 @@ pub grow-requires-clause-room : goal.grow-requires-clause-room
 grow-requires-clause-room c =
     let k = can c in
     let room = k.room in
-    let limit = get_or_is c.self.inside.tables.limits c.args.place k.here.guest.max 0 (c.self.invariant.limits c.args.place k.here.guest k.here.there) in
+    let limit = get_or_is c.self.inside.tables.limits c.args.place k.here.occupant_entry.max 0 (c.self.invariant.limits c.args.place k.here.occupant_entry k.here.there) in
     omega arith
 
 pub grow-requires-clause-apart : goal.grow-requires-clause-apart
 grow-requires-clause-apart c j other some =
     let k = can c in
-    other_guest c.self.inside c.args.place j k.here.guest c.self.invariant k.here.there other some
+    other_guest c.self.inside c.args.place j k.here.occupant_entry c.self.invariant k.here.there other some
 
 grew : (c : goal.After-grow) → Grew (space_of c.self.inside) c.args.place c.args.pages (space_of (record c.self.inside { tables = c.grow.new.self }))
 grew c = rw c.grow.ensures refl
@@ -62,6 +62,6 @@ returns-clause-grows c =
     let b : Inside = record a { tables = c.grow.new.self } in
     let k = also c in
     let limit = ap (λ (z : Space). page_limit z c.args.place) c.self.view_is in
-    let seen = grows_by_zeros (space_of a) c.args.place c.args.pages (occupant k.here.guest) (space_of b) c.self.invariant.sound k.here.occupies (grew c) in
+    let seen = grows_by_zeros (space_of a) c.args.place c.args.pages (occupant k.here.occupant_entry) (space_of b) c.self.invariant.sound k.here.occupies (grew c) in
     let turned : 65536 * c.args.pages ≡ c.args.pages * 65536 = omega arith in
     (c.size-before.ensures.bytes, omega arith, seen ∙ (ap (λ (z : Space). view z c.args.place ++ replicate (65536 * c.args.pages) 0) c.self.view_is ∙ ap (λ (z : ℕ). view c.args.self.now c.args.place ++ replicate z 0) turned))

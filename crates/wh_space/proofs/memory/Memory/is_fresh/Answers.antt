@@ -1,16 +1,16 @@
 use Rattle.std.proofs.Common.{◌≡◌, ℕ, ◌<◌, ◌∙◌, List, [], ◌∷◌, Option, Some, None, length, get_or, map, refl, sym, suc, zero, slice_get, ap, arith}
 use Rattle.wh_host_model.specs.Space.Parts.{Occupant, Space}
-use Rattle.wh_space.specs.declared.guest.Guest.{Guest}
+use Rattle.wh_space.specs.declared.occupant_entry.OccupantEntry.{OccupantEntry}
 use Rattle.wh_space.specs.Parts.{occupant_of}
 use Rattle.wh_space.proofs.Summing.{guest_at}
 use Rattle.wh_space.proofs.memory.Memory.is_fresh.Goals as goal
 
-abbrev number_of : Option Guest → ℕ
+abbrev number_of : Option OccupantEntry → ℕ
 number_of None = 0
 number_of (Some k) = k.number
 
--- a guest is who has its place
-occupant_at_place : (xs : List (Option Guest)) (j : ℕ) (x : Option Guest) (g : Guest) → j < length xs → x ≡ get_or xs j x → x ≡ Some g → (t : Occupant) × (slice_get (map occupant_of xs) j ≡ Some (Some t)) × (t.number ≡ g.number)
+-- an occupant is who has its place
+occupant_at_place : (xs : List (Option OccupantEntry)) (j : ℕ) (x : Option OccupantEntry) (g : OccupantEntry) → j < length xs → x ≡ get_or xs j x → x ≡ Some g → (t : Occupant) × (slice_get (map occupant_of xs) j ≡ Some (Some t)) × (t.number ≡ g.number)
 occupant_at_place [] j x g less is some = absurd (omega arith)
 occupant_at_place (None ∷ xs) zero x g less is some = absurd (cc (is, some))
 occupant_at_place (Some h ∷ xs) zero x g less is some = (_, refl, ap number_of (sym is ∙ some))
@@ -20,20 +20,20 @@ pub returns : goal.returns
 returns c = (
   λ fresh j t there same.
       let is = ap (λ (s : Space). slice_get s.occupants j) c.self.view_is ∙ there in
-      let g = guest_at c.self.inside.guests.items j t is in
+      let g = guest_at c.self.inside.occupant_entries.items j t is in
       let less = g.3 in
       let within : j < c.loop-place.place = omega (arith, c.loop-place-test.false, c.len-place-end.ensures) in
       c.loop-place.invariant j g.0 within g.1 (g.2 ∙ same),
   λ all. refl,
 )
 
-pub returns-then-guest-number : goal.returns-then-guest-number
-returns-then-guest-number c = (
+pub returns-then-occupant_entry-number : goal.returns-then-occupant_entry-number
+returns-then-occupant_entry-number c = (
   λ never. absurd (cc never),
   λ all.
-      let xs = c.self.inside.guests.items in
+      let xs = c.self.inside.occupant_entries.items in
       let at = c.loop-place.place in
       let within : at < length xs = omega (arith, c.loop-place-test.true, c.len-place-end.ensures) in
-      let found = occupant_at_place xs at c.index.result.now c.in-Some.guest within c.index.ensures c.in-Some.is in
-      absurd (all at found.0 (ap (λ (s : Space). slice_get s.occupants at) (sym c.self.view_is) ∙ found.1) (found.2 ∙ c.if-guest-number.true)),
+      let found = occupant_at_place xs at c.index.result.now c.in-Some.occupant_entry within c.index.ensures c.in-Some.is in
+      absurd (all at found.0 (ap (λ (s : Space). slice_get s.occupants at) (sym c.self.view_is) ∙ found.1) (found.2 ∙ c.if-occupant_entry-number.true)),
 )

@@ -25,7 +25,7 @@ sharer c = is_sharer (space_of c.self.inside) c.args.place c.args.number c.args.
 last : (c : goal.After-stand_alone) → sharers (space_of c.self.inside) c.args.frame ≡ 1
 last c = rw (← c.self.view_is) at c.requires.last
 
-void : (c : goal.After-stand_alone) → c.void_written.new.slots ≡ voids_leaver (leaver_of (get_or c.self.inside.guests.items c.args.place None)) c.page-page.result c.self.inside.slots
+void : (c : goal.After-stand_alone) → c.void_written.new.slots ≡ voids_leaver (leaver_of (get_or c.self.inside.occupant_entries.items c.args.place None)) c.page-page.result c.self.inside.slots
 void c = c.void_written.ensures ∙ ap (λ (o : Option ℕ). voids_leaver o c.page-page.result c.self.inside.slots) c.leaver_at.ensures
 
 is_owned : (c : goal.After-stand_alone) → IsOwned c.self.inside (record c.self.inside { tables = c.stand_alone.new.tables; content = c.drop_sharer.new.self; slots = c.void_written.new.slots }) c.args.place c.args.number c.args.frame

@@ -19,7 +19,7 @@ stand_alone-requires-clause-frame c =
 there : (c : goal.After-stand_alone) → (x : Page) × (page_at (space_of c.self.inside).tables c.args.place c.args.number ≡ Some x) × (owns c.args.frame x ≡ 1)
 there c = page_there (owns c.args.frame) (page_at (space_of c.self.inside).tables c.args.place c.args.number) (rw (← c.self.view_is) at c.requires)
 
-void : (c : goal.After-stand_alone) → c.void_written.new.slots ≡ voids_leaver (leaver_of (get_or c.self.inside.guests.items c.args.place None)) c.page-page.result c.self.inside.slots
+void : (c : goal.After-stand_alone) → c.void_written.new.slots ≡ voids_leaver (leaver_of (get_or c.self.inside.occupant_entries.items c.args.place None)) c.page-page.result c.self.inside.slots
 void c = c.void_written.ensures ∙ ap (λ (o : Option ℕ). voids_leaver o c.page-page.result c.self.inside.slots) c.leaver_at.ensures
 
 is_owned : (c : goal.After-stand_alone) → IsOwned c.self.inside (record c.self.inside { tables = c.stand_alone.new.tables; slots = c.void_written.new.slots }) c.args.place c.args.number c.args.frame

@@ -6,5 +6,5 @@ use Rattle.wh_space.proofs.memory.Memory.known_pages.Goals as goal
 
 pub returns : goal.returns
 returns c =
-    let places : length (space_of c.self.inside).occupants ≤ 2 ^ 32 = (let long = length-map c.self.inside.guests.items occupant_of in let few = c.self.invariant.places in omega arith) in
+    let places : length (space_of c.self.inside).occupants ≤ 2 ^ 32 = (let long = length-map c.self.inside.occupant_entries.items occupant_of in let few = c.self.invariant.places in omega arith) in
     rw (← c.self.view_is) (few_resident (space_of c.self.inside) c.self.invariant.sound places)

@@ -5,7 +5,7 @@ use Rattle.wh_host_model.specs.Space.States.{put}
 use Rattle.wh_host_model.proofs.Space.Reading.{read_page, taken_under}
 use Rattle.wh_host_model.proofs.Space.Steady.{touched_soundly}
 use Rattle.wh_space.specs.declared.memory.Memory.TheInside.{Inside}
-use Rattle.wh_space.specs.Pages.{fixed_in}
+use Rattle.wh_space.specs.UnchangedTables.{fixed_in}
 use Rattle.wh_space.specs.Parts.{space_of}
 use Rattle.wh_space.proofs.Wellness.{well}
 use Rattle.wh_space.proofs.memory.Memory.load_inside.Goals as goal

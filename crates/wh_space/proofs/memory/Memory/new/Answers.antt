@@ -12,7 +12,7 @@ use Rattle.wh_space.proofs.memory.Memory.new.Goals as goal
 
 pub invariant_of-result : goal.invariant_of-result
 invariant_of-result c =
-    let a : Inside = record { guests = c.new-5.result; tables = c.in-Ok-new-2.tables; pool = c.in_ok-pool.pool; content = c.in-Ok.content; slots = c.in-Ok-new.slots; pins = None; tax = c.args.tax } in
+    let a : Inside = record { occupant_entries = c.new-5.result; tables = c.in-Ok-new-2.tables; pool = c.in_ok-pool.pool; content = c.in-Ok.content; slots = c.in-Ok-new.slots; pins = None; tax = c.args.tax } in
     let pool : Pool = c.in_ok-pool.pool in
     let many : length pool.frames ≡ c.args.frames = ap length c.in_ok-pool.ensures.frames ∙ length-replicate c.args.frames zero_page in
     let never : (f : ℕ) → c.args.frames ≤ f → tally (one_if f) pool.free ≡ 0 = λ f past. c.free.ensures.distinct.there f (omega arith) in

@@ -15,7 +15,7 @@ use Rattle.wh_space.specs.declared.memory.Memory.TheInside.{Inside}
 use Rattle.wh_space.proofs.Merges.{is_alone, none_but, paired_sound, remade_is}
 use Rattle.wh_space.proofs.Wellness.{well}
 use Rattle.wh_space.proofs.Framing.{known_under}
-use Rattle.wh_space.specs.Pages.{Fixed}
+use Rattle.wh_space.specs.UnchangedTables.{Fixed}
 use Rattle.wh_space.proofs.memory.Memory.pair.Goals as goal
 
 pub give-requires : goal.give-requires

@@ -3,7 +3,7 @@ use Rattle.std.proofs.Common.{length, ap, ◌≡◌, Some, refl, sym, subst}
 use Rattle.wh_host_model.specs.Space.Moves.{residents}
 use Rattle.wh_host_model.specs.Space.Ready.{pages_of_need}
 use Rattle.wh_host_model.specs.Space.Sound.{IsSound}
-use Rattle.wh_host_model.specs.Space.Tickets.{StandsForFrame}
+use Rattle.wh_host_model.specs.Space.Tickets.{WaitsForBytes}
 use Rattle.wh_host_model.proofs.Space.Reserved.{is_sound_pinned}
 use Rattle.wh_space.specs.declared.memory.Memory.TheInside.{Inside}
 use Rattle.wh_space.specs.Parts.{space_of}
@@ -31,7 +31,7 @@ invariant_of-self c =
     let a : Inside = c.self.inside in
     let b : Inside = record a { pool = c.end_all_pins.new.pool; pins = Some (record { place = c.args.place; pages = c.residents_of-pages.result; frames = Zero }) } in
     let pages : numbers_in c.residents_of-pages.result ≡ residents (space_of a) c.args.place (pages_of_need c.args.need) = rw (← c.self.view_is) at c.residents_of-pages.ensures in
-    let stands : StandsForFrame (space_of a) c.args.place c.args.need = rw (← c.self.view_is) at c.requires in
+    let stands : WaitsForBytes (space_of a) c.args.place c.args.need = rw (← c.self.view_is) at c.requires in
     well a b c.self.invariant refl refl (ap (λ (z : Pool). length z.frames) c.end_all_pins.ensures.pool) refl (subst IsSound (sym (pins_now (space_of a) c.args.place c.args.need b.pool c.residents_of-pages.result pages c.end_all_pins.ensures.pool)) (is_sound_pinned (space_of a) c.args.place c.args.need c.self.invariant.sound (stands_there (space_of a) c.args.place c.args.need stands)))
 
 pub returns : goal.returns

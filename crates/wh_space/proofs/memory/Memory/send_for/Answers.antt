@@ -26,8 +26,8 @@ pub begin_coming-requires-clause-few : goal.begin_coming-requires-clause-few
 begin_coming-requires-clause-few c =
     tickets_few c.self.inside c.args.place c.self.invariant (omega (arith, c.len-slots.ensures)) (table_within c.self.inside c.args.place c.self.invariant.sound (is_page (space_of c.self.inside).tables c.args.place c.args.page (Swapped c.args.slot) (rw (← c.self.view_is) at c.requires.page)).0)
 
-ended : (c : goal.After-begin_coming) → (space_of (record c.self.inside { guests = c.begin_coming.new.guests; slots = c.set.new.self; pins = c.take_earmark.new.pins; tables = c.put_page.new.tables }) ≡ sent_for (space_of c.self.inside) c.args.place c.args.page c.in-Some.frame c.args.slot c.in-Some.ensures.some.0)
-    × IsWell (record c.self.inside { guests = c.begin_coming.new.guests; slots = c.set.new.self; pins = c.take_earmark.new.pins; tables = c.put_page.new.tables })
+ended : (c : goal.After-begin_coming) → (space_of (record c.self.inside { occupant_entries = c.begin_coming.new.occupant_entries; slots = c.set.new.self; pins = c.take_earmark.new.pins; tables = c.put_page.new.tables }) ≡ sent_for (space_of c.self.inside) c.args.place c.args.page c.in-Some.frame c.args.slot c.in-Some.ensures.some.0)
+    × IsWell (record c.self.inside { occupant_entries = c.begin_coming.new.occupant_entries; slots = c.set.new.self; pins = c.take_earmark.new.pins; tables = c.put_page.new.tables })
 ended c =
     let a : Inside = c.self.inside in
     let s : Space = space_of a in
@@ -35,7 +35,7 @@ ended c =
     let is = slot_taken s c.args.place c.args.page c.args.slot c.self.invariant.sound.slots page in
     let less = table_within a c.args.place c.self.invariant.sound (is_page s.tables c.args.place c.args.page (Swapped c.args.slot) page).0 in
     let goes = c.in-Some.ensures.some in
-    sent a (record a { guests = c.begin_coming.new.guests; slots = c.set.new.self; pins = c.take_earmark.new.pins; tables = c.put_page.new.tables }) c.args.slot c.args.place c.args.page c.in-Some.frame goes.0 c.self.invariant
+    sent a (record a { occupant_entries = c.begin_coming.new.occupant_entries; slots = c.set.new.self; pins = c.take_earmark.new.pins; tables = c.put_page.new.tables }) c.args.slot c.args.place c.args.page c.in-Some.frame goes.0 c.self.invariant
     (is_sound_sent_for s c.args.place c.args.page c.in-Some.frame c.args.slot goes.0 c.self.invariant.sound page goes.1) is less c.begin_coming.ensures c.set.ensures
     c.put_page.ensures.pages c.put_page.ensures.marks c.put_page.ensures.limits refl refl goes.2 refl
 

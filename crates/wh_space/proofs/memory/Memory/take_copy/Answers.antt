@@ -44,7 +44,7 @@ sharer c = is_sharer (space_of c.self.inside) c.args.place c.args.number c.args.
 several : (c : goal.After-stand_alone) → 2 ≤ sharers (space_of c.self.inside) c.args.frame
 several c = rw (← c.self.view_is) at c.requires.several
 
-void : (c : goal.After-stand_alone) → c.void_written.new.slots ≡ voids_leaver (leaver_of (get_or c.self.inside.guests.items c.args.place None)) c.page-page.result c.self.inside.slots
+void : (c : goal.After-stand_alone) → c.void_written.new.slots ≡ voids_leaver (leaver_of (get_or c.self.inside.occupant_entries.items c.args.place None)) c.page-page.result c.self.inside.slots
 void c = c.void_written.ensures ∙ ap (λ (o : Option ℕ). voids_leaver o c.page-page.result c.self.inside.slots) c.leaver_at.ensures
 
 is_owned : (c : goal.After-stand_alone) → IsOwned c.self.inside (record c.self.inside { tables = c.stand_alone.new.tables; pool = c.copy.new.self; content = c.drop_sharer.new.self; slots = c.void_written.new.slots; pins = c.take_frame.new.pins }) c.args.place c.args.number c.in_ok-fresh.fresh

@@ -1,6 +1,6 @@
 use Rattle.std.proofs.Common.{◌≡◌, ◌<◌, ◌+◌, ◌-◌, ℕ, List, None, Option, length, replicate, slice_set, ap, ◌∙◌, arith}
 use Rattle.std.proofs.lemmas.List.{length-append, length-replicate}
-use Rattle.wh_swap.specs.Memory.{slots_held}
+use Rattle.wh_swap.specs.MemorySwaps.{slots_held}
 use Rattle.wh_swap.proofs.Reserved.{all_slots, more_there, one_written}
 use Rattle.wh_swap.proofs.memory.MemSwapSwapDev.write.Goals as goal
 

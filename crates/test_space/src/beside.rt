@@ -1,0 +1,107 @@
+// Two memories at once, each read below and written beside the other, and then laid back.
+
+ghost use Rattle.std.specs.Prelude.{◌≡◌, ◌≢◌, [], IfOk};
+ghost use Rattle.wh_overlay.specs.Over.{AreAlone, HasGrown};
+
+use crate::random::Random;
+use crate::same;
+use crate::trial::{MAX, PLACES, Trial, some_count, some_place};
+use anyhow::{Context, Result};
+use std::alloc::Global;
+use wh_flatmem::FlatMemory;
+use wh_linmem::LinearMem;
+use wh_model::MOST_WASM_PAGES;
+use wh_overlay::{Overlay, Upper};
+use wh_space::Memory;
+
+// How many pages may be written beside each, and how many things are done at most before they are laid back.
+const ROOM: u16 = 6;
+
+const MOST_STEPS: u32 = 40;
+
+// Does one thing to a memory of which others read, and to a flat one. Whether it could be done at once.
+fn step<V: LinearMem>(random: &mut Random, view: &mut V, flat: &mut FlatMemory) -> Result<bool>
+    ensures { V.keeps view.old view.new }
+{
+    let at = some_place(random, flat.size());
+    let count = some_count(random);
+    let quickly = random.below(2) == 0;
+    let given = [random.below(3) as u8; 4096];
+    match random.below(16) {
+        0 => {
+            same::grow(view, flat, random.below(2))?;
+            Ok(true)
+        }
+        1..7 => same::load_if_ready(view, flat, at, count, quickly),
+        _ => same::store(view, flat, at, &given[..count], quickly),
+    }
+}
+
+// Does some things to the memories of the instances at two places in turn, both of which read one memory. What each has written
+// beside it, and how often something couldn't be done.
+fn run_two(
+    random: &mut Random,
+    memory: &Memory,
+    flats: &mut [FlatMemory],
+    uppers: (Upper, Upper),
+    places: (usize, usize),
+) -> Result<(Upper, Upper, u32)>
+    requires first { (uppers.0.pages ≡ []) × (uppers.0.grown ≡ 0) }
+    requires second { (uppers.1.pages ≡ []) × (uppers.1.grown ≡ 0) }
+    ensures alone { IfOk result (λ r. AreAlone memory.now places.0 r.0.pages
+        × AreAlone memory.now places.1 r.1.pages) }
+    ensures limited { IfOk result (λ r. HasGrown memory.now places.0 r.0
+        × HasGrown memory.now places.1 r.1) }
+{
+    let mut here = Overlay::new(memory, places.0, MOST_WASM_PAGES, uppers.0);
+    let mut there = Overlay::new(memory, places.1, MOST_WASM_PAGES, uppers.1);
+    let mut refused = 0u32;
+    for _ in 0..random.below(MOST_STEPS) {
+        let is_done = if random.below(2) == 0 {
+            let flat = flats.get_mut(places.0).context("nobody is there")?;
+            step(random, &mut here, flat)?
+        } else {
+            let flat = flats.get_mut(places.1).context("nobody is there")?;
+            step(random, &mut there, flat)?
+        };
+        if !is_done {
+            refused = refused.saturating_add(1);
+        }
+    }
+    Ok((here.into_upper(), there.into_upper(), refused))
+}
+
+// Lays back what two instances at different places have written beside the memory.
+fn lay_two(memory: &mut Memory, uppers: (Upper, Upper), places: (usize, usize))
+    requires apart { places.1 ≢ places.0 }
+    requires first { AreAlone memory.old places.0 uppers.0.pages }
+    requires second { AreAlone memory.old places.1 uppers.1.pages }
+    requires first_limit { HasGrown memory.old places.0 uppers.0 }
+    requires second_limit { HasGrown memory.old places.1 uppers.1 }
+{
+    let (mut here, mut there) = uppers;
+    here.lay(memory, places.0);
+    there.lay(memory, places.1);
+}
+
+impl Trial {
+    // Does some things to the memories of two instances in turn, both of which read one memory, and then lays back what each has
+    // written.
+    pub fn run_beside(&mut self, alloc: Global) -> Result<()> {
+        let first = self.random.below(PLACES - 1) as usize;
+        let places = (first, PLACES as usize - 1);
+        let here = Upper::new(alloc, ROOM, MAX as usize)?;
+        let there = Upper::new(alloc, ROOM, MAX as usize)?;
+        let (here, there, refused) = run_two(
+            &mut self.random,
+            &self.memory,
+            &mut self.flats,
+            (here, there),
+            places,
+        )?;
+        lay_two(&mut self.memory, (here, there), places);
+        self.counts.laid = self.counts.laid.saturating_add(1);
+        self.counts.not_beside = self.counts.not_beside.saturating_add(refused);
+        Ok(())
+    }
+}

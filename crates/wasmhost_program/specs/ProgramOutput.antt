@@ -1,0 +1,89 @@
+-- What the program reads and writes.
+use Rattle.std.specs.Prelude.{◌≡◌, ◌≢◌, ℕ, zero, suc, true, List, [], Option, Some, None, is_some, codes, Result, Ok, Err}
+use Rattle.std.specs.Io.KnownBytes.{Keeps}
+use Rattle.clap.specs.Words.{Text}
+use Rattle.wh_script_model.specs.Answers.{Files}
+use Rattle.wh_script_model.specs.Settings.{Settings, default_settings}
+use Rattle.wh_settings.specs.Spelled.{SpellsSettings}
+use Rattle.wh_engine.specs.Draining.{HasServed}
+use Rattle.wh_engine.specs.declared.fault.ScriptFault.{ScriptFault}
+use Rattle.wh_engine.specs.declared.fault.ScriptFault.TheVariants.{Settings as NoSettings, Swap, Memory}
+use Rattle.wh_swap.specs.declared.stream.PageSwap.{PageSwap}
+use Rattle.wh_swap.specs.Written.{HasReadRight, page_faults}
+use Rattle.wh_script.specs.Runs.{Runs}
+use Rattle.wasmhost_program.specs.Accepted.{line_faults, given_in}
+
+-- the device over a file, if there is one, has given what was written to it, and no call of it failed
+abbrev pub HasServedSo : {P : Type 0} → Option (PageSwap P) → Type 0
+HasServedSo None = Unit {0}
+HasServedSo (Some device) = HasServed (HasReadRight device) [] (page_faults device)
+
+-- the bytes that the file of a path gives, where they are known
+abbrev pub KnownFiles : Type 0
+KnownFiles = (path : Text) → Option (List ℕ)
+
+-- the settings that the bytes of this file spell; and without a file those by default
+abbrev pub ReadsSettings : KnownFiles → Option Text → Settings → Type 0
+ReadsSettings known None settings = settings ≡ default_settings
+ReadsSettings known (Some path) settings =
+    (bytes : List ℕ) × Keeps (known path) (Some bytes) × SpellsSettings bytes settings
+
+-- why settings can't be had: they can't be read or aren't any, or memory ran out
+abbrev pub IsFaultOfSettings : ScriptFault → Type 0
+IsFaultOfSettings NoSettings = Unit {0}
+IsFaultOfSettings Memory = Unit {0}
+IsFaultOfSettings other = ⊥
+
+-- why a device over a file can't be had
+abbrev pub IsFaultOfDevice : ScriptFault → Type 0
+IsFaultOfDevice Swap = Unit {0}
+IsFaultOfDevice Memory = Unit {0}
+IsFaultOfDevice other = ⊥
+
+-- A script was run: the one of this file, and nothing of the input was read; or the one that the input gave. What was
+-- read and written of it is said by how it ended.
+abbrev pub RunsScript : KnownFiles → Files → Settings → Option Text → (input left before after : Option (List ℕ))
+    → Result Unit ScriptFault → Type 0
+RunsScript known files settings None input left before after ended = Runs settings files input left before after ended
+RunsScript known files settings (Some path) input left before after ended =
+    (left ≡ input) × (rest : Option (List ℕ)) × Runs settings files (known path) rest before after ended
+
+-- what became of a script, with these settings: it was run; or the file for swap that they name can't be used, and
+-- nothing was read and written
+pub data RunsWith (known : KnownFiles) (files : Files) (settings : Settings) (script : Option Text)
+    (input left before after : Option (List ℕ)) : Result Unit ScriptFault → Type 0 where
+  has_run : {ended : Result Unit ScriptFault} → RunsScript known files settings script input left before after ended
+      → RunsWith known files settings script input left before after ended
+  has_no_swap : is_some settings.swap ≡ true → left ≡ input → after ≡ before
+      → RunsWith known files settings script input left before after (Err Swap)
+
+-- what became of what these words ask for: a script was run with the settings that they name; or the settings can't be
+-- read, or memory ran out before, and nothing was read and written
+pub data RunsAsked (known : KnownFiles) (files : Files) (settings script : Option Text)
+    (input left before after : Option (List ℕ)) : Result Unit ScriptFault → Type 0 where
+  has_settings : {ended : Result Unit ScriptFault} (these : Settings) → ReadsSettings known settings these
+      → RunsWith known files these script input left before after ended
+      → RunsAsked known files settings script input left before after ended
+  has_no_settings : is_some settings ≡ true → left ≡ input → after ≡ before
+      → RunsAsked known files settings script input left before after (Err NoSettings)
+  wants_memory : left ≡ input → after ≡ before → RunsAsked known files settings script input left before after (Err Memory)
+
+-- so it ended, where the words are accepted; where memory ran out to read them, they may be or not
+pub data EndsSo (known : KnownFiles) (files : Files) (words : List Text) (input left before after : Option (List ℕ))
+    : Result Unit ScriptFault → Type 0 where
+  is_accepted : {ended : Result Unit ScriptFault} → line_faults words ≡ []
+      → RunsAsked known files (given_in words (codes "settings")) (given_in words (codes "SCRIPT")) input left before after
+      ended
+      → EndsSo known files words input left before after ended
+  is_unread : left ≡ input → after ≡ before → EndsSo known files words input left before after (Err Memory)
+
+-- By the status. At 0 the script that the words name was answered whole, with the settings that they name. At 1 the
+-- program stopped: what was written is a beginning, or nothing. At 2 the words aren't accepted, and nothing was read and
+-- written.
+abbrev pub EndsWith : KnownFiles → Files → (words : List Text) → (input left before after : Option (List ℕ))
+    → (status : ℕ) → Type 0
+EndsWith known files words input left before after zero = EndsSo known files words input left before after (Ok tt)
+EndsWith known files words input left before after (suc zero) =
+    (fault : ScriptFault) × EndsSo known files words input left before after (Err fault)
+EndsWith known files words input left before after (suc (suc n)) =
+    (line_faults words ≢ []) × (left ≡ input) × (after ≡ before)

@@ -1,3 +1,0 @@
--- Lemmas of names and of arguments.
-pub mod Given
-pub mod Named

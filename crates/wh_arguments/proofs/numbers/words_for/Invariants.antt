@@ -1,6 +1,0 @@
-use Rattle.std.proofs.Common.{◌≡◌, ◌++◌, drop}
-use Rattle.wh_arguments.proofs.Given.{words_in}
-use Rattle.wh_arguments.proofs.numbers.words_for.Given as goal
-
-abbrev pub invariant-loop-at : goal.invariant-loop-at
-invariant-loop-at l = l.words.items ++ words_in (drop l.at l.params) (drop l.at l.given) ≡ words_in l.params l.given

@@ -1,5 +1,0 @@
-use Rattle.wh_engine.proofs.LookedUp.{guest_named}
-use Rattle.wh_engine.proofs.engine.Engine.guest_number.Goals as goal
-
-pub returns-clause-named : goal.returns-clause-named
-returns-clause-named c settings m h s = guest_named c.args.self.now.guest_names m c.args.name.now _ s.stands.guest_names c.place.ensures

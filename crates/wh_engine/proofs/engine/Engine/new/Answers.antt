@@ -1,7 +1,0 @@
-use Rattle.std.proofs.Common.{refl}
-use Rattle.wh_engine.specs.Standing.{engine_on}
-use Rattle.wh_engine.proofs.Fresh.{fresh}
-use Rattle.wh_engine.proofs.engine.Engine.new.Goals as goal
-
-pub returns : goal.returns
-returns c settings tax h num den new = fresh settings tax (engine_on h _) num den new c.new.ensures c.new-2.ensures c.new-3.ensures.items c.new-4.ensures.items refl refl refl

@@ -1,0 +1,146 @@
+// Instances that a script admits, calls and lets go.
+
+ghost use Rattle.std.specs.Prelude.{◌≡◌, ◌<◌, None, IfOk, OnErr, OnOk, vec_capacity, vec_len};
+ghost use Rattle.wh_commands.specs.ParsedCommands.{params_of};
+ghost use Rattle.wh_script_model.specs.ScriptState.{ScriptState};
+ghost use Rattle.wh_script_model.specs.Settings.{Settings};
+ghost use Rattle.wh_replies.specs.View.{reply_of};
+ghost use Rattle.wh_names.specs.NamePlaces.{place_of_name};
+ghost use Rattle.wh_engine.specs.RepresentedScript.{RepresentsScript, script_host_on};
+ghost use Rattle.wh_engine.specs.Obeying.{IsNoted, TakesInvoke, TakesInstance};
+
+use crate::parts::{InvokeOutcome, Invoked, NamedInstance};
+use crate::script_host::ScriptHost;
+use std::alloc::{AllocError, Global};
+use std::sync::ledger::Ledger;
+use wh_cell::CellAgreements;
+use wh_commands::AdmitParams;
+use wh_host::{HostError, ModuleId, Params};
+use wh_replies::Reply;
+use wh_scheduler::OwnedHost;
+use wh_swap::SwapDev;
+
+impl ScriptHost {
+    /// Admits an instance of the module of a number as `inst`, a free name. Returns the reply.
+    ///
+    /// # Errors
+    /// A growth of memory for what is kept of it was refused. Nothing was done then.
+    pub fn admit<'a, D: SwapDev, T: Ledger, C: Ledger, O: Ledger, E: Ledger, B: CellAgreements>(
+        &mut self,
+        host: &mut OwnedHost<D, T, C, O, E, B>,
+        alloc: Global,
+        inst: &'a str,
+        of: usize,
+        given: AdmitParams,
+    ) -> Result<Reply<'a>, AllocError>
+        requires free { place_of_name self.old.instance_names inst.now ≡ None }
+        requires there { of < self.old.modules }
+        ensures ok { IfOk result (λ reply. (settings : Settings) (m : ScriptState)
+            → RepresentsScript settings (script_host_on host.old.host self.old) m
+            → TakesInstance settings m inst.now of (params_of given) (reply_of reply)
+            (script_host_on host.new.host self.new)) }
+        ensures err { OnErr result ((settings : Settings) (m : ScriptState)
+            → RepresentsScript settings (script_host_on host.old.host self.old) m
+            → RepresentsScript settings (script_host_on host.new.host self.new) m) }
+        ensures device { host.new.device ≡ host.old.device }
+    {
+        let Some(admitted) = self.admitted.checked_add(1) else {
+            return Err(AllocError);
+        };
+        let name = String::from_str(alloc, inst)?;
+        self.instances.reserve(1)?;
+        self.instance_names.add(alloc, inst)?;
+        let params = Params {
+            shares: given.shares,
+            min: given.min,
+            max: given.max,
+            fuel: given.fuel,
+            base: given.base,
+            salt: given.salt,
+            inputs: given.inputs,
+        };
+        match host.admit(alloc, ModuleId { number: of }, params) {
+            Ok(id) => {
+                let has_start = host.host().can_go_on(id);
+                self.admitted = admitted;
+                self.instances.push_reserved(NamedInstance {
+                    name,
+                    id,
+                    has_start,
+                    is_released: false,
+                    last_printed: None,
+                });
+                Ok(Reply::AdmitOk {
+                    inst,
+                    number: id.number,
+                })
+            }
+            Err(error) => {
+                self.instance_names.remove_last();
+                Ok(Reply::AdmitRefused {
+                    inst,
+                    fault: error.number(),
+                })
+            }
+        }
+    }
+
+    /// Requests a call of the instance of a number. Its outcome is printed at the next drain.
+    ///
+    /// # Errors
+    /// A growth of memory for what is kept of it was refused. Nothing was done then.
+    pub fn invoke<D: SwapDev, T: Ledger, C: Ledger, O: Ledger, E: Ledger, B: CellAgreements>(
+        &mut self,
+        host: &mut OwnedHost<D, T, C, O, E, B>,
+        alloc: Global,
+        number: usize,
+        export: &str,
+        fuel: u64,
+        args: &[i128],
+    ) -> Result<(), AllocError>
+        requires there { number < self.old.admitted }
+        ensures ok { OnOk result ((settings : Settings) (m : ScriptState)
+            → RepresentsScript settings (script_host_on host.old.host self.old) m
+            → TakesInvoke settings m number export.now fuel args.now
+            (script_host_on host.new.host self.new)) }
+        ensures err { OnErr result ((settings : Settings) (m : ScriptState)
+            → RepresentsScript settings (script_host_on host.old.host self.old) m
+            → RepresentsScript settings (script_host_on host.new.host self.new) m) }
+        ensures device { host.new.device ≡ host.old.device }
+    {
+        let Some(asked) = self.asked.checked_add(1) else {
+            return Err(AllocError);
+        };
+        self.invoked.reserve(1)?;
+        let Some(at) = self.kept_at(number) else {
+            self.note(
+                asked,
+                InvokeOutcome::Rejected(HostError::NoInstance.number()),
+            );
+            return Ok(());
+        };
+        let id = self.instances[at].id;
+        let outcome = match host.invoke(alloc, id, export, args, fuel) {
+            Ok(place) => InvokeOutcome::Accepted {
+                instance: number,
+                place,
+            },
+            Err(error) => InvokeOutcome::Rejected(error.number()),
+        };
+        self.note(asked, outcome);
+        Ok(())
+    }
+
+    // Keeps what came of the `invoke` of a number, which is the last one.
+    fn note(&mut self, number: u64, outcome: InvokeOutcome)
+        requires room { vec_len self.old.invoked < vec_capacity self.old.invoked }
+        ensures { IsNoted self.old self.new number outcome }
+    {
+        self.asked = number;
+        self.invoked.push_reserved(Invoked {
+            number,
+            outcome,
+            last_printed: None,
+        });
+    }
+}

@@ -1,7 +1,0 @@
-use Rattle.std.proofs.Common.{subst}
-use Rattle.wh_host_model.specs.Host.Worlds.{World}
-use Rattle.wh_host.specs.Hosting.{HostState, IsHost}
-use Rattle.wh_host.proofs.host.Host.known.Goals as goal
-
-pub returns : goal.returns
-returns c = subst (λ (h : HostState). (w : World) × IsHost h w) c.self.view_is c.self.invariant

@@ -1,9 +1,0 @@
-use Rattle.std.proofs.Common.{rules}
-use Rattle.std.proofs.lemmas.List.Sorted.{IsNonDecreasingBy-from_sort_by_key}
-use Rattle.wh_host.specs.declared.parts.Seat.{Seat}
-use Rattle.wh_host.proofs.seating.sort_seats.Goals as goal
-
-pub returns-clause-sorted : goal.returns-clause-sorted
-returns-clause-sorted c =
-    IsNonDecreasingBy-from_sort_by_key (λ (seat : Seat). seat.number) c.sort_unstable_by_key.new.self.items c.sort_unstable_by_key.ensures.sorted
-    (λ a r q k. search rules)

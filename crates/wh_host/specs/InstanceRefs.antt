@@ -1,0 +1,72 @@
+-- The instances of a host by number, and the lines of its report by what the code has of them.
+use Rattle.std.specs.Prelude.{◌≡◌, ◌≤◌, ℕ, zero, suc, ◌+◌, ◌++◌, List, [], ◌∷◌, Option, Some, None}
+use Rattle.std.specs.List.Sorted.{IsNonDecreasingBy, IsPermutation}
+use Rattle.wh_host_model.specs.Space.Charges.{active_of, charged_of}
+use Rattle.wh_host_model.specs.Space.Parts.{Space}
+use Rattle.wh_host_model.specs.Space.States.{count_of, swapped}
+use Rattle.wh_host_model.specs.Host.Worlds.{Tenant, World}
+use Rattle.wh_script_model.specs.Texts.{Row, row_text}
+use Rattle.wh_host.specs.declared.parts.InstanceEntry.{InstanceEntry}
+use Rattle.wh_host.specs.declared.parts.InstanceRef.{InstanceRef}
+use Rattle.wh_host.specs.Hosting.{HostState, IsHost, entry_at}
+
+-- the number and the place of each that is live, by number, the first of the list having this one
+abbrev pub refs_by : (number : ℕ) → List (Option Tenant) → List InstanceRef
+refs_by number [] = []
+refs_by number (None ∷ ts) = refs_by (number + 1) ts
+refs_by number (Some t ∷ ts) = record { number = number; place = t.place } ∷ refs_by (number + 1) ts
+
+-- for whatever host it stands, these are its live instances by number
+abbrev pub AreInstanceRefs : HostState → List InstanceRef → Type 0
+AreInstanceRefs h instance_refs = (w : World) → IsHost h w → instance_refs ≡ refs_by 0 w.tenants
+
+-- ---- within the crate
+
+-- the number of the instance that has a place, if one has it
+abbrev pub number_of_entry : Option InstanceEntry → Option ℕ
+number_of_entry None = None
+number_of_entry (Some x) = x.number
+
+abbrev pub number_at : List (Option InstanceEntry) → ℕ → Option ℕ
+number_at rs place = number_of_entry (entry_at rs place)
+
+-- who is there, at this place and at the places below n
+abbrev pub ref_at : Option ℕ → ℕ → List InstanceRef
+ref_at None place = []
+ref_at (Some number) place = record { number = number; place = place } ∷ []
+
+abbrev pub refs_below : (ℕ → Option ℕ) → ℕ → List InstanceRef
+refs_below who zero = []
+refs_below who (suc n) = refs_below who n ++ ref_at (who n) n
+
+-- the same in order
+abbrev pub AreInOrder : List (Option InstanceEntry) → ℕ → List InstanceRef → Type 0
+AreInOrder rs n instance_refs =
+    IsPermutation (refs_below (number_at rs) n) instance_refs × IsNonDecreasingBy (λ (s : InstanceRef). s.number) instance_refs
+
+-- the lines of the instances in these seats, one after the other
+abbrev pub line_row : Space → InstanceRef → InstanceEntry → Row
+line_row s instance_ref x = record {
+  number = instance_ref.number;
+  shares = x.given.shares;
+  min = x.given.min;
+  max = x.given.max;
+  charged = charged_of s instance_ref.place;
+  active = active_of s instance_ref.place;
+  swapped = count_of swapped s.tables instance_ref.place;
+  num = s.tax.num;
+  den = s.tax.den;
+}
+
+abbrev pub line_text : Space → InstanceRef → Option InstanceEntry → List ℕ
+line_text s instance_ref None = []
+line_text s instance_ref (Some x) = row_text (line_row s instance_ref x)
+
+abbrev pub lines_text : Space → List (Option InstanceEntry) → List InstanceRef → List ℕ
+lines_text s rs [] = []
+lines_text s rs (instance_ref ∷ instance_refs) =
+    line_text s instance_ref (entry_at rs instance_ref.place) ++ lines_text s rs instance_refs
+
+-- whoever has this place can be shown
+abbrev pub CanBeShown : List (Option InstanceEntry) → InstanceRef → Type 0
+CanBeShown rs instance_ref = (x : InstanceEntry) → entry_at rs instance_ref.place ≡ Some x → x.given.shares ≤ 1000000

@@ -1,0 +1,6 @@
+pub mod Apart
+pub mod Bytes
+pub mod OverPages
+pub mod Marks
+pub mod Seen
+pub mod Grown

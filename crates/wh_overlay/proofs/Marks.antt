@@ -1,0 +1,118 @@
+-- The marks of pages that were read and written.
+use Rattle.std.proofs.Common.{◌≡◌, ◌≢◌, ◌∙◌, ◌⊎◌, inl, inr, ℕ, ◌+◌, ◌<◌, List, [], ◌∷◌, ◌++◌, Some, length, get_or, slice_get, slice_set, zero, suc, refl, sym, ap, arith}
+use Rattle.std.proofs.lemmas.Bool.{cases_eq}
+use Rattle.wh_overlay.specs.declared.upper.WrittenPage.{WrittenPage}
+use Rattle.wh_overlay.specs.LaidPages.{IsMarked, IsAmong}
+
+-- ---- lists
+
+pub got_there : {X : Type 0} (xs : List X) (i : ℕ) (x d : X) → i < length xs → get_or (slice_set xs i x) i d ≡ x
+got_there [] i x d less = absurd (omega arith)
+got_there (y ∷ xs) zero x d less = refl
+got_there (y ∷ xs) (suc i) x d less = got_there xs i x d (omega arith)
+
+pub got_elsewhere : {X : Type 0} (xs : List X) (i j : ℕ) (x d : X) → j ≢ i → get_or (slice_set xs i x) j d ≡ get_or xs j d
+got_elsewhere [] i j x d other = refl
+got_elsewhere (y ∷ xs) zero zero x d other = absurd (other refl)
+got_elsewhere (y ∷ xs) zero (suc j) x d other = refl
+got_elsewhere (y ∷ xs) (suc i) zero x d other = refl
+got_elsewhere (y ∷ xs) (suc i) (suc j) x d other = got_elsewhere xs i j x d (λ e. other (ap suc e))
+
+pub set_there : {X : Type 0} (xs : List X) (i : ℕ) (x y : X) → slice_get xs i ≡ Some y → slice_get (slice_set xs i x) i ≡ Some x
+set_there [] i x y there = absurd (cc there)
+set_there (z ∷ xs) zero x y there = refl
+set_there (z ∷ xs) (suc i) x y there = set_there xs i x y there
+
+pub set_elsewhere : {X : Type 0} (xs : List X) (i j : ℕ) (x : X) → j ≢ i → slice_get (slice_set xs i x) j ≡ slice_get xs j
+set_elsewhere [] i j x other = refl
+set_elsewhere (y ∷ xs) zero zero x other = absurd (other refl)
+set_elsewhere (y ∷ xs) zero (suc j) x other = refl
+set_elsewhere (y ∷ xs) (suc i) zero x other = refl
+set_elsewhere (y ∷ xs) (suc i) (suc j) x other = set_elsewhere xs i j x (λ e. other (ap suc e))
+
+pub last_there : {X : Type 0} (xs : List X) (y : X) → slice_get (xs ++ y ∷ []) (length xs) ≡ Some y
+last_there [] y = refl
+last_there (x ∷ xs) y = last_there xs y
+
+pub still_there : {X : Type 0} (xs : List X) (y x : X) (i : ℕ) → slice_get xs i ≡ Some x → slice_get (xs ++ y ∷ []) i ≡ Some x
+still_there [] y x i e = absurd (cc e)
+still_there (z ∷ xs) y x zero e = e
+still_there (z ∷ xs) y x (suc i) e = still_there xs y x i e
+
+pub was_there : {X : Type 0} (xs : List X) (y x : X) (i : ℕ) → slice_get (xs ++ y ∷ []) i ≡ Some x → (slice_get xs i ≡ Some x) ⊎ ((y ≡ x) × (i ≡ length xs))
+was_there [] y x zero e = inr (cc e, refl)
+was_there [] y x (suc i) e = absurd (cc e)
+was_there (z ∷ xs) y x zero e = inl e
+was_there (z ∷ xs) y x (suc i) e = further (was_there xs y x i e)
+  where
+    further : (slice_get xs i ≡ Some x) ⊎ ((y ≡ x) × (i ≡ length xs)) → (slice_get xs i ≡ Some x) ⊎ ((y ≡ x) × (suc i ≡ length (z ∷ xs)))
+    further (inl h) = inl h
+    further (inr h) = inr (h.0, omega (arith, h.1))
+
+-- ---- a page is read for the first time
+
+pub marked_read : (pages : List WrittenPage) (marks : List ℕ) (number : ℕ) → IsMarked pages marks → number < length marks → get_or marks number 0 ≡ 0 → IsMarked pages (slice_set marks number 1)
+marked_read pages marks number is less none = record {
+  each = λ k x there. elim (cases_eq x.number number) [
+    | inl same ↦ absurd (let had = is.each k x there in let at : get_or marks x.number 0 ≡ 0 = ap (λ z. get_or marks z 0) same ∙ none in omega (arith, had, at))
+    | inr other ↦ got_elsewhere marks number x.number 1 0 other ∙ is.each k x there
+  ];
+  only = λ n k mark. elim (cases_eq n number) [
+    | inl same ↦ absurd (let now : get_or (slice_set marks number 1) n 0 ≡ 1 = ap (λ z. get_or (slice_set marks number 1) z 0) same ∙ got_there marks number 1 0 less in omega (arith, now, mark))
+    | inr other ↦ is.only n k (sym (got_elsewhere marks number n 1 0 other) ∙ mark)
+  ];
+  whole = is.whole;
+}
+
+-- ---- a page is written for the first time
+
+pub marked_new : (pages : List WrittenPage) (marks : List ℕ) (x : WrittenPage) (mark : ℕ) → IsMarked pages marks → x.number < length marks → ¬ (IsAmong pages x.number) → length x.bytes ≡ 4096 → mark ≡ length pages + 2
+    → IsMarked (pages ++ x ∷ []) (slice_set marks x.number mark)
+marked_new pages marks x mark is less new long last = record {
+  each = λ k y there. elim (was_there pages x y k there) [
+    | inl before ↦ got_elsewhere marks x.number y.number mark 0 (λ e. new (k, (y, before, e))) ∙ is.each k y before
+    | inr end ↦ ap (λ (z : WrittenPage). get_or (slice_set marks x.number mark) z.number 0) (sym end.0) ∙ got_there marks x.number mark 0 less ∙ last ∙ ap (λ z. z + 2) (sym end.1)
+  ];
+  only = λ n k has. elim (cases_eq n x.number) [
+    | inl same ↦ (
+        let now : get_or (slice_set marks x.number mark) n 0 ≡ mark = ap (λ z. get_or (slice_set marks x.number mark) z 0) same ∙ got_there marks x.number mark 0 less in
+        let at : k ≡ length pages = omega (arith, now, has, last) in
+        (x, ap (slice_get (pages ++ x ∷ [])) at ∙ last_there pages x, sym same))
+    | inr other ↦ (
+        let had = is.only n k (sym (got_elsewhere marks x.number n mark 0 other) ∙ has) in
+        (had.0, still_there pages x had.0 k had.1, had.2))
+  ];
+  whole = λ k y there. elim (was_there pages x y k there) [
+    | inl before ↦ is.whole k y before
+    | inr end ↦ ap (λ (z : WrittenPage). length z.bytes) (sym end.0) ∙ long
+  ];
+}
+
+-- ---- a written page is written again
+
+pub marked_again : (pages : List WrittenPage) (marks : List ℕ) (at : ℕ) (x y : WrittenPage) → IsMarked pages marks → slice_get pages at ≡ Some x → y.number ≡ x.number → length y.bytes ≡ 4096 → IsMarked (slice_set pages at y) marks
+marked_again pages marks at x y is there same long = record {
+  each = λ k z now. elim (cases_eq k at) [
+    | inl here ↦ (
+        let both : Some y ≡ Some z = sym (set_there pages at y x there) ∙ ap (slice_get (slice_set pages at y)) (sym here) ∙ now in
+        let is_y : y ≡ z = cc both in
+        ap (λ (w : WrittenPage). get_or marks w.number 0) (sym is_y) ∙ ap (λ n. get_or marks n 0) same ∙ is.each at x there ∙ ap (λ n. n + 2) (sym here))
+    | inr other ↦ is.each k z (sym (set_elsewhere pages at k y other) ∙ now)
+  ];
+  only = λ n k mark. (
+      let had = is.only n k mark in
+      elim (cases_eq k at) [
+        | inl here ↦ (
+            let both : Some x ≡ Some had.0 = sym there ∙ ap (slice_get pages) (sym here) ∙ had.1 in
+            let is_x : x ≡ had.0 = cc both in
+            (y, ap (slice_get (slice_set pages at y)) here ∙ set_there pages at y x there, same ∙ ap (λ (w : WrittenPage). w.number) is_x ∙ had.2))
+        | inr other ↦ (had.0, set_elsewhere pages at k y other ∙ had.1, had.2)
+      ]);
+  whole = λ k z now. elim (cases_eq k at) [
+    | inl here ↦ (
+        let both : Some y ≡ Some z = sym (set_there pages at y x there) ∙ ap (slice_get (slice_set pages at y)) (sym here) ∙ now in
+        let is_y : y ≡ z = cc both in
+        ap (λ (w : WrittenPage). length w.bytes) (sym is_y) ∙ long)
+    | inr other ↦ is.whole k z (sym (set_elsewhere pages at k y other) ∙ now)
+  ];
+}

@@ -1,0 +1,19 @@
+use Rattle.std.proofs.Common.{◌+◌, ◌*◌, ◌<◌, ◌^◌, length, subst, sym, arith}
+use Rattle.wh_host_model.specs.Space.Parts.{view}
+use Rattle.wh_host_model.proofs.Space.Reading.{view_length}
+use Rattle.wh_overlay.specs.Over.{AreAlone}
+use Rattle.wh_overlay.proofs.overlay.Overlay.new.Goals as goal
+
+pub invariant_of-result : goal.invariant_of-result
+invariant_of-result c =
+    let s = c.args.lower.now in
+    let u = c.args.upper in
+    let long = view_length s c.args.place c.invariant.ensures.sound in
+    let few = c.pages_at.type_inv in
+    let pages = c.pages_at.ensures in
+    let none = c.requires.grown in
+    record {
+      alone = subst (AreAlone s c.args.place) (sym c.requires.pages) (λ k x there. absurd (cc there));
+      counted = subst (λ n. length (view s c.args.place) + n * 65536 < 2 ^ 44) (sym none) (omega (arith, long, few, pages));
+      limited = λ some. absurd (omega (arith, none, some));
+    }

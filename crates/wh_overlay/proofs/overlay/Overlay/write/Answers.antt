@@ -1,0 +1,30 @@
+use Rattle.std.proofs.Common.{◌≡◌, ◌∙◌, ◌+◌, ◌*◌, ◌<◌, ◌^◌, refl, ap, sym, subst, length}
+use Rattle.wh_model.specs.Execution.Store.{written}
+use Rattle.wh_host_model.specs.Space.Parts.{view}
+use Rattle.wh_overlay.specs.LaidPages.{IsWrittenAt, UpperState, with_upper}
+use Rattle.wh_overlay.specs.Over.{AreAlone, HasGrown, OverlayState, sees}
+use Rattle.wh_overlay.proofs.OverPages.{page_with}
+use Rattle.wh_overlay.proofs.Seen.{still_alone, write_page}
+use Rattle.wh_overlay.proofs.overlay.Overlay.write.Goals as goal
+
+pub invariant_of-self : goal.invariant_of-self
+invariant_of-self c =
+    let o = c.self.inside in
+    let done = c.write.ensures in
+    let x = done.0 in
+    record {
+      alone = subst (λ (u : UpperState). AreAlone o.lower.now o.place u.pages) (sym done.2)
+          (still_alone o.lower.now o.place c.in-Some.at o.upper.pages x (page_with x c.args.offset c.args.given.now) c.self.invariant.alone done.1 refl);
+      counted = subst (λ (u : UpperState). length (view o.lower.now o.place) + u.grown * 65536 < 2 ^ 44) (sym done.2) c.self.invariant.counted;
+      limited = subst (λ (u : UpperState). HasGrown o.lower.now o.place u) (sym done.2) c.self.invariant.limited;
+    }
+
+pub returns-clause-wrote : goal.returns-clause-wrote
+returns-clause-wrote c =
+    let o = c.self.inside in
+    let at = subst (λ (z : OverlayState). IsWrittenAt z.upper.pages c.args.number c.in-Some.at) (sym c.self.view_is) c.in-Some.ensures.some in
+    let seen : sees c.own.new.self ≡ sees c.args.self.now = c.in-Some.ensures.sees in
+    let before : with_upper (view o.lower.now o.place) o.upper ≡ sees c.own.new.self = ap (λ (z : OverlayState). sees z) c.self.view_is in
+    λ yes.
+    write_page o.lower.now o.place o.upper c.write.new.self c.args.number c.in-Some.at c.args.offset c.args.given.now c.invariant-2.ensures.sound c.self.invariant.alone c.invariant.ensures.whole c.invariant.ensures.once at c.write.ensures c.requires.inside
+    ∙ ap (λ z. written z (4096 * c.args.number + c.args.offset) c.args.given.now) (before ∙ seen)

@@ -1,0 +1,3 @@
+pub mod LaidPages
+pub mod Over
+pub mod Stored

@@ -1,0 +1,61 @@
+-- What an instance can read and write while nobody changes the memory of all.
+use Rattle.std.specs.Prelude.{◌≡◌, ℕ, ◌*◌, ◌+◌, ◌/◌, ◌%◌, ◌^◌, ◌<◌, ◌≤◌, ◌⊎◌, cond, List, [], Some, length, get_or, slice_get}
+use Rattle.wh_model.specs.declared.memory.Need.{Need}
+use Rattle.wh_host_model.specs.declared.states.Page.TheVariants.{Private}
+use Rattle.wh_host_model.specs.Space.Parts.{Space, view}
+use Rattle.wh_host_model.specs.Space.Ready.{IsAtHand}
+use Rattle.wh_host_model.specs.Space.States.{page_at}
+use Rattle.wh_space.specs.Steps.{page_limit}
+use Rattle.wh_overlay.specs.declared.upper.WrittenPage.{WrittenPage}
+use Rattle.wh_overlay.specs.LaidPages.{IsAmong, UpperState, with_upper}
+
+-- a page can be read: it was written beside the memory, is at hand in it, or the memory has grown by it
+abbrev pub CanRead : Space → ℕ → UpperState → ℕ → Type 0
+CanRead s i u number =
+    IsAmong u.pages number ⊎ IsAtHand (page_at s.tables i number) ⊎ (length (get_or s.tables i []) ≤ number)
+
+-- a page can be written: it was before, or it is alone on its frame, and there is room for it
+abbrev pub CanWrite : Space → ℕ → UpperState → ℕ → Type 0
+CanWrite s i u number =
+    IsAmong u.pages number
+    ⊎ ((frame : ℕ) × (page_at s.tables i number ≡ Some (Private frame)) × (number < u.most) × (1 ≤ u.room))
+
+-- These bytes can be read or written at once: there are none, or they lie on one page with which that can be done.
+abbrev pub CanStepOver : Space → ℕ → UpperState → Need → Type 0
+CanStepOver s i u need =
+    (need.length ≡ 0)
+    ⊎ ((need.at % 4096 + need.length ≤ 4096)
+    × cond need.writes (CanWrite s i u (need.at / 4096)) (CanRead s i u (need.at / 4096)))
+
+-- each page that was written is alone on its frame below
+abbrev pub AreAlone : Space → ℕ → List WrittenPage → Type 0
+AreAlone s i pages =
+    (k : ℕ) (x : WrittenPage) → slice_get pages k ≡ Some x
+    → (frame : ℕ) × (page_at s.tables i x.number ≡ Some (Private frame))
+
+-- The memory of the instance at a place, with a limit of pages of 65536 bytes, and what is written beside it.
+pub record OverlayState : Type 0 where
+  pub lower : Space
+  pub place : ℕ
+  pub page_limit : ℕ
+  pub upper : UpperState
+
+-- what the instance sees
+abbrev pub sees : OverlayState → List ℕ
+sees o = with_upper (view o.lower o.place) o.upper
+
+-- it has grown no further than it may
+abbrev pub HasGrown : Space → ℕ → UpperState → Type 0
+HasGrown s i u = 1 ≤ u.grown → length (view s i) + u.grown * 65536 ≤ page_limit s i * 65536
+
+-- What is written beside a memory are pages that are alone on their frames, and no more bytes than pages can be counted.
+pub record IsOver (s : Space) (i : ℕ) (u : UpperState) : Type 0 where
+  pub alone : AreAlone s i u.pages
+  pub counted : length (view s i) + u.grown * 65536 < 2 ^ 44
+  pub limited : HasGrown s i u
+
+-- only what is written beside it changes
+pub record IsOverSame (o p : OverlayState) : Type 0 where
+  pub lower : p.lower ≡ o.lower
+  pub place : p.place ≡ o.place
+  pub page_limit : p.page_limit ≡ o.page_limit

@@ -1,0 +1,14 @@
+-- What contracts see of what is written beside a memory can be stored: as its parts.
+use Rattle.std.specs.Prelude.{ℕ, List, refl}
+use Rattle.std.specs.Coded.{Coded, code_by, coded_list, coded_ℕ, coded×}
+use Rattle.wh_overlay.specs.declared.upper.WrittenPage.{WrittenPage}
+use Rattle.wh_overlay.specs.contracts.upper.WrittenPage as page_type
+use Rattle.wh_overlay.specs.LaidPages.{UpperState}
+
+abbrev pub stored_upper : Coded UpperState
+stored_upper =
+    code_by (List WrittenPage × (ℕ × (ℕ × ℕ)))
+    (coded× (coded_list page_type.the_row.coded) (coded× coded_ℕ (coded× coded_ℕ coded_ℕ)))
+    (λ u. (u.pages, (u.grown, (u.room, u.most))))
+    (λ p. record { pages = p.0; grown = p.1.0; room = p.1.1.0; most = p.1.1.1 })
+    (λ _. refl)

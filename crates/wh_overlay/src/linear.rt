@@ -1,0 +1,129 @@
+// An overlay is a linear memory.
+
+ghost use Rattle.std.proofs.Common.{◌∙◌, ap, refl};
+ghost use Rattle.std.specs.Prelude.{◌≡◌, ◌+◌, ◌*◌, ◌%◌, ◌≤◌, ◌/◌, MatchBool, length, min};
+ghost use Rattle.wh_model.specs.Execution.Memory.{reading, writing};
+ghost use Rattle.wh_space.specs.Steps.{page_limit};
+ghost use Rattle.wh_overlay.specs.Over.{CanRead, CanStepOver, CanWrite, IsOverSame, OverlayState, sees};
+
+use crate::overlay::Overlay;
+use wh_linmem::LinearMem;
+use wh_model::{Got, Grown, Need};
+
+// Whether so many bytes from a place on lie on one page of 4096 bytes.
+#[inline(always)]
+fn is_on_one_page(at: u64, count: usize) -> bool
+    ensures { MatchBool result (at % 4096 + count ≤ 4096) (¬ (at % 4096 + count ≤ 4096)) }
+{
+    count <= 4096 - (at % 4096) as usize
+}
+
+impl<'a> LinearMem for Overlay<'a> {
+    ghost bytes = { sees };
+
+    ghost limit = { λ o. min o.page_limit (page_limit o.lower o.place) };
+
+    ghost ready = { λ o need. CanStepOver o.lower o.place o.upper need };
+
+    ghost keeps = { IsOverSame };
+
+    fn is_ready(&self, need: Need) -> bool {
+        if need.length == 0 {
+            return true;
+        }
+        if !is_on_one_page(need.at, need.length) {
+            return false;
+        }
+        if need.writes {
+            self.can_write(need.at / 4096)
+        } else {
+            self.can_read(need.at / 4096)
+        }
+    }
+
+    fn load(&mut self, at: u64, into: &mut [u8]) -> Got {
+        if !self.has(at, into.len()) {
+            return Got::Trap;
+        }
+        if into.is_empty() {
+            return Got::Value;
+        }
+        let need = Need {
+            at,
+            length: into.len(),
+            writes: false,
+        };
+        if !is_on_one_page(at, into.len()) {
+            return Got::NotReady(need);
+        }
+        if self.read((at / 4096) as u32, (at % 4096) as usize, into) {
+            Got::Value
+        } else {
+            Got::NotReady(need)
+        }
+    }
+
+    fn store(&mut self, at: u64, given: &[u8]) -> Got {
+        if !self.has(at, given.len()) {
+            return Got::Trap;
+        }
+        if given.is_empty() {
+            return Got::Value;
+        }
+        let need = Need {
+            at,
+            length: given.len(),
+            writes: true,
+        };
+        if !is_on_one_page(at, given.len()) {
+            return Got::NotReady(need);
+        }
+        if self.write((at / 4096) as u32, (at % 4096) as usize, given) {
+            Got::Value
+        } else {
+            Got::NotReady(need)
+        }
+    }
+
+    #[inline(always)]
+    fn quick_load(&mut self, at: u64, into: &mut [u8]) -> bool {
+        if into.is_empty() || !is_on_one_page(at, into.len()) || !self.has(at, into.len()) {
+            return false;
+        }
+        self.read((at / 4096) as u32, (at % 4096) as usize, into)
+    }
+
+    #[inline(always)]
+    fn quick_store(&mut self, at: u64, given: &[u8]) -> bool {
+        if given.is_empty() || !is_on_one_page(at, given.len()) || !self.has(at, given.len()) {
+            return false;
+        }
+        self.write((at / 4096) as u32, (at % 4096) as usize, given)
+    }
+
+    fn size(&self) -> u32 {
+        self.pages()
+    }
+
+    fn grow(&mut self, pages: u32) -> Grown {
+        let before = self.pages();
+        let most = self.most_pages();
+        if u64::from(before) + u64::from(pages) > u64::from(most) {
+            return Grown::Refused;
+        }
+        self.grow_by(pages);
+        Grown::Done(before)
+    }
+
+    ghost keeps_same = { λ o. record { lower = refl; place = refl; page_limit = refl } };
+
+    ghost keeps_more = { λ a b c first second. record {
+      lower = second.lower ∙ first.lower;
+      place = second.place ∙ first.place;
+      page_limit = second.page_limit ∙ first.page_limit;
+    } };
+
+    ghost keeps_limit = { λ a b keeps. ap (λ z. min z (page_limit b.lower b.place)) keeps.page_limit
+        ∙ ap (λ z. min a.page_limit (page_limit z b.place)) keeps.lower
+        ∙ ap (λ z. min a.page_limit (page_limit a.lower z)) keeps.place };
+}

@@ -1,0 +1,233 @@
+// What an instance writes beside the memory of all.
+
+ghost use Rattle.std.specs.Prelude.{◌≡◌, ◌+◌, ◌-◌, ◌^◌, ◌<◌, ◌≤◌, ◌⊎◌, ◌++◌, ◌∷◌, [], Some, IfOk, IfSome, IfNone, MatchBool, length, get_or, slice_get, slice_set, vec_capacity};
+ghost use Rattle.wh_model.specs.Execution.Store.{written as overwritten};
+ghost use Rattle.wh_overlay.specs.LaidPages.{AreWrittenOnce, AreWhole, IsMarked, IsAmong, IsWrittenAt, UpperState};
+
+use std::alloc::{AllocError, Global};
+use std::marker::Model;
+
+// The mark of a page that was read, and not written.
+const READ: u32 = 1;
+
+// How much more than its place among the written ones is the mark of a page that was written.
+const WRITTEN: u32 = 2;
+
+/// A page of 4096 bytes that was written.
+#[derive(Drop)]
+pub struct WrittenPage {
+    /// Which page of its memory it is.
+    pub number: u32,
+    /// Its bytes.
+    pub bytes: [u8; 4096],
+}
+
+/// The pages that an instance has written beside the memory of all, those that it has read there, and by how much its memory has
+/// grown. All room is made before.
+#[derive(Drop)]
+pub struct Upper {
+    pub(crate) pages: Vec<WrittenPage>,
+    // How many may be written.
+    most_written: usize,
+    // The numbers of pages that were read before they were written.
+    pub(crate) reads: Vec<u32>,
+    // By page: 0 where it was neither read nor written.
+    pub(crate) marks: Vec<u32>,
+    pub(crate) grown: u32,
+}
+
+impl Model for Upper {
+    ghost use Rattle.std.specs.Prelude.{◌-◌, ◌≤◌, length, vec_capacity};
+    ghost use Rattle.wh_overlay.specs.LaidPages.{IsMarked, UpperState as State};
+    ghost use Rattle.wh_overlay.specs.Stored.{stored_upper};
+
+    ghost Value = { State };
+
+    ghost coded = { stored_upper };
+
+    ghost view = { λ u. record {
+      pages = u.pages.items;
+      grown = u.grown;
+      room = u.most_written - length u.pages.items;
+      most = length u.marks.items;
+    } };
+
+    ghost invariant = { λ u. IsMarked u.pages.items u.marks.items
+        × (u.most_written ≤ vec_capacity u.pages) × (u.most_written ≤ 65535)
+        × (length u.pages.items ≤ u.most_written) };
+}
+
+// The mark of a page.
+#[inline(always)]
+fn mark_of(marks: &Vec<u32>, number: u32) -> u32
+    ensures { result ≡ get_or marks.now.items number 0 }
+{
+    match marks.get(number as usize) {
+        Some(mark) => *mark,
+        None => 0,
+    }
+}
+
+// Writes over bytes of a page, from this one on.
+#[inline(always)]
+fn overwrite(bytes: &mut [u8; 4096], offset: usize, given: &[u8])
+    requires { offset + length given.now ≤ 4096 }
+    ensures { bytes.new ≡ overwritten bytes.old offset given.now }
+{
+    bytes[offset..offset + given.len()].copy_from_slice(given);
+}
+
+// Keeps the number of a page that was read for the first time, if there is room for it.
+#[inline(never)]
+fn keep_read(reads: &mut Vec<u32>, marks: &mut Vec<u32>, number: u32)
+    requires { number < length marks.old.items }
+    ensures { (marks.new ≡ marks.old)
+        ⊎ (marks.new.items ≡ slice_set marks.old.items number 1) }
+{
+    if reads.len() < reads.capacity() {
+        reads.push_reserved(number);
+        marks[number as usize] = READ;
+    }
+}
+
+// Takes all marks away.
+fn clear_marks(marks: &mut Vec<u32>)
+    ensures marks { IsMarked [] marks.new.items }
+    ensures long { length marks.new.items ≡ length marks.old.items }
+{
+    marks.fill(0);
+}
+
+impl Upper {
+    /// Makes room for so many written pages, of a memory with so many pages of 4096 bytes at most.
+    ///
+    /// # Errors
+    /// Where that room is refused.
+    pub fn new(alloc: Global, written: u16, pages: usize) -> Result<Upper, AllocError>
+        ensures { IfOk result (λ u.
+            u ≡ record { pages = []; grown = 0; room = written; most = pages }) }
+    {
+        let most_written = written as usize;
+        Ok(Upper {
+            pages: Vec::with_capacity(alloc, most_written)?,
+            most_written,
+            reads: Vec::with_capacity(alloc, pages)?,
+            marks: vec![in alloc; 0u32; pages]?,
+            grown: 0,
+        })
+    }
+
+    /// What always holds of the pages that were written: each is there once, and has 4096 bytes.
+    #[inline(always)]
+    pub fn invariant(&self)
+        ensures once { AreWrittenOnce self.now.pages }
+        ensures whole { AreWhole self.now.pages }
+    {
+        let _ = &self.grown;
+    }
+
+    /// The place of a page among those that were written, if it was.
+    #[inline(always)]
+    pub fn find(&self, number: u32) -> Option<usize>
+        ensures some { IfSome result (λ k. IsWrittenAt self.now.pages number k) }
+        ensures none { IfNone result (¬ (IsAmong self.now.pages number)) }
+    {
+        let mark = mark_of(&self.marks, number);
+        if mark < WRITTEN {
+            return None;
+        }
+        Some((mark - WRITTEN) as usize)
+    }
+
+    /// The bytes of the written page at this place.
+    #[inline(always)]
+    pub fn bytes(&self, at: usize) -> &[u8; 4096]
+        requires { at < length self.now.pages }
+        ensures { (x : WrittenPage) × (slice_get self.now.pages at ≡ Some x)
+            × (result.now ≡ x.bytes) }
+    {
+        &self.pages[at].bytes
+    }
+
+    /// By how many pages of 65536 bytes the memory has grown.
+    #[inline(always)]
+    pub fn grown(&self) -> u32
+        ensures { result ≡ self.now.grown }
+    {
+        self.grown
+    }
+
+    /// Whether one more page may be written, of this number.
+    pub fn has_room_for(&self, number: u32) -> bool
+        ensures { MatchBool result ((number < self.now.most) × (1 ≤ self.now.room))
+            (¬ ((number < self.now.most) × (1 ≤ self.now.room))) }
+    {
+        (number as usize) < self.marks.len() && self.pages.len() < self.most_written
+    }
+
+    /// Keeps that a page was read, so that it is marked as touched in the memory of all when what is written here is laid back.
+    #[inline(always)]
+    pub fn note_read(&mut self, number: u32)
+        ensures { self.new ≡ self.old }
+    {
+        let at = number as usize;
+        if at < self.marks.len() && self.marks[at] == 0 {
+            keep_read(&mut self.reads, &mut self.marks, number);
+        }
+    }
+
+    /// Takes a page with these bytes among the written ones, as the last one: its place.
+    pub fn add(&mut self, number: u32, bytes: &[u8; 4096]) -> usize
+        requires new { ¬ (IsAmong self.old.pages number) }
+        requires room { (number < self.old.most) × (1 ≤ self.old.room) }
+        ensures place { result ≡ length self.old.pages }
+        ensures added { self.new ≡ record self.old {
+          pages = self.old.pages ++ record { number = number; bytes = bytes.now } ∷ [];
+          room = self.old.room - 1;
+        } }
+    {
+        let place = self.pages.len();
+        self.pages.push_reserved(WrittenPage {
+            number,
+            bytes: *bytes,
+        });
+        self.marks[number as usize] = place as u32 + WRITTEN;
+        place
+    }
+
+    /// Writes these bytes over a written page, from this one on.
+    #[inline(always)]
+    pub fn write(&mut self, at: usize, offset: usize, given: &[u8])
+        requires there { at < length self.old.pages }
+        requires inside { offset + length given.now ≤ 4096 }
+        ensures { (x : WrittenPage) × (slice_get self.old.pages at ≡ Some x)
+            × (self.new ≡ record self.old {
+              pages = slice_set self.old.pages at
+                  (record x { bytes = overwritten x.bytes offset given.now });
+            }) }
+    {
+        overwrite(&mut self.pages[at].bytes, offset, given);
+    }
+
+    /// Grows by so many pages of 65536 bytes.
+    pub fn grow(&mut self, pages: u32)
+        requires { self.old.grown + pages < 2 ^ 32 }
+        ensures { self.new ≡ record self.old { grown = self.old.grown + pages } }
+    {
+        self.grown += pages;
+    }
+
+    // Forgets all that was written and read. It goes over the marks of all pages.
+    pub(crate) fn clear(&mut self)
+        ensures { self.new ≡ record self.old {
+          pages = [];
+          grown = 0;
+          room = self.old.room + length self.old.pages;
+        } }
+    {
+        clear_marks(&mut self.marks);
+        self.pages.clear();
+        self.reads.clear();
+        self.grown = 0;
+    }
+}

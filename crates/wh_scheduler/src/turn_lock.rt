@@ -1,0 +1,112 @@
+//! Which worker receives turns: one after another, since turns are run under one lock.
+
+use crate::spin_backoff::SpinBackoff;
+use std::alloc::{AllocError, Global};
+use std::hint;
+use std::sync::atomic::{AtomicU64, Ordering};
+use std::sync::{Condvar, Wait};
+use std::time::Duration;
+
+// So long a worker that waits sleeps at most, in seconds, though nobody rings.
+const LONGEST_SLEEP_SECONDS: u64 = 1;
+
+/// Held by the worker that receives turns and runs them. Workers hold it one after another, in the order in which they asked.
+/// The others sleep, so none of them waits for the host's lock, nor for a message.
+#[derive(Drop)]
+pub struct TurnLock {
+    // How many have asked for it, modulo 2^64. Who asks has the number of those before it.
+    asked: AtomicU64,
+    // How many have left it, modulo 2^64: the number of who has it.
+    left: AtomicU64,
+    // How many turns were dispatched, modulo 2^64.
+    dispatched: AtomicU64,
+    // How many of these were received, modulo 2^64.
+    received: AtomicU64,
+    // How long the worker that holds the turn lock looks for a turn before it sleeps.
+    spin_backoff: SpinBackoff,
+    // As many as there are workers: who waits sleeps on the one at its number modulo their count, where no other one waits.
+    bells: Vec<Condvar>,
+}
+
+impl TurnLock {
+    /// Returns one for `workers`, free.
+    ///
+    /// # Errors
+    /// Where room was refused.
+    pub fn new(alloc: Global, workers: usize) -> Result<TurnLock, AllocError> {
+        let mut bells = Vec::with_capacity(alloc, workers)?;
+        for _ in 0..workers {
+            bells.push(Condvar::new())?;
+        }
+        Ok(TurnLock {
+            asked: AtomicU64::new(0),
+            left: AtomicU64::new(0),
+            dispatched: AtomicU64::new(0),
+            received: AtomicU64::new(0),
+            spin_backoff: SpinBackoff::new(),
+            bells,
+        })
+    }
+
+    // The bell of whoever has this number. None where there are no workers.
+    fn bell(&self, number: u64) -> Option<&Condvar> {
+        let many = self.bells.len() as u64;
+        if many == 0 {
+            return None;
+        }
+        self.bells.get((number % many) as usize)
+    }
+
+    /// Acquires it, once all who asked before have released it.
+    pub fn take<R: Wait>(&self, rt: &R) {
+        let number = self.asked.fetch_add(1, Ordering::SeqCst);
+        let Some(bell) = self.bell(number) else {
+            return;
+        };
+        for _ in rt.forever() {
+            let rings = bell.notifications();
+            if self.left.load(Ordering::SeqCst) == number {
+                return;
+            }
+            bell.sleep(rt, rings, Duration::from_secs(LONGEST_SLEEP_SECONDS));
+        }
+    }
+
+    /// Returns whether another one waits while this worker holds it.
+    pub fn is_wanted(&self) -> bool {
+        let asked = self.asked.load(Ordering::SeqCst);
+        asked.wrapping_sub(self.left.load(Ordering::SeqCst)) > 1
+    }
+
+    /// Releases it, which this worker holds, to the next.
+    pub fn leave(&self) {
+        let next = self.left.fetch_add(1, Ordering::SeqCst).wrapping_add(1);
+        if let Some(bell) = self.bell(next) {
+            bell.notify_all();
+        }
+    }
+
+    /// Counts a turn to be dispatched.
+    pub fn dispatch(&self) {
+        let _ = self.dispatched.fetch_add(1, Ordering::SeqCst);
+    }
+
+    /// Counts a turn received by its holder.
+    pub fn receive(&self) {
+        let _ = self.received.fetch_add(1, Ordering::SeqCst);
+    }
+
+    /// Spins for some microseconds for a turn that was dispatched and not received. Whoever then receives finds it without
+    /// having to sleep.
+    pub fn look_for_turn(&self) {
+        let received = self.received.load(Ordering::SeqCst);
+        for _ in 0..self.spin_backoff.looks() {
+            if self.dispatched.load(Ordering::SeqCst) != received {
+                self.spin_backoff.found();
+                return;
+            }
+            hint::spin_loop();
+        }
+        self.spin_backoff.in_vain();
+    }
+}

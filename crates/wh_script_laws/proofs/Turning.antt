@@ -1,0 +1,280 @@
+-- Turns bring the calls of an instance further.
+use Rattle.std.proofs.Common.{◌≡◌, ◌≢◌, ℕ, zero, suc, ◌+◌, ◌⊎◌, ⊎_elim, inl, inr, Bool, true, List, [], ◌∷◌, ◌++◌, map, Option, Some, None, get_or, slice_set, refl, sym, ap, subst, ◌∙◌, arith, append_assoc}
+use Rattle.std.specs.List.{AllZip, AllByRecursion}
+use Rattle.wh_model.specs.declared.memory.Need.{Need}
+use Rattle.wh_model.specs.Format.Syntax.{Module}
+use Rattle.wh_model.specs.Execution.Store.{Instance}
+use Rattle.wh_model.specs.Execution.Replay.{Outcome, cancelled, dead, Call}
+use Rattle.wh_host_model.specs.declared.Tax.{Tax}
+use Rattle.wh_host_model.specs.declared.plain.InstId.{InstId}
+use Rattle.wh_host_model.specs.declared.plain.SwapError.{SwapError}
+use Rattle.wh_host_model.specs.declared.plain.TurnEnd.{TurnEnd}
+use Rattle.wh_host_model.specs.Space.Parts.{Space, claim}
+use Rattle.wh_host_model.specs.Space.Sound.{IsSound}
+use Rattle.wh_host_model.specs.Host.Worlds.{Rest, Doing, Suspension, for_fuel, for_frame, for_device, Tenant, Loaded, World, journal, journal_calls, with_tenant}
+use Rattle.wh_host_model.specs.Owners.{Entry, is_open}
+use Rattle.wh_host_model.specs.Host.Turns.{to_end, Proceeds, returns, traps, writes_all}
+use Rattle.wh_host_model.specs.Host.CallAnswers.{ended_by, gone_further, Closes, faces_next, is_dead, at_frame, Turn, is_idle, has_ended, has_no_fuel, has_no_frame, can_go_on, keeps_its_fault}
+use Rattle.wh_host_model.specs.Host.Journals.{IsOpenCall, InOrder, is_starting, has_started, has_died}
+use Rattle.wh_host_model.specs.Host.Happens.{IsTurn, of_none, of_one}
+use Rattle.wh_host_model.specs.Host.Laws.{AfterEvents}
+use Rattle.wh_script_model.specs.ScriptState.{NamedModule, NamedInstance, ScriptState}
+use Rattle.wh_script_model.specs.Drains.{ComesTo, had_ended, goes_on}
+use Rattle.wh_script_model.specs.Served.{IsTenantOf}
+use Rattle.wh_host_model.proofs.Host.Holding.{memory_is_sound, journals_are_in_order}
+use Rattle.wh_host_model.proofs.Host.Opening.{Apart, apart_none, apart_then, apart_steps, proceeds_apart}
+use Rattle.wh_script_laws.specs.Following.{ComeFurther, IsFollowed, is_there, IsPlaced}
+use Rattle.wh_script_laws.specs.Laws.{TurnsFollow}
+use Rattle.wh_script_laws.proofs.Sums.{claims_decide}
+use Rattle.wh_script_laws.proofs.Drains.{comes_nowhere, come_nowhere, moved_followed, not_cancelled, zip_so}
+
+-- ---- calls come further, and further still
+
+comes_then : (a b c : Call) → ComesTo a b → ComesTo b c → ComesTo a c
+comes_then a b c (had_ended closed) y = y
+comes_then a b c (goes_on open_yet alive) (had_ended closed) = goes_on open_yet alive
+comes_then a b c (goes_on open_yet alive) (goes_on open_then alive_then) = goes_on open_yet alive_then
+
+come_then : (xs ys zs : List Call) → AllZip ComesTo xs ys → AllZip ComesTo ys zs → AllZip ComesTo xs zs
+come_then [] [] zs x y = y
+come_then [] (b ∷ ys) zs x y = absurd x
+come_then (a ∷ xs) [] zs x y = absurd x
+come_then (a ∷ xs) (b ∷ ys) [] x y = absurd y
+come_then (a ∷ xs) (b ∷ ys) (c ∷ zs) x y = (comes_then a b c x.0 y.0, come_then xs ys zs x.1 y.1)
+
+-- ---- the open calls
+
+abbrev pub IsOpenYet : Entry → Type 0
+IsOpenYet e = is_open e.call.outcome ≡ true
+
+each_open : (inst : Instance) (es : List Entry) → AllByRecursion (IsOpenCall inst) es → AllByRecursion IsOpenYet es
+each_open inst [] h = tt
+each_open inst (e ∷ es) h = (ap is_open h.0.open_yet, each_open inst es h.1)
+
+pub open_ones : {m : Module} {inst : Instance} {died : Bool} {es os : List Entry} → InOrder m inst died es os
+    → AllByRecursion IsOpenYet os
+open_ones {inst = inst} (is_starting {es = es} a b c) = (ap is_open b, each_open inst es c)
+open_ones {inst = inst} (has_started {os = os} a b c d f g) = each_open inst os g
+open_ones (has_died a b c d) = tt
+
+-- behind calls that have ended, the first open one has come further, and so have the others
+behind : (before os : List Entry) (e e2 : Entry) (es es2 : List Entry) → os ≡ e ∷ es → ComesTo e.call e2.call
+    → AllZip ComesTo (journal_calls es) (journal_calls es2)
+    → AllZip ComesTo (journal_calls (before ++ os)) (journal_calls (before ++ e2 ∷ es2))
+behind [] os e e2 es es2 are first others =
+    subst (λ xs. AllZip ComesTo (journal_calls xs) (journal_calls (e2 ∷ es2))) (sym are) (first, others)
+behind (b ∷ before) os e e2 es es2 are first others =
+    let rest = behind before os e e2 es es2 are first others in (comes_nowhere b.call, rest)
+
+all_dead : (es : List Entry) → AllByRecursion IsOpenYet es
+    → AllZip ComesTo (journal_calls es) (journal_calls (map (λ w. ended_by w dead) es ++ []))
+all_dead [] h = tt
+all_dead (e ∷ es) h = (goes_on h.0 (λ e. absurd (cc e)), all_dead es h.1)
+
+-- ---- what a turn leaves
+
+never_cancelled : {M : Type 0} {bytes : M → List ℕ} {ready : M → Need → Type 0} {keeps : M → M → Type 0} {inst : Instance} {q k n : ℕ} {call : Call} {m m2 : M} {d d2 : Doing} {r r2 : Rest} {o : Outcome}
+    → Proceeds bytes ready keeps inst q call m r d (to_end o) k n m2 r2 d2 → ¬ (o ≡ cancelled)
+never_cancelled (returns x y) e = absurd (cc e)
+never_cancelled (traps x) e = absurd (cc e)
+never_cancelled (writes_all x y z) e = absurd (cc e)
+
+abbrev HasNoFault : Option Suspension → Type 0
+HasNoFault o = (fault : SwapError) → o ≢ Some (for_device fault)
+
+no_fault_at_frame : (n : ℕ) (o : Option Suspension) → HasNoFault o → HasNoFault (at_frame n o)
+no_fault_at_frame zero None none fault e = absurd (cc e)
+no_fault_at_frame zero (Some for_fuel) none fault e = absurd (cc e)
+no_fault_at_frame zero (Some for_frame) none fault e = absurd (cc e)
+no_fault_at_frame zero (Some (for_device f)) none fault e = absurd (none f refl)
+no_fault_at_frame (suc n) o none fault e = absurd (cc e)
+
+-- the same instance, of which calls have come further, and no device has failed for it
+record TurnLeaves (s s2 : Space) (t t2 : Tenant) : Type 0 where
+  place : t2.place ≡ t.place
+  of : t2.of ≡ t.of
+  params : t2.params ≡ t.params
+  inst : t2.inst ≡ t.inst
+  further : AllZip ComesTo (journal_calls (journal t)) (journal_calls (journal t2))
+  no_fault : HasNoFault t.waiting_for → HasNoFault t2.waiting_for
+  apart : Apart t.place s s2
+  sound : IsSound s2
+
+left_as_it_was : (s : Space) (t : Tenant) → IsSound s → TurnLeaves s s t t
+left_as_it_was s t sound = record {
+  place = refl;
+  of = refl;
+  params = refl;
+  inst = refl;
+  further = come_nowhere (journal_calls (journal t));
+  no_fault = λ h. h;
+  apart = apart_none t.place s;
+  sound = sound;
+}
+
+-- the first open call has come further
+goes_further : (e : Entry) (k n : ℕ) → IsOpenYet e → ComesTo e.call (gone_further e k n).call
+goes_further e k n open_yet = goes_on open_yet (not_cancelled e.call.outcome open_yet)
+
+further_behind : (t : Tenant) (e e2 : Entry) (es : List Entry) → t.open_calls ≡ e ∷ es → ComesTo e.call e2.call
+    → AllZip ComesTo (journal_calls (journal t)) (journal_calls (t.ended ++ e2 ∷ es))
+further_behind t e e2 es are first = behind t.ended t.open_calls e e2 es es are first (come_nowhere (journal_calls es))
+
+closed_leaves : (s0 s : Space) (t t2 : Tenant) (e e2 : Entry) (es : List Entry) (r : Rest) → t.open_calls ≡ e ∷ es
+    → AllByRecursion IsOpenYet t.open_calls → ComesTo e.call e2.call → Apart t.place s0 s → IsSound s → Closes s t e2 es r t2
+    → TurnLeaves s0 s t t2
+closed_leaves s0 s t t2 e e2 es r are open_ones first apart sound (faces_next lives faces) = record {
+  place = refl;
+  of = refl;
+  params = refl;
+  inst = refl;
+  further = rw append_assoc (further_behind t e e2 es are first);
+  no_fault = λ h fault e. absurd (cc e);
+  apart = apart;
+  sound = sound;
+}
+closed_leaves s0 s t t2 e e2 es r are open_ones first apart sound (is_dead died) = record {
+  place = refl;
+  of = refl;
+  params = refl;
+  inst = refl;
+  further = rw append_assoc (behind t.ended t.open_calls e e2 es (map (λ w. ended_by w dead) es ++ []) are first (all_dead es (subst (AllByRecursion IsOpenYet) are open_ones).1));
+  no_fault = λ h fault e. absurd (cc e);
+  apart = apart;
+  sound = sound;
+}
+
+turn_leaves : (q : ℕ) (s s2 : Space) (t t2 : Tenant) (answer : TurnEnd) → IsSound s → AllByRecursion IsOpenYet t.open_calls
+    → Turn q s t answer s2 t2 → TurnLeaves s s2 t t2
+turn_leaves q s s2 t t2 answer sound open_ones (is_idle none) = left_as_it_was s t sound
+turn_leaves q s s2 t t2 answer sound open_ones (has_ended {e = e} {es = es} {o = o} {k = k} {n = n} {r = r} are goes alone pins closes) =
+    let steps = alone.steps in
+    let is = subst (AllByRecursion IsOpenYet) are open_ones in
+    closed_leaves s s2 t t2 e (ended_by (gone_further e k n) o) es r are open_ones (goes_on is.0 (never_cancelled goes)) (apart_then (proceeds_apart t e goes) (apart_steps steps)) steps.sound closes
+turn_leaves q s s2 t t2 answer sound open_ones (has_no_fuel {e = e} {es = es} {k = k} {n = n} are goes alone pins) =
+    let steps = alone.steps in
+    let is = subst (AllByRecursion IsOpenYet) are open_ones in
+    record {
+      place = refl;
+      of = refl;
+      params = refl;
+      inst = refl;
+      further = further_behind t e (gone_further e k n) es are (goes_further e k n is.0);
+      no_fault = λ h fault e. absurd (cc e);
+      apart = apart_then (proceeds_apart t e goes) (apart_steps steps);
+      sound = steps.sound;
+    }
+turn_leaves q s s2 t t2 answer sound open_ones (has_no_frame {e = e} {es = es} {k = k} {n = n} are goes alone pins) =
+    let steps = alone.steps in
+    let is = subst (AllByRecursion IsOpenYet) are open_ones in
+    record {
+      place = refl;
+      of = refl;
+      params = refl;
+      inst = refl;
+      further = further_behind t e (gone_further e k n) es are (goes_further e k n is.0);
+      no_fault = no_fault_at_frame (k + n) t.waiting_for;
+      apart = apart_then (proceeds_apart t e goes) (apart_steps steps);
+      sound = steps.sound;
+    }
+turn_leaves q s s2 t t2 answer sound open_ones (can_go_on {e = e} {es = es} {k = k} {n = n} are goes alone pins keeps) =
+    let steps = alone.steps in
+    let is = subst (AllByRecursion IsOpenYet) are open_ones in
+    record {
+      place = refl;
+      of = refl;
+      params = refl;
+      inst = refl;
+      further = further_behind t e (gone_further e k n) es are (goes_further e k n is.0);
+      no_fault = λ h fault e. absurd (cc e);
+      apart = apart_then (proceeds_apart t e goes) (apart_steps steps);
+      sound = steps.sound;
+    }
+turn_leaves q s s2 t t2 answer sound open_ones (keeps_its_fault a b c d e f g) = left_as_it_was s t sound
+
+-- ---- the host behind a turn
+
+same_or_not : (m n : ℕ) → (m ≡ n) ⊎ (m ≢ n)
+same_or_not zero zero = inl refl
+same_or_not zero (suc n) = inr (λ e. absurd (omega arith))
+same_or_not (suc m) zero = inr (λ e. absurd (omega arith))
+same_or_not (suc m) (suc n) = ⊎_elim (λ e. inl (ap suc e)) (λ never. inr (λ e. never (omega arith))) (same_or_not m n)
+
+-- one of the second list changes
+pub zip_set : {A B : Type 0} (R S : A → Option B → Type 0) (t t2 : B) → ((a : A) (o : Option B) → R a o → S a o)
+    → ((a : A) → R a (Some t) → S a (Some t2)) → (xs : List A) (ys : List (Option B)) (i : ℕ) → get_or ys i None ≡ Some t
+    → AllZip R xs ys → AllZip S xs (slice_set ys i (Some t2))
+zip_set R S t t2 so changed [] [] i there h = tt
+zip_set R S t t2 so changed [] (y ∷ ys) i there h = absurd h
+zip_set R S t t2 so changed (x ∷ xs) [] i there h = absurd h
+zip_set R S t t2 so changed (x ∷ xs) (y ∷ ys) zero there h = (changed x (subst (R x) there h.0), zip_so R S so xs ys h.1)
+zip_set R S t t2 so changed (x ∷ xs) (y ∷ ys) (suc i) there h = (so x y h.0, zip_set R S t t2 so changed xs ys i there h.1)
+
+turned_followed : (w w2 : World) (s s2 : Space) (t t2 : Tenant) (g : NamedInstance) → w2.modules ≡ w.modules → TurnLeaves s s2 t t2
+    → IsFollowed ComeFurther w g (Some t) → IsFollowed ComeFurther w2 g (Some t2)
+turned_followed w w2 s s2 t t2 g same leaves (is_there same_one further sound) =
+    let on = come_then g.calls (journal_calls (journal t)) (journal_calls (journal t2)) further leaves.further in
+    let of_one2 : IsTenantOf w2 t2 g = record {
+      loaded = same_one.loaded;
+      is_loaded = rw (same, leaves.of) same_one.is_loaded;
+      of_one = same_one.of_one;
+      params = same_one.params ∙ sym leaves.params;
+      inst = same_one.inst ∙ sym leaves.inst;
+      is_live = same_one.is_live;
+      calls = on;
+    } in
+    is_there of_one2 on (leaves.no_fault sound)
+
+-- each instance of a script is that of the host, and lies at its place
+pub record AreFollowed (w : World) (m : ScriptState) (places : List ℕ) : Type 0 where
+  pub modules : AllZip (λ (named : NamedModule) (loaded : Loaded). named.m ≡ loaded.m) m.modules w.modules
+  pub instances : AllZip (IsFollowed ComeFurther w) m.instances w.tenants
+  pub placed : AllZip IsPlaced places w.tenants
+
+-- they are so on another host, on which the same is promised at each place
+pub record AreFollowedOn (w w2 : World) (m : ScriptState) (places : List ℕ) : Type 0 where
+  pub are : AreFollowed w2 m places
+  pub claims : (j : ℕ) → claim w2.space j ≡ claim w.space j
+  pub sound : IsSound w2.space
+
+pub turn_followed : AfterEvents (λ w. (m : ScriptState) (places : List ℕ) (id : InstId) (q : ℕ) (answer : TurnEnd) (w2 : World) → AreFollowed w m places
+    → IsTurn w id q answer w2 → AreFollowedOn w w2 m places)
+turn_followed frames slots tax events w happens m places id q answer w2 h (of_none none) =
+    record { are = h; claims = λ j. refl; sound = memory_is_sound frames slots tax events w happens }
+turn_followed frames slots tax events w happens m places id q answer w2 h (of_one {t = t} {t2 = t2} {s2 = s2} there turned) =
+    let order = journals_are_in_order frames slots tax events w happens id.number t there.0 in
+    let sound = memory_is_sound frames slots tax events w happens in
+    let leaves = turn_leaves q w.space s2 t t2 answer sound (open_ones order.calls) turned in
+    let apart = leaves.apart in
+    let after = with_tenant w id.number (Some t2) s2 in
+    record {
+      are = record {
+        modules = h.modules;
+        instances = zip_set (IsFollowed ComeFurther w) (IsFollowed ComeFurther after) t t2 (moved_followed ComeFurther w after refl) (λ g. turned_followed w after w.space s2 t t2 g refl leaves) m.instances w.tenants id.number there.0 h.instances;
+        placed = zip_set IsPlaced IsPlaced t t2 (λ place o at. at) (λ place at. leaves.place ∙ at) places w.tenants id.number there.0 h.placed;
+      };
+      claims = λ j.
+          ⊎_elim
+          (λ (here : j ≡ t.place). ap (claim s2) here ∙ apart.claim ∙ ap (claim w.space) (sym here))
+          (λ (other : j ≢ t.place). (apart.others j other).claim)
+          (same_or_not j t.place);
+      sound = leaves.sound;
+    }
+
+pub turns_follow : TurnsFollow
+turns_follow frames slots tax events w happens settings m places id q answer w2 h turned whole =
+    let sound = memory_is_sound frames slots tax events w happens in
+    let after = turn_followed frames slots tax events w happens m places id q answer w2 (record { modules = h.modules; instances = h.instances; placed = h.placed }) turned in
+    let sums = claims_decide w.space w2.space sound after.sound h.none_out (whole.none_out ∙ h.none_out) after.claims in
+    record {
+      frames = whole.frames ∙ h.frames;
+      slots = whole.slots ∙ h.slots;
+      tax_num = ap (λ (tax : Tax). tax.num) whole.tax ∙ h.tax_num;
+      tax_den = ap (λ (tax : Tax). tax.den) whole.tax ∙ h.tax_den;
+      none_out = whole.none_out ∙ h.none_out;
+      minima = sums.0 ∙ h.minima;
+      spreads = sums.1 ∙ h.spreads;
+      modules = after.are.modules;
+      instances = after.are.instances;
+      placed = after.are.placed;
+    }

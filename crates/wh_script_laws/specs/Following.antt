@@ -1,0 +1,62 @@
+-- What a script knows of the host that runs its calls.
+use Rattle.std.specs.Prelude.{◌≡◌, ◌≢◌, ℕ, ◌+◌, ◌-◌, true, List, length, Option, Some, None}
+use Rattle.std.specs.List.{AllZip}
+use Rattle.wh_model.specs.Execution.Replay.{Call}
+use Rattle.wh_host_model.specs.declared.plain.SwapError.{SwapError}
+use Rattle.wh_host_model.specs.Space.Errands.{tickets}
+use Rattle.wh_host_model.specs.Space.Parts.{Space, minima, spreads}
+use Rattle.wh_host_model.specs.Host.Worlds.{for_device, Tenant, Loaded, World, journal, journal_calls}
+use Rattle.wh_script_model.specs.Settings.{Settings}
+use Rattle.wh_script_model.specs.ScriptState.{NamedModule, NamedInstance, ScriptState, live_sum}
+use Rattle.wh_script_model.specs.Drains.{ComesTo}
+use Rattle.wh_script_model.specs.Served.{IsTenantOf}
+
+-- how the calls that a script knows and those of a journal go together: they are the same, or those of the journal have
+-- come further
+abbrev pub AreSame : List Call → List Call → Type 0
+AreSame known calls = known ≡ calls
+
+abbrev pub ComeFurther : List Call → List Call → Type 0
+ComeFurther = AllZip ComesTo
+
+-- An instance of a script is that of the host, whose present call has met no fault of a device; or it was released.
+pub data IsFollowed (come : List Call → List Call → Type 0) (w : World) (g : NamedInstance) : Option Tenant → Type 0 where
+  is_there : {t : Tenant} → IsTenantOf w t g → come g.calls (journal_calls (journal t))
+      → ((fault : SwapError) → t.waiting_for ≢ Some (for_device fault)) → IsFollowed come w g (Some t)
+  is_gone : g.is_released ≡ true → IsFollowed come w g None
+
+-- an instance that is there has this place
+abbrev pub IsPlaced : ℕ → Option Tenant → Type 0
+IsPlaced place None = Unit {0}
+IsPlaced place (Some t) = t.place ≡ place
+
+-- The host has the modules of the script and its instances, each by its number, at these places; it has as many frames
+-- and slots as the settings say, and their tax on idle pages, and promised what the instances were given; and no page is
+-- on its way.
+pub record FollowsScript (come : List Call → List Call → Type 0) (settings : Settings) (w : World) (m : ScriptState)
+    (places : List ℕ) : Type 0 where
+  pub frames : length w.space.pool.frames ≡ settings.frames
+  pub slots : length w.space.slots.uses ≡ settings.slots
+  pub tax_num : w.space.tax.num ≡ settings.num
+  pub tax_den : w.space.tax.den ≡ settings.den
+  pub none_out : tickets w.space ≡ 0
+  pub minima : minima w.space ≡ live_sum (λ p. p.min) m.instances
+  pub spreads : spreads w.space ≡ live_sum (λ p. (p.max - p.min) + 1) m.instances
+  pub modules : AllZip (λ (named : NamedModule) (loaded : Loaded). named.m ≡ loaded.m) m.modules w.modules
+  pub instances : AllZip (IsFollowed come w) m.instances w.tenants
+  pub placed : AllZip IsPlaced places w.tenants
+
+-- and each instance's calls are as the script knows them
+abbrev pub Knows : Settings → World → ScriptState → List ℕ → Type 0
+Knows = FollowsScript AreSame
+
+-- or have come further
+abbrev pub RunsKnown : Settings → World → ScriptState → List ℕ → Type 0
+RunsKnown = FollowsScript ComeFurther
+
+-- no page begins or ends its way, there are as many frames and slots as before, and the tax is what it was
+pub record StaysWhole (s s2 : Space) : Type 0 where
+  pub frames : length s2.pool.frames ≡ length s.pool.frames
+  pub slots : length s2.slots.uses ≡ length s.slots.uses
+  pub tax : s2.tax ≡ s.tax
+  pub none_out : tickets s2 ≡ tickets s

@@ -1,0 +1,92 @@
+// Pages that are read beside others, who read them too, and pages that are written as a whole.
+
+ghost use Rattle.std.specs.Prelude.{◌≡◌, ◌+◌, ◌*◌, ◌≤◌, ℕ, [], IsTrue, IsFalse, IfSome, IfNone, MatchBool, Some, get_or, length};
+ghost use Rattle.wh_host_model.specs.Space.Parts.{view};
+ghost use Rattle.wh_host_model.specs.Space.Ready.{IsAtHand};
+ghost use Rattle.wh_host_model.specs.Space.States.{page_at};
+ghost use Rattle.wh_host_model.specs.declared.states.Page.TheVariants.{Private};
+ghost use Rattle.wh_model.specs.Execution.Store.{bytes_at, written};
+ghost use Rattle.wh_space.specs.Merges.{IsNotPrivate};
+ghost use Rattle.wh_space.specs.StepViews.{KeepsRest};
+
+use crate::loads::read_page;
+use crate::memory::Memory;
+use wh_host_model::Page;
+
+impl Memory {
+    /// How many pages of 4096 bytes the memory of the instance at this place has.
+    #[inline(always)]
+    pub fn pages_at(&self, place: usize) -> u32
+        ensures { result ≡ length (get_or self.now.tables place []) }
+    {
+        let _ = &self.tax;
+        self.tables.len_at(place)
+    }
+
+    /// Reads bytes of a page of the instance at this place, from this one of it on, and doesn't mark it as touched. Where there
+    /// is no such page, or it is in a slot or on the way from one, nothing is done, and the answer is false.
+    #[inline(always)]
+    pub fn peek(&self, place: usize, number: u32, offset: usize, into: &mut [u8]) -> bool
+        requires { offset + length into.old ≤ 4096 }
+        ensures hand { MatchBool result (IsAtHand (page_at self.now.tables place number))
+            (¬ IsAtHand (page_at self.now.tables place number)) }
+        ensures read { IsTrue result → into.new
+            ≡ bytes_at (view self.now place) (4096 * number + offset) (length into.old) }
+        ensures left { IsFalse result → into.new ≡ into.old }
+    {
+        if number >= self.tables.len_at(place) {
+            return false;
+        }
+        read_page(&self.pool, self.tables.page(place, number), offset, into)
+    }
+
+    /// The bytes of a page of the instance at this place that is alone on its frame, and isn't leaving it; none where there is
+    /// no such page, or it is in another state.
+    pub fn private_page(&self, place: usize, number: u32) -> Option<&[u8; 4096]>
+        ensures some { IfSome result (λ bytes. bytes.now
+            ≡ bytes_at (view self.now place) (4096 * number) 4096) }
+        ensures private { IfSome result (λ _. (frame : ℕ)
+            × (page_at self.now.tables place number ≡ Some (Private frame))) }
+        ensures none { IfNone result (IsNotPrivate self.now place number) }
+    {
+        if number >= self.tables.len_at(place) {
+            return None;
+        }
+        match self.tables.page(place, number) {
+            Page::Private(frame) => Some(self.pool.bytes(frame)),
+            _ => None,
+        }
+    }
+
+    /// Writes over a page of the instance at this place, if it is alone on its frame and isn't leaving it, and marks it as touched.
+    /// Whether it did; else nothing was done.
+    pub fn write_page(&mut self, place: usize, number: u32, bytes: &[u8; 4096]) -> bool
+        ensures done { MatchBool result
+            ((frame : ℕ) × (page_at self.old.tables place number ≡ Some (Private frame)))
+            (IsNotPrivate self.old place number) }
+        ensures view { IsTrue result → view self.new place
+            ≡ written (view self.old place) (4096 * number) bytes.now }
+        ensures tables { self.new.tables ≡ self.old.tables }
+        ensures keeps { KeepsRest place self.old self.new }
+        ensures left { IsFalse result → self.new ≡ self.old }
+    {
+        self.invariant();
+        let Some(_) = self.private_page(place, number) else {
+            return false;
+        };
+        let Some(frame) = self.own(place, number) else {
+            return false;
+        };
+        self.write_own(place, number, frame, 0, bytes);
+        true
+    }
+
+    /// Marks a page of the instance at this place as touched, if there is one of this number.
+    pub fn touch_page(&mut self, place: usize, number: u32)
+        ensures view { view self.new place ≡ view self.old place }
+        ensures tables { self.new.tables ≡ self.old.tables }
+        ensures keeps { KeepsRest place self.old self.new }
+    {
+        let _ = self.load(place, 4096 * u64::from(number), &mut [0]);
+    }
+}

@@ -1,5 +1,0 @@
-use Rattle.wh_threads.proofs.Agreeing.{begins}
-use Rattle.wh_threads.proofs.pact.BlankPact.new.Goals as goal
-
-pub ruled-requires-clause-rule : goal.ruled-requires-clause-rule
-ruled-requires-clause-rule g c = begins
