@@ -153,17 +153,21 @@ def of_handles():
     for _ in range(2):
         lib.wq_host_free(empty)
         assert (empty.full, empty.at) == (0, None)
-    length, room = ctypes.c_size_t(77), (ctypes.c_uint8 * 4)(9, 9, 9, 9)
-    yield named(lib.wq_report_of(empty, room, 4, length))
-    assert (length.value, bytes(room)) == (77, b"\t" * 4)
+    report, length, rows = wolqedir.RawReport(frames=9), ctypes.c_size_t(77), (wolqedir.RawRow * 1)()
+    rows[0].min = 9
+    yield named(lib.wq_report_of(empty, report))
+    yield named(lib.wq_instance_reports(empty, rows, 1, length))
+    assert (report.frames, length.value, rows[0].min) == (9, 77, 9)
     yield code_of(lambda: Host(tax=(4, 4)))
     yield code_of(lambda: Host(tax=(1, 1001)))
     with Host() as host:
+        for most in (16, 32):
+            host.admit(host.load(pool("seven")), max=most)
         before = host.report()
         yield named(lib.wq_host_new(host.handle, 8, 8, 0, 1))
         assert host.report() == before
-        assert named(lib.wq_report_of(host.handle, room, 4, length)) == "0"
-        assert (length.value, bytes(room)) == (len(before), before[:4].encode())
+        assert named(lib.wq_instance_reports(host.handle, rows, 1, length)) == "0"
+        assert (length.value, wolqedir.reported(rows[0])) == (2, before.instances[0])
     yield named(lib.wq_scan(host.handle))
 
 

@@ -16,6 +16,23 @@ MOST = wolqedir.MOST
 TOO_MANY = [0] * 300
 
 
+def weighed(row, tax):
+    """The fraction of an instance's shares to what its frames weigh."""
+    num, den = tax
+    weight = row.active * (den - num) + (row.charged - row.active) * den
+    return f"{row.shares * (den - num)}/{weight}" if weight else "-"
+
+
+def lines_of(report):
+    """The lines of a script's report with these numbers."""
+    yield f"# frames {report.frames} used {report.used_frames} free {report.frames - report.used_frames}"
+    yield f"# slots {report.slots} used {report.used_slots} free {report.slots - report.used_slots}"
+    yield f"# shared frames {report.shared_frames} sharers {report.sharers}"
+    for row in report.instances:
+        given = f"{row.number:6}{row.shares:8}{row.min:6}{row.max:6}"
+        yield f"#{given}{row.charged:6}{row.active:6}{row.swapped:6} {weighed(row, report.tax)}"
+
+
 class Asked:
     """A call that was asked for, or a start: its name, its place, and the last line that was printed of it."""
 
@@ -37,7 +54,7 @@ class Driven(Session):
         super().__init__(settings["frames"], settings["slots"], files, None)
         tax = settings.get("tax_num", 3), settings.get("tax_den", 4)
         self.host = wolqedir.Host(settings["frames"], settings["slots"], tax)
-        self.slice, self.starts, self.codes, self.words = slice, [], set(), {}
+        self.slice, self.starts, self.codes, self.words, self.reported = slice, [], set(), {}, []
 
     def asked(self, act):
         """What an act answers; a refusal is one of the model's, without place."""
@@ -165,7 +182,7 @@ class Driven(Session):
 
     def report(self):
         self.drain()
-        self.host.report()
+        self.reported += lines_of(self.host.report())
 
     def transcripts(self):
         """Looks whether the transcript of each instance tells of its calls what their statuses do. How many calls that are."""

@@ -83,14 +83,43 @@ def plain(line):
     return re.sub(r"( refused [DVL]\d+) .*", r"\1", line)
 
 
-def replies(program, script, folder):
-    """What wasmhost answers a script."""
+def printed(program, settings, lines, folder):
+    """What wasmhost prints for these lines."""
     with open(folder + "/settings", "w") as file:
-        for key, value in script.settings.items():
+        for key, value in settings.items():
             file.write(f'{key} = "{value}"\n' if isinstance(value, str) else f"{key} = {value}\n")
-    text = "".join(line + "\n" for line, _ in script.lines)
-    printed = run([program, "--workers", "1", "--settings", folder + "/settings"], input=text, cwd=folder)
-    return [plain(line) for line in printed.splitlines() if not line.startswith("#")]
+    text = "".join(line + "\n" for line in lines)
+    return run([program, "--workers", "1", "--settings", folder + "/settings"], input=text, cwd=folder).splitlines()
+
+
+def replies(lines):
+    """Those that are no report."""
+    return [plain(line) for line in lines if not line.startswith("#")]
+
+
+def given(lines):
+    """What lines of reports say that doesn't depend on turns: how many frames and slots there are, and what each instance was
+    promised."""
+    words = [line.split() for line in lines if line.startswith("#")]
+    return [line[:5] if line[1].isdigit() else line[:3] for line in words if line[1] != "shared"]
+
+
+def whole_report(program, folder):
+    """A script whose report doesn't depend on turns: the lines of wasmhost are those of the library's numbers. How many."""
+    from driven import MOST, Driven
+
+    shutil.copy(ROOT + "/examples/hello.wasm", folder)
+    script = ["load hello hello.wasm", "admit a hello 100 2 64 100 0 0 40 2", "admit b hello 200 3 48 100 0 0 1 2"]
+    script += ["invoke a run 1000", "invoke b run 1000", "scan", "report", "release a", "report"]
+    settings = {"frames": 1024, "slots": 4096, "tax_num": 3, "tax_den": 4}
+    with open(ROOT + "/examples/hello.wasm", "rb") as file:
+        driven = Driven(settings, {"hello.wasm": file.read()}, lambda: MOST)
+    for line in script:
+        driven.line(line.encode())
+    driven.host.close()
+    wanted = [line for line in printed(program, settings, script, folder) if line.startswith("#")]
+    assert driven.reported == wanted and wanted, (driven.reported, wanted)
+    return len(wanted)
 
 
 def sessions(program, folder):
@@ -115,7 +144,11 @@ def sessions(program, folder):
         calls += driven.transcripts()
         driven.host.close()
         model = [plain(reply) for _, told in script.lines for reply in told] + [plain(reply) for reply in script.session.end()]
-        wanted = model if program is None else replies(program, script, folder)
+        wanted = model
+        if program is not None:
+            lines = printed(program, script.settings, [line for line, _ in script.lines], folder)
+            wanted = replies(lines)
+            assert given(driven.reported) == given(lines), (seed, driven.reported, lines)
         assert got == model == wanted, (seed, [pair for pair in zip(got, model, wanted) if len(set(pair)) > 1][:3])
         count += len(got)
     return count, calls, codes
@@ -135,6 +168,8 @@ def main(archive=None, program=ROOT + "/crates/wasmhost/out/wasmhost"):
         print(f"the examples in C, Rust and Python print what they should, that in C {examples(folder)}")
         count, calls, seen = sessions(os.path.abspath(program) if program else None, folder)
         print(f"{SCRIPTS} random scripts, {count} replies: the library and wasmhost agree; {calls} calls of transcripts have their statuses")
+        if program:
+            print(f"{whole_report(os.path.abspath(program), folder)} lines of reports are those of the library's numbers")
         refused, wanting = refusals.all_refused()
         print(f"{refused} requests for memory refused in turn: each time a code, and the host as before")
         met = {codes.named(code) for code in seen} | wanting | codes.met()

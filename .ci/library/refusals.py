@@ -13,7 +13,7 @@ WANTS = {
     "load": {"D13", "V11", "L3", "M2"},
     "admit": {"2", "A9"},
     "invoke": {"2", "H7"},
-    "report": {"H7"},
+    "report": {"2", "H7"},
     "transcript": {"2", "H7"},
 }
 

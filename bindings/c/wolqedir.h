@@ -15,8 +15,8 @@
  * overlaps nothing else that it is given. Nothing is kept: bytes are copied in and out, and are yours again when the call
  * returns. What a call may write is initialised before, is written at WQ_DONE, and else is as it was.
  *
- * Room. Where bytes are copied into your room, you give its length; as many as there is room for are written, nothing
- * behind, and *len is how many there are. To learn the length first, give a room of length 0.
+ * Room. Where bytes, words or rows are copied into your room, you give its length; as many as there is room for are written,
+ * nothing behind, and *len is how many there are. To learn the length first, give a room of length 0.
  *
  * Threads. No thread is started, and nothing waits. One call at a time for one handle; hosts in other handles share nothing
  * with it. A handle may go to another thread where a lock, a join or a start of a thread orders that. No call from a signal
@@ -93,6 +93,23 @@ typedef struct wq_status {
   uint64_t charges;   /* how many the call has taken */
 } wq_status;
 
+typedef struct wq_report {
+  uint32_t frames, used_frames;  /* of 4096 bytes: all, and those in use */
+  uint32_t slots, used_slots;    /* for swapped pages: all, and those in use */
+  uint32_t shared_frames;        /* on which several pages lie */
+  uint32_t tax_num, tax_den;     /* as the host was made */
+  uint64_t sharers;              /* the pages that lie on shared frames */
+  size_t instances;              /* how many there are */
+} wq_report;
+
+typedef struct wq_instance_report {
+  wq_instance instance;
+  uint32_t shares, min, max;     /* as it was admitted */
+  uint32_t charged;              /* frames; a shared one is charged to the first of its sharers */
+  uint32_t active;               /* of these, those on which a page was touched */
+  uint32_t swapped;              /* pages */
+} wq_instance_report;
+
 /* A new host with so many frames of 4096 bytes, so many slots for pages that are swapped to memory, and the tax
  * tax_num / tax_den on frames on which no page was touched (3 and 4 is usual). WQ_FULL, WQ_TAX, WQ_MEMORY. */
 wq_code wq_host_new(wq_host *host, uint32_t frames, uint32_t slots, uint32_t tax_num, uint32_t tax_den);
@@ -141,8 +158,11 @@ wq_code wq_scan(wq_host *host);
 /* Marks all pages as not touched, by which the report and swap go. wq_run does so by itself, behind each million charges. */
 wq_code wq_epoch(wq_host *host);
 
-/* The report, as lines of text (docs/guide/script.md). H7. */
-wq_code wq_report_of(wq_host *host, uint8_t *room, size_t cap, size_t *len);
+/* How the frames, slots and pages of the host are used. It goes over all frames and all pages. H7. */
+wq_code wq_report_of(wq_host *host, wq_report *report);
+
+/* The same of each instance, by number; *len is how many there are. WQ_MEMORY, H7. */
+wq_code wq_instance_reports(wq_host *host, wq_instance_report *room, size_t cap, size_t *len);
 
 /* The calls of an instance in the order of their coming, the first of which is the start, as words. Of each: the index of its
  * function, or 2^64 - 1 for none; its fuel in all; the pieces of data segments that it wrote; its charges; the kind of its

@@ -43,6 +43,16 @@ class Told(Structure):
     _fields_ = [("kind", c_uint32), ("code", c_uint32), ("bits", c_uint32), ("value", c_uint64), ("charges", c_uint64)]
 
 
+class RawReport(Structure):
+    _fields_ = [(name, c_uint32) for name in ("frames", "used_frames", "slots", "used_slots", "shared_frames")]
+    _fields_ += [("tax_num", c_uint32), ("tax_den", c_uint32), ("sharers", c_uint64), ("instances", c_size_t)]
+
+
+class RawRow(Structure):
+    _fields_ = [("instance", Instance)]
+    _fields_ += [(name, c_uint32) for name in ("shares", "min", "max", "charged", "active", "swapped")]
+
+
 class Status(NamedTuple):
     """How far a call is. `kind` is one of KINDS; `value` is the result by the signed reading, or None; `fault` names the trap or
     the fault of the swap device, as T4."""
@@ -58,6 +68,33 @@ class Ran(NamedTuple):
 
     charges: int
     goes_on: bool
+
+
+class InstanceReport(NamedTuple):
+    """What an instance has of a host's memory: its place and number, what it was promised, how many frames are charged to it, on
+    how many of these a page was touched, and how many of its pages are swapped."""
+
+    place: int
+    number: int
+    shares: int
+    min: int
+    max: int
+    charged: int
+    active: int
+    swapped: int
+
+
+class Report(NamedTuple):
+    """How the frames, slots and pages of a host are used; `sharers` pages lie on `shared_frames`."""
+
+    frames: int
+    used_frames: int
+    slots: int
+    used_slots: int
+    shared_frames: int
+    sharers: int
+    tax: tuple
+    instances: list
 
 
 class Entry(NamedTuple):
@@ -100,7 +137,8 @@ EXPORTS = {
     "wq_taken": [HOST, BYTES, c_size_t, LENGTH],
     "wq_scan": [HOST],
     "wq_epoch": [HOST],
-    "wq_report_of": [HOST, BYTES, c_size_t, LENGTH],
+    "wq_report_of": [HOST, POINTER(RawReport)],
+    "wq_instance_reports": [HOST, POINTER(RawRow), c_size_t, LENGTH],
     "wq_transcript_of": [HOST, IT, POINTER(c_uint64), c_size_t, LENGTH],
     "wq_code_text": [c_uint32, BYTES, c_size_t, LENGTH],
 }
@@ -147,6 +185,12 @@ def laid(call, kind=c_uint8):
         if length.value <= cap:
             return room[: length.value]
         room, cap = (kind * length.value)(), length.value
+
+
+def reported(row):
+    """What a row says of an instance."""
+    given = row.shares, row.min, row.max
+    return InstanceReport(row.instance.place, row.instance.number, *given, row.charged, row.active, row.swapped)
 
 
 def code_text(code):
@@ -243,8 +287,12 @@ class Host:
         self.must(lib.wq_epoch(self.handle))
 
     def report(self):
-        """The report, as lines of text."""
-        return bytes(laid(lambda room, cap, into: lib.wq_report_of(self.handle, room, cap, into))).decode()
+        """How the frames, slots and pages are used, and what each instance has of them, by number."""
+        raw = RawReport()
+        self.must(lib.wq_report_of(self.handle, raw))
+        rows = laid(lambda room, cap, into: lib.wq_instance_reports(self.handle, room, cap, into), RawRow)
+        used = raw.frames, raw.used_frames, raw.slots, raw.used_slots, raw.shared_frames, raw.sharers
+        return Report(*used, (raw.tax_num, raw.tax_den), [reported(row) for row in rows])
 
     def transcript(self, instance):
         """The calls of an instance in the order of their coming, the first of which is the start."""

@@ -57,6 +57,20 @@ static void run(wq_host *host, const char *name, const wq_instance *instance, ui
   printf("\n");
 }
 
+/* Prints what the host and each instance use. */
+static void report(wq_host *host) {
+  wq_report told = {0};
+  wq_instance_report rows[8] = {0};
+  size_t len = 0;
+  must("report", wq_report_of(host, &told));
+  must("rows", wq_instance_reports(host, rows, 8, &len));
+  printf("frames: %u of %u used, %u shared by %llu pages; slots: %u of %u used\n", told.used_frames, told.frames,
+         told.shared_frames, (unsigned long long)told.sharers, told.used_slots, told.slots);
+  for (size_t at = 0; at < len && at < 8; at++)
+    printf("instance %llu: %u of %u frames, %u active; %u pages swapped\n", (unsigned long long)rows[at].instance.number,
+           rows[at].charged, rows[at].max, rows[at].active, rows[at].swapped);
+}
+
 static void release(wq_host *host, const char *name, const wq_instance *instance) {
   uint8_t output[64];
   size_t len = 0;
@@ -69,7 +83,6 @@ static void release(wq_host *host, const char *name, const wq_instance *instance
 
 int main(int count, char **words) {
   wq_host host = WQ_HOST_NONE;
-  uint8_t report[1024];
   size_t len = 0;
   uint32_t call = 0;
   must("new", wq_host_new(&host, 1024, 4096, 3, 4));
@@ -82,8 +95,7 @@ int main(int count, char **words) {
   must("refuel", wq_refuel(&host, &b, 1000));
   run(&host, "b", &b, call);
   must("scan", wq_scan(&host));
-  must("report", wq_report_of(&host, report, sizeof report, &len));
-  printf("%.*s", (int)(len < sizeof report ? len : sizeof report), (const char *)report);
+  report(&host);
   release(&host, "a", &a);
   release(&host, "b", &b);
   tell(stdout, "b again", wq_release(&host, &b, &len));

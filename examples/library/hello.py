@@ -13,6 +13,14 @@ def run(host, name, instance, call):
     print(f"{name}: {status.charges} charges{end}")
 
 
+def report(told):
+    """Prints what the host and each instance use."""
+    shared = f"{told.shared_frames} shared by {told.sharers} pages"
+    print(f"frames: {told.used_frames} of {told.frames} used, {shared}; slots: {told.used_slots} of {told.slots} used")
+    for row in told.instances:
+        print(f"instance {row.number}: {row.charged} of {row.max} frames, {row.active} active; {row.swapped} pages swapped")
+
+
 def main(path="examples/hello.wasm"):
     with Host() as host:
         with open(path, "rb") as file:
@@ -25,7 +33,7 @@ def main(path="examples/hello.wasm"):
         host.refuel(b, 1000)
         run(host, "b", b, call)
         host.scan()
-        print(host.report(), end="")
+        report(host.report())
         print("a put out", host.release(a).hex())
         print("b put out", host.release(b).hex())
         try:

@@ -19,6 +19,26 @@ fn run(host: &mut Host, name: &str, instance: Instance, call: u32) -> Result<(),
     Ok(())
 }
 
+/// Prints what the host and each instance use.
+fn report(host: &mut Host) -> Result<(), wolqedir::Error> {
+    let report = host.report()?;
+    println!(
+        "frames: {} of {} used, {} shared by {} pages; slots: {} of {} used",
+        report.used_frames, report.frames, report.shared_frames, report.sharers, report.used_slots, report.slots
+    );
+    for row in report.instances {
+        println!(
+            "instance {}: {} of {} frames, {} active; {} pages swapped",
+            row.instance.number(),
+            row.charged,
+            row.max,
+            row.active,
+            row.swapped
+        );
+    }
+    Ok(())
+}
+
 fn release(host: &mut Host, name: &str, instance: Instance) -> Result<(), wolqedir::Error> {
     let output: String = host.release(instance)?.iter().map(|byte| format!("{byte:02x}")).collect();
     println!("{name} put out {output}");
@@ -38,7 +58,7 @@ fn main() -> Result<(), Box<dyn Error>> {
     host.refuel(b, 1000)?;
     run(&mut host, "b", b, call)?;
     host.scan()?;
-    print!("{}", host.report()?);
+    report(&mut host)?;
     release(&mut host, "a", a)?;
     release(&mut host, "b", b)?;
     match host.release(b) {

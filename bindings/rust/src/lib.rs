@@ -112,6 +112,59 @@ pub struct Progress {
     pub goes_on: bool,
 }
 
+/// How the frames, slots and pages of a host are used.
+#[derive(Clone, Debug, PartialEq, Eq)]
+pub struct Report {
+    /// Frames of 4096 bytes.
+    pub frames: u32,
+    /// How many of these are in use.
+    pub used_frames: u32,
+    /// Slots for swapped pages.
+    pub slots: u32,
+    /// How many of these are in use.
+    pub used_slots: u32,
+    /// On how many frames several pages lie.
+    pub shared_frames: u32,
+    /// How many pages these are.
+    pub sharers: u64,
+    /// The numerator and the denominator of the tax.
+    pub tax: (u32, u32),
+    /// What each instance has of them, by number.
+    pub instances: Vec<InstanceReport>,
+}
+
+/// What an instance has of a host's memory.
+#[repr(C)]
+#[derive(Clone, Copy, Debug, PartialEq, Eq)]
+pub struct InstanceReport {
+    pub instance: Instance,
+    /// Its shares of memory.
+    pub shares: u32,
+    /// How many frames it is promised.
+    pub min: u32,
+    /// How many it may have.
+    pub max: u32,
+    /// How many are charged to it: a shared one to the first of its sharers.
+    pub charged: u32,
+    /// On how many of these a page was touched.
+    pub active: u32,
+    /// How many of its pages are swapped.
+    pub swapped: u32,
+}
+
+impl InstanceReport {
+    /// What a room for one has before it is written.
+    const NONE: InstanceReport = InstanceReport {
+        instance: Instance { place: 0, number: 0 },
+        shares: 0,
+        min: 0,
+        max: 0,
+        charged: 0,
+        active: 0,
+        swapped: 0,
+    };
+}
+
 /// A call of a transcript.
 #[derive(Clone, Debug, PartialEq, Eq)]
 pub struct Entry {
@@ -341,22 +394,28 @@ impl Host {
         Ok(calls)
     }
 
-    /// The report.
+    /// How its frames, slots and pages are used.
     ///
     /// # Errors
-    /// `Ask`.
-    pub fn report(&mut self) -> Result<String, Error> {
-        let mut text = vec![0; 4096];
-        loop {
-            let mut len = 0;
-            // SAFETY: as in `load`; the room is initialised up to its length.
-            answer(unsafe { sys::wq_report_of(&mut self.handle, text.as_mut_ptr(), text.len(), &mut len) })?;
-            if len <= text.len() {
-                text.truncate(len);
-                return Ok(String::from_utf8_lossy(&text).into_owned());
-            }
-            text.resize(len, 0);
-        }
+    /// `Ask`; `Memory`.
+    pub fn report(&mut self) -> Result<Report, Error> {
+        let mut raw = sys::Report::default();
+        // SAFETY: as in `load`.
+        answer(unsafe { sys::wq_report_of(&mut self.handle, &mut raw) })?;
+        let mut instances = vec![InstanceReport::NONE; raw.instances];
+        let (cap, mut len) = (instances.len(), 0);
+        // SAFETY: as in `load`; the room is initialised up to its length, which is that of the rows.
+        answer(unsafe { sys::wq_instance_reports(&mut self.handle, instances.as_mut_ptr(), cap, &mut len) })?;
+        Ok(Report {
+            frames: raw.frames,
+            used_frames: raw.used_frames,
+            slots: raw.slots,
+            used_slots: raw.used_slots,
+            shared_frames: raw.shared_frames,
+            sharers: raw.sharers,
+            tax: (raw.tax_num, raw.tax_den),
+            instances,
+        })
     }
 }
 

@@ -37,6 +37,20 @@ pub struct Status {
     pub charges: u64,
 }
 
+#[repr(C)]
+#[derive(Clone, Copy, Default)]
+pub struct Report {
+    pub frames: u32,
+    pub used_frames: u32,
+    pub slots: u32,
+    pub used_slots: u32,
+    pub shared_frames: u32,
+    pub tax_num: u32,
+    pub tax_den: u32,
+    pub sharers: u64,
+    pub instances: usize,
+}
+
 extern "C" {
     pub fn wq_host_new(host: *mut Handle, frames: u32, slots: u32, tax_num: u32, tax_den: u32) -> u32;
     pub fn wq_host_free(host: *mut Handle);
@@ -68,7 +82,13 @@ extern "C" {
     pub fn wq_taken(host: *mut Handle, room: *mut u8, cap: usize, len: *mut usize) -> u32;
     pub fn wq_scan(host: *mut Handle) -> u32;
     pub fn wq_epoch(host: *mut Handle) -> u32;
-    pub fn wq_report_of(host: *mut Handle, room: *mut u8, cap: usize, len: *mut usize) -> u32;
+    pub fn wq_report_of(host: *mut Handle, report: *mut Report) -> u32;
+    pub fn wq_instance_reports(
+        host: *mut Handle,
+        room: *mut crate::InstanceReport,
+        cap: usize,
+        len: *mut usize,
+    ) -> u32;
     pub fn wq_transcript_of(
         host: *mut Handle,
         instance: *const crate::Instance,

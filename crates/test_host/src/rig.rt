@@ -16,6 +16,7 @@ use wh_host::{
 };
 use wh_host_model::{InstId, Offer, SwapError, Tax, TurnEnd};
 use wh_kernels::PageHash;
+use wh_replies::write_report;
 use wh_swap::PageSwap;
 
 /// A host with one module, its swap device, and the tickets that are out, of each kind the oldest one first.
@@ -158,9 +159,12 @@ impl Rig {
         self.host.awaits_frame(id)
     }
 
-    /// The report.
-    pub fn report(&self, alloc: Global) -> Result<String, HostError> {
-        self.host.report(alloc)
+    /// The report, as a script has it.
+    pub fn report(&self, alloc: Global) -> Result<String> {
+        let report = self.host.report(alloc)?;
+        let mut text = String::new(alloc);
+        write_report(&mut text, &report)?;
+        Ok(text)
     }
 
     /// How many tickets are out, as the host says it.

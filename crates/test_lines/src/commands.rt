@@ -43,7 +43,9 @@ const NONE: [&[u8]; 20] = [
 
 fn reads_module(alloc: Global) -> bool {
     match parse(alloc, b"module m 0061736D01000000") {
-        Ok(Command::Module { name, hex }) => name == "m" && hex == "0061736D01000000",
+        Ok(Command::Module { name, bytes }) => {
+            name == "m" && bytes.as_slice() == [0, 0x61, 0x73, 0x6D, 1, 0, 0, 0].as_slice()
+        }
         _ => false,
     }
 }

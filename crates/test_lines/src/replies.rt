@@ -3,11 +3,12 @@
 use crate::tables::agree;
 use anyhow::{Result, ensure};
 use std::alloc::{AllocError, Global};
+use wh_host::{InstanceReport, Report};
 use wh_host_model::Tax;
 use wh_model::ValType;
 use wh_replies::{
-    Call, Caller, FaultPlace, ModuleRefusal, Reply, Row, Status, signed_value, write_frames,
-    write_released, write_reply, write_row, write_shared, write_slots,
+    Call, Caller, FaultPlace, ModuleRefusal, Reply, Status, signed_value, write_released,
+    write_reply, write_report,
 };
 
 const REPLIES: [Reply<'static>; 7] = [
@@ -51,47 +52,46 @@ const REPLIES: [Reply<'static>; 7] = [
 const REPLIES_TEXT: &str =
     "error C1 line 4\nmodule m ok\nmodule m refused V1 func 0 instr 4\nadmit a refused A4\nrefuel a refused H8\ncall 9 done -1 charges 2\nstart b trap T1 charges 1\n";
 
-const OUTPUT_AND_SUMS_TEXT: &str =
-    "release a ok 05000000000000fa\nrelease b ok -\n# frames 1024 used 1 free 1023\n# slots 4096 used 0 free 4096\n# shared frames 1 sharers 3\n";
+const OUTPUTS_TEXT: &str = "release a ok 05000000000000fa\nrelease b ok -\n";
 
-const ROWS: [Row; 3] = [
-    Row {
+const ROWS: [InstanceReport; 3] = [
+    InstanceReport {
         number: 1,
+        place: 0,
         shares: 100,
         min: 2,
         max: 16,
         charged: 1,
         active: 0,
         swapped: 0,
-        tax: Tax { num: 3, den: 4 },
     },
-    Row {
+    InstanceReport {
         number: 1,
+        place: 0,
         shares: 100,
         min: 2,
         max: 16,
         charged: 0,
         active: 0,
         swapped: 0,
-        tax: Tax { num: 3, den: 4 },
     },
-    Row {
+    InstanceReport {
         number: 2,
+        place: 1,
         shares: 1000000,
         min: 2,
         max: 65536,
         charged: 5,
         active: 2,
         swapped: 3,
-        tax: Tax {
-            num: 999,
-            den: 1000,
-        },
     },
 ];
 
-const ROWS_TEXT: &str =
-    "#     1     100     2    16     1     0     0 100/4\n#     1     100     2    16     0     0     0 -\n#     2 1000000     2 65536     5     2     3 1000000/3002\n";
+const REPORT_TEXT: &str =
+    "# frames 1024 used 1 free 1023\n# slots 4096 used 0 free 4096\n# shared frames 1 sharers 3\n#     1     100     2    16     1     0     0 100/4\n#     1     100     2    16     0     0     0 -\n#     2 1000000     2 65536     5     2     3 1000000/14\n";
+
+const TAXED_TEXT: &str =
+    "# frames 8 used 8 free 0\n# slots 4 used 3 free 1\n# shared frames 0 sharers 0\n#     2 1000000     2 65536     5     2     3 1000000/3002\n";
 
 const VALUES: [(ValType, u64, Option<i64>); 6] = [
     (ValType::I32, 0xFFFF_FFFF, Some(-1)),
@@ -114,21 +114,45 @@ fn replies(alloc: Global) -> Result<String, AllocError> {
     Ok(text)
 }
 
-fn output_and_sums(alloc: Global) -> Result<String, AllocError> {
+fn outputs(alloc: Global) -> Result<String, AllocError> {
     let mut text = String::new(alloc);
     write_released(alloc, &mut text, "a", &[5, 0, 0, 0, 0, 0, 0, 0xFA])?;
     write_released(alloc, &mut text, "b", &[])?;
-    write_frames(&mut text, 1024, 1)?;
-    write_slots(&mut text, 4096, 0)?;
-    write_shared(&mut text, 1, 3)?;
     Ok(text)
 }
 
-fn rows(alloc: Global) -> Result<String, AllocError> {
+fn report(alloc: Global) -> Result<String, AllocError> {
     let mut text = String::new(alloc);
-    for row in &ROWS {
-        write_row(&mut text, *row)?;
-    }
+    let report = Report {
+        frames: 1024,
+        used_frames: 1,
+        slots: 4096,
+        used_slots: 0,
+        shared_frames: 1,
+        sharers: 3,
+        tax: Tax { num: 3, den: 4 },
+        instances: Vec::from_slice(alloc, &ROWS)?,
+    };
+    write_report(&mut text, &report)?;
+    Ok(text)
+}
+
+fn taxed_report(alloc: Global) -> Result<String, AllocError> {
+    let mut text = String::new(alloc);
+    let report = Report {
+        frames: 8,
+        used_frames: 8,
+        slots: 4,
+        used_slots: 3,
+        shared_frames: 0,
+        sharers: 0,
+        tax: Tax {
+            num: 999,
+            den: 1000,
+        },
+        instances: Vec::from_slice(alloc, &ROWS[2..])?,
+    };
+    write_report(&mut text, &report)?;
     Ok(text)
 }
 
@@ -145,10 +169,12 @@ fn wrong_value() -> Option<usize> {
 pub fn check(alloc: Global) -> Result<usize> {
     let text = replies(alloc)?;
     ensure!(text.as_str() == REPLIES_TEXT, "replies: {text}");
-    let text = output_and_sums(alloc)?;
-    ensure!(text.as_str() == OUTPUT_AND_SUMS_TEXT, "sums: {text}");
-    let text = rows(alloc)?;
-    ensure!(text.as_str() == ROWS_TEXT, "rows: {text}");
+    let text = outputs(alloc)?;
+    ensure!(text.as_str() == OUTPUTS_TEXT, "outputs: {text}");
+    let text = report(alloc)?;
+    ensure!(text.as_str() == REPORT_TEXT, "report: {text}");
+    let text = taxed_report(alloc)?;
+    ensure!(text.as_str() == TAXED_TEXT, "taxed report: {text}");
     agree("values", wrong_value())?;
-    Ok(REPLIES.len() + 5 + ROWS.len() + VALUES.len())
+    Ok(REPLIES.len() + 2 + 6 + 4 + VALUES.len())
 }

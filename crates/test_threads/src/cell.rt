@@ -3,6 +3,7 @@
 ghost use Rattle.std.specs.Prelude.{◌≡◌, ◌-◌, ◌^◌, ◌<◌, [], replicate};
 ghost use Rattle.wh_swap.specs.MemorySwaps.{memory_held};
 
+use crate::requests::{admission, invocation, loading};
 use std::alloc::Global;
 use std::marker::Brand;
 use std::process::Abort;
@@ -11,7 +12,7 @@ use std::sync::ledger::Ledger;
 use std::test::Fail;
 use std::thread::Threads;
 use wh_cell::{CellAgreements, CellParts, HostCell, Locked, Owner};
-use wh_host::{CallStatus, CallValue, Host, ModuleId, Params};
+use wh_host::{CallStatus, CallValue, Host};
 use wh_host_model::{InstId, Tax, TurnEnd};
 use wh_kernels::FnvHash;
 use wh_model::ValType;
@@ -35,19 +36,6 @@ struct Begun<T: Ledger, C: Ledger, O: Ledger, E: Ledger, B: CellAgreements> {
     cell: HostCell<MemSwap, T, C, O, E, B>,
     owner: Owner<MemSwap, B>,
     shares: Shares<T, C, O, E>,
-}
-
-// An owner gives two frames at least.
-pub fn given(alloc: Global) -> Params {
-    Params {
-        shares: 100,
-        min: 2,
-        max: 16,
-        fuel: 0,
-        base: 0,
-        salt: 0,
-        inputs: Vec::new(alloc),
-    }
 }
 
 // A cell of a new host with four frames and 64 slots.
@@ -82,15 +70,15 @@ fn ask_locked<T: Ledger, C: Ledger, O: Ledger, E: Ledger, B: CellAgreements>(
     locked: &mut Locked<MemSwap, T, C, O, E, B>,
     owner: &mut Owner<MemSwap, B>,
 ) -> Result<[InstId; 2], Fail> {
-    let bytes: ModuleId = locked.load(owner, alloc, &BYTES)?;
-    let a = locked.admit(owner, alloc, bytes, given(alloc))?;
-    let b = locked.admit(owner, alloc, bytes, given(alloc))?;
+    let bytes = locked.ask(owner, loading(alloc, &BYTES))?;
+    let a = locked.ask(owner, admission(alloc, bytes))?;
+    let b = locked.ask(owner, admission(alloc, bytes))?;
     for id in [a, b] {
         for at in [0, 4096, 8192] {
-            let _ = locked.invoke(owner, alloc, id, "s", &[at, 7], 1000)?;
+            let _ = locked.ask(owner, invocation(alloc, id, "s", &[at, 7], 1000))?;
         }
         for at in [0, 4096, 8192] {
-            let _ = locked.invoke(owner, alloc, id, "l", &[at], 1000)?;
+            let _ = locked.ask(owner, invocation(alloc, id, "l", &[at], 1000))?;
         }
     }
     Ok([a, b])
@@ -398,9 +386,9 @@ fn ask_each<T: Ledger, C: Ledger, O: Ledger, E: Ledger, B: CellAgreements>(
     let mut last = None;
     for id in ids {
         for _ in 0..200 {
-            let _ = owned.invoke(alloc, *id, "s", &[4096, 7], 1000)?;
+            let _ = owned.ask(invocation(alloc, *id, "s", &[4096, 7], 1000))?;
         }
-        let call = owned.invoke(alloc, *id, "l", &[4096], 1000)?;
+        let call = owned.ask(invocation(alloc, *id, "l", &[4096], 1000))?;
         last = Some((*id, call));
     }
     Ok(last)
@@ -445,10 +433,10 @@ fn eight<T: Ledger, C: Ledger, O: Ledger, E: Ledger, B: CellAgreements>(
     alloc: Global,
     owned: &mut OwnedHost<MemSwap, T, C, O, E, B>,
 ) -> Result<Vec<InstId>, Fail> {
-    let bytes = owned.load(alloc, &BYTES)?;
+    let bytes = owned.ask(loading(alloc, &BYTES))?;
     let mut ids = Vec::new(alloc);
     for _ in 0..8 {
-        ids.push(owned.admit(alloc, bytes, given(alloc))?)?;
+        ids.push(owned.ask(admission(alloc, bytes))?)?;
     }
     Ok(ids)
 }

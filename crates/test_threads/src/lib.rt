@@ -9,6 +9,8 @@ mod overlap;
 #[cfg(test)]
 mod passes;
 #[cfg(test)]
+mod requests;
+#[cfg(test)]
 mod showing;
 #[cfg(test)]
 mod workers;

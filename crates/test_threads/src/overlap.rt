@@ -3,6 +3,7 @@
 ghost use Rattle.std.specs.Prelude.{◌≡◌, ◌≢◌, ◌+◌, ◌<◌, ⊤, [], length, get_or, replicate, slice_set, IfOk, IsOk, OnOk};
 ghost use Rattle.wh_swap.specs.MemorySwaps.{memory_held, memory_writes};
 
+use crate::requests::{admission, invocation, loading};
 use std::alloc::{AllocError, Global};
 use std::marker::Brand;
 use std::sync::atomic::{AtomicBool, Ordering};
@@ -12,7 +13,7 @@ use std::test::Fail;
 use std::thread;
 use std::thread::Threads;
 use wh_cell::{CellAgreements, CellParts, HostCell, Locked, Owner};
-use wh_host::{CallStatus, Host, Params};
+use wh_host::{CallStatus, Cancel, Host};
 use wh_host_model::{InstId, SwapError, Tax};
 use wh_kernels::FnvHash;
 use wh_scheduler::{OwnedHost, RunConfig, run_calls};
@@ -103,33 +104,20 @@ impl SwapDev for GatedSwap {
     }
 }
 
-// An owner gives two frames at least, and 16 at most.
-fn given(alloc: Global) -> Params {
-    Params {
-        shares: 100,
-        min: 2,
-        max: 16,
-        fuel: 0,
-        base: 0,
-        salt: 0,
-        inputs: Vec::new(alloc),
-    }
-}
-
 // One instance stores 1 to 5 on five pages, another goes on forever.
 fn ask_locked<T: Ledger, C: Ledger, O: Ledger, E: Ledger, B: CellAgreements>(
     alloc: Global,
     locked: &mut Locked<GatedSwap, T, C, O, E, B>,
     owner: &mut Owner<GatedSwap, B>,
 ) -> Result<[InstId; 2], Fail> {
-    let stores = locked.load(owner, alloc, &STORES)?;
-    let loops = locked.load(owner, alloc, &LOOPS)?;
-    let a = locked.admit(owner, alloc, stores, given(alloc))?;
-    let b = locked.admit(owner, alloc, loops, given(alloc))?;
+    let stores = locked.ask(owner, loading(alloc, &STORES))?;
+    let loops = locked.ask(owner, loading(alloc, &LOOPS))?;
+    let a = locked.ask(owner, admission(alloc, stores))?;
+    let b = locked.ask(owner, admission(alloc, loops))?;
     for (at, byte) in [(0, 1), (4096, 2), (8192, 3), (12288, 4), (16384, 5)] {
-        let _ = locked.invoke(owner, alloc, a, "s", &[at, byte], 1000)?;
+        let _ = locked.ask(owner, invocation(alloc, a, "s", &[at, byte], 1000))?;
     }
-    let _ = locked.invoke(owner, alloc, b, "f", &[], u64::MAX)?;
+    let _ = locked.ask(owner, invocation(alloc, b, "f", &[], u64::MAX))?;
     Ok([a, b])
 }
 
@@ -240,7 +228,7 @@ fn look_on<T: Ledger, C: Ledger, O: Ledger, E: Ledger, B: CellAgreements, R: Wai
     let grew = both_grow(rt, cell, gate);
     {
         let mut locked = cell.lock(rt);
-        let _ = locked.cancel(owner, id);
+        let _ = locked.ask(owner, Cancel { id });
     }
     gate.may_go_on.store(true, Ordering::SeqCst);
     grew
@@ -351,11 +339,11 @@ fn run_loops<
     B: CellAgreements + Send + 'static,
     R: Threads + Wait + Copy + Send + 'static,
 >(rt: R, alloc: Global, owned: &mut OwnedHost<MemSwap, T, C, O, E, B>) -> Result<(u64, u64), Fail> {
-    let loops = owned.load(alloc, &LOOPS)?;
-    let a = owned.admit(alloc, loops, given(alloc))?;
-    let b = owned.admit(alloc, loops, given(alloc))?;
-    let _ = owned.invoke(alloc, a, "f", &[], 50000)?;
-    let _ = owned.invoke(alloc, b, "f", &[], 50000)?;
+    let loops = owned.ask(loading(alloc, &LOOPS))?;
+    let a = owned.ask(admission(alloc, loops))?;
+    let b = owned.ask(admission(alloc, loops))?;
+    let _ = owned.ask(invocation(alloc, a, "f", &[], 50000))?;
+    let _ = owned.ask(invocation(alloc, b, "f", &[], 50000))?;
     let manner = RunConfig {
         hasher: FnvHash,
         quantum: 1,

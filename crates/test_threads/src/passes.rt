@@ -3,7 +3,8 @@
 ghost use Rattle.std.specs.Prelude.{◌≡◌, ◌<◌, [], replicate};
 ghost use Rattle.wh_swap.specs.MemorySwaps.{memory_held};
 
-use crate::cell::{BYTES, begin_owned, given};
+use crate::cell::{BYTES, begin_owned};
+use crate::requests::{admission, invocation, loading};
 use std::alloc::Global;
 use std::marker::Brand;
 use std::sync::Wait;
@@ -24,12 +25,12 @@ fn store_apart<
     B: CellAgreements + Send + 'static,
     R: Threads + Wait + Copy + Send + 'static,
 >(rt: R, alloc: Global, owned: &mut OwnedHost<MemSwap, T, C, O, E, B>) -> Result<(), Fail> {
-    let bytes = owned.load(alloc, &BYTES)?;
-    let a = owned.admit(alloc, bytes, given(alloc))?;
-    let b = owned.admit(alloc, bytes, given(alloc))?;
-    let _ = owned.invoke(alloc, a, "s", &[4096, 7], 1000)?;
-    let _ = owned.invoke(alloc, b, "s", &[4096, 7], 1000)?;
-    let _ = owned.invoke(alloc, b, "s", &[8192, 9], 1000)?;
+    let bytes = owned.ask(loading(alloc, &BYTES))?;
+    let a = owned.ask(admission(alloc, bytes))?;
+    let b = owned.ask(admission(alloc, bytes))?;
+    let _ = owned.ask(invocation(alloc, a, "s", &[4096, 7], 1000))?;
+    let _ = owned.ask(invocation(alloc, b, "s", &[4096, 7], 1000))?;
+    let _ = owned.ask(invocation(alloc, b, "s", &[8192, 9], 1000))?;
     let manner = RunConfig {
         hasher: FnvHash,
         quantum: 100,
@@ -39,14 +40,15 @@ fn store_apart<
     Ok(())
 }
 
-// How many pages a pass has offered; by how many the book of offers grew, and by how many what threads have counted; and the
-// first line of the report behind it.
+// How many pages a pass has offered; by how many the book of offers grew, and by how many what threads have counted; and how
+// many frames there are, and how many of these are in use, behind it.
 #[derive(Debug, Drop)]
 struct Passed {
     offered: Option<u64>,
     in_book: u64,
     by_threads: u64,
-    head: String,
+    frames: u32,
+    used_frames: u32,
 }
 
 // A pass.
@@ -63,12 +65,12 @@ fn pass<
     let offered = owned.scan(rt, alloc, FnvHash).unwrap_or(None);
     let (books, shares) = owned.counts();
     let report = owned.host().report(alloc)?;
-    let head = report.lines().next().unwrap_or("");
     Ok(Passed {
         offered,
         in_book: books.offers.low().wrapping_sub(in_book),
         by_threads: shares.offers().wrapping_sub(by_threads),
-        head: String::from_str(alloc, head)?,
+        frames: report.frames,
+        used_frames: report.used_frames,
     })
 }
 
@@ -118,6 +120,7 @@ fn a_pass_counts_each_page(rt: HostRuntime) -> Result<(), Fail> {
     assert_eq!(rt; all.by_threads, 32);
 
     // Of the pages that were written two are equal, and one has another byte; all others are zero and have no frame.
-    assert_eq!(rt; all.head.as_str(), "# frames 64 used 2 free 62");
+    assert_eq!(rt; all.frames, 64);
+    assert_eq!(rt; all.used_frames, 2);
     Ok(())
 }

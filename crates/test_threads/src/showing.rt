@@ -3,7 +3,8 @@
 ghost use Rattle.std.specs.Prelude.{◌≡◌, ◌<◌, [], replicate};
 ghost use Rattle.wh_swap.specs.MemorySwaps.{memory_held};
 
-use crate::cell::{BYTES, begin_owned, given};
+use crate::cell::{BYTES, begin_owned};
+use crate::requests::{admission, given, invocation, loading};
 use std::alloc::Global;
 use std::marker::Brand;
 use std::sync::ledger::Ledger;
@@ -122,10 +123,10 @@ fn run_two<
     B: CellAgreements + Send + 'static,
     R: Threads + Wait + Copy + Send + 'static,
 >(rt: R, alloc: Global, owned: &mut OwnedHost<MemSwap, T, C, O, E, B>) -> Result<InstId, Fail> {
-    let bytes = owned.load(alloc, &BYTES)?;
-    let id = owned.admit(alloc, bytes, given(alloc))?;
-    let _ = owned.invoke(alloc, id, "s", &[4096, 7], 1000)?;
-    let _ = owned.invoke(alloc, id, "l", &[4096], 1000)?;
+    let bytes = owned.ask(loading(alloc, &BYTES))?;
+    let id = owned.ask(admission(alloc, bytes))?;
+    let _ = owned.ask(invocation(alloc, id, "s", &[4096, 7], 1000))?;
+    let _ = owned.ask(invocation(alloc, id, "l", &[4096], 1000))?;
     let manner = RunConfig {
         hasher: FnvHash,
         quantum: 3,

@@ -216,8 +216,9 @@ fn two_holders_agree(rt: HostRuntime) -> Result<(), Fail> {
     Ok(())
 }
 
-// Books under a lock, a place where two workers meet in each turn, and a bell for whoever helps.
+// Books under a lock, a place where two workers meet in each of the last turns, so many, and a bell for whoever helps.
 struct Desk<T: Ledger, C: Ledger, O: Ledger, E: Ledger> {
+    met: u64,
     books: Arc<Mutex<Books<T, C, O, E>>, Global>,
     both: Arc<Barrier, Global>,
     bell: Arc<Condvar, Global>,
@@ -227,6 +228,7 @@ struct Desk<T: Ledger, C: Ledger, O: Ledger, E: Ledger> {
 impl<T: Ledger, C: Ledger, O: Ledger, E: Ledger> Drop for Desk<T, C, O, E> {
     fn drop(self) {
         let Desk {
+            met: _,
             books: _,
             both: _,
             bell: _,
@@ -240,7 +242,9 @@ impl<T: Ledger, C: Ledger, O: Ledger, E: Ledger> Turns<T, C> for Desk<T, C, O, E
     fn release_turn_lock(&self) {}
 
     fn run<R: Wait>(&self, rt: &R, order: ReceivedTurn, worker: &mut Worker<T, C>) {
-        self.both.wait(rt);
+        if order.instance().number < self.met {
+            self.both.wait(rt);
+        }
         let mut books = self.books.lock(rt);
         let taken = order.quantum();
         books.turn(worker, order, taken);
@@ -250,7 +254,12 @@ impl<T: Ledger, C: Ledger, O: Ledger, E: Ledger> Turns<T, C> for Desk<T, C, O, E
         let books = Arc::try_clone(&self.books)?;
         let both = Arc::try_clone(&self.both)?;
         let bell = Arc::try_clone(&self.bell)?;
-        Ok(Desk { books, both, bell })
+        Ok(Desk {
+            met: self.met,
+            books,
+            both,
+            bell,
+        })
     }
 }
 
@@ -362,14 +371,20 @@ fn make_tools(alloc: Global) -> Result<(Arc<Barrier, Global>, Arc<Condvar, Globa
     Ok((both, bell))
 }
 
-// A desk with these books.
+// A desk with these books, where two workers meet in each of so many last turns.
 fn make_desk<T: Ledger, C: Ledger, O: Ledger, E: Ledger>(
     alloc: Global,
     books: Books<T, C, O, E>,
+    met: u64,
 ) -> Result<Desk<T, C, O, E>, AllocError> {
     let books = Arc::new(alloc, Mutex::new(books))?;
     let (both, bell) = make_tools(alloc)?;
-    Ok(Desk { books, both, bell })
+    Ok(Desk {
+        met,
+        books,
+        both,
+        bell,
+    })
 }
 
 // What two workers, a scanner and a reclaimer do at this desk.
@@ -405,8 +420,8 @@ fn settle<T: Ledger, C: Ledger, O: Ledger, E: Ledger, R: Wait>(
 // How many turns there were, what the two workers counted, and how many offers and evictions there were.
 type Ran = (u64, Tally, Tally, (u64, u64));
 
-// So many turns by two workers, who meet in each turn; beside them a scanner that offers three pages at most, and a
-// reclaimer that evicts one, for which it is waited where so many turns are left.
+// So many turns, the first of them by this thread and the others by two workers, who meet in each; beside these a scanner that
+// offers three pages at most, and a reclaimer that evicts one, for which it is waited where so many turns are left.
 fn serve_at<
     T: Ledger + Send + 'static,
     C: Ledger + Send + 'static,
@@ -457,8 +472,9 @@ fn serve_books<
     shares: &mut Shares<T, C, O, E>,
     left: u64,
     pause: u64,
+    met: u64,
 ) -> Result<Option<Ran>, AllocError> {
-    let desk = make_desk(alloc, books)?;
+    let desk = make_desk(alloc, books, met)?;
     serve_at(rt, alloc, &desk, shares, left, pause)
 }
 
@@ -478,6 +494,7 @@ fn serve_many<
     evictions: Blank,
     left: u64,
     pause: u64,
+    met: u64,
 ) -> Result<Option<Ran>, AllocError>
     requires turns { (turns.name ≡ T.name) × (turns.parts ≡ T.parts) × (64 < T.parts) }
     requires charges { (charges.name ≡ C.name) × (charges.parts ≡ C.parts) × (64 < C.parts) }
@@ -485,7 +502,7 @@ fn serve_many<
     requires evictions { (evictions.name ≡ E.name) × (evictions.parts ≡ E.parts) × (1 < E.parts) }
 {
     let (books, mut shares) = Books::<T, C, O, E>::open(alloc, turns, charges, offers, evictions)?;
-    serve_books(rt, alloc, books, &mut shares, left, pause)
+    serve_books(rt, alloc, books, &mut shares, left, pause, met)
 }
 
 #[test]
@@ -499,20 +516,47 @@ fn two_workers_run_turns(rt: HostRuntime) -> Result<(), Fail> {
         charges,
         offers,
         evictions,
-        128,
+        129,
         1000,
+        98,
     )?;
     let Some((turns, first, second, helped)) = served else {
         assert!(rt; false, "threads were started");
         return Ok(());
     };
-    assert_eq!(rt; turns, 128);
-    assert_eq!(rt; (first.turns, first.charges), (64, 320));
-    assert_eq!(rt; (second.turns, second.charges), (64, 320));
+    // This thread runs 31 turns as the first worker, and then the two run 49 each.
+    assert_eq!(rt; turns, 129);
+    assert_eq!(rt; (first.turns, first.charges), (80, 400));
+    assert_eq!(rt; (second.turns, second.charges), (49, 245));
 
     // Two offers are owed. The scanner stops at the third, or earlier where it is told to. No reclaimer was wanted.
     assert!(rt; helped.0 == 2 || helped.0 == 3);
     assert_eq!(rt; helped.1, 0);
+    Ok(())
+}
+
+#[test]
+fn few_turns_start_no_thread(rt: HostRuntime) -> Result<(), Fail> {
+    let (turns, charges) = (Blank::new(65), Blank::new(65));
+    let (offers, evictions) = (Blank::new(2), Blank::new(2));
+    let served = serve_many::<Brand, Brand, Brand, Brand, HostRuntime>(
+        rt,
+        rt.alloc(),
+        turns,
+        charges,
+        offers,
+        evictions,
+        31,
+        1000,
+        0,
+    )?;
+    let Some((turns, first, second, helped)) = served else {
+        assert!(rt; false, "no thread was wanted");
+        return Ok(());
+    };
+    assert_eq!(rt; turns, 31);
+    assert_eq!(rt; (first.turns, second.turns), (31, 0));
+    assert_eq!(rt; helped, (0, 0));
     Ok(())
 }
 
@@ -529,13 +573,15 @@ fn helpers_are_started_where_they_are_wanted(rt: HostRuntime) -> Result<(), Fail
         evictions,
         16,
         8,
+        8,
     )?;
     let Some((turns, first, second, helped)) = served else {
         assert!(rt; false, "threads were started");
         return Ok(());
     };
+    // This thread runs turns until the reclaimer is wanted, and then the two run four each.
     assert_eq!(rt; turns, 16);
-    assert_eq!(rt; (first.turns, second.turns), (8, 8));
+    assert_eq!(rt; (first.turns, second.turns), (12, 4));
 
     // No offer is owed for so few turns, and no scanner was started. The reclaimer was, in the middle.
     assert_eq!(rt; helped, (0, 1));

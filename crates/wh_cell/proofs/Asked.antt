@@ -1,21 +1,13 @@
 -- The book still fits a host of which something was asked, and one that had a turn.
-use Rattle.std.proofs.Common.{ℕ, ◌+◌, ◌<◌, ◌^◌, List, Result, Option, ℤ, arith}
-use Rattle.std.specs.Global.{Vec}
+use Rattle.std.proofs.Common.{ℕ, ◌+◌, ◌<◌, ◌^◌, Option, arith}
 use Rattle.wh_host_model.specs.declared.plain.InstId.{InstId}
 use Rattle.wh_host_model.specs.declared.plain.TurnEnd.{TurnEnd}
 use Rattle.wh_host_model.specs.Host.Worlds.{World}
-use Rattle.wh_host_model.specs.Owners.{Params}
-use Rattle.wh_host_model.specs.Host.Happens.{CallAnswer, IsCancel, IsRefuel, IsRetry, IsTurn}
-use Rattle.wh_admit.specs.declared.error.AdmitError.{AdmitError}
-use Rattle.wh_host.specs.declared.error.HostError.{HostError}
-use Rattle.wh_host.specs.declared.error.ModuleError.{ModuleError}
-use Rattle.wh_host.specs.declared.parts.ModuleId.{ModuleId}
-use Rattle.wh_host.specs.Admitting.{AnswersAdmit}
-use Rattle.wh_host.specs.CallRequests.{AnswersCall, AnswersInvoke}
+use Rattle.wh_host_model.specs.Host.Events.{Event, load, admit, invoke, refuel, cancel, retry, release}
+use Rattle.wh_host_model.specs.Host.Happens.{Happens, IsTurn}
 use Rattle.wh_host.specs.TicketsOut.{IsPresentCall}
 use Rattle.wh_host.specs.Hosting.{HostState, IsHost}
-use Rattle.wh_host.specs.Loading.{AnswersLoad}
-use Rattle.wh_host.specs.Releasing.{AnswersRelease}
+use Rattle.wh_host.specs.Requests.{IsRequest, LeadsByRequest}
 use Rattle.wh_host.specs.Telling.{TellsChargesOf}
 use Rattle.wh_cell.specs.Charging.{FitsBook}
 use Rattle.wh_cell.specs.Counted.{charges_between}
@@ -45,41 +37,17 @@ fits_nothing h none = fits_each h none.0 0 none.1 (record { least = omega (arith
 
 -- ---- requests
 
-pub fits_loaded : (h h2 : HostState) (total : ℕ) (bytes : List ℕ) (result : Result ModuleId ModuleError) → (w : World) × IsHost h w → FitsHost h total → AnswersLoad h bytes result h2 → FitsHost h2 total
-fits_loaded h h2 total bytes result some f answers =
-    let x = answers some.0 some.1 in
-    fits_on h h2 some.0 total total some.1 f (x.1, x.4, load_fits some.0 x.1 bytes x.0 total x.3)
+request_fits : (w w2 : World) (e : Event) (total : ℕ) → IsRequest e → Happens w e w2 → FitsBook w total → FitsBook w2 total
+request_fits w w2 (load bytes) total is happens f = load_fits w w2 bytes happens.0 total happens.1 f
+request_fits w w2 (admit k p) total is happens f = admit_fits w w2 k p happens.0 total happens.1 f
+request_fits w w2 (invoke id name given fuel) total is happens f = invoke_fits w w2 id name given fuel happens.0 total happens.1 f
+request_fits w w2 (refuel id n) total is happens f = refuel_fits w w2 id n happens.0 total happens.1 f
+request_fits w w2 (cancel id) total is happens f = cancel_fits w w2 id happens.0 total happens.1 f
+request_fits w w2 (retry id) total is happens f = retry_fits w w2 id happens.0 total happens.1 f
+request_fits w w2 (release id) total is happens f = release_fits w w2 id happens.0 total happens.1 f
+request_fits w w2 other total is happens f = absurd is
 
-pub fits_admitted : (h h2 : HostState) (total k : ℕ) (p : Params) (result : Result InstId AdmitError) → (w : World) × IsHost h w → FitsHost h total → AnswersAdmit h k p result h2 → FitsHost h2 total
-fits_admitted h h2 total k p result some f answers =
-    let x = answers some.0 some.1 in
-    fits_on h h2 some.0 total total some.1 f (x.1, x.4, admit_fits some.0 x.1 k p x.0 total x.3)
-
-pub fits_invoked : (h h2 : HostState) (total : ℕ) (id : InstId) (name : List ℕ) (given : List ℤ) (fuel : ℕ) (result : Result ℕ HostError) → (w : World) × IsHost h w → FitsHost h total → AnswersInvoke h id name given fuel result h2 → FitsHost h2 total
-fits_invoked h h2 total id name given fuel result some f answers =
-    let x = answers some.0 some.1 in
-    fits_on h h2 some.0 total total some.1 f (x.1, x.4, invoke_fits some.0 x.1 id name given fuel x.0 total x.3)
-
-fits_asked : (h h2 : HostState) (total : ℕ) (asks : World → CallAnswer → World → Type 0) (result : Result Unit HostError)
-    → ((w w2 : World) (answer : CallAnswer) → asks w answer w2 → FitsBook w total → FitsBook w2 total)
-    → (w : World) × IsHost h w → FitsHost h total → AnswersCall h asks result h2 → FitsHost h2 total
-fits_asked h h2 total asks result keeps some f answers =
-    let x = answers some.0 some.1 in
-    fits_on h h2 some.0 total total some.1 f (x.1, x.4, keeps some.0 x.1 x.0 x.3)
-
-pub fits_refueled : (h h2 : HostState) (total : ℕ) (id : InstId) (n : ℕ) (result : Result Unit HostError) → (w : World) × IsHost h w → FitsHost h total → AnswersCall h (λ w answer w2. IsRefuel w id n answer w2) result h2 → FitsHost h2 total
-fits_refueled h h2 total id n result some f answers =
-    fits_asked h h2 total (λ w answer w2. IsRefuel w id n answer w2) result (λ w w2 answer is. refuel_fits w w2 id n answer total is) some f answers
-
-pub fits_cancelled : (h h2 : HostState) (total : ℕ) (id : InstId) (result : Result Unit HostError) → (w : World) × IsHost h w → FitsHost h total → AnswersCall h (λ w answer w2. IsCancel w id answer w2) result h2 → FitsHost h2 total
-fits_cancelled h h2 total id result some f answers =
-    fits_asked h h2 total (λ w answer w2. IsCancel w id answer w2) result (λ w w2 answer is. cancel_fits w w2 id answer total is) some f answers
-
-pub fits_retried : (h h2 : HostState) (total : ℕ) (id : InstId) (result : Result Unit HostError) → (w : World) × IsHost h w → FitsHost h total → AnswersCall h (λ w answer w2. IsRetry w id answer w2) result h2 → FitsHost h2 total
-fits_retried h h2 total id result some f answers =
-    fits_asked h h2 total (λ w answer w2. IsRetry w id answer w2) result (λ w w2 answer is. retry_fits w w2 id answer total is) some f answers
-
-pub fits_released : (h h2 : HostState) (total : ℕ) (id : InstId) (result : Result (Vec ℕ) HostError) → (w : World) × IsHost h w → FitsHost h total → AnswersRelease h id result h2 → FitsHost h2 total
-fits_released h h2 total id result some f answers =
-    let x = answers some.0 some.1 in
-    fits_on h h2 some.0 total total some.1 f (x.1, x.4, release_fits some.0 x.1 id x.0 total x.3)
+pub fits_requested : (h h2 : HostState) (total : ℕ) → (w : World) × IsHost h w → FitsHost h total → LeadsByRequest h h2 → FitsHost h2 total
+fits_requested h h2 total some f leads =
+    let x = leads some.0 some.1 in
+    fits_on h h2 some.0 total total some.1 f (x.1, x.4, request_fits some.0 x.1 x.0 total x.2 x.3)

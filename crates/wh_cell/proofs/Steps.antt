@@ -19,15 +19,16 @@ use Rattle.wh_host.specs.Backing.{KeepsBacking}
 use Rattle.wh_host.specs.TicketsOut.{EndsEvict, evict_fault, fetch_fault}
 use Rattle.wh_host.specs.Hosting.{HostState, IsHost}
 use Rattle.wh_host.specs.Paging.{MovesAnyhow, MovesOnly, MovesWith, provide_fault}
+use Rattle.wh_host.specs.Requests.{LeadsByRequest}
 use Rattle.wh_host.specs.Showing.{RepresentsReached}
 use Rattle.wh_cell.specs.Calling.{HasRead, HasWritten}
 use Rattle.wh_cell.specs.Going.{IsPartOf, call_faults, fault_or_none}
 use Rattle.wh_cell.specs.Knowing.{AgreesWith, KnownState, NoneOut, with_ticket, without_ticket}
 use Rattle.wh_cell.specs.LeftByOwner.{ComesFrom, FitsHost, HasTakenOn, LeftState, WorksOn, left_as}
 use Rattle.wh_cell.specs.Locking.{BooksState, IsInStep, LockedState}
-use Rattle.wh_cell.proofs.Asked.{fits_turned}
+use Rattle.wh_cell.proofs.Asked.{fits_requested, fits_turned}
 use Rattle.wh_cell.proofs.Followed.{comes_on_alone, comes_on_by, comes_on_provided, comes_on_still, fits_anyhow, fits_carried, fits_moved, left_now, works_anyhow_by_eviction, works_anyhow_by_fetch, works_by_eviction, works_by_fetch, works_by_moves, works_by_provision, works_by_turn}
-use Rattle.wh_cell.proofs.Led.{led_by_work}
+use Rattle.wh_cell.proofs.Led.{led_by_request, led_by_work}
 use Rattle.wh_cell.proofs.Passing.{Passes, as_many, commits_fetch, ends_evict, held_is, none_there, out_is, out_with, same_none}
 
 -- memory and device agree still
@@ -87,10 +88,10 @@ module _ {D : Type 0} (held : D → List (List ℕ)) (keeps honest : D → Type 
         came = comes_on_still keeps honest faults l.left s.device l.host h2 s.came (works_by_moves l.host h2 moves) backing;
       }
 
-  -- what was asked of it, and who asked leaves it
-  pub asked_in_step : (l : LockedState D) (h2 : HostState) (left2 : LeftState D) → IsInStep held keeps honest faults l → (w : World) × IsHost h2 w → FitsHost h2 l.books.charges → (RepresentsReached l.host → RepresentsReached h2) → KeepsBacking l.host.space h2.space
+  -- it is left as it is
+  pub left_in_step : (l : LockedState D) (h2 : HostState) (left2 : LeftState D) → IsInStep held keeps honest faults l → (w : World) × IsHost h2 w → FitsHost h2 l.books.charges → (RepresentsReached l.host → RepresentsReached h2) → KeepsBacking l.host.space h2.space
       → left2 ≡ record { host = h2; device = l.known.device } → IsInStep held keeps honest faults (record l { host = h2; left = left2 })
-  asked_in_step l h2 left2 s some fits led backing is =
+  left_in_step l h2 left2 s some fits led backing is =
       let now : left2 ≡ left_as h2 s.device = is ∙ ap (λ (x : Option D). (let z : LeftState D = record { host = h2; device = x } in z)) s.agrees.has in
       record {
         some = some;
@@ -100,6 +101,13 @@ module _ {D : Type 0} (held : D → List (List ℕ)) (keeps honest : D → Type 
         led = λ right. led (s.led right);
         came = subst (λ z. ComesFrom keeps honest faults z s.device h2) (sym now) (left_now keeps honest faults h2 s.device);
       }
+
+  -- what was asked of it, and who asked leaves it
+  pub requested_in_step : (l : LockedState D) (h2 : HostState) (left2 : LeftState D) → IsInStep held keeps honest faults l → LeadsByRequest l.host h2 → KeepsBacking l.host.space h2.space
+      → left2 ≡ record { host = h2; device = l.known.device } → IsInStep held keeps honest faults (record l { host = h2; left = left2 })
+  requested_in_step l h2 left2 s leads backing is =
+      let x = leads s.some.0 s.some.1 in
+      left_in_step l h2 left2 s (x.1, x.4) (fits_requested l.host h2 l.books.charges s.some s.fits leads) (led_by_request l.host h2 leads) backing is
 
   -- a provision under both locks
   pub provided_in_step : (l : LockedState D) (h2 : HostState) (device device2 : D) (known2 : KnownState D) (books2 : BooksState) (id : InstId) (result : Result ℕ SwapError) → IsInStep held keeps honest faults l

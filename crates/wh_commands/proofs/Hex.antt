@@ -1,24 +1,19 @@
 -- Digits in hexadecimal, as they are tested and as they are read.
-use Rattle.std.proofs.Common.{◌≡◌, ◌≢◌, ℕ, ◌+◌, ◌*◌, ◌%◌, ◌≤◌, ◌-◌, Bool, true, false, ◌||◌, inl, inr, MatchBool, List, [], ◌∷◌, length, refl, sym, ◌∙◌, arith}
+use Rattle.std.proofs.Common.{◌≡◌, ◌≢◌, ℕ, ◌+◌, ◌*◌, ◌%◌, ◌≤◌, ◌-◌, Bool, true, false, ◌||◌, inl, inr, MatchBool, List, [], ◌∷◌, length, Ok, Some, refl, sym, ap, arith}
 use Rattle.std.specs.List.{AllByRecursion, AllPass}
 use Rattle.std.specs.Char.{is_ascii_hexdigit}
 use Rattle.std.proofs.lemmas.List.Elements.{recursion_from_All, All-from_recursion}
 use Rattle.std.specs.Int.{is_in_range}
 use Rattle.std.proofs.lemmas.Bool.{or_cases}
 use Rattle.std.proofs.lemmas.Bool.Decides.{nat_tests}
+use Rattle.hex.specs.Hex.{decode_of, decode_pairs, hex_digit_value}
 use Rattle.wh_script_model.specs.Hex.{IsDigit, numeral, lower, upper, IsHex}
 
--- a digit has one value
-one_value : (c n m : ℕ) → IsDigit c n → IsDigit c m → n ≡ m
-one_value c n m (numeral a e) (numeral b f) = omega arith
-one_value c n m (numeral a e) (lower b d f) = omega arith
-one_value c n m (numeral a e) (upper b d f) = omega arith
-one_value c n m (lower a g e) (numeral b f) = omega arith
-one_value c n m (lower a g e) (lower b d f) = omega arith
-one_value c n m (lower a g e) (upper b d f) = omega arith
-one_value c n m (upper a g e) (numeral b f) = omega arith
-one_value c n m (upper a g e) (lower b d f) = omega arith
-one_value c n m (upper a g e) (upper b d f) = omega arith
+-- a digit is read as its value
+digit_value : (c n : ℕ) → IsDigit c n → hex_digit_value c ≡ Some n
+digit_value c n (numeral le e) = grind (arith, nat_tests)
+digit_value c n (lower ge le e) = grind (arith, nat_tests)
+digit_value c n (upper ge le e) = grind (arith, nat_tests)
 
 digit_passes : (c n : ℕ) → IsDigit c n → is_ascii_hexdigit c ≡ true
 digit_passes c n (numeral le e) = grind (arith, nat_tests)
@@ -64,14 +59,20 @@ hex_test word false even h = λ bytes is. h (All-from_recursion (λ c. is_ascii_
 pub odd_no_hex : (word : List ℕ) → length word % 2 ≢ 0 → (bytes : List ℕ) → IsHex word bytes → ⊥
 odd_no_hex word odd bytes is = odd (digits_of word bytes is).0
 
--- a word is the bytes of one list
+-- what is hexadecimal is read as those bytes
+pairs_read : (i : ℕ) (word bytes : List ℕ) → IsHex word bytes → decode_pairs i word ≡ Ok bytes
+unfolding decode_pairs
+pairs_read i [] bytes h = ap Ok (sym h)
+pairs_read i (c ∷ []) bytes h = elim h [ ]
+pairs_read i (c ∷ d ∷ word) [] h = elim h [ ]
+pairs_read i (c ∷ d ∷ word) (b ∷ bytes) h =
+    rw (digit_value c h.0.0 h.0.2, digit_value d h.0.1 h.0.3, pairs_read (i + 2) word bytes h.1) (ap (λ n. Ok (n ∷ bytes)) (omega (arith, h.0.4)))
+
+hex_read : (word bytes : List ℕ) → IsHex word bytes → decode_of word ≡ Ok bytes
+hex_read word bytes h = rw (digits_of word bytes h).0 (pairs_read 0 word bytes h)
+
+pub read_same : (word bytes items : List ℕ) → IsHex word bytes → decode_of word ≡ Ok items → items ≡ bytes
+read_same word bytes items is read = let e = hex_read word bytes is in cc
+
 pub one_hex : (word a b : List ℕ) → IsHex word a → IsHex word b → a ≡ b
-one_hex [] a b p q = p ∙ sym q
-one_hex (c ∷ []) a b p q = elim p [ ]
-one_hex (c ∷ d ∷ word) [] b p q = elim p [ ]
-one_hex (c ∷ d ∷ word) (x ∷ a) [] p q = elim q [ ]
-one_hex (c ∷ d ∷ word) (x ∷ a) (y ∷ b) p q =
-    let high = one_value c p.0.0 q.0.0 p.0.2 q.0.2 in
-    let low = one_value d p.0.1 q.0.1 p.0.3 q.0.3 in
-    let here : x ≡ y = omega (arith, high, low, p.0.4, q.0.4) in
-    let rest = one_hex word a b p.1 q.1 in cc
+one_hex word a b p q = read_same word b a q (hex_read word a p)

@@ -68,9 +68,10 @@ none_refused P first words (Err File) h n = absurd n
 
 -- ---- by the verb
 
-pub none_keep : (words : List (List ℕ)) → ((n hex : List ℕ) → IsName n → IsHexWord hex → words ≢ n ∷ hex ∷ [])
-    → AsksNone (codes "module") words
-none_keep words h d e f = by_keep words (λ d. ⊥) (λ n b g. h n g.0 g.2 (g.3, (b, g.4)) g.1) d e f
+pub is_keep : (words : List (List ℕ)) (d : lines.Command) → verb d ≡ codes "module" → Follow d words
+    → (n hex : List ℕ) × IsName n × IsHexWord hex × (words ≡ n ∷ hex ∷ [])
+is_keep words d e f = by_keep words (λ d. (n hex : List ℕ) × IsName n × IsHexWord hex × (words ≡ n ∷ hex ∷ []))
+    (λ n b g. (n, g.0, g.2, (g.3, (b, g.4)), g.1)) d e f
 
 pub is_admit : (words : List (List ℕ)) (d : lines.Command) → verb d ≡ codes "admit" → Follow d words
     → (inst of : List ℕ) × (params : Params) × Follow (admit inst of params) words

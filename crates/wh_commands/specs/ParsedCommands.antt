@@ -1,6 +1,5 @@
 -- What a command says.
 use Rattle.std.specs.Prelude.{◌≡◌, ℕ, List, Result, Ok, Err, ⊤}
-use Rattle.wh_script_model.specs.Hex.{IsHex}
 use Rattle.wh_host_model.specs.Owners.{Params}
 use Rattle.wh_script_model.specs.Commands.{Command as Asked, keep, load, admit, invoke, drain, refuel, cancel, retry, scan, report, release, verb, Follow}
 use Rattle.wh_commands.specs.declared.command.AdmitParams.{AdmitParams}
@@ -21,9 +20,9 @@ params_of given = record {
   inputs = given.inputs.items;
 }
 
--- the command is this one; the bytes of a module are still in digits
+-- the command is this one
 abbrev pub Says : Command → Asked → Type 0
-Says (Module name hex) (keep n bytes) = (name.now ≡ n) × IsHex hex.now bytes
+Says (Module name bytes) (keep n b) = (name.now ≡ n) × (bytes.items ≡ b)
 Says (Load name path) (load n p) = (name.now ≡ n) × (path.now ≡ p)
 Says (Admit inst of given) (admit i o params) = (inst.now ≡ i) × (of.now ≡ o) × (params_of given ≡ params)
 Says (Invoke inst export fuel args) (invoke i e f given) =

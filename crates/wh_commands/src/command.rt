@@ -22,12 +22,12 @@ pub struct AdmitParams {
 /// What a line asks for. Names are 1 to 32 of `a` to `z`, `0` to `9` and `_`.
 #[derive(Debug, Drop)]
 pub enum Command<'a> {
-    /// `module NAME HEX`: keep the module of these bytes under the name.
+    /// `module NAME HEX`: keep the module of these bytes under the name. Two hexadecimal digits are a byte, in either case.
     Module {
         /// The name.
         name: &'a str,
-        /// The bytes, two hexadecimal digits each, in either case; not empty.
-        hex: &'a str,
+        /// The bytes; not empty.
+        bytes: Vec<u8>,
     },
     /// `load NAME PATH`: keep the module of this file under the name.
     Load {

@@ -20,18 +20,20 @@ use crate::words::{Words, words_in};
 use std::alloc::Global;
 
 /// `NAME HEX`
-fn keep(words: Words<'_>) -> Result<Command<'_>, LineError>
+fn keep(alloc: Global, words: Words<'_>) -> Result<Command<'_>, LineError>
     ensures ok { IfOk result (λ command. IsAskedBy (codes "module")
         (words_left words.entry) command) }
-    ensures err { IfErr result (λ e. e ≡ LineError.Syntax) }
-    ensures none { OnErr result ((name hex : List ℕ) → IsName name → IsHexWord hex
-        → words_left words.entry ≢ name ∷ hex ∷ []) }
+    ensures none { IfErr result (Refuses ((name hex : List ℕ) × IsName name × IsHexWord hex
+        × (words_left words.entry ≡ name ∷ hex ∷ []))) }
 {
     let mut words = words;
     let name = words.next_name()?;
     let hex = words.next_hex()?;
     words.end()?;
-    Ok(Command::Module { name, hex })
+    let Ok(bytes) = hex::decode(alloc, hex) else {
+        return Err(LineError::Memory);
+    };
+    Ok(Command::Module { name, bytes })
 }
 
 /// `NAME PATH`
@@ -250,8 +252,8 @@ fn report(words: Words<'_>) -> Result<Command<'_>, LineError>
 /// The command that a line without its newline has, if it has one.
 ///
 /// # Errors
-/// `Syntax` where the line holds a byte above 127 or has not the shape of a command; `Memory` where a growth for its numbers
-/// was refused.
+/// `Syntax` where the line holds a byte above 127 or has not the shape of a command; `Memory` where room for its bytes or
+/// numbers was refused.
 pub fn parse(alloc: Global, line: &[u8]) -> Result<Command<'_>, LineError>
     // The line asks for what the command that is found means.
     ensures found { IfOk result (λ command. (asked : lines.Command) × AsksCommand line.now asked
@@ -263,7 +265,7 @@ pub fn parse(alloc: Global, line: &[u8]) -> Result<Command<'_>, LineError>
     let mut words = words_in(line);
     let verb = words.next_piece()?;
     if is_same(verb, b"module") {
-        return keep(words);
+        return keep(alloc, words);
     }
     if is_same(verb, b"load") {
         return load(words);

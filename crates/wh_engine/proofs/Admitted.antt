@@ -1,7 +1,6 @@
 -- Instances that a script admits.
-use Rattle.std.proofs.Common.{arith, ◌≡◌, ◌≢◌, ℕ, zero, suc, ◌+◌, ◌-◌, ◌<◌, inl, ◌↔◌, true, false, Bool, List, [], ◌∷◌, ◌++◌, map, take, length, get_or, slice_get, string_bytes, option_map, Option, Some, None, Ok, Err, refl, ap, sym, subst, ◌∙◌, length-append}
+use Rattle.std.proofs.Common.{arith, ◌≡◌, ◌≢◌, ℕ, zero, suc, ◌+◌, ◌-◌, ◌<◌, inl, ◌↔◌, true, false, Bool, List, [], ◌∷◌, ◌++◌, map, take, length, get_or, slice_get, string_bytes, option_map, Option, Some, None, Ok, Err, refl, ap, sym, subst, ◌∙◌}
 use Rattle.std.specs.Bool.{MatchBool}
-use Rattle.std.specs.Global.{Vec}
 use Rattle.std.specs.List.{AllZip}
 use Rattle.wh_model.specs.Format.Syntax.{Module}
 use Rattle.wh_model.specs.Execution.Instance.{Piece}
@@ -10,6 +9,7 @@ use Rattle.wh_host.proofs.Hosts.{reached_on}
 use Rattle.wh_host_model.specs.Host.Events as events
 use Rattle.wh_host_model.specs.declared.plain.InstId.{InstId}
 use Rattle.std.proofs.Math.Seq.{get_or-append_seam}
+use Rattle.std.proofs.lemmas.List.{length-map}
 use Rattle.std.proofs.lemmas.Option.{same_Some}
 use Rattle.wh_model.specs.Execution.Store.{Instance, Store}
 use Rattle.wh_host_model.specs.Host.Worlds.{Doing, Loaded, Tenant, World, tenant, journal, journal_calls}
@@ -38,6 +38,7 @@ use Rattle.wh_replies.specs.View.{status_of}
 use Rattle.wh_names.specs.NamePlaces.{place_of_name, AreNamedOnce}
 use Rattle.wh_names.specs.declared.names.Names.{Names}
 use Rattle.wh_names.proofs.Places.{apart_more}
+use Rattle.wh_scheduler.specs.InHand.{OwnedState}
 use Rattle.wh_engine.specs.declared.parts.NamedInstance.{NamedInstance}
 use Rattle.wh_engine.specs.RepresentedScript.{WholeState, IsLed, RepresentsWhole, AreNamedInstances, IsNamedInstance, ScriptHostState, RepresentsScript, whole_on, LeavesOut, is_over}
 use Rattle.wh_engine.proofs.Asked.{whole_of}
@@ -223,7 +224,6 @@ new_stands settings e m named inst k p id h2 names x xs s free at sets tells is 
       record {
         world = w2;
         is = is2;
-        modules = s.modules;
         knows = subst (Knows settings w2 (record m { instances = m.instances ++ g ∷ [] }))
             (sym (ap (λ ys. map (λ (y : NamedInstance). y.id.place) ys) items ∙ map_end (λ (y : NamedInstance). y.id.place) e.instances x
             ∙ ap (λ (y : InstId). map (λ (z : NamedInstance). z.id.place) e.instances ++ y.place ∷ []) is.id)) knows2;
@@ -235,16 +235,20 @@ new_stands settings e m named inst k p id h2 names x xs s free at sets tells is 
       },
     )
 
+-- there are as many names as modules
+names_many : {settings : Settings} {e : WholeState} {m : ScriptState} → RepresentsWhole settings e m → length e.module_names ≡ length m.modules
+names_many {m = m} s = ap (λ (ns : Names). length ns) s.module_names ∙ length-map m.modules (λ (n : NamedModule). n.name)
+
 -- it is admitted
 pub admitted : (settings : Settings) (e : WholeState) (m : ScriptState) (inst : List ℕ) (k : ℕ) (p : Params) (id : InstId) (h2 : HostState) (names : Names) (x : NamedInstance) (xs : List NamedInstance)
-    → RepresentsWhole settings e m → place_of_name e.instance_names inst ≡ None → k < e.modules → AnswersAdmit e.host k p (Ok id) h2 → StaysWhole e.host.space h2.space
+    → RepresentsWhole settings e m → place_of_name e.instance_names inst ≡ None → k < length e.module_names → AnswersAdmit e.host k p (Ok id) h2 → StaysWhole e.host.space h2.space
     → names ≡ e.instance_names ++ inst ∷ []
     → Tells h2 x.has_start (λ z. IsGoing z id) → IsNewGuest x inst id → xs ≡ e.instances ++ x ∷ []
     → TakesGuestWhole settings m inst k p (texts.admit_ok inst id.number) (with_guests e h2 names xs)
 admitted settings e m inst k p id h2 names x xs s free within answers whole sets tells is items =
     let w = s.world in
     let did = answers w s.is.0 in
-    let there = there_at m.modules k (subst (λ n. k < n) s.modules within) in
+    let there = there_at m.modules k (subst (λ n. k < n) (names_many s) within) in
     let entered = entered_as w did.1 k p id did.0 did.2 did.3 in
     let reached = s.is.1 in
     let led : IsLed h2 did.1 = (did.4, reached_on w did.1 (events.admit k p) reached (did.0, did.3)) in
@@ -271,7 +275,6 @@ refused_engine : (settings : Settings) (e : WholeState) (m : ScriptState) (h2 : 
 refused_engine settings e m h2 names xs s are items w2 is2 knows2 = record {
   world = w2;
   is = is2;
-  modules = s.modules;
   knows = subst (λ ys. Knows settings w2 m (map (λ (y : NamedInstance). y.id.place) ys)) (sym items) knows2;
   module_names = s.module_names;
   instance_names = are ∙ s.instance_names;
@@ -296,7 +299,7 @@ refused_stands settings e m named inst k p fault h2 names xs s at are items w2 _
     (named, at, m, receiving.admission_out_of_memory may_run_out none, refused_engine settings e m h2 names xs s are items w2 is2 knows2)
 
 pub refused : (settings : Settings) (e : WholeState) (m : ScriptState) (inst : List ℕ) (k : ℕ) (p : Params) (error : AdmitError) (h2 : HostState) (given names : Names) (xs : List NamedInstance)
-    → RepresentsWhole settings e m → k < e.modules → AnswersAdmit e.host k p (Err error) h2 → StaysWhole e.host.space h2.space
+    → RepresentsWhole settings e m → k < length e.module_names → AnswersAdmit e.host k p (Err error) h2 → StaysWhole e.host.space h2.space
     → given ≡ e.instance_names ++ inst ∷ []
     → names ≡ take (length given - 1) given
     → xs ≡ e.instances
@@ -304,7 +307,7 @@ pub refused : (settings : Settings) (e : WholeState) (m : ScriptState) (inst : L
 refused settings e m inst k p error h2 given names xs s within answers whole sets clears items =
     let w = s.world in
     let did = answers w s.is.0 in
-    let there = there_at m.modules k (subst (λ n. k < n) s.modules within) in
+    let there = there_at m.modules k (subst (λ n. k < n) (names_many s) within) in
     let reached = s.is.1 in
     let led : IsLed h2 did.1 = (did.4, reached_on w did.1 (events.admit k p) reached (did.0, did.3)) in
     let follows = guests_follow reached.frames reached.slots reached.tax reached.events w reached.happen settings m (map (λ (y : NamedInstance). y.id.place) e.instances) k there.0 inst p
@@ -316,11 +319,11 @@ refused settings e m inst k p error h2 given names xs s within answers whole set
 
 -- ---- what is kept then
 
-pub guest_again : (settings : Settings) (e : ScriptHostState) (m : ScriptState) (inst : List ℕ) (k : ℕ) (p : Params) (reply : Reply) (h2 : HostState) (names : Names) (x : NamedInstance) (xs : Vec NamedInstance) (count : ℕ)
-    (s : RepresentsScript settings e m) → xs.items ≡ e.instances.items ++ x ∷ [] → count ≡ e.admitted + 1
-    → TakesGuestWhole settings m inst k p reply (with_guests (whole_on e s.instances s.invoked) h2 names (s.instances ++ x ∷ []))
-    → TakesInstance settings m inst k p reply (record e { host = h2; instance_names = names; instances = xs; admitted = count })
-guest_again settings e m inst k p reply h2 names x xs count s items counts takes = (
+pub guest_again : {D : Type 0} (settings : Settings) (e : ScriptHostState D) (m : ScriptState) (inst : List ℕ) (k : ℕ) (p : Params) (reply : Reply) (o2 : OwnedState D) (names : Names) (x : NamedInstance) (xs : List NamedInstance)
+    (s : RepresentsScript settings e m) → xs ≡ e.instances ++ x ∷ []
+    → TakesGuestWhole settings m inst k p reply (with_guests (whole_on e s.instances s.invoked) o2.host names (s.instances ++ x ∷ []))
+    → TakesInstance settings m inst k p reply (record e { host = o2; instance_names = names; instances = xs })
+guest_again settings e m inst k p reply o2 names x xs s items takes = (
   takes.0,
   takes.1,
   takes.2,
@@ -330,16 +333,15 @@ guest_again settings e m inst k p reply h2 names x xs count s items counts takes
     invoked = s.invoked;
     kept = subst (λ ys. LeavesOut is_over ys (s.instances ++ x ∷ [])) (sym items) (one_more_kept x s.kept);
     pending = s.pending;
-    admitted = counts ∙ ap (λ n. n + 1) s.admitted ∙ sym (length-append s.instances (x ∷ []));
     asked = s.asked;
     stands = takes.4;
   },
 )
 
-pub refused_again : (settings : Settings) (e : ScriptHostState) (m : ScriptState) (inst : List ℕ) (k : ℕ) (p : Params) (reply : Reply) (h2 : HostState) (names : Names) (xs : Vec NamedInstance)
-    (s : RepresentsScript settings e m) → xs.items ≡ e.instances.items → TakesGuestWhole settings m inst k p reply (with_guests (whole_on e s.instances s.invoked) h2 names s.instances)
-    → TakesInstance settings m inst k p reply (record e { host = h2; instance_names = names; instances = xs })
-refused_again settings e m inst k p reply h2 names xs s items takes = (
+pub refused_again : {D : Type 0} (settings : Settings) (e : ScriptHostState D) (m : ScriptState) (inst : List ℕ) (k : ℕ) (p : Params) (reply : Reply) (o2 : OwnedState D) (names : Names) (xs : List NamedInstance)
+    (s : RepresentsScript settings e m) → xs ≡ e.instances → TakesGuestWhole settings m inst k p reply (with_guests (whole_on e s.instances s.invoked) o2.host names s.instances)
+    → TakesInstance settings m inst k p reply (record e { host = o2; instance_names = names; instances = xs })
+refused_again settings e m inst k p reply o2 names xs s items takes = (
   takes.0,
   takes.1,
   takes.2,
@@ -349,7 +351,6 @@ refused_again settings e m inst k p reply h2 names xs s items takes = (
     invoked = s.invoked;
     kept = subst (λ ys. LeavesOut is_over ys s.instances) (sym items) s.kept;
     pending = s.pending;
-    admitted = s.admitted;
     asked = s.asked;
     stands = takes.4;
   },

@@ -37,7 +37,6 @@ pub stands_on : (settings : Settings) (e : WholeState) (m m2 : ScriptState) (h2 
 stands_on settings e m m2 h2 w2 s is2 knows2 nothing = record {
   world = w2;
   is = is2;
-  modules = s.modules;
   knows = knows2;
   module_names = s.module_names;
   instance_names = s.instance_names;
@@ -48,7 +47,6 @@ stands_on settings e m m2 h2 w2 s is2 knows2 nothing = record {
 stands_on settings e m m2 h2 w2 s is2 knows2 (calls_of i g calls at) = record {
   world = w2;
   is = is2;
-  modules = s.modules;
   knows = knows2;
   module_names = s.module_names;
   instance_names = s.instance_names ∙ sym (names_stay m.instances i g (record g { calls = calls }) at refl);

@@ -1,6 +1,7 @@
 -- Calls that a script asks of its instances.
 use Rattle.std.proofs.Common.{◌≡◌, ℕ, true, List, [], ◌∷◌, ◌++◌, map, length, slice_get, ℤ, Some, None, Result, Ok, Err, refl, ap, sym, subst, ◌∙◌, arith, ◌+◌, ◌<◌, length-append}
-use Rattle.std.specs.Global.{Vec}
+use Rattle.std.proofs.lemmas.List.{length-map}
+use Rattle.wh_names.specs.declared.names.Names.{Names}
 use Rattle.wh_host.proofs.Hosts.{reached_on}
 use Rattle.wh_host_model.specs.Host.Events as events
 use Rattle.wh_host_model.specs.Host.Worlds.{World}
@@ -19,6 +20,7 @@ use Rattle.wh_instance.specs.declared.error.InvokeError.{InvokeError}
 use Rattle.wh_instance.specs.declared.error.InvokeError.TheVariants.{NoExport, Arguments, QueueFull, Dead, JournalFull, Memory}
 use Rattle.wh_script_laws.specs.Following.{Knows, StaysWhole}
 use Rattle.wh_script_laws.specs.Replies.{invoke_outcome}
+use Rattle.wh_scheduler.specs.InHand.{OwnedState}
 use Rattle.wh_engine.specs.declared.parts.NamedInstance.{NamedInstance}
 use Rattle.wh_engine.specs.declared.parts.Invoked.{Invoked}
 use Rattle.wh_engine.specs.declared.parts.InvokeOutcome.{InvokeOutcome}
@@ -28,7 +30,6 @@ use Rattle.wh_engine.specs.Obeying.{TakesInvoke}
 use Rattle.wh_engine.proofs.Asked.{whole_of, id_of, own_number}
 use Rattle.wh_engine.proofs.Touching.{TouchesCalls, nothing, calls_of, guest_of, placed_at, touched_guests, touched_modules, touched_names}
 use Rattle.wh_script_laws.proofs.CommandsCalling.{calls_follow}
-use Rattle.wh_engine.proofs.Printings.{guests_many}
 use Rattle.wh_engine.proofs.Admitted.{there_at}
 use Rattle.wh_engine.proofs.Left.{one_more_kept}
 
@@ -87,7 +88,6 @@ called_stands : (settings : Settings) (e : WholeState) (m m1 m2 : ScriptState) (
 called_stands settings e m m1 m2 h2 w2 calls x v s b entry entries is is2 knows2 = record {
   world = w2;
   is = is2;
-  modules = s.modules ∙ ap (λ (ms : List script.NamedModule). length ms) (sym (b.modules ∙ touched_modules m m1 b.touches));
   knows = knows2;
   module_names = s.module_names ∙ ap (λ ms. map (λ (n : script.NamedModule). n.name) ms) (sym (b.modules ∙ touched_modules m m1 b.touches));
   instance_names = s.instance_names ∙ sym (touched_names m m1 b.touches) ∙ ap (λ gs. map (λ (g : script.NamedInstance). g.name) gs) (sym b.instances);
@@ -152,17 +152,16 @@ refused_gone settings e m i g export fuel given outcome calls s at gone is entri
 
 -- ---- what is kept then
 
-pub gone_there : (settings : Settings) (e : ScriptHostState) (m : ScriptState) (number : ℕ) → RepresentsScript settings e m → number < e.admitted → (g : script.NamedInstance) × (slice_get m.instances number ≡ Some g)
+pub gone_there : {D : Type 0} (settings : Settings) (e : ScriptHostState D) (m : ScriptState) (number : ℕ) → RepresentsScript settings e m → number < length e.instance_names → (g : script.NamedInstance) × (slice_get m.instances number ≡ Some g)
 gone_there settings e m number s within =
-    let many = guests_many 0 s.instances m.instances s.stands.instances in
-    let all = s.admitted in
-    there_at m.instances number (omega (arith, within, many, all))
+    let many = ap (λ (ns : Names). length ns) s.stands.instance_names ∙ length-map m.instances (λ (g : script.NamedInstance). g.name) in
+    there_at m.instances number (subst (λ n. number < n) many within)
 
-pub call_again : (settings : Settings) (e : ScriptHostState) (m : ScriptState) (i : ℕ) (export : List ℕ) (fuel : ℕ) (given : List ℤ) (h2 : HostState) (outcome : InvokeOutcome) (calls : Vec Invoked) (count : ℕ)
-    (s : RepresentsScript settings e m) → calls.items ≡ e.invoked.items ++ record { number = count; outcome = outcome; last_printed = None } ∷ [] → count ≡ e.asked + 1
-    → TakesInvokeWhole settings m i export fuel given (with_calls (whole_on e s.instances s.invoked) h2 (s.invoked ++ record { number = 1 + length s.invoked; outcome = outcome; last_printed = None } ∷ []))
-    → TakesInvoke settings m i export fuel given (record e { host = h2; invoked = calls; asked = count })
-call_again settings e m i export fuel given h2 outcome calls count s items counts takes =
+pub call_again : {D : Type 0} (settings : Settings) (e : ScriptHostState D) (m : ScriptState) (i : ℕ) (export : List ℕ) (fuel : ℕ) (given : List ℤ) (o2 : OwnedState D) (outcome : InvokeOutcome) (calls : List Invoked) (count : ℕ)
+    (s : RepresentsScript settings e m) → calls ≡ e.invoked ++ record { number = count; outcome = outcome; last_printed = None } ∷ [] → count ≡ e.asked + 1
+    → TakesInvokeWhole settings m i export fuel given (with_calls (whole_on e s.instances s.invoked) o2.host (s.invoked ++ record { number = 1 + length s.invoked; outcome = outcome; last_printed = None } ∷ []))
+    → TakesInvoke settings m i export fuel given (record e { host = o2; invoked = calls; asked = count })
+call_again settings e m i export fuel given o2 outcome calls count s items counts takes =
     let x : ℕ → Invoked = λ n. record { number = n; outcome = outcome; last_printed = None } in
     let all : List Invoked = s.invoked ++ x (1 + length s.invoked) ∷ [] in
     let same : count ≡ 1 + length s.invoked = let n = s.asked in omega (arith, counts, n) in (
@@ -175,8 +174,7 @@ call_again settings e m i export fuel given h2 outcome calls count s items count
         invoked = all;
         kept = s.kept;
         pending = subst (λ ys. LeavesOut is_settled ys all) (sym items)
-            (subst (λ n. LeavesOut is_settled (e.invoked.items ++ x n ∷ []) all) (sym same) (one_more_kept (x (1 + length s.invoked)) s.pending));
-        admitted = s.admitted;
+            (subst (λ n. LeavesOut is_settled (e.invoked ++ x n ∷ []) all) (sym same) (one_more_kept (x (1 + length s.invoked)) s.pending));
         asked = same ∙ omega arith ∙ sym (length-append s.invoked (x (1 + length s.invoked) ∷ []));
         stands = takes.4;
       },

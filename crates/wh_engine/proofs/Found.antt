@@ -139,14 +139,21 @@ none_kept {kept = kept} {all = all} leaves gs are number g none e =
 -- ---- of a script
 
 -- the one that is read where the number was found
-pub read_there : (settings : Settings) (e : ScriptHostState) (m : ScriptState) (number at : ℕ) (x : NamedInstance) (s : RepresentsScript settings e m) → HasNumberAt e.instances.items number at
-    → at < length e.instances.items → x ≡ get_or e.instances.items at x → slice_get s.instances number ≡ Some x
+pub read_there : {D : Type 0} (settings : Settings) (e : ScriptHostState D) (m : ScriptState) (number at : ℕ) (x : NamedInstance) (s : RepresentsScript settings e m) → HasNumberAt e.instances number at
+    → at < length e.instances → x ≡ get_or e.instances at x → slice_get s.instances number ≡ Some x
 read_there settings e m number at x s has within is =
-    let there = guest_there e.instances.items at x within is in
+    let there = guest_there e.instances at x within is in
     let same : has.0 ≡ x = same_Some has.0 x (sym has.1 ∙ there) in
     kept_at s.kept m.instances s.stands.instances number at x there (ap number_in (sym same) ∙ has.2)
 
-pub absent_gone : (settings : Settings) (e : ScriptHostState) (m : ScriptState) (number : ℕ) (g : script.NamedInstance) → RepresentsScript settings e m → (RiseFrom 0 e.instances.items → HasNoNumber e.instances.items number)
+pub absent_gone : {D : Type 0} (settings : Settings) (e : ScriptHostState D) (m : ScriptState) (number : ℕ) (g : script.NamedInstance) → RepresentsScript settings e m → (RiseFrom 0 e.instances → HasNoNumber e.instances number)
     → slice_get m.instances number ≡ Some g → g.is_released ≡ true
 absent_gone settings e m number g s none there =
     none_kept s.kept m.instances s.stands.instances number g (none (kept_rise s.kept 0 m.instances s.stands.instances)) there
+
+-- the same of an engine that was opened where the number had been found
+pub read_opened : {D : Type 0} {e now : ScriptHostState D} (settings : Settings) (m : ScriptState) (number at : ℕ) (x : NamedInstance) (s : RepresentsScript settings now m) → now ≡ e
+    → HasNumberAt e.instances number at → at < length e.instances → x ≡ get_or now.instances at x → slice_get s.instances number ≡ Some x
+read_opened {now = now} settings m number at x s same has within is =
+    read_there settings now m number at x s (subst (λ (z : ScriptHostState _). HasNumberAt z.instances number at) (sym same) has)
+    (subst (λ (z : ScriptHostState _). at < length z.instances) (sym same) within) is

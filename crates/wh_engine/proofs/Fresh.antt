@@ -43,11 +43,10 @@ knows_none settings w tax num den modules tenants new = record {
 }
 
 fresh_whole : (settings : Settings) (tax : Tax) (e : WholeState) → tax.num ≡ settings.num → tax.den ≡ settings.den → IsNewHost e.host settings.frames settings.slots tax → e.module_names ≡ []
-    → e.instance_names ≡ [] → e.instances ≡ [] → e.invoked ≡ [] → e.modules ≡ 0 → RepresentsWhole settings e empty_script
-fresh_whole settings tax e num den new modules instances none no_call zero_many = record {
+    → e.instance_names ≡ [] → e.instances ≡ [] → e.invoked ≡ [] → RepresentsWhole settings e empty_script
+fresh_whole settings tax e num den new modules instances none no_call = record {
   world = new.0;
   is = (new.1, new.2);
-  modules = zero_many;
   knows = subst (λ xs. Knows settings new.0 empty_script (map (λ (x : NamedInstance). x.id.place) xs)) (sym none) (knows_none settings new.0 tax num den new.3 new.4 new.5);
   module_names = modules;
   instance_names = instances;
@@ -56,15 +55,13 @@ fresh_whole settings tax e num den new modules instances none no_call zero_many 
   invoked = subst (λ xs. AreInvoked 1 xs []) (sym no_call) tt;
 }
 
-pub fresh : (settings : Settings) (tax : Tax) (e : ScriptHostState) → tax.num ≡ settings.num → tax.den ≡ settings.den → IsNewHost e.host settings.frames settings.slots tax
-    → e.module_names ≡ [] → e.instance_names ≡ [] → e.instances.items ≡ [] → e.invoked.items ≡ [] → e.modules ≡ 0
-    → e.admitted ≡ 0 → e.asked ≡ 0 → RepresentsScript settings e empty_script
-fresh settings tax e num den new modules instances none no_call zero_many no_guest none_asked = record {
+pub fresh : {D : Type 0} (settings : Settings) (tax : Tax) (e : ScriptHostState D) → tax.num ≡ settings.num → tax.den ≡ settings.den → IsNewHost e.host.host settings.frames settings.slots tax
+    → e.module_names ≡ [] → e.instance_names ≡ [] → e.instances ≡ [] → e.invoked ≡ [] → e.asked ≡ 0 → RepresentsScript settings e empty_script
+fresh settings tax e num den new modules instances none no_call none_asked = record {
   instances = [];
   invoked = [];
   kept = subst (λ xs. LeavesOut is_over xs []) (sym none) none_there;
   pending = subst (λ xs. LeavesOut is_settled xs []) (sym no_call) none_there;
-  admitted = no_guest;
   asked = none_asked;
-  stands = fresh_whole settings tax (whole_on e [] []) num den new modules instances refl refl zero_many;
+  stands = fresh_whole settings tax (whole_on e [] []) num den new modules instances refl refl;
 }

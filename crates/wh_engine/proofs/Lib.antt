@@ -12,7 +12,6 @@ pub mod LookedUp
 pub mod Named
 pub mod OneByOne
 pub mod Opened
-pub mod Refitted
 pub mod Released
 pub mod Resting
 pub mod Runs

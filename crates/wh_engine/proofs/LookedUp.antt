@@ -1,6 +1,6 @@
 -- What names stand for.
-use Rattle.std.proofs.Common.{◌≡◌, ◌∙◌, ℕ, zero, suc, List, [], ◌∷◌, map, slice_get, Option, Some, None, MatchOption, refl, sym, ap}
-use Rattle.std.proofs.lemmas.Option.{same_Some}
+use Rattle.std.proofs.Common.{◌≡◌, ◌∙◌, ℕ, zero, suc, ◌<◌, List, [], ◌∷◌, map, length, slice_get, Option, Some, None, IfSome, MatchOption, refl, sym, ap}
+use Rattle.std.proofs.lemmas.Option.{same_Some, slice_get_within}
 use Rattle.wh_script_model.specs.ScriptState as script
 use Rattle.wh_script_model.specs.ScriptState.{NamedModule, ScriptState, HasModule, HasInstance, LacksInstance, NoModule}
 use Rattle.wh_names.specs.NamePlaces.{place_of_name}
@@ -36,3 +36,7 @@ guest_named names m name None are e =
     λ i g has. none_there names name (sym e) i (ap (λ (ns : List (List ℕ)). slice_get ns i) are ∙ goes_to guest_label m.instances i g has.0 ∙ ap (λ n. Some n) has.1)
 guest_named names m name (Some k) are e =
     let d = came_from guest_label m.instances k name (ap (λ (ns : List (List ℕ)). slice_get ns k) (sym are) ∙ found names name k (sym e)) in (d.0, (d.1, d.2))
+
+pub place_within : (names : List (List ℕ)) (name : List ℕ) (o : Option ℕ) → o ≡ place_of_name names name → IfSome o (λ k. k < length names)
+place_within names name None e = tt
+place_within names name (Some k) e = slice_get_within names k name (found names name k (sym e))

@@ -1,5 +1,5 @@
 -- A name that was added and taken away again.
-use Rattle.std.proofs.Common.{arith, ◌≡◌, ◌∙◌, ℕ, ◌+◌, ◌-◌, List, [], ◌∷◌, ◌++◌, length, take, ap}
+use Rattle.std.proofs.Common.{arith, ◌≡◌, ◌∙◌, ℕ, ◌-◌, List, [], ◌∷◌, ◌++◌, length, take, ap}
 use Rattle.std.proofs.lemmas.List.{length_push, take_at}
 
 pub taken_back : (names given left : List (List ℕ)) (name : List ℕ) → given ≡ names ++ name ∷ []

@@ -2,7 +2,6 @@
 use Rattle.std.proofs.Common.{arith, ◌≡◌, ℕ, ◌+◌, zero, suc, false, List, [], ◌∷◌, ◌++◌, map, length, Result, Ok, Err, OnOk, get_or, slice_get, Option, Some, None, option_map, refl, ap, sym, subst, ◌∙◌, append_assoc, append-nil, Bool, true, ◌&&◌, ◌||◌, not, ◌⊎◌, inl, inr, ⊎_elim}
 use Rattle.std.proofs.lemmas.Option.{same_Some, none-some}
 use Rattle.std.specs.List.{AllZip, filter}
-use Rattle.std.specs.Global.{Vec}
 use Rattle.wh_model.specs.Execution.Instance.{Piece}
 use Rattle.wh_model.specs.Execution.Replay.{Call}
 use Rattle.wh_host_model.specs.declared.plain.InstId.{InstId}
@@ -244,7 +243,7 @@ names_said (g ∷ gs) last_printed lines (first, rest, k, ks, l, f, z, more) =
     ∙ ap (λ ns. k.name ∷ ns) (names_said gs ks rest more) ∙ ap (λ n. n ∷ map (λ (y : script.NamedInstance). y.name) gs) (one_name g k first z)
 
 -- with instances as they were said
-abbrev pub with_starts : ScriptHostState → Vec NamedInstance → ScriptHostState
+abbrev pub with_starts : {D : Type 0} → ScriptHostState D → List NamedInstance → ScriptHostState D
 with_starts e xs = record e { instances = xs }
 
 guest_ready : (settings : Settings) (e : WholeState) (m : ScriptState) → RepresentsWhole settings e m → IsWellMade m → (j : ℕ) (x : NamedInstance) (g : script.NamedInstance) → slice_get e.instances j ≡ Some x
@@ -261,12 +260,12 @@ guest_ready settings e m s well j x g at of_script =
       silent = λ status last_printed final. (ended_stays m well).0 j g status of_script last_printed final;
     }
 
-pub starts_are_said : (settings : Settings) (e : ScriptHostState) (m : ScriptState) (xs : Vec NamedInstance) (between : List NamedInstance) (text now : List ℕ) → RepresentsScript settings e m → IsWellMade m
-    → OneByOne (PrintsStartOf e.host) e.instances.items text between now → xs.items ≡ filter (λ x. not (is_over x)) between
+pub starts_are_said : {D : Type 0} (settings : Settings) (e : ScriptHostState D) (m : ScriptState) (xs : List NamedInstance) (between : List NamedInstance) (text now : List ℕ) → RepresentsScript settings e m → IsWellMade m
+    → OneByOne (PrintsStartOf e.host.host) e.instances text between now → xs ≡ filter (λ x. not (is_over x)) between
     → (lines : List Reply) × (instances : List script.NamedInstance) × PrintStarts m.instances lines instances × AddsLines lines text now × RepresentsScript settings (with_starts e xs) (record m { instances = instances })
 starts_are_said settings e m xs between text now s well steps left =
     let all = whole_on e s.instances s.invoked in
-    let d = print_starts e.host 0 s.kept m.instances text between now s.stands.instances (guest_ready settings all m s.stands well) steps in
+    let d = print_starts e.host.host 0 s.kept m.instances text between now s.stands.instances (guest_ready settings all m s.stands well) steps in
     let many : length s.instances ≡ length d.all2 = guests_many 0 s.instances m.instances s.stands.instances ∙ sym (as_many_said m.instances d.last_printed d.lines d.says) ∙ sym (guests_many 0 d.all2 d.last_printed d.are) in (
       d.lines,
       d.last_printed,
@@ -277,12 +276,10 @@ starts_are_said settings e m xs between text now s well steps left =
         invoked = s.invoked;
         kept = subst (λ ys. LeavesOut is_over ys d.all2) (sym left) (let_go d.kept);
         pending = s.pending;
-        admitted = s.admitted ∙ many;
         asked = s.asked;
         stands = record {
           world = s.stands.world;
           is = s.stands.is;
-          modules = s.stands.modules;
           knows = subst (Knows settings s.stands.world (record m { instances = d.last_printed })) (sym d.placed)
               (saying_follows settings s.stands.world m (places_of all) d.lines d.last_printed m.invoked s.stands.knows d.says);
           module_names = s.stands.module_names;
@@ -358,7 +355,7 @@ print_calls h hosted instances k (leaves_it {x = x} settled r) (v ∷ vs) text x
     }
 
 -- an instance is found by its number, or was released
-looked_up : (settings : Settings) (e : ScriptHostState) (m : ScriptState) (i : ℕ) (g : script.NamedInstance) → RepresentsScript settings e m → slice_get m.instances i ≡ Some g → IsLookedUp e.host e.instances.items i g
+looked_up : {D : Type 0} (settings : Settings) (e : ScriptHostState D) (m : ScriptState) (i : ℕ) (g : script.NamedInstance) → RepresentsScript settings e m → slice_get m.instances i ≡ Some g → IsLookedUp e.host.host e.instances i g
 looked_up settings e m i g s of_script =
     let all = whole_on e s.instances s.invoked in
     let d = pair_at 0 s.instances m.instances i g s.stands.instances of_script in
@@ -368,12 +365,12 @@ looked_up settings e m i g s of_script =
       shows = λ at x there number.
           let here = kept_at s.kept m.instances s.stands.instances i at x there number in
           let same : d.0 ≡ x = same_Some d.0 x (sym d.1 ∙ here) in
-          subst (λ (z : NamedInstance). ShowsCalls e.host z g) same (shows settings all m i d.0 g s.stands of_script (placed_at s.instances i d.0 d.1) is.number is.released);
+          subst (λ (z : NamedInstance). ShowsCalls e.host.host z g) same (shows settings all m i d.0 g s.stands of_script (placed_at s.instances i d.0 d.1) is.number is.released);
       gone = λ none. none_kept s.kept m.instances s.stands.instances i g none of_script;
     }
 
-call_ready : (settings : Settings) (e : ScriptHostState) (m : ScriptState) → RepresentsScript settings e m → IsWellMade m → (n : ℕ) (v : script.Invoked) → slice_get m.invoked n ≡ Some v
-    → IsCallReady e.host e.instances.items m.instances v
+call_ready : {D : Type 0} (settings : Settings) (e : ScriptHostState D) (m : ScriptState) → RepresentsScript settings e m → IsWellMade m → (n : ℕ) (v : script.Invoked) → slice_get m.invoked n ≡ Some v
+    → IsCallReady e.host.host e.instances m.instances v
 call_ready settings e m s well n v at = record {
   has = λ i place outcome.
       let d = well.there.calls n i place v at outcome in (
@@ -387,14 +384,14 @@ call_ready settings e m s well n v at = record {
   silent = λ number status last_printed final. (ended_stays m well).1 n number v status at last_printed final;
 }
 
-abbrev pub with_said : ScriptHostState → Vec Invoked → ScriptHostState
+abbrev pub with_said : {D : Type 0} → ScriptHostState D → List Invoked → ScriptHostState D
 with_said e xs = record e { invoked = xs }
 
-pub calls_are_said : (settings : Settings) (e : ScriptHostState) (m : ScriptState) (xs : Vec Invoked) (between : List Invoked) (text now : List ℕ) → RepresentsScript settings e m → IsWellMade m
-    → OneByOne (PrintsCallOf e.host e.instances.items) e.invoked.items text between now → xs.items ≡ filter (λ x. not (is_settled x)) between
+pub calls_are_said : {D : Type 0} (settings : Settings) (e : ScriptHostState D) (m : ScriptState) (xs : List Invoked) (between : List Invoked) (text now : List ℕ) → RepresentsScript settings e m → IsWellMade m
+    → OneByOne (PrintsCallOf e.host.host e.instances) e.invoked text between now → xs ≡ filter (λ x. not (is_settled x)) between
     → (lines : List Reply) × (invoked : List script.Invoked) × PrintCalls m.instances 1 m.invoked lines invoked × AddsLines lines text now × RepresentsScript settings (with_said e xs) (record m { invoked = invoked })
 calls_are_said settings e m xs between text now s well steps left =
-    let d = print_calls e.host e.instances.items m.instances 1 s.pending m.invoked text between now s.stands.invoked (call_ready settings e m s well) steps in
+    let d = print_calls e.host.host e.instances m.instances 1 s.pending m.invoked text between now s.stands.invoked (call_ready settings e m s well) steps in
     let many : length s.invoked ≡ length d.all2 = calls_many 1 s.invoked m.invoked s.stands.invoked ∙ sym (as_many_calls m.instances 1 m.invoked d.last_printed d.lines d.says) ∙ sym (calls_many 1 d.all2 d.last_printed d.are) in
     let known = s.stands.knows in (
       d.lines,
@@ -406,12 +403,10 @@ calls_are_said settings e m xs between text now s well steps left =
         invoked = d.all2;
         kept = s.kept;
         pending = subst (λ ys. LeavesOut is_settled ys d.all2) (sym left) (let_go d.kept);
-        admitted = s.admitted;
         asked = s.asked ∙ many;
         stands = record {
           world = s.stands.world;
           is = s.stands.is;
-          modules = s.stands.modules;
           knows = record {
             frames = known.frames;
             slots = known.slots;
@@ -435,7 +430,7 @@ calls_are_said settings e m xs between text now s well steps left =
 
 -- ---- both
 
-pub both_said : (e mid e2 : ScriptHostState) (text between text2 : List ℕ) → PrintsAllStarts e text mid between → PrintsAllCalls mid between e2 text2 → PrintsAll e text e2 text2
+pub both_said : {D : Type 0} (e mid e2 : ScriptHostState D) (text between text2 : List ℕ) → PrintsAllStarts e text mid between → PrintsAllCalls mid between e2 text2 → PrintsAll e text e2 text2
 both_said e mid e2 text between text2 starts calls settings m s well =
     let a = starts settings m s well in
     let b = calls settings (record m { instances = a.1 }) a.4 (starts_well m a.0 a.1 well a.2) in

@@ -21,6 +21,7 @@ use Rattle.wh_host.specs.declared.error.HostError.TheVariants.{NoInstance, Invok
 use Rattle.wh_script_laws.specs.Following.{Knows, StaysWhole}
 use Rattle.wh_script_laws.specs.Replies.{release_reply}
 use Rattle.wh_script_laws.proofs.CommandsEnding.{releases_follow}
+use Rattle.wh_scheduler.specs.InHand.{OwnedState}
 use Rattle.wh_engine.specs.declared.parts.NamedInstance.{NamedInstance}
 use Rattle.wh_engine.specs.RepresentedScript.{WholeState, IsLed, RepresentsWhole, AreNamedInstances, IsNamedInstance, ScriptHostState, RepresentsScript, whole_on}
 use Rattle.wh_engine.specs.Obeying.{IsNamed, ObeysCommand}
@@ -28,8 +29,6 @@ use Rattle.wh_engine.proofs.Asked.{ObeysWhole, on_host, stands_on, whole_of, id_
 use Rattle.wh_engine.proofs.Touching.{TouchesCalls, nothing, names_stay, placed_at}
 use Rattle.wh_engine.specs.Finding.{HasNumberAt}
 use Rattle.wh_engine.proofs.Found.{kept_changed}
-use Rattle.std.specs.Vec.{with_item}
-use Rattle.std.proofs.lemmas.List.{length-set}
 
 -- what the host has answered, and what the script gets for it
 record DoesRelease (settings : Settings) (files : Files) (line : ℕ) (m : ScriptState) (e : WholeState) (name : List ℕ) (h2 : HostState) (r : Result (Vec ℕ) HostError) : Type 0 where
@@ -132,7 +131,6 @@ gone_stands settings files line m e name output h2 x i g s has at _ w2 _ eq (ans
       record {
         world = w2;
         is = is2;
-        modules = s.modules;
         knows = subst (Knows settings w2 _) (sym (places_stay e.instances i x at)) knows2;
         module_names = s.module_names;
         instance_names = s.instance_names ∙ sym (names_stay m.instances j h (record h { is_released = true }) also.0 refl);
@@ -154,10 +152,10 @@ goes settings files line m e name h2 x i output s named at replies whole =
 -- ---- what is kept then
 
 -- the one that is kept is marked, as it is among all
-pub gone_again : (settings : Settings) (files : Files) (line : ℕ) (m : ScriptState) (e : ScriptHostState) (name : List ℕ) (h2 : HostState) (x : NamedInstance) (i at : ℕ) (reply : Reply) (s : RepresentsScript settings e m)
-    → HasNumberAt e.instances.items i at → slice_get e.instances.items at ≡ Some x → ObeysWhole settings files m line (release name) reply (with_gone (whole_on e s.instances s.invoked) h2 i x)
-    → ObeysCommand settings files m line (release name) reply (record e { host = h2; instances = with_item e.instances at (record x { is_released = true }) })
-gone_again settings files line m e name h2 x i at reply s has there obeys =
+pub gone_again : {D : Type 0} (settings : Settings) (files : Files) (line : ℕ) (m : ScriptState) (e : ScriptHostState D) (name : List ℕ) (o2 : OwnedState D) (x : NamedInstance) (i at : ℕ) (reply : Reply) (s : RepresentsScript settings e m)
+    → HasNumberAt e.instances i at → slice_get e.instances at ≡ Some x → ObeysWhole settings files m line (release name) reply (with_gone (whole_on e s.instances s.invoked) o2.host i x)
+    → ObeysCommand settings files m line (release name) reply (record e { host = o2; instances = slice_set e.instances at (record x { is_released = true }) })
+gone_again settings files line m e name o2 x i at reply s has there obeys =
     let gone : NamedInstance = record x { is_released = true } in
     let same : has.0 ≡ x = same_Some has.0 x (sym has.1 ∙ there) in
     let number : x.id.number ≡ i = ap (λ (y : NamedInstance). y.id.number) (sym same) ∙ has.2 in (
@@ -168,7 +166,6 @@ gone_again settings files line m e name h2 x i at reply s has there obeys =
         invoked = s.invoked;
         kept = kept_changed s.kept m.instances s.stands.instances i at x gone there number;
         pending = s.pending;
-        admitted = s.admitted ∙ sym (length-set s.instances i gone);
         asked = s.asked;
         stands = obeys.2;
       },

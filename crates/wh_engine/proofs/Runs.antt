@@ -27,10 +27,10 @@ use Rattle.wh_script_laws.specs.Following as follow
 use Rattle.wh_script_laws.specs.Following.{IsPlaced, RunsKnown, StaysWhole}
 use Rattle.wh_script_laws.specs.Laws.{AllServed}
 use Rattle.wh_script_laws.proofs.Drains.{drains_begin, drains_end, moves_follow}
-use Rattle.wh_engine.specs.declared.script_host.ScriptHost.{ScriptHost}
+use Rattle.wh_scheduler.specs.InHand.{OwnedState, left_of}
 use Rattle.wh_engine.specs.declared.parts.NamedInstance.{NamedInstance}
 use Rattle.wh_engine.specs.Draining.{AllRest, DeviceMayFail, DeviceServesWell, DeviceStaysTrue, HasServed, RunsEach, StaysSo}
-use Rattle.wh_engine.specs.RepresentedScript.{AreNamedInstances, ScriptHostState, IsNamedInstance, IsLed, RepresentsScript, script_host_on, LeavesOut, WholeState, whole_on, is_over}
+use Rattle.wh_engine.specs.RepresentedScript.{AreNamedInstances, ScriptHostState, IsNamedInstance, IsLed, RepresentsScript, LeavesOut, WholeState, whole_on, is_over}
 use Rattle.wh_engine.proofs.Asked.{whole_of}
 use Rattle.wh_engine.proofs.Touching.{placed_at}
 use Rattle.wh_engine.proofs.Whole.{keeps_whole}
@@ -180,20 +180,19 @@ all_served settings m e kept h2 w2 are leaves is2 known rest i t there =
     (kept_or_over leaves i x d.1)
 
 -- then all have run
-ran_so : (settings : Settings) (m : ScriptState) (e : ScriptHostState) (h2 : HostState) (w2 : World) (s : RepresentsScript settings e m) → IsLed h2 w2 → RunsKnown settings w2 m (map (λ (x : NamedInstance). x.id.place) s.instances)
-    → AllRest h2 e.instances.items → (run : List script.NamedInstance) × AllZip RunsAlone m.instances run × RepresentsScript settings (record e { host = h2 }) (record m { instances = run })
-ran_so settings m e h2 w2 s led known rest =
+ran_so : {D : Type 0} (settings : Settings) (m : ScriptState) (e : ScriptHostState D) (o2 : OwnedState D) (w2 : World) (s : RepresentsScript settings e m) → IsLed o2.host w2 → RunsKnown settings w2 m (map (λ (x : NamedInstance). x.id.place) s.instances)
+    → AllRest o2.host e.instances → (run : List script.NamedInstance) × AllZip RunsAlone m.instances run × RepresentsScript settings (record e { host = o2 }) (record m { instances = run })
+ran_so settings m e o2 w2 s led known rest =
     let whole = whole_on e s.instances s.invoked in
     let reached = led.1 in
-    let all = all_served settings m whole e.instances.items h2 w2 s.stands.instances s.kept led.0 known rest in
+    let all = all_served settings m whole e.instances o2.host w2 s.stands.instances s.kept led.0 known rest in
     let end = drains_end reached.frames reached.slots reached.tax reached.events w2 reached.happen settings m (places_of whole) known all in (
       end.0,
       end.1,
-      stands_again settings e m (record m { instances = end.0 }) h2 s
+      stands_again settings e m (record m { instances = end.0 }) o2 s
           (record {
             world = w2;
             is = led;
-            modules = s.stands.modules;
             knows = end.2;
             module_names = s.stands.module_names;
             instance_names = s.stands.instance_names ∙ sym (names_run m.instances end.0 end.1);
@@ -206,24 +205,24 @@ ran_so settings m e h2 w2 s led known rest =
 -- ---- a drain
 
 -- none could go on from the beginning
-pub ran_at_once : (e : ScriptHost) (h : HostState) → AllRest h e.instances.items → RunsEach (script_host_on h e) (script_host_on h e)
-ran_at_once e h rest settings m s =
-    ran_so settings m (script_host_on h e) h s.stands.world s s.stands.is (drains_begin settings s.stands.world m _ s.stands.knows) rest
+pub ran_at_once : {D : Type 0} (e : ScriptHostState D) → AllRest e.host.host e.instances → RunsEach e e
+ran_at_once e rest settings m s =
+    ran_so settings m e e.host s.stands.world s s.stands.is (drains_begin settings s.stands.world m _ s.stands.knows) rest
 
 whole_moves : (s s2 : Space) → IsAsWhole s s2 → tickets s ≡ 0 → tickets s2 ≡ 0 → StaysWhole s s2
 whole_moves s s2 whole none none2 = record { frames = whole.frames; slots = whole.slots; tax = whole.tax; none_out = none2 ∙ sym none }
 
 -- work has brought all so far that none can go on
-pub ran_each : {D : Type 0} (keeps honest : D → Type 0) (faults : D → List SwapError) (e : ScriptHost) (left now : LeftState D) → ComesOn keeps honest faults left now
-    → tickets now.host.space ≡ 0 → AllRest now.host e.instances.items → DeviceServesWell honest faults left.device now.device
-    → RunsEach (script_host_on left.host e) (script_host_on now.host e)
-ran_each keeps honest faults e left now on none rest well settings m s =
-    let served = served_by_it keeps honest faults left now on well in
+pub ran_each : {D : Type 0} (keeps honest : D → Type 0) (faults : D → List SwapError) (e : ScriptHostState D) (o2 : OwnedState D) → ComesOn keeps honest faults (left_of e.host) (left_of o2)
+    → tickets o2.host.space ≡ 0 → AllRest o2.host e.instances → DeviceServesWell honest faults e.host.device o2.device
+    → RunsEach e (record e { host = o2 })
+ran_each keeps honest faults e o2 on none rest well settings m s =
+    let served = served_by_it keeps honest faults (left_of e.host) (left_of o2) on well in
     let c = on.came in
     let nothing : c.more ≡ [] = none_of c.more (faults c.before) (sym served.1 ∙ c.serves.added) in
     let w = s.stands.world in
-    let h = left.host in
-    let h2 = now.host in
+    let h = e.host.host in
+    let h2 = o2.host in
     let places = map (λ (x : NamedInstance). x.id.place) s.instances in
     let did = c.right served.0 w s.stands.is.0 in
     let w2 = did.0 in
@@ -231,27 +230,29 @@ ran_each keeps honest faults e left now on none rest well settings m s =
     let before : tickets h.space ≡ 0 = ap (λ (z : Space). tickets z) s.stands.is.0.space ∙ s.stands.knows.none_out in
     let whole = whole_of h h2 w w2 s.stands.is.0 did.2 (whole_moves h.space h2.space c.whole before none) in
     let known = works_known settings w w2 m places s.stands.is.1 works whole (drains_begin settings w m places s.stands.knows) in
-    ran_so settings m (script_host_on h e) h2 w2 s (did.2, known.0) known.1 rest
+    ran_so settings m e o2 w2 s (did.2, known.0) known.1 rest
 
 -- pages alone have moved before
-pub runs_after : (e e1 e2 : ScriptHostState) → StaysSo e e1 → RunsEach e1 e2 → RunsEach e e2
+pub runs_after : {D : Type 0} (e e1 e2 : ScriptHostState D) → StaysSo e e1 → RunsEach e1 e2 → RunsEach e e2
 runs_after e e1 e2 stays runs settings m s = runs settings m (stays settings m s)
 
--- ---- pages move
+-- ---- pages move, or nothing does
 
-pub stays_so : (e : ScriptHostState) (h2 : HostState) → ((w : World) → IsHost e.host w → (w2 : World) × OnlyMoves w w2 × IsHost h2 w2)
-    → KeepsBacking e.host.space h2.space → StaysSo e (record e { host = h2 })
-stays_so e h2 moves keeps settings m s =
+pub stays_same : {D : Type 0} (e e2 : ScriptHostState D) → e2 ≡ e → StaysSo e e2
+stays_same e e2 same settings m s = subst (λ x. RepresentsScript settings x m) (sym same) s
+
+pub stays_so : {D : Type 0} (e : ScriptHostState D) (o2 : OwnedState D) → ((w : World) → IsHost e.host.host w → (w2 : World) × OnlyMoves w w2 × IsHost o2.host w2)
+    → KeepsBacking e.host.host.space o2.host.space → StaysSo e (record e { host = o2 })
+stays_so e o2 moves keeps settings m s =
     let w = s.stands.world in
     let did = moves w s.stands.is.0 in
     let reached = s.stands.is.1 in
-    stands_again settings e m m h2 s
+    stands_again settings e m m o2 s
     (record {
       world = did.0;
       is = (did.2, reached_on w did.0 events.epoch reached did.1);
-      modules = s.stands.modules;
       knows = (moves_follow reached.frames reached.slots reached.tax reached.events w reached.happen settings m (map (λ (x : NamedInstance). x.id.place) s.instances) did.0 did.1
-          (whole_of e.host h2 w did.0 s.stands.is.0 did.2 (keeps_whole e.host.space h2.space keeps))).0 s.stands.knows;
+          (whole_of e.host.host o2.host w did.0 s.stands.is.0 did.2 (keeps_whole e.host.host.space o2.host.space keeps))).0 s.stands.knows;
       module_names = s.stands.module_names;
       instance_names = s.stands.instance_names;
       apart = s.stands.apart;

@@ -75,7 +75,7 @@ StopsScan Threads = Unit {0}
 StopsScan other = ⊥
 
 -- whatever script the engine represents, its calls have run as they do alone
-abbrev pub RunsEach : ScriptHostState → ScriptHostState → Type 0
+abbrev pub RunsEach : {D : Type 0} → ScriptHostState D → ScriptHostState D → Type 0
 RunsEach e e2 =
     (settings : Settings) (m : ScriptState) → RepresentsScript settings e m
     → (run : List script.NamedInstance) × AllZip RunsAlone m.instances run
@@ -96,21 +96,21 @@ pub record RunsTurns (q : ℕ) (before after : ℕ) : Type 0 where
   pub grown : after ≡ before + turns
 
 -- whatever script the engine represents, an instance of it has an open call
-abbrev pub WasOpen : ScriptHostState → Type 0
+abbrev pub WasOpen : {D : Type 0} → ScriptHostState D → Type 0
 WasOpen e = (settings : Settings) (m : ScriptState) → RepresentsScript settings e m → SomeCallIsOpen m
 
 -- why something stops: where threads can't run the calls, one was open before
-abbrev pub StopsOnlyOpen : ScriptHostState → ScriptFault → Type 0
+abbrev pub StopsOnlyOpen : {D : Type 0} → ScriptHostState D → ScriptFault → Type 0
 StopsOnlyOpen e Threads = WasOpen e
 StopsOnlyOpen e Transcript = WasOpen e
 StopsOnlyOpen e other = Unit {0}
 
 -- the same of something that may have to scan besides: where the scanner can't be started, it had to
-abbrev pub StopsOpenOr : Type 0 → ScriptHostState → ScriptFault → Type 0
+abbrev pub StopsOpenOr : {D : Type 0} → Type 0 → ScriptHostState D → ScriptFault → Type 0
 StopsOpenOr scans e Threads = WasOpen e ⊎ scans
 StopsOpenOr scans e Transcript = WasOpen e
 StopsOpenOr scans e other = Unit {0}
 
 -- pages alone have moved: whatever script the engine represented, it represents it still
-abbrev pub StaysSo : ScriptHostState → ScriptHostState → Type 0
+abbrev pub StaysSo : {D : Type 0} → ScriptHostState D → ScriptHostState D → Type 0
 StaysSo e e2 = (settings : Settings) (m : ScriptState) → RepresentsScript settings e m → RepresentsScript settings e2 m

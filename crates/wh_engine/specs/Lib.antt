@@ -3,3 +3,4 @@ pub mod RepresentedScript
 pub mod Obeying
 pub mod Draining
 pub mod Printing
+pub mod Stored

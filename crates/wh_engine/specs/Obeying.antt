@@ -1,5 +1,5 @@
 -- What commands get, and for which script an engine stands then.
-use Rattle.std.specs.Prelude.{◌≡◌, ℕ, ℤ, true, List, [], ◌∷◌, ◌++◌, slice_get, Some, None, Result, Ok, Err}
+use Rattle.std.specs.Prelude.{◌≡◌, ℕ, ℤ, true, List, [], ◌∷◌, slice_get, Some, Result, Ok, Err}
 use Rattle.std.specs.Global.{Vec}
 use Rattle.wh_host_model.specs.Owners.{Params}
 use Rattle.wh_script_model.specs.Settings.{Settings}
@@ -10,8 +10,6 @@ use Rattle.wh_script_model.specs.Receiving.{ReceivesModule, ReceivesInstance, Re
 use Rattle.wh_script_model.specs.Answers.{Files, IsObeyed}
 use Rattle.wh_host.specs.CallRequests.{host_number}
 use Rattle.wh_host.specs.declared.error.HostError.{HostError}
-use Rattle.wh_engine.specs.declared.script_host.ScriptHost.{ScriptHost}
-use Rattle.wh_engine.specs.declared.parts.InvokeOutcome.{InvokeOutcome}
 use Rattle.wh_engine.specs.RepresentedScript.{ScriptHostState, RepresentsScript}
 
 -- the instance of this number has the name
@@ -23,29 +21,24 @@ abbrev pub IsModuleNamed : ScriptState → ℕ → List ℕ → Type 0
 IsModuleNamed m k name = (named : NamedModule) × (slice_get m.modules k ≡ Some named) × (named.name ≡ name)
 
 -- a module whose name is free got this reply
-abbrev pub TakesModule : Settings → ScriptState → (name bytes : List ℕ) → Reply → ScriptHostState → Type 0
+abbrev pub TakesModule : {D : Type 0} → Settings → ScriptState → (name bytes : List ℕ) → Reply → ScriptHostState D → Type 0
 TakesModule settings m name bytes reply e2 =
     (m2 : ScriptState) × ReceivesModule true m name bytes reply m2 × RepresentsScript settings e2 m2
 
 -- an instance whose name is free, of the module of this number
-abbrev pub TakesInstance : Settings → ScriptState → (name : List ℕ) (k : ℕ) (p : Params) → Reply → ScriptHostState → Type 0
+abbrev pub TakesInstance : {D : Type 0} → Settings → ScriptState → (name : List ℕ) (k : ℕ) (p : Params) → Reply → ScriptHostState D → Type 0
 TakesInstance settings m name k p reply e2 =
     (named : NamedModule) × (slice_get m.modules k ≡ Some named)
     × (m2 : ScriptState) × ReceivesInstance true settings m name named.m p reply m2 × RepresentsScript settings e2 m2
 
 -- a call was asked of the instance of this number
-abbrev pub TakesInvoke : Settings → ScriptState → (i : ℕ) (export : List ℕ) (fuel : ℕ) (given : List ℤ) → ScriptHostState → Type 0
+abbrev pub TakesInvoke : {D : Type 0} → Settings → ScriptState → (i : ℕ) (export : List ℕ) (fuel : ℕ) (given : List ℤ) → ScriptHostState D → Type 0
 TakesInvoke settings m i export fuel given e2 =
     (g : NamedInstance) × (slice_get m.instances i ≡ Some g)
     × (m2 : ScriptState) × ReceivesCall true m i g export fuel given m2 × RepresentsScript settings e2 m2
 
--- one more call is kept, with this number
-pub record IsNoted (e e2 : ScriptHost) (number : ℕ) (outcome : InvokeOutcome) : Type 0 where
-  pub invoked : e2.invoked.items ≡ e.invoked.items ++ record { number = number; outcome = outcome; last_printed = None } ∷ []
-  pub others : e2 ≡ record e { invoked = e2.invoked; asked = number }
-
 -- and a command this one
-abbrev pub ObeysCommand : Settings → Files → ScriptState → (line : ℕ) → Command → Reply → ScriptHostState → Type 0
+abbrev pub ObeysCommand : {D : Type 0} → Settings → Files → ScriptState → (line : ℕ) → Command → Reply → ScriptHostState D → Type 0
 ObeysCommand settings files m line command reply e2 =
     (m2 : ScriptState) × IsObeyed true settings files m line command (reply ∷ []) m2 × RepresentsScript settings e2 m2
 

@@ -111,21 +111,21 @@ PrintsCallOf h xs x x2 text text2 =
     × IsInvokedAs number x2 v2
 
 -- whatever script the engine represents, these are the lines of all starts
-abbrev pub PrintsAllStarts : ScriptHostState → List ℕ → ScriptHostState → List ℕ → Type 0
+abbrev pub PrintsAllStarts : {D : Type 0} → ScriptHostState D → List ℕ → ScriptHostState D → List ℕ → Type 0
 PrintsAllStarts e text e2 text2 =
     (settings : Settings) (m : ScriptState) → RepresentsScript settings e m → IsWellMade m
     → (lines : List Reply) × (instances : List script.NamedInstance) × PrintStarts m.instances lines instances
     × AddsLines lines text text2 × RepresentsScript settings e2 (record m { instances = instances })
 
 -- of all calls
-abbrev pub PrintsAllCalls : ScriptHostState → List ℕ → ScriptHostState → List ℕ → Type 0
+abbrev pub PrintsAllCalls : {D : Type 0} → ScriptHostState D → List ℕ → ScriptHostState D → List ℕ → Type 0
 PrintsAllCalls e text e2 text2 =
     (settings : Settings) (m : ScriptState) → RepresentsScript settings e m → IsWellMade m
     → (lines : List Reply) × (invoked : List script.Invoked) × PrintCalls m.instances 1 m.invoked lines invoked
     × AddsLines lines text text2 × RepresentsScript settings e2 (record m { invoked = invoked })
 
 -- and of both, one behind the other
-abbrev pub PrintsAll : ScriptHostState → List ℕ → ScriptHostState → List ℕ → Type 0
+abbrev pub PrintsAll : {D : Type 0} → ScriptHostState D → List ℕ → ScriptHostState D → List ℕ → Type 0
 PrintsAll e text e2 text2 =
     (settings : Settings) (m : ScriptState) → RepresentsScript settings e m → IsWellMade m
     → (starts calls : List Reply) × (instances : List script.NamedInstance) × (invoked : List script.Invoked)

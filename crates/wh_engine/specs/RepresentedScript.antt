@@ -1,17 +1,16 @@
 -- What an engine keeps, and for which script it stands.
 use Rattle.std.specs.Prelude.{◌≡◌, ℕ, ◌+◌, ◌&&◌, ◌||◌, ◌↔◌, Bool, true, false, not, List, [], ◌∷◌, map, length, Option, Some, None, option_map, string_bytes}
-use Rattle.std.specs.Global.{Vec}
 use Rattle.wh_host_model.specs.Host.Worlds.{World}
 use Rattle.wh_script_model.specs.Settings.{Settings}
 use Rattle.wh_script_model.specs.ScriptState as script
 use Rattle.wh_script_model.specs.ScriptState.{call_rejected, call_accepted, ScriptState}
 use Rattle.wh_host.specs.Hosting.{HostState, IsHost, IsReached}
+use Rattle.wh_scheduler.specs.InHand.{OwnedState}
 use Rattle.wh_replies.specs.View.{status_of}
 use Rattle.wh_replies.specs.declared.call.Status.{Status}
 use Rattle.wh_script_laws.specs.Following.{Knows}
 use Rattle.wh_script_laws.specs.Printed.{is_final}
 use Rattle.wh_names.specs.NamePlaces.{AreNamedOnce}
-use Rattle.wh_engine.specs.declared.script_host.ScriptHost.{ScriptHost}
 use Rattle.wh_names.specs.declared.names.Names.{Names}
 use Rattle.wh_engine.specs.declared.parts.NamedInstance.{NamedInstance}
 use Rattle.wh_engine.specs.declared.parts.Invoked.{Invoked}
@@ -20,31 +19,15 @@ use Rattle.wh_engine.specs.declared.parts.InvokeOutcome.TheVariants.{Rejected, A
 
 -- ---- the engine and its host
 
--- What a script has made, with the host on which it runs: the names of its modules and of its instances, what is still
--- kept of instances and of each `invoke`, how many modules there are, how many instances were admitted, and how often
--- a call was asked for.
-pub record ScriptHostState : Type 0 where
-  pub host : HostState
+-- What a script has made, with the host on which it runs, its device and its books: the names of its modules and of its
+-- instances, what is still kept of instances and of each `invoke`, and how often a call was asked for.
+pub record ScriptHostState (D : Type 0) : Type 0 where
+  pub host : OwnedState D
   pub module_names : Names
   pub instance_names : Names
-  pub instances : Vec NamedInstance
-  pub invoked : Vec Invoked
-  pub modules : ℕ
-  pub admitted : ℕ
+  pub instances : List NamedInstance
+  pub invoked : List Invoked
   pub asked : ℕ
-
--- so an engine is on a host
-abbrev pub script_host_on : HostState → ScriptHost → ScriptHostState
-script_host_on h e = record {
-  host = h;
-  module_names = e.module_names;
-  instance_names = e.instance_names;
-  instances = e.instances;
-  invoked = e.invoked;
-  modules = e.modules;
-  admitted = e.admitted;
-  asked = e.asked;
-}
 
 -- the same with all that was ever made, as it was when it was last kept
 pub record WholeState : Type 0 where
@@ -53,16 +36,14 @@ pub record WholeState : Type 0 where
   pub instance_names : Names
   pub instances : List NamedInstance
   pub invoked : List Invoked
-  pub modules : ℕ
 
-abbrev pub whole_on : ScriptHostState → List NamedInstance → List Invoked → WholeState
+abbrev pub whole_on : {D : Type 0} → ScriptHostState D → List NamedInstance → List Invoked → WholeState
 whole_on e instances invoked = record {
-  host = e.host;
+  host = e.host.host;
   module_names = e.module_names;
   instance_names = e.instance_names;
   instances = instances;
   invoked = invoked;
-  modules = e.modules;
 }
 
 -- ---- what is kept
@@ -127,7 +108,6 @@ IsLed h w = IsHost h w × IsReached w
 pub record RepresentsWhole (settings : Settings) (e : WholeState) (m : ScriptState) : Type 0 where
   pub world : World
   pub is : IsLed e.host world
-  pub modules : e.modules ≡ length m.modules
   pub knows : Knows settings world m (map (λ (x : NamedInstance). x.id.place) e.instances)
   pub module_names : e.module_names ≡ map (λ (n : script.NamedModule). n.name) m.modules
   pub instance_names : e.instance_names ≡ map (λ (g : script.NamedInstance). g.name) m.instances
@@ -137,11 +117,10 @@ pub record RepresentsWhole (settings : Settings) (e : WholeState) (m : ScriptSta
 
 -- The engine represents what the script has made: of all that was made it keeps the instances that live or whose start
 -- has a line to come, and the calls that weren't said to have ended.
-pub record RepresentsScript (settings : Settings) (e : ScriptHostState) (m : ScriptState) : Type 0 where
+pub record RepresentsScript {D : Type 0} (settings : Settings) (e : ScriptHostState D) (m : ScriptState) : Type 0 where
   pub instances : List NamedInstance
   pub invoked : List Invoked
-  pub kept : LeavesOut is_over e.instances.items instances
-  pub pending : LeavesOut is_settled e.invoked.items invoked
-  pub admitted : e.admitted ≡ length instances
+  pub kept : LeavesOut is_over e.instances instances
+  pub pending : LeavesOut is_settled e.invoked invoked
   pub asked : e.asked ≡ length invoked
   pub stands : RepresentsWhole settings (whole_on e instances invoked) m

@@ -6,7 +6,7 @@ ghost use Rattle.wh_script_model.specs.Commands.{cancel, refuel, retry};
 ghost use Rattle.wh_script_model.specs.ScriptState.{ScriptState};
 ghost use Rattle.wh_script_model.specs.Settings.{Settings};
 ghost use Rattle.wh_replies.specs.View.{reply_of};
-ghost use Rattle.wh_engine.specs.RepresentedScript.{RepresentsScript, script_host_on};
+ghost use Rattle.wh_engine.specs.RepresentedScript.{RepresentsScript};
 ghost use Rattle.wh_engine.specs.Obeying.{IsNamed, ObeysCommand};
 
 use crate::script_host::ScriptHost;
@@ -14,24 +14,23 @@ use std::sync::ledger::Ledger;
 use wh_cell::CellAgreements;
 use wh_host::HostError;
 use wh_replies::Reply;
-use wh_scheduler::OwnedHost;
 use wh_swap::SwapDev;
 
-impl ScriptHost {
+impl<D: SwapDev, T: Ledger, C: Ledger, O: Ledger, E: Ledger, B: CellAgreements> ScriptHost<
+    D,
+    T,
+    C,
+    O,
+    E,
+    B,
+> {
     /// Gives the present call of an instance more fuel.
-    pub fn refuel<'a, D: SwapDev, T: Ledger, C: Ledger, O: Ledger, E: Ledger, B: CellAgreements>(
-        &self,
-        host: &mut OwnedHost<D, T, C, O, E, B>,
-        number: usize,
-        name: &'a str,
-        fuel: u64,
-    ) -> Reply<'a>
+    pub fn refuel<'a>(&mut self, number: usize, name: &'a str, fuel: u64) -> Reply<'a>
         ensures obeys { (settings : Settings) (files : Files) (line : ℕ) (m : ScriptState)
-            → RepresentsScript settings (script_host_on host.old.host self.now) m
-            → IsNamed m number name.now
-            → ObeysCommand settings files m line (refuel name.now fuel) (reply_of result)
-            (script_host_on host.new.host self.now) }
-        ensures device { host.new.device ≡ host.old.device }
+            → RepresentsScript settings self.old m → IsNamed m number name.now → ObeysCommand
+            settings files m line (refuel name.now fuel) (reply_of result) self.new }
+        ensures others { self.new ≡ record self.old { host = self.new.host } }
+        ensures device { self.new.host.device ≡ self.old.host.device }
     {
         let Some(at) = self.kept_at(number) else {
             return Reply::RefuelRefused {
@@ -39,7 +38,7 @@ impl ScriptHost {
                 fault: HostError::NoInstance.number(),
             };
         };
-        match host.refuel(self.instances[at].id, fuel) {
+        match self.host.refuel(self.instances[at].id, fuel) {
             Ok(()) => Reply::RefuelOk { inst: name },
             Err(error) => Reply::RefuelRefused {
                 inst: name,
@@ -49,18 +48,12 @@ impl ScriptHost {
     }
 
     /// Ends the present call of an instance.
-    pub fn cancel<'a, D: SwapDev, T: Ledger, C: Ledger, O: Ledger, E: Ledger, B: CellAgreements>(
-        &self,
-        host: &mut OwnedHost<D, T, C, O, E, B>,
-        number: usize,
-        name: &'a str,
-    ) -> Reply<'a>
+    pub fn cancel<'a>(&mut self, number: usize, name: &'a str) -> Reply<'a>
         ensures obeys { (settings : Settings) (files : Files) (line : ℕ) (m : ScriptState)
-            → RepresentsScript settings (script_host_on host.old.host self.now) m
-            → IsNamed m number name.now
-            → ObeysCommand settings files m line (cancel name.now) (reply_of result)
-            (script_host_on host.new.host self.now) }
-        ensures device { host.new.device ≡ host.old.device }
+            → RepresentsScript settings self.old m → IsNamed m number name.now → ObeysCommand
+            settings files m line (cancel name.now) (reply_of result) self.new }
+        ensures others { self.new ≡ record self.old { host = self.new.host } }
+        ensures device { self.new.host.device ≡ self.old.host.device }
     {
         let Some(at) = self.kept_at(number) else {
             return Reply::CancelRefused {
@@ -68,7 +61,7 @@ impl ScriptHost {
                 fault: HostError::NoInstance.number(),
             };
         };
-        match host.cancel(self.instances[at].id) {
+        match self.host.cancel(self.instances[at].id) {
             Ok(()) => Reply::CancelOk { inst: name },
             Err(error) => Reply::CancelRefused {
                 inst: name,
@@ -78,18 +71,12 @@ impl ScriptHost {
     }
 
     /// Retries the present call of an instance, which waits for a device.
-    pub fn retry<'a, D: SwapDev, T: Ledger, C: Ledger, O: Ledger, E: Ledger, B: CellAgreements>(
-        &self,
-        host: &mut OwnedHost<D, T, C, O, E, B>,
-        number: usize,
-        name: &'a str,
-    ) -> Reply<'a>
+    pub fn retry<'a>(&mut self, number: usize, name: &'a str) -> Reply<'a>
         ensures obeys { (settings : Settings) (files : Files) (line : ℕ) (m : ScriptState)
-            → RepresentsScript settings (script_host_on host.old.host self.now) m
-            → IsNamed m number name.now
-            → ObeysCommand settings files m line (retry name.now) (reply_of result)
-            (script_host_on host.new.host self.now) }
-        ensures device { host.new.device ≡ host.old.device }
+            → RepresentsScript settings self.old m → IsNamed m number name.now → ObeysCommand
+            settings files m line (retry name.now) (reply_of result) self.new }
+        ensures others { self.new ≡ record self.old { host = self.new.host } }
+        ensures device { self.new.host.device ≡ self.old.host.device }
     {
         let Some(at) = self.kept_at(number) else {
             return Reply::RetryRefused {
@@ -97,7 +84,7 @@ impl ScriptHost {
                 fault: HostError::NoInstance.number(),
             };
         };
-        match host.retry(self.instances[at].id) {
+        match self.host.retry(self.instances[at].id) {
             Ok(()) => Reply::RetryOk { inst: name },
             Err(error) => Reply::RetryRefused {
                 inst: name,

@@ -1,13 +1,13 @@
 // Instances that a script admits, calls and lets go.
 
-ghost use Rattle.std.specs.Prelude.{◌≡◌, ◌<◌, None, IfOk, OnErr, OnOk, vec_capacity, vec_len};
+ghost use Rattle.std.specs.Prelude.{◌≡◌, ◌<◌, ◌∷◌, ◌++◌, [], None, IfOk, OnErr, OnOk, length, vec_capacity, vec_len};
 ghost use Rattle.wh_commands.specs.ParsedCommands.{params_of};
 ghost use Rattle.wh_script_model.specs.ScriptState.{ScriptState};
 ghost use Rattle.wh_script_model.specs.Settings.{Settings};
 ghost use Rattle.wh_replies.specs.View.{reply_of};
 ghost use Rattle.wh_names.specs.NamePlaces.{place_of_name};
-ghost use Rattle.wh_engine.specs.RepresentedScript.{RepresentsScript, script_host_on};
-ghost use Rattle.wh_engine.specs.Obeying.{IsNoted, TakesInvoke, TakesInstance};
+ghost use Rattle.wh_engine.specs.RepresentedScript.{RepresentsScript};
+ghost use Rattle.wh_engine.specs.Obeying.{TakesInvoke, TakesInstance};
 
 use crate::parts::{InvokeOutcome, Invoked, NamedInstance};
 use crate::script_host::ScriptHost;
@@ -17,36 +17,35 @@ use wh_cell::CellAgreements;
 use wh_commands::AdmitParams;
 use wh_host::{HostError, ModuleId, Params};
 use wh_replies::Reply;
-use wh_scheduler::OwnedHost;
 use wh_swap::SwapDev;
 
-impl ScriptHost {
+impl<D: SwapDev, T: Ledger, C: Ledger, O: Ledger, E: Ledger, B: CellAgreements> ScriptHost<
+    D,
+    T,
+    C,
+    O,
+    E,
+    B,
+> {
     /// Admits an instance of the module of a number as `inst`, a free name. Returns the reply.
     ///
     /// # Errors
     /// A growth of memory for what is kept of it was refused. Nothing was done then.
-    pub fn admit<'a, D: SwapDev, T: Ledger, C: Ledger, O: Ledger, E: Ledger, B: CellAgreements>(
+    pub fn admit<'a>(
         &mut self,
-        host: &mut OwnedHost<D, T, C, O, E, B>,
         alloc: Global,
         inst: &'a str,
         of: usize,
         given: AdmitParams,
     ) -> Result<Reply<'a>, AllocError>
         requires free { place_of_name self.old.instance_names inst.now ≡ None }
-        requires there { of < self.old.modules }
+        requires there { of < length self.old.module_names }
         ensures ok { IfOk result (λ reply. (settings : Settings) (m : ScriptState)
-            → RepresentsScript settings (script_host_on host.old.host self.old) m
-            → TakesInstance settings m inst.now of (params_of given) (reply_of reply)
-            (script_host_on host.new.host self.new)) }
-        ensures err { OnErr result ((settings : Settings) (m : ScriptState)
-            → RepresentsScript settings (script_host_on host.old.host self.old) m
-            → RepresentsScript settings (script_host_on host.new.host self.new) m) }
-        ensures device { host.new.device ≡ host.old.device }
+            → RepresentsScript settings self.old m → TakesInstance settings m inst.now of
+            (params_of given) (reply_of reply) self.new) }
+        ensures err { OnErr result (self.new ≡ self.old) }
+        ensures device { self.new.host.device ≡ self.old.host.device }
     {
-        let Some(admitted) = self.admitted.checked_add(1) else {
-            return Err(AllocError);
-        };
         let name = String::from_str(alloc, inst)?;
         self.instances.reserve(1)?;
         self.instance_names.add(alloc, inst)?;
@@ -59,10 +58,9 @@ impl ScriptHost {
             salt: given.salt,
             inputs: given.inputs,
         };
-        match host.admit(alloc, ModuleId { number: of }, params) {
+        match self.host.admit(alloc, ModuleId { number: of }, params) {
             Ok(id) => {
-                let has_start = host.host().can_go_on(id);
-                self.admitted = admitted;
+                let has_start = self.host.host().can_go_on(id);
                 self.instances.push_reserved(NamedInstance {
                     name,
                     id,
@@ -89,58 +87,52 @@ impl ScriptHost {
     ///
     /// # Errors
     /// A growth of memory for what is kept of it was refused. Nothing was done then.
-    pub fn invoke<D: SwapDev, T: Ledger, C: Ledger, O: Ledger, E: Ledger, B: CellAgreements>(
+    pub fn invoke(
         &mut self,
-        host: &mut OwnedHost<D, T, C, O, E, B>,
         alloc: Global,
         number: usize,
         export: &str,
         fuel: u64,
         args: &[i128],
     ) -> Result<(), AllocError>
-        requires there { number < self.old.admitted }
-        ensures ok { OnOk result ((settings : Settings) (m : ScriptState)
-            → RepresentsScript settings (script_host_on host.old.host self.old) m
-            → TakesInvoke settings m number export.now fuel args.now
-            (script_host_on host.new.host self.new)) }
-        ensures err { OnErr result ((settings : Settings) (m : ScriptState)
-            → RepresentsScript settings (script_host_on host.old.host self.old) m
-            → RepresentsScript settings (script_host_on host.new.host self.new) m) }
-        ensures device { host.new.device ≡ host.old.device }
+        requires there { number < length self.old.instance_names }
+        ensures ok { OnOk result ((settings : Settings) (m : ScriptState) → RepresentsScript
+            settings self.old m → TakesInvoke settings m number export.now fuel args.now self.new) }
+        ensures err { OnErr result (self.new ≡ self.old) }
+        ensures device { self.new.host.device ≡ self.old.host.device }
     {
         let Some(asked) = self.asked.checked_add(1) else {
             return Err(AllocError);
         };
         self.invoked.reserve(1)?;
+        self.asked = asked;
         let Some(at) = self.kept_at(number) else {
-            self.note(
-                asked,
-                InvokeOutcome::Rejected(HostError::NoInstance.number()),
-            );
+            let fault = HostError::NoInstance.number();
+            note(&mut self.invoked, asked, InvokeOutcome::Rejected(fault));
             return Ok(());
         };
         let id = self.instances[at].id;
-        let outcome = match host.invoke(alloc, id, export, args, fuel) {
+        let outcome = match self.host.invoke(alloc, id, export, args, fuel) {
             Ok(place) => InvokeOutcome::Accepted {
                 instance: number,
                 place,
             },
             Err(error) => InvokeOutcome::Rejected(error.number()),
         };
-        self.note(asked, outcome);
+        note(&mut self.invoked, asked, outcome);
         Ok(())
     }
+}
 
-    // Keeps what came of the `invoke` of a number, which is the last one.
-    fn note(&mut self, number: u64, outcome: InvokeOutcome)
-        requires room { vec_len self.old.invoked < vec_capacity self.old.invoked }
-        ensures { IsNoted self.old self.new number outcome }
-    {
-        self.asked = number;
-        self.invoked.push_reserved(Invoked {
-            number,
-            outcome,
-            last_printed: None,
-        });
-    }
+// Keeps what came of the `invoke` of a number, which is the last one.
+fn note(invoked: &mut Vec<Invoked>, number: u64, outcome: InvokeOutcome)
+    requires room { vec_len invoked.old < vec_capacity invoked.old }
+    ensures { invoked.new.items
+        ≡ invoked.old.items ++ record { number = number; outcome = outcome; last_printed = None } ∷ [] }
+{
+    invoked.push_reserved(Invoked {
+        number,
+        outcome,
+        last_printed: None,
+    });
 }

@@ -9,7 +9,7 @@ ghost use Rattle.wh_host.specs.Loading.{IsLoadAnswer};
 ghost use Rattle.wh_replies.specs.View.{reply_of, why_of};
 ghost use Rattle.wh_script_laws.specs.Replies.{SaysModule};
 ghost use Rattle.wh_names.specs.NamePlaces.{place_of_name};
-ghost use Rattle.wh_engine.specs.RepresentedScript.{RepresentsScript, script_host_on};
+ghost use Rattle.wh_engine.specs.RepresentedScript.{RepresentsScript};
 ghost use Rattle.wh_engine.specs.Obeying.{TakesModule};
 
 use crate::script_host::ScriptHost;
@@ -20,7 +20,6 @@ use wh_host::ModuleError;
 use wh_imports::LinkError;
 use wh_load::LoadError;
 use wh_replies::{FaultPlace, ModuleRefusal, Reply};
-use wh_scheduler::OwnedHost;
 use wh_swap::SwapDev;
 
 // Why bytes aren't kept, as replies say it.
@@ -57,34 +56,34 @@ fn refusal_of(error: ModuleError) -> ModuleRefusal
     }
 }
 
-impl ScriptHost {
+impl<D: SwapDev, T: Ledger, C: Ledger, O: Ledger, E: Ledger, B: CellAgreements> ScriptHost<
+    D,
+    T,
+    C,
+    O,
+    E,
+    B,
+> {
     /// Keeps the module that `bytes` spell as `name`, which is free. Returns the reply.
     ///
     /// # Errors
     /// A growth of memory for the name was refused. Nothing was done then.
-    pub fn keep<'a, D: SwapDev, T: Ledger, C: Ledger, O: Ledger, E: Ledger, B: CellAgreements>(
+    pub fn keep<'a>(
         &mut self,
-        host: &mut OwnedHost<D, T, C, O, E, B>,
         alloc: Global,
         name: &'a str,
         bytes: &[u8],
     ) -> Result<Reply<'a>, AllocError>
         requires free { place_of_name self.old.module_names name.now ≡ None }
         ensures ok { IfOk result (λ reply. (settings : Settings) (m : ScriptState)
-            → RepresentsScript settings (script_host_on host.old.host self.old) m
-            → TakesModule settings m name.now bytes.now (reply_of reply)
-            (script_host_on host.new.host self.new)) }
-        ensures err { OnErr result ((settings : Settings) (m : ScriptState)
-            → RepresentsScript settings (script_host_on host.old.host self.old) m
-            → RepresentsScript settings (script_host_on host.new.host self.new) m) }
-        ensures device { host.new.device ≡ host.old.device }
+            → RepresentsScript settings self.old m → TakesModule settings m name.now bytes.now
+            (reply_of reply) self.new) }
+        ensures err { OnErr result (self.new ≡ self.old) }
+        ensures device { self.new.host.device ≡ self.old.host.device }
     {
         self.module_names.add(alloc, name)?;
-        match host.load(alloc, bytes) {
-            Ok(_) => {
-                self.modules = self.modules.saturating_add(1);
-                Ok(Reply::ModuleOk { name })
-            }
+        match self.host.load(alloc, bytes) {
+            Ok(_) => Ok(Reply::ModuleOk { name }),
             Err(error) => {
                 self.module_names.remove_last();
                 let why = refusal_of(error);

@@ -7,15 +7,17 @@ ghost use Rattle.wh_script_laws.specs.Printed as printed_spec;
 ghost use Rattle.wh_script_model.specs.Texts.{wants_fuel};
 ghost use Rattle.wh_instance.specs.Tenancy.{suspension_of};
 ghost use Rattle.wh_engine.specs.Printing.{IsFaultless, IsFoundAt, IsInvokedNow, IsReturnedSo, IsPrintedAs, IsStatusAt, PrintsAll, PrintsAllCalls, PrintsAllStarts, PrintsCallOf, PrintsOf, PrintsStartOf};
-ghost use Rattle.wh_engine.specs.RepresentedScript.{script_host_on};
 
 use crate::ending::{forget_calls, forget_instances, is_over};
 use crate::finding::place_of;
 use crate::parts::{InvokeOutcome, Invoked, NamedInstance};
 use crate::script_host::ScriptHost;
 use std::alloc::AllocError;
+use std::sync::ledger::Ledger;
+use wh_cell::CellAgreements;
 use wh_host::{CallStatus, CallValue, Host, Suspension};
 use wh_replies::{Call, Caller, Reply, Status, signed_value, write_reply};
+use wh_swap::SwapDev;
 
 // A call that was said to be so, once its instance is released.
 fn when_released(last_printed: Status) -> Status
@@ -195,41 +197,51 @@ fn print_call(
     Ok(())
 }
 
-impl ScriptHost {
+impl<D: SwapDev, T: Ledger, C: Ledger, O: Ledger, E: Ledger, B: CellAgreements> ScriptHost<
+    D,
+    T,
+    C,
+    O,
+    E,
+    B,
+> {
     /// Appends the lines of a drain to `text`: for each start, by the numbers of instances, and then for each call, by the
     /// numbers of their `invoke`s, where its status differs from the one printed last. Forgets released instances and calls
     /// that have ended, since no line is printed of them again.
     ///
     /// # Errors
     /// A growth of memory was refused; a beginning of the lines may have been appended.
-    pub fn print(&mut self, host: &Host, text: &mut String) -> Result<(), AllocError>
-        ensures { OnOk result (PrintsAll (script_host_on host.now self.old) (string_bytes text.old)
-            (script_host_on host.now self.new) (string_bytes text.new)) }
+    pub fn print(&mut self, text: &mut String) -> Result<(), AllocError>
+        ensures says { OnOk result (PrintsAll self.old (string_bytes text.old) self.new
+            (string_bytes text.new)) }
+        ensures host { self.new.host ≡ self.old.host }
     {
-        self.print_starts(host, text)?;
-        self.print_calls(host, text)
+        self.print_starts(text)?;
+        self.print_calls(text)
     }
 
-    fn print_starts(&mut self, host: &Host, text: &mut String) -> Result<(), AllocError>
-        ensures { OnOk result (PrintsAllStarts (script_host_on host.now self.old) (string_bytes text.old)
-            (script_host_on host.now self.new) (string_bytes text.new)) }
+    fn print_starts(&mut self, text: &mut String) -> Result<(), AllocError>
+        ensures says { OnOk result (PrintsAllStarts self.old (string_bytes text.old) self.new
+            (string_bytes text.new)) }
+        ensures host { self.new.host ≡ self.old.host }
     {
         let mut has_ended = false;
         for at in 0..self.instances.len() {
-            print_start(host, &mut self.instances[at], text)?;
+            print_start(self.host.host(), &mut self.instances[at], text)?;
             has_ended = has_ended | is_over(&self.instances[at]);
         }
         forget_instances(&mut self.instances, has_ended);
         Ok(())
     }
 
-    fn print_calls(&mut self, host: &Host, text: &mut String) -> Result<(), AllocError>
-        ensures { OnOk result (PrintsAllCalls (script_host_on host.now self.old) (string_bytes text.old)
-            (script_host_on host.now self.new) (string_bytes text.new)) }
+    fn print_calls(&mut self, text: &mut String) -> Result<(), AllocError>
+        ensures says { OnOk result (PrintsAllCalls self.old (string_bytes text.old) self.new
+            (string_bytes text.new)) }
+        ensures host { self.new.host ≡ self.old.host }
     {
         for at in 0..self.invoked.len() {
             let invoked = &mut self.invoked[at];
-            print_call(host, &self.instances, invoked, text)?;
+            print_call(self.host.host(), &self.instances, invoked, text)?;
         }
         forget_calls(&mut self.invoked);
         Ok(())

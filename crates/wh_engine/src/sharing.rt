@@ -4,7 +4,6 @@ ghost use Rattle.std.specs.Prelude.{◌≡◌, ◌+◌, ℕ, IfErr, OnErr, OnOk,
 ghost use Rattle.wh_cell.specs.Counted.{countable, offers_of};
 ghost use Rattle.wh_cell.specs.Scanned.{IsScanned};
 ghost use Rattle.wh_engine.specs.Draining.{StaysSo, StopsScan};
-ghost use Rattle.wh_engine.specs.RepresentedScript.{script_host_on};
 
 use crate::fault::ScriptFault;
 use crate::running::stops_by;
@@ -15,23 +14,35 @@ use std::sync::ledger::Ledger;
 use std::thread::Threads;
 use wh_cell::CellAgreements;
 use wh_kernels::PageHash;
-use wh_scheduler::OwnedHost;
 use wh_swap::SwapDev;
 
-impl ScriptHost {
+impl<D: SwapDev, T: Ledger, C: Ledger, O: Ledger, E: Ledger, B: CellAgreements> ScriptHost<
+    D,
+    T,
+    C,
+    O,
+    E,
+    B,
+> {
     /// Begins a new epoch, in which no page was touched yet.
-    pub fn epoch<D: SwapDev, T: Ledger, C: Ledger, O: Ledger, E: Ledger, B: CellAgreements>(
-        &self,
-        host: &mut OwnedHost<D, T, C, O, E, B>,
-    )
-        ensures stands { StaysSo (script_host_on host.old.host self.now)
-            (script_host_on host.new.host self.now) }
-        ensures device { host.new.device ≡ host.old.device }
-        ensures books { host.new.books ≡ host.old.books }
+    pub fn epoch(&mut self)
+        ensures stands { StaysSo self.old self.new }
+        ensures device { self.new.host.device ≡ self.old.host.device }
+        ensures others { self.new ≡ record self.old { host = self.new.host } }
+        ensures books { self.new.host.books ≡ self.old.host.books }
     {
-        host.epoch();
+        self.host.epoch();
     }
+}
 
+impl<
+    D: SwapDev + Drop + Send + 'static,
+    T: Ledger + Send + 'static,
+    C: Ledger + Send + 'static,
+    O: Ledger + Send + 'static,
+    E: Ledger + Send + 'static,
+    B: CellAgreements + Send + 'static,
+> ScriptHost<D, T, C, O, E, B> {
     /// Offers all pages of all instances for sharing, each under its hash, by a scanner in a thread of its own: the book of
     /// offers grows by as many. It is done where frames and slots are fewer than 2^32 together, as settings have it: then as
     /// many frames are in use as there are distinct contents that aren't all zero, if the hash tells contents apart and was the
@@ -39,35 +50,25 @@ impl ScriptHost {
     ///
     /// # Errors
     /// `Memory` where room was refused, and `Threads` where the scanner couldn't be started. Nothing was done then.
-    pub fn scan<
-        D: SwapDev + Drop + Send + 'static,
-        T: Ledger + Send + 'static,
-        C: Ledger + Send + 'static,
-        O: Ledger + Send + 'static,
-        E: Ledger + Send + 'static,
-        B: CellAgreements + Send + 'static,
-        H: PageHash + Drop + Send + 'static,
-        R: Threads + Wait,
-    >(
-        &self,
+    pub fn scan<H: PageHash + Drop + Send + 'static, R: Threads + Wait>(
+        &mut self,
         rt: &R,
         alloc: Global,
-        host: &mut OwnedHost<D, T, C, O, E, B>,
         hasher: H,
     ) -> Result<(), ScriptFault>
-        ensures stands { StaysSo (script_host_on host.old.host self.now)
-            (script_host_on host.new.host self.now) }
-        ensures device { host.new.device ≡ host.old.device }
+        ensures stands { StaysSo self.old self.new }
+        ensures device { self.new.host.device ≡ self.old.host.device }
         ensures scans { OnOk result ((offered : Option ℕ)
-            × IsScanned (H.hashes hasher) host.old.host offered host.new.host
-            × (host.new.books ≡ record host.old.books {
-              offers = host.old.books.offers
-                  + countable host.old.books.offers (offers_of offered);
+            × IsScanned (H.hashes hasher) self.old.host.host offered self.new.host.host
+            × (self.new.host.books ≡ record self.old.host.books {
+              offers = self.old.host.books.offers
+                  + countable self.old.host.books.offers (offers_of offered);
             })) }
-        ensures same { OnErr result (host.new ≡ host.old) }
+        ensures others { self.new ≡ record self.old { host = self.new.host } }
+        ensures same { OnErr result (self.new ≡ self.old) }
         ensures err { IfErr result StopsScan }
     {
-        match host.scan(rt, alloc, hasher) {
+        match self.host.scan(rt, alloc, hasher) {
             Ok(_) => Ok(()),
             Err(error) => Err(stops_by(error)),
         }

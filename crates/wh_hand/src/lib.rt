@@ -18,7 +18,7 @@ mod telling;
 pub use hand::Hand;
 pub use running::Ran;
 pub use wh_host::{
-    AdmitError, CallStatus, CallValue, HostError, ModuleError, ModuleId, Params, Suspension,
-    Transcript,
+    AdmitError, CallStatus, CallValue, HostError, InstanceReport, ModuleError, ModuleId, Params,
+    Report, Suspension, Transcript,
 };
 pub use wh_host_model::{InstId, Tax};

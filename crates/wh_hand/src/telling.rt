@@ -1,15 +1,14 @@
 //! What a hand tells of its host.
 
 ghost use Rattle.std.specs.Prelude.{◌≡◌, IfErr, IfOk, option_map};
-ghost use Rattle.std.specs.String.{string_bytes};
-ghost use Rattle.wh_host.specs.Reporting.{ReportsHost};
+ghost use Rattle.wh_host.specs.Reporting.{ReportsHost, view_report};
 ghost use Rattle.wh_host.specs.Showing.{ShowsInstance};
 ghost use Rattle.wh_host.specs.Telling.{TellsChargesOf, TellsOf};
 ghost use Rattle.wh_transcript.specs.Transcripts.{IsReplayable};
 
 use crate::hand::Hand;
 use std::alloc::Global;
-use wh_host::{CallStatus, HostError, Transcript};
+use wh_host::{CallStatus, HostError, Report, Transcript};
 use wh_host_model::InstId;
 
 impl Hand {
@@ -29,13 +28,13 @@ impl Hand {
         Some((status, charges))
     }
 
-    /// The report: three lines on frames, slots and shared frames, and one for each instance by number, as that of
-    /// `Host::report`. It goes over all frames and all pages.
+    /// The report of the host: how frames and slots are used and shared, and what each instance has of them, by number. It goes
+    /// over all frames and all pages.
     ///
     /// # Errors
-    /// `Memory` where room for the text, or for the numbers of the instances, is refused.
-    pub fn report(&self, alloc: Global) -> Result<String, HostError>
-        ensures ok { IfOk result (λ text. ReportsHost self.now.host (string_bytes text)) }
+    /// `Memory` where room for the instances is refused.
+    pub fn report(&self, alloc: Global) -> Result<Report, HostError>
+        ensures ok { IfOk result (λ report. ReportsHost self.now.host (view_report report)) }
         ensures err { IfErr result (λ error. error ≡ HostError.Memory) }
     {
         self.host.report(alloc)

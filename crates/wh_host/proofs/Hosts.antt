@@ -15,7 +15,7 @@ use Rattle.wh_host_model.specs.Host.Laws.{PlacesAreTenants}
 use Rattle.wh_host_model.specs.Host.OwnerCalls.{Refuels, has_more, Retries, may_try}
 use Rattle.wh_host_model.specs.Host.Events.{Event, turn, epoch}
 use Rattle.wh_host_model.specs.Host.Happens.{AllHappen, Happens, IsLive, IsTurn, NoInstance, of_none, of_one}
-use Rattle.wh_host_model.specs.Host.Misreading.{AllBefall, AllSeeAsMany, Befalls, ComesAbout, IsMisread, Step, by_event, by_misreading}
+use Rattle.wh_host_model.specs.Host.Misreading.{AllBefall, Befalls, ComesAbout, IsMisread, Step, by_event, by_misreading}
 use Rattle.wh_host_model.proofs.Host.Lasting.{places_stay_right}
 use Rattle.wh_host_model.proofs.Host.Opening.{apart_none, apart_steps, apart_then, proceeds_apart}
 use Rattle.wh_instance.specs.OwnerRequests.{OfAnyTenant}

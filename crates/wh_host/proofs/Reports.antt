@@ -1,22 +1,22 @@
 -- The report is that of whatever host the code's stands for.
-use Rattle.std.proofs.Common.{◌≡◌, ℕ, zero, suc, ◌+◌, ◌-◌, ◌++◌, ◌≤◌, Result, Ok, Err, IfOk, OnOk, Option, Some, None, List, [], ◌∷◌, length, take, get_or, slice_get, refl, sym, ap, subst, ◌∙◌, arith, true}
+use Rattle.std.proofs.Common.{◌≡◌, ℕ, zero, suc, ◌+◌, ◌++◌, ◌≤◌, Result, Ok, Err, IfOk, Option, Some, None, List, [], ◌∷◌, length, map, take, get_or, slice_get, refl, sym, ap, subst, ◌∙◌, arith, true}
 use Rattle.std.specs.List.{All}
-use Rattle.std.proofs.lemmas.List.{append-nil, append_assoc}
+use Rattle.std.proofs.lemmas.List.{append-nil, append_assoc, map-append}
 use Rattle.wh_host_model.specs.Frames.{one_if, tally}
 use Rattle.wh_host_model.specs.declared.states.Slot.{Slot}
 use Rattle.wh_host_model.specs.declared.states.Slot.TheVariants.{Vacant, Taken, Evicting, EvictVoid, Fetching, FetchVoid}
 use Rattle.wh_host_model.specs.Space.Parts.{Claimed, Occupant, Space, claim_of}
 use Rattle.wh_host_model.specs.Space.Sound.{IsSound, IsUsed}
 use Rattle.wh_host_model.specs.Host.Worlds.{Tenant, World, promised, tenant}
-use Rattle.wh_script_model.specs.Texts.{frames_text, row_text, shared_text, slots_text}
 use Rattle.wh_host_model.proofs.Space.Putting.{there_of}
 use Rattle.wh_host_model.proofs.Tally.{length-le_from_once}
 use Rattle.wh_host.specs.declared.parts.InstanceEntry.{InstanceEntry}
 use Rattle.wh_host.specs.declared.parts.InstanceRef.{InstanceRef}
+use Rattle.wh_host.specs.declared.report.InstanceReport.{InstanceReport}
 use Rattle.wh_host_model.specs.Host.Misreading.{ComesAbout}
 use Rattle.wh_host.specs.Hosting.{AreGivenAs, HostState, IsHost, entry_at}
-use Rattle.wh_host.specs.Reporting.{ReportsHost, all_sharers, head_text, row_in, rows_text, shared_frames}
-use Rattle.wh_host.specs.InstanceRefs.{AreInOrder, AreInstanceRefs, CanBeShown, line_row, line_text, lines_text, number_at, number_of_entry, refs_by}
+use Rattle.wh_host.specs.Reporting.{ReportRow, ReportState, ReportsHost, report_with, row_in, rows_in, view_row}
+use Rattle.wh_host.specs.InstanceRefs.{AreInOrder, AreInstanceRefs, CanBeShown, number_at, number_of_entry, refs_by, row_at, row_by, rows_by}
 use Rattle.wh_host.proofs.Hosts.{one_value, places}
 use Rattle.wh_host.proofs.Ordering.{AreSeated, all_by, in_order, to_all, all_also, IsSeatOf}
 use Rattle.wh_host.proofs.Requests.{lives_there, sound_here}
@@ -98,65 +98,45 @@ pub all_shown : (h : HostState) (w : World) (instance_refs : List InstanceRef) �
 all_shown h w instance_refs st are =
     subst (All (CanBeShown h.entries)) (sym (are w st)) (to_all (CanBeShown h.entries) (refs_by 0 w.tenants) (all_also (IsSeatOf w.tenants) (CanBeShown h.entries) (seat_shown h w st) (refs_by 0 w.tenants) (all_by w.tenants)))
 
--- ---- lines
+-- ---- rows
 
-pub one_line_more : (s : Space) (rs : List (Option InstanceEntry)) (instance_refs : List InstanceRef) (k : ℕ) (instance_ref : InstanceRef) → slice_get instance_refs k ≡ Some instance_ref → lines_text s rs (take (suc k) instance_refs) ≡ lines_text s rs (take k instance_refs) ++ line_text s instance_ref (entry_at rs instance_ref.place)
-one_line_more s rs [] k instance_ref is = absurd (let bad : None ≡ Some instance_ref = is in cc bad)
-one_line_more s rs (z ∷ zs) zero instance_ref is = let same : z ≡ instance_ref = cc is in append-nil (line_text s z (entry_at rs z.place)) ∙ ap (λ (u : InstanceRef). line_text s u (entry_at rs u.place)) same
-one_line_more s rs (z ∷ zs) (suc k) instance_ref is =
-    let first = line_text s z (entry_at rs z.place) in
-    ap (λ more. first ++ more) (one_line_more s rs zs k instance_ref is) ∙ sym (append_assoc first (lines_text s rs (take k zs)) (line_text s instance_ref (entry_at rs instance_ref.place)))
+pub one_row_more : (s : Space) (rs : List (Option InstanceEntry)) (instance_refs : List InstanceRef) (k : ℕ) (instance_ref : InstanceRef) → slice_get instance_refs k ≡ Some instance_ref → rows_by s rs (take (suc k) instance_refs) ≡ rows_by s rs (take k instance_refs) ++ row_at s instance_ref (entry_at rs instance_ref.place)
+one_row_more s rs [] k instance_ref is = absurd (let bad : None ≡ Some instance_ref = is in cc bad)
+one_row_more s rs (z ∷ zs) zero instance_ref is = let same : z ≡ instance_ref = cc is in append-nil (row_at s z (entry_at rs z.place)) ∙ ap (λ (u : InstanceRef). row_at s u (entry_at rs u.place)) same
+one_row_more s rs (z ∷ zs) (suc k) instance_ref is =
+    let first = row_at s z (entry_at rs z.place) in
+    ap (λ more. first ++ more) (one_row_more s rs zs k instance_ref is) ∙ sym (append_assoc first (rows_by s rs (take k zs)) (row_at s instance_ref (entry_at rs instance_ref.place)))
 
-pub line_step : (s : Space) (rs : List (Option InstanceEntry)) (instance_refs : List InstanceRef) (k : ℕ) (instance_ref : InstanceRef) (start a b : List ℕ) → slice_get instance_refs k ≡ Some instance_ref → a ≡ start ++ lines_text s rs (take k instance_refs) → b ≡ a ++ line_text s instance_ref (entry_at rs instance_ref.place) → b ≡ start ++ lines_text s rs (take (k + 1) instance_refs)
-line_step s rs instance_refs k instance_ref start a b at before more =
-    let line = line_text s instance_ref (entry_at rs instance_ref.place) in
+pub row_pushed : (a b : List InstanceReport) (x : InstanceReport) (row : ReportRow) → b ≡ a ++ x ∷ [] → view_row x ≡ row → map view_row b ≡ map view_row a ++ row ∷ []
+row_pushed a b x row is same = ap (map view_row) is ∙ map-append view_row a (x ∷ []) ∙ ap (λ (z : ReportRow). map view_row a ++ z ∷ []) same
+
+pub row_step : (s : Space) (rs : List (Option InstanceEntry)) (instance_refs : List InstanceRef) (k : ℕ) (instance_ref : InstanceRef) (a b : List ReportRow) → slice_get instance_refs k ≡ Some instance_ref → a ≡ rows_by s rs (take k instance_refs) → b ≡ a ++ row_at s instance_ref (entry_at rs instance_ref.place) → b ≡ rows_by s rs (take (k + 1) instance_refs)
+row_step s rs instance_refs k instance_ref a b at before more =
+    let row = row_at s instance_ref (entry_at rs instance_ref.place) in
     let next : k + 1 ≡ suc k = omega arith in
-    more ∙ ap (λ q. q ++ line) before ∙ append_assoc start (lines_text s rs (take k instance_refs)) line ∙ ap (λ q. start ++ q) (sym (one_line_more s rs instance_refs k instance_ref at))
-    ∙ ap (λ n. start ++ lines_text s rs (take n instance_refs)) (sym next)
+    more ∙ ap (λ q. q ++ row) before ∙ sym (one_row_more s rs instance_refs k instance_ref at) ∙ ap (λ n. rows_by s rs (take n instance_refs)) (sym next)
 
-same_row : (s : Space) (i : ℕ) (x : InstanceEntry) (t : Tenant) (instance_ref : InstanceRef) → instance_ref ≡ record { number = i; place = t.place } → AreGivenAs x.given t.params → line_row s instance_ref x ≡ row_in s i t
+same_row : (s : Space) (i : ℕ) (x : InstanceEntry) (t : Tenant) (instance_ref : InstanceRef) → instance_ref ≡ record { number = i; place = t.place } → AreGivenAs x.given t.params → row_by s instance_ref x ≡ row_in s i t
 same_row s i x t instance_ref at is = rw at (rw is.shares (rw is.min (rw is.max refl)))
 
-rows_same : (s : Space) (rs : List (Option InstanceEntry)) (i : ℕ) (ts : List (Option Tenant)) → ((k : ℕ) (t : Tenant) → get_or ts k None ≡ Some t → (x : InstanceEntry) × (entry_at rs t.place ≡ Some x) × AreGivenAs x.given t.params) → lines_text s rs (refs_by i ts) ≡ rows_text s i ts
+rows_same : (s : Space) (rs : List (Option InstanceEntry)) (i : ℕ) (ts : List (Option Tenant)) → ((k : ℕ) (t : Tenant) → get_or ts k None ≡ Some t → (x : InstanceEntry) × (entry_at rs t.place ≡ Some x) × AreGivenAs x.given t.params) → rows_by s rs (refs_by i ts) ≡ rows_in s i ts
 rows_same s rs i [] has = refl
 rows_same s rs i (None ∷ ts) has = rows_same s rs (i + 1) ts (λ k t is. has (suc k) t is)
 rows_same s rs i (Some t ∷ ts) has =
     let h = has 0 t refl in
     let instance_ref : InstanceRef = record { number = i; place = t.place } in
-    let first : line_text s instance_ref (entry_at rs t.place) ≡ row_text (row_in s i t) = ap (line_text s instance_ref) h.1 ∙ ap row_text (same_row s i h.0 t instance_ref refl h.2) in
+    let first : row_at s instance_ref (entry_at rs t.place) ≡ row_in s i t ∷ [] = ap (row_at s instance_ref) h.1 ∙ ap (λ row. row ∷ []) (same_row s i h.0 t instance_ref refl h.2) in
     let tail = rows_same s rs (i + 1) ts (λ k u is. has (suc k) u is) in
-    ap (λ a. a ++ lines_text s rs (refs_by (i + 1) ts)) first ∙ ap (λ b. row_text (row_in s i t) ++ b) tail
+    ap (λ a. a ++ rows_by s rs (refs_by (i + 1) ts)) first ∙ ap (λ b. row_in s i t ∷ b) tail
 
--- ---- the first three lines
-
-pub on_ok : {A E : Type 0} (r : Result A E) (P Q : Type 0) → (P → Q) → OnOk r P → OnOk r Q
-on_ok (Ok a) P Q then h = then h
-on_ok (Err e) P Q then h = h
+-- ---- the whole
 
 pub if_ok : {A E : Type 0} (r : Result A E) (P Q : A → Type 0) → ((a : A) → P a → Q a) → IfOk r P → IfOk r Q
 if_ok (Ok a) P Q then h = then a h
 if_ok (Err e) P Q then h = h
 
-three_behind : (a x y z : List ℕ) → ((a ++ x) ++ y) ++ z ≡ a ++ ((x ++ y) ++ z)
-three_behind a x y z = ap (λ b. b ++ z) (append_assoc a x y) ∙ append_assoc a (x ++ y) z
-
-pub head_written : (s : Space) (frames used slots used_slots shared sharers : ℕ) (a b c d : List ℕ) → b ≡ a ++ frames_text frames used → c ≡ b ++ slots_text slots used_slots → d ≡ c ++ shared_text shared sharers
-    → frames ≡ length s.pool.frames → used ≡ length s.pool.frames - length s.pool.free → slots ≡ length s.slots.uses → used_slots ≡ length s.slots.uses - length s.slots.vacant → shared ≡ shared_frames s → sharers ≡ all_sharers s → d ≡ a ++ head_text s
-head_written s frames used slots used_slots shared sharers a b c d first second third e1 e2 e3 e4 e5 e6 =
-    let x = frames_text frames used in
-    let y = slots_text slots used_slots in
-    let z = shared_text shared sharers in
-    let all : d ≡ a ++ ((x ++ y) ++ z) = third ∙ ap (λ q. q ++ z) second ∙ ap (λ q. (q ++ y) ++ z) first ∙ three_behind a x y z in
-    let one : x ≡ frames_text (length s.pool.frames) (length s.pool.frames - length s.pool.free) = ap (λ n. frames_text n used) e1 ∙ ap (frames_text (length s.pool.frames)) e2 in
-    let two : y ≡ slots_text (length s.slots.uses) (length s.slots.uses - length s.slots.vacant) = ap (λ n. slots_text n used_slots) e3 ∙ ap (slots_text (length s.slots.uses)) e4 in
-    let tri : z ≡ shared_text (shared_frames s) (all_sharers s) = ap (λ n. shared_text n sharers) e5 ∙ ap (shared_text (shared_frames s)) e6 in
-    all ∙ ap (λ q. a ++ ((q ++ y) ++ z)) one ∙ ap (λ q. a ++ ((frames_text (length s.pool.frames) (length s.pool.frames - length s.pool.free) ++ q) ++ z)) two
-    ∙ ap (λ q. a ++ ((frames_text (length s.pool.frames) (length s.pool.frames - length s.pool.free) ++ slots_text (length s.slots.uses) (length s.slots.uses - length s.slots.vacant)) ++ q)) tri
-
--- ---- the whole
-
-pub report_is : (h : HostState) (instance_refs : List InstanceRef) (text : List ℕ) → AreInstanceRefs h instance_refs → text ≡ head_text h.space ++ lines_text h.space h.entries instance_refs → ReportsHost h text
-report_is h instance_refs text are is w st =
-    let here : text ≡ head_text w.space ++ lines_text w.space h.entries instance_refs = subst (λ s. text ≡ head_text s ++ lines_text s h.entries instance_refs) st.space is in
-    here ∙ ap (λ (zs : List InstanceRef). head_text w.space ++ lines_text w.space h.entries zs) (are w st)
-    ∙ ap (λ b. head_text w.space ++ b) (rows_same w.space h.entries 0 w.tenants (λ k t live. let f = st.there k t live in (f.0, f.1, f.2.given)))
+pub report_is : (h : HostState) (instance_refs : List InstanceRef) (report : ReportState) → AreInstanceRefs h instance_refs → report ≡ report_with h.space (rows_by h.space h.entries instance_refs) → ReportsHost h report
+report_is h instance_refs report are is w st =
+    let here : report ≡ report_with w.space (rows_by w.space h.entries instance_refs) = subst (λ s. report ≡ report_with s (rows_by s h.entries instance_refs)) st.space is in
+    here ∙ ap (λ (zs : List InstanceRef). report_with w.space (rows_by w.space h.entries zs)) (are w st)
+    ∙ ap (report_with w.space) (rows_same w.space h.entries 0 w.tenants (λ k t live. let f = st.there k t live in (f.0, f.1, f.2.given)))

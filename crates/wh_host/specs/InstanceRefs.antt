@@ -1,14 +1,14 @@
--- The instances of a host by number, and the lines of its report by what the code has of them.
+-- The instances of a host by number, and what is reported of them by what the code has of them.
 use Rattle.std.specs.Prelude.{◌≡◌, ◌≤◌, ℕ, zero, suc, ◌+◌, ◌++◌, List, [], ◌∷◌, Option, Some, None}
 use Rattle.std.specs.List.Sorted.{IsNonDecreasingBy, IsPermutation}
 use Rattle.wh_host_model.specs.Space.Charges.{active_of, charged_of}
 use Rattle.wh_host_model.specs.Space.Parts.{Space}
 use Rattle.wh_host_model.specs.Space.States.{count_of, swapped}
 use Rattle.wh_host_model.specs.Host.Worlds.{Tenant, World}
-use Rattle.wh_script_model.specs.Texts.{Row, row_text}
 use Rattle.wh_host.specs.declared.parts.InstanceEntry.{InstanceEntry}
 use Rattle.wh_host.specs.declared.parts.InstanceRef.{InstanceRef}
 use Rattle.wh_host.specs.Hosting.{HostState, IsHost, entry_at}
+use Rattle.wh_host.specs.Reporting.{ReportRow}
 
 -- the number and the place of each that is live, by number, the first of the list having this one
 abbrev pub refs_by : (number : ℕ) → List (Option Tenant) → List InstanceRef
@@ -44,28 +44,27 @@ abbrev pub AreInOrder : List (Option InstanceEntry) → ℕ → List InstanceRef
 AreInOrder rs n instance_refs =
     IsPermutation (refs_below (number_at rs) n) instance_refs × IsNonDecreasingBy (λ (s : InstanceRef). s.number) instance_refs
 
--- the lines of the instances in these seats, one after the other
-abbrev pub line_row : Space → InstanceRef → InstanceEntry → Row
-line_row s instance_ref x = record {
+-- what is reported of the instances in these seats, one after the other
+abbrev pub row_by : Space → InstanceRef → InstanceEntry → ReportRow
+row_by s instance_ref x = record {
   number = instance_ref.number;
+  place = instance_ref.place;
   shares = x.given.shares;
   min = x.given.min;
   max = x.given.max;
   charged = charged_of s instance_ref.place;
   active = active_of s instance_ref.place;
   swapped = count_of swapped s.tables instance_ref.place;
-  num = s.tax.num;
-  den = s.tax.den;
 }
 
-abbrev pub line_text : Space → InstanceRef → Option InstanceEntry → List ℕ
-line_text s instance_ref None = []
-line_text s instance_ref (Some x) = row_text (line_row s instance_ref x)
+abbrev pub row_at : Space → InstanceRef → Option InstanceEntry → List ReportRow
+row_at s instance_ref None = []
+row_at s instance_ref (Some x) = row_by s instance_ref x ∷ []
 
-abbrev pub lines_text : Space → List (Option InstanceEntry) → List InstanceRef → List ℕ
-lines_text s rs [] = []
-lines_text s rs (instance_ref ∷ instance_refs) =
-    line_text s instance_ref (entry_at rs instance_ref.place) ++ lines_text s rs instance_refs
+abbrev pub rows_by : Space → List (Option InstanceEntry) → List InstanceRef → List ReportRow
+rows_by s rs [] = []
+rows_by s rs (instance_ref ∷ instance_refs) =
+    row_at s instance_ref (entry_at rs instance_ref.place) ++ rows_by s rs instance_refs
 
 -- whoever has this place can be shown
 abbrev pub CanBeShown : List (Option InstanceEntry) → InstanceRef → Type 0

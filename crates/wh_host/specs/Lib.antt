@@ -10,6 +10,7 @@ pub mod Entries
 pub mod Loading
 pub mod Paging
 pub mod Releasing
+pub mod Requests
 pub mod Admitting
 pub mod Sharing
 pub mod Showing

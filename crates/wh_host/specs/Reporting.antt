@@ -1,12 +1,60 @@
 -- The report of a host: how its frames, slots and pages are used, and what each instance has of them.
-use Rattle.std.specs.Prelude.{◌≡◌, ℕ, ◌+◌, ◌-◌, ◌++◌, min, List, [], ◌∷◌, length, Option, Some, None}
+use Rattle.std.specs.Prelude.{◌≡◌, ℕ, ◌+◌, ◌-◌, min, List, [], ◌∷◌, length, map, Option, Some, None}
+use Rattle.wh_host_model.specs.declared.Tax.{Tax}
 use Rattle.wh_host_model.specs.Frames.{tally}
 use Rattle.wh_host_model.specs.Space.Charges.{active_of, charged_of}
 use Rattle.wh_host_model.specs.Space.Parts.{Space, numbers_below, sharers}
 use Rattle.wh_host_model.specs.Space.States.{count_of, swapped}
 use Rattle.wh_host_model.specs.Host.Worlds.{Tenant, World}
-use Rattle.wh_script_model.specs.Texts.{Row, frames_text, row_text, shared_text, slots_text}
+use Rattle.wh_host.specs.declared.report.InstanceReport.{InstanceReport}
+use Rattle.wh_host.specs.declared.report.Report.{Report}
 use Rattle.wh_host.specs.Hosting.{HostState, IsHost}
+
+-- what contracts see of what a report says of an instance
+pub record ReportRow : Type 0 where
+  pub number : ℕ
+  pub place : ℕ
+  pub shares : ℕ
+  pub min : ℕ
+  pub max : ℕ
+  pub charged : ℕ
+  pub active : ℕ
+  pub swapped : ℕ
+
+abbrev pub view_row : InstanceReport → ReportRow
+view_row x = record {
+  number = x.number;
+  place = x.place;
+  shares = x.shares;
+  min = x.min;
+  max = x.max;
+  charged = x.charged;
+  active = x.active;
+  swapped = x.swapped;
+}
+
+-- and of the whole
+pub record ReportState : Type 0 where
+  pub frames : ℕ
+  pub used_frames : ℕ
+  pub slots : ℕ
+  pub used_slots : ℕ
+  pub shared_frames : ℕ
+  pub sharers : ℕ
+  pub tax : Tax
+  pub instances : List ReportRow
+
+abbrev pub view_report : Report → ReportState
+view_report r = record {
+  frames = r.frames;
+  used_frames = r.used_frames;
+  slots = r.slots;
+  used_slots = r.used_slots;
+  shared_frames = r.shared_frames;
+  sharers = r.sharers;
+  tax = r.tax;
+  instances = map view_row r.instances.items;
+}
 
 -- how many frames pages share, and how many pages share one
 abbrev pub shared_frames : Space → ℕ
@@ -17,35 +65,40 @@ all_sharers s = tally (sharers s) (numbers_below (length s.pool.frames))
 
 -- what is reported of an instance: what its owner was promised, how many frames are charged to it and on how many of
 -- these a page was touched, and how many of its pages are swapped
-abbrev pub row_in : Space → (number : ℕ) → Tenant → Row
+abbrev pub row_in : Space → (number : ℕ) → Tenant → ReportRow
 row_in s number t = record {
   number = number;
+  place = t.place;
   shares = t.params.shares;
   min = t.params.min;
   max = t.params.max;
   charged = charged_of s t.place;
   active = active_of s t.place;
   swapped = count_of swapped s.tables t.place;
-  num = s.tax.num;
-  den = s.tax.den;
 }
 
--- a line for each that is live, by number, the first of the list having this one
-abbrev pub rows_text : Space → (number : ℕ) → List (Option Tenant) → List ℕ
-rows_text s number [] = []
-rows_text s number (None ∷ ts) = rows_text s (number + 1) ts
-rows_text s number (Some t ∷ ts) = row_text (row_in s number t) ++ rows_text s (number + 1) ts
+-- the same of each that is live, by number, the first of the list having this one
+abbrev pub rows_in : Space → (number : ℕ) → List (Option Tenant) → List ReportRow
+rows_in s number [] = []
+rows_in s number (None ∷ ts) = rows_in s (number + 1) ts
+rows_in s number (Some t ∷ ts) = row_in s number t ∷ rows_in s (number + 1) ts
 
--- its first three lines: frames in use are all but the free ones, slots in use all but the vacant ones
-abbrev pub head_text : Space → List ℕ
-head_text s =
-    frames_text (length s.pool.frames) (length s.pool.frames - length s.pool.free)
-    ++ slots_text (length s.slots.uses) (length s.slots.uses - length s.slots.vacant)
-    ++ shared_text (shared_frames s) (all_sharers s)
+-- the report on memory: frames in use are all but the free ones, slots in use all but the vacant ones
+abbrev pub report_with : Space → List ReportRow → ReportState
+report_with s instances = record {
+  frames = length s.pool.frames;
+  used_frames = length s.pool.frames - length s.pool.free;
+  slots = length s.slots.uses;
+  used_slots = length s.slots.uses - length s.slots.vacant;
+  shared_frames = shared_frames s;
+  sharers = all_sharers s;
+  tax = s.tax;
+  instances = instances;
+}
 
-abbrev pub report_text : World → List ℕ
-report_text w = head_text w.space ++ rows_text w.space 0 w.tenants
+abbrev pub report_of : World → ReportState
+report_of w = report_with w.space (rows_in w.space 0 w.tenants)
 
 -- for whatever host it stands, this is its report
-abbrev pub ReportsHost : HostState → List ℕ → Type 0
-ReportsHost h text = (w : World) → IsHost h w → text ≡ report_text w
+abbrev pub ReportsHost : HostState → ReportState → Type 0
+ReportsHost h report = (w : World) → IsHost h w → report ≡ report_of w

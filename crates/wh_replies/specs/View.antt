@@ -15,7 +15,6 @@ use Rattle.wh_replies.specs.declared.reply.ModuleRefusal.{ModuleRefusal}
 use Rattle.wh_replies.specs.declared.reply.ModuleRefusal.TheVariants.{Broken, Invalid, Unlinked, NoLinkMemory, ModulesFull, NoRoom}
 use Rattle.wh_replies.specs.declared.reply.Reply.{Reply}
 use Rattle.wh_replies.specs.declared.reply.Reply.TheVariants.{Error, ModuleOk, ModuleRefused, AdmitOk, AdmitRefused, RefuelOk, RefuelRefused, CancelOk, CancelRefused, RetryOk, RetryRefused, ScanOk, ReleaseRefused, Call}
-use Rattle.wh_replies.specs.declared.row.Row.{Row}
 
 abbrev pub caller_of : Caller → texts.Caller
 caller_of (ByNumber number) = call number
@@ -64,16 +63,3 @@ reply_of (RetryRefused inst fault) = retry_refused inst.now fault
 reply_of ScanOk = scan_ok
 reply_of (ReleaseRefused inst fault) = release_refused inst.now fault
 reply_of (Call line) = call_is (caller_of line.who) (status_of line.is)
-
-abbrev pub row_of : Row → texts.Row
-row_of row = record {
-  number = row.number;
-  shares = row.shares;
-  min = row.min;
-  max = row.max;
-  charged = row.charged;
-  active = row.active;
-  swapped = row.swapped;
-  num = row.tax.num;
-  den = row.tax.den;
-}

@@ -5,12 +5,10 @@ mod call;
 mod released;
 mod reply;
 mod report;
-mod row;
 mod value;
 
 pub use call::{Call, Caller, Status};
 pub use released::write_released;
 pub use reply::{FaultPlace, ModuleRefusal, Reply, write_reply};
-pub use report::{write_frames, write_row, write_shared, write_slots};
-pub use row::Row;
+pub use report::write_report;
 pub use value::signed_value;

@@ -36,7 +36,10 @@ use std::sync::Wait;
 use std::sync::ledger::Ledger;
 use std::thread::Threads;
 use wh_cell::{Backing, CellAgreements, CellParts, HostCell, Locked, Owner, Parts};
-use wh_host::{AdmitError, Host, HostError, ModuleError, ModuleId, Params, Roll, Transcript};
+use wh_host::{
+    Admit, AdmitError, Cancel, Host, HostError, Invoke, Load, ModuleError, ModuleId, Params,
+    Refuel, Release, Request, Retry, Roll, Transcript,
+};
 use wh_host_model::InstId;
 use wh_kernels::PageHash;
 use wh_swap::SwapDev;
@@ -227,6 +230,23 @@ impl<D: SwapDev, T: Ledger, C: Ledger, O: Ledger, E: Ledger, B: CellAgreements> 
         self.host().transcript(alloc, id)
     }
 
+    /// Asks something of the host, as `Host` itself would be asked.
+    ///
+    /// # Errors
+    /// Those of the request. The host is as it was then.
+    pub fn ask<Q: Request>(&mut self, request: Q) -> Result<Q::Answer, Q::Error>
+        ensures asks { Q.asks request self.old.host result self.new.host }
+        ensures err { OnErr result (self.new.host ≡ self.old.host) }
+        ensures backing { KeepsBacking self.old.host.space self.new.host.space }
+        ensures device { self.new.device ≡ self.old.device }
+        ensures books { self.new.books ≡ self.old.books }
+    {
+        let Some(locked) = &mut self.locked else {
+            unreachable!();
+        };
+        locked.ask(&mut self.owner, request)
+    }
+
     /// Keeps the module that `bytes` spell, and these. Returns its number, from 0.
     ///
     /// # Errors
@@ -238,10 +258,7 @@ impl<D: SwapDev, T: Ledger, C: Ledger, O: Ledger, E: Ledger, B: CellAgreements> 
         ensures device { self.new.device ≡ self.old.device }
         ensures books { self.new.books ≡ self.old.books }
     {
-        let Some(locked) = &mut self.locked else {
-            unreachable!();
-        };
-        locked.load(&mut self.owner, alloc, bytes)
+        self.ask(Load { alloc, bytes })
     }
 
     /// Admits an instance of a module with `params`. All that it will ever need is reserved now.
@@ -263,10 +280,7 @@ impl<D: SwapDev, T: Ledger, C: Ledger, O: Ledger, E: Ledger, B: CellAgreements> 
         ensures device { self.new.device ≡ self.old.device }
         ensures books { self.new.books ≡ self.old.books }
     {
-        let Some(locked) = &mut self.locked else {
-            unreachable!();
-        };
-        locked.admit(&mut self.owner, alloc, of, params)
+        self.ask(Admit { alloc, of, params })
     }
 
     /// Queues a call of the function that an instance's module exports as `name`, with arguments `given` and `fuel`, behind the
@@ -289,10 +303,13 @@ impl<D: SwapDev, T: Ledger, C: Ledger, O: Ledger, E: Ledger, B: CellAgreements> 
         ensures device { self.new.device ≡ self.old.device }
         ensures books { self.new.books ≡ self.old.books }
     {
-        let Some(locked) = &mut self.locked else {
-            unreachable!();
-        };
-        locked.invoke(&mut self.owner, alloc, id, name, given, fuel)
+        self.ask(Invoke {
+            alloc,
+            id,
+            name,
+            given,
+            fuel,
+        })
     }
 
     /// Adds `fuel` to the present call of an instance; what passes 2^64 - 1 is lost.
@@ -309,10 +326,7 @@ impl<D: SwapDev, T: Ledger, C: Ledger, O: Ledger, E: Ledger, B: CellAgreements> 
         ensures device { self.new.device ≡ self.old.device }
         ensures books { self.new.books ≡ self.old.books }
     {
-        let Some(locked) = &mut self.locked else {
-            unreachable!();
-        };
-        locked.refuel(&mut self.owner, id, fuel)
+        self.ask(Refuel { id, fuel })
     }
 
     /// Cancels the present call of an instance where it is; what it has written stays.
@@ -329,10 +343,7 @@ impl<D: SwapDev, T: Ledger, C: Ledger, O: Ledger, E: Ledger, B: CellAgreements> 
         ensures device { self.new.device ≡ self.old.device }
         ensures books { self.new.books ≡ self.old.books }
     {
-        let Some(locked) = &mut self.locked else {
-            unreachable!();
-        };
-        locked.cancel(&mut self.owner, id)
+        self.ask(Cancel { id })
     }
 
     /// Retries the present call of an instance, if it waits for a device: then it waits for a frame.
@@ -348,10 +359,7 @@ impl<D: SwapDev, T: Ledger, C: Ledger, O: Ledger, E: Ledger, B: CellAgreements> 
         ensures device { self.new.device ≡ self.old.device }
         ensures books { self.new.books ≡ self.old.books }
     {
-        let Some(locked) = &mut self.locked else {
-            unreachable!();
-        };
-        locked.retry(&mut self.owner, id)
+        self.ask(Retry { id })
     }
 
     /// Releases an instance, whatever its calls are. Returns its output.
@@ -366,10 +374,7 @@ impl<D: SwapDev, T: Ledger, C: Ledger, O: Ledger, E: Ledger, B: CellAgreements> 
         ensures device { self.new.device ≡ self.old.device }
         ensures books { self.new.books ≡ self.old.books }
     {
-        let Some(locked) = &mut self.locked else {
-            unreachable!();
-        };
-        locked.release(&mut self.owner, alloc, id)
+        self.ask(Release { alloc, id })
     }
 
     /// Begins a new epoch: no page is marked as touched. It goes over all pages.

@@ -1,4 +1,4 @@
-//! A call of `run_calls`: workers that run turns on a cell, a scanner and a reclaimer where they are wanted.
+//! A call of `run_calls`: turns on a cell, by the calling thread first; workers, a scanner and a reclaimer where they are wanted.
 
 ghost use Rattle.std.specs.Prelude.{◌≡◌, ◌+◌, ◌/◌, ◌<◌, ◌≤◌, IfOk, OnErr, OnOk};
 ghost use Rattle.crossbeam_channel.specs.Claims.{view};
@@ -95,15 +95,16 @@ fn staff_of<
     Ok(Staff { jobs, supply })
 }
 
-/// Runs the calls of `ids` until none can go on: turns by `run_config.workers`, each in a thread of its own; beside them a
-/// scanner offers pages, and a reclaimer makes steps ready that wait for frames. The calling thread dispatches the turns.
+/// Runs the calls of `ids` until none can go on. The calling thread dispatches the turns, and runs up to 31 itself. Where more
+/// come, or a step waits for a frame, `run_config.workers` run the further ones, each in a thread of its own; beside them a
+/// scanner offers pages, and a reclaimer makes steps ready that wait for frames.
 ///
 /// Returns what was dispatched and run, however it ended. Where it ended well each dispatched turn was received once, the
 /// workers' counts have grown by so many, and for each 64 turns a page was offered. No count gets smaller.
 ///
 /// # Errors
-/// `Memory` where room was refused: no turn was run then. `Served::end` says so where not all workers could be started, or
-/// pages couldn't be offered that are owed. It is `NoThread` too where a step waited for a frame and the reclaimer couldn't be
+/// `Memory` where room was refused: no turn was run then. `Served::end` says so where there was no room for the crew or not all
+/// workers could be started, and the first turns alone were run; or pages couldn't be offered that are owed. It is `NoThread` too where a step waited for a frame and the reclaimer couldn't be
 /// started: no further turn was dispatched then, and calls may be left that can go on.
 pub fn run_calls<
     D: SwapDev + Drop + Send + 'static,

@@ -59,26 +59,26 @@ only_replies : (settings : Settings) (number : ℕ) (line : List ℕ) (m : Scrip
     → AddsLines replies text text2 → (more : List ℕ) × IsLineText settings number line m replies more × (text2 ≡ text ++ more)
 only_replies settings number line m replies text text2 wants adds = (replies_text replies, prints_replies wants, adds)
 
-pub is_skipped_line : (files : Files) (number : ℕ) (line : List ℕ) (e : ScriptHostState) (text : List ℕ) → is_skipped line ≡ true → Answers files number line e text e text
+pub is_skipped_line : {D : Type 0} (files : Files) (number : ℕ) (line : List ℕ) (e : ScriptHostState D) (text : List ℕ) → is_skipped line ≡ true → Answers files number line e text e text
 is_skipped_line files number line e text is settings m s =
     let t = only_replies settings number line m [] text text (λ asks. absurd (true≢false (sym is ∙ asks.is_read.0))) (adds_none text) in
     ([], m, t.0, skipped is, t.1, t.2, s)
 
-pub is_too_long : (files : Files) (number : ℕ) (line text text2 : List ℕ) (e e2 : ScriptHostState) → is_skipped line ≡ false → longest_line < length line
+pub is_too_long : {D : Type 0} (files : Files) (number : ℕ) (line text text2 : List ℕ) (e e2 : ScriptHostState D) → is_skipped line ≡ false → longest_line < length line
     → Complains (error 1 number) e text e2 text2 → Answers files number line e text e2 text2
 is_too_long files number line text text2 e e2 read long complains settings m s =
     let c = complains settings m s in
     let t = only_replies settings number line c.1 (c.0 ++ error 1 number ∷ []) text text2 (λ asks. absurd (omega (arith, long, asks.is_read.1))) c.3 in
     (c.0 ++ error 1 number ∷ [], c.1, t.0, too_long read long c.2, t.1, t.2, c.4)
 
-pub is_no_command : (files : Files) (number : ℕ) (line text text2 : List ℕ) (e e2 : ScriptHostState) → IsRead line → ((command : Command) → ¬ (AsksCommand line command))
+pub is_no_command : {D : Type 0} (files : Files) (number : ℕ) (line text text2 : List ℕ) (e e2 : ScriptHostState D) → IsRead line → ((command : Command) → ¬ (AsksCommand line command))
     → Complains (error 1 number) e text e2 text2 → Answers files number line e text e2 text2
 is_no_command files number line text text2 e e2 read none complains settings m s =
     let c = complains settings m s in
     let t = only_replies settings number line c.1 (c.0 ++ error 1 number ∷ []) text text2 (λ asks. absurd (none report asks.asks)) c.3 in
     (c.0 ++ error 1 number ∷ [], c.1, t.0, no_command read none c.2, t.1, t.2, c.4)
 
-pub wants_memory : (files : Files) (number : ℕ) (line text text2 : List ℕ) (e e2 : ScriptHostState) → IsRead line
+pub wants_memory : {D : Type 0} (files : Files) (number : ℕ) (line text text2 : List ℕ) (e e2 : ScriptHostState D) → IsRead line
     → Complains (error 5 number) e text e2 text2 → Answers files number line e text e2 text2
 wants_memory files number line text text2 e e2 read complains settings m s =
     let c = complains settings m s in
@@ -86,7 +86,7 @@ wants_memory files number line text text2 e e2 read complains settings m s =
     (c.0 ++ error 5 number ∷ [], c.1, t.0, line_out_of_memory refl read c.2, t.1, t.2, c.4)
 
 -- a line whose command isn't found
-pub isnt_found : (files : Files) (number : ℕ) (line text text2 : List ℕ) (e e2 : ScriptHostState) (r : Result Code LineError) (cause : LineError) → r ≡ Err cause
+pub isnt_found : {D : Type 0} (files : Files) (number : ℕ) (line text text2 : List ℕ) (e e2 : ScriptHostState D) (r : Result Code LineError) (cause : LineError) → r ≡ Err cause
     → ((asked : Command) → AsksCommand line asked → FindsAsked r asked) → (cause ≡ Syntax) ⊎ (cause ≡ Memory) → IsRead line
     → Complains (error (cause_number cause) number) e text e2 text2 → Answers files number line e text e2 text2
 isnt_found files number line text text2 e e2 r Syntax is only which read complains =
@@ -113,7 +113,7 @@ isnt_found files number line text text2 e e2 r Memory is only which read complai
 no_report : (line inst export : List ℕ) (fuel : ℕ) (args : List ℤ) → AsksCommand line (invoke inst export fuel args) → (replies : List Reply) {number : ℕ} → AsksReport line → EndsOutOfMemory number replies
 no_report line inst export fuel args asks replies other = absurd (invoke_apart inst export fuel args (one_command line (invoke inst export fuel args) asks other.asks))
 
-pub is_received : (files : Files) (number i : ℕ) (inst export : List ℕ) (fuel : ℕ) (args : List ℤ) (e e2 : ScriptHostState) (text : List ℕ)
+pub is_received : {D : Type 0} (files : Files) (number i : ℕ) (inst export : List ℕ) (fuel : ℕ) (args : List ℤ) (e e2 : ScriptHostState D) (text : List ℕ)
     → ((settings : Settings) (m : ScriptState) → RepresentsScript settings e m → IsNamed m i inst)
     → ((settings : Settings) (m : ScriptState) → RepresentsScript settings e m → TakesInvoke settings m i export fuel args e2)
     → AnswersCommand files number (invoke inst export fuel args) e text e2 text
@@ -132,7 +132,7 @@ is_received files number i inst export fuel args e e2 text named takes line read
       (took.4, call_well true m took.2 i has.0 export fuel args has.1.0 received s.1),
     )
 
-pub has_no_guest : (files : Files) (number : ℕ) (inst export : List ℕ) (fuel : ℕ) (args : List ℤ) (e e2 : ScriptHostState) (text text2 : List ℕ)
+pub has_no_guest : {D : Type 0} (files : Files) (number : ℕ) (inst export : List ℕ) (fuel : ℕ) (args : List ℤ) (e e2 : ScriptHostState D) (text text2 : List ℕ)
     → ((settings : Settings) (m : ScriptState) → RepresentsScript settings e m → LacksInstance m inst)
     → Complains (error 2 number) e text e2 text2 → AnswersCommand files number (invoke inst export fuel args) e text e2 text2
 has_no_guest files number inst export fuel args e e2 text text2 none complains line read asks settings m s =
@@ -147,7 +147,7 @@ has_no_guest files number inst export fuel args e e2 text text2 none complains l
       c.4,
     )
 
-pub invoke_wants : (files : Files) (number : ℕ) (command : Command) (e e1 e2 : ScriptHostState) (text text2 : List ℕ)
+pub invoke_wants : {D : Type 0} (files : Files) (number : ℕ) (command : Command) (e e1 e2 : ScriptHostState D) (text text2 : List ℕ)
     → ((settings : Settings) (m : ScriptState) → RepresentsScript settings e m → RepresentsScript settings e1 m)
     → Complains (error 5 number) e1 text e2 text2 → AnswersCommand files number command e text e2 text2
 invoke_wants files number command e e1 e2 text text2 stays complains line read asks settings m s =
@@ -178,7 +178,7 @@ says_both settings number command line m lines replies text mid text2 read asks 
       at ∙ ap (λ xs. xs ++ shown) drained ∙ append_assoc text (replies_text lines) shown ∙ ap (λ (xs : List Reply). text ++ (replies_text xs ++ shown)) (sym all),
     )
 
-pub drained_obeyed : (files : Files) (number : ℕ) (command : Command) (e e1 e2 : ScriptHostState) (text mid text2 : List ℕ) → HasDrained e text e1 mid → Obeys files number command e1 mid e2 text2
+pub drained_obeyed : {D : Type 0} (files : Files) (number : ℕ) (command : Command) (e e1 e2 : ScriptHostState D) (text mid text2 : List ℕ) → HasDrained e text e1 mid → Obeys files number command e1 mid e2 text2
     → AnswersCommand files number command e text e2 text2
 drained_obeyed files number command e e1 e2 text mid text2 drained obeys line read asks settings m s =
     let d = drained settings m s in

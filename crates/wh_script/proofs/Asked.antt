@@ -1,16 +1,15 @@
 -- Which command of the definitions a command of the code is.
 use Rattle.std.proofs.Common.{◌≡◌, ◌∙◌, ℕ, ℤ, ◌⊎◌, inl, inr, List, Bor, refl, sym, ap, subst}
 use Rattle.std.specs.Global.{Vec}
-use Rattle.wh_script_model.specs.Hex.{IsHex}
 use Rattle.wh_script_model.specs.Commands.{Command, keep, load, admit, invoke, drain, refuel, cancel, retry, scan, report, release}
 use Rattle.wh_commands.specs.declared.command.Command.{Command as Code}
 use Rattle.wh_commands.specs.declared.command.Command.TheVariants.{Module, Load, Admit, Invoke, Drain, Refuel, Cancel, Retry, Scan, Report, Release}
 use Rattle.wh_commands.specs.ParsedCommands.{Says, params_of}
 use Rattle.wh_script.specs.Answering.{IsNoInvoke}
 
--- the bytes of a module are still in digits
+-- it is this one
 abbrev pub IsAskedAs : Code → Command → Type 0
-IsAskedAs (Module name hex) asked = (bytes : List ℕ) × IsHex hex.now bytes × (asked ≡ keep name.now bytes)
+IsAskedAs (Module name bytes) asked = asked ≡ keep name.now bytes.items
 IsAskedAs (Load name path) asked = asked ≡ load name.now path.now
 IsAskedAs (Admit inst of given) asked = asked ≡ admit inst.now of.now (params_of given)
 IsAskedAs (Invoke inst export fuel args) asked = asked ≡ invoke inst.now export.now fuel args.items
@@ -24,7 +23,7 @@ IsAskedAs (Release inst) asked = asked ≡ release inst.now
 
 -- it asks for a call
 abbrev pub IsInvoke : Code → Type 0
-IsInvoke (Module name hex) = ⊥
+IsInvoke (Module name b) = ⊥
 IsInvoke (Load name path) = ⊥
 IsInvoke (Admit inst of given) = ⊥
 IsInvoke (Invoke inst export fuel args) = Unit {0}
@@ -37,17 +36,17 @@ IsInvoke Report = ⊥
 IsInvoke (Release inst) = ⊥
 
 pub asked_as : (command : Code) (asked : Command) → Says command asked → IsAskedAs command asked
-asked_as (Module name hex) (keep n bytes) h = (bytes, h.1, ap (λ x. keep x bytes) (sym h.0))
-asked_as (Module name hex) (load n p) h = elim h [ ]
-asked_as (Module name hex) (admit i o params) h = elim h [ ]
-asked_as (Module name hex) (invoke i e f words) h = elim h [ ]
-asked_as (Module name hex) drain h = elim h [ ]
-asked_as (Module name hex) (refuel i f) h = elim h [ ]
-asked_as (Module name hex) (cancel i) h = elim h [ ]
-asked_as (Module name hex) (retry i) h = elim h [ ]
-asked_as (Module name hex) scan h = elim h [ ]
-asked_as (Module name hex) report h = elim h [ ]
-asked_as (Module name hex) (release i) h = elim h [ ]
+asked_as (Module name b) (keep n bytes) h = ap (λ x. keep x bytes) (sym h.0) ∙ ap (λ x. keep name.now x) (sym h.1)
+asked_as (Module name b) (load n p) h = elim h [ ]
+asked_as (Module name b) (admit i o params) h = elim h [ ]
+asked_as (Module name b) (invoke i e f words) h = elim h [ ]
+asked_as (Module name b) drain h = elim h [ ]
+asked_as (Module name b) (refuel i f) h = elim h [ ]
+asked_as (Module name b) (cancel i) h = elim h [ ]
+asked_as (Module name b) (retry i) h = elim h [ ]
+asked_as (Module name b) scan h = elim h [ ]
+asked_as (Module name b) report h = elim h [ ]
+asked_as (Module name b) (release i) h = elim h [ ]
 asked_as (Load name path) (keep n bytes) h = elim h [ ]
 asked_as (Load name path) (load n p) h = ap (λ x. load x p) (sym h.0) ∙ ap (λ x. load name.now x) (sym h.1)
 asked_as (Load name path) (admit i o params) h = elim h [ ]
@@ -170,7 +169,7 @@ no_invoke command (retry i) none h = tt
 no_invoke command scan none h = tt
 no_invoke command report none h = tt
 no_invoke command (release i) none h = tt
-no_invoke (Module name hex) (invoke i e f words) none h = elim h [ ]
+no_invoke (Module name b) (invoke i e f words) none h = elim h [ ]
 no_invoke (Load name path) (invoke i e f words) none h = elim h [ ]
 no_invoke (Admit inst of given) (invoke i e f words) none h = elim h [ ]
 no_invoke (Invoke inst export fuel args) (invoke i e f words) none h = absurd (none tt)
@@ -183,7 +182,7 @@ no_invoke Report (invoke i e f words) none h = elim h [ ]
 no_invoke (Release inst) (invoke i e f words) none h = elim h [ ]
 
 pub isnt_invoke : (command : Code) → ((inst export : Bor (List ℕ)) (fuel : ℕ) (args : Vec ℤ) → command ≡ Invoke inst export fuel args → ⊥) → ¬ (IsInvoke command)
-isnt_invoke (Module name hex) none h = elim h [ ]
+isnt_invoke (Module name b) none h = elim h [ ]
 isnt_invoke (Load name path) none h = elim h [ ]
 isnt_invoke (Admit inst of given) none h = elim h [ ]
 isnt_invoke (Invoke inst export fuel args) none h = none inst export fuel args refl

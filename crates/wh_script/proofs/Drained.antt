@@ -10,7 +10,7 @@ use Rattle.wh_engine.specs.RepresentedScript.{ScriptHostState}
 use Rattle.wh_script.specs.Answering.{HasDrained, Complains}
 use Rattle.wh_script.proofs.Speaking.{adds_one, adds_more}
 
-pub has_drained : (e e2 e3 : ScriptHostState) (text text2 : List ℕ) → RunsEach e e2 → PrintsAll e2 text e3 text2 → HasDrained e text e3 text2
+pub has_drained : {D : Type 0} (e e2 e3 : ScriptHostState D) (text text2 : List ℕ) → RunsEach e e2 → PrintsAll e2 text e3 text2 → HasDrained e text e3 text2
 has_drained e e2 e3 text text2 runs says settings m s =
     let ran = runs settings m s.0 in
     let m1 : ScriptState = record m { instances = ran.0 } in
@@ -38,7 +38,7 @@ has_drained e e2 e3 text text2 runs says settings m s =
     let all = all_said m1 starts calls instances invoked printed.4 printed.5 in
     (starts ++ calls, m2, drains, printed.6, (printed.7, well2), all)
 
-pub complains : (e e2 : ScriptHostState) (text mid text2 : List ℕ) (reply : Reply) → HasDrained e text e2 mid → text2 ≡ mid ++ reply_text reply → Complains reply e text e2 text2
+pub complains : {D : Type 0} (e e2 : ScriptHostState D) (text mid text2 : List ℕ) (reply : Reply) → HasDrained e text e2 mid → text2 ≡ mid ++ reply_text reply → Complains reply e text e2 text2
 complains e e2 text mid text2 reply drained is settings m s =
     let d = drained settings m s in
     (d.0, d.1, d.2, adds_more d.0 (reply ∷ []) text mid text2 d.3 (adds_one reply mid text2 is), d.4)

@@ -1,6 +1,5 @@
 pub mod Devices
 pub mod Coming
-pub mod Hex
 pub mod Written
 pub mod Speaking
 pub mod Rows

@@ -5,7 +5,8 @@ use Rattle.wh_host_model.specs.Host.Worlds.{Tenant, World}
 use Rattle.wh_script_model.specs.Texts.{Row, frames_text, row_text, shared_text, slots_text}
 use Rattle.wh_script_model.specs.Settings.{Settings}
 use Rattle.wh_script_model.specs.ScriptState.{NamedInstance, ScriptState}
-use Rattle.wh_host.specs.Reporting.{ReportsHost, all_sharers, report_text, row_in, rows_text, shared_frames}
+use Rattle.wh_host.specs.Reporting.{ReportState, ReportsHost, all_sharers, report_of, row_in, rows_in, shared_frames}
+use Rattle.wh_replies.specs.ReportTexts.{report_text, row_of, rows_text}
 use Rattle.wh_script_laws.specs.Following.{AreSame, IsFollowed, is_there, is_gone, Knows}
 use Rattle.wh_engine.specs.RepresentedScript.{ScriptHostState}
 use Rattle.wh_script.specs.Answering.{AddsReport}
@@ -13,13 +14,13 @@ use Rattle.wh_script.specs.Reports.{AreRowsOf, no_rows, row_left_out, row_shown,
 
 module _ (settings : Settings) (w : World) (num : w.space.tax.num ≡ settings.num) (den : w.space.tax.den ≡ settings.den) where
   abbrev RowsAre : ℕ → List NamedInstance → List (Option Tenant) → Type 0
-  RowsAre number gs ts = (rows : List Row) × AreRowsOf settings number gs rows × (rows_text w.space number ts ≡ row_texts rows)
+  RowsAre number gs ts = (rows : List Row) × AreRowsOf settings number gs rows × (rows_text w.space.tax (rows_in w.space number ts) ≡ row_texts rows)
 
   one_row : (number : ℕ) (g : NamedInstance) (gs : List NamedInstance) (o : Option Tenant) (ts : List (Option Tenant)) → IsFollowed AreSame w g o
       → RowsAre (number + 1) gs ts → RowsAre number (g ∷ gs) (o ∷ ts)
   one_row number g gs None ts (is_gone gone) rest = (rest.0, row_left_out gone rest.1, rest.2)
   one_row number g gs (Some t) ts (is_there of_one same faultless) rest = (
-    row_in w.space number t ∷ rest.0,
+    row_of w.space.tax (row_in w.space number t) ∷ rest.0,
     row_shown of_one.is_live (record {
       number_is = refl;
       shares = ap (λ p. p.shares) (sym of_one.params);
@@ -28,7 +29,7 @@ module _ (settings : Settings) (w : World) (num : w.space.tax.num ≡ settings.n
       num = num;
       den = den;
     }) rest.1,
-    ap (λ text. row_text (row_in w.space number t) ++ text) rest.2,
+    ap (λ text. row_text (row_of w.space.tax (row_in w.space number t)) ++ text) rest.2,
   )
 
   rows_are : (number : ℕ) (gs : List NamedInstance) (ts : List (Option Tenant)) → AllZip (IsFollowed AreSame w) gs ts → RowsAre number gs ts
@@ -37,7 +38,7 @@ module _ (settings : Settings) (w : World) (num : w.space.tax.num ≡ settings.n
   rows_are number (g ∷ gs) [] all = absurd all
   rows_are number (g ∷ gs) (o ∷ ts) all = one_row number g gs o ts all.0 (rows_are (number + 1) gs ts all.1)
 
-is_report : (settings : Settings) (w : World) (m : ScriptState) (places : List ℕ) → Knows settings w m places → IsReportOf settings m (report_text w)
+is_report : (settings : Settings) (w : World) (m : ScriptState) (places : List ℕ) → Knows settings w m places → IsReportOf settings m (report_text (report_of w))
 is_report settings w m places known =
     let s = w.space in
     let rows = rows_are settings w known.tax_num known.tax_den 0 m.instances w.tenants known.instances in
@@ -55,6 +56,6 @@ is_report settings w m places known =
           ∙ ap (λ n. frames_text settings.frames used ++ slots_text n taken ++ shared_text (shared_frames s) (all_sharers s) ++ row_texts rows.0) known.slots;
     }
 
-pub shows_report : (e : ScriptHostState) (report text text2 : List ℕ) → ReportsHost e.host report → text2 ≡ text ++ report → AddsReport e text text2
+pub shows_report : {D : Type 0} (e : ScriptHostState D) (report : ReportState) (text text2 : List ℕ) → ReportsHost e.host.host report → text2 ≡ text ++ report_text report → AddsReport e text text2
 shows_report e report text text2 reports is settings m s =
-    (report, subst (IsReportOf settings m) (sym (reports s.stands.world s.stands.is.0)) (is_report settings s.stands.world m _ s.stands.knows), is)
+    (report_text report, subst (λ r. IsReportOf settings m (report_text r)) (sym (reports s.stands.world s.stands.is.0)) (is_report settings s.stands.world m _ s.stands.knows), is)

@@ -21,7 +21,7 @@ use Rattle.wh_script.proofs.Coming.{takes_more}
 use Rattle.wh_script.proofs.Written.{appends_nothing, appends_more}
 
 -- lines were taken up to this number, and what answers them was written
-abbrev pub SoFar : Settings → Files → Option (List ℕ) → Option (List ℕ) → Option (List ℕ) → Option (List ℕ) → ℕ → ScriptHostState → Type 0
+abbrev pub SoFar : {D : Type 0} → Settings → Files → Option (List ℕ) → Option (List ℕ) → Option (List ℕ) → Option (List ℕ) → ℕ → ScriptHostState D → Type 0
 SoFar settings files script coming before after number e = (lines : List (List ℕ)) × (replies : List Reply) × (m : ScriptState) × (text : List ℕ)
     × TakesLines script coming lines × (length lines + 1 ≡ number) × LinesSay settings files empty_script 1 lines replies text m × Appends before after text
     × ServesScript settings e m
@@ -92,7 +92,7 @@ line_of TooLong a b held more reads = reads
 line_of Skipped a b held more reads = reads
 line_of End a b held more reads = absurd (more refl)
 
-pub starts : (settings : Settings) (files : Files) (a w : Option (List ℕ)) (left : List ℕ) (e : ScriptHostState) → left ≡ [] → RepresentsScript settings e empty_script
+pub starts : {D : Type 0} (settings : Settings) (files : Files) (a w : Option (List ℕ)) (left : List ℕ) (e : ScriptHostState D) → left ≡ [] → RepresentsScript settings e empty_script
     → SoFar settings files a (prepend_known left a) w w 1 e
 starts settings files None w left e none stands = ([], [], empty_script, [], tt, refl, (refl, refl, refl), appends_nothing w, (stands, nothing_well))
 starts settings files (Some xs) w left e none stands =
@@ -105,7 +105,7 @@ nothing_first (Some xs) = (lines_of xs, refl)
 pub begins_nothing : (settings : Settings) (files : Files) (a left w : Option (List ℕ)) → Runs settings files a left w w (Err Memory)
 begins_nothing settings files a left w = ([], [], nothing_first a, record { replies = []; made = empty_script; answers = (refl, refl); says = (refl, refl, refl) }, appends_nothing w)
 
-module _ (settings : Settings) (files : Files) (a b before mid : Option (List ℕ)) (number : ℕ) (e : ScriptHostState) (so_far : SoFar settings files a b before mid number e) where
+module _ {D : Type 0} (settings : Settings) (files : Files) (a b before mid : Option (List ℕ)) (number : ℕ) (e : ScriptHostState D) (so_far : SoFar settings files a b before mid number e) where
   partial : IsPartial settings files so_far.0 so_far.3
   partial = record {
     replies = so_far.1;
@@ -185,7 +185,7 @@ module _ (settings : Settings) (files : Files) (a b before mid : Option (List �
       neither (inl h) = absurd (cc h)
       neither (inr h) = absurd (cc h)
 
-  module _ (e2 : ScriptHostState) (text : List ℕ) (after left : Option (List ℕ)) where
+  module _ (e2 : ScriptHostState D) (text : List ℕ) (after left : Option (List ℕ)) where
     whole : HasDrained e [] e2 text → IsWhole settings files so_far.0 (so_far.3 ++ text)
     whole drained =
         let d = drained settings so_far.2 so_far.8 in

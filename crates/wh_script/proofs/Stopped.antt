@@ -1,5 +1,5 @@
 -- Why a line stops a script.
-use Rattle.std.proofs.Common.{◌≡◌, ◌∙◌, ℕ, List, Result, Ok, Err, IfErr, refl, sym, subst}
+use Rattle.std.proofs.Common.{◌≡◌, ℕ, List, Result, Ok, Err, IfErr, subst}
 use Rattle.wh_script_model.specs.Commands as asked_of
 use Rattle.wh_script_model.specs.Commands.{AsksCommand}
 use Rattle.wh_commands.specs.declared.command.Command.{Command}
@@ -16,13 +16,13 @@ use Rattle.wh_script.specs.declared.lines.Line.TheVariants.{Kept}
 use Rattle.wh_script.proofs.Asked.{asked_as}
 
 -- a line that is complained of
-pub complained_open : (e : ScriptHostState) (kind : Line) (held : List ℕ) (r : Result Unit ScriptFault) → IfErr r (StopsOnlyOpen e)
+pub complained_open : {D : Type 0} (e : ScriptHostState D) (kind : Line) (held : List ℕ) (r : Result Unit ScriptFault) → IfErr r (StopsOnlyOpen e)
     → IfErr r (λ fault. (line : List ℕ) → IsKind kind held line → StopsOpenOr (AsksScan line) e fault)
 complained_open e kind held (Ok x) is = tt
 complained_open e kind held (Err fault) is = λ line kept. open_or (AsksScan line) e fault is
 
 -- a line that asks for a command
-pub asked_open : (e : ScriptHostState) (command : Command) (held : List ℕ) (asked : asked_of.Command) (r : Result Unit ScriptFault) → AsksCommand held asked → Says command asked
+pub asked_open : {D : Type 0} (e : ScriptHostState D) (command : Command) (held : List ℕ) (asked : asked_of.Command) (r : Result Unit ScriptFault) → AsksCommand held asked → Says command asked
     → (kind : Line) → kind ≡ Kept → IfErr r (StopsOpenOr (command ≡ Scan) e) → IfErr r (λ fault. (line : List ℕ) → IsKind kind held line → StopsOpenOr (AsksScan line) e fault)
 asked_open e command held asked (Ok x) asks says kind is stops = tt
 asked_open e command held asked (Err fault) asks says kind is stops = λ line was.

@@ -13,20 +13,20 @@ use Rattle.wh_script.specs.Reports.{IsReportOf}
 use Rattle.wh_script.specs.Speaking.{IsLineText}
 
 -- the engine represents what the script has made, and that is well made
-abbrev pub ServesScript : Settings → ScriptHostState → ScriptState → Type 0
+abbrev pub ServesScript : {D : Type 0} → Settings → ScriptHostState D → ScriptState → Type 0
 ServesScript settings e m = RepresentsScript settings e m × IsWellMade m
 
 -- ---- drains
 
 -- whatever script it serves: all calls have run, it was said of all how they are, and their lines stand behind the text
-abbrev pub HasDrained : ScriptHostState → List ℕ → ScriptHostState → List ℕ → Type 0
+abbrev pub HasDrained : {D : Type 0} → ScriptHostState D → List ℕ → ScriptHostState D → List ℕ → Type 0
 HasDrained e text e2 text2 =
     (settings : Settings) (m : ScriptState) → ServesScript settings e m
     → (lines : List Reply) × (m2 : ScriptState) × Drains m lines m2 × AddsLines lines text text2 × ServesScript settings e2 m2
     × AllArePrinted m2
 
 -- and the reply behind them
-abbrev pub Complains : Reply → ScriptHostState → List ℕ → ScriptHostState → List ℕ → Type 0
+abbrev pub Complains : {D : Type 0} → Reply → ScriptHostState D → List ℕ → ScriptHostState D → List ℕ → Type 0
 Complains reply e text e2 text2 =
     (settings : Settings) (m : ScriptState) → ServesScript settings e m
     → (lines : List Reply) × (m2 : ScriptState) × Drains m lines m2 × AddsLines (lines ++ reply ∷ []) text text2
@@ -55,14 +55,14 @@ pub data AddsReplies (settings : Settings) (number : ℕ) (command : Command) (m
       → AddsReplies settings number command m replies text text2
 
 -- the command of the line of this number, behind a drain
-abbrev pub Obeys : Files → ℕ → Command → ScriptHostState → List ℕ → ScriptHostState → List ℕ → Type 0
+abbrev pub Obeys : {D : Type 0} → Files → ℕ → Command → ScriptHostState D → List ℕ → ScriptHostState D → List ℕ → Type 0
 Obeys files number command e text e2 text2 =
     (settings : Settings) (m : ScriptState) → RepresentsScript settings e m
     → (replies : List Reply) × (m2 : ScriptState) × GetsReplies settings files m number command replies m2
     × AddsReplies settings number command m2 replies text text2 × RepresentsScript settings e2 m2
 
 -- the report stands behind the text, whatever script the engine represents
-abbrev pub AddsReport : ScriptHostState → List ℕ → List ℕ → Type 0
+abbrev pub AddsReport : {D : Type 0} → ScriptHostState D → List ℕ → List ℕ → Type 0
 AddsReport e text text2 =
     (settings : Settings) (m : ScriptState) → RepresentsScript settings e m
     → (shown : List ℕ) × IsReportOf settings m shown × (text2 ≡ text ++ shown)
@@ -70,13 +70,13 @@ AddsReport e text text2 =
 -- ---- lines
 
 -- the line of this number
-abbrev pub Answers : Files → ℕ → List ℕ → ScriptHostState → List ℕ → ScriptHostState → List ℕ → Type 0
+abbrev pub Answers : {D : Type 0} → Files → ℕ → List ℕ → ScriptHostState D → List ℕ → ScriptHostState D → List ℕ → Type 0
 Answers files number line e text e2 text2 =
     (settings : Settings) (m : ScriptState) → ServesScript settings e m
     → (replies : List Reply) × (m2 : ScriptState) × (more : List ℕ) × AnswersLine true settings files m number line replies m2
     × IsLineText settings number line m2 replies more × (text2 ≡ text ++ more) × ServesScript settings e2 m2
 
 -- a line of this number that asks for the command
-abbrev pub AnswersCommand : Files → ℕ → Command → ScriptHostState → List ℕ → ScriptHostState → List ℕ → Type 0
+abbrev pub AnswersCommand : {D : Type 0} → Files → ℕ → Command → ScriptHostState D → List ℕ → ScriptHostState D → List ℕ → Type 0
 AnswersCommand files number command e text e2 text2 =
     (line : List ℕ) → IsRead line → AsksCommand line command → Answers files number line e text e2 text2

@@ -5,7 +5,6 @@ ghost use Rattle.wh_script_model.specs.Answers.{Files};
 ghost use Rattle.wh_script_model.specs.Commands as asked_of;
 ghost use Rattle.wh_commands.specs.ParsedCommands.{Says};
 ghost use Rattle.wh_engine.specs.Draining.{DeviceMayFail, DeviceServesWell, DeviceStaysTrue, StopsOnlyOpen, StopsOpenOr, StopsRun};
-ghost use Rattle.wh_engine.specs.RepresentedScript.{script_host_on};
 ghost use Rattle.wh_script.specs.Answering.{Answers, AnswersCommand};
 ghost use Rattle.wh_script.specs.Coming.{IsKind};
 ghost use Rattle.wh_script.specs.Speaking.{AsksScan};
@@ -43,16 +42,17 @@ impl<
         number: u64,
     ) -> Result<(), ScriptFault>
         ensures config { self.new.config ≡ self.old.config }
-        ensures device { DeviceStaysTrue D.keeps D.honest self.old.host.device
-            self.new.host.device }
-        ensures faults { DeviceMayFail D.faults self.old.host.device self.new.host.device }
-        ensures answers { OnOk result (DeviceServesWell D.honest D.faults self.old.host.device
-            self.new.host.device → (line : List ℕ) → IsKind kind held.now line → Answers
-            (S.files source.now) number line (script_host_on self.old.host.host self.old.script_host) []
-            (script_host_on self.new.host.host self.new.script_host) (string_bytes self.new.text)) }
+        ensures device { DeviceStaysTrue D.keeps D.honest self.old.script_host.host.device
+            self.new.script_host.host.device }
+        ensures faults { DeviceMayFail D.faults self.old.script_host.host.device
+            self.new.script_host.host.device }
+        ensures answers { OnOk result (DeviceServesWell D.honest D.faults
+            self.old.script_host.host.device self.new.script_host.host.device → (line : List ℕ)
+            → IsKind kind held.now line → Answers (S.files source.now) number line
+            self.old.script_host [] self.new.script_host (string_bytes self.new.text)) }
         ensures err { IfErr result StopsRun }
         ensures open { IfErr result (λ fault. (line : List ℕ) → IsKind kind held.now line
-            → StopsOpenOr (AsksScan line) (script_host_on self.old.host.host self.old.script_host) fault) }
+            → StopsOpenOr (AsksScan line) self.old.script_host fault) }
     {
         self.text.clear();
         match kind {
@@ -77,17 +77,18 @@ impl<
         number: u64,
     ) -> Result<(), ScriptFault>
         ensures config { self.new.config ≡ self.old.config }
-        ensures device { DeviceStaysTrue D.keeps D.honest self.old.host.device
-            self.new.host.device }
-        ensures faults { DeviceMayFail D.faults self.old.host.device self.new.host.device }
-        ensures answers { OnOk result (DeviceServesWell D.honest D.faults self.old.host.device
-            self.new.host.device → (asked : asked_of.Command) → Says command.entry asked
-            → AnswersCommand (S.files source.now) number asked
-            (script_host_on self.old.host.host self.old.script_host) (string_bytes self.old.text)
-            (script_host_on self.new.host.host self.new.script_host) (string_bytes self.new.text)) }
+        ensures device { DeviceStaysTrue D.keeps D.honest self.old.script_host.host.device
+            self.new.script_host.host.device }
+        ensures faults { DeviceMayFail D.faults self.old.script_host.host.device
+            self.new.script_host.host.device }
+        ensures answers { OnOk result (DeviceServesWell D.honest D.faults
+            self.old.script_host.host.device self.new.script_host.host.device
+            → (asked : asked_of.Command) → Says command.entry asked → AnswersCommand
+            (S.files source.now) number asked self.old.script_host (string_bytes self.old.text)
+            self.new.script_host (string_bytes self.new.text)) }
         ensures err { IfErr result StopsRun }
         ensures open { IfErr result (StopsOpenOr (command.entry ≡ Command.Scan)
-            (script_host_on self.old.host.host self.old.script_host)) }
+            self.old.script_host) }
     {
         match command {
             Command::Invoke {
@@ -117,24 +118,24 @@ impl<
         number: u64,
     ) -> Result<(), ScriptFault>
         ensures config { self.new.config ≡ self.old.config }
-        ensures device { DeviceStaysTrue D.keeps D.honest self.old.host.device
-            self.new.host.device }
-        ensures faults { DeviceMayFail D.faults self.old.host.device self.new.host.device }
-        ensures answers { OnOk result (DeviceServesWell D.honest D.faults self.old.host.device
-            self.new.host.device → (files : Files) → AnswersCommand files number
-            (asked_of.invoke inst.now export.now fuel args.now)
-            (script_host_on self.old.host.host self.old.script_host) (string_bytes self.old.text)
-            (script_host_on self.new.host.host self.new.script_host) (string_bytes self.new.text)) }
+        ensures device { DeviceStaysTrue D.keeps D.honest self.old.script_host.host.device
+            self.new.script_host.host.device }
+        ensures faults { DeviceMayFail D.faults self.old.script_host.host.device
+            self.new.script_host.host.device }
+        ensures answers { OnOk result (DeviceServesWell D.honest D.faults
+            self.old.script_host.host.device self.new.script_host.host.device → (files : Files)
+            → AnswersCommand files number (asked_of.invoke inst.now export.now fuel args.now)
+            self.old.script_host (string_bytes self.old.text) self.new.script_host
+            (string_bytes self.new.text)) }
         ensures err { IfErr result StopsRun }
-        ensures open { IfErr result
-            (StopsOnlyOpen (script_host_on self.old.host.host self.old.script_host)) }
+        ensures open { IfErr result (StopsOnlyOpen self.old.script_host) }
     {
-        let Some(instance) = self.instance_named(inst) else {
+        let Some(instance) = self.script_host.instance_number(inst) else {
             return self.complain_drained(rt, LineError::NoName, number);
         };
         let asked = self
             .script_host
-            .invoke(&mut self.host, self.alloc, instance, export, fuel, args);
+            .invoke(self.alloc, instance, export, fuel, args);
         if asked.is_err() {
             return self.complain_drained(rt, LineError::Memory, number);
         }

@@ -1,14 +1,12 @@
 // What a command gets, once all calls have run.
 
 ghost use Rattle.std.specs.Prelude.{◌≡◌, ◌++◌, ℕ, List, None, OnOk, IfErr, string_bytes};
-ghost use Rattle.wh_script_model.specs.Hex.{IsHex};
 ghost use Rattle.wh_script_model.specs.Answers.{BringsBytes, Files, NamesModule};
 ghost use Rattle.wh_script_model.specs.Commands as asked_of;
 ghost use Rattle.wh_script_model.specs.Texts.{release_ok, reply_text};
 ghost use Rattle.wh_commands.specs.ParsedCommands.{Says, params_of};
 ghost use Rattle.wh_engine.specs.Draining.{StaysSo, StopsScan};
 ghost use Rattle.wh_names.specs.NamePlaces.{place_of_name};
-ghost use Rattle.wh_engine.specs.RepresentedScript.{script_host_on};
 ghost use Rattle.wh_script.specs.Answering.{AddsReport, IsNoInvoke, Obeys};
 
 use crate::files::{FileError, Source};
@@ -20,7 +18,7 @@ use wh_cell::CellAgreements;
 use wh_commands::{AdmitParams, Command, LineError};
 use wh_engine::ScriptFault;
 use wh_kernels::{ConstantHash, FnvHash};
-use wh_replies::{Reply, write_released};
+use wh_replies::{Reply, write_released, write_report};
 use wh_settings::HashKind;
 use wh_swap::SwapDev;
 
@@ -45,17 +43,16 @@ impl<
         number: u64,
     ) -> Result<(), ScriptFault>
         ensures obeys { OnOk result ((asked : asked_of.Command) → Says command.entry asked
-            → IsNoInvoke asked → Obeys (S.files source.now) number asked
-            (script_host_on self.old.host.host self.old.script_host) (string_bytes self.old.text)
-            (script_host_on self.new.host.host self.new.script_host) (string_bytes self.new.text)) }
+            → IsNoInvoke asked → Obeys (S.files source.now) number asked self.old.script_host
+            (string_bytes self.old.text) self.new.script_host (string_bytes self.new.text)) }
         ensures config { self.new.config ≡ self.old.config }
-        ensures device { self.new.host.device ≡ self.old.host.device }
+        ensures device { self.new.script_host.host.device ≡ self.old.script_host.host.device }
         ensures err { IfErr result StopsScan }
         ensures threads { IfErr result (λ e. e ≡ ScriptFault.Threads
             → command.entry ≡ Command.Scan) }
     {
         match command {
-            Command::Module { name, hex } => self.module(name, hex, number),
+            Command::Module { name, bytes } => self.module(name, &bytes, number),
             Command::Load { name, path } => self.load(source, name, path, number),
             Command::Admit {
                 inst,
@@ -73,22 +70,18 @@ impl<
     }
 
     /// `module NAME HEX`.
-    fn module(&mut self, name: &str, hex: &str, number: u64) -> Result<(), ScriptFault>
-        ensures obeys { OnOk result ((files : Files) (bytes : List ℕ) → IsHex hex.now bytes → Obeys
-            files number (asked_of.keep name.now bytes)
-            (script_host_on self.old.host.host self.old.script_host) (string_bytes self.old.text)
-            (script_host_on self.new.host.host self.new.script_host) (string_bytes self.new.text)) }
+    fn module(&mut self, name: &str, bytes: &[u8], number: u64) -> Result<(), ScriptFault>
+        ensures obeys { OnOk result ((files : Files) → Obeys files number
+            (asked_of.keep name.now bytes.now) self.old.script_host (string_bytes self.old.text)
+            self.new.script_host (string_bytes self.new.text)) }
         ensures config { self.new.config ≡ self.old.config }
-        ensures device { self.new.host.device ≡ self.old.host.device }
+        ensures device { self.new.script_host.host.device ≡ self.old.script_host.host.device }
         ensures err { IfErr result (λ e. e ≡ ScriptFault.Memory) }
     {
         if self.script_host.module_number(name).is_some() {
             return self.complain(LineError::NameTaken, number);
         }
-        let Ok(bytes) = hex::decode(self.alloc, hex) else {
-            return self.complain(LineError::Memory, number);
-        };
-        self.keep(name, &bytes, number)
+        self.keep(name, bytes, number)
     }
 
     /// `load NAME PATH`.
@@ -100,11 +93,10 @@ impl<
         number: u64,
     ) -> Result<(), ScriptFault>
         ensures obeys { OnOk result (Obeys (S.files source.now) number
-            (asked_of.load name.now path.now) (script_host_on self.old.host.host self.old.script_host)
-            (string_bytes self.old.text) (script_host_on self.new.host.host self.new.script_host)
-            (string_bytes self.new.text)) }
+            (asked_of.load name.now path.now) self.old.script_host (string_bytes self.old.text)
+            self.new.script_host (string_bytes self.new.text)) }
         ensures config { self.new.config ≡ self.old.config }
-        ensures device { self.new.host.device ≡ self.old.host.device }
+        ensures device { self.new.script_host.host.device ≡ self.old.script_host.host.device }
         ensures err { IfErr result (λ e. e ≡ ScriptFault.Memory) }
     {
         if self.script_host.module_number(name).is_some() {
@@ -122,16 +114,13 @@ impl<
         requires free { place_of_name self.old.script_host.module_names name.now ≡ None }
         ensures obeys { OnOk result ((files : Files) (asked : asked_of.Command) → NamesModule asked
             name.now → BringsBytes files asked bytes.now → Obeys files number asked
-            (script_host_on self.old.host.host self.old.script_host) (string_bytes self.old.text)
-            (script_host_on self.new.host.host self.new.script_host) (string_bytes self.new.text)) }
+            self.old.script_host (string_bytes self.old.text) self.new.script_host
+            (string_bytes self.new.text)) }
         ensures config { self.new.config ≡ self.old.config }
-        ensures device { self.new.host.device ≡ self.old.host.device }
+        ensures device { self.new.script_host.host.device ≡ self.old.script_host.host.device }
         ensures err { IfErr result (λ e. e ≡ ScriptFault.Memory) }
     {
-        match self
-            .script_host
-            .keep(&mut self.host, self.alloc, name, bytes)
-        {
+        match self.script_host.keep(self.alloc, name, bytes) {
             Ok(reply) => self.reply(reply),
             Err(_) => self.complain(LineError::Memory, number),
         }
@@ -146,23 +135,19 @@ impl<
         number: u64,
     ) -> Result<(), ScriptFault>
         ensures obeys { OnOk result ((files : Files) → Obeys files number
-            (asked_of.admit inst.now name.now (params_of given))
-            (script_host_on self.old.host.host self.old.script_host) (string_bytes self.old.text)
-            (script_host_on self.new.host.host self.new.script_host) (string_bytes self.new.text)) }
+            (asked_of.admit inst.now name.now (params_of given)) self.old.script_host
+            (string_bytes self.old.text) self.new.script_host (string_bytes self.new.text)) }
         ensures config { self.new.config ≡ self.old.config }
-        ensures device { self.new.host.device ≡ self.old.host.device }
+        ensures device { self.new.script_host.host.device ≡ self.old.script_host.host.device }
         ensures err { IfErr result (λ e. e ≡ ScriptFault.Memory) }
     {
-        let Some(of) = self.module_named(name) else {
+        let Some(of) = self.script_host.module_number(name) else {
             return self.complain(LineError::NoName, number);
         };
         if self.script_host.instance_number(inst).is_some() {
             return self.complain(LineError::NameTaken, number);
         }
-        match self
-            .script_host
-            .admit(&mut self.host, self.alloc, inst, of, given)
-        {
+        match self.script_host.admit(self.alloc, inst, of, given) {
             Ok(reply) => self.reply(reply),
             Err(_) => self.complain(LineError::Memory, number),
         }
@@ -171,61 +156,58 @@ impl<
     /// `refuel INST N`.
     fn refuel(&mut self, inst: &str, fuel: u64, number: u64) -> Result<(), ScriptFault>
         ensures obeys { OnOk result ((files : Files) → Obeys files number
-            (asked_of.refuel inst.now fuel) (script_host_on self.old.host.host self.old.script_host)
-            (string_bytes self.old.text) (script_host_on self.new.host.host self.new.script_host)
-            (string_bytes self.new.text)) }
+            (asked_of.refuel inst.now fuel) self.old.script_host (string_bytes self.old.text)
+            self.new.script_host (string_bytes self.new.text)) }
         ensures config { self.new.config ≡ self.old.config }
-        ensures device { self.new.host.device ≡ self.old.host.device }
+        ensures device { self.new.script_host.host.device ≡ self.old.script_host.host.device }
         ensures err { IfErr result (λ e. e ≡ ScriptFault.Memory) }
     {
-        let Some(instance) = self.instance_named(inst) else {
+        let Some(instance) = self.script_host.instance_number(inst) else {
             return self.complain(LineError::NoName, number);
         };
-        let reply = self
-            .script_host
-            .refuel(&mut self.host, instance, inst, fuel);
+        let reply = self.script_host.refuel(instance, inst, fuel);
         self.reply(reply)
     }
 
     /// `cancel INST`.
     fn cancel(&mut self, inst: &str, number: u64) -> Result<(), ScriptFault>
         ensures obeys { OnOk result ((files : Files) → Obeys files number (asked_of.cancel inst.now)
-            (script_host_on self.old.host.host self.old.script_host) (string_bytes self.old.text)
-            (script_host_on self.new.host.host self.new.script_host) (string_bytes self.new.text)) }
+            self.old.script_host (string_bytes self.old.text) self.new.script_host
+            (string_bytes self.new.text)) }
         ensures config { self.new.config ≡ self.old.config }
-        ensures device { self.new.host.device ≡ self.old.host.device }
+        ensures device { self.new.script_host.host.device ≡ self.old.script_host.host.device }
         ensures err { IfErr result (λ e. e ≡ ScriptFault.Memory) }
     {
-        let Some(instance) = self.instance_named(inst) else {
+        let Some(instance) = self.script_host.instance_number(inst) else {
             return self.complain(LineError::NoName, number);
         };
-        let reply = self.script_host.cancel(&mut self.host, instance, inst);
+        let reply = self.script_host.cancel(instance, inst);
         self.reply(reply)
     }
 
     /// `retry INST`.
     fn retry(&mut self, inst: &str, number: u64) -> Result<(), ScriptFault>
         ensures obeys { OnOk result ((files : Files) → Obeys files number (asked_of.retry inst.now)
-            (script_host_on self.old.host.host self.old.script_host) (string_bytes self.old.text)
-            (script_host_on self.new.host.host self.new.script_host) (string_bytes self.new.text)) }
+            self.old.script_host (string_bytes self.old.text) self.new.script_host
+            (string_bytes self.new.text)) }
         ensures config { self.new.config ≡ self.old.config }
-        ensures device { self.new.host.device ≡ self.old.host.device }
+        ensures device { self.new.script_host.host.device ≡ self.old.script_host.host.device }
         ensures err { IfErr result (λ e. e ≡ ScriptFault.Memory) }
     {
-        let Some(instance) = self.instance_named(inst) else {
+        let Some(instance) = self.script_host.instance_number(inst) else {
             return self.complain(LineError::NoName, number);
         };
-        let reply = self.script_host.retry(&mut self.host, instance, inst);
+        let reply = self.script_host.retry(instance, inst);
         self.reply(reply)
     }
 
     /// `scan`.
     fn scan<X: Threads + Wait>(&mut self, rt: &X) -> Result<(), ScriptFault>
         ensures obeys { OnOk result ((files : Files) (number : ℕ) → Obeys files number asked_of.scan
-            (script_host_on self.old.host.host self.old.script_host) (string_bytes self.old.text)
-            (script_host_on self.new.host.host self.new.script_host) (string_bytes self.new.text)) }
+            self.old.script_host (string_bytes self.old.text) self.new.script_host
+            (string_bytes self.new.text)) }
         ensures config { self.new.config ≡ self.old.config }
-        ensures device { self.new.host.device ≡ self.old.host.device }
+        ensures device { self.new.script_host.host.device ≡ self.old.script_host.host.device }
         ensures err { IfErr result StopsScan }
     {
         self.offer_pages(rt)?;
@@ -234,39 +216,33 @@ impl<
 
     // Offers all pages for sharing, each under its hash.
     fn offer_pages<X: Threads + Wait>(&mut self, rt: &X) -> Result<(), ScriptFault>
-        ensures stands { StaysSo (script_host_on self.old.host.host self.old.script_host)
-            (script_host_on self.new.host.host self.new.script_host) }
+        ensures stands { StaysSo self.old.script_host self.new.script_host }
         ensures config { self.new.config ≡ self.old.config }
-        ensures device { self.new.host.device ≡ self.old.host.device }
+        ensures device { self.new.script_host.host.device ≡ self.old.script_host.host.device }
         ensures text { self.new.text ≡ self.old.text }
         ensures err { IfErr result StopsScan }
     {
         match self.config.hash {
-            HashKind::Fnv64 => self
-                .script_host
-                .scan(rt, self.alloc, &mut self.host, FnvHash),
-            HashKind::Constant => self
-                .script_host
-                .scan(rt, self.alloc, &mut self.host, ConstantHash),
+            HashKind::Fnv64 => self.script_host.scan(rt, self.alloc, FnvHash),
+            HashKind::Constant => self.script_host.scan(rt, self.alloc, ConstantHash),
         }
     }
 
     /// `report`.
     fn report(&mut self) -> Result<(), ScriptFault>
         ensures obeys { OnOk result ((files : Files) (number : ℕ) → Obeys files number
-            asked_of.report (script_host_on self.old.host.host self.old.script_host)
-            (string_bytes self.old.text) (script_host_on self.new.host.host self.new.script_host)
+            asked_of.report self.old.script_host (string_bytes self.old.text) self.new.script_host
             (string_bytes self.new.text)) }
-        ensures shows { OnOk result (AddsReport (script_host_on self.old.host.host self.old.script_host)
-            (string_bytes self.old.text) (string_bytes self.new.text)) }
+        ensures shows { OnOk result (AddsReport self.old.script_host (string_bytes self.old.text)
+            (string_bytes self.new.text)) }
         ensures config { self.new.config ≡ self.old.config }
-        ensures device { self.new.host.device ≡ self.old.host.device }
+        ensures device { self.new.script_host.host.device ≡ self.old.script_host.host.device }
         ensures err { IfErr result (λ e. e ≡ ScriptFault.Memory) }
     {
-        let Ok(report) = self.host.host().report(self.alloc) else {
+        let Ok(report) = self.script_host.host().host().report(self.alloc) else {
             return Err(ScriptFault::Memory);
         };
-        let Ok(()) = self.text.push_str(&report) else {
+        let Ok(()) = write_report(&mut self.text, &report) else {
             return Err(ScriptFault::Memory);
         };
         Ok(())
@@ -275,20 +251,16 @@ impl<
     /// `release INST`.
     fn release(&mut self, inst: &str, number: u64) -> Result<(), ScriptFault>
         ensures obeys { OnOk result ((files : Files) → Obeys files number
-            (asked_of.release inst.now) (script_host_on self.old.host.host self.old.script_host)
-            (string_bytes self.old.text) (script_host_on self.new.host.host self.new.script_host)
-            (string_bytes self.new.text)) }
+            (asked_of.release inst.now) self.old.script_host (string_bytes self.old.text)
+            self.new.script_host (string_bytes self.new.text)) }
         ensures config { self.new.config ≡ self.old.config }
-        ensures device { self.new.host.device ≡ self.old.host.device }
+        ensures device { self.new.script_host.host.device ≡ self.old.script_host.host.device }
         ensures err { IfErr result (λ e. e ≡ ScriptFault.Memory) }
     {
-        let Some(instance) = self.instance_named(inst) else {
+        let Some(instance) = self.script_host.instance_number(inst) else {
             return self.complain(LineError::NoName, number);
         };
-        match self
-            .script_host
-            .release(&mut self.host, self.alloc, instance)
-        {
+        match self.script_host.release(self.alloc, instance) {
             Ok(output) => self.print_released(inst, &output),
             Err(error) => self.reply(Reply::ReleaseRefused {
                 inst,
@@ -301,10 +273,9 @@ impl<
     fn print_released(&mut self, inst: &str, output: &[u8]) -> Result<(), ScriptFault>
         ensures printed { OnOk result (string_bytes self.new.text
             ≡ string_bytes self.old.text ++ reply_text (release_ok inst.now output.now)) }
-        ensures script_host { script_host_on self.new.host.host self.new.script_host ≡ script_host_on self.old.host.host
-            self.old.script_host }
+        ensures script_host { self.new.script_host ≡ self.old.script_host }
         ensures config { self.new.config ≡ self.old.config }
-        ensures device { self.new.host.device ≡ self.old.host.device }
+        ensures device { self.new.script_host.host.device ≡ self.old.script_host.host.device }
         ensures err { IfErr result (λ e. e ≡ ScriptFault.Memory) }
     {
         write_released(self.alloc, &mut self.text, inst, output).map_err(|_| ScriptFault::Memory)

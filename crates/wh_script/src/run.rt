@@ -3,7 +3,7 @@
 ghost use Rattle.std.specs.Prelude.{◌≡◌, ◌<◌, IfSome};
 ghost use Rattle.wh_settings.specs.View.{settings_of};
 ghost use Rattle.wh_engine.specs.Draining.{DeviceMayFail, DeviceServesWell, DeviceStaysTrue, HasAdded, HasServed, StaysTrue};
-ghost use Rattle.wh_engine.specs.RepresentedScript.{RepresentsScript, script_host_on};
+ghost use Rattle.wh_engine.specs.RepresentedScript.{RepresentsScript};
 ghost use Rattle.wh_script_model.specs.ScriptState.{empty_script};
 ghost use Rattle.wh_script_model.specs.Settings as lines;
 ghost use Rattle.wh_script.specs.Runs.{Runs};
@@ -141,15 +141,16 @@ impl<
         reader: &mut R,
         writer: &mut W,
     ) -> Result<(), ScriptFault>
-        ensures runs { (settings : lines.Settings) → RepresentsScript settings
-            (script_host_on self.old.host.host self.old.script_host) empty_script → DeviceServesWell D.honest
-            D.faults self.old.host.device self.new.host.device → Runs settings (S.files source.now)
+        ensures runs { (settings : lines.Settings) → RepresentsScript settings self.old.script_host
+            empty_script → DeviceServesWell D.honest D.faults self.old.script_host.host.device
+            self.new.script_host.host.device → Runs settings (S.files source.now)
             (R.remaining reader.old) (R.remaining reader.new) (W.contents writer.old)
             (W.contents writer.new) result }
-        ensures faults { DeviceMayFail D.faults self.old.host.device self.new.host.device }
+        ensures faults { DeviceMayFail D.faults self.old.script_host.host.device
+            self.new.script_host.host.device }
         ensures config { self.new.config ≡ self.old.config }
-        ensures device { DeviceStaysTrue D.keeps D.honest self.old.host.device
-            self.new.host.device }
+        ensures device { DeviceStaysTrue D.keeps D.honest self.old.script_host.host.device
+            self.new.script_host.host.device }
     {
         let mut lines = Lines::new(self.alloc)?;
         for number in 1..u64::MAX {

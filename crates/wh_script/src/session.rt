@@ -9,7 +9,7 @@ ghost use Rattle.wh_replies.specs.View.{reply_of};
 ghost use Rattle.wh_settings.specs.View.{settings_of};
 ghost use Rattle.wh_engine.specs.Draining.{DeviceMayFail, DeviceServesWell, DeviceStaysTrue, RunsEach, RunsTurns, StopsOnlyOpen, StopsRun};
 ghost use Rattle.wh_engine.specs.Obeying.{IsModuleNamed, IsNamed};
-ghost use Rattle.wh_engine.specs.RepresentedScript.{RepresentsScript, script_host_on};
+ghost use Rattle.wh_engine.specs.RepresentedScript.{RepresentsScript};
 ghost use Rattle.wh_script.specs.Answering.{HasDrained, Complains};
 ghost use Rattle.wh_script.specs.Starting.{IsEmptyDevice};
 
@@ -40,11 +40,10 @@ pub struct SessionConfig {
     pub workers: Workers,
 }
 
-/// What a script has made so far, the host on which it runs, and the text of the replies to the present line.
+/// What a script has made so far, with the host on which it runs, and the text of the replies to the present line.
 pub struct Session<D: SwapDev, T: Ledger, C: Ledger, O: Ledger, E: Ledger, B: CellAgreements> {
     pub alloc: Global,
-    pub script_host: ScriptHost,
-    pub host: OwnedHost<D, T, C, O, E, B>,
+    pub script_host: ScriptHost<D, T, C, O, E, B>,
     pub text: String,
     pub config: SessionConfig,
 }
@@ -56,7 +55,6 @@ impl<D: SwapDev + Drop, T: Ledger, C: Ledger, O: Ledger, E: Ledger, B: CellAgree
         let Session {
             alloc: _,
             script_host: _,
-            host: _,
             text: _,
             config: _,
         } = self;
@@ -93,8 +91,9 @@ impl<D: SwapDev + Drop, T: Ledger, C: Ledger, O: Ledger, E: Ledger, B: CellAgree
         requires evictions { (cell_parts.evictions.name ≡ E.name)
             × (cell_parts.evictions.parts ≡ E.parts) × (1 < E.parts) }
         ensures stands { IfOk result (λ session. RepresentsScript (settings_of settings.now)
-            (script_host_on session.host.host session.script_host) empty_script) }
-        ensures device { IfOk result (λ session. session.host.device ≡ Some cell_parts.device) }
+            session.script_host empty_script) }
+        ensures device { IfOk result (λ session. session.script_host.host.device ≡ Some
+            cell_parts.device) }
         ensures config { IfOk result (λ session. (session.config.quantum ≡ settings.now.quantum)
             × (session.config.hash ≡ settings.now.hash) × (session.config.workers ≡ workers)) }
         ensures err { IfErr result (λ e. e ≡ ScriptFault.Memory) }
@@ -110,8 +109,7 @@ impl<D: SwapDev + Drop, T: Ledger, C: Ledger, O: Ledger, E: Ledger, B: CellAgree
         };
         Ok(Session {
             alloc,
-            script_host: ScriptHost::new(alloc),
-            host,
+            script_host: ScriptHost::new(alloc, host),
             text,
             config: SessionConfig {
                 quantum: settings.quantum as u32,
@@ -123,16 +121,15 @@ impl<D: SwapDev + Drop, T: Ledger, C: Ledger, O: Ledger, E: Ledger, B: CellAgree
 
     /// Returns the device, when the script is done.
     pub fn into_device(self) -> D
-        ensures { self.host.device ≡ Some result }
+        ensures { self.script_host.host.device ≡ Some result }
     {
         let Session {
             alloc: _,
-            script_host: _,
-            host,
+            script_host,
             text: _,
             config: _,
         } = self;
-        host.into_device()
+        script_host.into_host().into_device()
     }
 }
 
@@ -144,34 +141,6 @@ impl<D: SwapDev, T: Ledger, C: Ledger, O: Ledger, E: Ledger, B: CellAgreements> 
     E,
     B,
 > {
-    /// Returns the number of the module `name`, if any.
-    pub fn module_named(&self, name: &str) -> Option<usize>
-        ensures there { IfSome result (λ k. k < self.now.script_host.modules) }
-        ensures named { (settings : lines.Settings) (m : ScriptState) → RepresentsScript settings
-            (script_host_on self.now.host.host self.now.script_host) m → MatchOption result
-            (NoModule m name.now) (λ k. IsModuleNamed m k name.now) }
-    {
-        let number = self.script_host.module_number(name)?;
-        if number < self.script_host.modules() {
-            return Some(number);
-        }
-        None
-    }
-
-    /// Returns the number of the instance `name`, if any, released or not.
-    pub fn instance_named(&self, name: &str) -> Option<usize>
-        ensures there { IfSome result (λ k. k < self.now.script_host.admitted) }
-        ensures named { (settings : lines.Settings) (m : ScriptState) → RepresentsScript settings
-            (script_host_on self.now.host.host self.now.script_host) m → MatchOption result
-            (LacksInstance m name.now) (λ k. IsNamed m k name.now) }
-    {
-        let number = self.script_host.instance_number(name)?;
-        if number < self.script_host.instances() {
-            return Some(number);
-        }
-        None
-    }
-
     // How calls are run: in turns of the session's quantum, by its workers, with this hash.
     fn run_config<H>(&self, hasher: H) -> RunConfig<H>
         ensures quantum { result.quantum ≡ self.now.config.quantum }
@@ -193,10 +162,9 @@ impl<D: SwapDev, T: Ledger, C: Ledger, O: Ledger, E: Ledger, B: CellAgreements> 
     pub fn reply(&mut self, reply: Reply<'_>) -> Result<(), ScriptFault>
         ensures printed { OnOk result (string_bytes self.new.text
             ≡ string_bytes self.old.text ++ reply_text (reply_of reply.entry)) }
-        ensures script_host { script_host_on self.new.host.host self.new.script_host ≡ script_host_on self.old.host.host
-            self.old.script_host }
+        ensures script_host { self.new.script_host ≡ self.old.script_host }
         ensures config { self.new.config ≡ self.old.config }
-        ensures device { self.new.host.device ≡ self.old.host.device }
+        ensures device { self.new.script_host.host.device ≡ self.old.script_host.host.device }
         ensures err { IfErr result (λ e. e ≡ ScriptFault.Memory) }
     {
         write_reply(&mut self.text, reply).map_err(|_| ScriptFault::Memory)
@@ -209,10 +177,9 @@ impl<D: SwapDev, T: Ledger, C: Ledger, O: Ledger, E: Ledger, B: CellAgreements> 
     pub fn complain(&mut self, cause: LineError, number: u64) -> Result<(), ScriptFault>
         ensures printed { OnOk result (string_bytes self.new.text
             ≡ string_bytes self.old.text ++ reply_text (error (cause_number cause) number)) }
-        ensures script_host { script_host_on self.new.host.host self.new.script_host ≡ script_host_on self.old.host.host
-            self.old.script_host }
+        ensures script_host { self.new.script_host ≡ self.old.script_host }
         ensures config { self.new.config ≡ self.old.config }
-        ensures device { self.new.host.device ≡ self.old.host.device }
+        ensures device { self.new.script_host.host.device ≡ self.old.script_host.host.device }
         ensures err { IfErr result (λ e. e ≡ ScriptFault.Memory) }
     {
         self.reply(Reply::Error {
@@ -241,21 +208,21 @@ impl<
         rt: X,
     ) -> Result<(), ScriptFault>
         ensures config { self.new.config ≡ self.old.config }
-        ensures device { DeviceStaysTrue D.keeps D.honest self.old.host.device
-            self.new.host.device }
-        ensures faults { DeviceMayFail D.faults self.old.host.device self.new.host.device }
-        ensures drains { OnOk result (DeviceServesWell D.honest D.faults self.old.host.device
-            self.new.host.device → HasDrained (script_host_on self.old.host.host self.old.script_host)
-            (string_bytes self.old.text) (script_host_on self.new.host.host self.new.script_host)
+        ensures device { DeviceStaysTrue D.keeps D.honest self.old.script_host.host.device
+            self.new.script_host.host.device }
+        ensures faults { DeviceMayFail D.faults self.old.script_host.host.device
+            self.new.script_host.host.device }
+        ensures drains { OnOk result (DeviceServesWell D.honest D.faults
+            self.old.script_host.host.device self.new.script_host.host.device → HasDrained
+            self.old.script_host (string_bytes self.old.text) self.new.script_host
             (string_bytes self.new.text)) }
-        ensures turns { OnOk result (RunsTurns self.old.config.quantum self.old.host.books.turns
-            self.new.host.books.turns) }
+        ensures turns { OnOk result (RunsTurns self.old.config.quantum
+            self.old.script_host.host.books.turns self.new.script_host.host.books.turns) }
         ensures err { IfErr result StopsRun }
-        ensures open { IfErr result
-            (StopsOnlyOpen (script_host_on self.old.host.host self.old.script_host)) }
+        ensures open { IfErr result (StopsOnlyOpen self.old.script_host) }
     {
         self.run(rt)?;
-        let Ok(()) = self.script_host.print(self.host.host(), &mut self.text) else {
+        let Ok(()) = self.script_host.print(&mut self.text) else {
             return Err(ScriptFault::Memory);
         };
         Ok(())
@@ -264,29 +231,27 @@ impl<
     // Runs all calls until none can go on, in the manner of the settings.
     fn run<X: Threads + Wait + Copy + Send + 'static>(&mut self, rt: X) -> Result<(), ScriptFault>
         ensures config { self.new.config ≡ self.old.config }
-        ensures device { DeviceStaysTrue D.keeps D.honest self.old.host.device
-            self.new.host.device }
-        ensures faults { DeviceMayFail D.faults self.old.host.device self.new.host.device }
-        ensures runs { OnOk result (DeviceServesWell D.honest D.faults self.old.host.device
-            self.new.host.device → RunsEach (script_host_on self.old.host.host self.old.script_host)
-            (script_host_on self.new.host.host self.new.script_host)) }
-        ensures turns { OnOk result (RunsTurns self.old.config.quantum self.old.host.books.turns
-            self.new.host.books.turns) }
+        ensures device { DeviceStaysTrue D.keeps D.honest self.old.script_host.host.device
+            self.new.script_host.host.device }
+        ensures faults { DeviceMayFail D.faults self.old.script_host.host.device
+            self.new.script_host.host.device }
+        ensures runs { OnOk result (DeviceServesWell D.honest D.faults
+            self.old.script_host.host.device self.new.script_host.host.device → RunsEach
+            self.old.script_host self.new.script_host) }
+        ensures turns { OnOk result (RunsTurns self.old.config.quantum
+            self.old.script_host.host.books.turns self.new.script_host.host.books.turns) }
         ensures text { self.new.text ≡ self.old.text }
         ensures err { IfErr result StopsRun }
-        ensures open { IfErr result
-            (StopsOnlyOpen (script_host_on self.old.host.host self.old.script_host)) }
+        ensures open { IfErr result (StopsOnlyOpen self.old.script_host) }
     {
         match self.config.hash {
             HashKind::Fnv64 => {
                 let run_config = self.run_config(FnvHash);
-                self.script_host
-                    .run(rt, self.alloc, &mut self.host, run_config)
+                self.script_host.run(rt, self.alloc, run_config)
             }
             HashKind::Constant => {
                 let run_config = self.run_config(ConstantHash);
-                self.script_host
-                    .run(rt, self.alloc, &mut self.host, run_config)
+                self.script_host.run(rt, self.alloc, run_config)
             }
         }
     }
@@ -302,16 +267,16 @@ impl<
         number: u64,
     ) -> Result<(), ScriptFault>
         ensures config { self.new.config ≡ self.old.config }
-        ensures device { DeviceStaysTrue D.keeps D.honest self.old.host.device
-            self.new.host.device }
-        ensures faults { DeviceMayFail D.faults self.old.host.device self.new.host.device }
-        ensures complains { OnOk result (DeviceServesWell D.honest D.faults self.old.host.device
-            self.new.host.device → Complains (error (cause_number cause) number)
-            (script_host_on self.old.host.host self.old.script_host) (string_bytes self.old.text)
-            (script_host_on self.new.host.host self.new.script_host) (string_bytes self.new.text)) }
+        ensures device { DeviceStaysTrue D.keeps D.honest self.old.script_host.host.device
+            self.new.script_host.host.device }
+        ensures faults { DeviceMayFail D.faults self.old.script_host.host.device
+            self.new.script_host.host.device }
+        ensures complains { OnOk result (DeviceServesWell D.honest D.faults
+            self.old.script_host.host.device self.new.script_host.host.device → Complains
+            (error (cause_number cause) number) self.old.script_host (string_bytes self.old.text)
+            self.new.script_host (string_bytes self.new.text)) }
         ensures err { IfErr result StopsRun }
-        ensures open { IfErr result
-            (StopsOnlyOpen (script_host_on self.old.host.host self.old.script_host)) }
+        ensures open { IfErr result (StopsOnlyOpen self.old.script_host) }
     {
         self.drain(rt)?;
         self.complain(cause, number)

@@ -9,6 +9,7 @@ mod channel;
 mod count;
 mod help;
 mod helper;
+mod here;
 mod joins;
 mod known;
 mod lender;
@@ -30,6 +31,7 @@ pub use channel::{
 pub use count::Count;
 pub use help::{Help, HelpOutcome, Helped, Helps, start_helper};
 pub use helper::Helper;
+pub use here::run_here;
 pub use known::AgreedValue;
 pub use lender::Lender;
 pub use received_turn::ReceivedTurn;

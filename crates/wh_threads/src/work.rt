@@ -97,9 +97,10 @@ pub fn receive_turn<R: Wait>(
     slip: &mut Slip,
 ) -> Option<ReceivedTurn>
     requires channel { IsSeatAt (receives_on receiver.now) slip.old }
-    requires hand { view slip.old ≡ traffic 1 [] (view slip.old).received }
+    requires part { 0 < (view slip.old).parts }
     ensures channel { IsSeatAt (receives_on receiver.now) slip.new }
-    ensures hand { view slip.new ≡ traffic 1 [] (view slip.new).received }
+    ensures only { view slip.new
+        ≡ record (view slip.old) { received = (view slip.new).received } }
     ensures order { IfSome result (λ order. (number : ℕ) × ((view slip.new).received
         ≡ (view slip.old).received ++ Turn number order.instance order.quantum ∷ [])) }
     ensures some { IfSome result (λ _. turns_in (view slip.new).received

@@ -1,5 +1,5 @@
 -- Turns that are dispatched, and their numbers.
-use Rattle.std.proofs.Common.{◌≡◌, ℕ, zero, suc, ◌+◌, ◌-◌, ◌<◌, List, [], ◌∷◌, ◌++◌, sym, ap, ◌∙◌, arith}
+use Rattle.std.proofs.Common.{◌≡◌, ℕ, zero, suc, ◌+◌, ◌-◌, ◌<◌, List, [], ◌∷◌, ◌++◌, refl, sym, ap, ◌∙◌, arith}
 use Rattle.std.specs.List.{filter_map, range_with_len}
 use Rattle.std.proofs.lemmas.List.Elements.{filter_map-append}
 use Rattle.wh_threads.specs.declared.channel.Message.{Message}
@@ -59,28 +59,48 @@ pub turns_handed : (u v : Traffic) (sent : List Message) (count q : ℕ) → Dis
 turns_handed u v sent count q were same =
     rw same (record { many = were.turns; numbered = were.numbered; quanta = were.quanta })
 
--- last signs alone
-pub turns_none : (u v : Traffic) → u.sent ≡ [] → DispatchesLast u v → (q : ℕ) → AreTurns 0 q v.sent
-turns_none u v fresh last q =
-    let none : turns_in v.sent ≡ 0 = last.turns ∙ ap turns_in fresh in
-    record {
-      many = none;
-      numbered = last.numbers ∙ ap (λ xs. filter_map turn_number xs) fresh ∙ ap (λ n. range_with_len 0 n) (sym none);
-      quanta = last.quanta q (rw fresh tt);
-    }
+-- last signs behind turns
+pub turns_with_last : (u v : Traffic) → DispatchesLast u v → (count q : ℕ) → AreTurns count q u.sent → AreTurns count q v.sent
+turns_with_last u v last count q were = record {
+  many = last.turns ∙ were.many;
+  numbered = last.numbers ∙ were.numbered ∙ ap (λ n. range_with_len 0 n) (sym last.turns);
+  quanta = last.quanta q were.quanta;
+}
 
--- and the same behind a join
-pub turns_none_still : (sent sent2 : List Message) → ((q : ℕ) → AreTurns 0 q sent) → sent2 ≡ sent → (q : ℕ)
-    → AreTurns 0 q sent2
-turns_none_still sent sent2 were same q = rw same (were q)
+-- the same messages have the same turns
+pub turns_still : (sent sent2 : List Message) → sent2 ≡ sent → (count q : ℕ) → AreTurns count q sent → AreTurns count q sent2
+turns_still sent sent2 same count q were = rw same were
+
+-- nothing was dispatched
+pub turns_none : (sent : List Message) → sent ≡ [] → (q : ℕ) → AreTurns 0 q sent
+turns_none sent none q = rw none (record { many = refl; numbered = refl; quanta = tt })
+
+-- one turn more
+pub turns_more : (sent sent2 : List Message) (count q : ℕ) (instance : InstId) → AreTurns count q sent
+    → sent2 ≡ sent ++ Turn count instance q ∷ [] → AreTurns (count + 1) q sent2
+turns_more sent sent2 count q instance were is = rw is (record {
+  many = omega (arith, turns_in_turn sent count instance q, were.many);
+  numbered = numbered_turn sent count instance q were.numbered were.many;
+  quanta = quanta_more q sent (Turn count instance q) (λ i. q) were.quanta;
+})
+
+-- so many turns were dispatched already, and nothing since
+pub dispatches_none : (v : Traffic) (count q : ℕ) → AreTurns count q v.sent → Dispatches v count q v
+dispatches_none v count q were = record {
+  parts = refl;
+  received = refl;
+  turns = were.many;
+  numbered = were.numbered;
+  quanta = were.quanta;
+}
 
 -- ---- slips
 
--- one part less is there, and nothing was dispatched or received yet
-pub one_part_less : (u w : Traffic) (seat : ℕ) → w ≡ record u { parts = u.parts - 1 } → u.sent ≡ []
-    → u.received ≡ [] → u.parts + seat ≡ 128 → seat < 64
-    → (w.sent ≡ []) × (w.received ≡ []) × (w.parts + (seat + 1) ≡ 128)
-one_part_less u w seat is sent received parts few = (
+-- one part less is there, and nothing was dispatched or received since
+pub one_part_less : (u w first : Traffic) (seat : ℕ) → w ≡ record u { parts = u.parts - 1 } → u.sent ≡ first.sent
+    → u.received ≡ first.received → u.parts + seat ≡ 128 → seat < 64
+    → (w.sent ≡ first.sent) × (w.received ≡ first.received) × (w.parts + (seat + 1) ≡ 128)
+one_part_less u w first seat is sent received parts few = (
   ap (λ (x : Traffic). x.sent) is ∙ sent,
   ap (λ (x : Traffic). x.received) is ∙ received,
   omega (arith, ap (λ (x : Traffic). x.parts) is, parts, few),

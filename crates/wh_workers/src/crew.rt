@@ -1,30 +1,29 @@
-// Workers that run turns: started, fed, and joined.
+// Workers that run turns, each in a thread of its own: started, fed, and joined.
 
-ghost use Rattle.std.specs.Prelude.{◌≡◌, ℕ, ◌+◌, ◌<◌, ◌≤◌, [], IfOk, IfErr, OnErr, OnOk, Some, slice_get, vec_len, vec_capacity};
+ghost use Rattle.std.specs.Prelude.{◌≡◌, ℕ, ◌+◌, ◌<◌, ◌≤◌, [], IfOk, IfErr, Some, slice_get, vec_len, vec_capacity};
 ghost use Rattle.crossbeam_channel.specs.Claims.{view, IsSeatAt};
 ghost use Rattle.crossbeam_channel.specs.Ends.{sends_on, receives_on};
 ghost use Rattle.wh_threads.specs.Counting.{LenderState, turns_of};
 ghost use Rattle.wh_workers.specs.EachAt.{EachAt};
 ghost use Rattle.wh_workers.specs.LentHelpers.{AreLent};
-ghost use Rattle.wh_threads.specs.Handover.{TakesBack, Dispatches, SameMessages, turns_in, traffic, all_parts};
-ghost use Rattle.wh_workers.specs.Serving.{AreRun, AreTurns};
+ghost use Rattle.wh_threads.specs.Handover.{TakesBack, Dispatches, turns_in, all_parts};
+ghost use Rattle.wh_workers.specs.Serving.{AreTurns};
 ghost use Rattle.wh_threads.specs.Working.{HasWorked};
 
 use crate::feed::{Supply, feed};
+use crate::first::FirstTurns;
 use crate::helpers::Helpers;
+use crate::serving::Crew;
 use std::alloc::{AllocError, Global};
 use std::sync::Wait;
 use std::sync::ledger::Ledger;
 use std::thread::{PromisedHandle, Threads};
 use wh_threads::{
-    Equipment, Help, Lender, Slip, TurnReceiver, TurnSender, Turns, WorkerResult, Works, left_over,
-    open_channel, pass_for, start_worker, stop,
+    Equipment, Help, Lender, Slip, TurnReceiver, TurnSender, Turns, WorkerResult, Works, pass_for,
+    start_worker, stop,
 };
 
-// How many messages the channel holds: room for all last signs.
-const CAPACITY: usize = 128;
-
-/// Why no turns were run.
+/// Why not all turns were run.
 #[derive(Clone, Copy, Debug, PartialEq, Eq)]
 pub enum ServeError {
     /// Memory was refused.
@@ -44,12 +43,12 @@ pub struct Served {
     pub end: Result<(), ServeError>,
 }
 
-// What all workers of a call have of.
+// What all workers of a call have of. The job itself is that of the calling thread.
 #[derive(Drop)]
 pub struct Team<J> {
-    job: J,
-    receiver: TurnReceiver,
-    sender: TurnSender,
+    pub job: J,
+    pub receiver: TurnReceiver,
+    pub sender: TurnSender,
     ghost one: { receives_on receiver ≡ sends_on sender },
 }
 
@@ -90,8 +89,8 @@ fn take_refused<T: Ledger, C: Ledger, O: Ledger, E: Ledger, R: Wait>(
     lender.take_refused_worker(seat, reply, sender, slip);
 }
 
-// Starts the workers. Where one can't be started all others have their last signs.
-#[tactic(auto, using(crate::proofs::Turns::turns_none))]
+// Starts the workers, behind turns that were dispatched. Where one can't be started all others have their last signs.
+#[tactic(auto, using(crate::proofs::Turns::turns_with_last, crate::proofs::Turns::turns_still))]
 fn start_all<
     T: Ledger + Send + 'static,
     C: Ledger + Send + 'static,
@@ -111,16 +110,16 @@ fn start_all<
     Result<(), ServeError>,
 )
     requires channel { IsSeatAt (sends_on team.now.sender) slip.old }
-    requires fresh { view slip.old ≡ traffic all_parts [] [] }
+    requires parts { (view slip.old).parts ≡ all_parts }
     requires few { workers ≤ 64 }
     requires lender { lender.old.workers_out ≡ 0 }
     requires room { (running.items ≡ []) × (workers ≤ vec_capacity running) }
     ensures channel { IsSeatAt (sends_on team.now.sender) slip.new }
     ensures parts { ((view slip.new).parts + vec_len result.0 ≡ all_parts)
         × (vec_len result.0 ≤ 64) }
-    ensures fresh { IfOk result.1 (λ _. (view slip.new).sent ≡ []) }
-    ensures none { ((q : ℕ) → AreTurns 0 q (view slip.new).sent)
-        × (turns_in (view slip.new).received ≡ 0) }
+    ensures dispatched { (turns q : ℕ) → AreTurns turns q (view slip.old).sent
+        → AreTurns turns q (view slip.new).sent }
+    ensures received { turns_in (view slip.new).received ≡ turns_in (view slip.old).received }
     ensures running { EachAt result.0.items (λ i h.
         (slice_get lender.new.tallies i ≡ Some h.promise.from)
         × (receives_on h.promise.receiver.value ≡ sends_on team.now.sender)) }
@@ -179,7 +178,8 @@ fn join_all<T: Ledger, C: Ledger, O: Ledger, E: Ledger, R: Threads>(
     }
 }
 
-// Dispatches all turns, of so many charges each, and then the last signs. It gives how many turns, and whether these were all.
+// Dispatches all further turns, of so many charges each, and then the last signs. It gives how many turns there were in all,
+// and whether these were all.
 #[tactic(auto, using(crate::proofs::Turns::handed_with_last))]
 fn dispatch_all<
     T: Ledger,
@@ -197,29 +197,30 @@ fn dispatch_all<
     lender: &mut Lender<T, C, O, E>,
     sender: &TurnSender,
     slip: &mut Slip,
-    workers: usize,
-    quantum: u32,
+    first: FirstTurns,
+    run_config: Crew,
 ) -> (u64, Result<(), ServeError>)
-    requires channel { IsSeatAt (sends_on sender.now) slip.old }
-    requires fresh { ((view slip.old).sent ≡ []) × (0 < (view slip.old).parts) }
+    requires channel { IsSeatAt (sends_on sender.now) slip.old × (0 < (view slip.old).parts) }
+    requires begun { AreTurns first.turns run_config.quantum (view slip.old).sent }
     requires lent { AreLent helpers.old.scanner helpers.old.reclaimer lender.old }
     ensures channel { IsSeatAt (sends_on sender.now) slip.new }
-    ensures out { Dispatches (view slip.old) result.0 quantum (view slip.new) }
+    ensures out { Dispatches (view slip.old) result.0 run_config.quantum (view slip.new) }
     ensures lent { AreLent helpers.new.scanner helpers.new.reclaimer lender.new }
     ensures only { lender.new ≡ record lender.old {
       scanners_out = lender.new.scanners_out;
       reclaimers_out = lender.new.reclaimers_out;
     } }
 {
-    let fed = feed(rt, supply, helpers, lender, sender, slip, quantum);
+    let Crew { workers, quantum } = run_config;
+    let fed = feed(rt, supply, helpers, lender, sender, slip, first, quantum);
     stop(&rt, sender, slip, workers);
     fed
 }
 
-// Starts the workers, dispatches all turns, and joins the workers. It gives how many turns, and whether all workers were
-// started and these were all turns.
-#[tactic(auto, using(crate::proofs::Turns::turns_handed, crate::proofs::Turns::turns_none_still))]
-fn run_crew<
+// Starts the workers, dispatches all further turns, and joins the workers. It gives how many turns there were in all, and whether
+// all workers were started and these were all turns.
+#[tactic(auto, using(crate::proofs::Turns::turns_handed, crate::proofs::Turns::turns_still))]
+pub fn run_crew<
     T: Ledger + Send + 'static,
     C: Ledger + Send + 'static,
     O: Ledger + Send + 'static,
@@ -237,18 +238,19 @@ fn run_crew<
     helpers: &mut Helpers<O, E, H, P>,
     lender: &mut Lender<T, C, O, E>,
     slip: &mut Slip,
-    workers: usize,
-    quantum: u32,
+    first: FirstTurns,
+    run_config: Crew,
 ) -> (u64, Result<(), ServeError>)
     requires channel { IsSeatAt (sends_on team.now.sender) slip.old }
-    requires fresh { view slip.old ≡ traffic all_parts [] [] }
-    requires few { workers ≤ 64 }
+    requires parts { (view slip.old).parts ≡ all_parts }
+    requires begun { AreTurns first.turns run_config.quantum (view slip.old).sent }
+    requires few { run_config.workers ≤ 64 }
     requires lender { lender.old.workers_out ≡ 0 }
     requires lent { AreLent helpers.old.scanner helpers.old.reclaimer lender.old }
     ensures channel { IsSeatAt (sends_on team.now.sender) slip.new }
-    ensures whole { (view slip.new).parts ≡ all_parts }
-    ensures dispatched { AreTurns result.0 quantum (view slip.new).sent }
-    ensures grown { turns_of lender.new.tallies
+    ensures parts { (view slip.new).parts ≡ all_parts }
+    ensures dispatched { AreTurns result.0 run_config.quantum (view slip.new).sent }
+    ensures grown { turns_of lender.new.tallies + turns_in (view slip.old).received
         ≡ turns_of lender.old.tallies + turns_in (view slip.new).received }
     ensures lent { AreLent helpers.new.scanner helpers.new.reclaimer lender.new }
     ensures only { lender.new ≡ record lender.old {
@@ -257,85 +259,17 @@ fn run_crew<
       reclaimers_out = lender.new.reclaimers_out;
     } }
 {
-    let Ok(running) = Vec::with_capacity(alloc, workers) else {
-        return (0, Err(ServeError::Memory));
+    let Ok(running) = Vec::with_capacity(alloc, run_config.workers) else {
+        return (first.turns, Err(ServeError::Memory));
     };
-    let (running, started) = start_all(rt, team, lender, slip, workers, running);
+    let (running, started) = start_all(rt, team, lender, slip, run_config.workers, running);
     let (turns, end) = match started {
         Ok(()) => {
             let sender = &team.sender;
-            dispatch_all(rt, supply, helpers, lender, sender, slip, workers, quantum)
+            dispatch_all(rt, supply, helpers, lender, sender, slip, first, run_config)
         }
-        Err(error) => (0, Err(error)),
+        Err(error) => (first.turns, Err(error)),
     };
     join_all(&rt, &team.sender, lender, slip, running);
     (turns, end)
-}
-
-/// Runs all turns that come, of so many charges each, by so many workers, each in a thread of its own. The calling thread
-/// hands them out, and starts helpers where they are wanted.
-///
-/// Turns are numbered in the order in which they are dispatched; the workers' counts grow by those that they received. Where
-/// it ends well each turn that was dispatched was received once. All parts of the workers are back, whatever it answers.
-///
-/// # Errors
-/// `Memory` where room for the channel was refused: nothing is done then. `Served::end` says `Memory` or `NoThread` where
-/// not all workers could be started: none ran a turn then; `NoThread` where a reclaimer was wanted that couldn't be started:
-/// no further turn was dispatched then; and `NoThread` where a turn was left that no worker received.
-pub fn serve_turns<
-    T: Ledger + Send + 'static,
-    C: Ledger + Send + 'static,
-    O: Ledger + Send + 'static,
-    E: Ledger + Send + 'static,
-    J: Turns<T, C> + Drop + Send + 'static,
-    S: Supply,
-    H: Help<O> + Drop + Send + 'static,
-    P: Help<E> + Drop + Send + 'static,
-    R: Threads + Wait + Copy + Send + 'static,
->(
-    rt: R,
-    alloc: Global,
-    job: J,
-    supply: &mut S,
-    helpers: &mut Helpers<O, E, H, P>,
-    lender: &mut Lender<T, C, O, E>,
-    workers: usize,
-    quantum: u32,
-) -> Result<Served, ServeError>
-    requires some { 0 < workers }
-    requires few { workers ≤ 64 }
-    requires whole { lender.old.workers_out ≡ 0 }
-    requires lent { AreLent helpers.old.scanner helpers.old.reclaimer lender.old }
-    ensures dispatched { IfOk result (λ s. AreTurns s.turns quantum (view s.slip).sent) }
-    ensures grown { IfOk result (λ s. AreRun (turns_of lender.old.tallies) (view s.slip).received
-        (turns_of lender.new.tallies)) }
-    ensures once { IfOk result (λ s. OnOk s.end
-        (SameMessages (view s.slip).sent (view s.slip).received)) }
-    ensures turns { IfOk result (λ s. OnOk s.end
-        (turns_of lender.new.tallies ≡ turns_of lender.old.tallies + s.turns)) }
-    ensures err { OnErr result (lender.new ≡ lender.old) }
-    ensures lent { AreLent helpers.new.scanner helpers.new.reclaimer lender.new }
-    ensures only { lender.new ≡ record lender.old {
-      tallies = lender.new.tallies;
-      scanners_out = lender.new.scanners_out;
-      reclaimers_out = lender.new.reclaimers_out;
-    } }
-{
-    let Ok((sender, receiver, first)) = open_channel(alloc, CAPACITY) else {
-        return Err(ServeError::Memory);
-    };
-    let mut slip = first;
-    let team = Team {
-        job,
-        receiver,
-        sender,
-    };
-    let (turns, end) = run_crew(
-        rt, alloc, &team, supply, helpers, lender, &mut slip, workers, quantum,
-    );
-    let end = match left_over(&rt, &team.receiver, &mut slip) {
-        None => end,
-        Some(_) => Err(ServeError::NoThread),
-    };
-    Ok(Served { turns, slip, end })
 }

@@ -1,14 +1,16 @@
-// Turns are dispatched, and then the signs that no further one comes. Helpers are started where they are wanted.
+// Turns are dispatched to the crew. Helpers are started where they are wanted.
 
-ghost use Rattle.std.specs.Prelude.{◌≡◌, ◌+◌, ◌<◌, ◌∷◌, ◌++◌, []};
+ghost use Rattle.std.specs.Prelude.{◌≡◌, ◌+◌, ◌<◌, ◌∷◌, ◌++◌};
 ghost use Rattle.std.specs.Bool.{MatchBool};
 ghost use Rattle.crossbeam_channel.specs.Claims.{view, IsSeatAt};
 ghost use Rattle.crossbeam_channel.specs.Ends.{sends_on};
 ghost use Rattle.wh_threads.specs.Counting.{LenderState};
 ghost use Rattle.wh_threads.specs.Handover.{Dispatches};
 ghost use Rattle.wh_workers.specs.LentHelpers.{AreLent};
+ghost use Rattle.wh_workers.specs.Serving.{AreTurns};
 
 use crate::crew::ServeError;
+use crate::first::FirstTurns;
 use crate::helpers::Helpers;
 use std::sync::Wait;
 use std::sync::ledger::Ledger;
@@ -32,7 +34,8 @@ pub enum Next {
 
 /// Which turns are dispatched.
 pub trait Supply {
-    /// What is to be done next, once it is known. Where no reclaimer is at work it says so rather than wait for one.
+    /// What is to be done next, once it is known. Where no reclaimer is at work it says so rather than wait for one. Of the first
+    /// turns, which the calling thread runs, each has come back before this is asked: there is no other thread to wait for.
     fn next<R: Wait>(&mut self, rt: &R, has_reclaimer: bool) -> Next;
 }
 
@@ -58,8 +61,22 @@ fn begin_scanner<
     }
 }
 
-// Dispatches turns of so many charges as they come, until no further one comes, no worker is left, or a reclaimer is wanted
-// that can't be started. It gives how many, and whether it was the last. A scanner that can't be started is done without.
+// What is to be done next: what the first turns have left, and then what the supply says.
+fn next_of<S: Supply, R: Wait>(
+    rt: &R,
+    left: &mut Option<Next>,
+    supply: &mut S,
+    has_reclaimer: bool,
+) -> Next {
+    match left.take() {
+        Some(next) => next,
+        None => supply.next(rt, has_reclaimer),
+    }
+}
+
+// Dispatches turns of so many charges as they come, behind the first turns, until no further one comes, no worker is left, or a
+// reclaimer is wanted that can't be started. It gives how many there were in all, and whether the last was the last. A scanner
+// that can't be started is done without.
 pub fn feed<
     T: Ledger,
     C: Ledger,
@@ -76,10 +93,11 @@ pub fn feed<
     lender: &mut Lender<T, C, O, E>,
     sender: &TurnSender,
     slip: &mut Slip,
+    first: FirstTurns,
     quantum: u32,
 ) -> (u64, Result<(), ServeError>)
-    requires channel { IsSeatAt (sends_on sender.now) slip.old }
-    requires fresh { ((view slip.old).sent ≡ []) × (0 < (view slip.old).parts) }
+    requires channel { IsSeatAt (sends_on sender.now) slip.old × (0 < (view slip.old).parts) }
+    requires begun { AreTurns first.turns quantum (view slip.old).sent }
     requires lent { AreLent helpers.old.scanner helpers.old.reclaimer lender.old }
     ensures channel { IsSeatAt (sends_on sender.now) slip.new }
     ensures out { Dispatches (view slip.old) result.0 quantum (view slip.new) }
@@ -89,13 +107,15 @@ pub fn feed<
       reclaimers_out = lender.new.reclaimers_out;
     } }
 {
-    let mut count = 0;
+    let FirstTurns { turns, next } = first;
+    let mut left = Some(next);
+    let mut count = turns;
     for _ in rt.forever() {
         if count >= u64::MAX {
             return (count, Ok(()));
         }
         begin_scanner(rt, count, helpers, lender);
-        match supply.next(&rt, helpers.reclaimer.is_started()) {
+        match next_of(&rt, &mut left, supply, helpers.reclaimer.is_started()) {
             Next::Turn(instance) => {
                 let message = Message::Turn {
                     number: count,

@@ -1,9 +1,10 @@
 //! Workers, a scanner and a reclaimer: threads that run turns, offer pages and evict them, while the calling thread hands the
-//! turns out.
+//! turns out. It runs the first turns itself.
 #![tactic(auto)]
 
 mod crew;
 mod feed;
+mod first;
 mod helpers;
 mod serving;
 mod sweeping;

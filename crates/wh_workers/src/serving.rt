@@ -1,19 +1,24 @@
 // A call of `serve`: workers, and beside them a scanner and a reclaimer, where they are wanted.
 
-ghost use Rattle.std.specs.Prelude.{◌≡◌, ◌+◌, ◌/◌, ◌<◌, ◌≤◌, IfOk, OnOk, OnErr};
-ghost use Rattle.crossbeam_channel.specs.Claims.{view};
+ghost use Rattle.std.specs.Prelude.{◌≡◌, ◌+◌, ◌/◌, ◌<◌, ◌≤◌, [], IfOk, OnOk, OnErr};
+ghost use Rattle.crossbeam_channel.specs.Claims.{view, IsSeatAt};
+ghost use Rattle.crossbeam_channel.specs.Ends.{sends_on};
 ghost use Rattle.wh_threads.specs.Counting.{HasAllParts, LenderState, turns_of};
-ghost use Rattle.wh_threads.specs.Handover.{SameMessages};
+ghost use Rattle.wh_threads.specs.Handover.{SameMessages, all_parts, traffic, turns_in};
 ghost use Rattle.wh_workers.specs.Serving.{AreRun, AreTurns};
 
-use crate::crew::{ServeError, Served, serve_turns};
-use crate::feed::Supply;
+use crate::crew::{ServeError, Served, Team, run_crew};
+use crate::feed::{Next, Supply};
+use crate::first::{FirstTurns, run_first_turns};
 use crate::helpers::{Helpers, join_reclaimer, join_scanner, means_of, start_scanner};
 use std::alloc::Global;
 use std::sync::Wait;
 use std::sync::ledger::Ledger;
 use std::thread::Threads;
-use wh_threads::{Help, Lender, Shares, Turns};
+use wh_threads::{Help, Lender, Shares, Slip, Turns, left_over, open_channel};
+
+// How many messages the channel holds: room for all last signs.
+const CAPACITY: usize = 128;
 
 // For how many turns a page is to be offered.
 const TURNS_FOR_AN_OFFER: u64 = 64;
@@ -38,8 +43,112 @@ pub struct Jobs<J, H, P> {
     pub reclaims: P,
 }
 
-// The workers' turns, with a scanner and a reclaimer beside them where they are wanted.
-fn turns_with_helpers<
+// A crew runs the further turns, with a scanner and a reclaimer beside it where they are wanted. All memory for their threads
+// but the stacks is taken here.
+fn crew_with_helpers<
+    T: Ledger + Send + 'static,
+    C: Ledger + Send + 'static,
+    O: Ledger + Send + 'static,
+    E: Ledger + Send + 'static,
+    J: Turns<T, C> + Drop + Send + 'static,
+    S: Supply,
+    H: Help<O> + Drop + Send + 'static,
+    P: Help<E> + Drop + Send + 'static,
+    R: Threads + Wait + Copy + Send + 'static,
+>(
+    rt: R,
+    alloc: Global,
+    team: &Team<J>,
+    supply: &mut S,
+    scans: &H,
+    reclaims: &P,
+    lender: &mut Lender<T, C, O, E>,
+    slip: &mut Slip,
+    first: FirstTurns,
+    run_config: Crew,
+) -> (u64, Result<(), ServeError>)
+    requires channel { IsSeatAt (sends_on team.now.sender) slip.old }
+    requires parts { (view slip.old).parts ≡ all_parts }
+    requires begun { AreTurns first.turns run_config.quantum (view slip.old).sent }
+    requires crew { run_config.workers ≤ 64 }
+    requires whole { HasAllParts lender.old }
+    ensures channel { IsSeatAt (sends_on team.now.sender) slip.new }
+    ensures parts { (view slip.new).parts ≡ all_parts }
+    ensures dispatched { AreTurns result.0 run_config.quantum (view slip.new).sent }
+    ensures grown { turns_of lender.new.tallies + turns_in (view slip.old).received
+        ≡ turns_of lender.old.tallies + turns_in (view slip.new).received }
+    ensures offers { lender.old.offers ≤ lender.new.offers }
+    ensures evictions { lender.old.evictions ≤ lender.new.evictions }
+    ensures whole { HasAllParts lender.new }
+{
+    let Ok(helpers) = Helpers::new(alloc, scans, reclaims) else {
+        return (first.turns, Err(ServeError::Memory));
+    };
+    let mut helpers = helpers;
+    let ended = run_crew(
+        rt,
+        alloc,
+        team,
+        supply,
+        &mut helpers,
+        lender,
+        slip,
+        first,
+        run_config,
+    );
+    let Helpers { scanner, reclaimer } = helpers;
+    join_scanner(&rt, scans, lender, scanner);
+    join_reclaimer(&rt, reclaims, lender, reclaimer);
+    ended
+}
+
+// The calling thread runs the first turns, and a crew the further ones, if there are any. It gives how many turns there were in
+// all, and whether all threads were started that were wanted and these were all turns.
+fn run_turns<
+    T: Ledger + Send + 'static,
+    C: Ledger + Send + 'static,
+    O: Ledger + Send + 'static,
+    E: Ledger + Send + 'static,
+    J: Turns<T, C> + Drop + Send + 'static,
+    S: Supply,
+    H: Help<O> + Drop + Send + 'static,
+    P: Help<E> + Drop + Send + 'static,
+    R: Threads + Wait + Copy + Send + 'static,
+>(
+    rt: R,
+    alloc: Global,
+    team: &Team<J>,
+    supply: &mut S,
+    scans: &H,
+    reclaims: &P,
+    lender: &mut Lender<T, C, O, E>,
+    slip: &mut Slip,
+    run_config: Crew,
+) -> (u64, Result<(), ServeError>)
+    requires channel { IsSeatAt (sends_on team.now.sender) slip.old }
+    requires fresh { view slip.old ≡ traffic all_parts [] [] }
+    requires crew { run_config.workers ≤ 64 }
+    requires whole { HasAllParts lender.old }
+    ensures channel { IsSeatAt (sends_on team.now.sender) slip.new }
+    ensures parts { (view slip.new).parts ≡ all_parts }
+    ensures dispatched { AreTurns result.0 run_config.quantum (view slip.new).sent }
+    ensures grown { turns_of lender.new.tallies
+        ≡ turns_of lender.old.tallies + turns_in (view slip.new).received }
+    ensures offers { lender.old.offers ≤ lender.new.offers }
+    ensures evictions { lender.old.evictions ≤ lender.new.evictions }
+    ensures whole { HasAllParts lender.new }
+{
+    let first = run_first_turns(&rt, team, supply, lender, slip, run_config.quantum);
+    if first.next == Next::End {
+        return (first.turns, Ok(()));
+    }
+    crew_with_helpers(
+        rt, alloc, team, supply, scans, reclaims, lender, slip, first, run_config,
+    )
+}
+
+// All turns, through a channel of their own.
+fn serve_turns<
     T: Ledger + Send + 'static,
     C: Ledger + Send + 'static,
     O: Ledger + Send + 'static,
@@ -59,7 +168,7 @@ fn turns_with_helpers<
     lender: &mut Lender<T, C, O, E>,
     run_config: Crew,
 ) -> Result<Served, ServeError>
-    requires crew { (0 < run_config.workers) × (run_config.workers ≤ 64) }
+    requires crew { run_config.workers ≤ 64 }
     requires whole { HasAllParts lender.old }
     ensures dispatched { IfOk result (λ s. AreTurns s.turns run_config.quantum (view s.slip).sent) }
     ensures grown { IfOk result (λ s. AreRun (turns_of lender.old.tallies) (view s.slip).received
@@ -73,25 +182,23 @@ fn turns_with_helpers<
     ensures evictions { lender.old.evictions ≤ lender.new.evictions }
     ensures whole { HasAllParts lender.new }
 {
-    let Ok(helpers) = Helpers::new(alloc, scans, reclaims) else {
+    let Ok((sender, receiver, slip)) = open_channel(alloc, CAPACITY) else {
         return Err(ServeError::Memory);
     };
-    let mut helpers = helpers;
-    let Crew { workers, quantum } = run_config;
-    let served = serve_turns(
-        rt,
-        alloc,
+    let mut slip = slip;
+    let team = Team {
         job,
-        supply,
-        &mut helpers,
-        lender,
-        workers,
-        quantum,
+        receiver,
+        sender,
+    };
+    let (turns, end) = run_turns(
+        rt, alloc, &team, supply, scans, reclaims, lender, &mut slip, run_config,
     );
-    let Helpers { scanner, reclaimer } = helpers;
-    join_scanner(&rt, scans, lender, scanner);
-    join_reclaimer(&rt, reclaims, lender, reclaimer);
-    served
+    let end = match left_over(&rt, &team.receiver, &mut slip) {
+        None => end,
+        Some(_) => Err(ServeError::NoThread),
+    };
+    Ok(Served { turns, slip, end })
 }
 
 // So many pages are offered in all, by a further scanner where there were fewer.
@@ -154,19 +261,20 @@ fn pay_offers<
     settle_offers(rt, alloc, scans, lender, wanted)
 }
 
-/// Runs all turns that come, by a crew, each worker in a thread of its own; the calling thread dispatches the turns. Beside
-/// it a scanner offers pages and a reclaimer evicts them, each in a thread that is started where it is first wanted: the
-/// scanner with the 32nd turn, the reclaimer where the supply says that a call waits for a frame.
+/// Runs all turns that come. The calling thread runs the first ones itself, up to 31, as the worker of seat 0. Where more come, or
+/// a call waits for a frame, a crew runs the further ones, each worker in a thread of its own, and the calling thread dispatches
+/// them. Beside the crew a scanner offers pages and a reclaimer evicts them, each in a thread that is started where it is first
+/// wanted: the scanner with the 32nd turn, the reclaimer where the supply says that a call waits for a frame.
 ///
 /// Turns are numbered in the order in which they are dispatched, and the workers' counts grow by those that they received.
 /// Where it ends well each turn that was dispatched was received once, and for each 64 turns a page was offered. What was
 /// done before it ended otherwise is told too (`Served`), and no count gets smaller.
 ///
 /// # Errors
-/// `Memory` where room was refused: no thread was started then. `Served::end` says so where not all workers could be
-/// started: no turn was run then. It is `NoThread` too where a reclaimer was wanted that couldn't be started: no further
-/// turn was dispatched then; where a turn was left that no worker received; and, or `Memory`, where a further scanner
-/// couldn't be started for pages that are owed, or came to its end before all were offered.
+/// `Memory` where room for the channel was refused: no turn was run then. `Served::end` says so where room for the crew was
+/// refused or not all workers could be started: the first turns alone were run then. It is `NoThread` too where a reclaimer was
+/// wanted that couldn't be started: no further turn was dispatched then; where a turn was left that no worker received; and, or
+/// `Memory`, where a further scanner couldn't be started for pages that are owed, or came to its end before all were offered.
 pub fn serve<
     T: Ledger + Send + 'static,
     C: Ledger + Send + 'static,
@@ -206,7 +314,7 @@ pub fn serve<
     } = jobs;
     let lender = &mut shares.all;
     let before = lender.offers();
-    let served = turns_with_helpers(
+    let served = serve_turns(
         rt, alloc, job, supply, &scans, &reclaims, lender, run_config,
     )?;
     let Served { turns, slip, end } = served;

@@ -1,6 +1,5 @@
 -- What an export does: the handle before and after, the code, and what is written for the caller.
-use Rattle.std.specs.Prelude.{◌≡◌, ◌≢◌, ◌⊎◌, ℕ, ℤ, List, length, option_map, Option, Some, None, Result, Ok, Err, IfOk, IfErr, OnOk, OnErr, IfSome, IfNone, IsSome, IsUtf8, String, string_bytes, ◌+◌}
-use Rattle.std.specs.Global.{Global}
+use Rattle.std.specs.Prelude.{◌≡◌, ◌≢◌, ◌⊎◌, ℕ, ℤ, List, length, map, option_map, Option, Some, None, Result, Ok, Err, IfOk, IfErr, OnOk, OnErr, IfSome, IfNone, IsSome, IsUtf8, ◌+◌}
 use Rattle.wh_host_model.specs.declared.plain.InstId.{InstId}
 use Rattle.wh_host_model.specs.Hash.{fnv64}
 use Rattle.wh_host_model.specs.Owners.{Params}
@@ -22,7 +21,7 @@ use Rattle.wh_host.specs.CallRequests.{AnswersCall, AnswersInvoke}
 use Rattle.wh_host.specs.Backing.{KeepsBacking}
 use Rattle.wh_host.specs.Loading.{AnswersLoad}
 use Rattle.wh_host.specs.Paging.{MovesOnly}
-use Rattle.wh_host.specs.Reporting.{ReportsHost}
+use Rattle.wh_host.specs.Reporting.{ReportState, ReportsHost}
 use Rattle.wh_host.specs.Sharing.{CanScan}
 use Rattle.wh_host.specs.Telling.{TellsChargesOf, TellsOf}
 use Rattle.wh_hand.specs.HandStates.{HandState, IsSoundByEvents}
@@ -32,9 +31,11 @@ use Rattle.wh_hand.specs.declared.running.Ran.{Ran}
 use Rattle.wolqedir.specs.declared.shapes.RawInstance.{RawInstance}
 use Rattle.wolqedir.specs.declared.shapes.Progress.{Progress}
 use Rattle.wolqedir.specs.declared.shapes.RawStatus.{RawStatus}
+use Rattle.wolqedir.specs.declared.shapes.RawReport.{RawReport}
+use Rattle.wolqedir.specs.declared.shapes.RawInstanceReport.{RawInstanceReport}
 use Rattle.wolqedir.specs.Codes.{admit_error_code, code_by, host_error_code, large_code, memory_code, module_error_code, name_code, none_code, unknown_code}
 use Rattle.wolqedir.specs.Rooms.{laid_in}
-use Rattle.wolqedir.specs.Shapes.{instance_of, progress_as, shown_status}
+use Rattle.wolqedir.specs.Shapes.{instance_of, progress_as, raw_report_of, raw_row_of, shown_status}
 
 -- ---- the handle
 
@@ -177,11 +178,21 @@ pub record ExportTellsTaken (room room2 : List ℕ) (len2 code : ℕ) (h h2 : Ha
   pub laid : room2 ≡ laid_in h.output room
   pub counted : len2 ≡ length h.output
 
-pub record ExportTellsReport (room room2 : List ℕ) (len len2 code : ℕ) (h h2 : HandState) : Type 0 where
-  pub answer : Result (String Global) HostError
+-- the numbers of the host's report
+pub record ExportTellsReport (report report2 : RawReport) (code : ℕ) (h h2 : HandState) : Type 0 where
+  pub answer : Result ReportState HostError
   pub answered : code ≡ code_by host_error_code answer
   pub same : h2 ≡ h
-  pub ok : IfOk answer (λ text. ReportsHost h.host (string_bytes text))
+  pub ok : IfOk answer (ReportsHost h.host)
   pub err : IfErr answer (λ error. error ≡ Memory)
-  pub laid : TellsCaller (λ text. laid_in (string_bytes text) room) answer room room2
-  pub counted : TellsCaller (λ text. length (string_bytes text)) answer len len2
+  pub told : TellsCaller raw_report_of answer report report2
+
+-- those of its instances, by number
+pub record ExportTellsInstances (room room2 : List RawInstanceReport) (len len2 code : ℕ) (h h2 : HandState) : Type 0 where
+  pub answer : Result ReportState HostError
+  pub answered : code ≡ code_by host_error_code answer
+  pub same : h2 ≡ h
+  pub ok : IfOk answer (ReportsHost h.host)
+  pub err : IfErr answer (λ error. error ≡ Memory)
+  pub laid : TellsCaller (λ r. laid_in (map raw_row_of r.instances) room) answer room room2
+  pub counted : TellsCaller (λ r. length r.instances) answer len len2

@@ -1,5 +1,5 @@
 -- What C reads and writes, and what it stands for.
-use Rattle.std.specs.Prelude.{ℕ, Bool, true, false, List, Option, Some, None}
+use Rattle.std.specs.Prelude.{ℕ, Bool, true, false, List, length, Option, Some, None}
 use Rattle.wh_model.specs.declared.ValType.{ValType}
 use Rattle.wh_model.specs.declared.ValType.TheVariants.{I32, I64}
 use Rattle.wh_host_model.specs.declared.plain.InstId.{InstId}
@@ -9,11 +9,14 @@ use Rattle.wh_instance.specs.declared.stages.CallStatus.TheVariants.{Returned, T
 use Rattle.wh_instance.specs.declared.stages.CallValue.{CallValue}
 use Rattle.wh_instance.specs.declared.stages.Suspension.{Suspension}
 use Rattle.wh_instance.specs.declared.stages.Suspension.TheVariants.{Fuel, Frame, Device}
+use Rattle.wh_host.specs.Reporting.{ReportRow, ReportState}
 use Rattle.wh_hand.specs.declared.running.Ran.{Ran}
 use Rattle.wolqedir.specs.declared.shapes.RawInstance.{RawInstance}
 use Rattle.wolqedir.specs.declared.shapes.RawParams.{RawParams}
 use Rattle.wolqedir.specs.declared.shapes.Progress.{Progress}
 use Rattle.wolqedir.specs.declared.shapes.RawStatus.{RawStatus}
+use Rattle.wolqedir.specs.declared.shapes.RawReport.{RawReport}
+use Rattle.wolqedir.specs.declared.shapes.RawInstanceReport.{RawInstanceReport}
 use Rattle.wolqedir.specs.Codes.{swap_code, trap_code}
 
 -- the instance that C names, and its name for C
@@ -80,3 +83,28 @@ shown_status (Trapped trap taken) charges =
     record { kind = 7; code = trap_code trap; bits = 0; value = 0; charges = charges }
 shown_status (Cancelled taken) charges = record { kind = 8; code = 0; bits = 0; value = 0; charges = charges }
 shown_status Dead charges = record { kind = 9; code = 0; bits = 0; value = 0; charges = charges }
+
+-- the numbers of a report, and those of an instance
+abbrev pub raw_report_of : ReportState → RawReport
+raw_report_of r = record {
+  frames = r.frames;
+  used_frames = r.used_frames;
+  slots = r.slots;
+  used_slots = r.used_slots;
+  shared_frames = r.shared_frames;
+  tax_num = r.tax.num;
+  tax_den = r.tax.den;
+  sharers = r.sharers;
+  instances = length r.instances;
+}
+
+abbrev pub raw_row_of : ReportRow → RawInstanceReport
+raw_row_of row = record {
+  instance = record { place = row.place; number = row.number };
+  shares = row.shares;
+  min = row.min;
+  max = row.max;
+  charged = row.charged;
+  active = row.active;
+  swapped = row.swapped;
+}

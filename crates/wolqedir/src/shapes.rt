@@ -1,15 +1,17 @@
 //! What C reads and writes, field by field.
 
-ghost use Rattle.std.specs.Prelude.{◌≡◌};
-ghost use Rattle.wolqedir.specs.Shapes.{bits_of_result, id_of, instance_of, progress_as, standing_code, standing_kind, shown_status, word_of};
+ghost use Rattle.std.specs.Prelude.{◌≡◌, IfOk, map};
+ghost use Rattle.wh_host.specs.Reporting.{view_report, view_row};
+ghost use Rattle.wolqedir.specs.Shapes.{bits_of_result, id_of, instance_of, progress_as, raw_report_of, raw_row_of, standing_code, standing_kind, shown_status, word_of};
 
 use crate::codes::{of_swap, of_trap};
-use wh_hand::{CallStatus, CallValue, InstId, Ran, Suspension};
+use std::alloc::{AllocError, Global};
+use wh_hand::{CallStatus, CallValue, InstId, InstanceReport, Ran, Report, Suspension};
 use wh_model::ValType;
 
 /// An instance, as it was admitted.
 #[repr(C)]
-#[derive(Drop)]
+#[derive(Clone, Copy)]
 pub struct RawInstance {
     /// Its place.
     pub place: usize,
@@ -60,6 +62,50 @@ pub struct RawStatus {
     pub value: u64,
     /// How many charges it has taken.
     pub charges: u64,
+}
+
+/// How the frames, slots and pages of a host are used.
+#[repr(C)]
+#[derive(Drop)]
+pub struct RawReport {
+    /// How many frames there are.
+    pub frames: u32,
+    /// How many of these are in use.
+    pub used_frames: u32,
+    /// How many slots there are.
+    pub slots: u32,
+    /// How many of these are in use.
+    pub used_slots: u32,
+    /// On how many frames several pages lie.
+    pub shared_frames: u32,
+    /// The numerator of the tax.
+    pub tax_num: u32,
+    /// The denominator of the tax.
+    pub tax_den: u32,
+    /// How many pages share a frame.
+    pub sharers: u64,
+    /// How many instances there are.
+    pub instances: usize,
+}
+
+/// What an instance has of them.
+#[repr(C)]
+#[derive(Clone, Copy)]
+pub struct RawInstanceReport {
+    /// Which it is.
+    pub instance: RawInstance,
+    /// Its shares of memory.
+    pub shares: u32,
+    /// The least number of frames that it keeps.
+    pub min: u32,
+    /// The greatest number of frames of its memory.
+    pub max: u32,
+    /// How many frames are charged to it.
+    pub charged: u32,
+    /// On how many of these a page was touched.
+    pub active: u32,
+    /// How many of its pages are swapped.
+    pub swapped: u32,
 }
 
 /// The instance that C names.
@@ -157,4 +203,53 @@ pub fn progress_of(ran: Ran) -> Progress
         charges: ran.charges,
         goes_on: u32::from(ran.goes_on),
     }
+}
+
+/// The numbers of a report for C.
+pub fn raw_report(report: &Report) -> RawReport
+    ensures { result ≡ raw_report_of (view_report report.now) }
+{
+    RawReport {
+        frames: report.frames,
+        used_frames: report.used_frames,
+        slots: report.slots,
+        used_slots: report.used_slots,
+        shared_frames: report.shared_frames,
+        tax_num: report.tax.num,
+        tax_den: report.tax.den,
+        sharers: report.sharers,
+        instances: report.instances.len(),
+    }
+}
+
+// The numbers of an instance for C.
+fn raw_row(row: InstanceReport) -> RawInstanceReport
+    ensures { result ≡ raw_row_of (view_row row) }
+{
+    RawInstanceReport {
+        instance: RawInstance {
+            place: row.place,
+            number: row.number,
+        },
+        shares: row.shares,
+        min: row.min,
+        max: row.max,
+        charged: row.charged,
+        active: row.active,
+        swapped: row.swapped,
+    }
+}
+
+/// The numbers of these instances for C.
+pub fn raw_rows(
+    alloc: Global,
+    rows: &[InstanceReport],
+) -> Result<Vec<RawInstanceReport>, AllocError>
+    ensures { IfOk result (λ raw. raw.items ≡ map raw_row_of (map view_row rows.now)) }
+{
+    let mut raw = Vec::with_capacity(alloc, rows.len())?;
+    for row in rows {
+        raw.push(raw_row(*row))?;
+    }
+    Ok(raw)
 }

@@ -1,7 +1,7 @@
 //! What a host tells.
 
 ghost use Rattle.std.specs.Prelude.{◌≡◌};
-ghost use Rattle.wolqedir.specs.ExportContracts.{ServesHandle, ServesWithRoom, ExportTellsReport, ExportTellsStatus, ExportTellsTaken};
+ghost use Rattle.wolqedir.specs.ExportContracts.{ServesHandle, ServesWithRoom, ExportTellsInstances, ExportTellsReport, ExportTellsStatus, ExportTellsTaken};
 ghost use Rattle.wolqedir.specs.Shapes.{id_of};
 ghost use Rattle.wolqedir.specs.CodeTexts.{TellsText};
 ghost use Rattle.wolqedir.specs.Transcribed.{ExportTellsTranscript};
@@ -9,7 +9,9 @@ ghost use Rattle.wolqedir.specs.Transcribed.{ExportTellsTranscript};
 use crate::codes::{DONE, MEMORY, NONE, UNKNOWN, of_host};
 use crate::handle::Handle;
 use crate::rooms::lay;
-use crate::shapes::{RawInstance, RawStatus, named, shown};
+use crate::shapes::{
+    RawInstance, RawInstanceReport, RawReport, RawStatus, named, raw_report, raw_rows, shown,
+};
 use crate::texts::sentence;
 use crate::transcripts::words_of;
 use std::alloc::Global;
@@ -65,29 +67,56 @@ pub extern "C" fn wq_taken(
     DONE
 }
 
-/// Copies as many bytes as there is room for of the report of the host, and tells how many bytes that has.
+/// Tells how the frames, slots and pages of the host are used, and how many instances it has.
 ///
 /// It answers NONE, or H7 where there is no room for the report.
 #[unsafe(no_mangle)]
-pub extern "C" fn wq_report_of(
-    alloc: Global,
-    handle: &mut Handle,
-    room: &mut [u8],
-    len: &mut usize,
-) -> u32
-    ensures { ServesHandle handle.old.slot.held (ExportTellsReport room.old room.new len.old len.new result)
-        result handle.new.slot.held ((room.new ≡ room.old) × (len.new ≡ len.old)) }
+pub extern "C" fn wq_report_of(alloc: Global, handle: &mut Handle, report: &mut RawReport) -> u32
+    ensures { ServesHandle handle.old.slot.held (ExportTellsReport report.old report.new result)
+        result handle.new.slot.held (report.new ≡ report.old) }
 {
     let Some(hand) = handle.take(alloc) else {
         return NONE;
     };
-    let report = hand.report(alloc);
+    let told = hand.report(alloc);
     handle.put(hand);
-    match report {
-        Ok(text) => {
-            lay(text.as_bytes(), room, len);
+    match told {
+        Ok(told) => {
+            *report = raw_report(&told);
             DONE
         }
+        Err(error) => of_host(error),
+    }
+}
+
+/// Copies as many rows as there is room for of what the instances of the host have of its memory, by number, and tells how many
+/// instances there are.
+///
+/// It answers NONE, H7 where there is no room for the report, or MEMORY where there is none for the rows.
+#[unsafe(no_mangle)]
+pub extern "C" fn wq_instance_reports(
+    alloc: Global,
+    handle: &mut Handle,
+    room: &mut [RawInstanceReport],
+    len: &mut usize,
+) -> u32
+    ensures { ServesWithRoom handle.old.slot.held
+        (ExportTellsInstances room.old room.new len.old len.new result) result
+        handle.new.slot.held ((room.new ≡ room.old) × (len.new ≡ len.old)) }
+{
+    let Some(hand) = handle.take(alloc) else {
+        return NONE;
+    };
+    let told = hand.report(alloc);
+    handle.put(hand);
+    match told {
+        Ok(told) => match raw_rows(alloc, &told.instances) {
+            Ok(rows) => {
+                lay(&rows, room, len);
+                DONE
+            }
+            Err(_) => MEMORY,
+        },
         Err(error) => of_host(error),
     }
 }

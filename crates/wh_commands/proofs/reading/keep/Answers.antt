@@ -1,11 +1,16 @@
-use Rattle.std.proofs.Common.{refl}
+use Rattle.std.proofs.Common.{refl, ◌∙◌}
 use Rattle.wh_script_model.specs.Commands.{keep}
 use Rattle.wh_commands.proofs.Asking.{two}
+use Rattle.wh_commands.proofs.Hex.{read_same}
 use Rattle.wh_commands.proofs.reading.keep.Goals as goal
 
 pub returns-clause-ok : goal.returns-clause-ok
 returns-clause-ok c =
     let name = c.in_ok-name.ensures.ok in
     let hex = c.in_ok-hex.ensures.ok in
-    let is = hex.1 in
-    (keep c.in_ok-name.name.now is.1.0, refl, (c.in_ok-hex.hex.now, two _ _ _ _ _ name.0 hex.0 c.in_ok-end.ensures.ok, name.1, is.0, is.1.1), (refl, is.1.1))
+    let is = hex.1 in (
+      keep c.in_ok-name.name.now is.1.0,
+      refl,
+      (c.in_ok-hex.hex.now, two _ _ _ _ _ name.0 hex.0 c.in_ok-end.ensures.ok, name.1, is.0, is.1.1),
+      (refl, read_same c.in_ok-hex.hex.now is.1.0 c.in-Ok.bytes.items is.1.1 c.in-Ok.ensures.ok),
+    )

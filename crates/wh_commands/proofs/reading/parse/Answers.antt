@@ -1,12 +1,13 @@
 use Rattle.std.proofs.Common.{sym, ◌∙◌}
-use Rattle.wh_commands.proofs.Parsing.{only_by, two_errors, by_refusal, none_by, none_refused, none_keep, is_admit, is_invoke}
+use Rattle.wh_commands.proofs.Parsing.{only_by, by_refusal, none_refused, is_keep, is_admit, is_invoke}
 use Rattle.wh_commands.proofs.reading.parse.Goals as goal
 
 pub returns-then-is_same-clause-only : goal.returns-then-is_same-clause-only
 returns-then-is_same-clause-only c =
     only_by c.args.line.now _ c.in_ok-verb.verb.now _ c.keep.result
     (sym c.words_in-words.ensures ∙ c.in_ok-verb.ensures.ok) c.if-is_same.ensures c.keep.ensures.ok
-    (none_by _ _ _ c.keep.result (none_keep _) c.keep.ensures.none) (two_errors c.keep.result c.keep.ensures.err)
+    (none_refused _ _ _ c.keep.result (is_keep _) c.keep.ensures.none)
+    (by_refusal _ c.keep.result c.keep.ensures.none)
 
 pub returns-then-is_same-3-clause-only : goal.returns-then-is_same-3-clause-only
 returns-then-is_same-3-clause-only c =

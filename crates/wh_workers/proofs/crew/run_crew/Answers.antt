@@ -1,6 +1,6 @@
 use Rattle.std.proofs.Common.{◌∙◌, slice_get}
 use Rattle.crossbeam_channel.specs.Claims.{view}
-use Rattle.wh_workers.proofs.Turns.{turns_handed, turns_none_still}
+use Rattle.wh_workers.proofs.Turns.{turns_handed, turns_still}
 use Rattle.wh_workers.proofs.crew.run_crew.Goals.{in-Ok-started, in-Err}
 use Rattle.wh_workers.proofs.crew.run_crew.Goals as goal
 
@@ -14,10 +14,13 @@ returns-clause-dispatched g c =
           )
       | in-Err w ↦
           rw w.turns-is (
-          turns_none_still _ _ c.start_all-running.ensures.none.0 (sent ∙ (λ i. (view (w.slip-is i)).sent))
-          c.args.quantum
+          turns_still _ _ (sent ∙ (λ i. (view (w.slip-is i)).sent)) _ _
+          (c.start_all-running.ensures.dispatched _ _ c.requires.begun)
           )
     ]
+
+pub dispatch_all-requires-clause-begun : goal.dispatch_all-requires-clause-begun
+dispatch_all-requires-clause-begun g c = λ lifetimes lives. c.start_all-running.ensures.dispatched _ _ c.requires.begun
 
 pub join_all-requires-clause-running : goal.join_all-requires-clause-running
 join_all-requires-clause-running g c =

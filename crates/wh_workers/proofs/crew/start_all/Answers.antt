@@ -3,7 +3,7 @@ use Rattle.crossbeam_channel.specs.Claims.{view}
 use Rattle.wh_threads.proofs.Grown.{one_more_out}
 use Rattle.wh_workers.proofs.Places.{Each-new}
 use Rattle.wh_threads.specs.Handover.{turns_in}
-use Rattle.wh_workers.proofs.Turns.{one_part_less, turns_none, turns_none_still}
+use Rattle.wh_workers.proofs.Turns.{one_part_less, turns_still, turns_with_last}
 use Rattle.wh_workers.proofs.crew.start_all.Goals as goal
 
 pub loop-seat-preserved : goal.loop-seat-preserved
@@ -12,7 +12,7 @@ loop-seat-preserved g c =
     let started = c.in-Ok-start_worker.ensures.ok in
     let lent = c.lend_worker.ensures in
     let pushed = c.push_reserved.ensures in
-    let slip = one_part_less (view c.loop-seat.slip) (view c.start_worker.new.slip) c.loop-seat.seat
+    let slip = one_part_less (view c.loop-seat.slip) (view c.start_worker.new.slip) (view c.args.slip.now) c.loop-seat.seat
     ((λ i. view (started.2 i)) ∙ c.pass_for.ensures.left) was.1 was.2 was.3
     (omega (arith, c.loop-seat-test.true, c.requires.few)) in
     let seat : length c.loop-seat.running.items ≡ c.loop-seat.seat = sym c.loop-seat.running.ok.0 ∙ was.4 in (
@@ -30,18 +30,22 @@ loop-seat-preserved g c =
       one_more_out c.args.lender.now c.loop-seat.lender c.lend_worker.new.self c.loop-seat.seat was.7 lent.out,
     )
 
-pub returns-in_default-clause-none : goal.returns-in_default-clause-none
-returns-in_default-clause-none g c = (
-  turns_none _ _ c.loop-seat.invariant.1 c.stop.ensures.last,
-  ap turns_in (c.stop.ensures.last.received ∙ c.loop-seat.invariant.2),
-)
+pub returns-in_default-clause-dispatched : goal.returns-in_default-clause-dispatched
+returns-in_default-clause-dispatched g c = λ turns q were.
+    turns_with_last _ _ c.stop.ensures.last turns q (turns_still _ _ c.loop-seat.invariant.1 turns q were)
 
-pub returns-in-Err-clause-none : goal.returns-in-Err-clause-none
-returns-in-Err-clause-none g c =
-    let cut = c.pass_for.ensures.left in
-    let last = c.start_worker.ensures.last in (
-      turns_none_still _ _ (turns_none _ _ ((λ i. (cut i).sent) ∙ c.loop-seat.invariant.1) last)
-          c.take_refused.ensures.back.sent,
-      c.take_refused.ensures.turns
-          ∙ ap turns_in (last.received ∙ (λ i. (cut i).received) ∙ c.loop-seat.invariant.2),
+pub returns-in_default-clause-received : goal.returns-in_default-clause-received
+returns-in_default-clause-received g c = ap turns_in (c.stop.ensures.last.received ∙ c.loop-seat.invariant.2)
+
+pub returns-in-Err-clause-dispatched : goal.returns-in-Err-clause-dispatched
+returns-in-Err-clause-dispatched g c = λ turns q were.
+    turns_still _ _ c.take_refused.ensures.back.sent turns q
+    (turns_with_last _ _ c.start_worker.ensures.last turns q
+    (turns_still _ _ ((λ i. (c.pass_for.ensures.left i).sent) ∙ c.loop-seat.invariant.1) turns q were))
+
+pub returns-in-Err-clause-received : goal.returns-in-Err-clause-received
+returns-in-Err-clause-received g c =
+    c.take_refused.ensures.turns
+    ∙ ap turns_in (
+    c.start_worker.ensures.last.received ∙ (λ i. (c.pass_for.ensures.left i).received) ∙ c.loop-seat.invariant.2
     )

@@ -1,4 +1,4 @@
-use Rattle.std.proofs.Common.{◌≡◌, ◌+◌, ◌≤◌, [], Some, slice_get, vec_len, vec_capacity}
+use Rattle.std.proofs.Common.{◌≡◌, ◌+◌, ◌≤◌, Some, slice_get, vec_len, vec_capacity}
 use Rattle.crossbeam_channel.specs.Claims.{view, IsSeatAt}
 use Rattle.crossbeam_channel.specs.Ends.{sends_on, receives_on}
 use Rattle.wh_workers.specs.EachAt.{EachAt}
@@ -7,8 +7,8 @@ use Rattle.wh_workers.proofs.crew.start_all.Given as goal
 abbrev pub invariant-loop-seat : goal.invariant-loop-seat
 invariant-loop-seat g l =
     IsSeatAt (sends_on l.team.sender) l.slip
-    × ((view l.slip).sent ≡ [])
-    × ((view l.slip).received ≡ [])
+    × ((view l.slip).sent ≡ (view l.fn.slip).sent)
+    × ((view l.slip).received ≡ (view l.fn.slip).received)
     × ((view l.slip).parts + l.seat ≡ 128)
     × (vec_len l.running ≡ l.seat)
     × (l.workers ≤ vec_capacity l.running)

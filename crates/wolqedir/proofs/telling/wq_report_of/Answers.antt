@@ -1,5 +1,5 @@
-use Rattle.std.proofs.Common.{inr, Some, Ok, Err, ap, sym, refl, ◌∙◌, length}
-use Rattle.wolqedir.specs.Rooms.{laid_in}
+use Rattle.std.proofs.Common.{inr, Some, Ok, Err, ap, sym, refl, ◌∙◌}
+use Rattle.wh_host.specs.Reporting.{view_report}
 use Rattle.wolqedir.proofs.Helding.{same_held}
 use Rattle.wolqedir.proofs.telling.wq_report_of.Goals as goal
 
@@ -13,20 +13,19 @@ returns-in-Ok c = (
     c.put.ensures.held,
     c.put.ensures.sound,
     record {
-      answer = Ok c.in-Ok.text;
+      answer = Ok (view_report c.in-Ok.told);
       answered = refl;
       same = sym c.deref.ensures;
       ok = c.in-Ok.ensures.ok;
       err = c.in-Ok.ensures.err;
-      laid = c.lay.ensures.room ∙ ap (λ items. laid_in items c.args.room.now) c.as_bytes.ensures.value;
-      counted = c.lay.ensures.len ∙ ap length c.as_bytes.ensures.value;
+      told = c.raw_report.ensures;
     },
   ),
 )
 
 pub returns-in-Err : goal.returns-in-Err
 returns-in-Err c = (
-  λ _. (same_held (c.in-Some.ensures.some ∙ ap Some (sym c.deref.ensures)) c.put.ensures.held (sym c.deref.ensures), (refl, refl)),
+  λ _. (same_held (c.in-Some.ensures.some ∙ ap Some (sym c.deref.ensures)) c.put.ensures.held (sym c.deref.ensures), refl),
   inr (
     c.deref.result.now,
     _,
@@ -39,8 +38,7 @@ returns-in-Err c = (
       same = sym c.deref.ensures;
       ok = c.in-Err.ensures.ok;
       err = c.in-Err.ensures.err;
-      laid = refl;
-      counted = refl;
+      told = refl;
     },
   ),
 )

@@ -1,42 +1,35 @@
-use Rattle.std.proofs.Common.{arith, ◌∙◌, ◌++◌, ◌∷◌, [], List, None, false, ap, sym, subst, refl}
+use Rattle.std.proofs.Common.{◌≡◌, ◌<◌, ◌∙◌, ◌++◌, ◌∷◌, [], List, length, None, false, ap, sym, subst, refl}
 use Rattle.wh_host.specs.Paging.{IsGoing, Tells}
+use Rattle.wh_names.specs.NamePlaces.{place_of_name}
 use Rattle.wh_engine.specs.declared.parts.NamedInstance.{NamedInstance}
 use Rattle.wh_engine.proofs.Admitted.{admitted, guest_again, refused, refused_again}
-use Rattle.wh_engine.proofs.Refitted.{err_then, refitted}
+use Rattle.wh_engine.proofs.Again.{whole_in}
 use Rattle.wh_engine.proofs.Whole.{keeps_whole}
-use Rattle.wh_engine.specs.RepresentedScript.{script_host_on, whole_on}
+use Rattle.wh_engine.specs.RepresentedScript.{ScriptHostState}
 use Rattle.wh_engine.proofs.script_host.ScriptHost.admit.Goals as goal
 
-pub returns-in_err-reserve-clause-err : goal.returns-in_err-reserve-clause-err
-returns-in_err-reserve-clause-err g c =
-    err_then c.from_residual-in_err-reserve.result (λ settings m s.
-    refitted settings (script_host_on c.args.host.now.host c.args.self.now) m c.args.self.now.module_names c.args.self.now.instance_names c.reserve.new.self c.args.self.now.invoked s refl refl c.reserve.ensures.items refl)
-
-pub returns-in_err-add-clause-err : goal.returns-in_err-add-clause-err
-returns-in_err-add-clause-err g c =
-    err_then c.from_residual-in_err-add.result (λ settings m s.
-    refitted settings (script_host_on c.args.host.now.host c.args.self.now) m c.args.self.now.module_names c.add.new.self c.reserve.new.self c.args.self.now.invoked s refl c.in_err-add.ensures.err
-    c.reserve.ensures.items refl)
-
 pub returns-in-Ok-clause-ok : goal.returns-in-Ok-clause-ok
-returns-in-Ok-clause-ok g c settings m s =
-    let e = script_host_on c.args.host.now.host c.args.self.now in
+returns-in-Ok-clause-ok g c =
+    rw (← c.self.view_is) (λ settings m s.
+    let free = subst (λ (z : ScriptHostState g.row.D.Denot). place_of_name z.instance_names c.args.inst.now ≡ None) (sym c.self.view_is) c.requires.free in
+    let there = subst (λ (z : ScriptHostState g.row.D.Denot). c.args.of < length z.module_names) (sym c.self.view_is) c.requires.there in
     let x : NamedInstance = record { name = c.in_ok-name.name; id = c.in-Ok.id; has_start = c.can_go_on-has_start.result; is_released = false; last_printed = None } in
-    guest_again settings e m c.args.inst.now c.args.of _ _ c.admit.new.self.host c.add.new.self x c.push_reserved.new.self c.in-Some.admitted s
-    (c.push_reserved.ensures.items ∙ ap (λ (xs : List NamedInstance). xs ++ x ∷ []) c.reserve.ensures.items) (omega (arith, c.in-Some.ensures))
-    (admitted settings (whole_on e s.instances s.invoked) m c.args.inst.now c.args.of _ c.in-Ok.id c.admit.new.self.host c.add.new.self
+    guest_again settings _ m c.args.inst.now c.args.of _ _ c.admit.new.self c.add.new.self x c.push_reserved.new.self.items s
+    (c.push_reserved.ensures.items ∙ ap (λ (xs : List NamedInstance). xs ++ x ∷ []) c.reserve.ensures.items)
+    (admitted settings (whole_in s) m c.args.inst.now c.args.of _ c.in-Ok.id c.admit.new.self.host c.add.new.self
     x
-    (s.instances ++ x ∷ []) s.stands c.requires.free c.requires.there c.in-Ok.ensures.admits (keeps_whole c.args.host.now.host.space c.admit.new.self.host.space c.in-Ok.ensures.backing)
+    (s.instances ++ x ∷ []) s.stands free there c.in-Ok.ensures.admits (keeps_whole c.self.inside.host.host.space c.admit.new.self.host.space c.in-Ok.ensures.backing)
     c.in_ok-add.ensures.ok
     (subst (λ h. Tells h c.can_go_on-has_start.result (λ w. IsGoing w c.in-Ok.id)) c.host.ensures c.can_go_on-has_start.ensures) (record { id = refl; name = c.in_ok-name.ensures.ok; live = refl; unsaid = refl })
-    refl)
+    refl))
 
 pub returns-in-Err-clause-ok : goal.returns-in-Err-clause-ok
-returns-in-Err-clause-ok g c settings m s =
-    let e = script_host_on c.args.host.now.host c.args.self.now in
-    let got = refused_again settings e m c.args.inst.now c.args.of _ _ c.admit.new.self.host c.remove_last.new.self c.reserve.new.self s c.reserve.ensures.items
-    (refused settings (whole_on e s.instances s.invoked) m c.args.inst.now c.args.of _ c.in-Err.error c.admit.new.self.host c.add.new.self c.remove_last.new.self s.instances s.stands c.requires.there
-    c.in-Err.ensures.admits (keeps_whole c.args.host.now.host.space c.admit.new.self.host.space c.in-Err.ensures.backing)
+returns-in-Err-clause-ok g c =
+    rw (← c.self.view_is) (λ settings m s.
+    let there = subst (λ (z : ScriptHostState g.row.D.Denot). c.args.of < length z.module_names) (sym c.self.view_is) c.requires.there in
+    let got = refused_again settings _ m c.args.inst.now c.args.of _ _ c.admit.new.self c.remove_last.new.self c.reserve.new.self.items s c.reserve.ensures.items
+    (refused settings (whole_in s) m c.args.inst.now c.args.of _ c.in-Err.error c.admit.new.self.host c.add.new.self c.remove_last.new.self s.instances s.stands there
+    c.in-Err.ensures.admits (keeps_whole c.self.inside.host.host.space c.admit.new.self.host.space c.in-Err.ensures.backing)
     c.in_ok-add.ensures.ok
     c.remove_last.ensures refl) in
-    rw (sym c.number.ensures) at got
+    rw (sym c.number.ensures) at got)

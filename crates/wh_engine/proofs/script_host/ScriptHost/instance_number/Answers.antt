@@ -1,5 +1,8 @@
-use Rattle.wh_engine.proofs.LookedUp.{guest_named}
+use Rattle.wh_engine.proofs.LookedUp.{guest_named, place_within}
 use Rattle.wh_engine.proofs.script_host.ScriptHost.instance_number.Goals as goal
 
+pub returns-clause-there : goal.returns-clause-there
+returns-clause-there g c = rw (← c.self.view_is) (place_within c.self.inside.instance_names c.args.name.now _ c.place.ensures)
+
 pub returns-clause-named : goal.returns-clause-named
-returns-clause-named c settings m h s = guest_named c.args.self.now.instance_names m c.args.name.now _ s.stands.instance_names c.place.ensures
+returns-clause-named g c = rw (← c.self.view_is) (λ settings m s. guest_named c.self.inside.instance_names m c.args.name.now _ s.stands.instance_names c.place.ensures)

@@ -7,22 +7,21 @@ use Rattle.wh_engine.proofs.Printings.{on_ok_then}
 use Rattle.wh_script.specs.Coming.{IsKind}
 use Rattle.wh_script.specs.Answering.{Answers, Complains}
 use Rattle.wh_script.proofs.Answered.{is_skipped_line, is_too_long, isnt_found, skips}
-use Rattle.wh_engine.specs.RepresentedScript.{script_host_on}
 use Rattle.wh_script.proofs.Stopped.{asked_open, complained_open}
 use Rattle.wh_script.proofs.session.Session.answer.Goals as goal
 
 pub returns-in-End-clause-answers : goal.returns-in-End-clause-answers
 returns-in-End-clause-answers g c same line is =
     let files = g.S.Source.files c.args.source.now in
-    let e = script_host_on c.args.self.now.host.host c.args.self.now.script_host in
+    let e = c.args.self.now.script_host in
     subst (λ t. Answers files c.args.number line e [] e t) (sym c.clear.ensures.bytes)
     (is_skipped_line files c.args.number line e [] (skips c.args.kind c.args.held.now line c.in-End.is is))
 
 pub returns-in-TooLong-clause-answers : goal.returns-in-TooLong-clause-answers
 returns-in-TooLong-clause-answers g c =
     let files = g.S.Source.files c.args.source.now in
-    let e = script_host_on c.args.self.now.host.host c.args.self.now.script_host in
-    let e2 = script_host_on c.complain_drained.new.self.host.host c.complain_drained.new.self.script_host in
+    let e = c.args.self.now.script_host in
+    let e2 = c.complain_drained.new.self.script_host in
     let text2 = string_bytes c.complain_drained.new.self.text in
     on_ok_then c.complain_drained.result c.complain_drained.ensures.complains (λ complains same line is.
     let k = subst (λ k. IsKind k c.args.held.now line) c.in-TooLong.is is in
@@ -32,8 +31,8 @@ returns-in-TooLong-clause-answers g c =
 pub returns-in-Ok-clause-answers : goal.returns-in-Ok-clause-answers
 returns-in-Ok-clause-answers g c =
     let files = g.S.Source.files c.args.source.now in
-    let e = script_host_on c.args.self.now.host.host c.args.self.now.script_host in
-    let e2 = script_host_on c.command.new.self.host.host c.command.new.self.script_host in
+    let e = c.args.self.now.script_host in
+    let e2 = c.command.new.self.script_host in
     let text2 = string_bytes c.command.new.self.text in
     let found = c.in-Ok.ensures.found in
     on_ok_then c.command.result c.command.ensures.answers (λ answers same line is.
@@ -44,8 +43,8 @@ returns-in-Ok-clause-answers g c =
 pub returns-in-Err-clause-answers : goal.returns-in-Err-clause-answers
 returns-in-Err-clause-answers g c =
     let files = g.S.Source.files c.args.source.now in
-    let e = script_host_on c.args.self.now.host.host c.args.self.now.script_host in
-    let e2 = script_host_on c.complain_drained-in-Err.new.self.host.host c.complain_drained-in-Err.new.self.script_host in
+    let e = c.args.self.now.script_host in
+    let e2 = c.complain_drained-in-Err.new.self.script_host in
     let text2 = string_bytes c.complain_drained-in-Err.new.self.text in
     on_ok_then c.complain_drained-in-Err.result c.complain_drained-in-Err.ensures.complains (λ complains same line is.
     let k = subst (λ k. IsKind k c.args.held.now line) c.in-Kept.is is in
@@ -56,15 +55,15 @@ returns-in-Err-clause-answers g c =
 pub returns-in-TooLong-clause-open : goal.returns-in-TooLong-clause-open
 returns-in-TooLong-clause-open g c =
     let before = c.args.self.now in
-    complained_open (script_host_on before.host.host before.script_host) c.args.kind c.args.held.now c.complain_drained.result c.complain_drained.ensures.open
+    complained_open before.script_host c.args.kind c.args.held.now c.complain_drained.result c.complain_drained.ensures.open
 
 pub returns-in-Ok-clause-open : goal.returns-in-Ok-clause-open
 returns-in-Ok-clause-open g c =
     let before = c.args.self.now in
     let found = c.in-Ok.ensures.found in
-    asked_open (script_host_on before.host.host before.script_host) c.in-Ok.command c.args.held.now found.0 c.command.result found.1 found.2 c.args.kind c.in-Kept.is c.command.ensures.open
+    asked_open before.script_host c.in-Ok.command c.args.held.now found.0 c.command.result found.1 found.2 c.args.kind c.in-Kept.is c.command.ensures.open
 
 pub returns-in-Err-clause-open : goal.returns-in-Err-clause-open
 returns-in-Err-clause-open g c =
     let before = c.args.self.now in
-    complained_open (script_host_on before.host.host before.script_host) c.args.kind c.args.held.now c.complain_drained-in-Err.result c.complain_drained-in-Err.ensures.open
+    complained_open before.script_host c.args.kind c.args.held.now c.complain_drained-in-Err.result c.complain_drained-in-Err.ensures.open

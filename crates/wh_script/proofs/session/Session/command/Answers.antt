@@ -6,7 +6,6 @@ use Rattle.wh_script_model.specs.Commands as asked_of
 use Rattle.wh_engine.proofs.Printings.{on_ok_then}
 use Rattle.wh_engine.proofs.Opened.{err_open_or, err_scan_or, err_scan_runs, open_or}
 use Rattle.wh_engine.specs.Draining.{DeviceServesWell, StopsOpenOr}
-use Rattle.wh_engine.specs.RepresentedScript.{script_host_on}
 use Rattle.wh_script.specs.Answering.{AnswersCommand}
 use Rattle.wh_script.proofs.Asked.{asked_as, no_invoke, isnt_invoke}
 use Rattle.wh_script.proofs.Answered.{drained_obeyed}
@@ -16,10 +15,10 @@ pub returns-in_ok-drain-in_default-clause-answers : goal.returns-in_ok-drain-in_
 returns-in_ok-drain-in_default-clause-answers g c =
     let drained = c.drain.new.self in
     let obeyed = c.obey.new.self in
-    let before = c.args.self.now.host.device in
+    let before = c.args.self.now.script_host.host.device in
     on_ok_then c.obey.result c.obey.ensures.obeys (λ obeys same asked says.
-    drained_obeyed (g.S.Source.files c.args.source.now) c.args.number asked (script_host_on c.args.self.now.host.host c.args.self.now.script_host) (script_host_on drained.host.host drained.script_host)
-    (script_host_on obeyed.host.host obeyed.script_host) (string_bytes c.args.self.now.text) (string_bytes drained.text) (string_bytes obeyed.text)
+    drained_obeyed (g.S.Source.files c.args.source.now) c.args.number asked c.args.self.now.script_host drained.script_host
+    obeyed.script_host (string_bytes c.args.self.now.text) (string_bytes drained.text) (string_bytes obeyed.text)
     (c.in_ok-drain-in_default.ensures.drains (subst (λ o. DeviceServesWell g.D.SwapDev.honest g.D.SwapDev.faults before o) c.obey.ensures.device same))
     (obeys asked says (no_invoke c.args.command asked (isnt_invoke c.args.command c.in_default.not-Invoke) says)))
 
@@ -28,8 +27,8 @@ returns-in-Invoke-clause-answers g c =
     let files = g.S.Source.files c.args.source.now in
     let before = c.args.self.now in
     let after = c.invoke.new.self in
-    let e = script_host_on before.host.host before.script_host in
-    let e2 = script_host_on after.host.host after.script_host in
+    let e = before.script_host in
+    let e2 = after.script_host in
     let found = c.in-Invoke in
     on_ok_then c.invoke.result c.invoke.ensures.answers (λ answers same asked says.
     let is = asked_as (Invoke found.inst found.export found.fuel found.args) asked (subst (λ k. Says k asked) found.is says) in
@@ -40,7 +39,7 @@ returns-in-Invoke-clause-answers g c =
 pub returns-in_err-drain-in_default-clause-open : goal.returns-in_err-drain-in_default-clause-open
 returns-in_err-drain-in_default-clause-open g c =
     let before = c.args.self.now in
-    let e = script_host_on before.host.host before.script_host in
+    let e = before.script_host in
     let p = err_from_is_err_and c.from_residual.result c.from_residual.ensures.1 in
     subst (λ r. IfErr r (StopsOpenOr (c.args.command ≡ Scan) e)) (sym (p.1 ∙ ap Err p.2))
     (open_or (c.args.command ≡ Scan) e c.in_err-drain-in_default.field-0.0 c.in_err-drain-in_default.ensures.open)
@@ -51,9 +50,9 @@ returns-in_ok-drain-in_default-clause-err g c = err_scan_runs c.obey.result c.ob
 pub returns-in_ok-drain-in_default-clause-open : goal.returns-in_ok-drain-in_default-clause-open
 returns-in_ok-drain-in_default-clause-open g c =
     let before = c.args.self.now in
-    err_scan_or (c.args.command ≡ Scan) (script_host_on before.host.host before.script_host) c.obey.result c.obey.ensures.err c.obey.ensures.threads
+    err_scan_or (c.args.command ≡ Scan) before.script_host c.obey.result c.obey.ensures.err c.obey.ensures.threads
 
 pub returns-in-Invoke-clause-open : goal.returns-in-Invoke-clause-open
 returns-in-Invoke-clause-open g c =
     let before = c.args.self.now in
-    err_open_or (c.args.command ≡ Scan) (script_host_on before.host.host before.script_host) c.invoke.result c.invoke.ensures.open
+    err_open_or (c.args.command ≡ Scan) before.script_host c.invoke.result c.invoke.ensures.open

@@ -2,8 +2,8 @@ use Rattle.std.proofs.Common.{subst, sym, string_bytes}
 use Rattle.wh_script_model.specs.Commands as asked_of
 use Rattle.wh_engine.proofs.Printings.{on_ok_then}
 use Rattle.wh_engine.specs.Draining.{DeviceMayFail, DeviceServesWell, DeviceStaysTrue}
-use Rattle.wh_engine.specs.RepresentedScript.{script_host_on}
 use Rattle.wh_engine.proofs.Opened.{err_before}
+use Rattle.wh_engine.proofs.Runs.{stays_same}
 use Rattle.wh_script.proofs.Answered.{is_received, has_no_guest, invoke_wants, where_ok, where_err}
 use Rattle.wh_script.proofs.Devices.{true_same, fails_same}
 use Rattle.wh_script.proofs.session.Session.invoke.Goals as goal
@@ -13,7 +13,7 @@ returns-in_default-clause-answers g c =
     let before = c.args.self.now in
     let after = c.complain_drained.new.self in
     on_ok_then c.complain_drained.result c.complain_drained.ensures.complains (λ complains same files.
-    has_no_guest files c.args.number c.args.inst.now c.args.export.now c.args.fuel c.args.args.now (script_host_on before.host.host before.script_host) (script_host_on after.host.host after.script_host)
+    has_no_guest files c.args.number c.args.inst.now c.args.export.now c.args.fuel c.args.args.now before.script_host after.script_host
     (string_bytes before.text) (string_bytes after.text) c.in_default.ensures.named (complains same))
 
 pub returns-then-is_err-clause-answers : goal.returns-then-is_err-clause-answers
@@ -22,31 +22,31 @@ returns-then-is_err-clause-answers g c =
     let mid = c.invoke-asked.new in
     let after = c.complain_drained-then-is_err.new.self in
     on_ok_then c.complain_drained-then-is_err.result c.complain_drained-then-is_err.ensures.complains (λ complains same files.
-    invoke_wants files c.args.number (asked_of.invoke c.args.inst.now c.args.export.now c.args.fuel c.args.args.now) (script_host_on before.host.host before.script_host) (script_host_on mid.host.host mid.self)
-    (script_host_on after.host.host after.script_host) (string_bytes before.text) (string_bytes after.text)
-    (where_err c.invoke-asked.result c.if-is_err.ensures.value c.invoke-asked.ensures.err)
-    (complains (subst (λ o. DeviceServesWell g.D.SwapDev.honest g.D.SwapDev.faults o after.host.device) (sym c.invoke-asked.ensures.device) same)))
+    invoke_wants files c.args.number (asked_of.invoke c.args.inst.now c.args.export.now c.args.fuel c.args.args.now) before.script_host mid.self
+    after.script_host (string_bytes before.text) (string_bytes after.text)
+    (stays_same before.script_host mid.self (where_err c.invoke-asked.result c.if-is_err.ensures.value c.invoke-asked.ensures.err))
+    (complains (subst (λ o. DeviceServesWell g.D.SwapDev.honest g.D.SwapDev.faults o after.script_host.host.device) (sym c.invoke-asked.ensures.device) same)))
 
 pub returns-then-is_err-clause-open : goal.returns-then-is_err-clause-open
 returns-then-is_err-clause-open g c =
     let before = c.args.self.now in
     let mid = c.invoke-asked.new in
-    err_before (script_host_on before.host.host before.script_host) (script_host_on mid.host.host mid.self) c.complain_drained-then-is_err.result
-    (where_err c.invoke-asked.result c.if-is_err.ensures.value c.invoke-asked.ensures.err) c.complain_drained-then-is_err.ensures.open
+    err_before before.script_host mid.self c.complain_drained-then-is_err.result
+    (stays_same before.script_host mid.self (where_err c.invoke-asked.result c.if-is_err.ensures.value c.invoke-asked.ensures.err)) c.complain_drained-then-is_err.ensures.open
 
 pub returns-clause-answers : goal.returns-clause-answers
 returns-clause-answers g c same files =
     let before = c.args.self.now in
     let mid = c.invoke-asked.new in
-    is_received files c.args.number c.in-Some.instance c.args.inst.now c.args.export.now c.args.fuel c.args.args.now (script_host_on before.host.host before.script_host) (script_host_on mid.host.host mid.self)
+    is_received files c.args.number c.in-Some.instance c.args.inst.now c.args.export.now c.args.fuel c.args.args.now before.script_host mid.self
     (string_bytes before.text) c.in-Some.ensures.named (where_ok c.invoke-asked.result c.if-is_err.ensures.value c.invoke-asked.ensures.ok)
 
 pub returns-clause-device : goal.returns-clause-device
 returns-clause-device g c =
-    let device = c.args.self.now.host.device in
+    let device = c.args.self.now.script_host.host.device in
     subst (λ o. DeviceStaysTrue g.D.SwapDev.keeps g.D.SwapDev.honest device o) (sym c.invoke-asked.ensures.device) (true_same g.D.SwapDev.keeps g.D.SwapDev.honest g.D.SwapDev.faults device)
 
 pub returns-clause-faults : goal.returns-clause-faults
 returns-clause-faults g c =
-    let device = c.args.self.now.host.device in
+    let device = c.args.self.now.script_host.host.device in
     subst (λ o. DeviceMayFail g.D.SwapDev.faults device o) (sym c.invoke-asked.ensures.device) (fails_same g.D.SwapDev.keeps g.D.SwapDev.honest g.D.SwapDev.faults device)

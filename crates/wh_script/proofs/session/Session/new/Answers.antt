@@ -1,10 +1,10 @@
-use Rattle.std.proofs.Common.{ap, refl, subst, sym}
+use Rattle.std.proofs.Common.{◌∙◌, ap, refl, subst, sym}
 use Rattle.wh_reclaim.specs.Together.{AreTogether}
 use Rattle.wh_cell.specs.LeftByOwner.{LeftState}
 use Rattle.wh_cell.proofs.Begun.{new_agrees, new_led, new_uncharged}
-use Rattle.wh_script_model.specs.ScriptState.{empty_script}
 use Rattle.wh_settings.specs.View.{settings_of}
-use Rattle.wh_engine.specs.RepresentedScript.{RepresentsScript, script_host_on}
+use Rattle.wh_host.specs.Hosting.{IsNewHost}
+use Rattle.wh_scheduler.specs.InHand.{OwnedState}
 use Rattle.wh_script.proofs.session.Session.new.Goals as goal
 
 pub new-requires-2-clause-uncharged : goal.new-requires-2-clause-uncharged
@@ -21,4 +21,9 @@ pub returns-clause-stands : goal.returns-clause-stands
 returns-clause-stands g c =
     let settings = settings_of c.args.settings.now in
     let same = ap (λ (o : LeftState g.row.D.Denot). o.host) c.in-Ok-new.ensures.host in
-    subst (λ h. RepresentsScript settings (script_host_on h c.new-3.result) empty_script) (sym same) (c.new-3.ensures settings c.args.settings.now.tax c.in-Ok.host refl refl c.in-Ok.ensures.ok)
+    c.new-3.ensures.stands settings c.args.settings.now.tax refl refl
+    (subst (λ h. IsNewHost h c.args.settings.now.frames c.args.settings.now.slots c.args.settings.now.tax) (sym same) c.in-Ok.ensures.ok)
+
+pub returns-clause-device : goal.returns-clause-device
+returns-clause-device g c =
+    ap (λ (o : OwnedState g.row.D.Denot). o.device) c.new-3.ensures.host ∙ ap (λ (o : LeftState g.row.D.Denot). o.device) c.in-Ok-new.ensures.host

@@ -4,28 +4,29 @@ use Rattle.wh_engine.proofs.Printings.{on_ok_then}
 use Rattle.wh_script.specs.Answering.{Obeys}
 use Rattle.wh_commands.specs.declared.command.Command.TheVariants.{Module, Load, Admit, Refuel, Cancel, Retry, Scan, Report, Release}
 use Rattle.wh_commands.specs.ParsedCommands.{Says}
+use Rattle.wh_script_model.specs.Commands as asked_of
 use Rattle.wh_script.proofs.Asked.{asked_as, is_drain}
 use Rattle.wh_script.proofs.Obeyed.{only_drained}
-use Rattle.wh_engine.specs.RepresentedScript.{script_host_on}
 use Rattle.wh_script.proofs.session.Session.obey.Goals as goal
 
 pub returns-in-Module-clause-obeys : goal.returns-in-Module-clause-obeys
 returns-in-Module-clause-obeys g c =
     let files = g.S.Source.files c.args.source.now in
-    let e = script_host_on c.args.self.now.host.host c.args.self.now.script_host in
+    let e = c.args.self.now.script_host in
     let text = string_bytes c.args.self.now.text in
-    let e2 = script_host_on c.module.new.self.host.host c.module.new.self.script_host in
+    let e2 = c.module.new.self.script_host in
     let text2 = string_bytes c.module.new.self.text in
     on_ok_then c.module.result c.module.ensures.obeys (λ obeys asked says free.
-    let is = asked_as (Module c.in-Module.name c.in-Module.hex) asked (subst (λ k. Says k asked) c.in-Module.is says) in
-    subst (λ a. Obeys files c.args.number a e text e2 text2) (sym is.2) (obeys files is.0 is.1))
+    let is = asked_as (Module c.in-Module.name c.in-Module.bytes) asked (subst (λ k. Says k asked) c.in-Module.is says) in
+    let given = subst (λ bytes. Obeys files c.args.number (asked_of.keep c.in-Module.name.now bytes) e text e2 text2) c.deref.ensures.value (obeys files) in
+    subst (λ a. Obeys files c.args.number a e text e2 text2) (sym is) given)
 
 pub returns-in-Load-clause-obeys : goal.returns-in-Load-clause-obeys
 returns-in-Load-clause-obeys g c =
     let files = g.S.Source.files c.args.source.now in
-    let e = script_host_on c.args.self.now.host.host c.args.self.now.script_host in
+    let e = c.args.self.now.script_host in
     let text = string_bytes c.args.self.now.text in
-    let e2 = script_host_on c.load.new.self.host.host c.load.new.self.script_host in
+    let e2 = c.load.new.self.script_host in
     let text2 = string_bytes c.load.new.self.text in
     on_ok_then c.load.result c.load.ensures.obeys (λ obeys asked says free.
     let is = asked_as (Load c.in-Load.name c.in-Load.path) asked (subst (λ k. Says k asked) c.in-Load.is says) in
@@ -34,9 +35,9 @@ returns-in-Load-clause-obeys g c =
 pub returns-in-Admit-clause-obeys : goal.returns-in-Admit-clause-obeys
 returns-in-Admit-clause-obeys g c =
     let files = g.S.Source.files c.args.source.now in
-    let e = script_host_on c.args.self.now.host.host c.args.self.now.script_host in
+    let e = c.args.self.now.script_host in
     let text = string_bytes c.args.self.now.text in
-    let e2 = script_host_on c.admit.new.self.host.host c.admit.new.self.script_host in
+    let e2 = c.admit.new.self.script_host in
     let text2 = string_bytes c.admit.new.self.text in
     on_ok_then c.admit.result c.admit.ensures.obeys (λ obeys asked says free.
     let is = asked_as (Admit c.in-Admit.inst c.in-Admit.module c.in-Admit.given) asked (subst (λ k. Says k asked) c.in-Admit.is says) in
@@ -45,9 +46,9 @@ returns-in-Admit-clause-obeys g c =
 pub returns-in-Refuel-clause-obeys : goal.returns-in-Refuel-clause-obeys
 returns-in-Refuel-clause-obeys g c =
     let files = g.S.Source.files c.args.source.now in
-    let e = script_host_on c.args.self.now.host.host c.args.self.now.script_host in
+    let e = c.args.self.now.script_host in
     let text = string_bytes c.args.self.now.text in
-    let e2 = script_host_on c.refuel.new.self.host.host c.refuel.new.self.script_host in
+    let e2 = c.refuel.new.self.script_host in
     let text2 = string_bytes c.refuel.new.self.text in
     on_ok_then c.refuel.result c.refuel.ensures.obeys (λ obeys asked says free.
     let is = asked_as (Refuel c.in-Refuel.inst c.in-Refuel.fuel) asked (subst (λ k. Says k asked) c.in-Refuel.is says) in
@@ -56,9 +57,9 @@ returns-in-Refuel-clause-obeys g c =
 pub returns-in-Cancel-clause-obeys : goal.returns-in-Cancel-clause-obeys
 returns-in-Cancel-clause-obeys g c =
     let files = g.S.Source.files c.args.source.now in
-    let e = script_host_on c.args.self.now.host.host c.args.self.now.script_host in
+    let e = c.args.self.now.script_host in
     let text = string_bytes c.args.self.now.text in
-    let e2 = script_host_on c.cancel.new.self.host.host c.cancel.new.self.script_host in
+    let e2 = c.cancel.new.self.script_host in
     let text2 = string_bytes c.cancel.new.self.text in
     on_ok_then c.cancel.result c.cancel.ensures.obeys (λ obeys asked says free.
     let is = asked_as (Cancel c.in-Cancel.inst) asked (subst (λ k. Says k asked) c.in-Cancel.is says) in
@@ -67,9 +68,9 @@ returns-in-Cancel-clause-obeys g c =
 pub returns-in-Retry-clause-obeys : goal.returns-in-Retry-clause-obeys
 returns-in-Retry-clause-obeys g c =
     let files = g.S.Source.files c.args.source.now in
-    let e = script_host_on c.args.self.now.host.host c.args.self.now.script_host in
+    let e = c.args.self.now.script_host in
     let text = string_bytes c.args.self.now.text in
-    let e2 = script_host_on c.retry.new.self.host.host c.retry.new.self.script_host in
+    let e2 = c.retry.new.self.script_host in
     let text2 = string_bytes c.retry.new.self.text in
     on_ok_then c.retry.result c.retry.ensures.obeys (λ obeys asked says free.
     let is = asked_as (Retry c.in-Retry.inst) asked (subst (λ k. Says k asked) c.in-Retry.is says) in
@@ -78,9 +79,9 @@ returns-in-Retry-clause-obeys g c =
 pub returns-in-Scan-clause-obeys : goal.returns-in-Scan-clause-obeys
 returns-in-Scan-clause-obeys g c =
     let files = g.S.Source.files c.args.source.now in
-    let e = script_host_on c.args.self.now.host.host c.args.self.now.script_host in
+    let e = c.args.self.now.script_host in
     let text = string_bytes c.args.self.now.text in
-    let e2 = script_host_on c.scan.new.self.host.host c.scan.new.self.script_host in
+    let e2 = c.scan.new.self.script_host in
     let text2 = string_bytes c.scan.new.self.text in
     on_ok_then c.scan.result c.scan.ensures.obeys (λ obeys asked says free.
     let is = asked_as Scan asked (subst (λ k. Says k asked) c.in-Scan.is says) in
@@ -89,9 +90,9 @@ returns-in-Scan-clause-obeys g c =
 pub returns-in-Report-clause-obeys : goal.returns-in-Report-clause-obeys
 returns-in-Report-clause-obeys g c =
     let files = g.S.Source.files c.args.source.now in
-    let e = script_host_on c.args.self.now.host.host c.args.self.now.script_host in
+    let e = c.args.self.now.script_host in
     let text = string_bytes c.args.self.now.text in
-    let e2 = script_host_on c.report.new.self.host.host c.report.new.self.script_host in
+    let e2 = c.report.new.self.script_host in
     let text2 = string_bytes c.report.new.self.text in
     on_ok_then c.report.result c.report.ensures.obeys (λ obeys asked says free.
     let is = asked_as Report asked (subst (λ k. Says k asked) c.in-Report.is says) in
@@ -100,9 +101,9 @@ returns-in-Report-clause-obeys g c =
 pub returns-clause-obeys : goal.returns-clause-obeys
 returns-clause-obeys g c =
     let files = g.S.Source.files c.args.source.now in
-    let e = script_host_on c.args.self.now.host.host c.args.self.now.script_host in
+    let e = c.args.self.now.script_host in
     let text = string_bytes c.args.self.now.text in
-    let e2 = script_host_on c.release.new.self.host.host c.release.new.self.script_host in
+    let e2 = c.release.new.self.script_host in
     let text2 = string_bytes c.release.new.self.text in
     on_ok_then c.release.result c.release.ensures.obeys (λ obeys asked says free.
     let is = asked_as (Release c.in-Release.inst) asked (subst (λ k. Says k asked) c.in-Release.is says) in
@@ -110,7 +111,7 @@ returns-clause-obeys g c =
 
 pub returns-in-Drain-clause-obeys : goal.returns-in-Drain-clause-obeys
 returns-in-Drain-clause-obeys g c asked says free =
-    let e = script_host_on c.args.self.now.host.host c.args.self.now.script_host in
+    let e = c.args.self.now.script_host in
     let text = string_bytes c.args.self.now.text in
     let files = g.S.Source.files c.args.source.now in
     subst (λ a. Obeys files c.args.number a e text e text) (sym (is_drain c.args.command asked c.in-Drain.is says free))

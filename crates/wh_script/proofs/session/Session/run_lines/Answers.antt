@@ -2,7 +2,6 @@ use Rattle.std.proofs.Common.{rules, Err, refl, sym, ap, subst, ◌∙◌, strin
 use Rattle.std.proofs.lemmas.Result.{err_from_is_err_and}
 use Rattle.std.specs.Io.KnownBytes.{Appends}
 use Rattle.wh_engine.specs.declared.fault.ScriptFault.TheVariants.{Memory}
-use Rattle.wh_engine.specs.RepresentedScript.{script_host_on}
 use Rattle.wh_script.specs.Coming.{unread, coming, ReadsLine}
 use Rattle.wh_script.specs.Answering.{HasDrained}
 use Rattle.wh_script.specs.Runs.{Sent, Runs}
@@ -20,10 +19,10 @@ returns-in_err-lines-clause-runs g c settings stands served =
     (begins_nothing settings files (left c.args.reader.now) (left c.args.reader.now) (contents c.args.writer.now))
 
 pub returns-in_err-lines-clause-faults : goal.returns-in_err-lines-clause-faults
-returns-in_err-lines-clause-faults g c = fails_same g.D.SwapDev.keeps g.D.SwapDev.honest g.D.SwapDev.faults c.args.self.now.host.device
+returns-in_err-lines-clause-faults g c = fails_same g.D.SwapDev.keeps g.D.SwapDev.honest g.D.SwapDev.faults c.args.self.now.script_host.host.device
 
 pub returns-in_err-lines-clause-device : goal.returns-in_err-lines-clause-device
-returns-in_err-lines-clause-device g c = true_same g.D.SwapDev.keeps g.D.SwapDev.honest g.D.SwapDev.faults c.args.self.now.host.device
+returns-in_err-lines-clause-device g c = true_same g.D.SwapDev.keeps g.D.SwapDev.honest g.D.SwapDev.faults c.args.self.now.script_host.host.device
 
 pub loop-number-init : goal.loop-number-init
 loop-number-init g c =
@@ -33,12 +32,12 @@ loop-number-init g c =
     let self = c.args.self.now in
     record {
       within = search rules;
-      device = true_same keeps honest faults self.host.device;
-      faults = fails_same keeps honest faults self.host.device;
+      device = true_same keeps honest faults self.script_host.host.device;
+      faults = fails_same keeps honest faults self.script_host.host.device;
       config = refl;
       so_far = λ settings stands served.
           starts settings (g.S.Source.files c.args.source.now) (g.R.Read.remaining c.args.reader.now) (g.W.Write.contents c.args.writer.now) (unread c.in_ok-lines.lines)
-          (script_host_on self.host.host self.script_host) c.in_ok-lines.ensures.empty stands;
+          self.script_host c.in_ok-lines.ensures.empty stands;
     }
 
 pub returns-in_err-kind-clause-runs : goal.returns-in_err-kind-clause-runs
@@ -52,7 +51,7 @@ returns-in_err-kind-clause-runs g c settings stands served =
     let e = c.in_err-kind.field-0.0 in
     let p = err_from_is_err_and c.from_residual-in_err-kind.result c.from_residual-in_err-kind.ensures.1 in
     subst (Runs settings files script (left c.read.new.reader) (contents c.args.writer.now) (contents l.writer)) (sym (p.1 ∙ ap Err p.2))
-    (read_fails settings files script old (contents c.args.writer.now) (contents l.writer) l.number (script_host_on l.self.host.host l.self.script_host) (l.invariant.so_far settings stands served) (left c.read.new.reader) e c.in_err-kind.ensures.err c.in_err-kind.ensures.failed)
+    (read_fails settings files script old (contents c.args.writer.now) (contents l.writer) l.number l.self.script_host (l.invariant.so_far settings stands served) (left c.read.new.reader) e c.in_err-kind.ensures.err c.in_err-kind.ensures.failed)
 
 pub returns-in_err-drain-in-End : goal.returns-in_err-drain-in-End
 returns-in_err-drain-in-End g c =
@@ -63,9 +62,9 @@ returns-in_err-drain-in-End g c =
     let honest = g.D.SwapDev.honest in
     let files = g.S.Source.files c.args.source.now in
     let l = c.loop-number in
-    let first = c.args.self.now.host.device in
-    let before = l.self.host.device in
-    let after = c.drain.new.self.host.device in
+    let first = c.args.self.now.script_host.host.device in
+    let before = l.self.script_host.host.device in
+    let after = c.drain.new.self.script_host.host.device in
     let script = left c.args.reader.now in
     let old = coming l.lines (left l.reader) in
     let p = err_from_is_err_and c.from_residual-in_err-drain-in-End.result c.from_residual-in_err-drain-in-End.ensures.1 in
@@ -74,7 +73,7 @@ returns-in_err-drain-in-End g c =
       runs = λ settings stands served.
           let well = served_first keeps honest faults first before after c.drain.ensures.device l.invariant.faults c.drain.ensures.faults served in
           subst (Runs settings files script (left c.read.new.reader) (contents c.args.writer.now) (contents l.writer)) (sym (p.1 ∙ ap Err p.2))
-          (stops settings files script old (contents c.args.writer.now) (contents l.writer) l.number (script_host_on l.self.host.host l.self.script_host) (l.invariant.so_far settings stands well) (left c.read.new.reader) fault c.in_err-drain-in-End.ensures.err c.in_err-drain-in-End.ensures.open);
+          (stops settings files script old (contents c.args.writer.now) (contents l.writer) l.number l.self.script_host (l.invariant.so_far settings stands well) (left c.read.new.reader) fault c.in_err-drain-in-End.ensures.err c.in_err-drain-in-End.ensures.open);
       faults = fails_then keeps honest faults first before after l.invariant.faults c.drain.ensures.faults;
       device = true_then keeps honest faults first before after l.invariant.device c.drain.ensures.device;
       config = c.drain.ensures.config ∙ l.invariant.config;
@@ -89,15 +88,15 @@ returns-in-End g c =
     let honest = g.D.SwapDev.honest in
     let files = g.S.Source.files c.args.source.now in
     let l = c.loop-number in
-    let first = c.args.self.now.host.device in
-    let before = l.self.host.device in
+    let first = c.args.self.now.script_host.host.device in
+    let before = l.self.script_host.host.device in
     let drained = c.drain.new.self in
-    let after = drained.host.device in
+    let after = drained.script_host.host.device in
     let script = left c.args.reader.now in
     let old = coming l.lines (left l.reader) in
     let new = coming c.read.new.self (left c.read.new.reader) in
-    let e = script_host_on l.self.host.host l.self.script_host in
-    let e2 = script_host_on drained.host.host drained.script_host in
+    let e = l.self.script_host in
+    let e2 = drained.script_host in
     let text = string_bytes drained.text in
     record {
       runs = λ settings stands served.
@@ -122,9 +121,9 @@ returns-in_err-answer-in_default g c =
     let honest = g.D.SwapDev.honest in
     let files = g.S.Source.files c.args.source.now in
     let l = c.loop-number in
-    let first = c.args.self.now.host.device in
-    let before = l.self.host.device in
-    let after = c.answer.new.self.host.device in
+    let first = c.args.self.now.script_host.host.device in
+    let before = l.self.script_host.host.device in
+    let after = c.answer.new.self.script_host.host.device in
     let script = left c.args.reader.now in
     let old = coming l.lines (left l.reader) in
     let p = err_from_is_err_and c.from_residual-in_err-answer-in_default.result c.from_residual-in_err-answer-in_default.ensures.1 in
@@ -135,7 +134,7 @@ returns-in_err-answer-in_default g c =
       runs = λ settings stands served.
           let well = served_first keeps honest faults first before after c.answer.ensures.device l.invariant.faults c.answer.ensures.faults served in
           subst (Runs settings files script (left c.read.new.reader) (contents c.args.writer.now) (contents l.writer)) (sym (p.1 ∙ ap Err p.2))
-          (stops_at_line settings files script old (contents c.args.writer.now) (contents l.writer) l.number (script_host_on l.self.host.host l.self.script_host) (l.invariant.so_far settings stands well)
+          (stops_at_line settings files script old (contents c.args.writer.now) (contents l.writer) l.number l.self.script_host (l.invariant.so_far settings stands well)
           new c.in_ok-kind.kind c.line.result.now c.in_default.not-End reads (left c.read.new.reader) fault c.in_err-answer-in_default.ensures.err c.in_err-answer-in_default.ensures.open);
       faults = fails_then keeps honest faults first before after l.invariant.faults c.answer.ensures.faults;
       device = true_then keeps honest faults first before after l.invariant.device c.answer.ensures.device;
@@ -151,15 +150,15 @@ returns-in_err-send-in_default g c =
     let honest = g.D.SwapDev.honest in
     let files = g.S.Source.files c.args.source.now in
     let l = c.loop-number in
-    let first = c.args.self.now.host.device in
-    let before = l.self.host.device in
+    let first = c.args.self.now.script_host.host.device in
+    let before = l.self.script_host.host.device in
     let answered = c.answer.new.self in
-    let after = answered.host.device in
+    let after = answered.script_host.host.device in
     let script = left c.args.reader.now in
     let old = coming l.lines (left l.reader) in
     let new = coming c.read.new.self (left c.read.new.reader) in
-    let e = script_host_on l.self.host.host l.self.script_host in
-    let e2 = script_host_on answered.host.host answered.script_host in
+    let e = l.self.script_host in
+    let e2 = answered.script_host in
     let text = string_bytes answered.text in
     let reads = subst (λ held. ReadsLine old new c.in_ok-kind.kind held) (sym c.line.ensures) c.in_ok-kind.ensures.line in
     let fault = c.in_err-send-in_default.field-0.0 in
@@ -186,15 +185,15 @@ loop-number-preserved g c =
     let honest = g.D.SwapDev.honest in
     let files = g.S.Source.files c.args.source.now in
     let l = c.loop-number in
-    let first = c.args.self.now.host.device in
-    let before = l.self.host.device in
+    let first = c.args.self.now.script_host.host.device in
+    let before = l.self.script_host.host.device in
     let answered = c.answer.new.self in
-    let after = answered.host.device in
+    let after = answered.script_host.host.device in
     let script = left c.args.reader.now in
     let old = coming l.lines (left l.reader) in
     let new = coming c.read.new.self (left c.read.new.reader) in
-    let e = script_host_on l.self.host.host l.self.script_host in
-    let e2 = script_host_on answered.host.host answered.script_host in
+    let e = l.self.script_host in
+    let e2 = answered.script_host in
     let text = string_bytes answered.text in
     let reads = subst (λ held. ReadsLine old new c.in_ok-kind.kind held) (sym c.line.ensures) c.in_ok-kind.ensures.line in
     record {
@@ -218,4 +217,4 @@ returns-clause-runs g c settings stands served =
     let l = c.loop-number in
     let script = left c.args.reader.now in
     let old = coming l.lines (left l.reader) in
-    stops settings files script old (contents c.args.writer.now) (contents l.writer) l.number (script_host_on l.self.host.host l.self.script_host) (l.invariant.so_far settings stands served) (left l.reader) Memory tt tt
+    stops settings files script old (contents c.args.writer.now) (contents l.writer) l.number l.self.script_host (l.invariant.so_far settings stands served) (left l.reader) Memory tt tt

@@ -3,19 +3,18 @@ use Rattle.wh_script_model.specs.Commands as asked_of
 use Rattle.wh_script_model.specs.Texts.{scan_ok, reply_text}
 use Rattle.wh_engine.proofs.Opened.{memory_scans}
 use Rattle.wh_engine.proofs.Printings.{on_ok_then}
-use Rattle.wh_engine.specs.RepresentedScript.{script_host_on}
 use Rattle.wh_script.specs.Answering.{Obeys}
 use Rattle.wh_script.proofs.Obeyed.{scanned}
 use Rattle.wh_script.proofs.session.Session.scan.Goals as goal
 
 pub returns-clause-obeys : goal.returns-clause-obeys
 returns-clause-obeys g c =
-    let e = script_host_on c.args.self.now.host.host c.args.self.now.script_host in
+    let e = c.args.self.now.script_host in
     let mid = c.offer_pages.new.self in
     let text2 = string_bytes c.reply.new.self.text in
     on_ok_then c.reply.result c.reply.ensures.printed (λ printed files number.
     subst (λ x. Obeys files number asked_of.scan e (string_bytes c.args.self.now.text) x text2) (sym c.reply.ensures.script_host)
-    (scanned files number e (script_host_on mid.host.host mid.script_host) (string_bytes c.args.self.now.text) text2 c.offer_pages.ensures.stands
+    (scanned files number e mid.script_host (string_bytes c.args.self.now.text) text2 c.offer_pages.ensures.stands
     (printed ∙ ap (λ t. string_bytes t ++ reply_text scan_ok) c.offer_pages.ensures.text)))
 
 pub returns-clause-err : goal.returns-clause-err

@@ -1,0 +1,46 @@
+//! What tests ask of a host.
+
+use std::alloc::Global;
+use wh_host::{Admit, Invoke, Load, ModuleId, Params};
+use wh_host_model::InstId;
+
+/// Asks for the module that these bytes spell.
+pub fn loading(alloc: Global, bytes: &[u8]) -> Load<'_> {
+    Load { alloc, bytes }
+}
+
+/// Returns what an owner gives: two frames at least, and 16 at most.
+pub fn given(alloc: Global) -> Params {
+    Params {
+        shares: 100,
+        min: 2,
+        max: 16,
+        fuel: 0,
+        base: 0,
+        salt: 0,
+        inputs: Vec::new(alloc),
+    }
+}
+
+/// Asks for an instance of a module.
+pub fn admission(alloc: Global, of: ModuleId) -> Admit {
+    let params = given(alloc);
+    Admit { alloc, of, params }
+}
+
+/// Asks for a call of the function of this name, with so much fuel.
+pub fn invocation<'a>(
+    alloc: Global,
+    id: InstId,
+    name: &'a str,
+    given: &'a [i128],
+    fuel: u64,
+) -> Invoke<'a> {
+    Invoke {
+        alloc,
+        id,
+        name,
+        given,
+        fuel,
+    }
+}

@@ -1,0 +1,21 @@
+-- Which events owners ask for, and what they lead to.
+use Rattle.wh_host_model.specs.Host.Worlds.{World}
+use Rattle.wh_host_model.specs.Host.Events.{Event, load, admit, invoke, refuel, cancel, retry, release}
+use Rattle.wh_host_model.specs.Host.Happens.{Happens}
+use Rattle.wh_host.specs.Hosting.{HostState, IsHost}
+
+-- it is a request of an owner
+abbrev pub IsRequest : Event → Type 0
+IsRequest (load bytes) = Unit {0}
+IsRequest (admit k p) = Unit {0}
+IsRequest (invoke id name given fuel) = Unit {0}
+IsRequest (refuel id n) = Unit {0}
+IsRequest (cancel id) = Unit {0}
+IsRequest (retry id) = Unit {0}
+IsRequest (release id) = Unit {0}
+IsRequest other = ⊥
+
+-- for whatever host the one stands, a request leads to one for which the other does
+abbrev pub LeadsByRequest : HostState → HostState → Type 0
+LeadsByRequest h h2 =
+    (w : World) → IsHost h w → (e : Event) × (w2 : World) × IsRequest e × Happens w e w2 × IsHost h2 w2
