@@ -1,6 +1,6 @@
 #!/usr/bin/env python3
-"""Refuses a script's theorem that doesn't stand alone: what `Runs` of wh_script reaches by its imports are at most 40 files of
-definitions, none of which speaks of the host or of its memory (wh_host_model/specs/Host and Space)."""
+"""Refuses a script's theorem that doesn't stand alone: what `Runs` and `FailingRuns` of wh_script reach by their imports are at most
+40 files of definitions each, none of which speaks of the host or of its memory (wh_host_model/specs/Host and Space)."""
 import pathlib
 import re
 import sys
@@ -18,14 +18,21 @@ def imports(path):
             yield found
 
 
-reached, left = set(), [ROOT / "wh_script/specs/Runs.antt"]
-while left:
-    path = left.pop()
-    if path not in reached:
-        reached.add(path)
-        left += imports(path)
-host = sorted(str(path.relative_to(ROOT)) for path in reached if OF_THE_HOST.search(str(path)))
-if host or len(reached) > MOST:
-    sys.exit(f"the theorem of scripts reaches {len(reached)} files, of the host: {', '.join(host) or 'none'}")
-lines = sum(len(path.read_text().splitlines()) for path in reached)
-print(f"the theorem of scripts stands on {len(reached)} files of {lines} lines")
+def reached_from(name):
+    """The files that this definition's file reaches, with its own."""
+    reached, left = set(), [ROOT / "wh_script/specs" / name]
+    while left:
+        path = left.pop()
+        if path not in reached:
+            reached.add(path)
+            left += imports(path)
+    return reached
+
+
+for name in ["Runs.antt", "FailingRuns.antt"]:
+    reached = reached_from(name)
+    host = sorted(str(path.relative_to(ROOT)) for path in reached if OF_THE_HOST.search(str(path)))
+    if host or len(reached) > MOST:
+        sys.exit(f"the theorem of scripts reaches {len(reached)} files from {name}, of the host: {', '.join(host) or 'none'}")
+    lines = sum(len(path.read_text().splitlines()) for path in reached)
+    print(f"the theorem of scripts stands on {len(reached)} files of {lines} lines, from {name}")

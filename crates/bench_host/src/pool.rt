@@ -27,7 +27,6 @@ pub struct Pool {
     ghost together: { AreTogether memory (memory_held device) },
 }
 
-// Written out, so that letting one go is one call, and not one for each part of its parts.
 impl Drop for Pool {
     fn drop(self) {
         let Pool {
@@ -71,9 +70,12 @@ impl Pool {
         let memory = &mut self.memory;
         ensure!(memory.is_free(place), "the place is taken");
         ensure!(memory.is_fresh(promise.number), "the number is taken");
-        ensure!(memory.has_frames_for(min), "there are too few frames");
         ensure!(
-            memory.has_slots_for(min, promise.max),
+            u64::from(min) <= memory.frames_left(),
+            "there are too few frames"
+        );
+        ensure!(
+            u64::from(promise.max - min) < memory.slots_left(),
             "there are too few slots"
         );
         memory.enter(alloc, place, promise, size)?;

@@ -185,11 +185,11 @@ fn enter_first(alloc: Global, memory: &mut Memory, size: u32, limit: u32) -> Res
     ensure!(memory.is_free(0), "the place is taken");
     ensure!(memory.is_fresh(promise.number), "the number is taken");
     ensure!(
-        memory.has_frames_for(promise.min),
+        u64::from(promise.min) <= memory.frames_left(),
         "there are too few frames"
     );
     ensure!(
-        memory.has_slots_for(promise.min, promise.max),
+        u64::from(promise.max - promise.min) < memory.slots_left(),
         "there are too few slots"
     );
     memory.enter(alloc, 0, promise, size)?;

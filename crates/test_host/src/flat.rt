@@ -110,7 +110,6 @@ pub struct Flat {
     ended: usize,
 }
 
-// Written out, so that letting one go is one call, and not one for each part of its parts.
 impl Drop for Flat {
     fn drop(self) {
         let Flat {

@@ -13,7 +13,6 @@ mod lives;
 mod modules;
 mod paging;
 mod pair;
-mod random;
 mod rig;
 mod store;
 mod streams;

@@ -15,7 +15,6 @@ pub struct Pair {
     pub flat: Flat,
 }
 
-// Written out, so that letting one go is one call, and not one for each part of its parts.
 impl Drop for Pair {
     fn drop(self) {
         let Pair { id: _, flat: _ } = self;

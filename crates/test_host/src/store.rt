@@ -13,7 +13,6 @@ pub struct Store {
     failing: Rc<Cell<u32>>,
 }
 
-// Written out, so that letting one go is one call, and not one for each part of its parts.
 impl Drop for Store {
     fn drop(self) {
         let Store {

@@ -21,7 +21,6 @@ struct Moody {
     turned: Rc<Cell<bool>>,
 }
 
-// Written out, so that letting one go is one call, and not one for each part of its parts.
 impl Drop for Moody {
     fn drop(self) {
         let Moody {

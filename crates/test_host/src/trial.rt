@@ -2,10 +2,10 @@
 
 use crate::flat::Call;
 use crate::pair::Pair;
-use crate::random::Random;
 use crate::rig::Rig;
 use anyhow::{Context, Result, bail, ensure};
 use std::alloc::Global;
+use test_random::Random;
 use wh_flatmem::FlatMemory;
 use wh_host::{AdmitError, Suspension};
 use wh_host_model::{EvictEnd, FetchEnd, Offer, TurnEnd};
@@ -50,7 +50,6 @@ pub struct Trial {
     pub counts: Counts,
 }
 
-// Written out, so that letting one go is one call, and not one for each part of its parts.
 impl Drop for Trial {
     fn drop(self) {
         let Trial {

@@ -3,7 +3,8 @@
 use crate::tables::agree;
 use anyhow::{Result, ensure};
 use std::alloc::Global;
-use wh_commands::{AdmitParams, Command, LineError, parse};
+use wh_commands::{Command, ParseError, parse};
+use wh_params::Params;
 
 // Lines, each with the verb of its command.
 const SHORT: [(&[u8], &str); 8] = [
@@ -50,7 +51,7 @@ fn reads_module(alloc: Global) -> bool {
     }
 }
 
-fn are_given(given: &AdmitParams) -> bool {
+fn are_given(given: &Params) -> bool {
     (given.shares, given.min, given.max, given.fuel) == (100, 2, 16, 0)
         && (given.base, given.salt) == (0xFFFF_FFFF, 0xFFFF_FFFF_FFFF_FFFF)
         && given.inputs.as_slice() == [10, 0xFFFF_FFFF_FFFF_FFFF].as_slice()
@@ -117,7 +118,7 @@ fn wrongly_read(alloc: Global) -> Option<usize> {
 }
 
 fn is_refused(alloc: Global, line: &[u8]) -> bool {
-    matches!(parse(alloc, line), Err(LineError::Syntax))
+    matches!(parse(alloc, line), Err(ParseError::Syntax))
 }
 
 fn wrongly_taken(alloc: Global) -> Option<usize> {
@@ -129,14 +130,12 @@ fn wrongly_taken(alloc: Global) -> Option<usize> {
     None
 }
 
-/// Reads each line: how many they are, and the two causes whose numbers it looks at.
+/// Reads each line: how many they are.
 pub fn check(alloc: Global) -> Result<usize> {
     ensure!(reads_module(alloc), "another module is read");
     ensure!(reads_admission(alloc), "another admission is read");
     ensure!(reads_call(alloc), "another call is read");
     agree("commands", wrongly_read(alloc))?;
     agree("lines that are none", wrongly_taken(alloc))?;
-    let numbers = (LineError::Syntax.number(), LineError::Memory.number());
-    ensure!(numbers == (1, 5), "a cause has another number");
-    Ok(3 + SHORT.len() + NONE.len() + 2)
+    Ok(3 + SHORT.len() + NONE.len())
 }

@@ -14,7 +14,6 @@ pub struct Session {
     sums: Tally,
 }
 
-// Written out, so that letting one go is one call, and not one for each part of its parts.
 impl Drop for Session {
     fn drop(self) {
         let Session {

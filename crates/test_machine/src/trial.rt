@@ -36,7 +36,6 @@ pub struct Trial {
     pub tally: Tally,
 }
 
-// Written out, so that letting one go is one call, and not one for each part of its parts.
 impl Drop for Trial {
     fn drop(self) {
         let Trial {

@@ -6,14 +6,10 @@ use crate::tables::{agree, first_other};
 use anyhow::Result;
 use std::cmp::Ordering;
 use wh_host_model::{Claim, Tax};
-use wh_reclaim::{cmp_rho, victim, weight};
+use wh_reclaim::{cmp_rho, weight};
 
 // What a busy instance and an idle one weigh under a tax.
 const WEIGHTS: [u64; 2] = [100, 200];
-
-// Who pays of the two: under the tax, and without one. The first of two that weigh 40; the second, where the first
-// weighs more, and isn't above its minimum; and nobody, where there is nobody.
-const PAYERS: [Option<usize>; 5] = [Some(1), Some(0), Some(0), Some(1), None];
 
 // How claims of one share more, of one less and of as many stand to each other.
 const ORDERS: [Ordering; 3] = [Ordering::Greater, Ordering::Less, Ordering::Equal];
@@ -37,20 +33,6 @@ fn weights() -> [u64; 2] {
     [
         weight(taxed, &claim(2, 100, 100)),
         weight(taxed, &claim(2, 50, 0)),
-    ]
-}
-
-fn payers() -> [Option<usize>; 5] {
-    let taxed = Tax { num: 3, den: 4 };
-    let untaxed = Tax { num: 0, den: 1 };
-    // Weights 100 and 200 under the tax, 100 and 50 without one.
-    let busy_and_idle = [claim(2, 100, 100), claim(2, 50, 0)];
-    [
-        victim(taxed, &busy_and_idle),
-        victim(untaxed, &busy_and_idle),
-        victim(taxed, &[claim(2, 10, 0), claim(2, 40, 40)]),
-        victim(taxed, &[claim(2, 2, 0), claim(2, 3, 3)]),
-        victim(taxed, &[]),
     ]
 }
 
@@ -85,7 +67,6 @@ fn orders() -> [Ordering; 3] {
 /// Looks at each answer: how many they are.
 pub fn check() -> Result<usize> {
     agree("weights", first_other(&weights(), &WEIGHTS))?;
-    agree("who pays", first_other(&payers(), &PAYERS))?;
     agree("claims compared", first_other(&orders(), &ORDERS))?;
-    Ok(WEIGHTS.len() + PAYERS.len() + ORDERS.len())
+    Ok(WEIGHTS.len() + ORDERS.len())
 }

@@ -90,7 +90,6 @@ struct Table {
     replies: String,
 }
 
-// Written out, so that letting one go is one call, and not one for each part of its parts.
 impl Drop for Table {
     fn drop(self) {
         let Table {

@@ -75,7 +75,6 @@ struct Worn {
     writes: Fates,
 }
 
-// Written out, so that letting one go is one call, and not one for each part of its parts.
 impl Drop for Worn {
     fn drop(self) {
         let Worn {
@@ -232,7 +231,7 @@ fn a_call_waits_for_another_try(rt: HostRuntime) -> Result<(), Fail> {
 
 /// Two instances store three pages each on four frames, and load them; where the device failed they try again.
 const PAIR: &str =
-    "load m words\nadmit a m 100 2 16 0 0 0\nadmit b m 100 2 16 0 0 0\ninvoke a set8 9 0 1\ninvoke b set8 9 0 4\ninvoke a set8 9 4096 2\ninvoke b set8 9 4096 5\ninvoke a set8 9 8192 3\ninvoke b set8 9 8192 6\ninvoke a get8 9 0\ninvoke b get8 9 0\ninvoke a get8 9 4096\ninvoke b get8 9 4096\ninvoke a get8 9 8192\ninvoke b get8 9 8192\nretry a\nretry b\n";
+    "load m words\nadmit a m 100 2 16 0 0 0\nadmit b m 100 2 16 0 0 0\ninvoke a set8 9 0 1\ninvoke b set8 9 0 4\ninvoke a set8 9 4096 2\ninvoke b set8 9 4096 5\ninvoke a set8 9 8192 3\ninvoke b set8 9 8192 6\ninvoke a get8 9 0\ninvoke b get8 9 0\ninvoke a get8 9 4096\ninvoke b get8 9 4096\ninvoke a get8 9 8192\ninvoke b get8 9 8192\nretry a\nretry b\nretry a\nretry b\n";
 
 /// What each load gets in the end.
 const LOADED: [&str; 6] = [
@@ -244,44 +243,65 @@ const LOADED: [&str; 6] = [
     "call 12 done 6 charges 2\n",
 ];
 
-/// Whether the device failed on the way, and each load gets its byte all the same.
-fn all_is_loaded(rt: &impl Abort, written: &[u8]) -> Result<bool, Fail> {
+/// That each line of a call that has ended is one of those that it gets where no device fails, whatever was tried again before.
+fn expect_ended(rt: &impl Abort, written: &str, faultless: &str) -> Result<(), Fail> {
+    for line in written.split_terminator('\n') {
+        let stands = line.contains(" frame S")
+            || line.contains(" queued")
+            || line.contains(" fuel ");
+        if line.starts_with("call ") && !stands {
+            assert!(rt; faultless.contains(line), "{line}");
+        }
+    }
+    Ok(())
+}
+
+/// Whether the device failed on the way, and each load gets its byte all the same, as where it doesn't fail.
+fn all_is_loaded(rt: &impl Abort, written: &[u8], faultless: &[u8]) -> Result<bool, Fail> {
     let text = str::from_utf8(written)?;
     for line in LOADED {
         assert!(rt; text.contains(line), "{line}");
     }
+    expect_ended(rt, text, str::from_utf8(faultless)?)?;
     Ok(text.contains("frame S"))
 }
 
-/// The script of two instances, on a device of which one read or write fails behind so many that are fine. Whether it failed
-/// on the way.
-fn fails_once(
+/// The script of two instances, on a device of which these reads and writes fail, by so many workers. Whether it failed on the
+/// way.
+fn fails_so(
     rt: &(impl Abort + AllocGlobal + Threads + Wait + Copy + Send + 'static),
+    number: u8,
     reads: Fates,
     writes: Fates,
 ) -> Result<bool, Fail> {
     let settings = "frames = 4\nslots = 30\nquantum = 1\n";
-    let written = answered(rt, settings, 2, PAIR, reads, writes)?;
-    all_is_loaded(rt, &written)
+    let faultless = answered(rt, settings, number, PAIR, ALL_FINE, ALL_FINE)?;
+    let written = answered(rt, settings, number, PAIR, reads, writes)?;
+    all_is_loaded(rt, &written, &faultless)
 }
 
-/// Each of the first forty reads and writes fails in turn while two workers run, and no byte is lost.
+/// Each of the first forty reads and writes fails in turn, once, and once more when it is tried again, while 1, 2 and 8 workers
+/// run: what has ended has ended as it does where none fails, and no byte is lost.
 #[test]
 fn each_call_of_a_device_may_fail(rt: HostRuntime) -> Result<(), Fail> {
     let mut failures: u32 = 0;
-    for fine in 0..40 {
-        let fates = Fates {
-            fine,
-            others: 1,
-            fate: Fails,
-        };
-        for (reads, writes) in [(fates, ALL_FINE), (ALL_FINE, fates)] {
-            if fails_once(&rt, reads, writes)? {
-                failures = failures.saturating_add(1);
+    for number in [1, 2, 8] {
+        for others in 1..3 {
+            for fine in 0..40 {
+                let fates = Fates {
+                    fine,
+                    others,
+                    fate: Fails,
+                };
+                for (reads, writes) in [(fates, ALL_FINE), (ALL_FINE, fates)] {
+                    if fails_so(&rt, number, reads, writes)? {
+                        failures = failures.saturating_add(1);
+                    }
+                }
             }
         }
     }
     // At least two pages leave, and one comes back.
-    assert!(rt; failures >= 3);
+    assert!(rt; failures >= 18);
     Ok(())
 }

@@ -23,7 +23,6 @@ pub struct Script {
     pub wanted: String,
 }
 
-// Written out, so that letting one go is one call, and not one for each part of its parts.
 impl Drop for Script {
     fn drop(self) {
         let Script {

@@ -13,7 +13,6 @@ pub struct Shelf {
     files: HashMap<String, Vec<u8>>,
 }
 
-// Written out, so that letting one go is one call, and not one for each part of its parts.
 impl Drop for Shelf {
     fn drop(self) {
         let Shelf { files: _ } = self;

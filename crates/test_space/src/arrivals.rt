@@ -25,7 +25,7 @@ pub fn enter(memory: &mut Memory, alloc: Global, place: usize, promise: Promise,
     if !memory.is_free(place) || !memory.is_fresh(number) {
         return false;
     }
-    if !memory.has_frames_for(min) || !memory.has_slots_for(min, max) {
+    if u64::from(min) > memory.frames_left() || u64::from(max - min) >= memory.slots_left() {
         return false;
     }
     memory.enter(alloc, place, promise, size).is_ok()

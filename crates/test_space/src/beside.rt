@@ -3,11 +3,11 @@
 ghost use Rattle.std.specs.Prelude.{◌≡◌, ◌≢◌, [], IfOk};
 ghost use Rattle.wh_overlay.specs.Over.{AreAlone, HasGrown};
 
-use crate::random::Random;
 use crate::same;
 use crate::trial::{MAX, PLACES, Trial, some_count, some_place};
 use anyhow::{Context, Result};
 use std::alloc::Global;
+use test_random::Random;
 use wh_flatmem::FlatMemory;
 use wh_linmem::LinearMem;
 use wh_model::MOST_WASM_PAGES;

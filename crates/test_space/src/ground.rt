@@ -315,7 +315,7 @@ impl Ground {
             Step::Alone(place, page, is) => take(&self.memory, place, page).is_some() == is,
             Step::FreePlace(place, is) => self.memory.is_free(place) == is,
             Step::FreshNumber(number, is) => self.memory.is_fresh(number) == is,
-            Step::FramesFor(min, is) => self.memory.has_frames_for(min) == is,
+            Step::FramesLeft(frames) => self.memory.frames_left() == frames,
         }
     }
 }

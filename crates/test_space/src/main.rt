@@ -19,7 +19,6 @@ mod ground;
 mod leaving;
 mod offers;
 mod paging;
-mod random;
 mod same;
 mod sharing;
 mod steps;

@@ -80,8 +80,8 @@ pub enum Step {
     FreePlace(usize, bool),
     /// Whether no instance has this number.
     FreshNumber(u64, bool),
-    /// Whether there are frames for one more instance with this least number of pages.
-    FramesFor(u32, bool),
+    /// How many frames are left beside the least numbers of pages of all instances.
+    FramesLeft(u64),
 }
 
 /// How a memory begins.

@@ -3,10 +3,10 @@
 ghost use Rattle.std.specs.Prelude.{◌≤◌};
 
 use crate::arrivals::{enter, let_go};
-use crate::random::Random;
 use crate::same;
 use anyhow::{Context, Result, ensure};
 use std::alloc::Global;
+use test_random::Random;
 use wh_flatmem::FlatMemory;
 use wh_host_model::{Offer, Tax};
 use wh_kernels::PageHash;

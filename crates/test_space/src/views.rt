@@ -17,7 +17,7 @@ const TWO: Begin = Begin {
     steps: &[
         Step::Enter(0, 0, 2),
         Step::Enter(1, 1, 1),
-        Step::FramesFor(1, false),
+        Step::FramesLeft(0),
         Step::FreshNumber(1, false),
     ],
 };

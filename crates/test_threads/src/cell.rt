@@ -2,6 +2,7 @@
 
 ghost use Rattle.std.specs.Prelude.{◌≡◌, ◌-◌, ◌^◌, ◌<◌, [], replicate};
 ghost use Rattle.wh_swap.specs.MemorySwaps.{memory_held};
+ghost use Rattle.wh_cell.specs.Ledgers.{HasLedgers};
 
 use crate::requests::{admission, invocation, loading};
 use std::alloc::Global;
@@ -46,14 +47,7 @@ fn begin_cell<T: Ledger, C: Ledger, O: Ledger, E: Ledger, B: CellAgreements>(
     requires empty { memory_held cell_parts.device ≡ replicate 64 [] }
     requires owned { cell_parts.to_owner ≡ B.to_owner }
     requires backed { cell_parts.to_device ≡ B.to_device }
-    requires turns { (cell_parts.turns.name ≡ T.name) × (cell_parts.turns.parts ≡ T.parts)
-        × (64 < T.parts) }
-    requires charges { (cell_parts.charges.name ≡ C.name) × (cell_parts.charges.parts ≡ C.parts)
-        × (64 < C.parts) }
-    requires offers { (cell_parts.offers.name ≡ O.name) × (cell_parts.offers.parts ≡ O.parts)
-        × (1 < O.parts) }
-    requires evictions { (cell_parts.evictions.name ≡ E.name)
-        × (cell_parts.evictions.parts ≡ E.parts) × (1 < E.parts) }
+    requires ledgers { HasLedgers T.Ledger C.Ledger O.Ledger E.Ledger cell_parts }
 {
     let host = Host::new(alloc, 4, 64, Tax { num: 0, den: 1 })?;
     let (cell, owner, shares) = HostCell::new(alloc, host, cell_parts)?;
@@ -180,14 +174,7 @@ fn one_turn<T: Ledger, C: Ledger, O: Ledger, E: Ledger, B: CellAgreements, R: Wa
     requires empty { memory_held cell_parts.device ≡ replicate 64 [] }
     requires owned { cell_parts.to_owner ≡ B.to_owner }
     requires backed { cell_parts.to_device ≡ B.to_device }
-    requires turns { (cell_parts.turns.name ≡ T.name) × (cell_parts.turns.parts ≡ T.parts)
-        × (64 < T.parts) }
-    requires charges { (cell_parts.charges.name ≡ C.name) × (cell_parts.charges.parts ≡ C.parts)
-        × (64 < C.parts) }
-    requires offers { (cell_parts.offers.name ≡ O.name) × (cell_parts.offers.parts ≡ O.parts)
-        × (1 < O.parts) }
-    requires evictions { (cell_parts.evictions.name ≡ E.name)
-        × (cell_parts.evictions.parts ≡ E.parts) × (1 < E.parts) }
+    requires ledgers { HasLedgers T.Ledger C.Ledger O.Ledger E.Ledger cell_parts }
 {
     let mut begun = begin_cell::<T, C, O, E, B>(alloc, cell_parts)?;
     let [a, _] = asked(rt, alloc, &mut begun)?;
@@ -295,14 +282,7 @@ fn all_run<
     requires empty { memory_held cell_parts.device ≡ replicate 64 [] }
     requires owned { cell_parts.to_owner ≡ B.to_owner }
     requires backed { cell_parts.to_device ≡ B.to_device }
-    requires turns { (cell_parts.turns.name ≡ T.name) × (cell_parts.turns.parts ≡ T.parts)
-        × (64 < T.parts) }
-    requires charges { (cell_parts.charges.name ≡ C.name) × (cell_parts.charges.parts ≡ C.parts)
-        × (64 < C.parts) }
-    requires offers { (cell_parts.offers.name ≡ O.name) × (cell_parts.offers.parts ≡ O.parts)
-        × (1 < O.parts) }
-    requires evictions { (cell_parts.evictions.name ≡ E.name)
-        × (cell_parts.evictions.parts ≡ E.parts) × (1 < E.parts) }
+    requires ledgers { HasLedgers T.Ledger C.Ledger O.Ledger E.Ledger cell_parts }
 {
     let mut begun = begin_cell::<T, C, O, E, B>(alloc, cell_parts)?;
     run_begun(rt, alloc, &mut begun)
@@ -348,14 +328,7 @@ pub fn begin_owned<T: Ledger, C: Ledger, O: Ledger, E: Ledger, B: CellAgreements
     requires empty { memory_held cell_parts.device ≡ replicate 256 [] }
     requires owned { cell_parts.to_owner ≡ B.to_owner }
     requires backed { cell_parts.to_device ≡ B.to_device }
-    requires turns { (cell_parts.turns.name ≡ T.name) × (cell_parts.turns.parts ≡ T.parts)
-        × (64 < T.parts) }
-    requires charges { (cell_parts.charges.name ≡ C.name) × (cell_parts.charges.parts ≡ C.parts)
-        × (64 < C.parts) }
-    requires offers { (cell_parts.offers.name ≡ O.name) × (cell_parts.offers.parts ≡ O.parts)
-        × (1 < O.parts) }
-    requires evictions { (cell_parts.evictions.name ≡ E.name)
-        × (cell_parts.evictions.parts ≡ E.parts) × (1 < E.parts) }
+    requires ledgers { HasLedgers T.Ledger C.Ledger O.Ledger E.Ledger cell_parts }
 {
     let host = Host::new(alloc, 64, 256, Tax { num: 0, den: 1 })?;
     Ok(OwnedHost::new(alloc, host, cell_parts)?)
@@ -473,14 +446,7 @@ fn all_work<
     requires empty { memory_held cell_parts.device ≡ replicate 256 [] }
     requires owned { cell_parts.to_owner ≡ B.to_owner }
     requires backed { cell_parts.to_device ≡ B.to_device }
-    requires turns { (cell_parts.turns.name ≡ T.name) × (cell_parts.turns.parts ≡ T.parts)
-        × (64 < T.parts) }
-    requires charges { (cell_parts.charges.name ≡ C.name) × (cell_parts.charges.parts ≡ C.parts)
-        × (64 < C.parts) }
-    requires offers { (cell_parts.offers.name ≡ O.name) × (cell_parts.offers.parts ≡ O.parts)
-        × (1 < O.parts) }
-    requires evictions { (cell_parts.evictions.name ≡ E.name)
-        × (cell_parts.evictions.parts ≡ E.parts) × (1 < E.parts) }
+    requires ledgers { HasLedgers T.Ledger C.Ledger O.Ledger E.Ledger cell_parts }
 {
     let mut owned = begin_owned::<T, C, O, E, B>(alloc, cell_parts)?;
     work_on(rt, alloc, &mut owned)

@@ -2,6 +2,7 @@
 
 ghost use Rattle.std.specs.Prelude.{◌≡◌, ◌≢◌, ◌+◌, ◌<◌, ⊤, [], length, get_or, replicate, slice_set, IfOk, IsOk, OnOk};
 ghost use Rattle.wh_swap.specs.MemorySwaps.{memory_held, memory_writes};
+ghost use Rattle.wh_cell.specs.Ledgers.{HasLedgers};
 
 use crate::requests::{admission, invocation, loading};
 use std::alloc::{AllocError, Global};
@@ -61,7 +62,6 @@ struct GatedSwap {
     gate: Arc<Gate, Global>,
 }
 
-// Written out, so that letting one go is one call, and not one for each part of its parts.
 impl Drop for GatedSwap {
     fn drop(self) {
         let GatedSwap { memory: _, gate: _ } = self;
@@ -275,14 +275,7 @@ fn look_on_new<
     requires empty { memory_held cell_parts.device.memory ≡ replicate 64 [] }
     requires owned { cell_parts.to_owner ≡ B.to_owner }
     requires backed { cell_parts.to_device ≡ B.to_device }
-    requires turns { (cell_parts.turns.name ≡ T.name) × (cell_parts.turns.parts ≡ T.parts)
-        × (64 < T.parts) }
-    requires charges { (cell_parts.charges.name ≡ C.name) × (cell_parts.charges.parts ≡ C.parts)
-        × (64 < C.parts) }
-    requires offers { (cell_parts.offers.name ≡ O.name) × (cell_parts.offers.parts ≡ O.parts)
-        × (1 < O.parts) }
-    requires evictions { (cell_parts.evictions.name ≡ E.name)
-        × (cell_parts.evictions.parts ≡ E.parts) × (1 < E.parts) }
+    requires ledgers { HasLedgers T.Ledger C.Ledger O.Ledger E.Ledger cell_parts }
 {
     let host = Host::new(alloc, 4, 64, Tax { num: 0, den: 1 })?;
     let (cell, mut owner, shares) = HostCell::<GatedSwap, T, C, O, E, B>::new(
@@ -369,14 +362,7 @@ fn run_evenly<
     requires empty { memory_held cell_parts.device ≡ replicate 64 [] }
     requires owned { cell_parts.to_owner ≡ B.to_owner }
     requires backed { cell_parts.to_device ≡ B.to_device }
-    requires turns { (cell_parts.turns.name ≡ T.name) × (cell_parts.turns.parts ≡ T.parts)
-        × (64 < T.parts) }
-    requires charges { (cell_parts.charges.name ≡ C.name) × (cell_parts.charges.parts ≡ C.parts)
-        × (64 < C.parts) }
-    requires offers { (cell_parts.offers.name ≡ O.name) × (cell_parts.offers.parts ≡ O.parts)
-        × (1 < O.parts) }
-    requires evictions { (cell_parts.evictions.name ≡ E.name)
-        × (cell_parts.evictions.parts ≡ E.parts) × (1 < E.parts) }
+    requires ledgers { HasLedgers T.Ledger C.Ledger O.Ledger E.Ledger cell_parts }
 {
     let host = Host::new(alloc, 4, 64, Tax { num: 0, den: 1 })?;
     let mut owned: OwnedHost<MemSwap, T, C, O, E, B> = OwnedHost::new(alloc, host, cell_parts)?;

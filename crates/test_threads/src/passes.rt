@@ -1,7 +1,8 @@
 //! A pass over all pages of a host in its owner's hand: what it counts, and what it leaves on frames.
 
-ghost use Rattle.std.specs.Prelude.{◌≡◌, ◌<◌, [], replicate};
+ghost use Rattle.std.specs.Prelude.{◌≡◌, [], replicate};
 ghost use Rattle.wh_swap.specs.MemorySwaps.{memory_held};
+ghost use Rattle.wh_cell.specs.Ledgers.{HasLedgers};
 
 use crate::cell::{BYTES, begin_owned};
 use crate::requests::{admission, invocation, loading};
@@ -86,14 +87,7 @@ fn passes<
     requires empty { memory_held cell_parts.device ≡ replicate 256 [] }
     requires owned { cell_parts.to_owner ≡ B.to_owner }
     requires backed { cell_parts.to_device ≡ B.to_device }
-    requires turns { (cell_parts.turns.name ≡ T.name) × (cell_parts.turns.parts ≡ T.parts)
-        × (64 < T.parts) }
-    requires charges { (cell_parts.charges.name ≡ C.name) × (cell_parts.charges.parts ≡ C.parts)
-        × (64 < C.parts) }
-    requires offers { (cell_parts.offers.name ≡ O.name) × (cell_parts.offers.parts ≡ O.parts)
-        × (1 < O.parts) }
-    requires evictions { (cell_parts.evictions.name ≡ E.name)
-        × (cell_parts.evictions.parts ≡ E.parts) × (1 < E.parts) }
+    requires ledgers { HasLedgers T.Ledger C.Ledger O.Ledger E.Ledger cell_parts }
 {
     let mut owned = begin_owned::<T, C, O, E, B>(alloc, cell_parts)?;
     let none = pass(&rt, alloc, &mut owned)?;

@@ -1,7 +1,8 @@
 //! What a host in its owner's hand shows of an instance, beside what was asked of it.
 
-ghost use Rattle.std.specs.Prelude.{◌≡◌, ◌<◌, [], replicate};
+ghost use Rattle.std.specs.Prelude.{◌≡◌, [], replicate};
 ghost use Rattle.wh_swap.specs.MemorySwaps.{memory_held};
+ghost use Rattle.wh_cell.specs.Ledgers.{HasLedgers};
 
 use crate::cell::{BYTES, begin_owned};
 use crate::requests::{admission, given, invocation, loading};
@@ -177,14 +178,7 @@ fn show<
     requires empty { memory_held cell_parts.device ≡ replicate 256 [] }
     requires owned { cell_parts.to_owner ≡ B.to_owner }
     requires backed { cell_parts.to_device ≡ B.to_device }
-    requires turns { (cell_parts.turns.name ≡ T.name) × (cell_parts.turns.parts ≡ T.parts)
-        × (64 < T.parts) }
-    requires charges { (cell_parts.charges.name ≡ C.name) × (cell_parts.charges.parts ≡ C.parts)
-        × (64 < C.parts) }
-    requires offers { (cell_parts.offers.name ≡ O.name) × (cell_parts.offers.parts ≡ O.parts)
-        × (1 < O.parts) }
-    requires evictions { (cell_parts.evictions.name ≡ E.name)
-        × (cell_parts.evictions.parts ≡ E.parts) × (1 < E.parts) }
+    requires ledgers { HasLedgers T.Ledger C.Ledger O.Ledger E.Ledger cell_parts }
 {
     let mut owned = begin_owned::<T, C, O, E, B>(alloc, cell_parts)?;
     let id = run_two(rt, alloc, &mut owned)?;

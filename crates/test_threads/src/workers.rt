@@ -1,8 +1,9 @@
 // Each part once, at concrete types; and threads that run to their end.
 
-ghost use Rattle.std.specs.Prelude.{◌≡◌, ◌<◌, [], IfOk};
+ghost use Rattle.std.specs.Prelude.{◌≡◌, [], IfOk};
 ghost use Rattle.crossbeam_channel.specs.Claims.{view, IsSeatAt};
 ghost use Rattle.crossbeam_channel.specs.Ends.{receives_on};
+ghost use Rattle.wh_threads.specs.Blanks.{IsBlankOf};
 ghost use Rattle.wh_threads.specs.Handover.{traffic};
 
 use std::alloc::{AllocError, Global};
@@ -76,10 +77,10 @@ fn counts<T: Ledger, C: Ledger, O: Ledger, E: Ledger, R: Wait>(
     offers: Blank,
     evictions: Blank,
 ) -> Result<(Tally, u64, u64, [u64; 4]), AllocError>
-    requires turns { (turns.name ≡ T.name) × (turns.parts ≡ T.parts) × (64 < T.parts) }
-    requires charges { (charges.name ≡ C.name) × (charges.parts ≡ C.parts) × (64 < C.parts) }
-    requires offers { (offers.name ≡ O.name) × (offers.parts ≡ O.parts) × (1 < O.parts) }
-    requires evictions { (evictions.name ≡ E.name) × (evictions.parts ≡ E.parts) × (1 < E.parts) }
+    requires turns { IsBlankOf T.Ledger 64 turns }
+    requires charges { IsBlankOf C.Ledger 64 charges }
+    requires offers { IsBlankOf O.Ledger 1 offers }
+    requires evictions { IsBlankOf E.Ledger 1 evictions }
 {
     let (mut books, shares) = Books::<T, C, O, E>::open(alloc, turns, charges, offers, evictions)?;
     let Shares { all } = shares;
@@ -224,7 +225,6 @@ struct Desk<T: Ledger, C: Ledger, O: Ledger, E: Ledger> {
     bell: Arc<Condvar, Global>,
 }
 
-// Written out, so that letting one go is one call, and not one for each part of its parts.
 impl<T: Ledger, C: Ledger, O: Ledger, E: Ledger> Drop for Desk<T, C, O, E> {
     fn drop(self) {
         let Desk {
@@ -298,7 +298,6 @@ struct Several<T: Ledger, C: Ledger, O: Ledger, E: Ledger> {
     books: Arc<Mutex<Books<T, C, O, E>>, Global>,
 }
 
-// Written out, so that letting one go is one call, and not one for each part of its parts.
 impl<T: Ledger, C: Ledger, O: Ledger, E: Ledger> Drop for Several<T, C, O, E> {
     fn drop(self) {
         let Several {
@@ -336,7 +335,6 @@ struct Evicts<T: Ledger, C: Ledger, O: Ledger, E: Ledger> {
     bell: Arc<Condvar, Global>,
 }
 
-// Written out, so that letting one go is one call, and not one for each part of its parts.
 impl<T: Ledger, C: Ledger, O: Ledger, E: Ledger> Drop for Evicts<T, C, O, E> {
     fn drop(self) {
         let Evicts { books: _, bell: _ } = self;
@@ -496,10 +494,10 @@ fn serve_many<
     pause: u64,
     met: u64,
 ) -> Result<Option<Ran>, AllocError>
-    requires turns { (turns.name ≡ T.name) × (turns.parts ≡ T.parts) × (64 < T.parts) }
-    requires charges { (charges.name ≡ C.name) × (charges.parts ≡ C.parts) × (64 < C.parts) }
-    requires offers { (offers.name ≡ O.name) × (offers.parts ≡ O.parts) × (1 < O.parts) }
-    requires evictions { (evictions.name ≡ E.name) × (evictions.parts ≡ E.parts) × (1 < E.parts) }
+    requires turns { IsBlankOf T.Ledger 64 turns }
+    requires charges { IsBlankOf C.Ledger 64 charges }
+    requires offers { IsBlankOf O.Ledger 1 offers }
+    requires evictions { IsBlankOf E.Ledger 1 evictions }
 {
     let (books, mut shares) = Books::<T, C, O, E>::open(alloc, turns, charges, offers, evictions)?;
     serve_books(rt, alloc, books, &mut shares, left, pause, met)

@@ -9,12 +9,14 @@
 
 mod arguments;
 mod errors;
+mod fault;
 mod files;
 mod laws;
 mod program;
 mod swap_file;
 
 pub use arguments::{Arguments, ArgumentsError, read_args};
+pub use fault::ProgramFault;
 pub use files::{Folder, SystemFiles};
 pub use laws::lines_are_read;
 pub use program::{ANSWERED, NOT_ACCEPTED, ProgramOutcome, STOPPED, answer, run};

@@ -1,16 +1,17 @@
 //! The program: words, settings, a script, replies and a status.
 
 ghost use Rattle.std.specs.Io.KnownBytes.{Keeps};
-ghost use Rattle.std.specs.Prelude.{◌≡◌, ◌≤◌, replicate, [], true, is_some, map, option_map, string_bytes, IfErr, IfOk, IfSome, MatchOption};
-ghost use Rattle.wh_engine.specs.Draining.{HasServed};
-ghost use Rattle.wh_engine.specs.declared.fault.ScriptFault.TheVariants.{Memory, Settings as NoSettings, Swap};
+ghost use Rattle.std.specs.Prelude.{◌≡◌, ◌≤◌, ℕ, List, replicate, [], true, is_some, map, option_map, string_bytes, IfErr, IfOk, IfSome, MatchOption};
+ghost use Rattle.wh_engine.specs.Draining.{HoldsAmid};
+ghost use Rattle.wh_script.specs.Runs.{Runs};
 ghost use Rattle.wh_script.specs.Starting.{IsEmptyDevice};
 ghost use Rattle.wh_settings.specs.View.{settings_of};
 ghost use Rattle.wh_swap.specs.Written.{HasReadRight, page_faults, page_held};
-ghost use Rattle.wasmhost_program.specs.ProgramOutput.{EndsWith, HasServedSo, IsFaultOfDevice, IsFaultOfSettings, ReadsSettings, RunsAsked, RunsScript, RunsWith};
+ghost use Rattle.wasmhost_program.specs.ProgramOutput.{EndsWith, HasServedSo, HoldsOver, IsFaultOfDevice, IsFaultOfSettings, ReadsSettings, RunsAsked, RunsScript, RunsWith, runs_amid};
 
 use crate::arguments::{Arguments, ArgumentsError, read_args};
 use crate::errors::Errors;
+use crate::fault::{ProgramFault, outcome_of};
 use crate::files::{Folder, LateFile, LateInput, SystemFiles, read_at_most};
 use crate::swap_file::{Lockable, SwapFile, open_swap_file};
 use std::alloc::Global;
@@ -46,14 +47,16 @@ fn words(rt: &(impl Env + AllocGlobal)) -> io::Result<Vec<String>> {
 ///
 /// # Errors
 /// `Settings` where it can't be opened or read, or has too many; `Memory` where there is none for them.
-fn settings_bytes<S: Folder>(alloc: Global, folder: &S, path: &str) -> Result<Vec<u8>, ScriptFault>
+fn settings_bytes<S: Folder>(alloc: Global, folder: &S, path: &str) -> Result<Vec<u8>, ProgramFault>
     ensures bytes { IfOk result (λ bytes. Keeps (S.known folder.now path.now) (Some bytes.items)) }
     ensures err { IfErr result IsFaultOfSettings }
 {
     match read_at_most(alloc, folder, path, u64::from(MOST_SETTINGS_BYTES) + 1) {
         Ok(bytes) if bytes.len() <= MOST_SETTINGS_BYTES as usize => Ok(bytes),
-        Err(error) if error.kind() == ErrorKind::OutOfMemory => Err(ScriptFault::Memory),
-        Ok(_) | Err(_) => Err(ScriptFault::Settings),
+        Err(error) if error.kind() == ErrorKind::OutOfMemory => Err(ProgramFault::Script(
+            ScriptFault::Memory,
+        )),
+        Ok(_) | Err(_) => Err(ProgramFault::Settings),
     }
 }
 
@@ -65,7 +68,7 @@ fn settings_of_file<S: Folder>(
     alloc: Global,
     folder: &S,
     path: Option<&str>,
-) -> Result<Settings, ScriptFault>
+) -> Result<Settings, ProgramFault>
     ensures settings { IfOk result (λ settings. ReadsSettings (S.known folder.now)
         (option_map (λ p. p.now) path.entry) (settings_of settings)) }
     ensures err { IfErr result IsFaultOfSettings }
@@ -77,8 +80,8 @@ fn settings_of_file<S: Folder>(
     let bytes = settings_bytes(alloc, folder, path)?;
     match read_settings(alloc, &bytes) {
         Ok(settings) => Ok(settings),
-        Err(SettingsError::Memory) => Err(ScriptFault::Memory),
-        Err(SettingsError::Invalid) => Err(ScriptFault::Settings),
+        Err(SettingsError::Memory) => Err(ProgramFault::Script(ScriptFault::Memory)),
+        Err(SettingsError::Invalid) => Err(ProgramFault::Settings),
     }
 }
 
@@ -96,16 +99,16 @@ fn device_over<F: OpenFile + Read + Write + Seek + Drop>(
     alloc: Global,
     own: &SwapFile<F>,
     slots: u32,
-) -> Result<StreamSwap<F>, ScriptFault>
+) -> Result<StreamSwap<F>, ProgramFault>
     ensures held { IfOk result (λ device. page_held device ≡ replicate slots []) }
     ensures faults { IfOk result (λ device. page_faults device ≡ []) }
     ensures err { IfErr result IsFaultOfDevice }
 {
     let Ok(file) = own.handle() else {
-        return Err(ScriptFault::Swap);
+        return Err(ProgramFault::Swap);
     };
     let Ok(device) = StreamSwap::new(alloc, file, slots) else {
-        return Err(ScriptFault::Memory);
+        return Err(ProgramFault::Script(ScriptFault::Memory));
     };
     Ok(device)
 }
@@ -128,10 +131,11 @@ fn run_over<
     output: &mut W,
 ) -> (Result<(), ScriptFault>, Option<D>)
     requires { IsEmptyDevice settings.now.slots (D.held device) }
-    ensures { IfSome result.1 (λ after. HasServed (D.honest after) (D.faults device)
-        (D.faults after)) → RunsScript (S.known folder.now) (S.files folder.now)
+    ensures { let holds = λ (met : List ℕ). RunsScript (runs_amid met) (S.known folder.now) (S.files folder.now)
         (settings_of settings.now) (option_map (λ p. p.now) given.entry.script) (R.remaining input.old)
-        (R.remaining input.new) (W.contents output.old) (W.contents output.new) result.0 }
+        (R.remaining input.new) (W.contents output.old) (W.contents output.new) result.0 in
+        MatchOption result.1 (holds []) (λ after. HoldsAmid (D.honest after) (D.faults device)
+        (D.faults after) holds) }
 {
     let alloc = rt.alloc();
     let workers = given.workers;
@@ -162,7 +166,7 @@ fn run_in_memory<
     input: &mut R,
     output: &mut W,
 ) -> Result<(), ScriptFault>
-    ensures { RunsScript (S.known folder.now) (S.files folder.now) (settings_of settings.now)
+    ensures { RunsScript (runs_amid []) (S.known folder.now) (S.files folder.now) (settings_of settings.now)
         (option_map (λ p. p.now) given.entry.script) (R.remaining input.old) (R.remaining input.new)
         (W.contents output.old) (W.contents output.new) result }
 {
@@ -188,16 +192,20 @@ fn run_on_file<
     own: &SwapFile<E::File>,
     input: &mut R,
     output: &mut W,
-) -> (Result<(), ScriptFault>, Option<StreamSwap<E::File>>)
+) -> (Result<(), ProgramFault>, Option<StreamSwap<E::File>>)
 where
     E::File: Send + 'static,
     requires { is_some (settings_of settings.now).swap ≡ true }
-    ensures { HasServedSo result.1 → RunsWith (S.known folder.now) (S.files folder.now)
-        (settings_of settings.now) (option_map (λ p. p.now) given.entry.script) (R.remaining input.old)
-        (R.remaining input.new) (W.contents output.old) (W.contents output.new) result.0 }
+    ensures { HoldsOver result.1 (λ met. RunsWith (runs_amid met) (S.known folder.now)
+        (S.files folder.now) (settings_of settings.now) (option_map (λ p. p.now) given.entry.script)
+        (R.remaining input.old) (R.remaining input.new) (W.contents output.old)
+        (W.contents output.new) result.0) }
 {
     match device_over(rt.alloc(), own, settings.slots) {
-        Ok(device) => run_over(rt, folder, settings, given, device, input, output),
+        Ok(device) => {
+            let (outcome, device) = run_over(rt, folder, settings, given, device, input, output);
+            (outcome_of(outcome), device)
+        }
         Err(fault) => (Err(fault), None),
     }
 }
@@ -216,19 +224,20 @@ fn run_with<
     given: Arguments<'_>,
     input: &mut R,
     output: &mut W,
-) -> (Result<(), ScriptFault>, Option<StreamSwap<E::File>>)
+) -> (Result<(), ProgramFault>, Option<StreamSwap<E::File>>)
 where
     E::File: Lockable + Send + 'static,
-    ensures { HasServedSo result.1 → RunsWith (S.known folder.now) (S.files folder.now)
-        (settings_of settings.now) (option_map (λ p. p.now) given.entry.script) (R.remaining input.old)
-        (R.remaining input.new) (W.contents output.old) (W.contents output.new) result.0 }
+    ensures { HoldsOver result.1 (λ met. RunsWith (runs_amid met) (S.known folder.now)
+        (S.files folder.now) (settings_of settings.now) (option_map (λ p. p.now) given.entry.script)
+        (R.remaining input.old) (R.remaining input.new) (W.contents output.old)
+        (W.contents output.new) result.0) }
 {
     let Some(path) = &settings.swap else {
         let outcome = run_in_memory(rt, folder, settings, given, input, output);
-        return (outcome, None);
+        return (outcome_of(outcome), None);
     };
     let Ok(own) = open_swap_file(rt, path) else {
-        return (Err(ScriptFault::Swap), None);
+        return (Err(ProgramFault::Swap), None);
     };
     let ended = run_on_file(rt, folder, settings, given, &own, input, output);
     // That nothing could be taken out of the file has nobody to be told: what was answered stays so.
@@ -249,13 +258,13 @@ fn run_given<
     given: Arguments<'_>,
     input: &mut R,
     output: &mut W,
-) -> (Result<(), ScriptFault>, Option<StreamSwap<E::File>>)
+) -> (Result<(), ProgramFault>, Option<StreamSwap<E::File>>)
 where
     E::File: Lockable + Send + 'static,
-    ensures { HasServedSo result.1 → RunsAsked (S.known folder.now) (S.files folder.now)
-        (option_map (λ p. p.now) given.entry.settings) (option_map (λ p. p.now) given.entry.script)
-        (R.remaining input.old) (R.remaining input.new) (W.contents output.old)
-        (W.contents output.new) result.0 }
+    ensures { HoldsOver result.1 (λ met. RunsAsked (runs_amid met) (S.known folder.now)
+        (S.files folder.now) (option_map (λ p. p.now) given.entry.settings)
+        (option_map (λ p. p.now) given.entry.script) (R.remaining input.old) (R.remaining input.new)
+        (W.contents output.old) (W.contents output.new) result.0) }
 {
     match settings_of_file(rt.alloc(), folder, given.settings) {
         Ok(settings) => run_with(rt, folder, &settings, given, input, output),
@@ -264,7 +273,7 @@ where
 }
 
 /// Says why the program stops. A failed write of that has nobody to be told.
-fn stop(errors: &mut impl Write, fault: ScriptFault) -> u8
+fn stop(errors: &mut impl Write, fault: ProgramFault) -> u8
     ensures { result ≡ 1 }
 {
     let _ = writeln!(errors, "wasmhost: {fault}");
@@ -292,13 +301,17 @@ where
     ensures status { result.status ≤ 2 }
     // Which script was answered, with which settings, and how much of it, by the status: so it is where pages are swapped to
     // memory, and over a file where that has given what was written to it, and no call of it failed.
-    ensures ends { HasServedSo result.swap → EndsWith (S.known folder.now) (S.files folder.now)
+    ensures ends { HasServedSo result.swap → EndsWith Runs (S.known folder.now) (S.files folder.now)
         (map string_bytes words.now) (R.remaining input.old) (R.remaining input.new)
         (W.contents output.old) (W.contents output.new) result.status }
+    // Where calls of it did fail, so it is still, but that a call may stand for such a fault until it is tried again.
+    ensures amid { HoldsOver result.swap (λ met. EndsWith (runs_amid met) (S.known folder.now)
+        (S.files folder.now) (map string_bytes words.now) (R.remaining input.old)
+        (R.remaining input.new) (W.contents output.old) (W.contents output.new) result.status) }
 {
     let (outcome, swap) = match read_args(rt.alloc(), words) {
         Ok(given) => run_given(rt, folder, given, input, output),
-        Err(ArgumentsError::Memory) => (Err(ScriptFault::Memory), None),
+        Err(ArgumentsError::Memory) => (Err(ProgramFault::Script(ScriptFault::Memory)), None),
         Err(ArgumentsError::Line(error)) => {
             let _ = write!(errors, "{error}");
             return ProgramOutcome {
@@ -325,7 +338,7 @@ where
     let words = match words(&rt) {
         Ok(words) => words,
         Err(error) if error.kind() == ErrorKind::OutOfMemory => {
-            return ExitCode::from(stop(&mut errors, ScriptFault::Memory));
+            return ExitCode::from(stop(&mut errors, ProgramFault::Script(ScriptFault::Memory)));
         }
         Err(error) => {
             let _ = writeln!(errors, "error: {error}");

@@ -3,7 +3,8 @@
 ghost use Rattle.std.specs.Prelude.{OnOk, IfOk, IfErr};
 ghost use Rattle.std.specs.Option.{option_copied};
 ghost use Rattle.wh_syntax.specs.View.{view_module};
-ghost use Rattle.wh_admit.specs.View.{view_params, linked_module};
+ghost use Rattle.wh_params.specs.View.{view_params};
+ghost use Rattle.wh_admit.specs.View.{linked_module};
 ghost use Rattle.wh_admit.specs.AdmissionNumbers.{AreShares, AreFrames, HasNumbers, RefusesNumbers};
 ghost use Rattle.wh_admit.specs.AdmittedStart.{BeginsAs, BeginsAdmitted, RefusesBeginning};
 ghost use Rattle.wh_admit.specs.AdmissionFaults.{MeetsNone, RefusesAdmission};
@@ -11,13 +12,13 @@ ghost use Rattle.wh_admit.specs.AdmissionFaults.{MeetsNone, RefusesAdmission};
 use crate::error::AdmitError;
 use crate::limits::{FRAMES_OF_PAGE, LEAST_FRAMES, MOST_FRAMES, MOST_INSTANCES, MOST_SHARES};
 use crate::outcome::Admitted;
-use crate::params::Params;
 use crate::room::Room;
 use crate::words::are_words;
 use std::alloc::Global;
 use wh_imports::Linked;
 use wh_initial::{Parameters, instantiate};
 use wh_machine::Machine;
+use wh_params::Params;
 
 /// Looks at the numbers that the owner gives, one after the other, and at the room that is left. It takes no memory.
 ///

@@ -12,7 +12,6 @@ mod error;
 mod laws;
 mod limits;
 mod outcome;
-mod params;
 mod room;
 mod words;
 
@@ -21,5 +20,5 @@ pub use error::AdmitError;
 pub use laws::standing_holds;
 pub use limits::{LEAST_FRAMES, MOST_FRAMES, MOST_INSTANCES, MOST_SHARES};
 pub use outcome::Admitted;
-pub use params::Params;
 pub use room::Room;
+pub use wh_params::Params;

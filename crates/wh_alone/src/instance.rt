@@ -34,7 +34,6 @@ pub struct Instance {
     stage: Stage,
 }
 
-// Written out, so that letting one go is one call, and not one for each part of its parts.
 impl Drop for Instance {
     fn drop(self) {
         let Instance {

@@ -1,6 +1,6 @@
 -- A host goes on from how its owner left it, and the book still fits it.
-use Rattle.std.proofs.Common.{◌≡◌, ℕ, List, [], ◌∷◌, ◌++◌, Option, refl, sym, ap, ◌∙◌, append_assoc}
-use Rattle.std.specs.Prelude.{Result, Ok, Err, IfErr, OnOk}
+use Rattle.std.proofs.Common.{◌≡◌, ℕ, List, [], ◌++◌, Option, refl, sym, subst, ◌∙◌}
+use Rattle.std.specs.Prelude.{Result, Ok, Err}
 use Rattle.wh_host_model.specs.declared.plain.InstId.{InstId}
 use Rattle.wh_host_model.specs.declared.plain.SwapError.{SwapError}
 use Rattle.wh_host_model.specs.declared.plain.TurnEnd.{TurnEnd}
@@ -9,12 +9,14 @@ use Rattle.wh_host_model.specs.Host.Worlds.{Tenant, World}
 use Rattle.wh_host_model.specs.Host.Events.{epoch, evict_commit, fetch_commit, provide, turn}
 use Rattle.wh_host_model.specs.Host.Happens.{AwaitsFrame, AwaitsFrameFor, IsTurn}
 use Rattle.wh_host_model.specs.Host.Misreading.{by_event, by_misreading}
+use Rattle.wh_swap.specs.DeviceCalls.{ServesOn, call_faults}
 use Rattle.wh_reclaim.specs.Whole.{IsAsWhole}
+use Rattle.wh_reclaim.proofs.DeviceCalls.{serves_still, serves_then}
 use Rattle.wh_host.specs.Backing.{KeepsBacking}
 use Rattle.wh_host.specs.Hosting.{HostState, IsHost}
 use Rattle.wh_host.specs.Paging.{MovesAnyhow, MovesOnly, MovesWith, provide_fault}
 use Rattle.wh_cell.specs.Going.{IsPartOf, fault_or_none}
-use Rattle.wh_cell.specs.LeftByOwner.{ComesFrom, FitsHost, LeftState, ServesOn, WorksOn, WorksAnyhowOn, left_as}
+use Rattle.wh_cell.specs.LeftByOwner.{ComesFrom, FitsHost, LeftState, WorksOn, WorksAnyhowOn, left_as}
 use Rattle.wh_cell.proofs.Alike.{fits_on}
 use Rattle.wh_cell.proofs.Going.{anyhow_where_right, works_anyhow_by, works_anyhow_on, works_anyhow_to_itself, works_by, works_on, works_to_itself, works_within}
 use Rattle.wh_cell.proofs.Requested.{misread_fits, moves_fit, pages_fit}
@@ -56,28 +58,6 @@ works_anyhow_by_fetch h h2 id call fault moves w st =
     let then = works_anyhow_by x.0 x.1 (by_event (fetch_commit id call fault)) tt x.3 in
     (x.1, works_anyhow_on w x.0 x.1 read then, x.4)
 
--- ---- the device
-
-abbrev Serves : {D : Type 0} (keeps honest : D → Type 0) (faults : D → List SwapError) → D → List SwapError → D → Type 0
-Serves keeps honest faults d more d2 = ServesOn keeps honest faults d more d2
-
-serves_still : {D : Type 0} (keeps honest : D → Type 0) (faults : D → List SwapError) (d : D) → Serves keeps honest faults d [] d
-serves_still keeps honest faults d = record {
-  was_honest = λ is. is;
-  goes_on = λ is. is;
-  stays_honest = λ does is. is;
-  added = refl;
-}
-
-serves_then : {D : Type 0} (keeps honest : D → Type 0) (faults : D → List SwapError) (d d2 d3 : D) (xs ys : List SwapError)
-    → Serves keeps honest faults d xs d2 → Serves keeps honest faults d2 ys d3 → Serves keeps honest faults d (ys ++ xs) d3
-serves_then keeps honest faults d d2 d3 xs ys a b = record {
-  was_honest = λ is. a.was_honest (b.was_honest is);
-  goes_on = λ does. b.goes_on (a.goes_on does);
-  stays_honest = λ does is. b.stays_honest (a.goes_on does) (a.stays_honest does is);
-  added = b.added ∙ ap (λ zs. ys ++ zs) a.added ∙ sym (append_assoc ys xs (faults d));
-}
-
 -- ---- as many frames and slots
 
 pub whole_still : (s : Space) → IsAsWhole s s
@@ -95,9 +75,9 @@ keeps_whole s s2 k = record {
 
 -- ---- how it was left
 
-faults_of : (result : Result ℕ SwapError) (faults faults2 : List SwapError) → OnOk result (faults2 ≡ faults) → IfErr result (λ fault. faults2 ≡ fault ∷ faults) → faults2 ≡ fault_or_none (provide_fault result) ++ faults
-faults_of (Ok left) faults faults2 ok err = ok
-faults_of (Err fault) faults faults2 ok err = err
+provided_faults : (result : Result ℕ SwapError) → call_faults result ≡ fault_or_none (provide_fault result)
+provided_faults (Ok left) = refl
+provided_faults (Err fault) = refl
 
 module _ {D : Type 0} (keeps honest : D → Type 0) (faults : D → List SwapError) where
   pub left_now : (h : HostState) (d : D) → ComesFrom keeps honest faults (left_as h d) d h
@@ -142,14 +122,12 @@ module _ {D : Type 0} (keeps honest : D → Type 0) (faults : D → List SwapErr
   comes_on_still left d h h2 c works backing = comes_on_alone left d h h2 c works (keeps_whole h.space h2.space backing)
 
   pub comes_on_provided : (left : LeftState D) (d d2 : D) (h h2 : HostState) (id : InstId) (result : Result ℕ SwapError) → ComesFrom keeps honest faults left d h
-      → (honest d2 → honest d) → (keeps d → keeps d2) → (keeps d → honest d → honest d2)
-      → OnOk result (faults d2 ≡ faults d) → IfErr result (λ fault. faults d2 ≡ fault ∷ faults d)
+      → ServesOn keeps honest faults d (call_faults result) d2
       → (honest d2 → MovesWith h id AwaitsFrame (provide_fault result) h2) → MovesAnyhow h id AwaitsFrame (provide_fault result) h2
       → IsAsWhole h.space h2.space → ComesFrom keeps honest faults left d2 h2
-  comes_on_provided left d d2 h h2 id result c was goes stays ok err moves anyhow whole =
+  comes_on_provided left d d2 h h2 id result c serves moves anyhow whole =
       let fault = provide_fault result in
-      comes_on_by left d d2 (fault_or_none fault) h h2 c
-      (record { was_honest = was; goes_on = goes; stays_honest = stays; added = faults_of result (faults d) (faults d2) ok err })
+      comes_on_by left d d2 (fault_or_none fault) h h2 c (subst (λ more. ServesOn keeps honest faults d more d2) (provided_faults result) serves)
       (λ is. works_by_provision h h2 id fault (moves is)) (works_anyhow_by_provision h h2 id fault anyhow) whole
 
 -- ---- the book

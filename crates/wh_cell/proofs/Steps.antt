@@ -22,7 +22,8 @@ use Rattle.wh_host.specs.Paging.{MovesAnyhow, MovesOnly, MovesWith, provide_faul
 use Rattle.wh_host.specs.Requests.{LeadsByRequest}
 use Rattle.wh_host.specs.Showing.{RepresentsReached}
 use Rattle.wh_cell.specs.Calling.{HasRead, HasWritten}
-use Rattle.wh_cell.specs.Going.{IsPartOf, call_faults, fault_or_none}
+use Rattle.wh_swap.specs.DeviceCalls.{ServesOn, call_faults}
+use Rattle.wh_cell.specs.Going.{IsPartOf, fault_or_none}
 use Rattle.wh_cell.specs.Knowing.{AgreesWith, KnownState, NoneOut, with_ticket, without_ticket}
 use Rattle.wh_cell.specs.LeftByOwner.{ComesFrom, FitsHost, HasTakenOn, LeftState, WorksOn, left_as}
 use Rattle.wh_cell.specs.Locking.{BooksState, IsInStep, LockedState}
@@ -112,11 +113,11 @@ module _ {D : Type 0} (held : D → List (List ℕ)) (keeps honest : D → Type 
   -- a provision under both locks
   pub provided_in_step : (l : LockedState D) (h2 : HostState) (device device2 : D) (known2 : KnownState D) (books2 : BooksState) (id : InstId) (result : Result ℕ SwapError) → IsInStep held keeps honest faults l
       → l.known.device ≡ Some device → NoneOut l.known.out → known2 ≡ record l.known { device = Some device2 }
-      → (honest device2 → honest device) → (keeps device → keeps device2) → (keeps device → honest device → honest device2) → OnOk result (faults device2 ≡ faults device) → IfErr result (λ fault. faults device2 ≡ fault ∷ faults device)
+      → ServesOn keeps honest faults device (call_faults result) device2
       → (honest device2 → MovesWith l.host id AwaitsFrame (provide_fault result) h2) → MovesAnyhow l.host id AwaitsFrame (provide_fault result) h2
       → IsAsWhole l.host.space h2.space → tickets h2.space ≡ 0 → h2.space.slots.held ≡ held device2
       → books2.charges ≡ l.books.charges → IsInStep held keeps honest faults (record l { host = h2; known = known2; books = books2 })
-  provided_in_step l h2 device device2 known2 books2 id result s has none is was goes stays ok err moves anyhow whole none2 agrees same =
+  provided_in_step l h2 device device2 known2 books2 id result s has none is serves moves anyhow whole none2 agrees same =
       let x = anyhow s.some.0 s.some.1 in
       let one : s.device ≡ device = same_Some s.device device (sym s.agrees.has ∙ has) in
       let out = out_is held l.host.space l.known s.device s.agrees in
@@ -133,8 +134,8 @@ module _ {D : Type 0} (held : D → List (List ℕ)) (keeps honest : D → Type 
           has = ap (λ (k : KnownState D). k.device) is;
           pass = pass ∙ ap (λ (k : KnownState D). (let p : Pass = record { held = held device2; out = k.out } in p)) (sym is);
         };
-        led = λ right. led_by_work l.host h2 (fault_or_none (provide_fault result)) (works_by_provision l.host h2 id (provide_fault result) (moves right)) (s.led (subst honest (sym one) (was right)));
-        came = comes_on_provided keeps honest faults l.left device device2 l.host h2 id result (subst (λ z. ComesFrom keeps honest faults l.left z l.host) one s.came) was goes stays ok err moves anyhow whole;
+        led = λ right. led_by_work l.host h2 (fault_or_none (provide_fault result)) (works_by_provision l.host h2 id (provide_fault result) (moves right)) (s.led (subst honest (sym one) (serves.was_honest right)));
+        came = comes_on_provided keeps honest faults l.left device device2 l.host h2 id result (subst (λ z. ComesFrom keeps honest faults l.left z l.host) one s.came) serves moves anyhow whole;
       }
 
   -- a ticket goes out

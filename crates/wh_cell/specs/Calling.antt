@@ -5,13 +5,12 @@ use Rattle.wh_host_model.specs.declared.plain.InstId.{InstId}
 use Rattle.wh_host_model.specs.declared.plain.SwapError.{SwapError}
 use Rattle.wh_host_model.specs.Space.Errands.{Errand, to_read, to_write}
 use Rattle.wh_host_model.specs.Space.Laws.{IsProvided}
+use Rattle.wh_swap.specs.DeviceCalls.{ServesOn, call_faults}
 use Rattle.wh_host.specs.Hosting.{HostState}
 use Rattle.wh_host.specs.Paging.{WaitsFor}
 use Rattle.wh_cell.specs.declared.moving.Begun.{Begun}
 use Rattle.wh_cell.specs.declared.moving.Begun.TheVariants.{Coming, Leaving, Neither}
-use Rattle.wh_cell.specs.Going.{call_faults}
 use Rattle.wh_cell.specs.Knowing.{KnownState, with_ticket}
-use Rattle.wh_cell.specs.LeftByOwner.{ServesOn}
 
 module _ {D : Type 0} (held : D → List (List ℕ)) (keeps honest : D → Type 0) (faults : D → List SwapError) where
   -- it was asked to write these bytes to a slot, and answered so: the slot holds them, or nothing that is known

@@ -1,5 +1,5 @@
 -- What befalls a host between two requests of its owner.
-use Rattle.std.specs.Prelude.{◌≡◌, ◌⊎◌, List, [], ◌∷◌, ◌++◌, Option, Some, None, Result, Ok, Err}
+use Rattle.std.specs.Prelude.{◌≡◌, ◌⊎◌, List, [], ◌∷◌, ◌++◌, Option, Some, None}
 use Rattle.std.specs.List.{AllByRecursion}
 use Rattle.wh_host_model.specs.declared.plain.SwapError.{SwapError}
 use Rattle.wh_host_model.specs.Host.Worlds.{World}
@@ -37,11 +37,6 @@ fault_in other = []
 abbrev pub faults_in : List Event → List SwapError
 faults_in [] = []
 faults_in (e ∷ es) = faults_in es ++ fault_in e
-
--- of one call of the device
-abbrev pub call_faults : Result Unit SwapError → List SwapError
-call_faults (Ok done) = []
-call_faults (Err fault) = fault ∷ []
 
 -- the one list is the other, but that elements may be left out
 abbrev pub IsPartOf : {X : Type 0} → List X → List X → Type 0

@@ -1,10 +1,11 @@
 -- A host as its owner left it, and what has become of it since.
-use Rattle.std.specs.Prelude.{◌≡◌, ◌++◌, ℕ, List, [], Option, Some, None, refl}
+use Rattle.std.specs.Prelude.{◌≡◌, ℕ, List, [], Option, Some, None, refl}
 use native.Mathlib.Nat.{le_refl}
 use Rattle.std.proofs.lemmas.Bool.{leb-true}
 use Rattle.wh_host_model.specs.declared.plain.SwapError.{SwapError}
 use Rattle.wh_host_model.specs.Space.Parts.{empty_space}
 use Rattle.wh_host_model.specs.Host.Worlds.{World}
+use Rattle.wh_swap.specs.DeviceCalls.{ServesOn}
 use Rattle.wh_reclaim.specs.Whole.{IsAsWhole}
 use Rattle.wh_host.specs.Hosting.{HostState, IsHost}
 use Rattle.wh_cell.specs.Charging.{charged, FitsBook, HasTaken}
@@ -40,15 +41,6 @@ pub record LeftState (D : Type 0) : Type 0 where
 
 abbrev pub left_as : {D : Type 0} → HostState → D → LeftState D
 left_as h device = record { host = h; device = Some device }
-
--- What calls of a device leave of what is known of it: if it has read right so far, it had before; if it keeps what is
--- written to it, it goes on to, and goes on to read right; and its calls failed so, the last one first.
-pub record ServesOn {D : Type 0} (keeps honest : D → Type 0) (faults : D → List SwapError) (device : D)
-    (more : List SwapError) (device2 : D) : Type 0 where
-  pub was_honest : honest device2 → honest device
-  pub goes_on : keeps device → keeps device2
-  pub stays_honest : keeps device → honest device → honest device2
-  pub added : faults device2 ≡ more ++ faults device
 
 -- The host came from the one that its owner left, by work alone. Where the device has read right, that was events,
 -- in which its calls failed as it says. There are as many frames and slots as before.

@@ -3,6 +3,7 @@ pub mod Charging
 pub mod Counted
 pub mod Going
 pub mod Knowing
+pub mod Ledgers
 pub mod LeftByOwner
 pub mod Locking
 pub mod Owning

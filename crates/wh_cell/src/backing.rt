@@ -20,7 +20,6 @@ pub struct Backing<D: SwapDev, B: CellAgreements> {
     pub(crate) keeper: Keeper<D, B>,
 }
 
-// Written out, so that letting one go is one call, and not one for each part of its parts.
 impl<D: SwapDev + Drop, B: CellAgreements> Drop for Backing<D, B> {
     fn drop(self) {
         let Backing {

@@ -1,12 +1,13 @@
 //! The cell: a host under a lock that threads share.
 
-ghost use Rattle.std.specs.Prelude.{◌≡◌, ◌<◌, ◌≤◌, IfOk};
+ghost use Rattle.std.specs.Prelude.{◌≡◌, ◌≤◌, IfOk};
 ghost use Rattle.std.specs.Sync.Mutex.{mutex_guard_value};
 ghost use Rattle.wh_reclaim.specs.Together.{AreTogether};
 ghost use Rattle.wh_host.specs.Rolls.{IsRollOf};
 ghost use Rattle.wh_host.specs.Showing.{RepresentsReached};
 ghost use Rattle.wh_threads.specs.Counting.{IsZero};
 ghost use Rattle.wh_cell.specs.Calling.{IsMadeReady};
+ghost use Rattle.wh_cell.specs.Ledgers.{HasLedgers};
 ghost use Rattle.wh_cell.specs.LeftByOwner.{HasNoCharge, left_as};
 ghost use Rattle.wh_cell.specs.Locking.{IsInStep};
 ghost use Rattle.wh_cell.specs.declared.moving.Moved.TheVariants.{Ready};
@@ -40,7 +41,6 @@ pub struct HostCell<D: SwapDev, T: Ledger, C: Ledger, O: Ledger, E: Ledger, B: C
     both: Arc<Both<D, T, C, O, E, B>, Global>,
 }
 
-// Written out, so that letting one go is one call, and not one for each part of its parts.
 impl<D: SwapDev + Drop, T: Ledger, C: Ledger, O: Ledger, E: Ledger, B: CellAgreements> Drop
     for HostCell<D, T, C, O, E, B> {
     fn drop(self) {
@@ -116,14 +116,7 @@ impl<D: SwapDev + Drop, T: Ledger, C: Ledger, O: Ledger, E: Ledger, B: CellAgree
         requires led { D.honest cell_parts.device → RepresentsReached host }
         requires owned { cell_parts.to_owner ≡ B.to_owner }
         requires backed { cell_parts.to_device ≡ B.to_device }
-        requires turns { (cell_parts.turns.name ≡ T.name) × (cell_parts.turns.parts ≡ T.parts)
-            × (64 < T.parts) }
-        requires charges { (cell_parts.charges.name ≡ C.name) × (cell_parts.charges.parts ≡ C.parts)
-            × (64 < C.parts) }
-        requires offers { (cell_parts.offers.name ≡ O.name) × (cell_parts.offers.parts ≡ O.parts)
-            × (1 < O.parts) }
-        requires evictions { (cell_parts.evictions.name ≡ E.name)
-            × (cell_parts.evictions.parts ≡ E.parts) × (1 < E.parts) }
+        requires ledgers { HasLedgers T.Ledger C.Ledger O.Ledger E.Ledger cell_parts }
         ensures owner { IfOk result (λ r. r.1 ≡ left_as host cell_parts.device) }
         ensures shares { IfOk result (λ r. IsZero r.2) }
     {

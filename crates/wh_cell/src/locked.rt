@@ -1,6 +1,6 @@
 //! What the lock lends.
 
-ghost use Rattle.std.specs.Prelude.{◌≡◌, ◌+◌, ◌-◌, ◌∷◌, ◌^◌, ◌<◌, ℕ, min, Ok, IfOk, IfErr, IfSome, IfNone, OnOk, OnErr};
+ghost use Rattle.std.specs.Prelude.{◌≡◌, ◌+◌, ◌-◌, ◌^◌, ◌<◌, ℕ, min, Ok, IfOk, IfSome, IfNone, OnErr};
 ghost use Rattle.wh_model.specs.declared.memory.Need.{Need};
 ghost use Rattle.wh_host_model.specs.Host.Happens.{AwaitsFrame, IsTurn};
 ghost use Rattle.wh_host_model.specs.Host.Worlds.{World};
@@ -14,10 +14,12 @@ ghost use Rattle.wh_host.specs.Left.{LeavesTurned};
 ghost use Rattle.wh_host.specs.Paging.{MovesAnyhow, MovesOnly, MovesWith, WaitsFor, provide_fault};
 ghost use Rattle.wh_host.specs.Sharing.{CanOffer};
 ghost use Rattle.wh_host.specs.Showing.{RepresentsReached};
+ghost use Rattle.wh_swap.specs.DeviceCalls.{ServesOn, call_faults};
 ghost use Rattle.wh_reclaim.specs.Together.{AreTogether};
 ghost use Rattle.wh_threads.specs.Counting.{IsZero, RanTurn, turns_of, charges_of};
 ghost use Rattle.wh_cell.specs.Counted.{CountsEvictions, CountsOn, evictions_of};
 ghost use Rattle.wh_cell.specs.Knowing.{known_of};
+ghost use Rattle.wh_cell.specs.Ledgers.{HasLedgers};
 ghost use Rattle.wh_cell.specs.LeftByOwner.{HasNoCharge, HasTakenOn, left_as};
 ghost use Rattle.wh_cell.specs.Locking.{IsInStep, now_of};
 ghost use Rattle.wh_cell.specs.Owning.{ComesOn};
@@ -100,7 +102,6 @@ pub struct Locked<D: SwapDev, T: Ledger, C: Ledger, O: Ledger, E: Ledger, B: Cel
     pub(crate) left: AgreementHalf<ToOwner<B>, AgreedHost<D>>,
 }
 
-// Written out, so that letting one go is one call, and not one for each part of its parts.
 impl<D: SwapDev, T: Ledger, C: Ledger, O: Ledger, E: Ledger, B: CellAgreements> Drop
     for Locked<D, T, C, O, E, B> {
     fn drop(self) {
@@ -171,14 +172,7 @@ impl<D: SwapDev + Drop, T: Ledger, C: Ledger, O: Ledger, E: Ledger, B: CellAgree
         requires led { D.honest cell_parts.device → RepresentsReached host }
         requires owned { cell_parts.to_owner ≡ B.to_owner }
         requires backed { cell_parts.to_device ≡ B.to_device }
-        requires turns { (cell_parts.turns.name ≡ T.name) × (cell_parts.turns.parts ≡ T.parts)
-            × (64 < T.parts) }
-        requires charges { (cell_parts.charges.name ≡ C.name) × (cell_parts.charges.parts ≡ C.parts)
-            × (64 < C.parts) }
-        requires offers { (cell_parts.offers.name ≡ O.name) × (cell_parts.offers.parts ≡ O.parts)
-            × (1 < O.parts) }
-        requires evictions { (cell_parts.evictions.name ≡ E.name)
-            × (cell_parts.evictions.parts ≡ E.parts) × (1 < E.parts) }
+        requires ledgers { HasLedgers T.Ledger C.Ledger O.Ledger E.Ledger cell_parts }
         ensures host { IfOk result (λ parts. parts.locked.host ≡ host) }
         ensures device { IfOk result (λ parts. parts.backing.device ≡ cell_parts.device) }
         ensures agree { IfOk result (λ parts. parts.locked.known ≡ known_of parts.backing) }
@@ -362,10 +356,8 @@ impl<D: SwapDev, T: Ledger, C: Ledger, O: Ledger, E: Ledger, B: CellAgreements> 
         reclaimer: &mut Helper<E>,
     ) -> Result<u64, SwapError>
         ensures agreed { self.old.known ≡ known_of backing.old }
-        ensures honest { D.honest backing.new.device → D.honest backing.old.device }
-        ensures keeps { D.keeps backing.old.device → D.keeps backing.new.device }
-        ensures kept { D.keeps backing.old.device → D.honest backing.old.device
-            → D.honest backing.new.device }
+        ensures serves { ServesOn D.keeps D.honest D.faults backing.old.device (call_faults result)
+            backing.new.device }
         ensures moves { D.honest backing.new.device
             → MovesWith self.old.host id AwaitsFrame (provide_fault result) self.new.host }
         ensures anyhow { MovesAnyhow self.old.host id AwaitsFrame (provide_fault result)
@@ -388,9 +380,6 @@ impl<D: SwapDev, T: Ledger, C: Ledger, O: Ledger, E: Ledger, B: CellAgreements> 
         ensures others { OthersKeepMinimum self.old.host.space id.place self.new.host.space }
         ensures writes { IfOk result (λ gone.
             D.writes backing.new.device ≡ D.writes backing.old.device + gone) }
-        ensures ok { OnOk result (D.faults backing.new.device ≡ D.faults backing.old.device) }
-        ensures err { IfErr result (λ fault.
-            D.faults backing.new.device ≡ fault ∷ D.faults backing.old.device) }
         ensures counted { CountsEvictions (evictions_of result) reclaimer.old
             self.old.books.evictions reclaimer.new self.new.books.evictions }
         ensures books { self.new.books

@@ -6,12 +6,12 @@ use Rattle.wh_script_model.specs.Words.{IsBits}
 use Rattle.wh_script_model.specs.Commands.{AreParams}
 use Rattle.wh_commands.specs.WordsLeft.{FirstIsNot}
 use Rattle.wh_commands.specs.ParsedCommands.{Refuses}
-use Rattle.wh_commands.specs.declared.error.LineError.{LineError}
-use Rattle.wh_commands.specs.declared.error.LineError.TheVariants.{Syntax}
+use Rattle.wh_commands.specs.declared.error.ParseError.{ParseError}
+use Rattle.wh_commands.specs.declared.error.ParseError.TheVariants.{Syntax}
 use Rattle.wh_commands.proofs.Asking.{not_first}
 
 -- an error that was handed on
-pub refused : {A : Type 0} (P : Type 0) (r : Result A LineError) → IsErrAnd r (λ e. e ≡ Syntax) → ¬ P → IfErr r (Refuses P)
+pub refused : {A : Type 0} (P : Type 0) (r : Result A ParseError) → IsErrAnd r (λ e. e ≡ Syntax) → ¬ P → IfErr r (Refuses P)
 refused P (Ok x) h none = tt
 refused P (Err e) h none = subst (Refuses P) (sym h) none
 

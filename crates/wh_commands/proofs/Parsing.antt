@@ -7,14 +7,14 @@ use Rattle.wh_script_model.specs.Words.{words_of}
 use Rattle.wh_script_model.specs.Commands as lines
 use Rattle.wh_script_model.specs.Commands.{verb, Follow, AsksCommand, admit, invoke}
 use Rattle.wh_commands.specs.declared.command.Command.{Command}
-use Rattle.wh_commands.specs.declared.error.LineError.{LineError}
-use Rattle.wh_commands.specs.declared.error.LineError.TheVariants.{Syntax, NoName, NameTaken, File, Memory}
+use Rattle.wh_commands.specs.declared.error.ParseError.{ParseError}
+use Rattle.wh_commands.specs.declared.error.ParseError.TheVariants.{Syntax, Memory}
 use Rattle.wh_commands.specs.WordsLeft.{IsHexWord}
 use Rattle.wh_commands.specs.ParsedCommands.{Says, FindsAsked, IsAskedBy, Refuses}
 use Rattle.wh_commands.proofs.OneCommand.{by_line, by_keep, by_admit, by_invoke, one_follows}
 
 abbrev pub Parsed : Type 0
-Parsed = Result Command LineError
+Parsed = Result Command ParseError
 
 -- the words behind the first one ask for nothing
 abbrev pub AsksNone : List ℕ → List (List ℕ) → Type 0
@@ -30,12 +30,6 @@ only_by line first word words (Err Memory) e f h none err asked a = tt
 only_by line first word words (Err Syntax) e f h (inl m) err asked a = absurd (cc)
 only_by line first word words (Err Syntax) e f h (inr none) err asked a =
     let g = by_line line word words e asked a in none asked (g.0 ∙ f) g.1
-only_by line first word words (Err NoName) e f h none (inl s) asked a = absurd (cc)
-only_by line first word words (Err NoName) e f h none (inr s) asked a = absurd (cc)
-only_by line first word words (Err NameTaken) e f h none (inl s) asked a = absurd (cc)
-only_by line first word words (Err NameTaken) e f h none (inr s) asked a = absurd (cc)
-only_by line first word words (Err File) e f h none (inl s) asked a = absurd (cc)
-only_by line first word words (Err File) e f h none (inr s) asked a = absurd (cc)
 
 -- ---- errors
 
@@ -47,9 +41,6 @@ pub by_refusal : (P : Type 0) (r : Parsed) → IfErr r (Refuses P) → IfErr r (
 by_refusal P (Ok c) h = tt
 by_refusal P (Err Syntax) h = inl refl
 by_refusal P (Err Memory) h = inr refl
-by_refusal P (Err NoName) h = absurd h
-by_refusal P (Err NameTaken) h = absurd h
-by_refusal P (Err File) h = absurd h
 
 pub none_by : (N : Type 0) (first : List ℕ) (words : List (List ℕ)) (r : Parsed) → (N → AsksNone first words) → OnErr r N
     → IfErr r (λ e. (e ≡ Memory) ⊎ AsksNone first words)
@@ -62,9 +53,6 @@ pub none_refused : (P : Type 0) (first : List ℕ) (words : List (List ℕ)) (r 
 none_refused P first words (Ok c) h n = tt
 none_refused P first words (Err Syntax) h n = inr (λ d e f. n (h d e f))
 none_refused P first words (Err Memory) h n = inl refl
-none_refused P first words (Err NoName) h n = absurd n
-none_refused P first words (Err NameTaken) h n = absurd n
-none_refused P first words (Err File) h n = absurd n
 
 -- ---- by the verb
 

@@ -1,4 +1,3 @@
-pub mod Causes
 pub mod ParsedCommands
 pub mod Laws
 pub mod WordsLeft

@@ -1,30 +1,17 @@
 -- What a command says.
 use Rattle.std.specs.Prelude.{◌≡◌, ℕ, List, Result, Ok, Err, ⊤}
-use Rattle.wh_host_model.specs.Owners.{Params}
 use Rattle.wh_script_model.specs.Commands.{Command as Asked, keep, load, admit, invoke, drain, refuel, cancel, retry, scan, report, release, verb, Follow}
-use Rattle.wh_commands.specs.declared.command.AdmitParams.{AdmitParams}
+use Rattle.wh_params.specs.View.{view_params}
 use Rattle.wh_commands.specs.declared.command.Command.{Command}
 use Rattle.wh_commands.specs.declared.command.Command.TheVariants.{Module, Load, Admit, Invoke, Drain, Refuel, Cancel, Retry, Scan, Report, Release}
-use Rattle.wh_commands.specs.declared.error.LineError.{LineError}
-use Rattle.wh_commands.specs.declared.error.LineError.TheVariants.{Syntax, Memory}
-
--- what an instance is given
-abbrev pub params_of : AdmitParams → Params
-params_of given = record {
-  shares = given.shares;
-  min = given.min;
-  max = given.max;
-  fuel = given.fuel;
-  base = given.base;
-  salt = given.salt;
-  inputs = given.inputs.items;
-}
+use Rattle.wh_commands.specs.declared.error.ParseError.{ParseError}
+use Rattle.wh_commands.specs.declared.error.ParseError.TheVariants.{Syntax, Memory}
 
 -- the command is this one
 abbrev pub Says : Command → Asked → Type 0
 Says (Module name bytes) (keep n b) = (name.now ≡ n) × (bytes.items ≡ b)
 Says (Load name path) (load n p) = (name.now ≡ n) × (path.now ≡ p)
-Says (Admit inst of given) (admit i o params) = (inst.now ≡ i) × (of.now ≡ o) × (params_of given ≡ params)
+Says (Admit inst of given) (admit i o params) = (inst.now ≡ i) × (of.now ≡ o) × (view_params given ≡ params)
 Says (Invoke inst export fuel args) (invoke i e f given) =
     (inst.now ≡ i) × (export.now ≡ e) × (fuel ≡ f) × (args.items ≡ given)
 Says Drain drain = ⊤
@@ -37,10 +24,10 @@ Says (Release inst) (release i) = inst.now ≡ i
 Says command asked = ⊥
 
 -- the command that is found is this one; or there was no memory for it
-abbrev pub FindsAsked : Result Command LineError → Asked → Type 0
+abbrev pub FindsAsked : Result Command ParseError → Asked → Type 0
 FindsAsked (Ok command) asked = Says command asked
 FindsAsked (Err Memory) asked = ⊤
-FindsAsked (Err error) asked = ⊥
+FindsAsked (Err Syntax) asked = ⊥
 
 -- the command is one that these words ask for, the first of them being this verb
 abbrev pub IsAskedBy : List ℕ → List (List ℕ) → Command → Type 0
@@ -48,7 +35,6 @@ IsAskedBy first words command =
     (asked : Asked) × (verb asked ≡ first) × Follow asked words × Says command asked
 
 -- the words aren't so, or there was no memory
-abbrev pub Refuses : Type 0 → LineError → Type 0
+abbrev pub Refuses : Type 0 → ParseError → Type 0
 Refuses P Syntax = ¬ P
 Refuses P Memory = ⊤
-Refuses P error = ⊥

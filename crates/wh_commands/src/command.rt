@@ -1,23 +1,6 @@
 //! What a line may ask for.
 
-/// What the owner of an instance gives it, as a line says it.
-#[derive(Debug, Drop)]
-pub struct AdmitParams {
-    /// Its shares of memory.
-    pub shares: u64,
-    /// The least number of frames that it may keep.
-    pub min: u64,
-    /// The greatest number of frames of its memory.
-    pub max: u64,
-    /// How many charges its start may take.
-    pub fuel: u64,
-    /// The value of the host's global `base`.
-    pub base: u32,
-    /// The value of the host's global `salt`.
-    pub salt: u64,
-    /// The words that the host's function `input` reads.
-    pub inputs: Vec<u64>,
-}
+use wh_params::Params;
 
 /// What a line asks for. Names are 1 to 32 of `a` to `z`, `0` to `9` and `_`.
 #[derive(Debug, Drop)]
@@ -43,7 +26,7 @@ pub enum Command<'a> {
         /// The name of the module.
         module: &'a str,
         /// What it is given.
-        given: AdmitParams,
+        given: Params,
     },
     /// `invoke INST EXPORT FUEL [ARG ..]`: call an exported function.
     Invoke {

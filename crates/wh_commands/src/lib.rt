@@ -9,7 +9,7 @@ mod reading;
 mod shapes;
 mod words;
 
-pub use command::{AdmitParams, Command};
-pub use error::LineError;
+pub use command::Command;
+pub use error::ParseError;
 pub use laws::one_command;
 pub use reading::parse;

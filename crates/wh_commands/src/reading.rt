@@ -6,21 +6,23 @@ ghost use Rattle.std.specs.List.{AllZip};
 ghost use Rattle.wh_model.specs.declared.ValType.TheVariants.{I64};
 ghost use Rattle.wh_script_model.specs.Lines.{IsName, IsWord};
 ghost use Rattle.wh_script_model.specs.Hex.{IsHex};
-ghost use Rattle.wh_host_model.specs.Owners.{Params};
+ghost use Rattle.wh_host_model.specs.Owners as owners;
 ghost use Rattle.wh_script_model.specs.Words.{IsNumber, IsCount, IsBits};
 ghost use Rattle.wh_script_model.specs.Commands.{AreParams, Follow, AsksCommand};
 ghost use Rattle.wh_script_model.specs.Commands as lines;
 ghost use Rattle.wh_commands.specs.WordsLeft.{words_left, IsHexWord};
-ghost use Rattle.wh_commands.specs.ParsedCommands.{params_of, Says, FindsAsked, IsAskedBy, Refuses};
+ghost use Rattle.wh_commands.specs.ParsedCommands.{Says, FindsAsked, IsAskedBy, Refuses};
+ghost use Rattle.wh_params.specs.View.{view_params};
 
-use crate::command::{AdmitParams, Command};
-use crate::error::LineError;
+use crate::command::Command;
+use crate::error::ParseError;
 use crate::numbers::{i64_bits_in, number_in};
 use crate::words::{Words, words_in};
 use std::alloc::Global;
+use wh_params::Params;
 
 /// `NAME HEX`
-fn keep(alloc: Global, words: Words<'_>) -> Result<Command<'_>, LineError>
+fn keep(alloc: Global, words: Words<'_>) -> Result<Command<'_>, ParseError>
     ensures ok { IfOk result (λ command. IsAskedBy (codes "module")
         (words_left words.entry) command) }
     ensures none { IfErr result (Refuses ((name hex : List ℕ) × IsName name × IsHexWord hex
@@ -31,16 +33,16 @@ fn keep(alloc: Global, words: Words<'_>) -> Result<Command<'_>, LineError>
     let hex = words.next_hex()?;
     words.end()?;
     let Ok(bytes) = hex::decode(alloc, hex) else {
-        return Err(LineError::Memory);
+        return Err(ParseError::Memory);
     };
     Ok(Command::Module { name, bytes })
 }
 
 /// `NAME PATH`
-fn load(words: Words<'_>) -> Result<Command<'_>, LineError>
+fn load(words: Words<'_>) -> Result<Command<'_>, ParseError>
     ensures ok { IfOk result (λ command. IsAskedBy (codes "load")
         (words_left words.entry) command) }
-    ensures err { IfErr result (λ e. e ≡ LineError.Syntax) }
+    ensures err { IfErr result (λ e. e ≡ ParseError.Syntax) }
     ensures none { OnErr result ((name path : List ℕ) → IsName name → IsWord path
         → words_left words.entry ≢ name ∷ path ∷ []) }
 {
@@ -52,10 +54,10 @@ fn load(words: Words<'_>) -> Result<Command<'_>, LineError>
 }
 
 /// `INST N`
-fn refuel(words: Words<'_>) -> Result<Command<'_>, LineError>
+fn refuel(words: Words<'_>) -> Result<Command<'_>, ParseError>
     ensures ok { IfOk result (λ command. IsAskedBy (codes "refuel")
         (words_left words.entry) command) }
-    ensures err { IfErr result (λ e. e ≡ LineError.Syntax) }
+    ensures err { IfErr result (λ e. e ≡ ParseError.Syntax) }
     ensures none { OnErr result ((inst word : List ℕ) (n : ℕ) → IsName inst → IsCount word n
         → words_left words.entry ≢ inst ∷ word ∷ []) }
 {
@@ -67,9 +69,9 @@ fn refuel(words: Words<'_>) -> Result<Command<'_>, LineError>
 }
 
 /// `INST`
-fn inst_alone(words: Words<'_>) -> Result<&str, LineError>
+fn inst_alone(words: Words<'_>) -> Result<&str, ParseError>
     ensures ok { IfOk result (λ inst. (words_left words.entry ≡ inst.now ∷ []) × IsName inst.now) }
-    ensures err { IfErr result (λ e. e ≡ LineError.Syntax) }
+    ensures err { IfErr result (λ e. e ≡ ParseError.Syntax) }
     ensures none { OnErr result ((inst : List ℕ) → IsName inst
         → words_left words.entry ≢ inst ∷ []) }
 {
@@ -80,7 +82,7 @@ fn inst_alone(words: Words<'_>) -> Result<&str, LineError>
 }
 
 /// `[INPUT ..]`
-fn inputs(alloc: Global, words: Words<'_>) -> Result<Vec<u64>, LineError>
+fn inputs(alloc: Global, words: Words<'_>) -> Result<Vec<u64>, ParseError>
     ensures ok { IfOk result (λ inputs. AllZip (IsBits I64) (words_left words.entry) inputs.items) }
     ensures none { IfErr result (Refuses ((inputs : List ℕ)
         × AllZip (IsBits I64) (words_left words.entry) inputs)) }
@@ -89,17 +91,17 @@ fn inputs(alloc: Global, words: Words<'_>) -> Result<Vec<u64>, LineError>
     let mut inputs = Vec::new(alloc);
     while let Some(word) = words.next() {
         let Some(bits) = i64_bits_in(word) else {
-            return Err(LineError::Syntax);
+            return Err(ParseError::Syntax);
         };
         if inputs.push(bits).is_err() {
-            return Err(LineError::Memory);
+            return Err(ParseError::Memory);
         }
     }
     Ok(inputs)
 }
 
 /// `[ARG ..]`
-fn args(alloc: Global, words: Words<'_>) -> Result<Vec<i128>, LineError>
+fn args(alloc: Global, words: Words<'_>) -> Result<Vec<i128>, ParseError>
     ensures ok { IfOk result (λ args. AllZip IsNumber (words_left words.entry) args.items) }
     ensures none { IfErr result (Refuses ((args : List ℤ)
         × AllZip IsNumber (words_left words.entry) args)) }
@@ -108,19 +110,19 @@ fn args(alloc: Global, words: Words<'_>) -> Result<Vec<i128>, LineError>
     let mut args = Vec::new(alloc);
     while let Some(word) = words.next() {
         let Some(number) = number_in(word) else {
-            return Err(LineError::Syntax);
+            return Err(ParseError::Syntax);
         };
         if args.push(number).is_err() {
-            return Err(LineError::Memory);
+            return Err(ParseError::Memory);
         }
     }
     Ok(args)
 }
 
 /// `SHARES MIN MAX FUEL BASE SALT [INPUT ..]`
-fn given(alloc: Global, words: Words<'_>) -> Result<AdmitParams, LineError>
-    ensures ok { IfOk result (λ given. AreParams (words_left words.entry) (params_of given)) }
-    ensures none { IfErr result (Refuses ((params : Params)
+fn given(alloc: Global, words: Words<'_>) -> Result<Params, ParseError>
+    ensures ok { IfOk result (λ given. AreParams (words_left words.entry) (view_params given)) }
+    ensures none { IfErr result (Refuses ((params : owners.Params)
         × AreParams (words_left words.entry) params)) }
 {
     let mut words = words;
@@ -131,7 +133,7 @@ fn given(alloc: Global, words: Words<'_>) -> Result<AdmitParams, LineError>
     let base = words.next_i32_bits()?;
     let salt = words.next_i64_bits()?;
     let inputs = inputs(alloc, words)?;
-    Ok(AdmitParams {
+    Ok(Params {
         shares,
         min,
         max,
@@ -143,10 +145,10 @@ fn given(alloc: Global, words: Words<'_>) -> Result<AdmitParams, LineError>
 }
 
 /// `INST MODULE SHARES MIN MAX FUEL BASE SALT [INPUT ..]`
-fn admit(alloc: Global, words: Words<'_>) -> Result<Command<'_>, LineError>
+fn admit(alloc: Global, words: Words<'_>) -> Result<Command<'_>, ParseError>
     ensures ok { IfOk result (λ command. IsAskedBy (codes "admit")
         (words_left words.entry) command) }
-    ensures none { IfErr result (Refuses ((inst of : List ℕ) × (params : Params)
+    ensures none { IfErr result (Refuses ((inst of : List ℕ) × (params : owners.Params)
         × Follow (lines.admit inst of params) (words_left words.entry))) }
 {
     let mut words = words;
@@ -161,7 +163,7 @@ fn admit(alloc: Global, words: Words<'_>) -> Result<Command<'_>, LineError>
 }
 
 /// `INST EXPORT FUEL [ARG ..]`
-fn invoke(alloc: Global, words: Words<'_>) -> Result<Command<'_>, LineError>
+fn invoke(alloc: Global, words: Words<'_>) -> Result<Command<'_>, ParseError>
     ensures ok { IfOk result (λ command. IsAskedBy (codes "invoke")
         (words_left words.entry) command) }
     ensures none { IfErr result (Refuses ((inst export : List ℕ) × (fuel : ℕ) × (args : List ℤ)
@@ -181,10 +183,10 @@ fn invoke(alloc: Global, words: Words<'_>) -> Result<Command<'_>, LineError>
 }
 
 /// `INST`
-fn cancel(words: Words<'_>) -> Result<Command<'_>, LineError>
+fn cancel(words: Words<'_>) -> Result<Command<'_>, ParseError>
     ensures ok { IfOk result (λ command. IsAskedBy (codes "cancel")
         (words_left words.entry) command) }
-    ensures err { IfErr result (λ e. e ≡ LineError.Syntax) }
+    ensures err { IfErr result (λ e. e ≡ ParseError.Syntax) }
     ensures none { OnErr result ((inst : List ℕ) → IsName inst
         → words_left words.entry ≢ inst ∷ []) }
 {
@@ -193,10 +195,10 @@ fn cancel(words: Words<'_>) -> Result<Command<'_>, LineError>
 }
 
 /// `INST`
-fn retry(words: Words<'_>) -> Result<Command<'_>, LineError>
+fn retry(words: Words<'_>) -> Result<Command<'_>, ParseError>
     ensures ok { IfOk result (λ command. IsAskedBy (codes "retry")
         (words_left words.entry) command) }
-    ensures err { IfErr result (λ e. e ≡ LineError.Syntax) }
+    ensures err { IfErr result (λ e. e ≡ ParseError.Syntax) }
     ensures none { OnErr result ((inst : List ℕ) → IsName inst
         → words_left words.entry ≢ inst ∷ []) }
 {
@@ -205,10 +207,10 @@ fn retry(words: Words<'_>) -> Result<Command<'_>, LineError>
 }
 
 /// `INST`
-fn release(words: Words<'_>) -> Result<Command<'_>, LineError>
+fn release(words: Words<'_>) -> Result<Command<'_>, ParseError>
     ensures ok { IfOk result (λ command. IsAskedBy (codes "release")
         (words_left words.entry) command) }
-    ensures err { IfErr result (λ e. e ≡ LineError.Syntax) }
+    ensures err { IfErr result (λ e. e ≡ ParseError.Syntax) }
     ensures none { OnErr result ((inst : List ℕ) → IsName inst
         → words_left words.entry ≢ inst ∷ []) }
 {
@@ -217,10 +219,10 @@ fn release(words: Words<'_>) -> Result<Command<'_>, LineError>
 }
 
 /// Nothing behind the verb.
-fn drain(words: Words<'_>) -> Result<Command<'_>, LineError>
+fn drain(words: Words<'_>) -> Result<Command<'_>, ParseError>
     ensures ok { IfOk result (λ command. IsAskedBy (codes "drain")
         (words_left words.entry) command) }
-    ensures err { IfErr result (λ e. e ≡ LineError.Syntax) }
+    ensures err { IfErr result (λ e. e ≡ ParseError.Syntax) }
     ensures none { OnErr result (words_left words.entry ≢ []) }
 {
     words.end()?;
@@ -228,10 +230,10 @@ fn drain(words: Words<'_>) -> Result<Command<'_>, LineError>
 }
 
 /// Nothing behind the verb.
-fn scan(words: Words<'_>) -> Result<Command<'_>, LineError>
+fn scan(words: Words<'_>) -> Result<Command<'_>, ParseError>
     ensures ok { IfOk result (λ command. IsAskedBy (codes "scan")
         (words_left words.entry) command) }
-    ensures err { IfErr result (λ e. e ≡ LineError.Syntax) }
+    ensures err { IfErr result (λ e. e ≡ ParseError.Syntax) }
     ensures none { OnErr result (words_left words.entry ≢ []) }
 {
     words.end()?;
@@ -239,10 +241,10 @@ fn scan(words: Words<'_>) -> Result<Command<'_>, LineError>
 }
 
 /// Nothing behind the verb.
-fn report(words: Words<'_>) -> Result<Command<'_>, LineError>
+fn report(words: Words<'_>) -> Result<Command<'_>, ParseError>
     ensures ok { IfOk result (λ command. IsAskedBy (codes "report")
         (words_left words.entry) command) }
-    ensures err { IfErr result (λ e. e ≡ LineError.Syntax) }
+    ensures err { IfErr result (λ e. e ≡ ParseError.Syntax) }
     ensures none { OnErr result (words_left words.entry ≢ []) }
 {
     words.end()?;
@@ -254,13 +256,13 @@ fn report(words: Words<'_>) -> Result<Command<'_>, LineError>
 /// # Errors
 /// `Syntax` where the line holds a byte above 127 or has not the shape of a command; `Memory` where room for its bytes or
 /// numbers was refused.
-pub fn parse(alloc: Global, line: &[u8]) -> Result<Command<'_>, LineError>
+pub fn parse(alloc: Global, line: &[u8]) -> Result<Command<'_>, ParseError>
     // The line asks for what the command that is found means.
     ensures found { IfOk result (λ command. (asked : lines.Command) × AsksCommand line.now asked
         × Says command asked) }
     // What the line asks for is found, or there was no memory.
     ensures only { (asked : lines.Command) → AsksCommand line.now asked → FindsAsked result asked }
-    ensures err { IfErr result (λ e. (e ≡ LineError.Syntax) ⊎ (e ≡ LineError.Memory)) }
+    ensures err { IfErr result (λ e. (e ≡ ParseError.Syntax) ⊎ (e ≡ ParseError.Memory)) }
 {
     let mut words = words_in(line);
     let verb = words.next_piece()?;
@@ -297,7 +299,7 @@ pub fn parse(alloc: Global, line: &[u8]) -> Result<Command<'_>, LineError>
     if is_same(verb, b"release") {
         return release(words);
     }
-    Err(LineError::Syntax)
+    Err(ParseError::Syntax)
 }
 
 /// Whether two words are the same.

@@ -7,7 +7,7 @@ ghost use Rattle.wh_script_model.specs.Lines.{IsName, IsWord};
 ghost use Rattle.wh_script_model.specs.Words.{words_of, IsCount, IsBits};
 ghost use Rattle.wh_commands.specs.WordsLeft.{words_left, FirstIs, FirstIsNot, IsHexWord};
 
-use crate::error::LineError;
+use crate::error::ParseError;
 use crate::numbers::{count_in, i32_bits_in, i64_bits_in};
 use crate::shapes::{is_hex, is_name, is_word, name_text, text_of};
 use memchr::memchr;
@@ -51,14 +51,14 @@ impl<'a> Words<'a> {
     ///
     /// # Errors
     /// `Syntax` where there is none.
-    pub fn next_piece(&mut self) -> Result<&'a [u8], LineError>
+    pub fn next_piece(&mut self) -> Result<&'a [u8], ParseError>
         ensures ok { IfOk result (λ word. words_left self.old ≡ word.now ∷ words_left self.new) }
-        ensures err { IfErr result (λ e. e ≡ LineError.Syntax) }
+        ensures err { IfErr result (λ e. e ≡ ParseError.Syntax) }
         ensures none { OnErr result (words_left self.old ≡ []) }
     {
         match self.next() {
             Some(word) => Ok(word),
-            None => Err(LineError::Syntax),
+            None => Err(ParseError::Syntax),
         }
     }
 
@@ -66,15 +66,15 @@ impl<'a> Words<'a> {
     ///
     /// # Errors
     /// `Syntax` where it isn't.
-    pub fn next_name(&mut self) -> Result<&'a str, LineError>
+    pub fn next_name(&mut self) -> Result<&'a str, ParseError>
         ensures ok { IfOk result (λ name. (words_left self.old ≡ name.now ∷ words_left self.new)
             × IsName name.now) }
-        ensures err { IfErr result (λ e. e ≡ LineError.Syntax) }
+        ensures err { IfErr result (λ e. e ≡ ParseError.Syntax) }
         ensures none { OnErr result (FirstIsNot IsName (words_left self.old)) }
     {
         let word = self.next_piece()?;
         if !is_name(word) {
-            return Err(LineError::Syntax);
+            return Err(ParseError::Syntax);
         }
         Ok(name_text(word))
     }
@@ -83,15 +83,15 @@ impl<'a> Words<'a> {
     ///
     /// # Errors
     /// `Syntax` where there is none.
-    pub fn next_text(&mut self) -> Result<&'a str, LineError>
+    pub fn next_text(&mut self) -> Result<&'a str, ParseError>
         ensures ok { IfOk result (λ text. (words_left self.old ≡ text.now ∷ words_left self.new)
             × IsWord text.now) }
-        ensures err { IfErr result (λ e. e ≡ LineError.Syntax) }
+        ensures err { IfErr result (λ e. e ≡ ParseError.Syntax) }
         ensures none { OnErr result (FirstIsNot IsWord (words_left self.old)) }
     {
         let word = self.next_piece()?;
         if !is_word(word) {
-            return Err(LineError::Syntax);
+            return Err(ParseError::Syntax);
         }
         Ok(text_of(word))
     }
@@ -100,15 +100,15 @@ impl<'a> Words<'a> {
     ///
     /// # Errors
     /// `Syntax` where it isn't.
-    pub fn next_hex(&mut self) -> Result<&'a str, LineError>
+    pub fn next_hex(&mut self) -> Result<&'a str, ParseError>
         ensures ok { IfOk result (λ hex. (words_left self.old ≡ hex.now ∷ words_left self.new)
             × IsHexWord hex.now) }
-        ensures err { IfErr result (λ e. e ≡ LineError.Syntax) }
+        ensures err { IfErr result (λ e. e ≡ ParseError.Syntax) }
         ensures none { OnErr result (FirstIsNot IsHexWord (words_left self.old)) }
     {
         let word = self.next_piece()?;
         if !is_word(word) || !is_hex(word) {
-            return Err(LineError::Syntax);
+            return Err(ParseError::Syntax);
         }
         Ok(text_of(word))
     }
@@ -117,16 +117,16 @@ impl<'a> Words<'a> {
     ///
     /// # Errors
     /// `Syntax` where it isn't.
-    pub fn next_count(&mut self) -> Result<u64, LineError>
+    pub fn next_count(&mut self) -> Result<u64, ParseError>
         ensures ok { IfOk result (λ n. FirstIs (λ word. IsCount word n)
             (words_left self.old) (words_left self.new)) }
-        ensures err { IfErr result (λ e. e ≡ LineError.Syntax) }
+        ensures err { IfErr result (λ e. e ≡ ParseError.Syntax) }
         ensures none { OnErr result (FirstIsNot (λ word. (n : ℕ) × IsCount word n)
             (words_left self.old)) }
     {
         match count_in(self.next_piece()?) {
             Some(count) => Ok(count),
-            None => Err(LineError::Syntax),
+            None => Err(ParseError::Syntax),
         }
     }
 
@@ -134,16 +134,16 @@ impl<'a> Words<'a> {
     ///
     /// # Errors
     /// `Syntax` where it isn't.
-    pub fn next_i32_bits(&mut self) -> Result<u32, LineError>
+    pub fn next_i32_bits(&mut self) -> Result<u32, ParseError>
         ensures ok { IfOk result (λ bits. FirstIs (λ word. IsBits I32 word bits)
             (words_left self.old) (words_left self.new)) }
-        ensures err { IfErr result (λ e. e ≡ LineError.Syntax) }
+        ensures err { IfErr result (λ e. e ≡ ParseError.Syntax) }
         ensures none { OnErr result (FirstIsNot (λ word. (bits : ℕ) × IsBits I32 word bits)
             (words_left self.old)) }
     {
         match i32_bits_in(self.next_piece()?) {
             Some(bits) => Ok(bits),
-            None => Err(LineError::Syntax),
+            None => Err(ParseError::Syntax),
         }
     }
 
@@ -151,16 +151,16 @@ impl<'a> Words<'a> {
     ///
     /// # Errors
     /// `Syntax` where it isn't.
-    pub fn next_i64_bits(&mut self) -> Result<u64, LineError>
+    pub fn next_i64_bits(&mut self) -> Result<u64, ParseError>
         ensures ok { IfOk result (λ bits. FirstIs (λ word. IsBits I64 word bits)
             (words_left self.old) (words_left self.new)) }
-        ensures err { IfErr result (λ e. e ≡ LineError.Syntax) }
+        ensures err { IfErr result (λ e. e ≡ ParseError.Syntax) }
         ensures none { OnErr result (FirstIsNot (λ word. (bits : ℕ) × IsBits I64 word bits)
             (words_left self.old)) }
     {
         match i64_bits_in(self.next_piece()?) {
             Some(bits) => Ok(bits),
-            None => Err(LineError::Syntax),
+            None => Err(ParseError::Syntax),
         }
     }
 
@@ -168,14 +168,14 @@ impl<'a> Words<'a> {
     ///
     /// # Errors
     /// `Syntax` where one is.
-    pub fn end(mut self) -> Result<(), LineError>
+    pub fn end(mut self) -> Result<(), ParseError>
         ensures ok { OnOk result (words_left self.entry ≡ []) }
-        ensures err { IfErr result (λ e. e ≡ LineError.Syntax) }
+        ensures err { IfErr result (λ e. e ≡ ParseError.Syntax) }
         ensures none { OnErr result (words_left self.entry ≢ []) }
     {
         match self.next() {
             None => Ok(()),
-            Some(_) => Err(LineError::Syntax),
+            Some(_) => Err(ParseError::Syntax),
         }
     }
 }

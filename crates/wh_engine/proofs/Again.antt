@@ -10,10 +10,6 @@ use Rattle.wh_engine.specs.Obeying.{ObeysCommand}
 use Rattle.wh_engine.specs.RepresentedScript.{ScriptHostState, RepresentsScript, RepresentsWhole, WholeState, whole_on}
 use Rattle.wh_engine.proofs.Asked.{ObeysWhole, on_host}
 
--- an engine with another host
-abbrev pub with_owned : {D : Type 0} → ScriptHostState D → OwnedState D → ScriptHostState D
-with_owned e o2 = record e { host = o2 }
-
 -- all that was made, of a script for which an engine stands
 abbrev pub whole_in : {D : Type 0} {settings : Settings} {e : ScriptHostState D} {m : ScriptState} → RepresentsScript settings e m → WholeState
 whole_in {e = e} s = whole_on e s.instances s.invoked

@@ -44,14 +44,14 @@ stands_on settings e m m2 h2 w2 s is2 knows2 nothing = record {
   instances = s.instances;
   invoked = s.invoked;
 }
-stands_on settings e m m2 h2 w2 s is2 knows2 (calls_of i g calls at) = record {
+stands_on settings e m m2 h2 w2 s is2 knows2 (calls_of i g calls stands at) = record {
   world = w2;
   is = is2;
   knows = knows2;
   module_names = s.module_names;
-  instance_names = s.instance_names ∙ sym (names_stay m.instances i g (record g { calls = calls }) at refl);
+  instance_names = s.instance_names ∙ sym (names_stay m.instances i g (record g { calls = calls; at_fault = stands }) at refl);
   apart = s.apart;
-  instances = guests_stay 0 e.instances m.instances i g calls s.instances at;
+  instances = guests_stay 0 e.instances m.instances i g calls stands s.instances at;
   invoked = s.invoked;
 }
 

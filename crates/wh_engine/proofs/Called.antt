@@ -46,7 +46,7 @@ before : (m : ScriptState) (i : ℕ) (g : script.NamedInstance) (name : List ℕ
 before m i g name fuel given _ at (instance_is_gone gone) = (m, record { touches = nothing; modules = refl; instances = refl; invoked = refl })
 before m i g name fuel given _ at (isnt_invoked fault live bar) = (m, record { touches = nothing; modules = refl; instances = refl; invoked = refl })
 before m i g name fuel given _ at (is_invoked vs live bar exports fits) =
-    (with_instance m i (record g { calls = _ }), record { touches = calls_of i g _ at; modules = refl; instances = refl; invoked = refl })
+    (with_instance m i (record g { calls = _ }), record { touches = calls_of i g _ g.at_fault at; modules = refl; instances = refl; invoked = refl })
 before m i g name fuel given _ at (call_out_of_memory may_run_out live bar) = (m, record { touches = nothing; modules = refl; instances = refl; invoked = refl })
 
 -- ---- what came of it

@@ -50,6 +50,23 @@ is_head : {A : Type 0} (after rest : List A) (x : A) → slice_get (after ++ res
 is_head after [] x e = absurd (none_behind after x (subst (λ zs. slice_get zs (length after) ≡ Some x) (append-nil after) e))
 is_head after (y ∷ more) x e = (more, ap (λ z. z ∷ more) (same_Some y x (sym (get_middle after more y) ∙ e)))
 
+same_length : {A : Type 0} (step : A → A → List ℕ → List ℕ → Type 0) (xs ys : List A) (text text2 : List ℕ) → OneByOne step xs text ys text2 → length xs ≡ length ys
+same_length step [] ys text text2 steps = ap (λ zs. length zs) (sym steps.0)
+same_length step (x ∷ xs) ys text text2 (y, rest, mid, is, first, more) =
+    let tail : length xs ≡ length rest = same_length step xs rest mid text2 more in
+    let long : length ys ≡ length (y ∷ rest) = ap (λ zs. length zs) is in
+    omega (arith, tail, long)
+
+-- the next one is as it was
+pub still_there : {A : Type 0} (step : A → A → List ℕ → List ℕ → Type 0) (old now : List A) (count : ℕ) (text text2 : List ℕ) (x : A) → FirstChanged step old now count text text2
+    → slice_get now count ≡ Some x → slice_get old count ≡ Some x
+still_there step old now count text text2 x so at =
+    let here : slice_get (so.after ++ so.rest) (length so.after) ≡ Some x = ap (slice_get (so.after ++ so.rest)) so.many ∙ ap (λ zs. slice_get zs count) (sym so.is) ∙ at in
+    let head = is_head so.after so.rest x here in
+    let long : length so.done ≡ count = same_length step so.done so.after text text2 so.steps ∙ so.many in
+    let old_is : old ≡ so.done ++ x ∷ head.0 = so.was ∙ ap (λ zs. so.done ++ zs) head.1 in
+    ap (λ zs. slice_get zs count) old_is ∙ ap (slice_get (so.done ++ x ∷ head.0)) (sym long) ∙ get_middle so.done head.0 x
+
 pub next_changed : {A : Type 0} (step : A → A → List ℕ → List ℕ → Type 0) (old now : List A) (count : ℕ) (text mid text2 : List ℕ) (x y : A) → FirstChanged step old now count text mid
     → slice_get now count ≡ Some x → step x y mid text2 → FirstChanged step old (slice_set now count y) (count + 1) text text2
 next_changed step old now count text mid text2 x y so at next =

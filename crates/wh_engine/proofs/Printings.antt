@@ -24,7 +24,7 @@ use Rattle.wh_script_laws.proofs.Printed.{starts_well}
 use Rattle.wh_engine.specs.declared.parts.NamedInstance.{NamedInstance}
 use Rattle.wh_engine.specs.declared.parts.Invoked.{Invoked}
 use Rattle.wh_engine.specs.RepresentedScript.{ScriptHostState, RepresentsScript, IsNamedInstance, AreNamedInstances, IsInvokedAs, AreInvoked, LeavesOut, none_there, keeps_it, leaves_it, RepresentsWhole, WholeState, whole_on, was_final, is_over, is_settled}
-use Rattle.wh_engine.specs.Printing.{IsFaultless, ShowsCalls, AddsLines, PrintsStartOf, HasItsCall, PrintsCallOf, PrintsAllStarts, PrintsAllCalls, PrintsAll, IsLookedUp}
+use Rattle.wh_engine.specs.Printing.{ShowsCalls, AddsLines, PrintsStartOf, HasItsCall, PrintsCallOf, PrintsAllStarts, PrintsAllCalls, PrintsAll, IsLookedUp}
 use Rattle.wh_engine.proofs.Touching.{placed_at}
 use Rattle.wh_engine.proofs.Runs.{places_of, placed_there}
 use Rattle.wh_script_laws.proofs.EndedObeyed.{ended_stays}
@@ -108,16 +108,16 @@ as_many_calls instances n (v ∷ vs) last_printed lines (first, rest, k, ks, l, 
 
 -- ---- what the host shows
 
-one_followed : (w : World) (g : script.NamedInstance) (o : Option Tenant) → follow.IsFollowed follow.AreSame w g o → g.is_released ≡ false
-    → (t : Tenant) × (o ≡ Some t) × (g.calls ≡ journal_calls (journal t)) × IsFaultless t.waiting_for
+one_followed : (w : World) (g : script.NamedInstance) (o : Option Tenant) → follow.IsFollowed follow.AreSame follow.IsAtSameFault w g o → g.is_released ≡ false
+    → (t : Tenant) × (o ≡ Some t) × (g.calls ≡ journal_calls (journal t)) × follow.IsAtSameFault g t
 one_followed w g _ (follow.is_there {t = t} of_one same sound) live = (t, refl, same, sound)
 one_followed w g _ (follow.is_gone gone) live = absurd (cc (gone, live))
 
-followed_same : (w : World) (gs : List script.NamedInstance) (ts : List (Option Tenant)) (i : ℕ) (g : script.NamedInstance) → AllZip (follow.IsFollowed follow.AreSame w) gs ts → slice_get gs i ≡ Some g
-    → g.is_released ≡ false → (t : Tenant) × (get_or ts i None ≡ Some t) × (g.calls ≡ journal_calls (journal t)) × IsFaultless t.waiting_for
+followed_same : (w : World) (gs : List script.NamedInstance) (ts : List (Option Tenant)) (i : ℕ) (g : script.NamedInstance) → AllZip (follow.IsFollowed follow.AreSame follow.IsAtSameFault w) gs ts → slice_get gs i ≡ Some g
+    → g.is_released ≡ false → (t : Tenant) × (get_or ts i None ≡ Some t) × (g.calls ≡ journal_calls (journal t)) × follow.IsAtSameFault g t
 followed_same w [] ts i g h e live = absurd (none-some g e)
 followed_same w (y ∷ gs) [] i g h e live = absurd h
-followed_same w (y ∷ gs) (o ∷ ts) zero g h e live = one_followed w g o (subst (λ z. follow.IsFollowed follow.AreSame w z o) (same_Some y g e) h.0) live
+followed_same w (y ∷ gs) (o ∷ ts) zero g h e live = one_followed w g o (subst (λ z. follow.IsFollowed follow.AreSame follow.IsAtSameFault w z o) (same_Some y g e) h.0) live
 followed_same w (y ∷ gs) (o ∷ ts) (suc i) g h e live = followed_same w gs ts i g h.1 e live
 
 one_name : (g g2 : script.NamedInstance) (here : List Reply) → PrintsStart g here g2 → g2.name ≡ g.name
@@ -458,3 +458,7 @@ starts_so g c name last_printed status lines named before e has first says =
 pub on_ok_then : {A E : Type 0} {P Q : Type 0} (r : Result A E) → OnOk r P → (P → Q) → OnOk r Q
 on_ok_then (Ok x) p f = f p
 on_ok_then (Err e) p f = tt
+
+pub on_ok_both : {A E : Type 0} (P Q : Type 0) (r : Result A E) → OnOk r P → OnOk r Q → OnOk r (P × Q)
+on_ok_both P Q (Ok x) p q = (p, q)
+on_ok_both P Q (Err e) p q = tt

@@ -1,11 +1,13 @@
 -- Drains: the device behind a host, and what calls come to.
-use Rattle.std.specs.Prelude.{◌≡◌, ◌⊎◌, ℕ, ◌+◌, List, ◌++◌, IsOk, Result, Ok, slice_get, Option, Some, None, false, true}
+use Rattle.std.specs.Prelude.{◌≡◌, ◌⊎◌, ℕ, ◌+◌, List, [], ◌++◌, map, IsOk, Result, Ok, slice_get, Option, Some, None, false, true}
 use Rattle.std.specs.List.{AllZip}
+use Rattle.wh_host_model.specs.declared.plain.InstId.{InstId}
 use Rattle.wh_host_model.specs.declared.plain.SwapError.{SwapError}
+use Rattle.wh_host_model.specs.SwapFaults.{swap_number}
 use Rattle.wh_script_model.specs.Settings.{Settings}
 use Rattle.wh_script_model.specs.ScriptState as script
 use Rattle.wh_script_model.specs.ScriptState.{ScriptState, SomeCallIsOpen}
-use Rattle.wh_script_model.specs.Drains.{RunsAlone}
+use Rattle.wh_script_model.specs.Failing.{RunsAmid}
 use Rattle.wh_host.specs.Hosting.{HostState}
 use Rattle.wh_host.specs.Paging.{IsGoing, Tells}
 use Rattle.wh_threads.specs.declared.channel.Message.{Message}
@@ -13,8 +15,8 @@ use Rattle.wh_threads.specs.Handover.{SameMessages}
 use Rattle.wh_workers.specs.Serving.{AreRun, AreTurns}
 use Rattle.wh_workers.specs.declared.crew.Served.{Served}
 use Rattle.wh_workers.specs.declared.crew.ServeError.{ServeError}
-use Rattle.wh_engine.specs.declared.fault.ScriptFault.{ScriptFault}
-use Rattle.wh_engine.specs.declared.fault.ScriptFault.TheVariants.{Memory, Threads, Transcript}
+use Rattle.wh_engine.specs.declared.fault.RunFault.{RunFault}
+use Rattle.wh_engine.specs.declared.fault.RunFault.TheVariants.{Memory, Threads, Transcript}
 use Rattle.wh_engine.specs.declared.parts.NamedInstance.{NamedInstance}
 use Rattle.wh_engine.specs.RepresentedScript.{ScriptHostState, RepresentsScript}
 
@@ -45,11 +47,17 @@ DeviceMayFail faults o o2 = ⊥
 abbrev pub HasServed : (honest : Type 0) (faults faults2 : List SwapError) → Type 0
 HasServed honest faults faults2 = honest × (faults2 ≡ faults)
 
-abbrev pub DeviceServesWell : {D : Type 0} (honest : D → Type 0) (faults : D → List SwapError) → Option D → Option D
-    → Type 0
-DeviceServesWell honest faults None None = Unit {0}
-DeviceServesWell honest faults (Some d) (Some d2) = HasServed (honest d2) (faults d) (faults d2)
-DeviceServesWell honest faults o o2 = ⊥
+-- Where the device has read right: further calls of it have failed with these faults, the last one first, and this holds
+-- of their numbers.
+abbrev pub HoldsAmid : (honest : Type 0) (faults faults2 : List SwapError) (holds : List ℕ → Type 0) → Type 0
+HoldsAmid honest faults faults2 holds =
+    honest → (more : List SwapError) × (faults2 ≡ more ++ faults) × holds (map swap_number more)
+
+abbrev pub DeviceHoldsAmid : {D : Type 0} (honest : D → Type 0) (faults : D → List SwapError) → Option D → Option D
+    → (holds : List ℕ → Type 0) → Type 0
+DeviceHoldsAmid honest faults None None holds = holds []
+DeviceHoldsAmid honest faults (Some d) (Some d2) holds = HoldsAmid (honest d2) (faults d) (faults d2) holds
+DeviceHoldsAmid honest faults o o2 holds = Unit {0}
 
 -- ---- calls
 
@@ -57,28 +65,27 @@ DeviceServesWell honest faults o o2 = ⊥
 abbrev pub AllRest : HostState → List NamedInstance → Type 0
 AllRest h xs = (i : ℕ) (x : NamedInstance) → slice_get xs i ≡ Some x → Tells h false (λ w. IsGoing w x.id)
 
--- a call of one of them can
-abbrev pub SomeGoes : HostState → List NamedInstance → Type 0
-SomeGoes h xs = (i : ℕ) × (x : NamedInstance) × (slice_get xs i ≡ Some x) × Tells h true (λ w. IsGoing w x.id)
+-- a call of some instance can
+abbrev pub SomeGoes : HostState → Type 0
+SomeGoes h = (id : InstId) × Tells h true (λ w. IsGoing w id)
 
--- why a drain stops: memory was refused, a thread can't be started, or calls can go on that should have run
-abbrev pub StopsRun : ScriptFault → Type 0
-StopsRun Memory = Unit {0}
-StopsRun Threads = Unit {0}
-StopsRun Transcript = Unit {0}
-StopsRun other = ⊥
+-- why the lines of a drain aren't printed: memory was refused, or a call can go on
+abbrev pub StopsPrinting : HostState → RunFault → Type 0
+StopsPrinting h Memory = Unit {0}
+StopsPrinting h Threads = ⊥
+StopsPrinting h Transcript = SomeGoes h
 
--- why a scan stops: memory was refused, or the scanner can't be started
-abbrev pub StopsScan : ScriptFault → Type 0
-StopsScan Memory = Unit {0}
-StopsScan Threads = Unit {0}
-StopsScan other = ⊥
+-- why calls or a scan are given up: memory was refused, or a thread can't be started
+abbrev pub StopsServing : RunFault → Type 0
+StopsServing Memory = Unit {0}
+StopsServing Threads = Unit {0}
+StopsServing Transcript = ⊥
 
--- whatever script the engine represents, its calls have run as they do alone
-abbrev pub RunsEach : {D : Type 0} → ScriptHostState D → ScriptHostState D → Type 0
-RunsEach e e2 =
+-- whatever script the engine represents, its calls have run while calls of the device had these faults
+abbrev pub RunsEach : {D : Type 0} → ScriptHostState D → ScriptHostState D → (faults : List ℕ) → Type 0
+RunsEach e e2 faults =
     (settings : Settings) (m : ScriptState) → RepresentsScript settings e m
-    → (run : List script.NamedInstance) × AllZip RunsAlone m.instances run
+    → (run : List script.NamedInstance) × AllZip (RunsAmid faults) m.instances run
     × RepresentsScript settings e2 (record m { instances = run })
 
 -- it was served to its end
@@ -100,16 +107,16 @@ abbrev pub WasOpen : {D : Type 0} → ScriptHostState D → Type 0
 WasOpen e = (settings : Settings) (m : ScriptState) → RepresentsScript settings e m → SomeCallIsOpen m
 
 -- why something stops: where threads can't run the calls, one was open before
-abbrev pub StopsOnlyOpen : {D : Type 0} → ScriptHostState D → ScriptFault → Type 0
+abbrev pub StopsOnlyOpen : {D : Type 0} → ScriptHostState D → RunFault → Type 0
 StopsOnlyOpen e Threads = WasOpen e
 StopsOnlyOpen e Transcript = WasOpen e
-StopsOnlyOpen e other = Unit {0}
+StopsOnlyOpen e Memory = Unit {0}
 
 -- the same of something that may have to scan besides: where the scanner can't be started, it had to
-abbrev pub StopsOpenOr : {D : Type 0} → Type 0 → ScriptHostState D → ScriptFault → Type 0
+abbrev pub StopsOpenOr : {D : Type 0} → Type 0 → ScriptHostState D → RunFault → Type 0
 StopsOpenOr scans e Threads = WasOpen e ⊎ scans
 StopsOpenOr scans e Transcript = WasOpen e
-StopsOpenOr scans e other = Unit {0}
+StopsOpenOr scans e Memory = Unit {0}
 
 -- pages alone have moved: whatever script the engine represented, it represents it still
 abbrev pub StaysSo : {D : Type 0} → ScriptHostState D → ScriptHostState D → Type 0

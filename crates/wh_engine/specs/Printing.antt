@@ -1,10 +1,9 @@
 -- What is said of calls at the end of a drain.
-use Rattle.std.specs.Prelude.{◌≡◌, ◌≢◌, ℕ, Bool, false, List, ◌++◌, slice_get, Option, Some, option_map}
+use Rattle.std.specs.Prelude.{◌≡◌, ℕ, Bool, false, List, ◌++◌, slice_get, Option, Some, option_map}
 use Rattle.std.specs.List.{AllByRecursion}
 use Rattle.wh_model.specs.Execution.Store.{InRange}
 use Rattle.wh_model.specs.Execution.Replay.{Call, returned}
-use Rattle.wh_host_model.specs.declared.plain.SwapError.{SwapError}
-use Rattle.wh_host_model.specs.Host.Worlds.{Suspension, for_device, Tenant, World, journal, journal_calls}
+use Rattle.wh_host_model.specs.Host.Worlds.{Suspension, Tenant, World, journal, journal_calls}
 use Rattle.wh_host_model.specs.Host.Happens.{IsLive}
 use Rattle.wh_script_model.specs.Settings.{Settings}
 use Rattle.wh_script_model.specs.Texts as texts
@@ -24,10 +23,7 @@ use Rattle.wh_engine.specs.declared.parts.NamedInstance.{NamedInstance}
 use Rattle.wh_engine.specs.declared.parts.Invoked.{Invoked}
 use Rattle.wh_engine.specs.Finding.{HasNoNumber, RiseFrom}
 use Rattle.wh_engine.specs.RepresentedScript.{ScriptHostState, RepresentsScript, IsNamedInstance, IsInvokedAs}
-
--- no device has failed at the call that stands for this
-abbrev pub IsFaultless : Option Suspension → Type 0
-IsFaultless o = (fault : SwapError) → o ≢ Some (for_device fault)
+use Rattle.wh_script_laws.specs.Following.{device_fault, IsAtSameFault}
 
 -- The host shows the calls that a script knows of an instance, where that isn't released.
 pub record ShowsCalls (h : HostState) (x : NamedInstance) (g : script.NamedInstance) : Type 0 where
@@ -35,20 +31,22 @@ pub record ShowsCalls (h : HostState) (x : NamedInstance) (g : script.NamedInsta
   pub world : World
   pub is : IsHost h world
   pub live : g.is_released ≡ false
-      → (t : Tenant) × IsLive world x.id t × (g.calls ≡ journal_calls (journal t)) × IsFaultless t.waiting_for
+      → (t : Tenant) × IsLive world x.id t × (g.calls ≡ journal_calls (journal t)) × IsAtSameFault g t
 
 -- what is said of a call of which the host tells this
 abbrev pub IsPrintedAs : CallStatus → Option Status → Type 0
 IsPrintedAs told last_printed =
-    (waits : Bool) (stands : Option Suspension) (c : Call) → IsCallStatus told waits stands c → IsFaultless stands
-    → (status : Status) × (last_printed ≡ Some status) × (status_of status ≡ status_by c.outcome false waits c.charges)
+    (waits : Bool) (stands : Option Suspension) (c : Call) → IsCallStatus told waits stands c
+    → (status : Status) × (last_printed ≡ Some status)
+    × (status_of status ≡ status_by c.outcome false waits (device_fault stands) c.charges)
 
 -- and so of a call that has returned these
 abbrev pub IsReturnedSo : Option CallValue → ℕ → Option Status → Type 0
 IsReturnedSo value charges last_printed =
     AllByRecursion InRange (told_values value)
     → (status : Status) × (last_printed ≡ Some status)
-    × ((waits : Bool) → status_of status ≡ status_by (returned (told_values value)) false waits charges)
+    × ((waits : Bool) (at_fault : Option ℕ)
+    → status_of status ≡ status_by (returned (told_values value)) false waits at_fault charges)
 
 -- so the call at this place is, which was said to be so
 abbrev pub IsStatusAt : HostState → NamedInstance → ℕ → Option Status → Option Status → Type 0

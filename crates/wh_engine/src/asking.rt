@@ -12,7 +12,7 @@ ghost use Rattle.wh_engine.specs.Obeying.{IsNamed, ObeysCommand};
 use crate::script_host::ScriptHost;
 use std::sync::ledger::Ledger;
 use wh_cell::CellAgreements;
-use wh_host::HostError;
+use wh_host::{Cancel, HostError, Refuel, Retry};
 use wh_replies::Reply;
 use wh_swap::SwapDev;
 
@@ -38,7 +38,9 @@ impl<D: SwapDev, T: Ledger, C: Ledger, O: Ledger, E: Ledger, B: CellAgreements> 
                 fault: HostError::NoInstance.number(),
             };
         };
-        match self.host.refuel(self.instances[at].id, fuel) {
+        let id = self.instances[at].id;
+        self.awake.add(id);
+        match self.host.ask(Refuel { id, fuel }) {
             Ok(()) => Reply::RefuelOk { inst: name },
             Err(error) => Reply::RefuelRefused {
                 inst: name,
@@ -61,7 +63,9 @@ impl<D: SwapDev, T: Ledger, C: Ledger, O: Ledger, E: Ledger, B: CellAgreements> 
                 fault: HostError::NoInstance.number(),
             };
         };
-        match self.host.cancel(self.instances[at].id) {
+        let id = self.instances[at].id;
+        self.awake.add(id);
+        match self.host.ask(Cancel { id }) {
             Ok(()) => Reply::CancelOk { inst: name },
             Err(error) => Reply::CancelRefused {
                 inst: name,
@@ -84,7 +88,9 @@ impl<D: SwapDev, T: Ledger, C: Ledger, O: Ledger, E: Ledger, B: CellAgreements> 
                 fault: HostError::NoInstance.number(),
             };
         };
-        match self.host.retry(self.instances[at].id) {
+        let id = self.instances[at].id;
+        self.awake.add(id);
+        match self.host.ask(Retry { id }) {
             Ok(()) => Reply::RetryOk { inst: name },
             Err(error) => Reply::RetryRefused {
                 inst: name,

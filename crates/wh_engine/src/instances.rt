@@ -1,7 +1,7 @@
 // Instances that a script admits, calls and lets go.
 
 ghost use Rattle.std.specs.Prelude.{◌≡◌, ◌<◌, ◌∷◌, ◌++◌, [], None, IfOk, OnErr, OnOk, length, vec_capacity, vec_len};
-ghost use Rattle.wh_commands.specs.ParsedCommands.{params_of};
+ghost use Rattle.wh_params.specs.View.{view_params};
 ghost use Rattle.wh_script_model.specs.ScriptState.{ScriptState};
 ghost use Rattle.wh_script_model.specs.Settings.{Settings};
 ghost use Rattle.wh_replies.specs.View.{reply_of};
@@ -14,8 +14,7 @@ use crate::script_host::ScriptHost;
 use std::alloc::{AllocError, Global};
 use std::sync::ledger::Ledger;
 use wh_cell::CellAgreements;
-use wh_commands::AdmitParams;
-use wh_host::{HostError, ModuleId, Params};
+use wh_host::{Admit, HostError, Invoke, ModuleId, Params};
 use wh_replies::Reply;
 use wh_swap::SwapDev;
 
@@ -36,30 +35,23 @@ impl<D: SwapDev, T: Ledger, C: Ledger, O: Ledger, E: Ledger, B: CellAgreements> 
         alloc: Global,
         inst: &'a str,
         of: usize,
-        given: AdmitParams,
+        params: Params,
     ) -> Result<Reply<'a>, AllocError>
         requires free { place_of_name self.old.instance_names inst.now ≡ None }
         requires there { of < length self.old.module_names }
         ensures ok { IfOk result (λ reply. (settings : Settings) (m : ScriptState)
             → RepresentsScript settings self.old m → TakesInstance settings m inst.now of
-            (params_of given) (reply_of reply) self.new) }
+            (view_params params) (reply_of reply) self.new) }
         ensures err { OnErr result (self.new ≡ self.old) }
         ensures device { self.new.host.device ≡ self.old.host.device }
     {
         let name = String::from_str(alloc, inst)?;
         self.instances.reserve(1)?;
         self.instance_names.add(alloc, inst)?;
-        let params = Params {
-            shares: given.shares,
-            min: given.min,
-            max: given.max,
-            fuel: given.fuel,
-            base: given.base,
-            salt: given.salt,
-            inputs: given.inputs,
-        };
-        match self.host.admit(alloc, ModuleId { number: of }, params) {
+        let of = ModuleId { number: of };
+        match self.host.ask(Admit { alloc, of, params }) {
             Ok(id) => {
+                self.awake.add(id);
                 let has_start = self.host.host().can_go_on(id);
                 self.instances.push_reserved(NamedInstance {
                     name,
@@ -112,7 +104,15 @@ impl<D: SwapDev, T: Ledger, C: Ledger, O: Ledger, E: Ledger, B: CellAgreements> 
             return Ok(());
         };
         let id = self.instances[at].id;
-        let outcome = match self.host.invoke(alloc, id, export, args, fuel) {
+        self.awake.add(id);
+        let invoke = Invoke {
+            alloc,
+            id,
+            name: export,
+            given: args,
+            fuel,
+        };
+        let outcome = match self.host.ask(invoke) {
             Ok(place) => InvokeOutcome::Accepted {
                 instance: number,
                 place,

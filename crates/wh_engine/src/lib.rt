@@ -2,6 +2,7 @@
 #![tactic(auto)]
 
 mod asking;
+mod awake;
 mod ending;
 mod fault;
 mod finding;
@@ -15,5 +16,5 @@ mod running;
 mod script_host;
 mod sharing;
 
-pub use fault::ScriptFault;
+pub use fault::RunFault;
 pub use script_host::ScriptHost;

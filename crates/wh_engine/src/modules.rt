@@ -16,7 +16,7 @@ use crate::script_host::ScriptHost;
 use std::alloc::{AllocError, Global};
 use std::sync::ledger::Ledger;
 use wh_cell::CellAgreements;
-use wh_host::ModuleError;
+use wh_host::{Load, ModuleError};
 use wh_imports::LinkError;
 use wh_load::LoadError;
 use wh_replies::{FaultPlace, ModuleRefusal, Reply};
@@ -82,7 +82,7 @@ impl<D: SwapDev, T: Ledger, C: Ledger, O: Ledger, E: Ledger, B: CellAgreements> 
         ensures device { self.new.host.device ≡ self.old.host.device }
     {
         self.module_names.add(alloc, name)?;
-        match self.host.load(alloc, bytes) {
+        match self.host.ask(Load { alloc, bytes }) {
             Ok(_) => Ok(Reply::ModuleOk { name }),
             Err(error) => {
                 self.module_names.remove_last();

@@ -1,14 +1,17 @@
 // How calls are said to be.
 
 ghost use Rattle.std.specs.Bool.{MatchBool};
-ghost use Rattle.std.specs.Prelude.{◌≡◌, ◌≢◌, Some, OnOk, string_bytes};
+ghost use Rattle.std.specs.Prelude.{◌≡◌, ◌≢◌, Some, IfErr, OnOk, string_bytes, false};
 ghost use Rattle.wh_replies.specs.View.{caller_of, status_of};
 ghost use Rattle.wh_script_laws.specs.Printed as printed_spec;
-ghost use Rattle.wh_script_model.specs.Texts.{wants_fuel};
+ghost use Rattle.wh_script_model.specs.Drains.{open_status};
+ghost use Rattle.wh_script_laws.specs.Following.{device_fault};
 ghost use Rattle.wh_instance.specs.Tenancy.{suspension_of};
-ghost use Rattle.wh_engine.specs.Printing.{IsFaultless, IsFoundAt, IsInvokedNow, IsReturnedSo, IsPrintedAs, IsStatusAt, PrintsAll, PrintsAllCalls, PrintsAllStarts, PrintsCallOf, PrintsOf, PrintsStartOf};
+ghost use Rattle.wh_engine.specs.Draining.{AllRest, StopsPrinting};
+ghost use Rattle.wh_engine.specs.Printing.{IsFoundAt, IsInvokedNow, IsReturnedSo, IsPrintedAs, IsStatusAt, PrintsAll, PrintsAllCalls, PrintsAllStarts, PrintsCallOf, PrintsOf, PrintsStartOf};
 
 use crate::ending::{forget_calls, forget_instances, is_over};
+use crate::fault::RunFault;
 use crate::finding::place_of;
 use crate::parts::{InvokeOutcome, Invoked, NamedInstance};
 use crate::script_host::ScriptHost;
@@ -64,7 +67,8 @@ fn printed_of(told: CallStatus) -> Option<Status>
 
 // What is said of the present call of an instance, which stands for this.
 fn waiting_so(waiting_for: Option<Suspension>, charges: u64) -> Status
-    ensures { IsFaultless (suspension_of waiting_for) → status_of result ≡ wants_fuel charges }
+    ensures { status_of result
+        ≡ open_status false false (device_fault (suspension_of waiting_for)) charges }
 {
     let Some(suspension) = waiting_for else {
         return Status::Fuel { charges };
@@ -205,29 +209,44 @@ impl<D: SwapDev, T: Ledger, C: Ledger, O: Ledger, E: Ledger, B: CellAgreements> 
     E,
     B,
 > {
-    /// Appends the lines of a drain to `text`: for each start, by the numbers of instances, and then for each call, by the
-    /// numbers of their `invoke`s, where its status differs from the one printed last. Forgets released instances and calls
-    /// that have ended, since no line is printed of them again.
+    /// Looks whether all calls have run, and appends the lines of a drain to `text`: for each start, by the numbers of instances,
+    /// and then for each call, by the numbers of their `invoke`s, where its status differs from the one printed last. Forgets
+    /// released instances and calls that have ended, since no line is printed of them again.
     ///
     /// # Errors
-    /// A growth of memory was refused; a beginning of the lines may have been appended.
-    pub fn print(&mut self, text: &mut String) -> Result<(), AllocError>
+    /// `Memory` where a growth of memory was refused, and `Transcript` where a call can go on. A beginning of the lines may have
+    /// been appended.
+    pub fn print(&mut self, text: &mut String) -> Result<(), RunFault>
+        ensures rests { OnOk result (AllRest self.old.host.host self.old.instances) }
         ensures says { OnOk result (PrintsAll self.old (string_bytes text.old) self.new
             (string_bytes text.new)) }
         ensures host { self.new.host ≡ self.old.host }
+        ensures err { IfErr result (StopsPrinting self.old.host.host) }
     {
         self.print_starts(text)?;
-        self.print_calls(text)
+        let Ok(()) = self.print_calls(text) else {
+            return Err(RunFault::Memory);
+        };
+        Ok(())
     }
 
-    fn print_starts(&mut self, text: &mut String) -> Result<(), AllocError>
+    fn print_starts(&mut self, text: &mut String) -> Result<(), RunFault>
+        ensures rests { OnOk result (AllRest self.old.host.host self.old.instances) }
         ensures says { OnOk result (PrintsAllStarts self.old (string_bytes text.old) self.new
             (string_bytes text.new)) }
         ensures host { self.new.host ≡ self.old.host }
+        ensures err { IfErr result (StopsPrinting self.old.host.host) }
     {
         let mut has_ended = false;
         for at in 0..self.instances.len() {
-            print_start(self.host.host(), &mut self.instances[at], text)?;
+            let instance = &mut self.instances[at];
+            if self.host.host().can_go_on(instance.id) {
+                self.awake.add_any();
+                return Err(RunFault::Transcript);
+            }
+            let Ok(()) = print_start(self.host.host(), instance, text) else {
+                return Err(RunFault::Memory);
+            };
             has_ended = has_ended | is_over(&self.instances[at]);
         }
         forget_instances(&mut self.instances, has_ended);

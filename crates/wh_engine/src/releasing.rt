@@ -12,7 +12,7 @@ use crate::script_host::ScriptHost;
 use std::alloc::Global;
 use std::sync::ledger::Ledger;
 use wh_cell::CellAgreements;
-use wh_host::HostError;
+use wh_host::{HostError, Release};
 use wh_swap::SwapDev;
 
 impl<D: SwapDev, T: Ledger, C: Ledger, O: Ledger, E: Ledger, B: CellAgreements> ScriptHost<
@@ -38,7 +38,7 @@ impl<D: SwapDev, T: Ledger, C: Ledger, O: Ledger, E: Ledger, B: CellAgreements> 
             return Err(HostError::NoInstance);
         };
         let id = self.instances[at].id;
-        let output = match self.host.release(alloc, id) {
+        let output = match self.host.ask(Release { alloc, id }) {
             Ok(output) => output,
             Err(error) => return Err(error),
         };

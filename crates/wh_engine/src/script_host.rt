@@ -7,6 +7,7 @@ ghost use Rattle.wh_script_model.specs.Settings.{Settings};
 ghost use Rattle.wh_host.specs.Hosting.{IsNewHost};
 ghost use Rattle.wh_engine.specs.RepresentedScript.{RepresentsScript};
 
+use crate::awake::Awake;
 use crate::parts::{Invoked, NamedInstance};
 use std::alloc::Global;
 use std::marker::Model;
@@ -27,9 +28,9 @@ pub struct ScriptHost<D: SwapDev, T: Ledger, C: Ledger, O: Ledger, E: Ledger, B:
     pub(crate) invoked: Vec<Invoked>,
     // How many `invoke`s have a number.
     pub(crate) asked: u64,
+    pub(crate) awake: Awake,
 }
 
-// Written out, so that letting one go is one call, and not one for each part of its parts.
 impl<D: SwapDev + Drop, T: Ledger, C: Ledger, O: Ledger, E: Ledger, B: CellAgreements> Drop
     for ScriptHost<D, T, C, O, E, B> {
     fn drop(self) {
@@ -40,6 +41,7 @@ impl<D: SwapDev + Drop, T: Ledger, C: Ledger, O: Ledger, E: Ledger, B: CellAgree
             instances: _,
             invoked: _,
             asked: _,
+            awake: _,
         } = self;
     }
 }
@@ -86,6 +88,7 @@ impl<D: SwapDev, T: Ledger, C: Ledger, O: Ledger, E: Ledger, B: CellAgreements> 
             instances: Vec::new(alloc),
             invoked: Vec::new(alloc),
             asked: 0,
+            awake: Awake::new(alloc),
         }
     }
 
@@ -116,6 +119,7 @@ impl<D: SwapDev + Drop, T: Ledger, C: Ledger, O: Ledger, E: Ledger, B: CellAgree
             instances: _,
             invoked: _,
             asked: _,
+            awake: _,
         } = self;
         host
     }

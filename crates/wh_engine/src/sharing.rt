@@ -3,9 +3,9 @@
 ghost use Rattle.std.specs.Prelude.{◌≡◌, ◌+◌, ℕ, IfErr, OnErr, OnOk, Option};
 ghost use Rattle.wh_cell.specs.Counted.{countable, offers_of};
 ghost use Rattle.wh_cell.specs.Scanned.{IsScanned};
-ghost use Rattle.wh_engine.specs.Draining.{StaysSo, StopsScan};
+ghost use Rattle.wh_engine.specs.Draining.{StaysSo, StopsServing};
 
-use crate::fault::ScriptFault;
+use crate::fault::RunFault;
 use crate::running::stops_by;
 use crate::script_host::ScriptHost;
 use std::alloc::Global;
@@ -55,7 +55,7 @@ impl<
         rt: &R,
         alloc: Global,
         hasher: H,
-    ) -> Result<(), ScriptFault>
+    ) -> Result<(), RunFault>
         ensures stands { StaysSo self.old self.new }
         ensures device { self.new.host.device ≡ self.old.host.device }
         ensures scans { OnOk result ((offered : Option ℕ)
@@ -66,7 +66,7 @@ impl<
             })) }
         ensures others { self.new ≡ record self.old { host = self.new.host } }
         ensures same { OnErr result (self.new ≡ self.old) }
-        ensures err { IfErr result StopsScan }
+        ensures err { IfErr result StopsServing }
     {
         match self.host.scan(rt, alloc, hasher) {
             Ok(_) => Ok(()),

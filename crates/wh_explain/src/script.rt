@@ -9,7 +9,7 @@ use crate::shapes::{Param, Shape, WordFault, shape_of, word_fault};
 use std::alloc::{AllocError, Global};
 use std::io::{BufRead, Read};
 use std::{fmt, io};
-use wh_commands::{LineError, parse};
+use wh_commands::{ParseError, parse};
 
 /// How many bytes a line may have, without its newline.
 pub const LONGEST_LINE: usize = 2200000;
@@ -75,14 +75,14 @@ fn is_skipped(line: &[u8]) -> bool
     }
 }
 
-/// What the host says of a line that isn't too long. There is no other error than `Syntax` but out of memory.
+/// What the host says of a line that isn't too long.
 fn command_answer(alloc: Global, line: &[u8]) -> Answer
     ensures { SaysOfLine line.now result }
 {
     match parse(alloc, line) {
         Ok(_) => Answer::Accepted,
-        Err(LineError::Syntax) => Answer::Refused,
-        Err(_) => Answer::Memory,
+        Err(ParseError::Syntax) => Answer::Refused,
+        Err(ParseError::Memory) => Answer::Memory,
     }
 }
 

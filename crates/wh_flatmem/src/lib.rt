@@ -17,6 +17,7 @@ ghost use Rattle.wh_model.specs.Execution.Store.{bytes_at, written};
 
 use std::alloc::{AllocError, Global};
 use std::marker::Model;
+use wh_bytes::copy_bytes;
 use wh_linmem::LinearMem;
 use wh_model::{Got, Grown, Need, WASM_PAGE};
 
@@ -50,39 +51,6 @@ fn quick_end_of(length: usize) -> usize
     ensures { result ≡ length - 7 }
 {
     length.saturating_sub(MOST_QUICK - 1)
-}
-
-// Writes over N bytes by as many, if there are so many, and says whether it did.
-#[inline(always)]
-fn copy_array<const N: usize>(part: &mut [u8], given: &[u8]) -> bool
-    requires few { N ≤ 8 }
-    requires same { length part.old ≡ length given.now }
-    ensures done { IsTrue result → part.new ≡ given.now }
-    ensures left { IsFalse result → part.new ≡ part.old }
-{
-    let Some(from) = given.as_array::<N>() else {
-        return false;
-    };
-    let Some(to) = part.as_mut_array::<N>() else {
-        return false;
-    };
-    *to = *from;
-    true
-}
-
-// Writes over bytes by as many others. Those of a number go as one array: inlined where their count is known, that is one
-// machine move, while a copy of slices would first test whether the two overlap.
-#[inline(always)]
-fn copy(part: &mut [u8], given: &[u8])
-    requires { length part.old ≡ length given.now }
-    ensures { part.new ≡ given.now }
-{
-    if !copy_array::<8>(part, given)
-        && !copy_array::<4>(part, given)
-        && !copy_array::<2>(part, given)
-    {
-        part.copy_from_slice(given);
-    }
 }
 
 impl FlatMemory {
@@ -120,7 +88,7 @@ impl FlatMemory {
         requires { at + length given.now ≤ length self.old.bytes }
         ensures { self.new ≡ record self.old { bytes = written self.old.bytes at given.now } }
     {
-        copy(&mut self.bytes[at..at + given.len()], given);
+        copy_bytes(&mut self.bytes[at..at + given.len()], given);
     }
 
     // Where so many bytes begin, if all of them are in the memory.

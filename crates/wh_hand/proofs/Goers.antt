@@ -3,7 +3,7 @@ use Rattle.std.proofs.Common.{◌≡◌, ◌≢◌, ◌≤◌, ◌<◌, ℕ, zer
 use mathlib.Core.Bool.{beq}
 use Rattle.std.specs.Bool.{MatchBool}
 use Rattle.std.proofs.lemmas.List.{get_or-set_other, get_or-set_same}
-use Rattle.std.specs.Prelude.{IfErr, IfOk, Result, Ok, Err}
+use Rattle.std.specs.Prelude.{IfOk, Result, Ok, Err}
 use Rattle.wh_model.specs.declared.memory.Need.{Need}
 use Rattle.wh_host_model.specs.declared.plain.InstId.{InstId}
 use Rattle.wh_host_model.specs.declared.plain.SwapError.{SwapError}
@@ -14,6 +14,7 @@ use Rattle.wh_host_model.specs.Host.Worlds.{Suspension, for_frame, Tenant, World
 use Rattle.wh_host_model.specs.Owners.{Entry}
 use Rattle.wh_host_model.specs.Host.Admission.{live_count}
 use Rattle.wh_host_model.specs.Host.Happens.{IsLive}
+use Rattle.wh_swap.specs.DeviceCalls.{call_faults}
 use Rattle.wh_journal.specs.Calls.{JournalCallState}
 use Rattle.wh_instance.specs.Tenancy.{RepresentsEach, suspension_of}
 use Rattle.wh_host.specs.declared.parts.InstanceEntry.{InstanceEntry}
@@ -281,15 +282,15 @@ stands_each h w w2 id t st st2 live =
       same = back.2.is.waiting_for ∙ ap (λ (x : InstanceEntry). suspension_of x.tenant.waiting_for) same ∙ sym f.2.is.waiting_for;
     }
 
-provided_ready : (s s2 : Space) (place : ℕ) (need : Need) (result : Result ℕ SwapError) (none : List SwapError) → none ≡ []
-    → IfErr result (λ fault. none ≡ fault ∷ none) → IfOk result (λ left. IsProvided s place need left s2) → Ready s2 place need
-provided_ready s s2 place need (Ok left) none is err ok = ok.ready
-provided_ready s s2 place need (Err fault) none is err ok = absurd (let bad : [] ≡ fault ∷ none = sym is ∙ err in cc bad)
+provided_ready : (s s2 : Space) (place : ℕ) (need : Need) (result : Result ℕ SwapError) → [] ≡ call_faults result ++ []
+    → IfOk result (λ left. IsProvided s place need left s2) → Ready s2 place need
+provided_ready s s2 place need (Ok left) none ok = ok.ready
+provided_ready s s2 place need (Err fault) none ok = absurd (let bad : [] ≡ fault ∷ [] = none in cc bad)
 
-pub made_ready : (h h2 : HostState) (id : InstId) (result : Result ℕ SwapError) (none : List SwapError) → none ≡ [] → (w : World) × IsHost h w → MovesOnly h h2
-    → IfErr result (λ fault. none ≡ fault ∷ none)
+pub made_ready : (h h2 : HostState) (id : InstId) (result : Result ℕ SwapError) → (w : World) × IsHost h w → MovesOnly h h2
+    → [] ≡ call_faults result ++ []
     → ((need : Need) → WaitsFor h id need → IfOk result (λ left. IsProvided h.space id.place need left h2.space)) → IsReadyFor h2 id
-made_ready h h2 id result none is some moves err right w st t live awaits need wanted =
+made_ready h h2 id result some moves none right w st t live awaits need wanted =
     let x = moves some.0 some.1 in
     let there = stands_each h2 w x.0 id t st x.2 live in
     let was = (same_all some.0 x.0 (ap (λ (z : World). z.tenants) x.1.2) id there.u).1 there.live in
@@ -297,4 +298,4 @@ made_ready h h2 id result none is some moves err right w st t live awaits need w
     let wants_it : wants some.0.space id.place ≡ Some need =
     sym (x.1.1.0 id.place).wants ∙ ap (λ (z : Space). wants z id.place) (sym space) ∙ wanted in
     let waits : WaitsFor h id need = (some.0, some.1, (there.u, was, there.same ∙ awaits), wants_it) in
-    subst (λ (z : Space). Ready z id.place need) st.space (provided_ready h.space h2.space id.place need result none is err (right need waits))
+    subst (λ (z : Space). Ready z id.place need) st.space (provided_ready h.space h2.space id.place need result none (right need waits))

@@ -1,7 +1,7 @@
 -- The steps of a run, and the whole of it.
 use Rattle.std.proofs.Common.{◌≡◌, ◌≤◌, ℕ, ◌+◌, ◌-◌, inl, inr, ⊎_elim, Bool, true, false, List, [], ◌∷◌, ◌++◌, length, get_or, replicate, suc, ◌==◌, not, option_to_list, Option, Some, None, Result, Ok, Err, refl, sym, ap, subst, ◌∙◌, arith, rules}
 use Rattle.std.specs.Bool.{MatchBool}
-use Rattle.std.specs.Prelude.{IfErr, IfNone, IfSome}
+use Rattle.std.specs.Prelude.{IfNone, IfSome}
 use Rattle.std.proofs.lemmas.List.Sums.{sum_by-append}
 use Rattle.wh_host_model.specs.declared.Tax.{Tax}
 use Rattle.wh_host_model.specs.declared.plain.InstId.{InstId}
@@ -11,6 +11,7 @@ use Rattle.wh_host_model.specs.Host.Worlds.{Tenant, World}
 use Rattle.wh_host_model.specs.Host.Admission.{live_count}
 use Rattle.wh_host_model.specs.Host.Events.{Event, epoch}
 use Rattle.wh_host_model.specs.Host.Happens.{AwaitsFrame, Happens, IsTurn, OnlyMoves, of_none, of_one}
+use Rattle.wh_swap.specs.DeviceCalls.{call_faults}
 use Rattle.wh_reclaim.specs.Together.{AreTogether}
 use Rattle.wh_reclaim.proofs.Together.{new_together}
 use Rattle.wh_host.specs.Backing.{KeepsBacking}
@@ -34,11 +35,10 @@ moved_keeps h h2 some moves =
     keeps_all h h2 some (λ w st. (let x = moves w st in (x.0, same_all w x.0 (ap (λ (z : World). z.tenants) x.1.2), x.2)))
 
 -- a device without faults
-pub provided_well : (h h2 : HostState) (id : InstId) (result : Result ℕ SwapError) (none : List SwapError) → none ≡ []
-    → IfErr result (λ fault. none ≡ fault ∷ none) → MovesWith h id AwaitsFrame (provide_fault result) h2 → MovesWith h id AwaitsFrame None h2
-provided_well h h2 id (Ok left) none is err moves = moves
-provided_well h h2 id (Err fault) none is err moves =
-    absurd (let bad : [] ≡ fault ∷ none = sym is ∙ err in cc bad)
+pub provided_well : (h h2 : HostState) (id : InstId) (result : Result ℕ SwapError) → [] ≡ call_faults result ++ [] → MovesWith h id AwaitsFrame (provide_fault result) h2
+    → MovesWith h id AwaitsFrame None h2
+provided_well h h2 id (Ok left) none moves = moves
+provided_well h h2 id (Err fault) none moves = absurd (let bad : [] ≡ fault ∷ [] = none in cc bad)
 
 pub provided_moves : (h h2 : HostState) (id : InstId) → MovesWith h id AwaitsFrame None h2 → MovesOnly h h2
 provided_moves h h2 id moves w st = let x = moves w st in (x.0, only_moves w x.0 id x.1, x.2)

@@ -1,7 +1,7 @@
 //! How modules and instances come to a hand.
 
 ghost use Rattle.std.specs.Prelude.{◌≡◌, ℕ, IfOk, OnErr};
-ghost use Rattle.wh_admit.specs.View.{view_params};
+ghost use Rattle.wh_params.specs.View.{view_params};
 ghost use Rattle.wh_host_model.specs.Host.Worlds.{promised};
 ghost use Rattle.wh_host_model.specs.Space.Places.{Enters};
 ghost use Rattle.wh_host.specs.Admitting.{AnswersAdmit};

@@ -30,7 +30,6 @@ pub struct Hand {
     pub(crate) output: Vec<u8>,
 }
 
-// Written out, so that letting one go is one call, and not one for each part of its parts.
 impl Drop for Hand {
     fn drop(self) {
         let Hand {

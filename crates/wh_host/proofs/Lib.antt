@@ -3,6 +3,10 @@ pub mod Leavings
 mod Lending
 mod Viewing
 mod Turns
+mod BesideTurns
+mod Unmoved
+mod RunnerLists
+mod RunnerTurns
 pub mod Hosts
 mod Requests
 mod Comers

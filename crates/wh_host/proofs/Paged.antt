@@ -2,7 +2,6 @@
 use Rattle.std.proofs.Common.{◌≡◌, ◌≢◌, ℕ, zero, suc, ◌⊎◌, inl, Bool, true, false, List, [], ◌∷◌, Option, Some, None, get_or, slice_get, slice_set, refl, sym, subst, ◌∙◌}
 use Rattle.std.specs.Bool.{MatchBool}
 use Rattle.wh_model.specs.declared.memory.Need.{Need}
-use Rattle.wh_model.specs.Execution.Store.{Instance, Store}
 use Rattle.wh_host_model.specs.declared.plain.InstId.{InstId}
 use Rattle.wh_host_model.specs.declared.plain.SwapError.{SwapError}
 use Rattle.wh_host_model.specs.Space.Errands.{tickets}
@@ -13,9 +12,7 @@ use Rattle.wh_host_model.specs.Space.Tickets.{WaitsForBytes}
 use Rattle.wh_host_model.specs.Host.Events.{Event, provide}
 use Rattle.wh_host_model.specs.Host.Happens.{AwaitsFrame, Happens, IsLive, MovesPages, OnlyMoves, has_failed, moved}
 use Rattle.wh_host_model.specs.Host.Spaces.{AllLeftAlone}
-use Rattle.wh_host_model.specs.Host.Suspensions.{FirstWaitsDuly, WaitsDuly}
-use Rattle.wh_host_model.specs.Host.Worlds.{Doing, Suspension, Tenant, World, for_device, for_frame, store_in, with_tenant}
-use Rattle.wh_host_model.specs.Owners.{Entry}
+use Rattle.wh_host_model.specs.Host.Worlds.{Tenant, World, for_device, with_tenant}
 use Rattle.wh_host_model.proofs.Host.Bridges.{failures_leave_all, provisions_leave_all}
 use Rattle.wh_host_model.proofs.Host.Lasting.{frames_are_awaited}
 use Rattle.wh_host_model.proofs.Host.Leaving.{left_then}

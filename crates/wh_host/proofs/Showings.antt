@@ -7,7 +7,6 @@ use Rattle.wh_host_model.specs.Space.Parts.{view, wants}
 use Rattle.wh_host_model.specs.Host.Worlds.{Loaded, Tenant, World, journal, journal_calls, standing_in, store_in, tenant}
 use Rattle.wh_host_model.specs.Owners.{Params, given_of}
 use Rattle.wh_host_model.specs.Host.Journals.{InOrder}
-use Rattle.wh_host_model.specs.Host.Laws.{IsReplayed}
 use Rattle.wh_host_model.specs.Host.Suspensions.{FirstWaitsDuly}
 use Rattle.wh_host_model.proofs.Host.Lasting.{inputs_stay}
 use Rattle.wh_host_model.proofs.Host.Holding.{instances_replay, journals_are_in_order, suspensions_are_right}

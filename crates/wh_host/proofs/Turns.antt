@@ -132,6 +132,213 @@ lent_open l x v t lies =
     let least : min v.page_limit (page_limit v.memory.now v.place) ≡ v.page_limit = min-eq_left lies.within in
     represents_over (linked_parts l) (min v.page_limit (page_limit v.memory.now v.place)) (λ b. b) (λ b need. Unit {0}) (λ b b2. Unit {0}) view_bytes ViewReady KeepsView (view_bytes v) v refl x t (subst (λ n. IsTenant l n x (view_bytes v) t) (sym least) lies.is)
 
+-- What is known of a turn over a memory that shows what the instance at a place has of the whole: what it sees and what is ready
+-- are that of the whole, which has changed by its steps alone, and so is what the turn comes to.
+pub record Shown {M : Type 0} (w : Setting M) (l : LinkedState) (limit q : ℕ) (x x2 : HostInstanceState) (m m2 : M) (s s2 : Space) (place : ℕ) (t : Tenant) (made : TurnResult) : Type 0 where
+  pub lies : LiesAt l limit x s place t
+  pub steps : StepsAlone place s s2
+  pub sees : w.bytes m ≡ view s place
+  pub sees2 : w.bytes m2 ≡ view s2 place
+  pub ready : (need : Need) → w.ready m need → Ready s place need
+  pub same : m2 ≡ m → s2 ≡ s
+  pub by_bytes : (t2 : Tenant) → RepresentsTenant w x2 m2 t2 → IsTenant l limit x2 (view s2 place) t2
+  pub turns : (e : Entry) (es : List Entry) → t.open_calls ≡ e ∷ es → (is : TurnsTenant w q m t e es made x2 m2) × ProceedsIn q s t e is.to is.pieces is.charges s2 is.rest is.doing
+
+module _ {M : Type 0} (w : Setting M) (l : LinkedState) (limit q : ℕ) (x x2 : HostInstanceState) (m m2 : M) (s s2 : Space) (place : ℕ) (t : Tenant) (made : TurnResult) (h : Shown w l limit q x x2 m m2 s s2 place t made) where
+  claim2 : claim s2 place ≡ Some h.lies.claimed
+  claim2 = h.steps.claim ∙ h.lies.claim_is
+
+  lies_then : (stands : Option Need) (n : ℕ) (s3 : Space) (t2 : Tenant) → Leaves place stands n s2 s3 → t2.place ≡ place → RepresentsTenant w x2 m2 t2 → LiesAt l limit x2 s3 place t2
+  lies_then stands n s3 t2 leaves at rep = record {
+    place_is = at;
+    is = subst (λ b. IsTenant l limit x2 b t2) (sym leaves.alone.view) (h.by_bytes t2 rep);
+    within = subst (λ (c : Option Claimed). limit ≤ limit_by c) (sym (leaves.alone.steps.claim ∙ h.steps.claim)) h.lies.within;
+    claimed = h.lies.claimed;
+    claim_is = leaves.alone.steps.claim ∙ claim2;
+  }
+
+  -- the call has ended
+  ended_to : (e : Entry) (es : List Entry) → t.open_calls ≡ e ∷ es → (to : Upshot) (k n : ℕ) (r : Rest) (d : Doing) → ProceedsIn q s t e to k n s2 r d → LeavesTenant w q m t e es k n r d made x2 m2 to → made ≡ turned.Ended
+      → (s3 : Space) → Leaves place None (k + n) s2 s3 → TurnsTo l limit q s t answer.Ended place x2 s3
+  ended_to e es is_open (to_end o) k n r d goes leaves is s3 left =
+      let alone = subst (λ i. WaitsAlone i None s2 s3) (sym h.lies.place_is) left.alone in
+      let sees : view s3 t.place ≡ w.bytes m2 = ap (view s3) h.lies.place_is ∙ left.alone.view ∙ sym h.sees2 in
+      let c = leaves.1 s3 sees in
+      (c.0, has_ended is_open goes alone (subst (λ i. PinsEndAfter (k + n) s3 i) (sym h.lies.place_is) left.pins) c.1, lies_then None (k + n) s3 c.0 left (closed_place s3 t (ended_by (gone_further e k n) o) es r c.0 c.1 ∙ h.lies.place_is) c.2)
+  ended_to e es is_open out_of_fuel k n r d goes leaves is s3 left = absurd (let bad = sym leaves.0 ∙ is in cc bad)
+  ended_to e es is_open (to_wait need) k n r d goes leaves is s3 left = absurd (let bad = sym leaves.0.1 ∙ is in cc bad)
+  ended_to e es is_open to_go_on k n r d goes leaves is s3 left =
+      absurd (⊎_elim (λ a. let bad = sym a.0.1 ∙ is in cc bad) (λ b. let bad = sym b.0 ∙ is in cc bad) leaves)
+
+  -- all its fuel is used
+  fuel_to : (e : Entry) (es : List Entry) → t.open_calls ≡ e ∷ es → (to : Upshot) (k n : ℕ) (r : Rest) (d : Doing) → ProceedsIn q s t e to k n s2 r d → LeavesTenant w q m t e es k n r d made x2 m2 to → made ≡ turned.Fuel
+      → (s3 : Space) → Leaves place None (k + n) s2 s3 → TurnsTo l limit q s t answer.Fuel place x2 s3
+  fuel_to e es is_open out_of_fuel k n r d goes leaves is s3 left =
+      (_, has_no_fuel is_open goes (subst (λ i. WaitsAlone i None s2 s3) (sym h.lies.place_is) left.alone) (subst (λ i. PinsEndAfter (k + n) s3 i) (sym h.lies.place_is) left.pins), lies_then None (k + n) s3 _ left h.lies.place_is leaves.1)
+  fuel_to e es is_open (to_end o) k n r d goes leaves is s3 left = absurd (let bad = sym leaves.0 ∙ is in cc bad)
+  fuel_to e es is_open (to_wait need) k n r d goes leaves is s3 left = absurd (let bad = sym leaves.0.1 ∙ is in cc bad)
+  fuel_to e es is_open to_go_on k n r d goes leaves is s3 left =
+      absurd (⊎_elim (λ a. let bad = sym a.0.1 ∙ is in cc bad) (λ b. let bad = sym b.0 ∙ is in cc bad) leaves)
+
+  -- bytes of its next step aren't ready
+  frame_to : (e : Entry) (es : List Entry) → t.open_calls ≡ e ∷ es → (to : Upshot) (k n : ℕ) (r : Rest) (d : Doing) → ProceedsIn q s t e to k n s2 r d → LeavesTenant w q m t e es k n r d made x2 m2 to → (need : Need) (still : Bool) → made ≡ turned.Frame need still
+      → (s3 : Space) → ((n : ℕ) → (still ≡ true → n ≡ 0) → IsInMemory (view s2 place) need → Leaves place (Some need) n s2 s3) → TurnsTo l limit q s t answer.Frame place x2 s3
+  frame_to e es is_open (to_wait other) k n r d goes leaves need still is s3 left =
+      let says = leaves.0 in
+      let same : turned.Frame other says.0 ≡ turned.Frame need still = sym says.1 ∙ is in
+      let same_need : other ≡ need = cc same in
+      let same_still : says.0 ≡ still = cc same in
+      let l2 = left (k + n) (λ e. no_steps says.0 (k + n) says.2 (same_still ∙ e)) (subst (λ z. IsInMemory (view s2 place) z) same_need (subst (λ b. IsInMemory b other) h.sees2 leaves.1)) in
+      let l3 = subst (λ z. Leaves place (Some z) (k + n) s2 s3) (sym same_need) l2 in
+      (_, has_no_frame is_open goes (subst (λ i. WaitsAlone i (Some other) s2 s3) (sym h.lies.place_is) l3.alone) (subst (λ i. PinsEndAfter (k + n) s3 i) (sym h.lies.place_is) l3.pins), lies_then (Some other) (k + n) s3 _ l3 h.lies.place_is leaves.2)
+  frame_to e es is_open (to_end o) k n r d goes leaves need still is s3 left = absurd (let bad = sym leaves.0 ∙ is in cc bad)
+  frame_to e es is_open out_of_fuel k n r d goes leaves need still is s3 left = absurd (let bad = sym leaves.0 ∙ is in cc bad)
+  frame_to e es is_open to_go_on k n r d goes leaves need still is s3 left =
+      absurd (⊎_elim (λ a. let bad = sym a.0.1 ∙ is in cc bad) (λ b. let bad = sym b.0 ∙ is in cc bad) leaves)
+
+  -- it can go on
+  again_to : (e : Entry) (es : List Entry) → t.open_calls ≡ e ∷ es → (to : Upshot) (k n : ℕ) (r : Rest) (d : Doing) → ProceedsIn q s t e to k n s2 r d → LeavesTenant w q m t e es k n r d made x2 m2 to → (still : Bool) → made ≡ turned.Again still
+      → (s3 : Space) → ((n : ℕ) → (still ≡ true → n ≡ 0) → Leaves place None n s2 s3) → TurnsTo l limit q s t answer.Again place x2 s3
+  again_to e es is_open to_go_on k n r d goes leaves still is s3 left = ⊎_elim
+      (λ a.
+      let same : turned.Again a.0.0 ≡ turned.Again still = sym a.0.1 ∙ is in
+      let same_still : a.0.0 ≡ still = cc same in
+      let l3 = left (k + n) (λ e. no_steps a.0.0 (k + n) a.0.2 (same_still ∙ e)) in
+      (_, can_go_on is_open goes (subst (λ i. WaitsAlone i None s2 s3) (sym h.lies.place_is) l3.alone) (subst (λ i. PinsEndAfter (k + n) s3 i) (sym h.lies.place_is) l3.pins) a.1, lies_then None (k + n) s3 _ l3 h.lies.place_is a.2))
+      (λ b. absurd (let bad = sym b.0 ∙ is in cc bad))
+      leaves
+  again_to e es is_open (to_end o) k n r d goes leaves still is s3 left = absurd (let bad = sym leaves.0 ∙ is in cc bad)
+  again_to e es is_open out_of_fuel k n r d goes leaves still is s3 left = absurd (let bad = sym leaves.0 ∙ is in cc bad)
+  again_to e es is_open (to_wait need) k n r d goes leaves still is s3 left = absurd (let bad = sym leaves.0.1 ∙ is in cc bad)
+
+  -- nothing was done, and a device fault is kept
+  kept_to : (e : Entry) (es : List Entry) → t.open_calls ≡ e ∷ es → (to : Upshot) (k n : ℕ) (r : Rest) (d : Doing) → LeavesTenant w q m t e es k n r d made x2 m2 to → made ≡ turned.Kept
+      → TurnsTo l limit q s t answer.Again place x2 s2
+  kept_to e es is_open to_go_on k n r d leaves is = ⊎_elim
+      (λ a. absurd (let bad = sym a.0.1 ∙ is in cc bad))
+      (λ b.
+      let f = b.1 in
+      let same : s ≡ s2 = sym (h.same f.same) in
+      let sees : view s t.place ≡ w.bytes m = ap (view s) h.lies.place_is ∙ sym h.sees in
+      let next = subst (λ z. IsNext t.inst (config (store_with z t.rest) [] f.term)) (sym sees) f.next in
+      let ready : (need : Need) → Asks t.inst (config (store_with (view s t.place) t.rest) [] f.term) need → Ready s t.place need = λ need asks. subst (λ i. Ready s i need) (sym h.lies.place_is) (h.ready need (f.ready need (subst (λ z. Asks t.inst (config (store_with z t.rest) [] f.term) need) sees asks))) in
+      let turn : Turn q s t answer.Again s t = keeps_its_fault is_open f.waiting_for f.doing f.no_charges next f.fuel_left ready in (
+        t,
+        subst (λ z. Turn q s t answer.Again z t) same turn,
+        record {
+          place_is = h.lies.place_is;
+          is = h.by_bytes t b.2;
+          within = subst (λ (c : Option Claimed). limit ≤ limit_by c) (sym h.steps.claim) h.lies.within;
+          claimed = h.lies.claimed;
+          claim_is = claim2;
+        },
+      ))
+      leaves
+  kept_to e es is_open (to_end o) k n r d leaves is = absurd (let bad = sym leaves.0 ∙ is in cc bad)
+  kept_to e es is_open out_of_fuel k n r d leaves is = absurd (let bad = sym leaves.0 ∙ is in cc bad)
+  kept_to e es is_open (to_wait need) k n r d leaves is = absurd (let bad = sym leaves.0.1 ∙ is in cc bad)
+
+  -- some call is open
+  first_of : t.open_calls ≢ [] → (e : Entry) × (es : List Entry) × (t.open_calls ≡ e ∷ es)
+  first_of some = go t.open_calls refl
+    where
+      go : (es : List Entry) → t.open_calls ≡ es → (e : Entry) × (es : List Entry) × (t.open_calls ≡ e ∷ es)
+      go [] is = absurd (some is)
+      go (e ∷ es) is = (e, es, is)
+
+  pub ended_turn : t.open_calls ≢ [] → made ≡ turned.Ended → TurnsTo l limit q s t answer.Ended place x2 (ended s2 place)
+  ended_turn some is =
+      let f = first_of some in
+      let both = h.turns f.0 f.1 f.2 in
+      let z = both.0 in
+      ended_to f.0 f.1 f.2 z.to z.pieces z.charges z.rest z.doing both.1 z.leaves is (ended s2 place) (ends_here s2 place h.lies.claimed (z.pieces + z.charges) h.steps.sound claim2)
+
+  pub fuel_turn : t.open_calls ≢ [] → made ≡ turned.Fuel → TurnsTo l limit q s t answer.Fuel place x2 (ended s2 place)
+  fuel_turn some is =
+      let f = first_of some in
+      let both = h.turns f.0 f.1 f.2 in
+      let z = both.0 in
+      fuel_to f.0 f.1 f.2 z.to z.pieces z.charges z.rest z.doing both.1 z.leaves is (ended s2 place) (ends_here s2 place h.lies.claimed (z.pieces + z.charges) h.steps.sound claim2)
+
+  pub still_turn : t.open_calls ≢ [] → (need : Need) → made ≡ turned.Frame need true → TurnsTo l limit q s t answer.Frame place x2 (stood s2 place (Some need))
+  still_turn some need is =
+      let f = first_of some in
+      let both = h.turns f.0 f.1 f.2 in
+      let z = both.0 in
+      frame_to f.0 f.1 f.2 z.to z.pieces z.charges z.rest z.doing both.1 z.leaves need true is (stood s2 place (Some need)) (λ n none lies. waits_here s2 place h.lies.claimed need n h.steps.sound claim2 lies (none refl))
+
+  pub frame_turn : t.open_calls ≢ [] → (need : Need) → made ≡ turned.Frame need false → TurnsTo l limit q s t answer.Frame place x2 (stood (ended s2 place) place (Some need))
+  frame_turn some need is =
+      let f = first_of some in
+      let both = h.turns f.0 f.1 f.2 in
+      let z = both.0 in
+      frame_to f.0 f.1 f.2 z.to z.pieces z.charges z.rest z.doing both.1 z.leaves need false is (stood (ended s2 place) place (Some need)) (λ n none lies. waits_then s2 place h.lies.claimed need n h.steps.sound claim2 lies)
+
+  pub again_turn : t.open_calls ≢ [] → made ≡ turned.Again false → TurnsTo l limit q s t answer.Again place x2 (ended s2 place)
+  again_turn some is =
+      let f = first_of some in
+      let both = h.turns f.0 f.1 f.2 in
+      let z = both.0 in
+      again_to f.0 f.1 f.2 z.to z.pieces z.charges z.rest z.doing both.1 z.leaves false is (ended s2 place) (λ n none. ends_here s2 place h.lies.claimed n h.steps.sound claim2)
+
+  pub same_turn : t.open_calls ≢ [] → made ≡ turned.Again true → TurnsTo l limit q s t answer.Again place x2 (stood s2 place None)
+  same_turn some is =
+      let f = first_of some in
+      let both = h.turns f.0 f.1 f.2 in
+      let z = both.0 in
+      again_to f.0 f.1 f.2 z.to z.pieces z.charges z.rest z.doing both.1 z.leaves true is (stood s2 place None) (λ n none. stays_here s2 place h.lies.claimed n h.steps.sound claim2 (none refl))
+
+  pub kept_turn : t.open_calls ≢ [] → made ≡ turned.Kept → TurnsTo l limit q s t answer.Again place x2 s2
+  kept_turn some is =
+      let f = first_of some in
+      let both = h.turns f.0 f.1 f.2 in
+      let z = both.0 in
+      kept_to f.0 f.1 f.2 z.to z.pieces z.charges z.rest z.doing z.leaves is
+
+  -- the bytes that are wanted lie in the memory
+  wanted_in : (e : Entry) (es : List Entry) → (to : Upshot) (k n : ℕ) (r : Rest) (d : Doing) → LeavesTenant w q m t e es k n r d made x2 m2 to → (need : Need) (still : Bool) → made ≡ turned.Frame need still → IsInMemory (view s2 place) need
+  wanted_in e es (to_wait other) k n r d leaves need still is =
+      let same : turned.Frame other leaves.0.0 ≡ turned.Frame need still = sym leaves.0.1 ∙ is in
+      let same_need : other ≡ need = cc same in
+      subst (λ z. IsInMemory (view s2 place) z) same_need (subst (λ b. IsInMemory b other) h.sees2 leaves.1)
+  wanted_in e es (to_end o) k n r d leaves need still is = absurd (let bad = sym leaves.0 ∙ is in cc bad)
+  wanted_in e es out_of_fuel k n r d leaves need still is = absurd (let bad = sym leaves.0 ∙ is in cc bad)
+  wanted_in e es to_go_on k n r d leaves need still is =
+      absurd (⊎_elim (λ a. let bad = sym a.0.1 ∙ is in cc bad) (λ b. let bad = sym b.0 ∙ is in cc bad) leaves)
+
+  stands_nowhere : MayWaitAt s2 place None
+  stands_nowhere =
+      let o = claimed_there s2 place h.lies.claimed claim2 in
+      record { there = (o.0, o.1, o.2); within = λ want e. absurd (cc e); few = λ want e. absurd (cc e) }
+
+  stands_there : (z : Space) → IsSound z → claim z place ≡ Some h.lies.claimed → (need : Need) → IsInMemory (view z place) need → MayWaitAt z place (Some need)
+  stands_there z sound at need lies =
+      let o = claimed_there z place h.lies.claimed at in
+      let may = may_stand z place o.0 need sound o.2 lies in
+      record { there = (o.0, o.1, o.2); within = λ want e. (may want e).1; few = λ want e. (may want e).2 }
+
+  wanted : t.open_calls ≢ [] → (need : Need) (still : Bool) → made ≡ turned.Frame need still → IsInMemory (view s2 place) need
+  wanted some need still is =
+      let f = first_of some in
+      let both = h.turns f.0 f.1 f.2 in
+      let z = both.0 in
+      wanted_in f.0 f.1 z.to z.pieces z.charges z.rest z.doing z.leaves need still is
+
+  pub shown_turn : t.open_calls ≢ [] → (a : TurnResult) → made ≡ a → TurnsLent l limit q s t place x2 s2 a
+  shown_turn some turned.Kept is = (tt, kept_turn some is)
+  shown_turn some turned.Ended is = (stands_nowhere, ended_turn some is)
+  shown_turn some turned.Fuel is = (stands_nowhere, fuel_turn some is)
+  shown_turn some (turned.Frame need true) is = (stands_there s2 h.steps.sound claim2 need (wanted some need true is), still_turn some need is)
+  shown_turn some (turned.Frame need false) is =
+      let o = claimed_there s2 place h.lies.claimed claim2 in
+      let e = ends_well s2 place o.0 h.steps.sound o.1 o.2 in
+      let lies = subst (λ b. IsInMemory b need) (sym e.0.view) (wanted some need false is) in
+      ((stands_nowhere, stands_there (ended s2 place) e.0.steps.sound (e.0.steps.claim ∙ claim2) need lies), frame_turn some need is)
+  shown_turn some (turned.Again true) is = (stands_nowhere, same_turn some is)
+  shown_turn some (turned.Again false) is = (stands_nowhere, again_turn some is)
+
+-- ---- over what is lent
+
 -- what is known of a turn over what is lent
 pub record Lending (l : LinkedState) (q : ℕ) (x x2 : HostInstanceState) (v v2 : View) (t : Tenant) (made : TurnResult) : Type 0 where
   pub sound : IsSound v.memory.now
@@ -151,202 +358,23 @@ module _ (l : LinkedState) (q : ℕ) (x x2 : HostInstanceState) (v v2 : View) (t
       let at_all = represents_over (linked_parts l) (min v.page_limit (page_limit v.memory.now v.place)) view_bytes ViewReady KeepsView (λ b. b) (λ b need. Unit {0}) (λ b b2. Unit {0}) v2 (view v2.memory.now v.place) (ap (view v2.memory.now) (sym h.keeps.1)) x2 t2 rep in
       subst (λ n. IsTenant l n x2 (view v2.memory.now v.place) t2) least at_all
 
-  sound2 : IsSound v2.memory.now
-  sound2 = h.keeps.3.sound h.sound
-
-  steps : StepsAlone v.place v.memory.now v2.memory.now
-  steps = steps_alone v.place v.memory.now v2.memory.now h.sound h.keeps.3
-
-  claim2 : claim v2.memory.now v.place ≡ Some h.lies.claimed
-  claim2 = steps.claim ∙ h.lies.claim_is
-
-  lies_then : (stands : Option Need) (n : ℕ) (s3 : Space) (t2 : Tenant) → Leaves v.place stands n v2.memory.now s3 → t2.place ≡ v.place → RepresentsTenant (lent_setting l v) x2 v2 t2 → LiesAt l v.page_limit x2 s3 v.place t2
-  lies_then stands n s3 t2 leaves at rep = record {
-    place_is = at;
-    is = subst (λ b. IsTenant l v.page_limit x2 b t2) (sym leaves.alone.view) (by_bytes t2 rep);
-    within = subst (λ (c : Option Claimed). v.page_limit ≤ limit_by c) (sym (leaves.alone.steps.claim ∙ steps.claim)) h.lies.within;
-    claimed = h.lies.claimed;
-    claim_is = leaves.alone.steps.claim ∙ claim2;
-  }
-
   -- it is so of the whole
   goes_in : (e : Entry) (es : List Entry) (is : TurnsTenant (lent_setting l v) q v t e es made x2 v2) → ProceedsIn q v.memory.now t e is.to is.pieces is.charges v2.memory.now is.rest is.doing
   goes_in e es is =
       let whole = proceeds_lent (λ (z : View). z.memory.now) v (lent v h.sound) (refl, refl, refl, keeps_all v.place v.memory.now) is.proceeds in
       subst (λ i. Proceeds (λ z. view z i) (λ z. Ready z i) (StepsAlone i) t.inst q e.call v.memory.now t.rest t.doing is.to is.pieces is.charges v2.memory.now is.rest is.doing) (sym h.lies.place_is) whole
 
-  turns : (e : Entry) (es : List Entry) → t.open_calls ≡ e ∷ es → TurnsTenant (lent_setting l v) q v t e es made x2 v2
-  turns e es is_open = h.turns t e es is_open over_view
-
-  -- the call has ended
-  ended_to : (e : Entry) (es : List Entry) → t.open_calls ≡ e ∷ es → (to : Upshot) (k n : ℕ) (r : Rest) (d : Doing) → ProceedsIn q v.memory.now t e to k n v2.memory.now r d → LeavesTenant (lent_setting l v) q v t e es k n r d made x2 v2 to → made ≡ turned.Ended
-      → (s3 : Space) → Leaves v.place None (k + n) v2.memory.now s3 → TurnsTo l v.page_limit q v.memory.now t answer.Ended v.place x2 s3
-  ended_to e es is_open (to_end o) k n r d goes leaves is s3 left =
-      let alone = subst (λ i. WaitsAlone i None v2.memory.now s3) (sym h.lies.place_is) left.alone in
-      let sees : view s3 t.place ≡ view v2.memory.now v2.place = ap (view s3) h.lies.place_is ∙ left.alone.view ∙ ap (view v2.memory.now) (sym h.keeps.1) in
-      let c = leaves.1 s3 sees in
-      (c.0, has_ended is_open goes alone (subst (λ i. PinsEndAfter (k + n) s3 i) (sym h.lies.place_is) left.pins) c.1, lies_then None (k + n) s3 c.0 left (closed_place s3 t (ended_by (gone_further e k n) o) es r c.0 c.1 ∙ h.lies.place_is) c.2)
-  ended_to e es is_open out_of_fuel k n r d goes leaves is s3 left = absurd (let bad = sym leaves.0 ∙ is in cc bad)
-  ended_to e es is_open (to_wait need) k n r d goes leaves is s3 left = absurd (let bad = sym leaves.0.1 ∙ is in cc bad)
-  ended_to e es is_open to_go_on k n r d goes leaves is s3 left =
-      absurd (⊎_elim (λ a. let bad = sym a.0.1 ∙ is in cc bad) (λ b. let bad = sym b.0 ∙ is in cc bad) leaves)
-
-  -- all its fuel is used
-  fuel_to : (e : Entry) (es : List Entry) → t.open_calls ≡ e ∷ es → (to : Upshot) (k n : ℕ) (r : Rest) (d : Doing) → ProceedsIn q v.memory.now t e to k n v2.memory.now r d → LeavesTenant (lent_setting l v) q v t e es k n r d made x2 v2 to → made ≡ turned.Fuel
-      → (s3 : Space) → Leaves v.place None (k + n) v2.memory.now s3 → TurnsTo l v.page_limit q v.memory.now t answer.Fuel v.place x2 s3
-  fuel_to e es is_open out_of_fuel k n r d goes leaves is s3 left =
-      (_, has_no_fuel is_open goes (subst (λ i. WaitsAlone i None v2.memory.now s3) (sym h.lies.place_is) left.alone) (subst (λ i. PinsEndAfter (k + n) s3 i) (sym h.lies.place_is) left.pins), lies_then None (k + n) s3 _ left h.lies.place_is leaves.1)
-  fuel_to e es is_open (to_end o) k n r d goes leaves is s3 left = absurd (let bad = sym leaves.0 ∙ is in cc bad)
-  fuel_to e es is_open (to_wait need) k n r d goes leaves is s3 left = absurd (let bad = sym leaves.0.1 ∙ is in cc bad)
-  fuel_to e es is_open to_go_on k n r d goes leaves is s3 left =
-      absurd (⊎_elim (λ a. let bad = sym a.0.1 ∙ is in cc bad) (λ b. let bad = sym b.0 ∙ is in cc bad) leaves)
-
-  -- bytes of its next step aren't ready
-  frame_to : (e : Entry) (es : List Entry) → t.open_calls ≡ e ∷ es → (to : Upshot) (k n : ℕ) (r : Rest) (d : Doing) → ProceedsIn q v.memory.now t e to k n v2.memory.now r d → LeavesTenant (lent_setting l v) q v t e es k n r d made x2 v2 to → (need : Need) (still : Bool) → made ≡ turned.Frame need still
-      → (s3 : Space) → ((n : ℕ) → (still ≡ true → n ≡ 0) → IsInMemory (view v2.memory.now v.place) need → Leaves v.place (Some need) n v2.memory.now s3) → TurnsTo l v.page_limit q v.memory.now t answer.Frame v.place x2 s3
-  frame_to e es is_open (to_wait other) k n r d goes leaves need still is s3 left =
-      let says = leaves.0 in
-      let same : turned.Frame other says.0 ≡ turned.Frame need still = sym says.1 ∙ is in
-      let same_need : other ≡ need = cc same in
-      let same_still : says.0 ≡ still = cc same in
-      let l2 = left (k + n) (λ e. no_steps says.0 (k + n) says.2 (same_still ∙ e)) (subst (λ z. IsInMemory (view v2.memory.now v.place) z) same_need (subst (λ i. IsInMemory (view v2.memory.now i) other) h.keeps.1 leaves.1)) in
-      let l3 = subst (λ z. Leaves v.place (Some z) (k + n) v2.memory.now s3) (sym same_need) l2 in
-      (_, has_no_frame is_open goes (subst (λ i. WaitsAlone i (Some other) v2.memory.now s3) (sym h.lies.place_is) l3.alone) (subst (λ i. PinsEndAfter (k + n) s3 i) (sym h.lies.place_is) l3.pins), lies_then (Some other) (k + n) s3 _ l3 h.lies.place_is leaves.2)
-  frame_to e es is_open (to_end o) k n r d goes leaves need still is s3 left = absurd (let bad = sym leaves.0 ∙ is in cc bad)
-  frame_to e es is_open out_of_fuel k n r d goes leaves need still is s3 left = absurd (let bad = sym leaves.0 ∙ is in cc bad)
-  frame_to e es is_open to_go_on k n r d goes leaves need still is s3 left =
-      absurd (⊎_elim (λ a. let bad = sym a.0.1 ∙ is in cc bad) (λ b. let bad = sym b.0 ∙ is in cc bad) leaves)
-
-  -- it can go on
-  again_to : (e : Entry) (es : List Entry) → t.open_calls ≡ e ∷ es → (to : Upshot) (k n : ℕ) (r : Rest) (d : Doing) → ProceedsIn q v.memory.now t e to k n v2.memory.now r d → LeavesTenant (lent_setting l v) q v t e es k n r d made x2 v2 to → (still : Bool) → made ≡ turned.Again still
-      → (s3 : Space) → ((n : ℕ) → (still ≡ true → n ≡ 0) → Leaves v.place None n v2.memory.now s3) → TurnsTo l v.page_limit q v.memory.now t answer.Again v.place x2 s3
-  again_to e es is_open to_go_on k n r d goes leaves still is s3 left = ⊎_elim
-      (λ a.
-      let same : turned.Again a.0.0 ≡ turned.Again still = sym a.0.1 ∙ is in
-      let same_still : a.0.0 ≡ still = cc same in
-      let l3 = left (k + n) (λ e. no_steps a.0.0 (k + n) a.0.2 (same_still ∙ e)) in
-      (_, can_go_on is_open goes (subst (λ i. WaitsAlone i None v2.memory.now s3) (sym h.lies.place_is) l3.alone) (subst (λ i. PinsEndAfter (k + n) s3 i) (sym h.lies.place_is) l3.pins) a.1, lies_then None (k + n) s3 _ l3 h.lies.place_is a.2))
-      (λ b. absurd (let bad = sym b.0 ∙ is in cc bad))
-      leaves
-  again_to e es is_open (to_end o) k n r d goes leaves still is s3 left = absurd (let bad = sym leaves.0 ∙ is in cc bad)
-  again_to e es is_open out_of_fuel k n r d goes leaves still is s3 left = absurd (let bad = sym leaves.0 ∙ is in cc bad)
-  again_to e es is_open (to_wait need) k n r d goes leaves still is s3 left = absurd (let bad = sym leaves.0.1 ∙ is in cc bad)
-
-  -- nothing was done, and a device fault is kept
-  kept_to : (e : Entry) (es : List Entry) → t.open_calls ≡ e ∷ es → (to : Upshot) (k n : ℕ) (r : Rest) (d : Doing) → LeavesTenant (lent_setting l v) q v t e es k n r d made x2 v2 to → made ≡ turned.Kept
-      → TurnsTo l v.page_limit q v.memory.now t answer.Again v.place x2 v2.memory.now
-  kept_to e es is_open to_go_on k n r d leaves is = ⊎_elim
-      (λ a. absurd (let bad = sym a.0.1 ∙ is in cc bad))
-      (λ b.
-      let f = b.1 in
-      let same : v.memory.now ≡ v2.memory.now = ap (λ (z : View). z.memory.now) (sym f.same) in
-      let at : (i : ℕ) → i ≡ v.place → view v.memory.now i ≡ view_bytes v = λ i e. ap (view v.memory.now) e in
-      let sees = at t.place h.lies.place_is in
-      let next = subst (λ z. IsNext t.inst (config (store_with z t.rest) [] f.term)) (sym sees) f.next in
-      let ready : (need : Need) → Asks t.inst (config (store_with (view v.memory.now t.place) t.rest) [] f.term) need → Ready v.memory.now t.place need = λ need asks. subst (λ i. Ready v.memory.now i need) (sym h.lies.place_is) (f.ready need (subst (λ z. Asks t.inst (config (store_with z t.rest) [] f.term) need) sees asks)) in
-      let turn : Turn q v.memory.now t answer.Again v.memory.now t = keeps_its_fault is_open f.waiting_for f.doing f.no_charges next f.fuel_left ready in (
-        t,
-        subst (λ z. Turn q v.memory.now t answer.Again z t) same turn,
-        record {
-          place_is = h.lies.place_is;
-          is = by_bytes t b.2;
-          within = subst (λ (c : Option Claimed). v.page_limit ≤ limit_by c) (sym steps.claim) h.lies.within;
-          claimed = h.lies.claimed;
-          claim_is = claim2;
-        },
-      ))
-      leaves
-  kept_to e es is_open (to_end o) k n r d leaves is = absurd (let bad = sym leaves.0 ∙ is in cc bad)
-  kept_to e es is_open out_of_fuel k n r d leaves is = absurd (let bad = sym leaves.0 ∙ is in cc bad)
-  kept_to e es is_open (to_wait need) k n r d leaves is = absurd (let bad = sym leaves.0.1 ∙ is in cc bad)
-
-  -- some call is open
-  first_of : t.open_calls ≢ [] → (e : Entry) × (es : List Entry) × (t.open_calls ≡ e ∷ es)
-  first_of some = go t.open_calls refl
-    where
-      go : (es : List Entry) → t.open_calls ≡ es → (e : Entry) × (es : List Entry) × (t.open_calls ≡ e ∷ es)
-      go [] is = absurd (some is)
-      go (e ∷ es) is = (e, es, is)
-
-  pub ended_turn : t.open_calls ≢ [] → made ≡ turned.Ended → TurnsTo l v.page_limit q v.memory.now t answer.Ended v.place x2 (ended v2.memory.now v.place)
-  ended_turn some is =
-      let f = first_of some in
-      let z = turns f.0 f.1 f.2 in
-      ended_to f.0 f.1 f.2 z.to z.pieces z.charges z.rest z.doing (goes_in f.0 f.1 z) z.leaves is (ended v2.memory.now v.place) (ends_here v2.memory.now v.place h.lies.claimed (z.pieces + z.charges) sound2 claim2)
-
-  pub fuel_turn : t.open_calls ≢ [] → made ≡ turned.Fuel → TurnsTo l v.page_limit q v.memory.now t answer.Fuel v.place x2 (ended v2.memory.now v.place)
-  fuel_turn some is =
-      let f = first_of some in
-      let z = turns f.0 f.1 f.2 in
-      fuel_to f.0 f.1 f.2 z.to z.pieces z.charges z.rest z.doing (goes_in f.0 f.1 z) z.leaves is (ended v2.memory.now v.place) (ends_here v2.memory.now v.place h.lies.claimed (z.pieces + z.charges) sound2 claim2)
-
-  pub still_turn : t.open_calls ≢ [] → (need : Need) → made ≡ turned.Frame need true → TurnsTo l v.page_limit q v.memory.now t answer.Frame v.place x2 (stood v2.memory.now v.place (Some need))
-  still_turn some need is =
-      let f = first_of some in
-      let z = turns f.0 f.1 f.2 in
-      frame_to f.0 f.1 f.2 z.to z.pieces z.charges z.rest z.doing (goes_in f.0 f.1 z) z.leaves need true is (stood v2.memory.now v.place (Some need)) (λ n none lies. waits_here v2.memory.now v.place h.lies.claimed need n sound2 claim2 lies (none refl))
-
-  pub frame_turn : t.open_calls ≢ [] → (need : Need) → made ≡ turned.Frame need false → TurnsTo l v.page_limit q v.memory.now t answer.Frame v.place x2 (stood (ended v2.memory.now v.place) v.place (Some need))
-  frame_turn some need is =
-      let f = first_of some in
-      let z = turns f.0 f.1 f.2 in
-      frame_to f.0 f.1 f.2 z.to z.pieces z.charges z.rest z.doing (goes_in f.0 f.1 z) z.leaves need false is (stood (ended v2.memory.now v.place) v.place (Some need)) (λ n none lies. waits_then v2.memory.now v.place h.lies.claimed need n sound2 claim2 lies)
-
-  pub again_turn : t.open_calls ≢ [] → made ≡ turned.Again false → TurnsTo l v.page_limit q v.memory.now t answer.Again v.place x2 (ended v2.memory.now v.place)
-  again_turn some is =
-      let f = first_of some in
-      let z = turns f.0 f.1 f.2 in
-      again_to f.0 f.1 f.2 z.to z.pieces z.charges z.rest z.doing (goes_in f.0 f.1 z) z.leaves false is (ended v2.memory.now v.place) (λ n none. ends_here v2.memory.now v.place h.lies.claimed n sound2 claim2)
-
-  pub same_turn : t.open_calls ≢ [] → made ≡ turned.Again true → TurnsTo l v.page_limit q v.memory.now t answer.Again v.place x2 (stood v2.memory.now v.place None)
-  same_turn some is =
-      let f = first_of some in
-      let z = turns f.0 f.1 f.2 in
-      again_to f.0 f.1 f.2 z.to z.pieces z.charges z.rest z.doing (goes_in f.0 f.1 z) z.leaves true is (stood v2.memory.now v.place None) (λ n none. stays_here v2.memory.now v.place h.lies.claimed n sound2 claim2 (none refl))
-
-  pub kept_turn : t.open_calls ≢ [] → made ≡ turned.Kept → TurnsTo l v.page_limit q v.memory.now t answer.Again v.place x2 v2.memory.now
-  kept_turn some is =
-      let f = first_of some in
-      let z = turns f.0 f.1 f.2 in
-      kept_to f.0 f.1 f.2 z.to z.pieces z.charges z.rest z.doing z.leaves is
-
-  -- the bytes that are wanted lie in the memory
-  wanted_in : (e : Entry) (es : List Entry) → (to : Upshot) (k n : ℕ) (r : Rest) (d : Doing) → LeavesTenant (lent_setting l v) q v t e es k n r d made x2 v2 to → (need : Need) (still : Bool) → made ≡ turned.Frame need still → IsInMemory (view v2.memory.now v.place) need
-  wanted_in e es (to_wait other) k n r d leaves need still is =
-      let same : turned.Frame other leaves.0.0 ≡ turned.Frame need still = sym leaves.0.1 ∙ is in
-      let same_need : other ≡ need = cc same in
-      subst (λ z. IsInMemory (view v2.memory.now v.place) z) same_need (subst (λ i. IsInMemory (view v2.memory.now i) other) h.keeps.1 leaves.1)
-  wanted_in e es (to_end o) k n r d leaves need still is = absurd (let bad = sym leaves.0 ∙ is in cc bad)
-  wanted_in e es out_of_fuel k n r d leaves need still is = absurd (let bad = sym leaves.0 ∙ is in cc bad)
-  wanted_in e es to_go_on k n r d leaves need still is =
-      absurd (⊎_elim (λ a. let bad = sym a.0.1 ∙ is in cc bad) (λ b. let bad = sym b.0 ∙ is in cc bad) leaves)
-
-  stands_nowhere : MayWaitAt v2.memory.now v.place None
-  stands_nowhere =
-      let o = claimed_there v2.memory.now v.place h.lies.claimed claim2 in
-      record { there = (o.0, o.1, o.2); within = λ want e. absurd (cc e); few = λ want e. absurd (cc e) }
-
-  stands_there : (s : Space) → IsSound s → claim s v.place ≡ Some h.lies.claimed → (need : Need) → IsInMemory (view s v.place) need → MayWaitAt s v.place (Some need)
-  stands_there s sound at need lies =
-      let o = claimed_there s v.place h.lies.claimed at in
-      let may = may_stand s v.place o.0 need sound o.2 lies in
-      record { there = (o.0, o.1, o.2); within = λ want e. (may want e).1; few = λ want e. (may want e).2 }
-
-  wanted : t.open_calls ≢ [] → (need : Need) (still : Bool) → made ≡ turned.Frame need still → IsInMemory (view v2.memory.now v.place) need
-  wanted some need still is =
-      let f = first_of some in
-      let z = turns f.0 f.1 f.2 in
-      wanted_in f.0 f.1 z.to z.pieces z.charges z.rest z.doing z.leaves need still is
+  shown : Shown (lent_setting l v) l v.page_limit q x x2 v v2 v.memory.now v2.memory.now v.place t made
+  shown = record {
+    lies = h.lies;
+    steps = steps_alone v.place v.memory.now v2.memory.now h.sound h.keeps.3;
+    sees = refl;
+    sees2 = ap (view v2.memory.now) h.keeps.1;
+    ready = λ need is. is;
+    same = λ e. ap (λ (z : View). z.memory.now) e;
+    by_bytes = by_bytes;
+    turns = λ e es is_open. (let z = h.turns t e es is_open over_view in (z, goes_in e es z));
+  }
 
   pub lent_turn : t.open_calls ≢ [] → (a : TurnResult) → made ≡ a → TurnsLent l v.page_limit q v.memory.now t v.place x2 v2.memory.now a
-  lent_turn some turned.Kept is = (tt, kept_turn some is)
-  lent_turn some turned.Ended is = (stands_nowhere, ended_turn some is)
-  lent_turn some turned.Fuel is = (stands_nowhere, fuel_turn some is)
-  lent_turn some (turned.Frame need true) is = (stands_there v2.memory.now sound2 claim2 need (wanted some need true is), still_turn some need is)
-  lent_turn some (turned.Frame need false) is =
-      let o = claimed_there v2.memory.now v.place h.lies.claimed claim2 in
-      let e = ends_well v2.memory.now v.place o.0 sound2 o.1 o.2 in
-      let lies = subst (λ b. IsInMemory b need) (sym e.0.view) (wanted some need false is) in
-      ((stands_nowhere, stands_there (ended v2.memory.now v.place) e.0.steps.sound (e.0.steps.claim ∙ claim2) need lies), frame_turn some need is)
-  lent_turn some (turned.Again true) is = (stands_nowhere, same_turn some is)
-  lent_turn some (turned.Again false) is = (stands_nowhere, again_turn some is)
+  lent_turn = shown_turn (lent_setting l v) l v.page_limit q x x2 v v2 v.memory.now v2.memory.now v.place t made shown

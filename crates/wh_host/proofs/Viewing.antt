@@ -66,7 +66,7 @@ lent first sound = record {
 -- ---- over another memory with the same bytes
 
 module _ {M N : Type 0} (p : ProgramParts) (n : ℕ) (bytes : M → List ℕ) (ready : M → Need → Type 0) (keeps : M → M → Type 0) (bytes2 : N → List ℕ) (ready2 : N → Need → Type 0) (keeps2 : N → N → Type 0) (m : M) (m2 : N) (same : bytes2 m2 ≡ bytes m) where
-  store_over : (k : code_store.Store) (inst : Instance) (r : Rest) → (c : Context) × RepresentsInstance p k (bytes m) n c inst (store_with (bytes m) r) → (c : Context) × RepresentsInstance p k (bytes2 m2) n c inst (store_with (bytes2 m2) r)
+  pub store_over : (k : code_store.Store) (inst : Instance) (r : Rest) → (c : Context) × RepresentsInstance p k (bytes m) n c inst (store_with (bytes m) r) → (c : Context) × RepresentsInstance p k (bytes2 m2) n c inst (store_with (bytes2 m2) r)
   store_over k inst r = subst (λ b. (c : Context) × RepresentsInstance p k b n c inst (store_with b r)) (sym same)
 
   starting_over : (machine : Machine) (k : code_store.Store) (inst : Instance) (call : Call) (r : Rest) (ps : List Piece) → IsStarting (parts_setting p bytes ready keeps n) (call_state machine k m) inst call r ps → IsStarting (parts_setting p bytes2 ready2 keeps2 n) (call_state machine k m2) inst call r ps
@@ -102,7 +102,7 @@ module _ {M N : Type 0} (p : ProgramParts) (n : ℕ) (bytes : M → List ℕ) (r
     settled = subst (λ b. IsSettled inst (config (store_with b r) [] t)) (sym same) f.settled;
   }
 
-  where_over : (x : HostInstanceState) (inst : Instance) (r : Rest) (d : Doing) (es : List Entry) → IsWhere (parts_setting p bytes ready keeps n) x m inst r d es → IsWhere (parts_setting p bytes2 ready2 keeps2 n) x m2 inst r d es
+  pub where_over : (x : HostInstanceState) (inst : Instance) (r : Rest) (d : Doing) (es : List Entry) → IsWhere (parts_setting p bytes ready keeps n) x m inst r d es → IsWhere (parts_setting p bytes2 ready2 keeps2 n) x m2 inst r d es
   where_over x inst r d es (rests at) = rests at
   where_over x inst r d es (writes {ps = ps} {e = e} at some func st left few) = writes at some func (starting_over x.machine x.store inst e.call r ps st) left few
   where_over x inst r d es (is_faced {func = func} {term = term} {e = e} at f) = is_faced at (faced_over x.machine x.store inst e.call r func _ term f)

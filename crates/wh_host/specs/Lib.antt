@@ -3,6 +3,9 @@ pub mod TicketsOut
 pub mod Lying
 pub mod Left
 pub mod Lent
+pub mod Beside
+pub mod Rounds
+pub mod Joining
 pub mod Hosting
 pub mod Stored
 pub mod CallRequests

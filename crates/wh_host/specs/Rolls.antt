@@ -5,7 +5,7 @@ use Rattle.std.specs.declared.sync.Arc.{Arc}
 use Rattle.wh_host_model.specs.Space.Errands.{tickets}
 use Rattle.wh_host_model.specs.Host.Worlds.{Suspension, Tenant, Loaded, World, journal}
 use Rattle.wh_host_model.specs.Owners.{Params}
-use Rattle.wh_admit.specs.View.{view_params}
+use Rattle.wh_params.specs.View.{view_params}
 use Rattle.wh_instance.specs.Tenancy.{suspension_of}
 use Rattle.wh_host.specs.declared.parts.LoadedModule.{LoadedModule}
 use Rattle.wh_host.specs.declared.parts.InstanceEntry.{InstanceEntry}

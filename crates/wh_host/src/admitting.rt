@@ -2,7 +2,7 @@
 
 ghost use Rattle.std.specs.Prelude.{◌≡◌, ◌≤◌, ◌*◌, ℕ, IfOk, OnErr, length};
 ghost use Rattle.wh_model.specs.Format.Limits.{most_segments};
-ghost use Rattle.wh_admit.specs.View.{view_params};
+ghost use Rattle.wh_params.specs.View.{view_params};
 ghost use Rattle.wh_space.specs.Arrivals.{claimed};
 ghost use Rattle.wh_host_model.specs.Host.Worlds.{promised};
 ghost use Rattle.wh_host_model.specs.Space.Places.{Enters, HasRoomFor as HasMemoryFor};

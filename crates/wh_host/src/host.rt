@@ -34,7 +34,6 @@ pub struct Host {
     pub(crate) next: u64,
 }
 
-// Written out, so that letting one go is one call, and not one for each part of its parts.
 impl Drop for Host {
     fn drop(self) {
         let Host {

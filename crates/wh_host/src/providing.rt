@@ -1,12 +1,13 @@
 //! How the next step of an instance is made ready, and who waits for that.
 
-ghost use Rattle.std.specs.Prelude.{◌≡◌, ◌+◌, ◌∷◌, Ok, IfErr, IfOk, OnErr, OnOk};
+ghost use Rattle.std.specs.Prelude.{◌≡◌, ◌+◌, Ok, IfOk, OnErr};
 ghost use Rattle.wh_host_model.specs.Host.Happens.{AwaitsFrame};
 ghost use Rattle.wh_host_model.specs.Space.Errands.{tickets};
 ghost use Rattle.wh_host_model.specs.Space.Laws.{IsProvided};
 ghost use Rattle.wh_host_model.specs.Space.Provide.{FailsToProvide, FailsTruly, OthersKeepMinimum, Provides, ProvidesTruly};
 ghost use Rattle.wh_model.specs.declared.memory.Need.{Need};
 ghost use Rattle.wh_reclaim.specs.Whole.{IsAsWhole};
+ghost use Rattle.wh_swap.specs.DeviceCalls.{ServesOn, call_faults};
 ghost use Rattle.wh_host.specs.Paging.{IsAwaiting, IsGoing, MovesAnyhow, MovesWith, Tells, WaitsFor, provide_fault};
 
 use crate::host::Host;
@@ -63,9 +64,8 @@ impl Host {
         requires agrees { self.old.space.slots.held ≡ D.held device.old }
         ensures none_out { tickets self.new.space ≡ 0 }
         ensures agrees { self.new.space.slots.held ≡ D.held device.new }
-        ensures honest { D.honest device.new → D.honest device.old }
-        ensures keeps { D.keeps device.old → D.keeps device.new }
-        ensures kept { D.keeps device.old → D.honest device.old → D.honest device.new }
+        ensures serves { ServesOn D.keeps D.honest D.faults device.old (call_faults result)
+            device.new }
         ensures moves { D.honest device.new
             → MovesWith self.old id AwaitsFrame (provide_fault result) self.new }
         ensures anyhow { MovesAnyhow self.old id AwaitsFrame (provide_fault result) self.new }
@@ -84,8 +84,6 @@ impl Host {
         ensures others { OthersKeepMinimum self.old.space id.place self.new.space }
         ensures whole { IsAsWhole self.old.space self.new.space }
         ensures writes { IfOk result (λ left. D.writes device.new ≡ D.writes device.old + left) }
-        ensures ok { OnOk result (D.faults device.new ≡ D.faults device.old) }
-        ensures err { IfErr result (λ fault. D.faults device.new ≡ fault ∷ D.faults device.old) }
     {
         let Some(entry) = self.entries.get_mut(id.place) else {
             return Ok(0);

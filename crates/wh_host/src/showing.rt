@@ -1,7 +1,7 @@
 //! What a host shows of one of its instances.
 
 ghost use Rattle.std.specs.Prelude.{◌≡◌, IfOk};
-ghost use Rattle.wh_admit.specs.View.{view_params};
+ghost use Rattle.wh_params.specs.View.{view_params};
 ghost use Rattle.wh_host.specs.Showing.{RepresentsReached, ShowsInstance, given_with, shown_of};
 ghost use Rattle.wh_transcript.specs.Transcripts.{IsReplayable};
 

@@ -40,8 +40,8 @@ fn turn_lent(
     tenant.turn(linked, &mut view, q)
 }
 
-// Writes down in memory for what the instance at this place stands after such a turn: what the turn is answered.
-fn settle_at(memory: &mut Memory, place: usize, turned: TurnResult) -> TurnEnd
+/// Writes down in memory for what the instance at this place stands after such a turn: what the turn is answered.
+pub fn settle_at(memory: &mut Memory, place: usize, turned: TurnResult) -> TurnEnd
     requires { CanSettle memory.old place turned }
     ensures answer { result ≡ turn_end_of turned }
     ensures leaves { memory.new ≡ settled_in memory.old place turned }

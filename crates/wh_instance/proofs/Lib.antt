@@ -13,3 +13,4 @@ mod Newcomers
 mod Taken
 mod Bounds
 pub mod Told
+pub mod Finished

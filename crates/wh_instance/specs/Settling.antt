@@ -1,6 +1,7 @@
 -- How the end of a turn is written down in the code's instance.
-use Rattle.std.specs.Prelude.{◌&&◌, Bool, true, false, cond, List, [], ◌∷◌, ◌++◌, map, Option, Some, None}
-use Rattle.wh_journal.specs.Calls.{JournalCallState, with_end}
+use Rattle.std.specs.Prelude.{◌≡◌, ◌+◌, ◌&&◌, ℕ, Bool, true, false, cond, List, [], ◌∷◌, ◌++◌, map, Option, Some, None}
+use Rattle.std.specs.Bool.{MatchBool}
+use Rattle.wh_journal.specs.Calls.{JournalCallState, with_end, with_progress}
 use Rattle.wh_journal.specs.declared.calls.CallEnd.{CallEnd}
 use Rattle.wh_journal.specs.declared.calls.CallEnd.TheVariants as end
 use Rattle.wh_instance.specs.declared.computing.TurnOutcome.{TurnOutcome}
@@ -70,3 +71,15 @@ settled_to x (Trapped trap) still c cs = closed x (end.Trapped trap) c cs
 settled_to x Fuel still c cs = record x { waiting_for = Some stop.Fuel }
 settled_to x (Frame need) still c cs = record x { waiting_for = frame_or_fault still x.waiting_for }
 settled_to x Again still c cs = cond (still && is_fault x.waiting_for) x (record x { waiting_for = None })
+
+-- its present call has written so many pieces more, and taken so many charges more
+abbrev pub brought_on : HostInstanceState → JournalCallState → List JournalCallState → ℕ → ℕ → HostInstanceState
+brought_on x c cs k n = record x { journal = record x.journal { open_calls = with_progress c k n ∷ cs } }
+
+-- So a turn of so many pieces and charges that came to this is written down, with this call as the present one.
+pub record IsFinished (x : HostInstanceState) (came : TurnOutcome) (k n : ℕ) (c : JournalCallState)
+    (cs : List JournalCallState) (answer : TurnResult) (x2 : HostInstanceState) : Type 0 where
+  pub still : Bool
+  pub steps : MatchBool still (k + n ≡ 0) (¬ (k + n ≡ 0))
+  pub is_answer : answer ≡ answered (brought_on x c cs k n) came still
+  pub leaves : x2 ≡ settled_to (brought_on x c cs k n) came still (with_progress c k n) cs

@@ -1,7 +1,6 @@
 //! A turn of the present call of an instance.
 
-ghost use Rattle.std.specs.Prelude.{◌≡◌, ◌≢◌, ◌∷◌, ◌+◌, [], List, None, Some};
-ghost use Rattle.std.specs.Bool.{MatchBool};
+ghost use Rattle.std.specs.Prelude.{◌≡◌, ◌≢◌, ◌∷◌, [], List, None, Some};
 ghost use Rattle.wh_journal.specs.Calls.{JournalCallState, HasPresent};
 ghost use Rattle.wh_machine.specs.CallStates.{setting_of};
 ghost use Rattle.wh_instance.specs.Pieces.{pieces_left};
@@ -16,13 +15,6 @@ use crate::turning::{turn_first, turn_on};
 use wh_imports::Linked;
 use wh_journal::JournalCall;
 use wh_linmem::LinearMem;
-
-// Whether no step was taken.
-fn is_still(pieces: u64, charges: u64) -> bool
-    ensures { MatchBool result (pieces + charges ≡ 0) (¬ (pieces + charges ≡ 0)) }
-{
-    pieces == 0 && charges == 0
-}
 
 // The function that a call names.
 fn func_of(call: &JournalCall) -> u32
@@ -162,9 +154,9 @@ impl HostInstance {
         )
     }
 
-    // A turn of q charges of the present call: what came of it, how many pieces it has written, and how many charges it
-    // took. The journal stays.
-    fn advance<M: LinearMem>(
+    /// Brings the present call on by a turn of q charges over its memory: what came of it, how many pieces it has written, and how
+    /// many charges it took. Its journal stays until the turn is finished.
+    pub fn advance<M: LinearMem>(
         &mut self,
         linked: &Linked,
         memory: &mut M,
@@ -204,7 +196,6 @@ impl HostInstance {
         ensures keeps { M.keeps memory.old memory.new }
     {
         let (came, pieces, charges) = self.advance(linked, memory, q);
-        self.journal.go_further(pieces, charges);
-        self.settle(came, is_still(pieces, charges))
+        self.finish(came, pieces, charges)
     }
 }

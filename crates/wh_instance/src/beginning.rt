@@ -1,6 +1,6 @@
 //! What an instance begins with.
 
-ghost use Rattle.std.specs.Prelude.{◌≡◌, ◌≤◌, cond, length, IfOk};
+ghost use Rattle.std.specs.Prelude.{◌≡◌, ◌≤◌, cond, length, [], IfOk};
 ghost use Rattle.wh_model.specs.Format.Limits.{most_segments};
 ghost use Rattle.wh_instance.specs.declared.stages.CallStage.TheVariants.{Writing, Faced};
 ghost use Rattle.wh_instance.specs.Beginning.{has_nothing, journal_at_first, BeginsTenant};
@@ -12,7 +12,7 @@ use std::alloc::{AllocError, Global};
 use wh_imports::Linked;
 use wh_initial::Instantiated;
 use wh_journal::{CallEnd, Journal, JournalCall};
-use wh_machine::Machine;
+use wh_machine::{Machine, Store};
 
 // Where a start is first.
 fn first_progress(has_pieces: bool) -> CallStage
@@ -83,6 +83,31 @@ impl HostInstance {
             cursor,
             progress,
             journal,
+            waiting_for: None,
+            dead: false,
+        })
+    }
+
+    /// One of no module and without calls, that stands where another one was taken out.
+    ///
+    /// # Errors
+    /// Where room is refused.
+    pub fn spare(alloc: Global) -> Result<HostInstance, AllocError>
+        ensures { IfOk result (λ x. x.journal ≡ record { ended = []; open_calls = [] }) }
+    {
+        let store = Store {
+            globals: Vec::new(alloc),
+            table: Vec::new(alloc),
+            inputs: Vec::new(alloc),
+            output: Vec::new(alloc),
+        };
+        Ok(HostInstance {
+            store,
+            machine: Machine::new(alloc)?,
+            places: Vec::new(alloc),
+            cursor: Cursor::first(),
+            progress: CallStage::Faced,
+            journal: Journal::new(alloc),
             waiting_for: None,
             dead: false,
         })

@@ -1,10 +1,10 @@
 //! What a host sees of an instance.
 
-ghost use Rattle.wh_instance.specs.Seen.{CanTurn, HasOutput, IsIdle, IsPresent, WaitsForFrame};
+ghost use Rattle.wh_instance.specs.Seen.{CanTurn, HasOutput, IsComputingNow, IsIdle, IsPresent, WaitsForFrame};
 
 use crate::host_instance::HostInstance;
 use crate::settling::is_frame;
-use crate::stages::Suspension;
+use crate::stages::{CallStage, Suspension};
 use std::alloc::Global;
 use std::mem;
 
@@ -26,6 +26,22 @@ impl HostInstance {
         match self.waiting_for {
             None | Some(Suspension::Frame) => true,
             Some(Suspension::Fuel | Suspension::Device(_)) => false,
+        }
+    }
+
+    /// Whether its present call computes: one is open and waits for nothing, and it is no start with data segments left to write.
+    pub fn computes(&self) -> bool
+        ensures { IsComputingNow self.now result }
+    {
+        if self.journal.is_idle() {
+            return false;
+        }
+        if let Some(_) = self.waiting_for {
+            return false;
+        }
+        match self.progress {
+            CallStage::Writing => false,
+            CallStage::Faced | CallStage::UnderWay => true,
         }
     }
 

@@ -1,9 +1,10 @@
 //! How the end of a turn, and of a call, is written down.
 
-ghost use Rattle.std.specs.Prelude.{◌≡◌, ◌∷◌, List};
-ghost use Rattle.wh_journal.specs.Calls.{JournalCallState, HasPresent};
+ghost use Rattle.std.specs.Prelude.{◌≡◌, ◌∷◌, ◌+◌, List};
+ghost use Rattle.std.specs.Bool.{MatchBool};
+ghost use Rattle.wh_journal.specs.Calls.{CanGoFurther, JournalCallState, HasPresent};
 ghost use Rattle.wh_instance.specs.Seen.{waits_at_frame};
-ghost use Rattle.wh_instance.specs.Settling.{has_failed, is_fatal, closed, is_fault, answered, settled_to};
+ghost use Rattle.wh_instance.specs.Settling.{has_failed, is_fatal, closed, is_fault, answered, settled_to, IsFinished};
 
 use crate::computing::TurnOutcome;
 use crate::host_instance::HostInstance;
@@ -38,6 +39,13 @@ pub(crate) fn is_frame(waiting_for: Option<Suspension>) -> bool
         Some(Suspension::Frame) => true,
         _ => false,
     }
+}
+
+// Whether no step was taken.
+fn is_still(pieces: u64, charges: u64) -> bool
+    ensures { MatchBool result (pieces + charges ≡ 0) (¬ (pieces + charges ≡ 0)) }
+{
+    pieces == 0 && charges == 0
 }
 
 impl HostInstance {
@@ -103,5 +111,17 @@ impl HostInstance {
                 TurnResult::Again { is_still: still }
             }
         }
+    }
+
+    /// Finishes a turn that came to this and has written so many pieces and taken so many charges: its journal is written on, and
+    /// for what the call stands then.
+    pub fn finish(&mut self, came: TurnOutcome, pieces: u64, charges: u64) -> TurnResult
+        requires { CanGoFurther self.old.journal.open_calls pieces charges }
+        ensures { (c : JournalCallState) (cs : List JournalCallState)
+            → self.old.journal.open_calls ≡ c ∷ cs
+            → IsFinished self.old came pieces charges c cs result self.new }
+    {
+        self.journal.go_further(pieces, charges);
+        self.settle(came, is_still(pieces, charges))
     }
 }

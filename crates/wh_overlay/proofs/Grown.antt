@@ -1,14 +1,15 @@
 -- A memory that has grown where it is laid back.
-use Rattle.std.proofs.Common.{◌≡◌, ◌∙◌, ℕ, ◌+◌, ◌*◌, ◌≤◌, List, [], ◌∷◌, ◌++◌, Some, length, get_or, replicate, slice_get, zero, suc, ap, arith}
+use Rattle.std.proofs.Common.{◌≡◌, ◌∙◌, ℕ, ◌+◌, ◌-◌, ◌*◌, ◌/◌, ◌<◌, ◌≤◌, Bool, true, false, List, [], ◌∷◌, ◌++◌, Option, None, Some, length, get_or, replicate, slice_get, zero, suc, refl, ap, arith}
 use Rattle.wh_model.specs.declared.memory.Grown.{Grown}
 use Rattle.wh_model.specs.declared.memory.Grown.TheVariants.{Done, Refused}
 use Rattle.wh_model.specs.Execution.Memory.{Grows}
 use Rattle.wh_host_model.specs.declared.states.Page.{Page}
 use Rattle.wh_host_model.specs.declared.states.Page.TheVariants.{Untouched}
-use Rattle.wh_host_model.specs.Space.Parts.{Space, view}
+use Rattle.wh_host_model.specs.Space.Parts.{Occupant, Space, claim_of, view}
+use Rattle.wh_host_model.specs.Space.Sound.{IsSound}
 use Rattle.wh_host_model.specs.Space.States.{page_at}
-use Rattle.wh_host_model.proofs.Space.Putting.{is_page}
-use Rattle.wh_space.specs.Steps.{LeavesGrowth, page_limit}
+use Rattle.wh_host_model.proofs.Space.Putting.{is_page, there_of}
+use Rattle.wh_space.specs.Steps.{LeavesGrowth, limit_by, page_limit}
 use Rattle.wh_overlay.specs.LaidPages.{grown_by}
 use Rattle.wh_overlay.proofs.Marks.{got_there, got_elsewhere}
 
@@ -34,3 +35,50 @@ others_stay s s2 i n j Refused same other = ap (λ (z : Space). get_or z.tables 
 pub sees_grown : (s s2 : Space) (i n : ℕ) (grown : Grown) → Grows (page_limit s i) (view s i) n grown (view s2 i) → length (view s i) + n * 65536 ≤ page_limit s i * 65536 → view s2 i ≡ grown_by (view s i) n
 sees_grown s s2 i n (Done pages) grows within = grows.2
 sees_grown s s2 i n Refused grows within = absurd (let past = grows.0 in omega (arith, past, within))
+
+behind : {X : Type 0} (xs ys : List X) (p : ℕ) → length xs ≤ p → slice_get (xs ++ ys) p ≡ slice_get ys (p - length xs)
+behind [] ys p least = let e : p - 0 ≡ p = omega arith in rw e refl
+behind (x ∷ xs) ys zero least = absurd (omega (arith, least))
+behind (x ∷ xs) ys (suc p) least = let e : suc p - suc (length xs) ≡ p - length xs = omega arith in rw e (behind xs ys p (omega (arith, least)))
+
+repeated : {X : Type 0} (n : ℕ) (x : X) (p : ℕ) → p < n → slice_get (replicate n x) p ≡ Some x
+repeated zero x p less = absurd (omega (arith, less))
+repeated (suc n) x zero less = refl
+repeated (suc n) x (suc p) less = repeated n x p (omega (arith, less))
+
+-- the pages by which it has grown are untouched
+pub come_behind : (s s2 : Space) (i n before p : ℕ) {t : Option Occupant} → LeavesGrowth s i n (Done before) s2 → IsSound s → slice_get s.occupants i ≡ Some t → length (get_or s.tables i []) ≤ p
+    → p < length (get_or s.tables i []) + 16 * n → page_at s2.tables i p ≡ Some Untouched
+come_behind s s2 i n before p {t} grew sound there least less =
+    let row = get_or s.tables i [] in
+    let tables = sound.occupants.tables in
+    let known = there_of s.occupants i t there in
+    let within : i < length s.tables = omega (arith, tables, known) in
+    ap (λ (z : Space). page_at z.tables i p) grew ∙ ap (λ t. slice_get t p) (got_there s.tables i (row ++ replicate (16 * n) Untouched) [] within)
+    ∙ behind row (replicate (16 * n) Untouched) p least ∙ repeated (16 * n) Untouched (p - length row) (omega (arith, least, less))
+
+-- who may grow lives
+pub record Lives (xs : List (Option Occupant)) (i : ℕ) : Type 0 where
+  pub occupant : Occupant
+  pub there : slice_get xs i ≡ Some (Some occupant)
+  pub live : occupant.live ≡ true
+  pub limit : limit_by (claim_of (get_or xs i None)) ≡ occupant.max / 16
+
+pub lives : (xs : List (Option Occupant)) (i : ℕ) → 1 ≤ limit_by (claim_of (get_or xs i None)) → Lives xs i
+lives [] i some = absurd (omega (arith, some))
+lives (None ∷ xs) zero some = absurd (omega (arith, some))
+lives (Some t ∷ xs) zero some = by t.live refl
+  where
+    by : (b : Bool) → t.live ≡ b → Lives (Some t ∷ xs) zero
+    by true is = record { occupant = t; there = refl; live = is; limit = rw is refl }
+    by false is = absurd (let none : limit_by (claim_of (Some t)) ≡ 0 = rw is refl in omega (arith, some, none))
+lives (x ∷ xs) (suc i) some =
+    let rest = lives xs i some in
+    record { occupant = rest.occupant; there = rest.there; live = rest.live; limit = rest.limit }
+
+pub come_after : (s s2 : Space) (i n : ℕ) (grown : Grown) (p : ℕ) → LeavesGrowth s i n grown s2 → Grows (page_limit s i) (view s i) n grown (view s2 i) → IsSound s → 1 ≤ n → length (view s i) + n * 65536 ≤ page_limit s i * 65536
+    → length (get_or s.tables i []) ≤ p → p < length (get_or s.tables i []) + 16 * n → page_at s2.tables i p ≡ Some Untouched
+come_after s s2 i n (Done before) p grew grows sound some within least less =
+    let it = lives s.occupants i (omega (arith, some, within)) in
+    come_behind s s2 i n before p grew sound it.there least less
+come_after s s2 i n Refused p same grows sound some within least less = absurd (let past = grows.0 in omega (arith, past, within))

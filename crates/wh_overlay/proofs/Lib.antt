@@ -4,3 +4,5 @@ pub mod OverPages
 pub mod Marks
 pub mod Seen
 pub mod Grown
+pub mod SomeLaid
+pub mod LaidTakes

@@ -11,9 +11,9 @@ use Rattle.wh_host_model.proofs.Space.Putting.{is_page}
 use Rattle.wh_host_model.proofs.Space.Reading.{view_length}
 use Rattle.wh_overlay.specs.declared.upper.WrittenPage.{WrittenPage}
 use Rattle.wh_overlay.specs.LaidPages.{AreWrittenOnce, AreWhole, FitIn, IsAmong, IsWrittenAt, UpperState, grown_by, laid_over, with_upper}
-use Rattle.wh_overlay.specs.Over.{AreAlone}
+use Rattle.wh_overlay.specs.Over.{AreAlone, IsOver}
 use Rattle.std.proofs.lemmas.Bool.{cases_eq}
-use Rattle.wh_overlay.proofs.Marks.{set_there, set_elsewhere}
+use Rattle.wh_overlay.proofs.Marks.{set_there, set_elsewhere, was_there}
 use Rattle.wh_overlay.proofs.Bytes.{read_first, read_past, read_zeros}
 use Rattle.wh_overlay.proofs.OverPages.{add_same, laid_length, page_with, read_other, read_own, rest_fits, write_own}
 
@@ -76,6 +76,17 @@ add_page s i u v p frame bytes sound alone whole never there same grown pages =
     let below : bytes_at w (4096 * p) 4096 ≡ bytes_at (view s i) (4096 * p) 4096 = read_first (view s i) (replicate (u.grown * 65536) 0) (4096 * p) 4096 (omega (arith, long, less)) in
     ap (λ z. laid_over (grown_by (view s i) z) v.pages) grown ∙ ap (laid_over w) pages
     ∙ add_same w u.pages (record { number = p; bytes = bytes }) (all_fit s i u sound alone whole) never (omega (arith, long, less, more)) (same ∙ sym below)
+
+-- and it is alone below
+pub added_over : (s : Space) (i : ℕ) (u v : UpperState) (p frame : ℕ) (bytes : List ℕ) → IsOver s i u → page_at s.tables i p ≡ Some (Private frame) → v.grown ≡ u.grown → v.pages ≡ u.pages ++ record { number = p; bytes = bytes } ∷ [] → IsOver s i v
+added_over s i u v p frame bytes over there grown pages = record {
+  alone = subst (AreAlone s i) (sym pages) (λ k x at. elim (was_there u.pages (record { number = p; bytes = bytes }) x k at) [
+    | inl before ↦ over.alone k x before
+    | inr last ↦ (frame, subst (λ (z : WrittenPage). page_at s.tables i z.number ≡ Some (Private frame)) last.0 there)
+  ]);
+  counted = rw grown over.counted;
+  limited = rw grown over.limited;
+}
 
 -- bytes of a page that was written
 pub write_page : (s : Space) (i : ℕ) (u v : UpperState) (p at k : ℕ) (given : List ℕ) → IsSound s → AreAlone s i u.pages → AreWhole u.pages → AreWrittenOnce u.pages → IsWrittenAt u.pages p at

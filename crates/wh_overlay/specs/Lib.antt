@@ -1,3 +1,4 @@
+pub mod LaidBack
 pub mod LaidPages
 pub mod Over
 pub mod Stored

@@ -7,12 +7,16 @@ use Rattle.wh_host_model.specs.Space.Ready.{IsAtHand}
 use Rattle.wh_host_model.specs.Space.States.{page_at}
 use Rattle.wh_space.specs.Steps.{page_limit}
 use Rattle.wh_overlay.specs.declared.upper.WrittenPage.{WrittenPage}
-use Rattle.wh_overlay.specs.LaidPages.{IsAmong, UpperState, with_upper}
+use Rattle.wh_overlay.specs.LaidPages.{AreWhole, IsAmong, UpperState, with_upper}
+
+-- the memory has grown by this page
+abbrev pub HasCome : Space → ℕ → UpperState → ℕ → Type 0
+HasCome s i u number =
+    (length (get_or s.tables i []) ≤ number) × (number < length (get_or s.tables i []) + 16 * u.grown)
 
 -- a page can be read: it was written beside the memory, is at hand in it, or the memory has grown by it
 abbrev pub CanRead : Space → ℕ → UpperState → ℕ → Type 0
-CanRead s i u number =
-    IsAmong u.pages number ⊎ IsAtHand (page_at s.tables i number) ⊎ (length (get_or s.tables i []) ≤ number)
+CanRead s i u number = IsAmong u.pages number ⊎ IsAtHand (page_at s.tables i number) ⊎ HasCome s i u number
 
 -- a page can be written: it was before, or it is alone on its frame, and there is room for it
 abbrev pub CanWrite : Space → ℕ → UpperState → ℕ → Type 0
@@ -54,8 +58,17 @@ pub record IsOver (s : Space) (i : ℕ) (u : UpperState) : Type 0 where
   pub counted : length (view s i) + u.grown * 65536 < 2 ^ 44
   pub limited : HasGrown s i u
 
--- only what is written beside it changes
+-- and each of these pages has 4096 bytes
+abbrev pub IsWholeOver : Space → ℕ → UpperState → Type 0
+IsWholeOver s i u = IsOver s i u × AreWhole u.pages
+
+-- only what is written beside it changes, and stays what can be laid back
 pub record IsOverSame (o p : OverlayState) : Type 0 where
   pub lower : p.lower ≡ o.lower
   pub place : p.place ≡ o.place
   pub page_limit : p.page_limit ≡ o.page_limit
+  pub stays : IsWholeOver o.lower o.place o.upper → IsWholeOver p.lower p.place p.upper
+
+-- these bytes can be read or written at once
+abbrev pub IsReadyOver : OverlayState → Need → Type 0
+IsReadyOver o need = CanStepOver o.lower o.place o.upper need

@@ -1,11 +1,13 @@
 // What was written beside the memory is laid back.
 
-ghost use Rattle.std.specs.Prelude.{◌≡◌, ◌≢◌, ◌+◌, ◌*◌, ◌≤◌, ℕ, [], Some, length, get_or};
+ghost use Rattle.std.specs.Prelude.{◌≡◌, ◌≢◌, ◌+◌, ◌*◌, ◌<◌, ◌≤◌, ℕ, [], Some, length, get_or};
 ghost use Rattle.wh_host_model.specs.declared.states.Page.{Page};
+ghost use Rattle.wh_host_model.specs.declared.states.Page.TheVariants.{Untouched};
 ghost use Rattle.wh_host_model.specs.Space.Parts.{view};
 ghost use Rattle.wh_host_model.specs.Space.States.{page_at};
 ghost use Rattle.wh_space.specs.Steps.{page_limit};
 ghost use Rattle.wh_space.specs.StepViews.{KeepsRest};
+ghost use Rattle.wh_overlay.specs.LaidBack.{IsLaid};
 ghost use Rattle.wh_overlay.specs.LaidPages.{AreWhole, grown_by, laid_over, with_upper};
 ghost use Rattle.wh_overlay.specs.Over.{AreAlone, HasGrown};
 
@@ -40,6 +42,9 @@ fn grow_by(memory: &mut Memory, place: usize, pages: u32)
     requires { 1 ≤ pages → length (view memory.old place) + pages * 65536 ≤ page_limit memory.old place * 65536 }
     ensures view { view memory.new place ≡ grown_by (view memory.old place) pages }
     ensures pages { (number : ℕ) (state : Page) → page_at memory.old.tables place number ≡ Some state → page_at memory.new.tables place number ≡ Some state }
+    ensures come { (number : ℕ) → length (get_or memory.old.tables place []) ≤ number
+        → number < length (get_or memory.old.tables place []) + 16 * pages
+        → page_at memory.new.tables place number ≡ Some Untouched }
     ensures others { (other : ℕ) → other ≢ place
         → get_or memory.new.tables other [] ≡ get_or memory.old.tables other [] }
     ensures keeps { KeepsRest place memory.old memory.new }
@@ -47,6 +52,7 @@ fn grow_by(memory: &mut Memory, place: usize, pages: u32)
     if pages == 0 {
         return;
     }
+    memory.invariant();
     let _ = memory.grow(place, pages);
     memory.invariant();
 }
@@ -61,6 +67,7 @@ impl Upper {
         ensures others { (other : ℕ) → other ≢ place
             → get_or memory.new.tables other [] ≡ get_or memory.old.tables other [] }
         ensures keeps { KeepsRest place memory.old memory.new }
+        ensures laid { IsLaid memory.old place self.old memory.new }
         ensures empty { self.new ≡ record self.old {
           pages = [];
           grown = 0;

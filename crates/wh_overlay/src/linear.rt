@@ -115,12 +115,18 @@ impl<'a> LinearMem for Overlay<'a> {
         Grown::Done(before)
     }
 
-    ghost keeps_same = { λ o. record { lower = refl; place = refl; page_limit = refl } };
+    ghost keeps_same = { λ o. record {
+      lower = refl;
+      place = refl;
+      page_limit = refl;
+      stays = λ h. h;
+    } };
 
     ghost keeps_more = { λ a b c first second. record {
       lower = second.lower ∙ first.lower;
       place = second.place ∙ first.place;
       page_limit = second.page_limit ∙ first.page_limit;
+      stays = λ h. second.stays (first.stays h);
     } };
 
     ghost keeps_limit = { λ a b keeps. ap (λ z. min z (page_limit b.lower b.place)) keeps.page_limit

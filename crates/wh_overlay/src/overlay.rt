@@ -5,7 +5,7 @@ ghost use Rattle.wh_host_model.specs.Space.Parts.{view};
 ghost use Rattle.wh_model.specs.Execution.Store.{bytes_at, written};
 ghost use Rattle.wh_space.specs.Steps.{page_limit};
 ghost use Rattle.wh_overlay.specs.LaidPages.{IsWrittenAt, grown_by};
-ghost use Rattle.wh_overlay.specs.Over.{AreAlone, CanRead, CanWrite, HasGrown, IsOverSame, sees};
+ghost use Rattle.wh_overlay.specs.Over.{AreAlone, CanRead, CanWrite, HasGrown, IsOverSame, IsWholeOver, sees};
 
 use crate::upper::Upper;
 use std::marker::Model;
@@ -81,6 +81,7 @@ impl<'a> Overlay<'a> {
         ensures upper { result ≡ self.entry.upper }
         ensures alone { AreAlone self.entry.lower self.entry.place result.pages }
         ensures limited { HasGrown self.entry.lower self.entry.place result }
+        ensures over { IsWholeOver self.entry.lower self.entry.place result }
     {
         let Overlay {
             lower: _,
@@ -88,6 +89,7 @@ impl<'a> Overlay<'a> {
             page_limit: _,
             upper,
         } = self;
+        upper.invariant();
         upper
     }
 
@@ -131,6 +133,7 @@ impl<'a> Overlay<'a> {
         self.upper.invariant();
         self.lower.invariant();
         self.upper.grow(pages);
+        self.upper.invariant();
     }
 
     // Whether a page of this number can be read.
@@ -138,8 +141,9 @@ impl<'a> Overlay<'a> {
         ensures { MatchBool result (CanRead self.now.lower self.now.place self.now.upper number)
             (¬ (CanRead self.now.lower self.now.place self.now.upper number)) }
     {
-        if number >= u64::from(self.lower.pages_at(self.place)) {
-            return true;
+        let below = u64::from(self.lower.pages_at(self.place));
+        if number >= below {
+            return number < below + 16 * u64::from(self.upper.grown());
         }
         let number = number as u32;
         if let Some(_) = self.upper.find(number) {
@@ -182,6 +186,7 @@ impl<'a> Overlay<'a> {
     // Reads bytes of a page, where that can be read; else the answer is false.
     #[inline(always)]
     pub(crate) fn read(&mut self, number: u32, offset: usize, into: &mut [u8]) -> bool
+        requires some { 1 ≤ length into.old }
         requires inside { offset + length into.old ≤ 4096 }
         requires within { 4096 * number + offset + length into.old ≤ length (sees self.old) }
         ensures hand { MatchBool result (CanRead self.old.lower self.old.place self.old.upper number)
@@ -227,7 +232,9 @@ impl<'a> Overlay<'a> {
             return None;
         }
         let bytes = self.lower.private_page(self.place, number)?;
-        Some(self.upper.add(number, bytes))
+        let at = self.upper.add(number, bytes);
+        self.upper.invariant();
+        Some(at)
     }
 
     // Writes bytes to a page, where that can be written; else the answer is false, and nothing is done.
@@ -247,6 +254,7 @@ impl<'a> Overlay<'a> {
         self.upper.invariant();
         self.lower.invariant();
         self.upper.write(at, offset, given);
+        self.upper.invariant();
         true
     }
 }

@@ -217,8 +217,8 @@ impl Upper {
         self.grown += pages;
     }
 
-    // Forgets all that was written and read. It goes over the marks of all pages.
-    pub(crate) fn clear(&mut self)
+    /// Forgets all that was written and read. It goes over the marks of all pages.
+    pub fn clear(&mut self)
         ensures { self.new ≡ record self.old {
           pages = [];
           grown = 0;

@@ -2,6 +2,7 @@ pub mod ComparedFractions
 pub mod Paying
 pub mod Beginning
 pub mod Sending
+pub mod DeviceCalls
 pub mod Going
 pub mod Providing
 pub mod Together

@@ -12,5 +12,5 @@ pub use begin::{evict_begin, fetch_begin};
 pub use choice::{PageOf, page_to_take};
 pub use commit::{evict_commit, fetch_commit};
 pub use ready::provide;
-pub use tax::{cmp_rho, victim, weight};
+pub use tax::{cmp_rho, weight};
 pub use tickets::{Buf, EvictTicket, FetchTicket};

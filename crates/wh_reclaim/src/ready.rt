@@ -1,6 +1,6 @@
 // Making a step ready.
 
-ghost use Rattle.std.specs.Prelude.{◌≡◌, ◌+◌, ◌≤◌, ℕ, [], ◌∷◌, Some, Ok, IfErr, IfOk, OnErr, OnOk, get_or, length};
+ghost use Rattle.std.specs.Prelude.{◌≡◌, ◌+◌, ◌≤◌, ℕ, [], Some, Ok, IfOk, OnErr, OnOk, get_or, length};
 ghost use Rattle.wh_host_model.specs.Frames.{one_if, tally};
 ghost use Rattle.wh_host_model.specs.declared.states.Page.TheVariants.{Swapped};
 ghost use Rattle.wh_host_model.specs.Space.Claims.{CanLeave};
@@ -14,6 +14,7 @@ ghost use Rattle.wh_host_model.specs.Space.Tickets.{WaitsForBytes};
 ghost use Rattle.wh_model.specs.declared.memory.Need.{Need as Bytes};
 ghost use Rattle.wh_reclaim.specs.Providing.{GoesOn, LosesSlot, Revokes, left_by};
 ghost use Rattle.wh_reclaim.specs.Whole.{IsAsWhole};
+ghost use Rattle.wh_swap.specs.DeviceCalls.{ServesOn, call_faults};
 
 use crate::choice::{PageOf, page_to_take};
 use crate::tickets::Buf;
@@ -47,11 +48,7 @@ fn evict_now<D: SwapDev>(
     ensures writes { D.writes device.new ≡ D.writes device.old + 1 }
     ensures evicts { OnOk result (Evicts memory.old taken.place taken.page memory.new) }
     ensures loses { OnErr result (LosesSlot memory.old memory.new) }
-    ensures ok { OnOk result (D.faults device.new ≡ D.faults device.old) }
-    ensures err { IfErr result (λ fault. D.faults device.new ≡ fault ∷ D.faults device.old) }
-    ensures honest { D.honest device.new → D.honest device.old }
-    ensures keeps { D.keeps device.old → D.keeps device.new }
-    ensures kept { D.keeps device.old → D.honest device.old → D.honest device.new }
+    ensures serves { ServesOn D.keeps D.honest D.faults device.old (call_faults result) device.new }
 {
     memory.invariant();
     let slot = memory.depart(taken.place, taken.page, bytes);
@@ -90,11 +87,7 @@ fn fetch_now<D: SwapDev>(
     ensures given { OnOk result (D.honest device.new
         → get_or memory.old.slots.held slot [] ≡ bytes.new) }
     ensures same { OnErr result (memory.new ≡ memory.old) }
-    ensures ok { OnOk result (D.faults device.new ≡ D.faults device.old) }
-    ensures err { IfErr result (λ fault. D.faults device.new ≡ fault ∷ D.faults device.old) }
-    ensures honest { D.honest device.new → D.honest device.old }
-    ensures keeps { D.keeps device.old → D.keeps device.new }
-    ensures kept { D.keeps device.old → D.honest device.old → D.honest device.new }
+    ensures serves { ServesOn D.keeps D.honest D.faults device.old (call_faults result) device.new }
 {
     memory.invariant();
     match device.read(slot, bytes) {
@@ -123,11 +116,7 @@ fn revoke<D: SwapDev>(
     ensures writes { D.writes device.new ≡ D.writes device.old + 1 }
     ensures revokes { OnOk result (Revokes memory.old place need memory.new) }
     ensures loses { OnErr result (LosesSlot memory.old memory.new) }
-    ensures ok { OnOk result (D.faults device.new ≡ D.faults device.old) }
-    ensures err { IfErr result (λ fault. D.faults device.new ≡ fault ∷ D.faults device.old) }
-    ensures honest { D.honest device.new → D.honest device.old }
-    ensures keeps { D.keeps device.old → D.keeps device.new }
-    ensures kept { D.keeps device.old → D.honest device.old → D.honest device.new }
+    ensures serves { ServesOn D.keeps D.honest D.faults device.old (call_faults result) device.new }
 {
     memory.invariant();
     let Some(taken) = page_to_take(memory, place, need) else {
@@ -155,11 +144,7 @@ fn go_on<D: SwapDev>(
     ensures goes_on { IfOk result (λ made.
         GoesOn (D.honest device.new) memory.old place need made memory.new) }
     ensures loses { OnErr result (LosesSlot memory.old memory.new) }
-    ensures ok { OnOk result (D.faults device.new ≡ D.faults device.old) }
-    ensures err { IfErr result (λ fault. D.faults device.new ≡ fault ∷ D.faults device.old) }
-    ensures honest { D.honest device.new → D.honest device.old }
-    ensures keeps { D.keeps device.old → D.keeps device.new }
-    ensures kept { D.keeps device.old → D.honest device.old → D.honest device.new }
+    ensures serves { ServesOn D.keeps D.honest D.faults device.old (call_faults result) device.new }
 {
     memory.invariant();
     if let Some((page, slot)) = memory.swapped_page(place, need) {
@@ -202,11 +187,7 @@ fn provide_for<D: SwapDev>(
     ensures fails_truly { OnErr result (D.honest device.new
         → FailsTruly memory.old place need memory.new) }
     ensures writes { IfOk result (λ left. D.writes device.new ≡ D.writes device.old + left) }
-    ensures ok { OnOk result (D.faults device.new ≡ D.faults device.old) }
-    ensures err { IfErr result (λ fault. D.faults device.new ≡ fault ∷ D.faults device.old) }
-    ensures honest { D.honest device.new → D.honest device.old }
-    ensures keeps { D.keeps device.old → D.keeps device.new }
-    ensures kept { D.keeps device.old → D.honest device.old → D.honest device.new }
+    ensures serves { ServesOn D.keeps D.honest D.faults device.old (call_faults result) device.new }
 {
     memory.invariant();
     memory.known_pages();
@@ -261,11 +242,7 @@ pub fn provide<D: SwapDev>(
     ensures others { OthersKeepMinimum memory.old place memory.new }
     ensures whole { IsAsWhole memory.old memory.new }
     ensures writes { IfOk result (λ left. D.writes device.new ≡ D.writes device.old + left) }
-    ensures ok { OnOk result (D.faults device.new ≡ D.faults device.old) }
-    ensures err { IfErr result (λ fault. D.faults device.new ≡ fault ∷ D.faults device.old) }
-    ensures honest { D.honest device.new → D.honest device.old }
-    ensures keeps { D.keeps device.old → D.keeps device.new }
-    ensures kept { D.keeps device.old → D.honest device.old → D.honest device.new }
+    ensures serves { ServesOn D.keeps D.honest D.faults device.old (call_faults result) device.new }
 {
     memory.invariant();
     let Some(need) = memory.wanted_step(place) else {

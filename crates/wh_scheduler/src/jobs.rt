@@ -43,7 +43,6 @@ pub struct Schedule {
     pub turn_lock: TurnLock,
 }
 
-// Written out, so that letting one go is one call, and not one for each part of its parts.
 impl Drop for Schedule {
     fn drop(self) {
         let Schedule {
@@ -114,7 +113,6 @@ pub struct TurnJob<D: SwapDev, T: Ledger, C: Ledger, O: Ledger, E: Ledger, B: Ce
     pub turns_held: AtomicU64,
 }
 
-// Written out, so that letting one go is one call, and not one for each part of its parts.
 impl<D: SwapDev + Drop, T: Ledger, C: Ledger, O: Ledger, E: Ledger, B: CellAgreements> Drop
     for TurnJob<D, T, C, O, E, B> {
     fn drop(self) {
@@ -198,7 +196,6 @@ pub struct ScanJob<D: SwapDev, T: Ledger, C: Ledger, O: Ledger, E: Ledger, B: Ce
     pub hasher: H,
 }
 
-// Written out, so that letting one go is one call, and not one for each part of its parts.
 impl<D: SwapDev + Drop, T: Ledger, C: Ledger, O: Ledger, E: Ledger, B: CellAgreements, H: Drop> Drop
     for ScanJob<D, T, C, O, E, B, H> {
     fn drop(self) {
@@ -307,7 +304,6 @@ pub struct ReclaimJob<D: SwapDev, T: Ledger, C: Ledger, O: Ledger, E: Ledger, B:
     pub schedule: Arc<Schedule, Global>,
 }
 
-// Written out, so that letting one go is one call, and not one for each part of its parts.
 impl<D: SwapDev + Drop, T: Ledger, C: Ledger, O: Ledger, E: Ledger, B: CellAgreements> Drop
     for ReclaimJob<D, T, C, O, E, B> {
     fn drop(self) {
@@ -380,7 +376,6 @@ pub struct TurnSupply<D: SwapDev, T: Ledger, C: Ledger, O: Ledger, E: Ledger, B:
     pub spin_backoff: SpinBackoff,
 }
 
-// Written out, so that letting one go is one call, and not one for each part of its parts.
 impl<D: SwapDev + Drop, T: Ledger, C: Ledger, O: Ledger, E: Ledger, B: CellAgreements> Drop
     for TurnSupply<D, T, C, O, E, B> {
     fn drop(self) {

@@ -1,19 +1,11 @@
 //! A host in the hand of its owner: what is asked of it between two runs of its calls, and the runs.
 
-ghost use Rattle.std.specs.Prelude.{◌≡◌, ℕ, ◌+◌, ◌/◌, ◌≤◌, ◌<◌, Some, IfOk, IfSome, OnErr, OnOk};
+ghost use Rattle.std.specs.Prelude.{◌≡◌, ◌+◌, ◌/◌, ◌≤◌, ◌<◌, Some, IfOk, IfSome, OnErr, OnOk};
 ghost use Rattle.crossbeam_channel.specs.Claims.{view};
-ghost use Rattle.wh_admit.specs.View.{view_params};
-ghost use Rattle.wh_host_model.specs.Host.Happens.{IsCancel, IsRefuel, IsRetry};
-ghost use Rattle.wh_host_model.specs.Host.Worlds.{promised};
-ghost use Rattle.wh_host_model.specs.Space.Places.{Enters, Exits};
-ghost use Rattle.wh_host_model.specs.Space.Stores.{Epochs, ended};
+ghost use Rattle.wh_host_model.specs.Space.Stores.{Epochs};
 ghost use Rattle.wh_reclaim.specs.Together.{AreTogether};
-ghost use Rattle.wh_host.specs.Admitting.{AnswersAdmit};
-ghost use Rattle.wh_host.specs.CallRequests.{AnswersCall, AnswersInvoke};
 ghost use Rattle.wh_host.specs.Backing.{KeepsBacking};
-ghost use Rattle.wh_host.specs.Loading.{AnswersLoad};
 ghost use Rattle.wh_host.specs.Paging.{MovesOnly};
-ghost use Rattle.wh_host.specs.Releasing.{AnswersRelease};
 ghost use Rattle.wh_host.specs.Rolls.{IsRollOf};
 ghost use Rattle.wh_host.specs.Showing.{ShowsInstance, RepresentsReached};
 ghost use Rattle.wh_transcript.specs.Transcripts.{IsReplayable};
@@ -22,6 +14,7 @@ ghost use Rattle.wh_threads.specs.Handover.{SameMessages};
 ghost use Rattle.wh_workers.specs.Serving.{AreRun, AreTurns};
 ghost use Rattle.wh_cell.specs.Counted.{countable, offers_of};
 ghost use Rattle.wh_cell.specs.Knowing.{known_of};
+ghost use Rattle.wh_cell.specs.Ledgers.{HasLedgers};
 ghost use Rattle.wh_cell.specs.LeftByOwner.{HasNoCharge, left_as};
 ghost use Rattle.wh_cell.specs.Locking.{now_of};
 ghost use Rattle.wh_cell.specs.Owning.{ComesOn};
@@ -36,10 +29,7 @@ use std::sync::Wait;
 use std::sync::ledger::Ledger;
 use std::thread::Threads;
 use wh_cell::{Backing, CellAgreements, CellParts, HostCell, Locked, Owner, Parts};
-use wh_host::{
-    Admit, AdmitError, Cancel, Host, HostError, Invoke, Load, ModuleError, ModuleId, Params,
-    Refuel, Release, Request, Retry, Roll, Transcript,
-};
+use wh_host::{Host, HostError, Request, Roll, Transcript};
 use wh_host_model::InstId;
 use wh_kernels::PageHash;
 use wh_swap::SwapDev;
@@ -58,7 +48,6 @@ pub struct OwnedHost<D: SwapDev, T: Ledger, C: Ledger, O: Ledger, E: Ledger, B: 
     shares: Shares<T, C, O, E>,
 }
 
-// Written out, so that letting one go is one call, and not one for each part of its parts.
 impl<D: SwapDev + Drop, T: Ledger, C: Ledger, O: Ledger, E: Ledger, B: CellAgreements> Drop
     for OwnedHost<D, T, C, O, E, B> {
     fn drop(self) {
@@ -108,14 +97,7 @@ impl<D: SwapDev + Drop, T: Ledger, C: Ledger, O: Ledger, E: Ledger, B: CellAgree
         requires led { D.honest cell_parts.device → RepresentsReached host }
         requires owned { cell_parts.to_owner ≡ B.to_owner }
         requires backed { cell_parts.to_device ≡ B.to_device }
-        requires turns { (cell_parts.turns.name ≡ T.name) × (cell_parts.turns.parts ≡ T.parts)
-            × (64 < T.parts) }
-        requires charges { (cell_parts.charges.name ≡ C.name) × (cell_parts.charges.parts ≡ C.parts)
-            × (64 < C.parts) }
-        requires offers { (cell_parts.offers.name ≡ O.name) × (cell_parts.offers.parts ≡ O.parts)
-            × (1 < O.parts) }
-        requires evictions { (cell_parts.evictions.name ≡ E.name)
-            × (cell_parts.evictions.parts ≡ E.parts) × (1 < E.parts) }
+        requires ledgers { HasLedgers T.Ledger C.Ledger O.Ledger E.Ledger cell_parts }
         ensures host { IfOk result (λ owned. left_of owned ≡ left_as host cell_parts.device) }
         ensures books { IfOk result (λ owned. owned.books
             ≡ record { turns = 0; charges = 0; offers = 0; evictions = 0 }) }
@@ -245,136 +227,6 @@ impl<D: SwapDev, T: Ledger, C: Ledger, O: Ledger, E: Ledger, B: CellAgreements> 
             unreachable!();
         };
         locked.ask(&mut self.owner, request)
-    }
-
-    /// Keeps the module that `bytes` spell, and these. Returns its number, from 0.
-    ///
-    /// # Errors
-    /// That of `Host::load`. The host is as it was then.
-    pub fn load(&mut self, alloc: Global, bytes: &[u8]) -> Result<ModuleId, ModuleError>
-        ensures loads { AnswersLoad self.old.host bytes.now result self.new.host }
-        ensures err { OnErr result (self.new.host ≡ self.old.host) }
-        ensures backing { KeepsBacking self.old.host.space self.new.host.space }
-        ensures device { self.new.device ≡ self.old.device }
-        ensures books { self.new.books ≡ self.old.books }
-    {
-        self.ask(Load { alloc, bytes })
-    }
-
-    /// Admits an instance of a module with `params`. All that it will ever need is reserved now.
-    ///
-    /// # Errors
-    /// That of `Host::admit`. The host is as it was then.
-    pub fn admit(
-        &mut self,
-        alloc: Global,
-        of: ModuleId,
-        params: Params,
-    ) -> Result<InstId, AdmitError>
-        ensures admits { AnswersAdmit self.old.host of.number (view_params params) result
-            self.new.host }
-        ensures err { OnErr result (self.new.host ≡ self.old.host) }
-        ensures backing { KeepsBacking self.old.host.space self.new.host.space }
-        ensures memory { IfOk result (λ id. (size : ℕ) × Enters self.old.host.space id.place
-            (promised id.number (view_params params)) size self.new.host.space) }
-        ensures device { self.new.device ≡ self.old.device }
-        ensures books { self.new.books ≡ self.old.books }
-    {
-        self.ask(Admit { alloc, of, params })
-    }
-
-    /// Queues a call of the function that an instance's module exports as `name`, with arguments `given` and `fuel`, behind the
-    /// calls that are open; turns run it. Returns its place in the instance's journal, where the start is 0.
-    ///
-    /// # Errors
-    /// That of `Host::invoke`. The host is as it was then.
-    pub fn invoke(
-        &mut self,
-        alloc: Global,
-        id: InstId,
-        name: &str,
-        given: &[i128],
-        fuel: u64,
-    ) -> Result<u32, HostError>
-        ensures asks { AnswersInvoke self.old.host id name.now given.now fuel result
-            self.new.host }
-        ensures err { OnErr result (self.new.host ≡ self.old.host) }
-        ensures backing { KeepsBacking self.old.host.space self.new.host.space }
-        ensures device { self.new.device ≡ self.old.device }
-        ensures books { self.new.books ≡ self.old.books }
-    {
-        self.ask(Invoke {
-            alloc,
-            id,
-            name,
-            given,
-            fuel,
-        })
-    }
-
-    /// Adds `fuel` to the present call of an instance; what passes 2^64 - 1 is lost.
-    ///
-    /// # Errors
-    /// `NoInstance`; `NoCall` where no call is open. Nothing is done then.
-    pub fn refuel(&mut self, id: InstId, fuel: u64) -> Result<(), HostError>
-        ensures asks { AnswersCall self.old.host (λ w answer w2.
-            IsRefuel w id fuel answer w2) result
-            self.new.host }
-        ensures err { OnErr result (self.new.host ≡ self.old.host) }
-        ensures backing { KeepsBacking self.old.host.space self.new.host.space }
-        ensures memory { self.new.host.space ≡ self.old.host.space }
-        ensures device { self.new.device ≡ self.old.device }
-        ensures books { self.new.books ≡ self.old.books }
-    {
-        self.ask(Refuel { id, fuel })
-    }
-
-    /// Cancels the present call of an instance where it is; what it has written stays.
-    ///
-    /// # Errors
-    /// `NoInstance`; `NoCall` where no call is open. Nothing is done then.
-    pub fn cancel(&mut self, id: InstId) -> Result<(), HostError>
-        ensures asks { AnswersCall self.old.host (λ w answer w2. IsCancel w id answer w2) result
-            self.new.host }
-        ensures err { OnErr result (self.new.host ≡ self.old.host) }
-        ensures backing { KeepsBacking self.old.host.space self.new.host.space }
-        ensures memory { OnOk result (self.new.host.space
-            ≡ ended self.old.host.space id.place) }
-        ensures device { self.new.device ≡ self.old.device }
-        ensures books { self.new.books ≡ self.old.books }
-    {
-        self.ask(Cancel { id })
-    }
-
-    /// Retries the present call of an instance, if it waits for a device: then it waits for a frame.
-    ///
-    /// # Errors
-    /// `NoInstance`; `NoCall` where it doesn't wait for one. Nothing is done then.
-    pub fn retry(&mut self, id: InstId) -> Result<(), HostError>
-        ensures asks { AnswersCall self.old.host (λ w answer w2. IsRetry w id answer w2) result
-            self.new.host }
-        ensures err { OnErr result (self.new.host ≡ self.old.host) }
-        ensures backing { KeepsBacking self.old.host.space self.new.host.space }
-        ensures memory { self.new.host.space ≡ self.old.host.space }
-        ensures device { self.new.device ≡ self.old.device }
-        ensures books { self.new.books ≡ self.old.books }
-    {
-        self.ask(Retry { id })
-    }
-
-    /// Releases an instance, whatever its calls are. Returns its output.
-    ///
-    /// # Errors
-    /// `NoInstance`. Nothing is done then.
-    pub fn release(&mut self, alloc: Global, id: InstId) -> Result<Vec<u8>, HostError>
-        ensures goes { AnswersRelease self.old.host id result self.new.host }
-        ensures err { OnErr result (self.new.host ≡ self.old.host) }
-        ensures backing { KeepsBacking self.old.host.space self.new.host.space }
-        ensures memory { OnOk result (Exits self.old.host.space id.place self.new.host.space) }
-        ensures device { self.new.device ≡ self.old.device }
-        ensures books { self.new.books ≡ self.old.books }
-    {
-        self.ask(Release { alloc, id })
     }
 
     /// Begins a new epoch: no page is marked as touched. It goes over all pages.

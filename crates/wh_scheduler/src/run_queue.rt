@@ -91,7 +91,6 @@ pub struct RunQueue {
     back: usize,
 }
 
-// Written out, so that letting one go is one call, and not one for each part of its parts.
 impl Drop for RunQueue {
     fn drop(self) {
         let RunQueue {

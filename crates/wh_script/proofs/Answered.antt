@@ -6,13 +6,13 @@ use Rattle.wh_script_model.specs.Settings.{Settings}
 use Rattle.wh_script_model.specs.Commands.{Command, keep, load, admit, invoke, drain, refuel, cancel, retry, scan, report, release, AsksCommand, verb}
 use Rattle.wh_script_model.specs.Texts.{Reply, error}
 use Rattle.wh_script_model.specs.ScriptState.{ScriptState, LacksInstance}
-use Rattle.wh_script_model.specs.Drains.{Drains}
 use Rattle.wh_script_model.specs.Receiving.{ReceivesCall}
-use Rattle.wh_script_model.specs.Answers.{Files, IsRead, no_such_instance, replies_text, AnswersLine, skipped, invoked, obeyed, too_long, no_command, line_out_of_memory}
-use Rattle.wh_commands.specs.declared.error.LineError.{LineError}
-use Rattle.wh_commands.specs.declared.error.LineError.TheVariants.{Syntax, NoName, NameTaken, File, Memory}
+use Rattle.wh_script_model.specs.Answers.{Files, IsRead, no_such_instance, replies_text}
+use Rattle.wh_script_model.specs.Failing.{DrainsAmid, AnswersLineAmid, skipped, invoked, obeyed, too_long, no_command, line_out_of_memory}
+use Rattle.wh_commands.specs.declared.error.ParseError.{ParseError}
+use Rattle.wh_commands.specs.declared.error.ParseError.TheVariants.{Syntax, Memory}
 use Rattle.wh_commands.specs.declared.command.Command.{Command as Code}
-use Rattle.wh_commands.specs.Causes.{cause_number}
+use Rattle.wh_script.specs.Causes.{cause_number, line_error}
 use Rattle.wh_commands.specs.ParsedCommands.{FindsAsked}
 use Rattle.wh_script_laws.specs.Printed.{AllArePrinted, IsWellMade}
 use Rattle.wh_script_laws.proofs.PrintedObeyed.{call_well, obeys_well}
@@ -59,54 +59,39 @@ only_replies : (settings : Settings) (number : ℕ) (line : List ℕ) (m : Scrip
     → AddsLines replies text text2 → (more : List ℕ) × IsLineText settings number line m replies more × (text2 ≡ text ++ more)
 only_replies settings number line m replies text text2 wants adds = (replies_text replies, prints_replies wants, adds)
 
-pub is_skipped_line : {D : Type 0} (files : Files) (number : ℕ) (line : List ℕ) (e : ScriptHostState D) (text : List ℕ) → is_skipped line ≡ true → Answers files number line e text e text
+pub is_skipped_line : {D : Type 0} (files : Files) (number : ℕ) (line : List ℕ) (e : ScriptHostState D) (text : List ℕ) → is_skipped line ≡ true → Answers files number line e text e text []
 is_skipped_line files number line e text is settings m s =
     let t = only_replies settings number line m [] text text (λ asks. absurd (true≢false (sym is ∙ asks.is_read.0))) (adds_none text) in
-    ([], m, t.0, skipped is, t.1, t.2, s)
+    ([], m, t.0, skipped is refl, t.1, t.2, s)
 
-pub is_too_long : {D : Type 0} (files : Files) (number : ℕ) (line text text2 : List ℕ) (e e2 : ScriptHostState D) → is_skipped line ≡ false → longest_line < length line
-    → Complains (error 1 number) e text e2 text2 → Answers files number line e text e2 text2
-is_too_long files number line text text2 e e2 read long complains settings m s =
+pub is_too_long : {D : Type 0} (files : Files) (number : ℕ) (line text text2 : List ℕ) (e e2 : ScriptHostState D) (faults : List ℕ) → is_skipped line ≡ false → longest_line < length line
+    → Complains (error 1 number) e text e2 text2 faults → Answers files number line e text e2 text2 faults
+is_too_long files number line text text2 e e2 faults read long complains settings m s =
     let c = complains settings m s in
     let t = only_replies settings number line c.1 (c.0 ++ error 1 number ∷ []) text text2 (λ asks. absurd (omega (arith, long, asks.is_read.1))) c.3 in
     (c.0 ++ error 1 number ∷ [], c.1, t.0, too_long read long c.2, t.1, t.2, c.4)
 
-pub is_no_command : {D : Type 0} (files : Files) (number : ℕ) (line text text2 : List ℕ) (e e2 : ScriptHostState D) → IsRead line → ((command : Command) → ¬ (AsksCommand line command))
-    → Complains (error 1 number) e text e2 text2 → Answers files number line e text e2 text2
-is_no_command files number line text text2 e e2 read none complains settings m s =
+pub is_no_command : {D : Type 0} (files : Files) (number : ℕ) (line text text2 : List ℕ) (e e2 : ScriptHostState D) (faults : List ℕ) → IsRead line → ((command : Command) → ¬ (AsksCommand line command))
+    → Complains (error 1 number) e text e2 text2 faults → Answers files number line e text e2 text2 faults
+is_no_command files number line text text2 e e2 faults read none complains settings m s =
     let c = complains settings m s in
     let t = only_replies settings number line c.1 (c.0 ++ error 1 number ∷ []) text text2 (λ asks. absurd (none report asks.asks)) c.3 in
     (c.0 ++ error 1 number ∷ [], c.1, t.0, no_command read none c.2, t.1, t.2, c.4)
 
-pub wants_memory : {D : Type 0} (files : Files) (number : ℕ) (line text text2 : List ℕ) (e e2 : ScriptHostState D) → IsRead line
-    → Complains (error 5 number) e text e2 text2 → Answers files number line e text e2 text2
-wants_memory files number line text text2 e e2 read complains settings m s =
+pub wants_memory : {D : Type 0} (files : Files) (number : ℕ) (line text text2 : List ℕ) (e e2 : ScriptHostState D) (faults : List ℕ) → IsRead line
+    → Complains (error 5 number) e text e2 text2 faults → Answers files number line e text e2 text2 faults
+wants_memory files number line text text2 e e2 faults read complains settings m s =
     let c = complains settings m s in
     let t = only_replies settings number line c.1 (c.0 ++ error 5 number ∷ []) text text2 (λ asks. (c.0, refl)) c.3 in
     (c.0 ++ error 5 number ∷ [], c.1, t.0, line_out_of_memory refl read c.2, t.1, t.2, c.4)
 
 -- a line whose command isn't found
-pub isnt_found : {D : Type 0} (files : Files) (number : ℕ) (line text text2 : List ℕ) (e e2 : ScriptHostState D) (r : Result Code LineError) (cause : LineError) → r ≡ Err cause
-    → ((asked : Command) → AsksCommand line asked → FindsAsked r asked) → (cause ≡ Syntax) ⊎ (cause ≡ Memory) → IsRead line
-    → Complains (error (cause_number cause) number) e text e2 text2 → Answers files number line e text e2 text2
-isnt_found files number line text text2 e e2 r Syntax is only which read complains =
-    is_no_command files number line text text2 e e2 read (λ asked asks. subst (λ x. FindsAsked x asked) is (only asked asks)) complains
-isnt_found files number line text text2 e e2 r NoName is only which read complains = other_cause which
-  where
-    other_cause : (NoName ≡ Syntax) ⊎ (NoName ≡ Memory) → Answers files number line e text e2 text2
-    other_cause (inl h) = absurd (cc h)
-    other_cause (inr h) = absurd (cc h)
-isnt_found files number line text text2 e e2 r NameTaken is only which read complains = other_cause which
-  where
-    other_cause : (NameTaken ≡ Syntax) ⊎ (NameTaken ≡ Memory) → Answers files number line e text e2 text2
-    other_cause (inl h) = absurd (cc h)
-    other_cause (inr h) = absurd (cc h)
-isnt_found files number line text text2 e e2 r File is only which read complains = other_cause which
-  where
-    other_cause : (File ≡ Syntax) ⊎ (File ≡ Memory) → Answers files number line e text e2 text2
-    other_cause (inl h) = absurd (cc h)
-    other_cause (inr h) = absurd (cc h)
-isnt_found files number line text text2 e e2 r Memory is only which read complains = wants_memory files number line text text2 e e2 read complains
+pub isnt_found : {D : Type 0} (files : Files) (number : ℕ) (line text text2 : List ℕ) (e e2 : ScriptHostState D) (faults : List ℕ) (r : Result Code ParseError) (cause : ParseError) → r ≡ Err cause
+    → ((asked : Command) → AsksCommand line asked → FindsAsked r asked) → IsRead line
+    → Complains (error (cause_number (line_error cause)) number) e text e2 text2 faults → Answers files number line e text e2 text2 faults
+isnt_found files number line text text2 e e2 faults r Syntax is only read complains =
+    is_no_command files number line text text2 e e2 faults read (λ asked asks. subst (λ x. FindsAsked x asked) is (only asked asks)) complains
+isnt_found files number line text text2 e e2 faults r Memory is only read complains = wants_memory files number line text text2 e e2 faults read complains
 
 -- ---- commands
 
@@ -116,7 +101,7 @@ no_report line inst export fuel args asks replies other = absurd (invoke_apart i
 pub is_received : {D : Type 0} (files : Files) (number i : ℕ) (inst export : List ℕ) (fuel : ℕ) (args : List ℤ) (e e2 : ScriptHostState D) (text : List ℕ)
     → ((settings : Settings) (m : ScriptState) → RepresentsScript settings e m → IsNamed m i inst)
     → ((settings : Settings) (m : ScriptState) → RepresentsScript settings e m → TakesInvoke settings m i export fuel args e2)
-    → AnswersCommand files number (invoke inst export fuel args) e text e2 text
+    → AnswersCommand files number (invoke inst export fuel args) e text e2 text []
 is_received files number i inst export fuel args e e2 text named takes line read asks settings m s =
     let has = named settings m s.0 in
     let took = takes settings m s.0 in
@@ -126,37 +111,37 @@ is_received files number i inst export fuel args e e2 text named takes line read
       [],
       took.2,
       t.0,
-      invoked i read asks has.1 received,
+      invoked i read asks has.1 received refl,
       t.1,
       t.2,
       (took.4, call_well true m took.2 i has.0 export fuel args has.1.0 received s.1),
     )
 
-pub has_no_guest : {D : Type 0} (files : Files) (number : ℕ) (inst export : List ℕ) (fuel : ℕ) (args : List ℤ) (e e2 : ScriptHostState D) (text text2 : List ℕ)
+pub has_no_guest : {D : Type 0} (files : Files) (number : ℕ) (inst export : List ℕ) (fuel : ℕ) (args : List ℤ) (e e2 : ScriptHostState D) (text text2 : List ℕ) (faults : List ℕ)
     → ((settings : Settings) (m : ScriptState) → RepresentsScript settings e m → LacksInstance m inst)
-    → Complains (error 2 number) e text e2 text2 → AnswersCommand files number (invoke inst export fuel args) e text e2 text2
-has_no_guest files number inst export fuel args e e2 text text2 none complains line read asks settings m s =
+    → Complains (error 2 number) e text e2 text2 faults → AnswersCommand files number (invoke inst export fuel args) e text e2 text2 faults
+has_no_guest files number inst export fuel args e e2 text text2 faults none complains line read asks settings m s =
     let c = complains settings m s in
     let t = only_replies settings number line c.1 (c.0 ++ error 2 number ∷ []) text text2 (no_report line inst export fuel args asks (c.0 ++ error 2 number ∷ [])) c.3 in (
       c.0 ++ error 2 number ∷ [],
       c.1,
       t.0,
-      obeyed {command = invoke inst export fuel args} read asks c.2 (no_such_instance refl (no_guest_then m c.1 c.0 inst c.2 (none settings m s.0))),
+      obeyed {command = invoke inst export fuel args} read asks c.2 (no_such_instance refl (no_guest_then faults m c.1 c.0 inst c.2 (none settings m s.0))),
       t.1,
       t.2,
       c.4,
     )
 
-pub invoke_wants : {D : Type 0} (files : Files) (number : ℕ) (command : Command) (e e1 e2 : ScriptHostState D) (text text2 : List ℕ)
+pub invoke_wants : {D : Type 0} (files : Files) (number : ℕ) (command : Command) (e e1 e2 : ScriptHostState D) (text text2 : List ℕ) (faults : List ℕ)
     → ((settings : Settings) (m : ScriptState) → RepresentsScript settings e m → RepresentsScript settings e1 m)
-    → Complains (error 5 number) e1 text e2 text2 → AnswersCommand files number command e text e2 text2
-invoke_wants files number command e e1 e2 text text2 stays complains line read asks settings m s =
-    wants_memory files number line text text2 e1 e2 read complains settings m (stays settings m s.0, s.1)
+    → Complains (error 5 number) e1 text e2 text2 faults → AnswersCommand files number command e text e2 text2 faults
+invoke_wants files number command e e1 e2 text text2 faults stays complains line read asks settings m s =
+    wants_memory files number line text text2 e1 e2 faults read complains settings m (stays settings m s.0, s.1)
 
-gets_line : (settings : Settings) (files : Files) (m m1 m2 : ScriptState) (number : ℕ) (command : Command) (line : List ℕ) (lines replies : List Reply) → IsRead line → AsksCommand line command
-    → Drains m lines m1 → GetsReplies settings files m1 number command replies m2 → AnswersLine true settings files m number line (lines ++ replies) m2
-gets_line settings files m m1 m2 number command line lines replies read asks drains (is_obeyed o) = obeyed read asks drains o
-gets_line settings files m m1 _ number command line lines _ read asks drains is_wanting = line_out_of_memory refl read drains
+gets_line : (settings : Settings) (files : Files) (m m1 m2 : ScriptState) (number : ℕ) (command : Command) (line : List ℕ) (lines replies : List Reply) (faults : List ℕ) → IsRead line → AsksCommand line command
+    → DrainsAmid faults m lines m1 → GetsReplies settings files m1 number command replies m2 → AnswersLineAmid true settings files faults m number line (lines ++ replies) m2
+gets_line settings files m m1 m2 number command line lines replies faults read asks drains (is_obeyed o) = obeyed read asks drains o
+gets_line settings files m m1 _ number command line lines _ faults read asks drains is_wanting = line_out_of_memory refl read drains
 
 gets_well : (settings : Settings) (files : Files) (m1 m2 : ScriptState) (number : ℕ) (command : Command) (replies : List Reply) → GetsReplies settings files m1 number command replies m2
     → IsWellMade m1 → AllArePrinted m1 → IsWellMade m2
@@ -178,16 +163,16 @@ says_both settings number command line m lines replies text mid text2 read asks 
       at ∙ ap (λ xs. xs ++ shown) drained ∙ append_assoc text (replies_text lines) shown ∙ ap (λ (xs : List Reply). text ++ (replies_text xs ++ shown)) (sym all),
     )
 
-pub drained_obeyed : {D : Type 0} (files : Files) (number : ℕ) (command : Command) (e e1 e2 : ScriptHostState D) (text mid text2 : List ℕ) → HasDrained e text e1 mid → Obeys files number command e1 mid e2 text2
-    → AnswersCommand files number command e text e2 text2
-drained_obeyed files number command e e1 e2 text mid text2 drained obeys line read asks settings m s =
+pub drained_obeyed : {D : Type 0} (files : Files) (number : ℕ) (command : Command) (e e1 e2 : ScriptHostState D) (text mid text2 : List ℕ) (faults : List ℕ) → HasDrained e text e1 mid faults → Obeys files number command e1 mid e2 text2
+    → AnswersCommand files number command e text e2 text2 faults
+drained_obeyed files number command e e1 e2 text mid text2 faults drained obeys line read asks settings m s =
     let d = drained settings m s in
     let o = obeys settings d.1 d.4.0 in
     let t = says_both settings number command line o.1 d.0 o.0 text mid text2 read asks d.3 o.3 in (
       d.0 ++ o.0,
       o.1,
       t.0,
-      gets_line settings files m d.1 o.1 number command line d.0 o.0 read asks d.2 o.2,
+      gets_line settings files m d.1 o.1 number command line d.0 o.0 faults read asks d.2 o.2,
       t.1,
       t.2,
       (o.4, gets_well settings files d.1 o.1 number command o.0 o.2 d.4.1 d.5),

@@ -1,17 +1,18 @@
 -- Which command of the definitions a command of the code is.
-use Rattle.std.proofs.Common.{◌≡◌, ◌∙◌, ℕ, ℤ, ◌⊎◌, inl, inr, List, Bor, refl, sym, ap, subst}
+use Rattle.std.proofs.Common.{◌≡◌, ◌∙◌, ℕ, ℤ, List, Bor, refl, sym, ap}
 use Rattle.std.specs.Global.{Vec}
 use Rattle.wh_script_model.specs.Commands.{Command, keep, load, admit, invoke, drain, refuel, cancel, retry, scan, report, release}
 use Rattle.wh_commands.specs.declared.command.Command.{Command as Code}
 use Rattle.wh_commands.specs.declared.command.Command.TheVariants.{Module, Load, Admit, Invoke, Drain, Refuel, Cancel, Retry, Scan, Report, Release}
-use Rattle.wh_commands.specs.ParsedCommands.{Says, params_of}
+use Rattle.wh_params.specs.View.{view_params}
+use Rattle.wh_commands.specs.ParsedCommands.{Says}
 use Rattle.wh_script.specs.Answering.{IsNoInvoke}
 
 -- it is this one
 abbrev pub IsAskedAs : Code → Command → Type 0
 IsAskedAs (Module name bytes) asked = asked ≡ keep name.now bytes.items
 IsAskedAs (Load name path) asked = asked ≡ load name.now path.now
-IsAskedAs (Admit inst of given) asked = asked ≡ admit inst.now of.now (params_of given)
+IsAskedAs (Admit inst of given) asked = asked ≡ admit inst.now of.now (view_params given)
 IsAskedAs (Invoke inst export fuel args) asked = asked ≡ invoke inst.now export.now fuel args.items
 IsAskedAs Drain asked = asked ≡ drain
 IsAskedAs (Refuel inst fuel) asked = asked ≡ refuel inst.now fuel
@@ -20,20 +21,6 @@ IsAskedAs (Retry inst) asked = asked ≡ retry inst.now
 IsAskedAs Scan asked = asked ≡ scan
 IsAskedAs Report asked = asked ≡ report
 IsAskedAs (Release inst) asked = asked ≡ release inst.now
-
--- it asks for a call
-abbrev pub IsInvoke : Code → Type 0
-IsInvoke (Module name b) = ⊥
-IsInvoke (Load name path) = ⊥
-IsInvoke (Admit inst of given) = ⊥
-IsInvoke (Invoke inst export fuel args) = Unit {0}
-IsInvoke Drain = ⊥
-IsInvoke (Refuel inst fuel) = ⊥
-IsInvoke (Cancel inst) = ⊥
-IsInvoke (Retry inst) = ⊥
-IsInvoke Scan = ⊥
-IsInvoke Report = ⊥
-IsInvoke (Release inst) = ⊥
 
 pub asked_as : (command : Code) (asked : Command) → Says command asked → IsAskedAs command asked
 asked_as (Module name b) (keep n bytes) h = ap (λ x. keep x bytes) (sym h.0) ∙ ap (λ x. keep name.now x) (sym h.1)
@@ -158,7 +145,21 @@ asked_as (Release inst) scan h = elim h [ ]
 asked_as (Release inst) report h = elim h [ ]
 asked_as (Release inst) (release i) h = ap release (sym h)
 
-pub no_invoke : (command : Code) (asked : Command) → ¬ (IsInvoke command) → Says command asked → IsNoInvoke asked
+-- it asks for a call
+abbrev pub AsksForCall : Code → Type 0
+AsksForCall (Module name b) = ⊥
+AsksForCall (Load name path) = ⊥
+AsksForCall (Admit inst of given) = ⊥
+AsksForCall (Invoke inst export fuel args) = Unit {0}
+AsksForCall Drain = ⊥
+AsksForCall (Refuel inst fuel) = ⊥
+AsksForCall (Cancel inst) = ⊥
+AsksForCall (Retry inst) = ⊥
+AsksForCall Scan = ⊥
+AsksForCall Report = ⊥
+AsksForCall (Release inst) = ⊥
+
+pub no_invoke : (command : Code) (asked : Command) → ¬ (AsksForCall command) → Says command asked → IsNoInvoke asked
 no_invoke command (keep n bytes) none h = tt
 no_invoke command (load n p) none h = tt
 no_invoke command (admit i o params) none h = tt
@@ -181,7 +182,7 @@ no_invoke Scan (invoke i e f words) none h = elim h [ ]
 no_invoke Report (invoke i e f words) none h = elim h [ ]
 no_invoke (Release inst) (invoke i e f words) none h = elim h [ ]
 
-pub isnt_invoke : (command : Code) → ((inst export : Bor (List ℕ)) (fuel : ℕ) (args : Vec ℤ) → command ≡ Invoke inst export fuel args → ⊥) → ¬ (IsInvoke command)
+pub isnt_invoke : (command : Code) → ((inst export : Bor (List ℕ)) (fuel : ℕ) (args : Vec ℤ) → command ≡ Invoke inst export fuel args → ⊥) → ¬ (AsksForCall command)
 isnt_invoke (Module name b) none h = elim h [ ]
 isnt_invoke (Load name path) none h = elim h [ ]
 isnt_invoke (Admit inst of given) none h = elim h [ ]
@@ -193,11 +194,3 @@ isnt_invoke (Retry inst) none h = elim h [ ]
 isnt_invoke Scan none h = elim h [ ]
 isnt_invoke Report none h = elim h [ ]
 isnt_invoke (Release inst) none h = elim h [ ]
-
-pub is_drain : (command : Code) (asked : Command)
-    → (command ≡ Drain) ⊎ ((inst export : Bor (List ℕ)) × (fuel : ℕ) × (args : Vec ℤ) × (command ≡ Invoke inst export fuel args)) → Says command asked → IsNoInvoke asked
-    → asked ≡ drain
-is_drain command asked (inl e) says none = asked_as Drain asked (subst (λ k. Says k asked) e says)
-is_drain command asked (inr p) says none =
-    let is = asked_as (Invoke p.0 p.1 p.2 p.3) asked (subst (λ k. Says k asked) p.4 says) in
-    elim (subst IsNoInvoke is none) [ ]

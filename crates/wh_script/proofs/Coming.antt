@@ -8,8 +8,8 @@ use Rattle.std.proofs.lemmas.List.Elements.{recursion_from_All, All-append}
 use Rattle.wh_script_model.specs.Lines.{lines_of, onto_first}
 use Rattle.wh_script.specs.declared.lines.Line.{Line}
 use Rattle.wh_script.specs.declared.lines.Line.TheVariants.{Kept, TooLong, Skipped, End}
-use Rattle.wh_engine.specs.declared.fault.ScriptFault.{ScriptFault}
-use Rattle.wh_engine.specs.declared.fault.ScriptFault.TheVariants.{Settings as SettingsFault, Script, Output, Swap, Memory, Threads, Transcript}
+use Rattle.wh_script.specs.declared.fault.ScriptFault.{ScriptFault}
+use Rattle.wh_script.specs.declared.fault.ScriptFault.TheVariants.{Script, Output, Memory, Threads, Transcript}
 use Rattle.wh_script.specs.Coming.{FailsAt, Holds, TakesLines, IsKind, ReadsLine}
 
 pub keeps_consumes : (a b c : Option (List ℕ)) (xs : List ℕ) → Keeps a b → Consumes b c xs → Consumes a c xs
@@ -169,9 +169,7 @@ on_err (Err e) p = p
 pub fails_at : (a b c : Option (List ℕ)) (r : Result Line ScriptFault) (begun : List ℕ) → All (λ n. n ≢ 10) begun → Consumes a b begun → Consumes b c [] → FailsAt a c r
 fails_at a b c (Ok kind) begun free p q = tt
 fails_at a b c (Err Script) begun free p q = (begun, free, consumes_on a b c begun p q)
-fails_at a b c (Err SettingsFault) begun free p q = tt
 fails_at a b c (Err Output) begun free p q = tt
-fails_at a b c (Err Swap) begun free p q = tt
 fails_at a b c (Err Memory) begun free p q = tt
 fails_at a b c (Err Threads) begun free p q = tt
 fails_at a b c (Err Transcript) begun free p q = tt

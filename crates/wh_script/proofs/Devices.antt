@@ -1,30 +1,21 @@
 -- What is known of a device, and how its calls failed, over several stretches of a script.
-use Rattle.std.proofs.Common.{arith, ◌≡◌, ◌+◌, List, [], ◌∷◌, ◌++◌, length, Option, Some, None, refl, sym, ap, ◌∙◌, append_assoc, length-append}
+use Rattle.std.proofs.Common.{arith, ◌≡◌, ◌+◌, List, [], ◌∷◌, ◌++◌, length, Option, Some, None, refl, sym, ap, ◌∙◌, append_assoc, length-append, ℕ, map, subst}
 use Rattle.wh_host_model.specs.declared.plain.SwapError.{SwapError}
-use Rattle.wh_engine.specs.Draining.{DeviceStaysTrue, HasAdded, DeviceMayFail, DeviceServesWell}
+use Rattle.wh_engine.specs.Draining.{DeviceHoldsAmid, DeviceStaysTrue, HasAdded, DeviceMayFail}
+use Rattle.std.proofs.lemmas.List.{map-append}
+use Rattle.wh_host_model.specs.SwapFaults.{swap_number}
 
 -- ---- faults
 
 added_more : (a b c : List SwapError) → HasAdded a b → HasAdded b c → HasAdded a c
 added_more a b c p q = (q.0 ++ p.0, q.1 ∙ ap (λ xs. q.0 ++ xs) p.1 ∙ sym (append_assoc q.0 p.0 a))
 
-empty_list : (xs : List SwapError) → length xs ≡ 0 → xs ≡ []
-empty_list [] n = refl
-empty_list (x ∷ xs) n = absurd (omega (arith, n))
-
--- where none was added in all, none was on the way
-none_of : (more a : List SwapError) → a ≡ more ++ a → more ≡ []
+-- where they are the same, none was added
+pub none_of : (more a : List SwapError) → a ≡ more ++ a → more ≡ []
 none_of [] a e = refl
 none_of (x ∷ more) a e =
     let n : length a ≡ length (x ∷ more) + length a = ap (λ (xs : List SwapError). length xs) e ∙ length-append (x ∷ more) a in
     absurd (omega (arith, n))
-
-none_first : (a b c : List SwapError) → HasAdded a b → HasAdded b c → c ≡ a → b ≡ a
-none_first a b c p q e =
-    let whole : c ≡ (q.0 ++ p.0) ++ a = q.1 ∙ ap (λ xs. q.0 ++ xs) p.1 ∙ sym (append_assoc q.0 p.0 a) in
-    let nothing : q.0 ++ p.0 ≡ [] = none_of (q.0 ++ p.0) a (sym e ∙ whole) in
-    let n : length q.0 + length p.0 ≡ 0 = sym (length-append q.0 p.0) ∙ ap (λ (xs : List SwapError). length xs) nothing in
-    p.1 ∙ ap (λ (xs : List SwapError). xs ++ a) (empty_list p.0 (omega (arith, n)))
 
 -- ---- the device, where there is one
 
@@ -54,19 +45,34 @@ module _ {D : Type 0} (keeps honest : D → Type 0) (faults : D → List SwapErr
   fails_then (Some d) (Some d2) None a b = elim b [ ]
   fails_then (Some d) (Some d2) (Some d3) a b = added_more (faults d) (faults d2) (faults d3) a b
 
-  -- where it has served well in all, it had on the way, and has since
-  pub served_first : (o o2 o3 : Option D) → DeviceStaysTrue keeps honest o2 o3 → DeviceMayFail faults o o2 → DeviceMayFail faults o2 o3 → DeviceServesWell honest faults o o3
-      → DeviceServesWell honest faults o o2
-  served_first None None o3 t a b s = tt
-  served_first None (Some d2) o3 t a b s = elim a [ ]
-  served_first (Some d) None o3 t a b s = elim a [ ]
-  served_first (Some d) (Some d2) None t a b s = elim b [ ]
-  served_first (Some d) (Some d2) (Some d3) t a b s = (t.was_honest s.0, none_first (faults d) (faults d2) (faults d3) a b s.1)
+  -- ---- what holds where it has read right
 
-  pub served_rest : (o o2 o3 : Option D) → DeviceMayFail faults o o2 → DeviceMayFail faults o2 o3 → DeviceServesWell honest faults o o3 → DeviceServesWell honest faults o2 o3
-  served_rest None None None a b s = tt
-  served_rest None None (Some d3) a b s = elim b [ ]
-  served_rest None (Some d2) o3 a b s = elim a [ ]
-  served_rest (Some d) None o3 a b s = elim a [ ]
-  served_rest (Some d) (Some d2) None a b s = elim b [ ]
-  served_rest (Some d) (Some d2) (Some d3) a b s = (s.0, s.1 ∙ sym (none_first (faults d) (faults d2) (faults d3) a b s.1))
+  pub holds_map : (o o2 : Option D) (P Q : List ℕ → Type 0) → ((met : List ℕ) → P met → Q met) → DeviceHoldsAmid honest faults o o2 P → DeviceHoldsAmid honest faults o o2 Q
+  holds_map None None P Q so h = so [] h
+  holds_map None (Some d2) P Q so h = tt
+  holds_map (Some d) None P Q so h = tt
+  holds_map (Some d) (Some d2) P Q so h = λ right. let p = h right in (p.0, p.1, so (map swap_number p.0) p.2)
+
+  -- nothing but that calls may have failed
+  pub holds_any : (o o2 : Option D) → DeviceMayFail faults o o2 → DeviceHoldsAmid honest faults o o2 (λ met. Unit {0})
+  holds_any None None h = tt
+  holds_any None (Some d2) h = elim h [ ]
+  holds_any (Some d) None h = elim h [ ]
+  holds_any (Some d) (Some d2) h = λ right. (h.0, h.1, tt)
+
+  -- one stretch behind the other
+  pub holds_then : (o o2 o3 : Option D) (P Q R : List ℕ → Type 0) → DeviceMayFail faults o o2 → DeviceStaysTrue keeps honest o2 o3
+      → ((first rest : List ℕ) → P first → Q rest → R (rest ++ first)) → DeviceHoldsAmid honest faults o o2 P → DeviceHoldsAmid honest faults o2 o3 Q
+      → DeviceHoldsAmid honest faults o o3 R
+  holds_then None None None P Q R a t so p q = so [] [] p q
+  holds_then None None (Some d3) P Q R a t so p q = elim t [ ]
+  holds_then None (Some d2) o3 P Q R a t so p q = elim a [ ]
+  holds_then (Some d) None o3 P Q R a t so p q = elim a [ ]
+  holds_then (Some d) (Some d2) None P Q R a t so p q = elim t [ ]
+  holds_then (Some d) (Some d2) (Some d3) P Q R a t so p q = λ right.
+      let first = p (t.was_honest right) in
+      let rest = q right in (
+        rest.0 ++ first.0,
+        rest.1 ∙ ap (λ xs. rest.0 ++ xs) first.1 ∙ sym (append_assoc rest.0 first.0 (faults d)),
+        subst R (sym (map-append swap_number rest.0 first.0)) (so (map swap_number first.0) (map swap_number rest.0) first.2 rest.2),
+      )

@@ -10,3 +10,4 @@ pub mod Answered
 pub mod Obeyed
 pub mod Stopped
 pub mod Runs
+pub mod FaultlessRuns

@@ -1,5 +1,5 @@
 -- What commands get behind a drain.
-use Rattle.std.proofs.Common.{◌≡◌, ◌∙◌, ℕ, true, List, [], ◌∷◌, ◌++◌, slice_get, Option, Some, None, MatchOption, refl, sym, ap, subst}
+use Rattle.std.proofs.Common.{◌≡◌, ◌∙◌, ℕ, true, List, [], ◌∷◌, ◌++◌, slice_get, Option, Some, None, MatchOption, OnOk, Result, Ok, Err, refl, sym, ap, subst}
 use Rattle.std.proofs.lemmas.Option.{same_Some}
 use Rattle.wh_host_model.specs.Owners.{Params}
 use Rattle.wh_script_model.specs.Settings.{Settings}
@@ -124,3 +124,8 @@ reported files number e text text2 shows reports is settings m s =
 
 pub only_drained : {D : Type 0} (files : Files) (number : ℕ) (e : ScriptHostState D) (text : List ℕ) → Obeys files number drain e text e text
 only_drained files number e text settings m s = ([], m, is_obeyed is_drained, adds_replies (adds_none text) (λ asked. absurd (cc asked)), s)
+
+-- what holds anyhow holds where there is no error
+pub on_ok_own : {A E : Type 0} {Q : Type 0} (r : Result A E) → Q → OnOk r Q
+on_ok_own (Ok x) q = q
+on_ok_own (Err e) q = tt

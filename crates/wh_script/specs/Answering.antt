@@ -4,8 +4,8 @@ use Rattle.wh_script_model.specs.Settings.{Settings}
 use Rattle.wh_script_model.specs.Commands.{Command, invoke, report, AsksCommand}
 use Rattle.wh_script_model.specs.Texts.{Reply, error}
 use Rattle.wh_script_model.specs.ScriptState.{ScriptState}
-use Rattle.wh_script_model.specs.Drains.{Drains}
-use Rattle.wh_script_model.specs.Answers.{Files, IsObeyed, IsRead, AnswersLine}
+use Rattle.wh_script_model.specs.Answers.{Files, IsObeyed, IsRead}
+use Rattle.wh_script_model.specs.Failing.{DrainsAmid, AnswersLineAmid}
 use Rattle.wh_script_laws.specs.Printed.{AllArePrinted, IsWellMade}
 use Rattle.wh_engine.specs.RepresentedScript.{ScriptHostState, RepresentsScript}
 use Rattle.wh_engine.specs.Printing.{AddsLines}
@@ -18,18 +18,19 @@ ServesScript settings e m = RepresentsScript settings e m × IsWellMade m
 
 -- ---- drains
 
--- whatever script it serves: all calls have run, it was said of all how they are, and their lines stand behind the text
-abbrev pub HasDrained : {D : Type 0} → ScriptHostState D → List ℕ → ScriptHostState D → List ℕ → Type 0
-HasDrained e text e2 text2 =
+-- whatever script it serves: all calls have run while calls of the device had these faults, it was said of all how they
+-- are, and their lines stand behind the text
+abbrev pub HasDrained : {D : Type 0} → ScriptHostState D → List ℕ → ScriptHostState D → List ℕ → (faults : List ℕ) → Type 0
+HasDrained e text e2 text2 faults =
     (settings : Settings) (m : ScriptState) → ServesScript settings e m
-    → (lines : List Reply) × (m2 : ScriptState) × Drains m lines m2 × AddsLines lines text text2 × ServesScript settings e2 m2
+    → (lines : List Reply) × (m2 : ScriptState) × DrainsAmid faults m lines m2 × AddsLines lines text text2 × ServesScript settings e2 m2
     × AllArePrinted m2
 
 -- and the reply behind them
-abbrev pub Complains : {D : Type 0} → Reply → ScriptHostState D → List ℕ → ScriptHostState D → List ℕ → Type 0
-Complains reply e text e2 text2 =
+abbrev pub Complains : {D : Type 0} → Reply → ScriptHostState D → List ℕ → ScriptHostState D → List ℕ → (faults : List ℕ) → Type 0
+Complains reply e text e2 text2 faults =
     (settings : Settings) (m : ScriptState) → ServesScript settings e m
-    → (lines : List Reply) × (m2 : ScriptState) × Drains m lines m2 × AddsLines (lines ++ reply ∷ []) text text2
+    → (lines : List Reply) × (m2 : ScriptState) × DrainsAmid faults m lines m2 × AddsLines (lines ++ reply ∷ []) text text2
     × ServesScript settings e2 m2
 
 -- ---- commands
@@ -69,14 +70,16 @@ AddsReport e text text2 =
 
 -- ---- lines
 
--- the line of this number
-abbrev pub Answers : {D : Type 0} → Files → ℕ → List ℕ → ScriptHostState D → List ℕ → ScriptHostState D → List ℕ → Type 0
-Answers files number line e text e2 text2 =
+-- the line of this number, while calls of the device had these faults
+abbrev pub Answers : {D : Type 0} → Files → ℕ → List ℕ → ScriptHostState D → List ℕ → ScriptHostState D → List ℕ → (faults : List ℕ)
+    → Type 0
+Answers files number line e text e2 text2 faults =
     (settings : Settings) (m : ScriptState) → ServesScript settings e m
-    → (replies : List Reply) × (m2 : ScriptState) × (more : List ℕ) × AnswersLine true settings files m number line replies m2
+    → (replies : List Reply) × (m2 : ScriptState) × (more : List ℕ) × AnswersLineAmid true settings files faults m number line replies m2
     × IsLineText settings number line m2 replies more × (text2 ≡ text ++ more) × ServesScript settings e2 m2
 
 -- a line of this number that asks for the command
-abbrev pub AnswersCommand : {D : Type 0} → Files → ℕ → Command → ScriptHostState D → List ℕ → ScriptHostState D → List ℕ → Type 0
-AnswersCommand files number command e text e2 text2 =
-    (line : List ℕ) → IsRead line → AsksCommand line command → Answers files number line e text e2 text2
+abbrev pub AnswersCommand : {D : Type 0} → Files → ℕ → Command → ScriptHostState D → List ℕ → ScriptHostState D → List ℕ
+    → (faults : List ℕ) → Type 0
+AnswersCommand files number command e text e2 text2 faults =
+    (line : List ℕ) → IsRead line → AsksCommand line command → Answers files number line e text e2 text2 faults

@@ -6,8 +6,8 @@ use Rattle.std.specs.Io.KnownBytes.{prepend_known, Consumes, IsAtEnd}
 use Rattle.wh_script.specs.declared.lines.Lines.{Lines}
 use Rattle.wh_script.specs.declared.lines.Line.{Line}
 use Rattle.wh_script.specs.declared.lines.Line.TheVariants.{Kept, TooLong, Skipped, End}
-use Rattle.wh_engine.specs.declared.fault.ScriptFault.{ScriptFault}
-use Rattle.wh_engine.specs.declared.fault.ScriptFault.TheVariants.{Script}
+use Rattle.wh_script.specs.declared.fault.ScriptFault.{ScriptFault}
+use Rattle.wh_script.specs.declared.fault.ScriptFault.TheVariants.{Script}
 use Rattle.wh_script_model.specs.Lines.{lines_of, is_skipped, longest_line}
 
 -- what lies unread in the chunk

@@ -7,8 +7,8 @@ use Rattle.wh_script_model.specs.Texts.{Reply}
 use Rattle.wh_script_model.specs.ScriptState.{ScriptState, empty_script, SomeCallIsOpen}
 use Rattle.wh_script_model.specs.Drains.{Drains}
 use Rattle.wh_script_model.specs.Answers.{Files, AnswersLine, AnswersLines, AnswersScript, replies_text}
-use Rattle.wh_engine.specs.declared.fault.ScriptFault.{ScriptFault}
-use Rattle.wh_engine.specs.declared.fault.ScriptFault.TheVariants.{Script, Output, Memory, Threads, Transcript}
+use Rattle.wh_script.specs.declared.fault.ScriptFault.{ScriptFault}
+use Rattle.wh_script.specs.declared.fault.ScriptFault.TheVariants.{Script, Output, Memory, Threads, Transcript}
 use Rattle.wh_script.specs.Speaking.{AsksScan, IsLineText}
 
 -- ---- lines
@@ -119,4 +119,3 @@ Runs settings files script left before after (Err Memory) = StopsBetween setting
 Runs settings files script left before after (Err Threads) =
     StopsAtCalls settings files script before after ⊎ StopsAtScan settings files script before after
 Runs settings files script left before after (Err Transcript) = StopsAtCalls settings files script before after
-Runs settings files script left before after (Err fault) = ⊥

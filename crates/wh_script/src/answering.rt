@@ -4,20 +4,21 @@ ghost use Rattle.std.specs.Prelude.{◌≡◌, ℕ, List, [], OnOk, IfErr, strin
 ghost use Rattle.wh_script_model.specs.Answers.{Files};
 ghost use Rattle.wh_script_model.specs.Commands as asked_of;
 ghost use Rattle.wh_commands.specs.ParsedCommands.{Says};
-ghost use Rattle.wh_engine.specs.Draining.{DeviceMayFail, DeviceServesWell, DeviceStaysTrue, StopsOnlyOpen, StopsOpenOr, StopsRun};
+ghost use Rattle.wh_engine.specs.Draining.{DeviceHoldsAmid, DeviceMayFail, DeviceStaysTrue, StopsOnlyOpen, StopsOpenOr};
 ghost use Rattle.wh_script.specs.Answering.{Answers, AnswersCommand};
 ghost use Rattle.wh_script.specs.Coming.{IsKind};
 ghost use Rattle.wh_script.specs.Speaking.{AsksScan};
 
 use crate::files::Source;
+use crate::line_error::LineError;
 use crate::lines::Line;
 use crate::session::Session;
 use std::sync::Wait;
 use std::sync::ledger::Ledger;
 use std::thread::Threads;
 use wh_cell::CellAgreements;
-use wh_commands::{Command, LineError, parse};
-use wh_engine::ScriptFault;
+use wh_commands::{Command, parse};
+use wh_engine::RunFault;
 use wh_swap::SwapDev;
 
 impl<
@@ -40,17 +41,17 @@ impl<
         kind: Line,
         held: &[u8],
         number: u64,
-    ) -> Result<(), ScriptFault>
+    ) -> Result<(), RunFault>
         ensures config { self.new.config ≡ self.old.config }
         ensures device { DeviceStaysTrue D.keeps D.honest self.old.script_host.host.device
             self.new.script_host.host.device }
         ensures faults { DeviceMayFail D.faults self.old.script_host.host.device
             self.new.script_host.host.device }
-        ensures answers { OnOk result (DeviceServesWell D.honest D.faults
-            self.old.script_host.host.device self.new.script_host.host.device → (line : List ℕ)
-            → IsKind kind held.now line → Answers (S.files source.now) number line
-            self.old.script_host [] self.new.script_host (string_bytes self.new.text)) }
-        ensures err { IfErr result StopsRun }
+        ensures answers { OnOk result (DeviceHoldsAmid D.honest D.faults
+            self.old.script_host.host.device self.new.script_host.host.device
+            (λ met. (line : List ℕ) → IsKind kind held.now line → Answers (S.files source.now)
+            number line self.old.script_host [] self.new.script_host (string_bytes self.new.text)
+            met)) }
         ensures open { IfErr result (λ fault. (line : List ℕ) → IsKind kind held.now line
             → StopsOpenOr (AsksScan line) self.old.script_host fault) }
     {
@@ -60,7 +61,7 @@ impl<
             Line::TooLong => self.complain_drained(rt, LineError::Syntax, number),
             Line::Kept => match parse(self.alloc, held) {
                 Ok(command) => self.command(rt, source, command, number),
-                Err(error) => self.complain_drained(rt, error, number),
+                Err(error) => self.complain_drained(rt, LineError::from(error), number),
             },
         }
     }
@@ -75,18 +76,17 @@ impl<
         source: &S,
         command: Command<'_>,
         number: u64,
-    ) -> Result<(), ScriptFault>
+    ) -> Result<(), RunFault>
         ensures config { self.new.config ≡ self.old.config }
         ensures device { DeviceStaysTrue D.keeps D.honest self.old.script_host.host.device
             self.new.script_host.host.device }
         ensures faults { DeviceMayFail D.faults self.old.script_host.host.device
             self.new.script_host.host.device }
-        ensures answers { OnOk result (DeviceServesWell D.honest D.faults
+        ensures answers { OnOk result (DeviceHoldsAmid D.honest D.faults
             self.old.script_host.host.device self.new.script_host.host.device
-            → (asked : asked_of.Command) → Says command.entry asked → AnswersCommand
+            (λ met. (asked : asked_of.Command) → Says command.entry asked → AnswersCommand
             (S.files source.now) number asked self.old.script_host (string_bytes self.old.text)
-            self.new.script_host (string_bytes self.new.text)) }
-        ensures err { IfErr result StopsRun }
+            self.new.script_host (string_bytes self.new.text) met)) }
         ensures open { IfErr result (StopsOpenOr (command.entry ≡ Command.Scan)
             self.old.script_host) }
     {
@@ -116,18 +116,17 @@ impl<
         fuel: u64,
         args: &[i128],
         number: u64,
-    ) -> Result<(), ScriptFault>
+    ) -> Result<(), RunFault>
         ensures config { self.new.config ≡ self.old.config }
         ensures device { DeviceStaysTrue D.keeps D.honest self.old.script_host.host.device
             self.new.script_host.host.device }
         ensures faults { DeviceMayFail D.faults self.old.script_host.host.device
             self.new.script_host.host.device }
-        ensures answers { OnOk result (DeviceServesWell D.honest D.faults
-            self.old.script_host.host.device self.new.script_host.host.device → (files : Files)
-            → AnswersCommand files number (asked_of.invoke inst.now export.now fuel args.now)
-            self.old.script_host (string_bytes self.old.text) self.new.script_host
-            (string_bytes self.new.text)) }
-        ensures err { IfErr result StopsRun }
+        ensures answers { OnOk result (DeviceHoldsAmid D.honest D.faults
+            self.old.script_host.host.device self.new.script_host.host.device
+            (λ met. (files : Files) → AnswersCommand files number
+            (asked_of.invoke inst.now export.now fuel args.now) self.old.script_host
+            (string_bytes self.old.text) self.new.script_host (string_bytes self.new.text) met)) }
         ensures open { IfErr result (StopsOnlyOpen self.old.script_host) }
     {
         let Some(instance) = self.script_host.instance_number(inst) else {

@@ -2,13 +2,15 @@
 #![tactic(auto)]
 
 mod answering;
+mod fault;
 mod files;
+mod line_error;
 mod lines;
 mod obeying;
 mod run;
 mod session;
 mod writing;
 
+pub use fault::ScriptFault;
 pub use files::{FileError, Source};
 pub use run::run_script;
-pub use wh_engine::ScriptFault;

@@ -6,10 +6,10 @@ ghost use Rattle.std.specs.List.{All};
 ghost use Rattle.std.specs.Io.KnownBytes.{Consumes, Keeps, IsAtEnd};
 ghost use Rattle.wh_script.specs.Coming.{unread, coming, IsInChunk, Holds, TakesPiece, IsKind, ReadsLine, FailsAt};
 
+use crate::fault::ScriptFault;
 use memchr::memchr;
 use std::alloc::Global;
 use std::io::{ErrorKind, Read};
-use wh_engine::ScriptFault;
 
 /// The greatest length of a line, in bytes without its newline.
 pub const LONGEST_LINE: usize = 2200000;

@@ -4,20 +4,23 @@ ghost use Rattle.std.specs.Prelude.{◌≡◌, ◌++◌, ℕ, List, None, OnOk, 
 ghost use Rattle.wh_script_model.specs.Answers.{BringsBytes, Files, NamesModule};
 ghost use Rattle.wh_script_model.specs.Commands as asked_of;
 ghost use Rattle.wh_script_model.specs.Texts.{release_ok, reply_text};
-ghost use Rattle.wh_commands.specs.ParsedCommands.{Says, params_of};
-ghost use Rattle.wh_engine.specs.Draining.{StaysSo, StopsScan};
+ghost use Rattle.wh_commands.specs.ParsedCommands.{Says};
+ghost use Rattle.wh_params.specs.View.{view_params};
+ghost use Rattle.wh_engine.specs.Draining.{StaysSo, StopsServing};
 ghost use Rattle.wh_names.specs.NamePlaces.{place_of_name};
 ghost use Rattle.wh_script.specs.Answering.{AddsReport, IsNoInvoke, Obeys};
 
 use crate::files::{FileError, Source};
+use crate::line_error::LineError;
 use crate::session::Session;
 use std::sync::Wait;
 use std::sync::ledger::Ledger;
 use std::thread::Threads;
 use wh_cell::CellAgreements;
-use wh_commands::{AdmitParams, Command, LineError};
-use wh_engine::ScriptFault;
+use wh_commands::Command;
+use wh_engine::RunFault;
 use wh_kernels::{ConstantHash, FnvHash};
+use wh_params::Params;
 use wh_replies::{Reply, write_released, write_report};
 use wh_settings::HashKind;
 use wh_swap::SwapDev;
@@ -30,7 +33,7 @@ impl<
     E: Ledger + Send + 'static,
     B: CellAgreements + Send + 'static,
 > Session<D, T, C, O, E, B> {
-    /// Appends the reply to a command. A call is requested elsewhere, since it is accepted before all calls have run.
+    /// Appends the reply to a command. A call is requested without: its line is printed at the next drain.
     ///
     /// # Errors
     /// `Memory` where room for the reply is refused, and for a scan also where room for its thread is, or `Threads` where that
@@ -41,14 +44,14 @@ impl<
         source: &S,
         command: Command<'_>,
         number: u64,
-    ) -> Result<(), ScriptFault>
+    ) -> Result<(), RunFault>
         ensures obeys { OnOk result ((asked : asked_of.Command) → Says command.entry asked
             → IsNoInvoke asked → Obeys (S.files source.now) number asked self.old.script_host
             (string_bytes self.old.text) self.new.script_host (string_bytes self.new.text)) }
         ensures config { self.new.config ≡ self.old.config }
         ensures device { self.new.script_host.host.device ≡ self.old.script_host.host.device }
-        ensures err { IfErr result StopsScan }
-        ensures threads { IfErr result (λ e. e ≡ ScriptFault.Threads
+        ensures err { IfErr result StopsServing }
+        ensures threads { IfErr result (λ e. e ≡ RunFault.Threads
             → command.entry ≡ Command.Scan) }
     {
         match command {
@@ -59,7 +62,13 @@ impl<
                 module,
                 given,
             } => self.admit(inst, module, given, number),
-            Command::Drain | Command::Invoke { .. } => Ok(()),
+            Command::Invoke {
+                inst,
+                export,
+                fuel,
+                args,
+            } => self.request(inst, export, fuel, &args, number),
+            Command::Drain => Ok(()),
             Command::Refuel { inst, fuel } => self.refuel(inst, fuel, number),
             Command::Cancel { inst } => self.cancel(inst, number),
             Command::Retry { inst } => self.retry(inst, number),
@@ -70,18 +79,43 @@ impl<
     }
 
     /// `module NAME HEX`.
-    fn module(&mut self, name: &str, bytes: &[u8], number: u64) -> Result<(), ScriptFault>
+    fn module(&mut self, name: &str, bytes: &[u8], number: u64) -> Result<(), RunFault>
         ensures obeys { OnOk result ((files : Files) → Obeys files number
             (asked_of.keep name.now bytes.now) self.old.script_host (string_bytes self.old.text)
             self.new.script_host (string_bytes self.new.text)) }
         ensures config { self.new.config ≡ self.old.config }
         ensures device { self.new.script_host.host.device ≡ self.old.script_host.host.device }
-        ensures err { IfErr result (λ e. e ≡ ScriptFault.Memory) }
+        ensures err { IfErr result (λ e. e ≡ RunFault.Memory) }
     {
         if self.script_host.module_number(name).is_some() {
             return self.complain(LineError::NameTaken, number);
         }
         self.keep(name, bytes, number)
+    }
+
+    /// `invoke INST EXPORT FUEL [ARG ..]`.
+    fn request(
+        &mut self,
+        inst: &str,
+        export: &str,
+        fuel: u64,
+        args: &[i128],
+        number: u64,
+    ) -> Result<(), RunFault>
+        ensures config { self.new.config ≡ self.old.config }
+        ensures device { self.new.script_host.host.device ≡ self.old.script_host.host.device }
+        ensures err { IfErr result (λ e. e ≡ RunFault.Memory) }
+    {
+        let Some(instance) = self.script_host.instance_number(inst) else {
+            return self.complain(LineError::NoName, number);
+        };
+        let asked = self
+            .script_host
+            .invoke(self.alloc, instance, export, fuel, args);
+        if asked.is_err() {
+            return self.complain(LineError::Memory, number);
+        }
+        Ok(())
     }
 
     /// `load NAME PATH`.
@@ -91,13 +125,13 @@ impl<
         name: &str,
         path: &str,
         number: u64,
-    ) -> Result<(), ScriptFault>
+    ) -> Result<(), RunFault>
         ensures obeys { OnOk result (Obeys (S.files source.now) number
             (asked_of.load name.now path.now) self.old.script_host (string_bytes self.old.text)
             self.new.script_host (string_bytes self.new.text)) }
         ensures config { self.new.config ≡ self.old.config }
         ensures device { self.new.script_host.host.device ≡ self.old.script_host.host.device }
-        ensures err { IfErr result (λ e. e ≡ ScriptFault.Memory) }
+        ensures err { IfErr result (λ e. e ≡ RunFault.Memory) }
     {
         if self.script_host.module_number(name).is_some() {
             return self.complain(LineError::NameTaken, number);
@@ -110,7 +144,7 @@ impl<
     }
 
     /// Keeps the module of `bytes` as `name`, which is free.
-    fn keep(&mut self, name: &str, bytes: &[u8], number: u64) -> Result<(), ScriptFault>
+    fn keep(&mut self, name: &str, bytes: &[u8], number: u64) -> Result<(), RunFault>
         requires free { place_of_name self.old.script_host.module_names name.now ≡ None }
         ensures obeys { OnOk result ((files : Files) (asked : asked_of.Command) → NamesModule asked
             name.now → BringsBytes files asked bytes.now → Obeys files number asked
@@ -118,7 +152,7 @@ impl<
             (string_bytes self.new.text)) }
         ensures config { self.new.config ≡ self.old.config }
         ensures device { self.new.script_host.host.device ≡ self.old.script_host.host.device }
-        ensures err { IfErr result (λ e. e ≡ ScriptFault.Memory) }
+        ensures err { IfErr result (λ e. e ≡ RunFault.Memory) }
     {
         match self.script_host.keep(self.alloc, name, bytes) {
             Ok(reply) => self.reply(reply),
@@ -127,19 +161,13 @@ impl<
     }
 
     /// `admit INST MODULE SHARES MIN MAX FUEL BASE SALT [INPUT ..]`.
-    fn admit(
-        &mut self,
-        inst: &str,
-        name: &str,
-        given: AdmitParams,
-        number: u64,
-    ) -> Result<(), ScriptFault>
+    fn admit(&mut self, inst: &str, name: &str, given: Params, number: u64) -> Result<(), RunFault>
         ensures obeys { OnOk result ((files : Files) → Obeys files number
-            (asked_of.admit inst.now name.now (params_of given)) self.old.script_host
+            (asked_of.admit inst.now name.now (view_params given)) self.old.script_host
             (string_bytes self.old.text) self.new.script_host (string_bytes self.new.text)) }
         ensures config { self.new.config ≡ self.old.config }
         ensures device { self.new.script_host.host.device ≡ self.old.script_host.host.device }
-        ensures err { IfErr result (λ e. e ≡ ScriptFault.Memory) }
+        ensures err { IfErr result (λ e. e ≡ RunFault.Memory) }
     {
         let Some(of) = self.script_host.module_number(name) else {
             return self.complain(LineError::NoName, number);
@@ -154,13 +182,13 @@ impl<
     }
 
     /// `refuel INST N`.
-    fn refuel(&mut self, inst: &str, fuel: u64, number: u64) -> Result<(), ScriptFault>
+    fn refuel(&mut self, inst: &str, fuel: u64, number: u64) -> Result<(), RunFault>
         ensures obeys { OnOk result ((files : Files) → Obeys files number
             (asked_of.refuel inst.now fuel) self.old.script_host (string_bytes self.old.text)
             self.new.script_host (string_bytes self.new.text)) }
         ensures config { self.new.config ≡ self.old.config }
         ensures device { self.new.script_host.host.device ≡ self.old.script_host.host.device }
-        ensures err { IfErr result (λ e. e ≡ ScriptFault.Memory) }
+        ensures err { IfErr result (λ e. e ≡ RunFault.Memory) }
     {
         let Some(instance) = self.script_host.instance_number(inst) else {
             return self.complain(LineError::NoName, number);
@@ -170,13 +198,13 @@ impl<
     }
 
     /// `cancel INST`.
-    fn cancel(&mut self, inst: &str, number: u64) -> Result<(), ScriptFault>
+    fn cancel(&mut self, inst: &str, number: u64) -> Result<(), RunFault>
         ensures obeys { OnOk result ((files : Files) → Obeys files number (asked_of.cancel inst.now)
             self.old.script_host (string_bytes self.old.text) self.new.script_host
             (string_bytes self.new.text)) }
         ensures config { self.new.config ≡ self.old.config }
         ensures device { self.new.script_host.host.device ≡ self.old.script_host.host.device }
-        ensures err { IfErr result (λ e. e ≡ ScriptFault.Memory) }
+        ensures err { IfErr result (λ e. e ≡ RunFault.Memory) }
     {
         let Some(instance) = self.script_host.instance_number(inst) else {
             return self.complain(LineError::NoName, number);
@@ -186,13 +214,13 @@ impl<
     }
 
     /// `retry INST`.
-    fn retry(&mut self, inst: &str, number: u64) -> Result<(), ScriptFault>
+    fn retry(&mut self, inst: &str, number: u64) -> Result<(), RunFault>
         ensures obeys { OnOk result ((files : Files) → Obeys files number (asked_of.retry inst.now)
             self.old.script_host (string_bytes self.old.text) self.new.script_host
             (string_bytes self.new.text)) }
         ensures config { self.new.config ≡ self.old.config }
         ensures device { self.new.script_host.host.device ≡ self.old.script_host.host.device }
-        ensures err { IfErr result (λ e. e ≡ ScriptFault.Memory) }
+        ensures err { IfErr result (λ e. e ≡ RunFault.Memory) }
     {
         let Some(instance) = self.script_host.instance_number(inst) else {
             return self.complain(LineError::NoName, number);
@@ -202,25 +230,25 @@ impl<
     }
 
     /// `scan`.
-    fn scan<X: Threads + Wait>(&mut self, rt: &X) -> Result<(), ScriptFault>
+    fn scan<X: Threads + Wait>(&mut self, rt: &X) -> Result<(), RunFault>
         ensures obeys { OnOk result ((files : Files) (number : ℕ) → Obeys files number asked_of.scan
             self.old.script_host (string_bytes self.old.text) self.new.script_host
             (string_bytes self.new.text)) }
         ensures config { self.new.config ≡ self.old.config }
         ensures device { self.new.script_host.host.device ≡ self.old.script_host.host.device }
-        ensures err { IfErr result StopsScan }
+        ensures err { IfErr result StopsServing }
     {
         self.offer_pages(rt)?;
         self.reply(Reply::ScanOk)
     }
 
     // Offers all pages for sharing, each under its hash.
-    fn offer_pages<X: Threads + Wait>(&mut self, rt: &X) -> Result<(), ScriptFault>
+    fn offer_pages<X: Threads + Wait>(&mut self, rt: &X) -> Result<(), RunFault>
         ensures stands { StaysSo self.old.script_host self.new.script_host }
         ensures config { self.new.config ≡ self.old.config }
         ensures device { self.new.script_host.host.device ≡ self.old.script_host.host.device }
         ensures text { self.new.text ≡ self.old.text }
-        ensures err { IfErr result StopsScan }
+        ensures err { IfErr result StopsServing }
     {
         match self.config.hash {
             HashKind::Fnv64 => self.script_host.scan(rt, self.alloc, FnvHash),
@@ -229,7 +257,7 @@ impl<
     }
 
     /// `report`.
-    fn report(&mut self) -> Result<(), ScriptFault>
+    fn report(&mut self) -> Result<(), RunFault>
         ensures obeys { OnOk result ((files : Files) (number : ℕ) → Obeys files number
             asked_of.report self.old.script_host (string_bytes self.old.text) self.new.script_host
             (string_bytes self.new.text)) }
@@ -237,25 +265,25 @@ impl<
             (string_bytes self.new.text)) }
         ensures config { self.new.config ≡ self.old.config }
         ensures device { self.new.script_host.host.device ≡ self.old.script_host.host.device }
-        ensures err { IfErr result (λ e. e ≡ ScriptFault.Memory) }
+        ensures err { IfErr result (λ e. e ≡ RunFault.Memory) }
     {
         let Ok(report) = self.script_host.host().host().report(self.alloc) else {
-            return Err(ScriptFault::Memory);
+            return Err(RunFault::Memory);
         };
         let Ok(()) = write_report(&mut self.text, &report) else {
-            return Err(ScriptFault::Memory);
+            return Err(RunFault::Memory);
         };
         Ok(())
     }
 
     /// `release INST`.
-    fn release(&mut self, inst: &str, number: u64) -> Result<(), ScriptFault>
+    fn release(&mut self, inst: &str, number: u64) -> Result<(), RunFault>
         ensures obeys { OnOk result ((files : Files) → Obeys files number
             (asked_of.release inst.now) self.old.script_host (string_bytes self.old.text)
             self.new.script_host (string_bytes self.new.text)) }
         ensures config { self.new.config ≡ self.old.config }
         ensures device { self.new.script_host.host.device ≡ self.old.script_host.host.device }
-        ensures err { IfErr result (λ e. e ≡ ScriptFault.Memory) }
+        ensures err { IfErr result (λ e. e ≡ RunFault.Memory) }
     {
         let Some(instance) = self.script_host.instance_number(inst) else {
             return self.complain(LineError::NoName, number);
@@ -270,14 +298,14 @@ impl<
     }
 
     /// Appends the reply to a release.
-    fn print_released(&mut self, inst: &str, output: &[u8]) -> Result<(), ScriptFault>
+    fn print_released(&mut self, inst: &str, output: &[u8]) -> Result<(), RunFault>
         ensures printed { OnOk result (string_bytes self.new.text
             ≡ string_bytes self.old.text ++ reply_text (release_ok inst.now output.now)) }
         ensures script_host { self.new.script_host ≡ self.old.script_host }
         ensures config { self.new.config ≡ self.old.config }
         ensures device { self.new.script_host.host.device ≡ self.old.script_host.host.device }
-        ensures err { IfErr result (λ e. e ≡ ScriptFault.Memory) }
+        ensures err { IfErr result (λ e. e ≡ RunFault.Memory) }
     {
-        write_released(self.alloc, &mut self.text, inst, output).map_err(|_| ScriptFault::Memory)
+        write_released(self.alloc, &mut self.text, inst, output).map_err(|_| RunFault::Memory)
     }
 }

@@ -1,14 +1,17 @@
 //! A script from its first line to its last.
 
-ghost use Rattle.std.specs.Prelude.{◌≡◌, ◌<◌, IfSome};
+ghost use Rattle.std.specs.Prelude.{◌≡◌, [], IfSome, MatchOption};
+ghost use Rattle.wh_cell.specs.Ledgers.{HasLedgers};
 ghost use Rattle.wh_settings.specs.View.{settings_of};
-ghost use Rattle.wh_engine.specs.Draining.{DeviceMayFail, DeviceServesWell, DeviceStaysTrue, HasAdded, HasServed, StaysTrue};
+ghost use Rattle.wh_engine.specs.Draining.{DeviceHoldsAmid, DeviceMayFail, DeviceStaysTrue, HasAdded, HasServed, HoldsAmid, StaysTrue};
 ghost use Rattle.wh_engine.specs.RepresentedScript.{RepresentsScript};
 ghost use Rattle.wh_script_model.specs.ScriptState.{empty_script};
 ghost use Rattle.wh_script_model.specs.Settings as lines;
+ghost use Rattle.wh_script.specs.FailingRuns.{ScriptRunsAmid};
 ghost use Rattle.wh_script.specs.Runs.{Runs};
 ghost use Rattle.wh_script.specs.Starting.{IsEmptyDevice};
 
+use crate::fault::ScriptFault;
 use crate::files::Source;
 use crate::lines::{Line, Lines};
 use crate::session::Session;
@@ -20,7 +23,6 @@ use std::sync::Wait;
 use std::sync::ledger::Ledger;
 use std::thread::Threads;
 use wh_cell::{CellAgreements, CellParts};
-use wh_engine::ScriptFault;
 use wh_settings::{Settings, Workers};
 use wh_swap::SwapDev;
 
@@ -58,6 +60,13 @@ pub fn run_script<
         (D.faults after)) → Runs (settings_of settings.now) (S.files source.now)
         (R.remaining reader.old) (R.remaining reader.new) (W.contents writer.old)
         (W.contents writer.new) result.0 }
+    // Where calls of it did fail, so it is still, but that a call may stand for such a fault until it is tried again.
+    ensures amid { MatchOption result.1 (ScriptRunsAmid (settings_of settings.now)
+        (S.files source.now) [] (R.remaining reader.old) (R.remaining reader.new)
+        (W.contents writer.old) (W.contents writer.new) result.0) (λ after. HoldsAmid
+        (D.honest after) (D.faults device) (D.faults after) (λ met. ScriptRunsAmid
+        (settings_of settings.now) (S.files source.now) met (R.remaining reader.old)
+        (R.remaining reader.new) (W.contents writer.old) (W.contents writer.new) result.0)) }
     ensures faults { IfSome result.1 (λ after. HasAdded (D.faults device) (D.faults after)) }
     ensures device { IfSome result.1 (λ after. StaysTrue (D.keeps device) (D.honest device)
         (D.keeps after) (D.honest after)) }
@@ -95,18 +104,14 @@ fn run_on_cell_parts<
     requires empty { IsEmptyDevice settings.now.slots (D.held cell_parts.device) }
     requires owned { cell_parts.to_owner ≡ B.to_owner }
     requires backed { cell_parts.to_device ≡ B.to_device }
-    requires turns { (cell_parts.turns.name ≡ T.name) × (cell_parts.turns.parts ≡ T.parts)
-        × (64 < T.parts) }
-    requires charges { (cell_parts.charges.name ≡ C.name) × (cell_parts.charges.parts ≡ C.parts)
-        × (64 < C.parts) }
-    requires offers { (cell_parts.offers.name ≡ O.name) × (cell_parts.offers.parts ≡ O.parts)
-        × (1 < O.parts) }
-    requires evictions { (cell_parts.evictions.name ≡ E.name)
-        × (cell_parts.evictions.parts ≡ E.parts) × (1 < E.parts) }
-    ensures runs { let device = cell_parts.device in IfSome result.1 (λ after. HasServed
-        (D.honest after) (D.faults device) (D.faults after)) → Runs (settings_of settings.now)
-        (S.files source.now) (R.remaining reader.old) (R.remaining reader.new)
-        (W.contents writer.old) (W.contents writer.new) result.0 }
+    requires ledgers { HasLedgers T.Ledger C.Ledger O.Ledger E.Ledger cell_parts }
+    ensures amid { let device = cell_parts.device in MatchOption result.1 (ScriptRunsAmid
+        (settings_of settings.now) (S.files source.now) [] (R.remaining reader.old)
+        (R.remaining reader.new) (W.contents writer.old) (W.contents writer.new) result.0)
+        (λ after. HoldsAmid (D.honest after) (D.faults device) (D.faults after)
+        (λ met. ScriptRunsAmid (settings_of settings.now) (S.files source.now) met
+        (R.remaining reader.old) (R.remaining reader.new) (W.contents writer.old)
+        (W.contents writer.new) result.0)) }
     ensures faults { let device = cell_parts.device in
         IfSome result.1 (λ after. HasAdded (D.faults device) (D.faults after)) }
     ensures device { let device = cell_parts.device in
@@ -118,7 +123,7 @@ fn run_on_cell_parts<
             let outcome = session.run_lines(rt, source, reader, writer);
             (outcome, Some(session.into_device()))
         }
-        Err(fault) => (Err(fault), None),
+        Err(_) => (Err(ScriptFault::Memory), None),
     }
 }
 
@@ -141,11 +146,11 @@ impl<
         reader: &mut R,
         writer: &mut W,
     ) -> Result<(), ScriptFault>
-        ensures runs { (settings : lines.Settings) → RepresentsScript settings self.old.script_host
-            empty_script → DeviceServesWell D.honest D.faults self.old.script_host.host.device
-            self.new.script_host.host.device → Runs settings (S.files source.now)
-            (R.remaining reader.old) (R.remaining reader.new) (W.contents writer.old)
-            (W.contents writer.new) result }
+        ensures amid { (settings : lines.Settings) → RepresentsScript settings self.old.script_host
+            empty_script → DeviceHoldsAmid D.honest D.faults self.old.script_host.host.device
+            self.new.script_host.host.device (λ met. ScriptRunsAmid settings (S.files source.now)
+            met (R.remaining reader.old) (R.remaining reader.new) (W.contents writer.old)
+            (W.contents writer.new) result) }
         ensures faults { DeviceMayFail D.faults self.old.script_host.host.device
             self.new.script_host.host.device }
         ensures config { self.new.config ≡ self.old.config }

@@ -1,25 +1,26 @@
 // What a script runs on, and the text of the replies to one line.
 
-ghost use Rattle.std.specs.Prelude.{◌≡◌, ◌<◌, ◌≤◌, ◌++◌, ◌∷◌, [], IfOk, IfErr, IfSome, OnOk, MatchOption, Some, string_bytes};
-ghost use Rattle.wh_commands.specs.Causes.{cause_number};
+ghost use Rattle.std.specs.Prelude.{◌≡◌, ◌⊎◌, ◌≤◌, ◌++◌, ◌∷◌, [], IfOk, IfErr, IfSome, OnOk, MatchOption, Some, string_bytes};
+ghost use Rattle.wh_cell.specs.Ledgers.{HasLedgers};
 ghost use Rattle.wh_script_model.specs.ScriptState.{ScriptState, LacksInstance, NoModule, empty_script};
 ghost use Rattle.wh_script_model.specs.Settings as lines;
 ghost use Rattle.wh_script_model.specs.Texts.{error, reply_text};
 ghost use Rattle.wh_replies.specs.View.{reply_of};
 ghost use Rattle.wh_settings.specs.View.{settings_of};
-ghost use Rattle.wh_engine.specs.Draining.{DeviceMayFail, DeviceServesWell, DeviceStaysTrue, RunsEach, RunsTurns, StopsOnlyOpen, StopsRun};
+ghost use Rattle.wh_engine.specs.Draining.{AllRest, DeviceHoldsAmid, DeviceMayFail, DeviceStaysTrue, RunsEach, RunsTurns, StopsOnlyOpen, WasOpen};
 ghost use Rattle.wh_engine.specs.Obeying.{IsModuleNamed, IsNamed};
 ghost use Rattle.wh_engine.specs.RepresentedScript.{RepresentsScript};
 ghost use Rattle.wh_script.specs.Answering.{HasDrained, Complains};
+ghost use Rattle.wh_script.specs.Causes.{cause_number};
 ghost use Rattle.wh_script.specs.Starting.{IsEmptyDevice};
 
-use std::alloc::Global;
+use crate::line_error::LineError;
+use std::alloc::{AllocError, Global};
 use std::sync::Wait;
 use std::sync::ledger::Ledger;
 use std::thread::Threads;
 use wh_cell::{CellAgreements, CellParts};
-use wh_commands::LineError;
-use wh_engine::{ScriptFault, ScriptHost};
+use wh_engine::{RunFault, ScriptHost};
 use wh_host::Host;
 use wh_kernels::{ConstantHash, FnvHash};
 use wh_replies::{Reply, write_reply};
@@ -48,7 +49,6 @@ pub struct Session<D: SwapDev, T: Ledger, C: Ledger, O: Ledger, E: Ledger, B: Ce
     pub config: SessionConfig,
 }
 
-// Written out, so that letting one go is one call, and not one for each part of its parts.
 impl<D: SwapDev + Drop, T: Ledger, C: Ledger, O: Ledger, E: Ledger, B: CellAgreements> Drop
     for Session<D, T, C, O, E, B> {
     fn drop(self) {
@@ -72,40 +72,32 @@ impl<D: SwapDev + Drop, T: Ledger, C: Ledger, O: Ledger, E: Ledger, B: CellAgree
     /// Returns an empty script on a new host.
     ///
     /// # Errors
-    /// `Memory` where room is refused. The device is gone then.
+    /// Room is refused. The device is gone then.
     pub fn new(
         alloc: Global,
         settings: &Settings,
         workers: Workers,
         cell_parts: CellParts<D>,
-    ) -> Result<Session<D, T, C, O, E, B>, ScriptFault>
+    ) -> Result<Session<D, T, C, O, E, B>, AllocError>
         requires empty { IsEmptyDevice settings.now.slots (D.held cell_parts.device) }
         requires owned { cell_parts.to_owner ≡ B.to_owner }
         requires backed { cell_parts.to_device ≡ B.to_device }
-        requires turns { (cell_parts.turns.name ≡ T.name) × (cell_parts.turns.parts ≡ T.parts)
-            × (64 < T.parts) }
-        requires charges { (cell_parts.charges.name ≡ C.name) × (cell_parts.charges.parts ≡ C.parts)
-            × (64 < C.parts) }
-        requires offers { (cell_parts.offers.name ≡ O.name) × (cell_parts.offers.parts ≡ O.parts)
-            × (1 < O.parts) }
-        requires evictions { (cell_parts.evictions.name ≡ E.name)
-            × (cell_parts.evictions.parts ≡ E.parts) × (1 < E.parts) }
+        requires ledgers { HasLedgers T.Ledger C.Ledger O.Ledger E.Ledger cell_parts }
         ensures stands { IfOk result (λ session. RepresentsScript (settings_of settings.now)
             session.script_host empty_script) }
         ensures device { IfOk result (λ session. session.script_host.host.device ≡ Some
             cell_parts.device) }
         ensures config { IfOk result (λ session. (session.config.quantum ≡ settings.now.quantum)
             × (session.config.hash ≡ settings.now.hash) × (session.config.workers ≡ workers)) }
-        ensures err { IfErr result (λ e. e ≡ ScriptFault.Memory) }
     {
         let Ok(host) = Host::new(alloc, settings.frames, settings.slots, settings.tax) else {
-            return Err(ScriptFault::Memory);
+            return Err(AllocError);
         };
         let Ok(host) = OwnedHost::new(alloc, host, cell_parts) else {
-            return Err(ScriptFault::Memory);
+            return Err(AllocError);
         };
         let Ok(text) = String::with_capacity(alloc, LONGEST_REPLY) else {
-            return Err(ScriptFault::Memory);
+            return Err(AllocError);
         };
         Ok(Session {
             alloc,
@@ -159,28 +151,28 @@ impl<D: SwapDev, T: Ledger, C: Ledger, O: Ledger, E: Ledger, B: CellAgreements> 
     ///
     /// # Errors
     /// `Memory` where room for it is refused.
-    pub fn reply(&mut self, reply: Reply<'_>) -> Result<(), ScriptFault>
+    pub fn reply(&mut self, reply: Reply<'_>) -> Result<(), RunFault>
         ensures printed { OnOk result (string_bytes self.new.text
             ≡ string_bytes self.old.text ++ reply_text (reply_of reply.entry)) }
         ensures script_host { self.new.script_host ≡ self.old.script_host }
         ensures config { self.new.config ≡ self.old.config }
         ensures device { self.new.script_host.host.device ≡ self.old.script_host.host.device }
-        ensures err { IfErr result (λ e. e ≡ ScriptFault.Memory) }
+        ensures err { IfErr result (λ e. e ≡ RunFault.Memory) }
     {
-        write_reply(&mut self.text, reply).map_err(|_| ScriptFault::Memory)
+        write_reply(&mut self.text, reply).map_err(|_| RunFault::Memory)
     }
 
     /// Appends why the line `number` can't be obeyed.
     ///
     /// # Errors
     /// `Memory` where room for it is refused.
-    pub fn complain(&mut self, cause: LineError, number: u64) -> Result<(), ScriptFault>
+    pub fn complain(&mut self, cause: LineError, number: u64) -> Result<(), RunFault>
         ensures printed { OnOk result (string_bytes self.new.text
             ≡ string_bytes self.old.text ++ reply_text (error (cause_number cause) number)) }
         ensures script_host { self.new.script_host ≡ self.old.script_host }
         ensures config { self.new.config ≡ self.old.config }
         ensures device { self.new.script_host.host.device ≡ self.old.script_host.host.device }
-        ensures err { IfErr result (λ e. e ≡ ScriptFault.Memory) }
+        ensures err { IfErr result (λ e. e ≡ RunFault.Memory) }
     {
         self.reply(Reply::Error {
             cause: cause.number(),
@@ -206,42 +198,40 @@ impl<
     pub fn drain<X: Threads + Wait + Copy + Send + 'static>(
         &mut self,
         rt: X,
-    ) -> Result<(), ScriptFault>
+    ) -> Result<(), RunFault>
         ensures config { self.new.config ≡ self.old.config }
         ensures device { DeviceStaysTrue D.keeps D.honest self.old.script_host.host.device
             self.new.script_host.host.device }
         ensures faults { DeviceMayFail D.faults self.old.script_host.host.device
             self.new.script_host.host.device }
-        ensures drains { OnOk result (DeviceServesWell D.honest D.faults
-            self.old.script_host.host.device self.new.script_host.host.device → HasDrained
-            self.old.script_host (string_bytes self.old.text) self.new.script_host
-            (string_bytes self.new.text)) }
+        ensures drains { OnOk result (DeviceHoldsAmid D.honest D.faults
+            self.old.script_host.host.device self.new.script_host.host.device
+            (HasDrained self.old.script_host (string_bytes self.old.text) self.new.script_host
+            (string_bytes self.new.text))) }
         ensures turns { OnOk result (RunsTurns self.old.config.quantum
             self.old.script_host.host.books.turns self.new.script_host.host.books.turns) }
-        ensures err { IfErr result StopsRun }
         ensures open { IfErr result (StopsOnlyOpen self.old.script_host) }
     {
         self.run(rt)?;
-        let Ok(()) = self.script_host.print(&mut self.text) else {
-            return Err(ScriptFault::Memory);
-        };
-        Ok(())
+        self.script_host.print(&mut self.text)
     }
 
-    // Runs all calls until none can go on, in the manner of the settings.
-    fn run<X: Threads + Wait + Copy + Send + 'static>(&mut self, rt: X) -> Result<(), ScriptFault>
+    // Runs all calls, in the manner of the settings, until none can go on.
+    fn run<X: Threads + Wait + Copy + Send + 'static>(&mut self, rt: X) -> Result<(), RunFault>
         ensures config { self.new.config ≡ self.old.config }
         ensures device { DeviceStaysTrue D.keeps D.honest self.old.script_host.host.device
             self.new.script_host.host.device }
         ensures faults { DeviceMayFail D.faults self.old.script_host.host.device
             self.new.script_host.host.device }
-        ensures runs { OnOk result (DeviceServesWell D.honest D.faults
-            self.old.script_host.host.device self.new.script_host.host.device → RunsEach
-            self.old.script_host self.new.script_host) }
+        ensures runs { OnOk result (AllRest self.new.script_host.host.host
+            self.new.script_host.instances → DeviceHoldsAmid D.honest D.faults
+            self.old.script_host.host.device self.new.script_host.host.device
+            (RunsEach self.old.script_host self.new.script_host)) }
+        ensures begins { (self.new.script_host ≡ self.old.script_host)
+            ⊎ WasOpen self.old.script_host }
         ensures turns { OnOk result (RunsTurns self.old.config.quantum
             self.old.script_host.host.books.turns self.new.script_host.host.books.turns) }
         ensures text { self.new.text ≡ self.old.text }
-        ensures err { IfErr result StopsRun }
         ensures open { IfErr result (StopsOnlyOpen self.old.script_host) }
     {
         match self.config.hash {
@@ -265,17 +255,16 @@ impl<
         rt: X,
         cause: LineError,
         number: u64,
-    ) -> Result<(), ScriptFault>
+    ) -> Result<(), RunFault>
         ensures config { self.new.config ≡ self.old.config }
         ensures device { DeviceStaysTrue D.keeps D.honest self.old.script_host.host.device
             self.new.script_host.host.device }
         ensures faults { DeviceMayFail D.faults self.old.script_host.host.device
             self.new.script_host.host.device }
-        ensures complains { OnOk result (DeviceServesWell D.honest D.faults
-            self.old.script_host.host.device self.new.script_host.host.device → Complains
-            (error (cause_number cause) number) self.old.script_host (string_bytes self.old.text)
-            self.new.script_host (string_bytes self.new.text)) }
-        ensures err { IfErr result StopsRun }
+        ensures complains { OnOk result (DeviceHoldsAmid D.honest D.faults
+            self.old.script_host.host.device self.new.script_host.host.device
+            (Complains (error (cause_number cause) number) self.old.script_host
+            (string_bytes self.old.text) self.new.script_host (string_bytes self.new.text))) }
         ensures open { IfErr result (StopsOnlyOpen self.old.script_host) }
     {
         self.drain(rt)?;

@@ -3,8 +3,8 @@
 ghost use Rattle.std.specs.Prelude.{◌≡◌, IfErr};
 ghost use Rattle.wh_script.specs.Runs.{Sent};
 
+use crate::fault::ScriptFault;
 use std::io::{ErrorKind, Write};
-use wh_engine::ScriptFault;
 
 /// Writes all `bytes` at once. Where there are none the writer isn't touched.
 ///

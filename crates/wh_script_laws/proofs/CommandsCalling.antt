@@ -1,10 +1,9 @@
 -- A call that is asked of an instance.
-use Rattle.std.proofs.Common.{◌≡◌, ◌≢◌, ℕ, ℤ, true, List, [], ◌∷◌, ◌++◌, length, slice_get, Some, None, refl, sym, ap, subst, ◌∙◌, arith}
+use Rattle.std.proofs.Common.{◌≡◌, ℕ, ℤ, true, List, [], ◌∷◌, ◌++◌, length, slice_get, Some, None, refl, sym, ap, subst, ◌∙◌, arith}
 use Rattle.std.proofs.lemmas.Option.{same_Some}
 use Rattle.wh_model.specs.Format.Syntax.{FuncType, Body, Module}
-use Rattle.wh_host_model.specs.declared.plain.SwapError.{SwapError}
 use Rattle.wh_host_model.specs.Space.Parts.{Space}
-use Rattle.wh_host_model.specs.Host.Worlds.{for_device, Tenant, Loaded, World, journal, journal_calls, tenant, with_tenant}
+use Rattle.wh_host_model.specs.Host.Worlds.{Tenant, Loaded, World, journal, journal_calls, tenant, with_tenant}
 use Rattle.wh_host_model.specs.Owners.{Entry, new_entry}
 use Rattle.wh_host_model.specs.Host.OwnerCalls.{Meets, IsFirst, TakesCall, open_count}
 use Rattle.wh_host_model.specs.Owners.{ExportsOwn, InvokeFault, no_export, arguments, queue_full, instance_dead, journal_full, rank}
@@ -17,7 +16,7 @@ use Rattle.wh_script_model.specs.Receiving as receiving
 use Rattle.wh_script_model.specs.Receiving.{MeetsBar, MeetsNoBar, IsFirstBar, ReceivesCall}
 use Rattle.wh_script_model.specs.Served.{IsTenantOf}
 use Rattle.wh_host_model.proofs.Host.Holding.{journals_are_in_order}
-use Rattle.wh_script_laws.specs.Following.{Knows, StaysWhole}
+use Rattle.wh_script_laws.specs.Following.{Knows, StaysWhole, IsAtSameFault}
 use Rattle.wh_script_laws.specs.Replies.{invoke_outcome}
 use Rattle.wh_script_laws.specs.Laws.{CallsFollow}
 use Rattle.wh_script_laws.proofs.Journals.{ordered, open_behind_is, start_failed_is, calls_long, calls_last}
@@ -115,9 +114,9 @@ still_known outcome known = record {
 -- the calls with the new one
 called : {w : World} {m : Module} (t t2 : Tenant) (g : NamedInstance) (name : List ℕ) (given : List ℤ) (fuel at place : ℕ)
     (takes : TakesCall m w.space t name given fuel at t2) → IsTenantOf w t g → t.place ≡ place
-    → g.calls ≡ journal_calls (journal t) → ((fault : SwapError) → t.waiting_for ≢ Some (for_device fault))
+    → g.calls ≡ journal_calls (journal t) → IsAtSameFault g t
     → IsNext w g (record g { calls = g.calls ++ (new_entry takes.func takes.vs given fuel).call ∷ [] }) t2 place
-called {w = w} t t2 g name given fuel at place takes of_one lies same faultless =
+called {w = w} t t2 g name given fuel at place takes of_one lies same stands =
     let e : Entry = new_entry takes.func takes.vs given fuel in
     let t3 : Tenant = record t { doing = takes.doing; open_calls = t.open_calls ++ e ∷ [] } in
     let calls = g.calls ++ e.call ∷ [] in
@@ -126,23 +125,23 @@ called {w = w} t t2 g name given fuel at place takes of_one lies same faultless 
     (record {
       params = refl;
       gone = refl;
-      of_one = tenant_calls w t t3 g calls of_one refl refl refl after;
+      of_one = tenant_calls w t t3 g calls g.at_fault of_one refl refl refl after;
       calls = after;
-      none = faultless;
+      stands = stands;
       lies = lies;
     })
 
 called_so : {settings : Settings} {w : World} {m : ScriptState} {places : List ℕ} (i place : ℕ) (g : NamedInstance) (t t2 : Tenant) (l : Loaded)
     (name : List ℕ) (given : List ℤ) (fuel at : ℕ) → Knows settings w m places → slice_get m.instances i ≡ Some g
     → slice_get places i ≡ Some place → IsTenantOf w t g → t.place ≡ place → g.calls ≡ journal_calls (journal t)
-    → ((fault : SwapError) → t.waiting_for ≢ Some (for_device fault)) → IsAlike l.m t g
+    → IsAtSameFault g t → IsAlike l.m t g
     → TakesCall l.m w.space t name given fuel at t2 → StaysWhole w.space w.space
     → Receives settings m places i g name given fuel (happen.invoke_ok at) (with_tenant w i (Some t2) w.space)
-called_so {settings} {w} {m} {places} i place g t t2 l name given fuel at known has lies of_one here same faultless both takes whole =
+called_so {settings} {w} {m} {places} i place g t t2 l name given fuel at known has lies of_one here same stands both takes whole =
     let g2 : NamedInstance = record g { calls = g.calls ++ (new_entry takes.func takes.vs given fuel).call ∷ [] } in
     let w2 : World = with_tenant w i (Some t2) w.space in
     let now = changed i place g g2 t2 w.space known has lies whole refl refl
-    (called t t2 g name given fuel at place takes of_one here same faultless) in
+    (called t t2 g name given fuel at place takes of_one here same stands) in
     let behind : length g.calls ≡ at = both.long ∙ sym takes.place in (
       with_invoked (with_instance m i g2) (call_accepted i (length g.calls)),
       receiving.is_invoked takes.vs of_one.is_live
@@ -165,16 +164,16 @@ call_received {w = w} i place g name given fuel answer known has lies orders (fo
     (happen.isnt_invoked {t = u} live l first) whole = absurd (not_live w i place u at live)
 call_received {w = w} i place g name given fuel answer known has lies orders (found_gone at gone)
     (happen.no_memory_to_invoke {t = u} live l none) whole = absurd (not_live w i place u at live)
-call_received {w = w} i place g name given fuel answer known has lies orders (found_live t at here of_one same faultless)
+call_received {w = w} i place g name given fuel answer known has lies orders (found_live t at here of_one same stands)
     (happen.is_invoked {t = u} {t2 = t2} {l = l} {at = n} live loaded takes) whole =
     let one = live_same w i place t u here live in
     let loaded2 = ap (λ (x : Tenant). slice_get w.modules x.of) one ∙ loaded in
-    called_so i place g t t2 l name given fuel n known has lies of_one here.1 same faultless
+    called_so i place g t t2 l name given fuel n known has lies of_one here.1 same stands
     (alike w t g l (orders t here.0) of_one same loaded2)
     (subst (λ x. TakesCall l.m w.space x name given fuel n t2) (sym one) takes) whole
-call_received {w = w} i place g name given fuel answer known has lies orders (found_live t at here of_one same faultless)
+call_received {w = w} i place g name given fuel answer known has lies orders (found_live t at here of_one same stands)
     (happen.has_no_instance none) whole = absurd (none t here)
-call_received {w = w} {m = m} i place g name given fuel answer known has lies orders (found_live t at here of_one same faultless)
+call_received {w = w} {m = m} i place g name given fuel answer known has lies orders (found_live t at here of_one same stands)
     (happen.isnt_invoked {t = u} {l = l} {fault = fault} live loaded first) whole =
     let one = live_same w i place t u here live in
     let loaded2 = ap (λ (x : Tenant). slice_get w.modules x.of) one ∙ loaded in
@@ -185,7 +184,7 @@ call_received {w = w} {m = m} i place g name given fuel answer known has lies or
       refl,
       still_known (call_rejected (rank fault)) known,
     )
-call_received {w = w} {m = m} i place g name given fuel answer known has lies orders (found_live t at here of_one same faultless)
+call_received {w = w} {m = m} i place g name given fuel answer known has lies orders (found_live t at here of_one same stands)
     (happen.no_memory_to_invoke {t = u} {l = l} live loaded none) whole =
     let one = live_same w i place t u here live in
     let loaded2 = ap (λ (x : Tenant). slice_get w.modules x.of) one ∙ loaded in

@@ -24,27 +24,27 @@ use Rattle.wh_script_model.specs.Answers as answers
 use Rattle.wh_script_model.specs.Answers.{Files, IsObeyed}
 use Rattle.wh_script_model.specs.Served.{IsTenantOf}
 use Rattle.wh_host_model.proofs.Host.Holding.{memory_is_sound, places_are_right, instances_replay, journals_are_in_order}
-use Rattle.wh_script_laws.specs.Following.{AreSame, IsFollowed, is_gone, IsPlaced, Knows, StaysWhole}
+use Rattle.wh_script_laws.specs.Following.{AreSame, IsFollowed, is_gone, IsPlaced, Knows, StaysWhole, IsAtSameFault}
 use Rattle.wh_script_laws.specs.Replies.{cancel_reply, release_reply}
 use Rattle.wh_script_laws.specs.Laws.{CancelsFollow, ReleasesFollow}
 use Rattle.wh_script_laws.proofs.Journals.{ordered, none_open, first_is, cancelled_next, cancelled_start}
 use Rattle.wh_script_laws.proofs.SumsChange.{minima_same, spreads_same, minima_less, spreads_less}
-use Rattle.wh_script_laws.proofs.CommandsKnown.{never_faulty, IsFound, found_gone, found_live, found, live_same, not_live, IsNext, tenant_calls, changed, zip_map, zip_set, zip_over, sum_goes, followed_there, quiet_before, quiet_after}
+use Rattle.wh_script_laws.proofs.CommandsKnown.{IsFound, found_gone, found_live, found, live_same, not_live, IsNext, tenant_calls, changed, zip_map, zip_set, zip_over, sum_goes, followed_there, quiet_before, quiet_after}
 
 -- ---- a call that is cancelled
 
 closed_next : (w : World) {m : Module} (s2 : Space) (t t2 : Tenant) (g : NamedInstance) (e : Entry) (es : List Entry)
     (place : ℕ) → IsTenantOf w t g → t.place ≡ place → g.calls ≡ journal_calls (t.ended ++ e ∷ es)
     → InOrder m t.inst t.dead t.ended (e ∷ es) → Closes s2 t (ended_by e cancelled) es t.rest t2
-    → IsNext w g (record g { calls = cancel_first g.calls }) t2 place
+    → IsNext w g (record g { calls = cancel_first g.calls; at_fault = None }) t2 place
 closed_next w s2 t t2 g e es place of_one at calls order (faces_next alive faces) =
     let after = ap cancel_first calls ∙ cancelled_next order alive in
     record {
       params = refl;
       gone = refl;
-      of_one = tenant_calls w t t2 g (cancel_first g.calls) of_one refl refl refl after;
+      of_one = tenant_calls w t t2 g (cancel_first g.calls) None of_one refl refl refl after;
       calls = after;
-      none = never_faulty;
+      stands = refl;
       lies = at;
     }
 closed_next w s2 t t2 g e es place of_one at calls order (is_dead died) =
@@ -52,9 +52,9 @@ closed_next w s2 t t2 g e es place of_one at calls order (is_dead died) =
     record {
       params = refl;
       gone = refl;
-      of_one = tenant_calls w t t2 g (cancel_first g.calls) of_one refl refl refl after;
+      of_one = tenant_calls w t t2 g (cancel_first g.calls) None of_one refl refl refl after;
       calls = after;
-      none = never_faulty;
+      stands = refl;
       lies = at;
     }
 
@@ -70,7 +70,7 @@ cancelled_so {settings} {w} {m} {places} files number i place name g t t2 s2 sou
     let order2 = subst (λ os. InOrder order.0 t.inst t.dead t.ended os) there order.1 in
     let calls : g.calls ≡ journal_calls (t.ended ++ e ∷ es) = same ∙ ap (λ os. journal_calls (t.ended ++ os)) there in
     let first : first_open g.calls ≡ Some e.call = ap first_open calls ∙ first_is order2 in
-    let g2 : NamedInstance = record g { calls = cancel_first g.calls } in
+    let g2 : NamedInstance = record g { calls = cancel_first g.calls; at_fault = None } in
     let quiet = quiet_before sound known in
     let steps = leaves.steps in
     let quiet2 = quiet_after s2 steps.sound known whole in (
@@ -94,15 +94,15 @@ cancel_obeyed {m = m} files number i place name g answer sound known has lies or
     (happen.no_one_to_cancel none) whole = (m, answers.no_one_to_cancel i has gone, known)
 cancel_obeyed {w = w} files number i place name g answer sound known has lies orders (found_gone at gone)
     (happen.no_call_to_cancel {t = u} live none) whole = absurd (not_live w i place u at live)
-cancel_obeyed {w = w} files number i place name g answer sound known has lies orders (found_live t at here of_one same faultless)
+cancel_obeyed {w = w} files number i place name g answer sound known has lies orders (found_live t at here of_one same stands)
     (happen.is_cancelled {t = u} {t2 = t2} {s2 = s2} live r) whole =
     let one = live_same w i place t u here live in
     cancelled_so files number i place name g t t2 s2 sound known has lies (orders t here.0) of_one here.1 same
     (subst (λ x. Cancels w.space x s2 t2) (sym one) r) whole
-cancel_obeyed files number i place name g answer sound known has lies orders (found_live t at here of_one same faultless)
+cancel_obeyed files number i place name g answer sound known has lies orders (found_live t at here of_one same stands)
     (happen.no_one_to_cancel none) whole = absurd (none t here)
 cancel_obeyed {w = w} {m = m} files number i place name g answer sound known has lies orders
-    (found_live t at here of_one same faultless) (happen.no_call_to_cancel {t = u} live none) whole =
+    (found_live t at here of_one same stands) (happen.no_call_to_cancel {t = u} live none) whole =
     let one = live_same w i place t u here live in
     let none_now : t.open_calls ≡ [] = ap (λ (x : Tenant). x.open_calls) one ∙ none in
     (m, answers.no_call_to_cancel i has of_one.is_live (none_open w t g (orders t here.0) same none_now), known)
@@ -138,7 +138,7 @@ released_known : {settings : Settings} {w : World} {m : ScriptState} {places : L
 released_known {w = w} {m = m} {places = places} i place g t s2 known has lies live params whole least most =
     let w2 : World = with_tenant w i None s2 in
     let g2 : NamedInstance = record g { is_released = true } in
-    let stay = zip_map (IsFollowed AreSame w) (IsFollowed AreSame w2) m.instances w.tenants
+    let stay = zip_map (IsFollowed AreSame IsAtSameFault w) (IsFollowed AreSame IsAtSameFault w2) m.instances w.tenants
     (λ h o. followed_there w w2 h o (λ k l e. e)) known.instances in
     record {
       frames = whole.frames ∙ known.frames;
@@ -154,7 +154,7 @@ released_known {w = w} {m = m} {places = places} i place g t s2 known has lies l
           let same = ap (λ (p : Params). (p.max - p.min) + 1) params in
           let before = known.spreads in omega (arith, sum, same, before, most);
       modules = known.modules;
-      instances = zip_set (IsFollowed AreSame w2) m.instances w.tenants i g2 None stay (is_gone refl);
+      instances = zip_set (IsFollowed AreSame IsAtSameFault w2) m.instances w.tenants i g2 None stay (is_gone refl);
       placed = zip_over IsPlaced places w.tenants i place None known.placed lies tt;
     }
 
@@ -196,12 +196,12 @@ release_obeyed {w = w} files number i place name g answer sound rightly known ha
 release_obeyed {m = m} files number i place name g answer sound rightly known has lies replays (found_gone at gone)
     (happen.no_one_to_release none) whole = (m, answers.no_one_to_release i has gone, known)
 release_obeyed {w = w} {w2 = w2} files number i place name g answer sound rightly known has lies replays
-    (found_live t at here of_one same faultless) (happen.is_released {t = u} {output = output} live go) whole =
+    (found_live t at here of_one same stands) (happen.is_released {t = u} {output = output} live go) whole =
     let one = live_same w i place t u here live in
     released_so files number i place name output g t sound rightly known has lies (replays t here.0) of_one here.0 same
     (subst (λ x. LetsGo w i x output w2) (sym one) go) whole
 release_obeyed files number i place name g answer sound rightly known has lies replays
-    (found_live t at here of_one same faultless) (happen.no_one_to_release none) whole = absurd (none t here)
+    (found_live t at here of_one same stands) (happen.no_one_to_release none) whole = absurd (none t here)
 
 pub releases_follow : ReleasesFollow
 releases_follow frames slots tax events w happens settings files number m places i place g name answer w2 known has lies asks whole =

@@ -1,14 +1,13 @@
 -- What a script knows of its host, where one instance of it changes.
-use Rattle.std.proofs.Common.{◌≡◌, ◌≢◌, ℕ, ◌+◌, ◌-◌, Bool, true, false, if◌then◌else◌, List, [], ◌∷◌, ◌++◌, length, slice_get, slice_set, Option, Some, None, zero, suc, refl, sym, ap, subst, ◌∙◌, arith}
+use Rattle.std.proofs.Common.{◌≡◌, ℕ, ◌+◌, ◌-◌, Bool, true, false, if◌then◌else◌, List, [], ◌∷◌, ◌++◌, length, slice_get, slice_set, Option, Some, None, zero, suc, refl, sym, ap, subst, ◌∙◌, arith}
 use Rattle.std.specs.List.{AllZip}
 use Rattle.std.proofs.lemmas.Option.{none-some, same_Some}
 use Rattle.wh_model.specs.Execution.Replay.{Outcome, returned, stopped, cancelled, dead, pending, Call}
 use Rattle.wh_host_model.specs.declared.Tax.{Tax}
-use Rattle.wh_host_model.specs.declared.plain.SwapError.{SwapError}
 use Rattle.wh_host_model.specs.Space.Parts.{Space, minima, spreads}
 use Rattle.wh_host_model.specs.Space.Sound.{IsSound}
 use Rattle.wh_script_laws.proofs.SumsChange.{IsQuiet}
-use Rattle.wh_host_model.specs.Host.Worlds.{for_device, Tenant, Loaded, World, journal, journal_calls, with_tenant}
+use Rattle.wh_host_model.specs.Host.Worlds.{Tenant, Loaded, World, journal, journal_calls, with_tenant}
 use Rattle.wh_host_model.specs.Owners.{Params, is_open}
 use Rattle.wh_host_model.specs.Host.Happens.{IsLive}
 use Rattle.wh_script_model.specs.Settings.{Settings}
@@ -16,7 +15,7 @@ use Rattle.wh_script_model.specs.ScriptState.{NamedInstance, ScriptState, live_s
 use Rattle.wh_script_model.specs.Drains.{ComesTo, had_ended, goes_on}
 use Rattle.wh_script_model.specs.Served.{IsTenantOf}
 use Rattle.wh_host_model.proofs.Space.Putting.{get_or_is}
-use Rattle.wh_script_laws.specs.Following.{AreSame, IsFollowed, is_there, is_gone, IsPlaced, Knows, StaysWhole}
+use Rattle.wh_script_laws.specs.Following.{AreSame, IsFollowed, is_there, is_gone, IsPlaced, Knows, StaysWhole, IsAtSameFault}
 
 -- ---- two lists side by side
 
@@ -149,8 +148,8 @@ tenant_there w w2 t g more of_one = record {
   calls = of_one.calls;
 }
 
-pub followed_there : (w w2 : World) (g : NamedInstance) (o : Option Tenant) → HasModulesOf w w2 → IsFollowed AreSame w g o
-    → IsFollowed AreSame w2 g o
+pub followed_there : (w w2 : World) (g : NamedInstance) (o : Option Tenant) → HasModulesOf w w2 → IsFollowed AreSame IsAtSameFault w g o
+    → IsFollowed AreSame IsAtSameFault w2 g o
 followed_there w w2 g None more (is_gone gone) = is_gone gone
 followed_there w w2 g (Some t) more (is_there of_one same none) = is_there (tenant_there w w2 t g more of_one) same none
 
@@ -159,16 +158,16 @@ pub data IsFound (w : World) (g : NamedInstance) (i place : ℕ) : Type 0 where
   found_gone : slice_get w.tenants i ≡ Some None → g.is_released ≡ true → IsFound w g i place
   found_live : (t : Tenant) → slice_get w.tenants i ≡ Some (Some t) → IsLive w (record { place = place; number = i }) t
       → IsTenantOf w t g → g.calls ≡ journal_calls (journal t)
-      → ((fault : SwapError) → t.waiting_for ≢ Some (for_device fault)) → IsFound w g i place
+      → IsAtSameFault g t → IsFound w g i place
 
 pub found : {settings : Settings} {w : World} {m : ScriptState} {places : List ℕ} (i place : ℕ) (g : NamedInstance)
     → Knows settings w m places → slice_get m.instances i ≡ Some g → slice_get places i ≡ Some place → IsFound w g i place
 found {w = w} {m = m} {places = places} i place g known has lies =
-    let there = zip_there (IsFollowed AreSame w) m.instances w.tenants i g known.instances has in
+    let there = zip_there (IsFollowed AreSame IsAtSameFault w) m.instances w.tenants i g known.instances has in
     let placed = zip_there IsPlaced places w.tenants i place known.placed lies in
     let one : there.0 ≡ placed.0 = same_Some there.0 placed.0 (sym there.1 ∙ placed.1) in
     go there.0 there.1 there.2 (subst (IsPlaced place) (sym one) placed.2) where
-      go : (o : Option Tenant) → slice_get w.tenants i ≡ Some o → IsFollowed AreSame w g o → IsPlaced place o
+      go : (o : Option Tenant) → slice_get w.tenants i ≡ Some o → IsFollowed AreSame IsAtSameFault w g o → IsPlaced place o
           → IsFound w g i place
       go None at (is_gone gone) here = found_gone at gone
       go (Some t) at (is_there of_one same none) here =
@@ -192,18 +191,14 @@ pub record IsNext (w : World) (g g2 : NamedInstance) (t2 : Tenant) (place : ℕ)
   pub gone : g2.is_released ≡ g.is_released
   pub of_one : IsTenantOf w t2 g2
   pub calls : g2.calls ≡ journal_calls (journal t2)
-  pub none : (fault : SwapError) → t2.waiting_for ≢ Some (for_device fault)
+  pub stands : IsAtSameFault g2 t2
   pub lies : t2.place ≡ place
 
--- it stands for nothing
-pub never_faulty : (fault : SwapError) → None ≢ Some (for_device fault)
-never_faulty fault e = none-some (for_device fault) e
-
--- the calls of one are these now
-pub tenant_calls : (w : World) (t t2 : Tenant) (g : NamedInstance) (calls : List Call) → IsTenantOf w t g → t2.of ≡ t.of
+-- the calls of one are these now, and it stands for this fault
+pub tenant_calls : (w : World) (t t2 : Tenant) (g : NamedInstance) (calls : List Call) (stands : Option ℕ) → IsTenantOf w t g → t2.of ≡ t.of
     → t2.params ≡ t.params → t2.inst ≡ t.inst → calls ≡ journal_calls (journal t2)
-    → IsTenantOf w t2 (record g { calls = calls })
-tenant_calls w t t2 g calls of_one of params inst same = record {
+    → IsTenantOf w t2 (record g { calls = calls; at_fault = stands })
+tenant_calls w t t2 g calls stands of_one of params inst same = record {
   loaded = of_one.loaded;
   is_loaded = ap (slice_get w.modules) of ∙ of_one.is_loaded;
   of_one = of_one.of_one;
@@ -219,7 +214,7 @@ pub changed : {settings : Settings} {w : World} {m : ScriptState} {places : List
     → Knows settings (with_tenant w i (Some t2) s2) (with_instance m i g2) places
 changed {w = w} {m = m} {places = places} i place g g2 t2 s2 known has lies whole least most new =
     let w2 : World = with_tenant w i (Some t2) s2 in
-    let stay = zip_map (IsFollowed AreSame w) (IsFollowed AreSame w2) m.instances w.tenants
+    let stay = zip_map (IsFollowed AreSame IsAtSameFault w) (IsFollowed AreSame IsAtSameFault w2) m.instances w.tenants
     (λ h o. followed_there w w2 h o (λ k l e. e)) known.instances in
     record {
       frames = whole.frames ∙ known.frames;
@@ -231,8 +226,8 @@ changed {w = w} {m = m} {places = places} i place g g2 t2 s2 known has lies whol
       spreads = most ∙ known.spreads
           ∙ sym (sum_set (λ p. (p.max - p.min) + 1) m.instances i g g2 has new.params new.gone);
       modules = known.modules;
-      instances = zip_set (IsFollowed AreSame w2) m.instances w.tenants i g2 (Some t2) stay
-          (is_there (tenant_there w w2 t2 g2 (λ k l e. e) new.of_one) new.calls new.none);
+      instances = zip_set (IsFollowed AreSame IsAtSameFault w2) m.instances w.tenants i g2 (Some t2) stay
+          (is_there (tenant_there w w2 t2 g2 (λ k l e. e) new.of_one) new.calls new.stands);
       placed = zip_over IsPlaced places w.tenants i place (Some t2) known.placed lies new.lies;
     }
 

@@ -4,7 +4,7 @@ use Rattle.std.specs.List.{AllZip}
 use Rattle.std.proofs.lemmas.Bool.{false≢true}
 use Rattle.std.proofs.lemmas.Option.{none-some, same_Some}
 use Rattle.wh_model.specs.Format.Syntax.{Module}
-use Rattle.wh_model.specs.Execution.Replay.{Call, Standing, store_at, Replay}
+use Rattle.wh_model.specs.Execution.Replay.{Standing, store_at, Replay}
 use Rattle.wh_model.specs.Execution.Store.{Instance}
 use Rattle.wh_model.specs.Laws.ReplayLaws.{Alike}
 use Rattle.wh_model.proofs.Opened.{opened_store}
@@ -12,10 +12,10 @@ use Rattle.wh_model.proofs.Journals.{one_standing}
 use Rattle.wh_host_model.specs.Owners.{Params, given_of, first_open}
 use Rattle.wh_script_model.specs.Settings.{Settings}
 use Rattle.wh_script_model.specs.Commands.{Command, keep, load, admit, invoke, drain, refuel, cancel, retry, scan, report, release}
-use Rattle.wh_script_model.specs.Texts.{Reply, error, refuel_ok, refuel_refused, cancel_ok, cancel_refused, retry_refused, scan_ok, release_ok, release_refused}
+use Rattle.wh_script_model.specs.Texts.{Reply, error, refuel_ok, refuel_refused, cancel_ok, cancel_refused, retry_ok, retry_refused, scan_ok, release_ok, release_refused}
 use Rattle.wh_script_model.specs.ScriptState.{NamedInstance, ScriptState, HasModule, NoModule, HasInstance, LacksInstance, with_instance, with_first_open, cancel_first}
 use Rattle.wh_script_model.specs.Receiving.{ReceivesModule, ReceivesInstance}
-use Rattle.wh_script_model.specs.Answers.{Files, with_fuel, IsObeyed, module_name_is_taken, no_file, module_comes, no_such_module, instance_name_is_taken, instance_comes, no_such_instance, is_drained, is_scanned, is_reported, is_refueled, no_one_to_refuel, no_call_to_refuel, is_cancelled, no_one_to_cancel, no_call_to_cancel, no_one_to_retry, no_fault_to_retry, is_released, no_one_to_release}
+use Rattle.wh_script_model.specs.Answers.{Files, with_fuel, IsObeyed, module_name_is_taken, no_file, module_comes, no_such_module, instance_name_is_taken, instance_comes, no_such_instance, is_drained, is_scanned, is_reported, is_refueled, no_one_to_refuel, no_call_to_refuel, is_cancelled, no_one_to_cancel, no_call_to_cancel, is_retried, no_one_to_retry, no_fault_to_retry, is_released, no_one_to_release}
 use Rattle.wh_script_laws.specs.Determined.{IsKnownFile, IsAlike, is_same}
 use Rattle.wh_script_laws.proofs.DeterminedNames.{BeganWell, IsOrderly, well_there, one_module_named, one_guest_named}
 use Rattle.wh_script_laws.proofs.DeterminedParts.{module_once, guest_once}
@@ -59,13 +59,13 @@ data GetsDone (w : ScriptState) (number : ℕ) (inst : List ℕ) (done : ℕ →
 
 -- ---- what is done to an instance: it is released, has no open call, or has one
 
--- whether it is released, and which of its calls is open
-data IsDone (gone : Reply) (w : ScriptState) (none : Reply) (one : Reply) (w2 : ScriptState) : Bool → Option Call → List Reply → ScriptState → Type 0 where
-  where_gone : {o : Option Call} → IsDone gone w none one w2 true o (gone ∷ []) w
+-- whether it is released, and which of its calls is open, or for what it stands
+data IsDone {A : Type 0} (gone : Reply) (w : ScriptState) (none : Reply) (one : Reply) (w2 : ScriptState) : Bool → Option A → List Reply → ScriptState → Type 0 where
+  where_gone : {o : Option A} → IsDone gone w none one w2 true o (gone ∷ []) w
   where_none : IsDone gone w none one w2 false None (none ∷ []) w
-  where_open : {call : Call} → IsDone gone w none one w2 false (Some call) (one ∷ []) w2
+  where_open : {call : A} → IsDone gone w none one w2 false (Some call) (one ∷ []) w2
 
-done_once : {gone none one : Reply} {w w2 a b : ScriptState} {replies replies2 : List Reply} {l l2 : Bool} {o o2 : Option Call} → l ≡ l2 → o ≡ o2
+done_once : {A : Type 0} {gone none one : Reply} {w w2 a b : ScriptState} {replies replies2 : List Reply} {l l2 : Bool} {o o2 : Option A} → l ≡ l2 → o ≡ o2
     → IsDone gone w none one w2 l o replies a → IsDone gone w none one w2 l2 o2 replies2 b → IsOnce replies replies2 a b
 done_once e f where_gone where_gone = ((is_same, tt), refl)
 done_once e f where_gone where_none = absurd (false≢true (sym e))
@@ -85,11 +85,12 @@ Refueled w name n i g replies w2 =
 abbrev Cancelled : ScriptState → List ℕ → ℕ → NamedInstance → List Reply → ScriptState → Type 0
 Cancelled w name i g replies w2 =
     IsDone (cancel_refused name 1) w (cancel_refused name 8) (cancel_ok name)
-    (with_instance w i (record g { calls = cancel_first g.calls })) g.is_released (first_open g.calls) replies w2
+    (with_instance w i (record g { calls = cancel_first g.calls; at_fault = None })) g.is_released (first_open g.calls) replies w2
 
 abbrev Retried : ScriptState → List ℕ → ℕ → NamedInstance → List Reply → ScriptState → Type 0
 Retried w name i g replies w2 =
-    IsDone (retry_refused name 1) w (retry_refused name 8) (retry_refused name 8) w g.is_released None replies w2
+    IsDone (retry_refused name 1) w (retry_refused name 8) (retry_ok name)
+    (with_instance w i (record g { at_fault = None })) g.is_released g.at_fault replies w2
 
 -- it goes, with the output that its journal comes to
 data Released (w : ScriptState) (name : List ℕ) (i : ℕ) (g : NamedInstance) : List Reply → ScriptState → Type 0 where
@@ -170,7 +171,8 @@ module _ (settings : Settings) (files : Files) where
   gets_so w number command (no_one_to_cancel i {g = g} has gone) = somebody i g has (rw gone where_gone)
   gets_so w number command (no_call_to_cancel i {g = g} has live none) = somebody i g has (rw (live, none) where_none)
   gets_so w number command (no_one_to_retry i {g = g} has gone) = somebody i g has (rw gone where_gone)
-  gets_so w number command (no_fault_to_retry i {g = g} has live) = somebody i g has (rw live where_none)
+  gets_so w number command (is_retried i {g = g} has live stands) = somebody i g has (rw (live, stands) where_open)
+  gets_so w number command (no_fault_to_retry i {g = g} has live none) = somebody i g has (rw (live, none) where_none)
   gets_so w number command (is_released i {g = g} z has live replay) = somebody i g has (goes_now z live replay)
   gets_so w number command (no_one_to_release i {g = g} has gone) = somebody i g has (has_gone gone)
 

@@ -1,5 +1,5 @@
 -- Whatever lines make, each name is given once, and modules are valid.
-use Rattle.std.proofs.Common.{◌≡◌, ℕ, Bool, true, List, slice_get, slice_set, Some, ℤ, refl}
+use Rattle.std.proofs.Common.{◌≡◌, ℕ, Bool, true, List, slice_get, slice_set, Some, ℤ, refl, Option, None}
 use Rattle.wh_model.specs.Format.Syntax.{Module}
 use Rattle.wh_model.specs.Execution.Replay.{Call}
 use Rattle.wh_model.specs.Validity.Valid.{Valid}
@@ -9,16 +9,16 @@ use Rattle.wh_script_model.specs.Commands.{Command}
 use Rattle.wh_script_model.specs.Texts.{Reply}
 use Rattle.wh_script_model.specs.ScriptState.{NamedInstance, Invoked, ScriptState, NoModule, LacksInstance, with_instance}
 use Rattle.wh_script_model.specs.Receiving.{ReceivesModule, module_is_kept, module_isnt_kept, module_out_of_memory, new_instance, ReceivesInstance, is_admitted, isnt_admitted, admission_out_of_memory, ReceivesCall, instance_is_gone, isnt_invoked, is_invoked, call_out_of_memory}
-use Rattle.wh_script_model.specs.Answers.{Files, IsObeyed, module_name_is_taken, no_file, module_comes, no_such_module, instance_name_is_taken, instance_comes, no_such_instance, is_drained, is_scanned, is_reported, is_refueled, no_one_to_refuel, no_call_to_refuel, is_cancelled, no_one_to_cancel, no_call_to_cancel, no_one_to_retry, no_fault_to_retry, is_released, no_one_to_release, AnswersLine, skipped, invoked, obeyed, too_long, no_command, line_out_of_memory}
+use Rattle.wh_script_model.specs.Answers.{Files, IsObeyed, module_name_is_taken, no_file, module_comes, no_such_module, instance_name_is_taken, instance_comes, no_such_instance, is_drained, is_scanned, is_reported, is_refueled, no_one_to_refuel, no_call_to_refuel, is_cancelled, no_one_to_cancel, no_call_to_cancel, is_retried, no_one_to_retry, no_fault_to_retry, is_released, no_one_to_release, AnswersLine, skipped, invoked, obeyed, too_long, no_command, line_out_of_memory}
 use Rattle.wh_script_laws.proofs.DeterminedNames.{IsOrderly, valid_there, module_orderly, guest_orderly, Stays, stay_orderly, one_stays, all_stay, drain_orderly}
 
 -- ---- one instance changes
 
-calls_orderly : (w : ScriptState) (i : ℕ) (g : NamedInstance) (calls : List Call) (vs : List Invoked) → slice_get w.instances i ≡ Some g → IsOrderly w
-    → IsOrderly (record w { instances = slice_set w.instances i (record g { calls = calls }); invoked = vs })
-calls_orderly w i g calls vs at o =
-    let stays : Stays g (record g { calls = calls }) = record { name = refl; well = λ s. record { begun = s.begun; valid = s.valid } } in
-    stay_orderly w (slice_set w.instances i (record g { calls = calls })) vs (one_stays w.instances i g (record g { calls = calls }) at stays) o
+calls_orderly : (w : ScriptState) (i : ℕ) (g : NamedInstance) (calls : List Call) (stands : Option ℕ) (vs : List Invoked) → slice_get w.instances i ≡ Some g → IsOrderly w
+    → IsOrderly (record w { instances = slice_set w.instances i (record g { calls = calls; at_fault = stands }); invoked = vs })
+calls_orderly w i g calls stands vs at o =
+    let stays : Stays g (record g { calls = calls; at_fault = stands }) = record { name = refl; well = λ s. record { begun = s.begun; valid = s.valid } } in
+    stay_orderly w (slice_set w.instances i (record g { calls = calls; at_fault = stands })) vs (one_stays w.instances i g (record g { calls = calls; at_fault = stands }) at stays) o
 
 released_orderly : (w : ScriptState) (i : ℕ) (g : NamedInstance) → slice_get w.instances i ≡ Some g → IsOrderly w
     → IsOrderly (with_instance w i (record g { is_released = true }))
@@ -45,7 +45,7 @@ call_orderly : (may_run_out : Bool) (w w2 : ScriptState) (i : ℕ) (g : NamedIns
     → slice_get w.instances i ≡ Some g → ReceivesCall may_run_out w i g name fuel given w2 → IsOrderly w → IsOrderly w2
 call_orderly may_run_out w w2 i g name fuel given at (instance_is_gone gone) o = stay_orderly w w.instances _ (all_stay w.instances) o
 call_orderly may_run_out w w2 i g name fuel given at (isnt_invoked fault live first) o = stay_orderly w w.instances _ (all_stay w.instances) o
-call_orderly may_run_out w w2 i g name fuel given at (is_invoked vs live none exports args) o = calls_orderly w i g _ _ at o
+call_orderly may_run_out w w2 i g name fuel given at (is_invoked vs live none exports args) o = calls_orderly w i g _ g.at_fault _ at o
 call_orderly may_run_out w w2 i g name fuel given at (call_out_of_memory s live none) o = stay_orderly w w.instances _ (all_stay w.instances) o
 
 -- ---- a line
@@ -65,14 +65,15 @@ module _ (may_run_out : Bool) (settings : Settings) (files : Files) where
   command_orderly w w2 number command replies is_drained o = o
   command_orderly w w2 number command replies is_scanned o = o
   command_orderly w w2 number command replies is_reported o = o
-  command_orderly w w2 number command replies (is_refueled i {g = g} has live one) o = calls_orderly w i g _ w.invoked has.0 o
+  command_orderly w w2 number command replies (is_refueled i {g = g} has live one) o = calls_orderly w i g _ g.at_fault w.invoked has.0 o
   command_orderly w w2 number command replies (no_one_to_refuel i has gone) o = o
   command_orderly w w2 number command replies (no_call_to_refuel i has live none) o = o
-  command_orderly w w2 number command replies (is_cancelled i {g = g} has live one) o = calls_orderly w i g _ w.invoked has.0 o
+  command_orderly w w2 number command replies (is_cancelled i {g = g} has live one) o = calls_orderly w i g _ None w.invoked has.0 o
   command_orderly w w2 number command replies (no_one_to_cancel i has gone) o = o
   command_orderly w w2 number command replies (no_call_to_cancel i has live none) o = o
   command_orderly w w2 number command replies (no_one_to_retry i has gone) o = o
-  command_orderly w w2 number command replies (no_fault_to_retry i has live) o = o
+  command_orderly w w2 number command replies (is_retried i {g = g} has live stands) o = calls_orderly w i g g.calls None w.invoked has.0 o
+  command_orderly w w2 number command replies (no_fault_to_retry i has live none) o = o
   command_orderly w w2 number command replies (is_released i {g = g} z has live replay) o = released_orderly w i g has.0 o
   command_orderly w w2 number command replies (no_one_to_release i has gone) o = o
 

@@ -1,6 +1,6 @@
 -- Drains: where they begin, moves of pages, and what is said at the end.
 use Rattle.std.proofs.Common.{◌≡◌, ℕ, suc, ◌+◌, ◌-◌, ◌⊎◌, ⊎_elim, inl, inr, Bool, true, false, List, [], ◌∷◌, Option, Some, None, get_or, refl, sym, ap, subst, ◌∙◌}
-use Rattle.std.specs.List.{AllZip}
+use Rattle.std.specs.List.{AllZip, Contains}
 use Rattle.wh_model.specs.Execution.Replay.{Outcome, cancelled, Call}
 use Rattle.wh_host_model.specs.declared.Tax.{Tax}
 use Rattle.wh_host_model.specs.Space.Parts.{Space, minima, spreads}
@@ -11,12 +11,15 @@ use Rattle.wh_script_model.specs.Texts.{CallStatus, Reply}
 use Rattle.wh_script_model.specs.ScriptState.{NamedInstance, ScriptState, live_sum}
 use Rattle.wh_script_model.specs.Drains.{ComesTo, had_ended, goes_on, RunsAlone, PrintsStart, has_none, has_one, PrintStarts}
 use Rattle.wh_script_model.specs.Drains as drains
-use Rattle.wh_script_model.specs.Served.{IsTenantOf}
+use Rattle.wh_script_model.specs.Served.{IsTenantOf, GoesNoFurther}
 use Rattle.wh_host_model.proofs.Host.Holding.{memory_is_sound}
 use Rattle.wh_script_model.proofs.Serving.{served_as_alone}
-use Rattle.wh_script_laws.specs.Following.{AreSame, ComeFurther, IsFollowed, is_there, is_gone, FollowsScript, StaysWhole}
-use Rattle.wh_script_laws.specs.Laws.{DrainsBegin, MovesFollow, DrainsEnd, PrintingFollows}
+use Rattle.wh_script_laws.specs.Following.{AreSame, ComeFurther, IsFollowed, is_there, is_gone, FollowsScript, StaysWhole, IsAtSameFault, StandsAmid, device_fault}
+use Rattle.wh_script_laws.specs.Laws.{DrainsBegin, MovesFollow, DrainsEnd, PrintingFollows, StandsForDevice}
 use Rattle.wh_script_laws.proofs.Sums.{claims_decide}
+use Rattle.wh_script_model.specs.Failing.{RunsAmid, gone_still, stands_still, runs_on, rests_alone, meets_fault}
+use Rattle.wh_host_model.specs.SwapFaults.{swap_number}
+use Rattle.wh_script_model.proofs.Standing.{IsStuck, is_stuck, at_no_fault}
 
 -- ---- lists side by side
 
@@ -29,8 +32,8 @@ zip_so R S so (x ∷ xs) (y ∷ ys) h = (so x y h.0, zip_so R S so xs ys h.1)
 
 -- ---- a drain begins
 
-begins_so : (w : World) (g : NamedInstance) (o : Option Tenant) → IsFollowed AreSame w g o → IsFollowed ComeFurther w g o
-begins_so w g (Some t) (is_there of_one same sound) = is_there of_one of_one.calls sound
+begins_so : (w : World) (g : NamedInstance) (o : Option Tenant) → IsFollowed AreSame IsAtSameFault w g o → IsFollowed ComeFurther (StandsAmid []) w g o
+begins_so w g (Some t) (is_there of_one same stands) = is_there of_one of_one.calls (λ fault e. inr (stands ∙ e, same))
 begins_so w g None (is_gone gone) = is_gone gone
 
 pub drains_begin : DrainsBegin
@@ -43,7 +46,7 @@ drains_begin settings w m places h = record {
   minima = h.minima;
   spreads = h.spreads;
   modules = h.modules;
-  instances = zip_so (IsFollowed AreSame w) (IsFollowed ComeFurther w) (begins_so w) m.instances w.tenants h.instances;
+  instances = zip_so (IsFollowed AreSame IsAtSameFault w) (IsFollowed ComeFurther (StandsAmid []) w) (begins_so w) m.instances w.tenants h.instances;
   placed = h.placed;
 }
 
@@ -61,15 +64,15 @@ same_modules w w2 t g same h = record {
   calls = h.calls;
 }
 
-pub moved_followed : (come : List Call → List Call → Type 0) (w w2 : World) → w2.modules ≡ w.modules → (g : NamedInstance) (o : Option Tenant)
-    → IsFollowed come w g o → IsFollowed come w2 g o
-moved_followed come w w2 same g (Some t) (is_there of_one calls sound) = is_there (same_modules w w2 t g same of_one) calls sound
-moved_followed come w w2 same g None (is_gone gone) = is_gone gone
+pub moved_followed : (come : List Call → List Call → Type 0) (stands : NamedInstance → Tenant → Type 0) (w w2 : World) → w2.modules ≡ w.modules → (g : NamedInstance) (o : Option Tenant)
+    → IsFollowed come stands w g o → IsFollowed come stands w2 g o
+moved_followed come stands w w2 same g (Some t) (is_there of_one calls sound) = is_there (same_modules w w2 t g same of_one) calls sound
+moved_followed come stands w w2 same g None (is_gone gone) = is_gone gone
 
-moved_so : (come : List Call → List Call → Type 0) (settings : Settings) (w : World) (s2 : Space) (m : ScriptState) (places : List ℕ)
+moved_so : (come : List Call → List Call → Type 0) (stands : NamedInstance → Tenant → Type 0) (settings : Settings) (w : World) (s2 : Space) (m : ScriptState) (places : List ℕ)
     → StaysWhole w.space s2 → (minima s2 ≡ minima w.space) × (spreads s2 ≡ spreads w.space)
-    → FollowsScript come settings w m places → FollowsScript come settings (record w { space = s2 }) m places
-moved_so come settings w s2 m places whole sums h =
+    → FollowsScript come stands settings w m places → FollowsScript come stands settings (record w { space = s2 }) m places
+moved_so come stands settings w s2 m places whole sums h =
     let w2 : World = record w { space = s2 } in
     record {
       frames = whole.frames ∙ h.frames;
@@ -80,21 +83,21 @@ moved_so come settings w s2 m places whole sums h =
       minima = sums.0 ∙ h.minima;
       spreads = sums.1 ∙ h.spreads;
       modules = h.modules;
-      instances = zip_so (IsFollowed come w) (IsFollowed come w2) (moved_followed come w w2 refl) m.instances w.tenants h.instances;
+      instances = zip_so (IsFollowed come stands w) (IsFollowed come stands w2) (moved_followed come stands w w2 refl) m.instances w.tenants h.instances;
       placed = h.placed;
     }
 
 pub moves_follow : MovesFollow
-moves_follow frames slots tax events w happens settings m places w2 moves whole =
+moves_follow frames slots tax events w happens faults settings m places w2 moves whole =
     let s2 = moves.0 in
     let sound = memory_is_sound frames slots tax events w happens in
     let goal : World → Type 0 = λ v. StaysWhole w.space v.space
-    → (FollowsScript AreSame settings w m places → FollowsScript AreSame settings v m places)
-    × (FollowsScript ComeFurther settings w m places → FollowsScript ComeFurther settings v m places) in
+    → (FollowsScript AreSame IsAtSameFault settings w m places → FollowsScript AreSame IsAtSameFault settings v m places)
+    × (FollowsScript ComeFurther (StandsAmid faults) settings w m places → FollowsScript ComeFurther (StandsAmid faults) settings v m places) in
     let so : goal (record w { space = s2 }) = λ stays. (
-      λ h. moved_so AreSame settings w s2 m places stays
+      λ h. moved_so AreSame IsAtSameFault settings w s2 m places stays
           (claims_decide w.space s2 sound moves.1.1 h.none_out (stays.none_out ∙ h.none_out) (λ j. (moves.1.0 j).claim)) h,
-      λ h. moved_so ComeFurther settings w s2 m places stays
+      λ h. moved_so ComeFurther (StandsAmid faults) settings w s2 m places stays
           (claims_decide w.space s2 sound moves.1.1 h.none_out (stays.none_out ∙ h.none_out) (λ j. (moves.1.0 j).claim)) h,
     ) in
     subst goal (sym moves.2) so whole
@@ -116,8 +119,8 @@ same_live_sum amount (g ∷ gs) (g2 ∷ gs2) h =
     let rest = same_live_sum amount gs gs2 h.1 in
     rw (first.released, first.params, rest) refl
 
-resaid : (w : World) (g : NamedInstance) (o : Option Tenant) (status : Option CallStatus) → IsFollowed AreSame w g o
-    → IsFollowed AreSame w (record g { last_printed = status }) o
+resaid : (w : World) (g : NamedInstance) (o : Option Tenant) (status : Option CallStatus) → IsFollowed AreSame IsAtSameFault w g o
+    → IsFollowed AreSame IsAtSameFault w (record g { last_printed = status }) o
 resaid w g (Some t) status (is_there of_one same sound) =
     let last_printed : IsTenantOf w t (record g { last_printed = status }) = record {
       loaded = of_one.loaded;
@@ -132,20 +135,20 @@ resaid w g (Some t) status (is_there of_one same sound) =
 resaid w g None status (is_gone gone) = is_gone gone
 
 one_said : (w : World) (g g2 : NamedInstance) (o : Option Tenant) (lines : List Reply) → PrintsStart g lines g2
-    → IsFollowed AreSame w g o → IsFollowed AreSame w g2 o × SameGuest g g2
+    → IsFollowed AreSame IsAtSameFault w g o → IsFollowed AreSame IsAtSameFault w g2 o × SameGuest g g2
 one_said w g g2 o lines (has_none p q) h = (h, record { released = refl; params = refl })
 one_said w g g2 o lines (has_one n e x) h = (resaid w g o _ h, record { released = refl; params = refl })
 
 all_said : (w : World) (gs last_printed : List NamedInstance) (ts : List (Option Tenant)) (lines : List Reply) → PrintStarts gs lines last_printed
-    → AllZip (IsFollowed AreSame w) gs ts → AllZip (IsFollowed AreSame w) last_printed ts × AllZip SameGuest gs last_printed
+    → AllZip (IsFollowed AreSame IsAtSameFault w) gs ts → AllZip (IsFollowed AreSame IsAtSameFault w) last_printed ts × AllZip SameGuest gs last_printed
 all_said w [] last_printed [] lines says h =
-    subst (λ after. AllZip (IsFollowed AreSame w) after [] × AllZip SameGuest [] after) (sym says.1) (tt, tt)
+    subst (λ after. AllZip (IsFollowed AreSame IsAtSameFault w) after [] × AllZip SameGuest [] after) (sym says.1) (tt, tt)
 all_said w [] last_printed (o ∷ ts) lines says h = absurd h
 all_said w (g ∷ gs) last_printed [] lines says h = absurd h
 all_said w (g ∷ gs) last_printed (o ∷ ts) lines (here, rest, g2, gs2, e, f, x, more) h =
     let first = one_said w g g2 o here x h.0 in
     let others = all_said w gs gs2 ts rest more h.1 in
-    subst (λ after. AllZip (IsFollowed AreSame w) after (o ∷ ts) × AllZip SameGuest (g ∷ gs) after) (sym f)
+    subst (λ after. AllZip (IsFollowed AreSame IsAtSameFault w) after (o ∷ ts) × AllZip SameGuest (g ∷ gs) after) (sym f)
     ((first.0, others.0), (first.1, others.1))
 
 pub saying_follows : PrintingFollows
@@ -169,16 +172,16 @@ saying_follows settings w m places lines last_printed invoked h says =
 -- how the guest of a tenant has run
 abbrev pub run_guest : NamedInstance → Option Tenant → NamedInstance
 run_guest g None = g
-run_guest g (Some t) = record g { calls = journal_calls (journal t) }
+run_guest g (Some t) = record g { calls = journal_calls (journal t); at_fault = device_fault t.waiting_for }
 
 abbrev pub run_guests : List NamedInstance → List (Option Tenant) → List NamedInstance
 run_guests [] ts = []
 run_guests (g ∷ gs) [] = []
 run_guests (g ∷ gs) (o ∷ ts) = run_guest g o ∷ run_guests gs ts
 
--- whom calls have been run alone
-abbrev RunAlone : World → Tenant → Type 0
-RunAlone w t = (g : NamedInstance) → IsTenantOf w t g → RunsAlone g (record g { calls = journal_calls (journal t) })
+-- whose calls have run so far as they can
+abbrev RunSoFar : List ℕ → World → Tenant → Type 0
+RunSoFar faults w t = (g : NamedInstance) → IsTenantOf w t g → StandsAmid faults g t → RunsAmid faults g (run_guest g (Some t))
 
 pub open_or_not : (b : Bool) → (b ≡ true) ⊎ (b ≡ false)
 open_or_not true = inl refl
@@ -201,18 +204,18 @@ come_nowhere [] = tt
 come_nowhere (c ∷ calls) = (comes_nowhere c, come_nowhere calls)
 
 -- one has run
-pub record HasRun (w : World) (g g2 : NamedInstance) (o : Option Tenant) : Type 0 where
-  pub alone : RunsAlone g g2
-  pub followed : IsFollowed AreSame w g2 o
+pub record HasRun (faults : List ℕ) (w : World) (g g2 : NamedInstance) (o : Option Tenant) : Type 0 where
+  pub amid : RunsAmid faults g g2
+  pub followed : IsFollowed AreSame IsAtSameFault w g2 o
   pub same : SameGuest g g2
 
-one_runs : (w : World) (g : NamedInstance) (o : Option Tenant) → ((t : Tenant) → o ≡ Some t → RunAlone w t) → IsFollowed ComeFurther w g o
-    → HasRun w g (run_guest g o) o
-one_runs w g None alone (is_gone gone) =
-    record { alone = drains.is_gone gone; followed = is_gone gone; same = record { released = refl; params = refl } }
-one_runs w g (Some t) alone (is_there of_one further sound) =
+one_runs : (faults : List ℕ) (w : World) (g : NamedInstance) (o : Option Tenant) → ((t : Tenant) → o ≡ Some t → RunSoFar faults w t)
+    → IsFollowed ComeFurther (StandsAmid faults) w g o → HasRun faults w g (run_guest g o) o
+one_runs faults w g None so_far (is_gone gone) =
+    record { amid = gone_still gone; followed = is_gone gone; same = record { released = refl; params = refl } }
+one_runs faults w g (Some t) so_far (is_there of_one further stands) =
     let calls = journal_calls (journal t) in
-    let run : IsTenantOf w t (record g { calls = calls }) = record {
+    let run : IsTenantOf w t (run_guest g (Some t)) = record {
       loaded = of_one.loaded;
       is_loaded = of_one.is_loaded;
       of_one = of_one.of_one;
@@ -221,30 +224,70 @@ one_runs w g (Some t) alone (is_there of_one further sound) =
       is_live = of_one.is_live;
       calls = come_nowhere calls;
     } in
-    record { alone = alone t refl g of_one; followed = is_there run refl sound; same = record { released = refl; params = refl } }
+    record { amid = so_far t refl g of_one stands; followed = is_there run refl refl; same = record { released = refl; params = refl } }
 
 -- all have
-pub record HaveRun (w : World) (gs run : List NamedInstance) (ts : List (Option Tenant)) : Type 0 where
-  pub alone : AllZip RunsAlone gs run
-  pub followed : AllZip (IsFollowed AreSame w) run ts
+pub record HaveRun (faults : List ℕ) (w : World) (gs run : List NamedInstance) (ts : List (Option Tenant)) : Type 0 where
+  pub amid : AllZip (RunsAmid faults) gs run
+  pub followed : AllZip (IsFollowed AreSame IsAtSameFault w) run ts
   pub same : AllZip SameGuest gs run
 
-all_run : (w : World) (gs : List NamedInstance) (ts : List (Option Tenant)) → ((i : ℕ) (t : Tenant) → get_or ts i None ≡ Some t → RunAlone w t)
-    → AllZip (IsFollowed ComeFurther w) gs ts → HaveRun w gs (run_guests gs ts) ts
-all_run w [] [] alone h = record { alone = tt; followed = tt; same = tt }
-all_run w [] (o ∷ ts) alone h = absurd h
-all_run w (g ∷ gs) [] alone h = absurd h
-all_run w (g ∷ gs) (o ∷ ts) alone h =
-    let first = one_runs w g o (alone 0) h.0 in
-    let others = all_run w gs ts (λ i. alone (suc i)) h.1 in
-    record { alone = (first.alone, others.alone); followed = (first.followed, others.followed); same = (first.same, others.same) }
+all_run : (faults : List ℕ) (w : World) (gs : List NamedInstance) (ts : List (Option Tenant)) → ((i : ℕ) (t : Tenant) → get_or ts i None ≡ Some t → RunSoFar faults w t)
+    → AllZip (IsFollowed ComeFurther (StandsAmid faults) w) gs ts → HaveRun faults w gs (run_guests gs ts) ts
+all_run faults w [] [] so_far h = record { amid = tt; followed = tt; same = tt }
+all_run faults w [] (o ∷ ts) so_far h = absurd h
+all_run faults w (g ∷ gs) [] so_far h = absurd h
+all_run faults w (g ∷ gs) (o ∷ ts) so_far h =
+    let first = one_runs faults w g o (so_far 0) h.0 in
+    let others = all_run faults w gs ts (λ i. so_far (suc i)) h.1 in
+    record { amid = (first.amid, others.amid); followed = (first.followed, others.followed); same = (first.same, others.same) }
+
+-- ---- whom no turn brings further
+
+-- who has been run alone stands for no fault
+from_alone : (faults : List ℕ) (g : NamedInstance) (t : Tenant) (g2 : NamedInstance) → g2 ≡ record g { calls = journal_calls (journal t) } → RunsAlone g g2 → g.is_released ≡ false
+    → RunsAmid faults g (record g { calls = journal_calls (journal t); at_fault = None })
+from_alone faults g t _ e (drains.is_gone gone) live = absurd (cc (gone, live))
+from_alone faults g t _ e (drains.has_run {calls = calls} alive come replay rest) live =
+    let same : calls ≡ journal_calls (journal t) = ap (λ (x : NamedInstance). x.calls) e in
+    subst (λ (cs : List Call). RunsAmid faults g (record g { calls = cs; at_fault = None })) same (runs_on live come replay (rests_alone rest))
+
+served_so : (faults : List ℕ) (g : NamedInstance) (t : Tenant) → RunsAlone g (record g { calls = journal_calls (journal t) }) → g.is_released ≡ false → device_fault t.waiting_for ≡ None
+    → RunsAmid faults g (run_guest g (Some t))
+served_so faults g t alone live none =
+    subst (λ (o : Option ℕ). RunsAmid faults g (record g { calls = journal_calls (journal t); at_fault = o })) (sym none)
+    (from_alone faults g t (record g { calls = journal_calls (journal t) }) refl alone live)
+
+-- who waits for a device has met one of the faults, or stands still
+stopped_so : (faults : List ℕ) (w : World) (g : NamedInstance) (t : Tenant) (fault : ℕ) → IsTenantOf w t g → IsStuck w t g → device_fault t.waiting_for ≡ Some fault
+    → Contains faults fault ⊎ ((g.at_fault ≡ Some fault) × (g.calls ≡ journal_calls (journal t))) → RunsAmid faults g (run_guest g (Some t))
+stopped_so faults w g t fault of_one stuck is (inl met) =
+    subst (λ (o : Option ℕ). RunsAmid faults g (record g { calls = journal_calls (journal t); at_fault = o })) (sym is)
+    (runs_on of_one.is_live of_one.calls stuck.replay (meets_fault stuck.call stuck.first stuck.needs met))
+stopped_so faults w g t fault of_one stuck is (inr still) =
+    subst (λ (o : Option ℕ). RunsAmid faults g (record g { calls = journal_calls (journal t); at_fault = o })) (still.0 ∙ sym is)
+    (subst (λ (cs : List Call). RunsAmid faults g (record g { calls = cs })) still.1 (stands_still of_one.is_live still.0))
+
+no_device : (t : Tenant) → (t.open_calls ≡ [] → t.waiting_for ≡ None) → GoesNoFurther t → device_fault t.waiting_for ≡ None
+no_device t rests (inl none) = ap device_fault (rests none)
+no_device t rests (inr fuel) = ap device_fault fuel
 
 pub drains_end : DrainsEnd
-drains_end frames slots tax events w happens settings m places h served =
+drains_end frames slots tax events w happens faults settings m places h served =
     let run = run_guests m.instances w.tenants in
-    let have = all_run w m.instances w.tenants (λ i t there g of_one. served_as_alone frames slots tax events w happens i t g there (served i t there) of_one) h.instances in (
+    let alone = served_as_alone frames slots tax events w happens in
+    let stuck = is_stuck frames slots tax events w happens in
+    let rests = at_no_fault frames slots tax events w happens in
+    let so_far : (i : ℕ) (t : Tenant) → get_or w.tenants i None ≡ Some t → RunSoFar faults w t = λ i t there g of_one stands.
+    ⊎_elim
+    (λ (no_further : GoesNoFurther t). served_so faults g t (alone i t g there no_further of_one) of_one.is_live (no_device t (rests i t there) no_further))
+    (λ (device : StandsForDevice t).
+    let is : device_fault t.waiting_for ≡ Some (swap_number device.0) = ap device_fault device.1 in
+    stopped_so faults w g t (swap_number device.0) of_one (stuck i t g device.0 there device.1 of_one) is (stands (swap_number device.0) is))
+    (served i t there) in
+    let have = all_run faults w m.instances w.tenants so_far h.instances in (
       run,
-      have.alone,
+      have.amid,
       record {
         frames = h.frames;
         slots = h.slots;

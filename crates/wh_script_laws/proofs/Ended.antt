@@ -1,5 +1,5 @@
 -- Calls that have ended stay as they are, and are said to be so.
-use Rattle.std.proofs.Common.{◌≡◌, ℕ, zero, suc, ⊎_elim, Bool, true, false, if◌then◌else◌, List, [], ◌∷◌, ◌++◌, map, take, slice_get, Option, Some, is_some, refl, sym, ap, subst, ◌∙◌}
+use Rattle.std.proofs.Common.{◌≡◌, ℕ, zero, suc, ⊎_elim, Bool, true, false, if◌then◌else◌, List, [], ◌∷◌, ◌++◌, map, take, slice_get, Option, Some, None, is_some, refl, sym, ap, subst, ◌∙◌}
 use Rattle.std.specs.List.{AllZip, AllByRecursion}
 use Rattle.std.proofs.lemmas.Option.{none-some, same_Some}
 use Rattle.wh_model.specs.Format.Syntax.{Module}
@@ -9,7 +9,8 @@ use Rattle.wh_model.specs.Execution.Replay.{Outcome, returned, stopped, cancelle
 use Rattle.wh_script_model.specs.Texts.{CallStatus, Reply}
 use Rattle.wh_script_model.specs.ScriptState.{NamedInstance, with_first_open, cancel_first, ended_so}
 use Rattle.wh_host_model.specs.Owners.{is_open, first_open}
-use Rattle.wh_script_model.specs.Drains.{ComesTo, had_ended, goes_on, RunsAlone, is_gone, has_run, status_by, call_status, PrintsStart, has_none, has_one}
+use Rattle.wh_script_model.specs.Drains.{ComesTo, had_ended, goes_on, status_by, call_status, PrintsStart, has_none, has_one}
+use Rattle.wh_script_model.specs.Failing.{RunsAmid, gone_still, stands_still, runs_on}
 use Rattle.wh_script_model.proofs.Once.{end_closed}
 use Rattle.wh_script_laws.specs.Printed.{is_final, HasStart, IsPrinted, HasEndedSo, StartsFirst}
 use Rattle.wh_script_laws.proofs.Drains.{open_or_not}
@@ -17,22 +18,23 @@ use Rattle.wh_script_laws.proofs.Drains.{open_or_not}
 -- ---- how they are said to be
 
 -- what has ended is said so, whether its instance is released or not, and whatever stands before it
-closed_same : (o : Outcome) (gone gone2 waits waits2 : Bool) (charges : ℕ) → is_open o ≡ false
-    → status_by o gone waits charges ≡ status_by o gone2 waits2 charges
-closed_same (returned results) gone gone2 waits waits2 charges e = refl
-closed_same (stopped trap) gone gone2 waits waits2 charges e = refl
-closed_same cancelled gone gone2 waits waits2 charges e = refl
-closed_same dead gone gone2 waits waits2 charges e = refl
-closed_same pending gone gone2 waits waits2 charges e = absurd (cc e)
+closed_same : (o : Outcome) (gone gone2 waits waits2 : Bool) (stands stands2 : Option ℕ) (charges : ℕ) → is_open o ≡ false
+    → status_by o gone waits stands charges ≡ status_by o gone2 waits2 stands2 charges
+closed_same (returned results) gone gone2 waits waits2 stands stands2 charges e = refl
+closed_same (stopped trap) gone gone2 waits waits2 stands stands2 charges e = refl
+closed_same cancelled gone gone2 waits waits2 stands stands2 charges e = refl
+closed_same dead gone gone2 waits waits2 stands stands2 charges e = refl
+closed_same pending gone gone2 waits waits2 stands stands2 charges e = absurd (cc e)
 
 -- what is open isn't said to have ended, where its instance lives
-open_unsaid : (o : Outcome) (waits : Bool) (charges : ℕ) → is_open o ≡ true → is_final (status_by o false waits charges) ≡ true → ⊥
-open_unsaid (returned results) waits charges e final = cc e
-open_unsaid (stopped trap) waits charges e final = cc e
-open_unsaid cancelled waits charges e final = cc e
-open_unsaid dead waits charges e final = cc e
-open_unsaid pending true charges e final = cc final
-open_unsaid pending false charges e final = cc final
+open_unsaid : (o : Outcome) (waits : Bool) (stands : Option ℕ) (charges : ℕ) → is_open o ≡ true → is_final (status_by o false waits stands charges) ≡ true → ⊥
+open_unsaid (returned results) waits stands charges e final = cc e
+open_unsaid (stopped trap) waits stands charges e final = cc e
+open_unsaid cancelled waits stands charges e final = cc e
+open_unsaid dead waits stands charges e final = cc e
+open_unsaid pending true stands charges e final = cc final
+open_unsaid pending false None charges e final = cc final
+open_unsaid pending false (Some fault) charges e final = cc final
 
 -- so a call of a living instance that was said to have ended stays so, if calls that have ended stay as they are
 pub stays_ended : (g h : NamedInstance) (place : ℕ) (c c2 : Call) (last_printed : Option CallStatus) → g.is_released ≡ false
@@ -42,10 +44,10 @@ stays_ended g h place c c2 last_printed live keeps was status e final =
     let now : call_status g place c ≡ status = was status e final in
     ⊎_elim
     (λ (open_yet : is_open c.outcome ≡ true).
-    let bare : status_by c.outcome false waits c.charges ≡ status = ap (λ b. status_by c.outcome b waits c.charges) (sym live) ∙ now in
-    absurd (open_unsaid c.outcome waits c.charges open_yet (ap is_final bare ∙ final)))
+    let bare : status_by c.outcome false waits g.at_fault c.charges ≡ status = ap (λ b. status_by c.outcome b waits g.at_fault c.charges) (sym live) ∙ now in
+    absurd (open_unsaid c.outcome waits g.at_fault c.charges open_yet (ap is_final bare ∙ final)))
     (λ (closed : is_open c.outcome ≡ false).
-    let here : call_status h place c ≡ status = closed_same c.outcome h.is_released g.is_released (is_some (first_open (take place h.calls))) waits c.charges closed ∙ now in
+    let here : call_status h place c ≡ status = closed_same c.outcome h.is_released g.is_released (is_some (first_open (take place h.calls))) waits h.at_fault g.at_fault c.charges closed ∙ now in
     subst (λ (d : Call). call_status h place d ≡ status) (sym (keeps closed)) here)
     (open_or_not (is_open c.outcome))
 
@@ -163,21 +165,24 @@ starts_first_replayed m p (c ∷ calls) z r = replayed_first c calls r.2.4
 
 -- ---- calls run
 
-pub run_ended : (g r : NamedInstance) (place : ℕ) (c c2 : Call) (last_printed : Option CallStatus) → RunsAlone g r → slice_get g.calls place ≡ Some c → slice_get r.calls place ≡ Some c2
+pub run_ended : (faults : List ℕ) (g r : NamedInstance) (place : ℕ) (c c2 : Call) (last_printed : Option CallStatus) → RunsAmid faults g r → slice_get g.calls place ≡ Some c → slice_get r.calls place ≡ Some c2
     → HasEndedSo g place c last_printed → HasEndedSo r place c2 last_printed
-run_ended g _ place c c2 last_printed (is_gone gone) at at2 was = subst (λ (d : Call). HasEndedSo g place d last_printed) (same_Some c c2 (sym at ∙ at2)) was
-run_ended g _ place c c2 last_printed (has_run {calls = calls} live come replay rest) at at2 was =
-    stays_ended g (record g { calls = calls }) place c c2 last_printed live
+run_ended faults g _ place c c2 last_printed (gone_still gone) at at2 was = subst (λ (d : Call). HasEndedSo g place d last_printed) (same_Some c c2 (sym at ∙ at2)) was
+run_ended faults g _ place c c2 last_printed (stands_still live stands) at at2 was = subst (λ (d : Call). HasEndedSo g place d last_printed) (same_Some c c2 (sym at ∙ at2)) was
+run_ended faults g _ place c c2 last_printed (runs_on {calls = calls} {at_fault = stands} live come replay rest) at at2 was =
+    stays_ended g (record g { calls = calls; at_fault = stands }) place c c2 last_printed live
     (λ closed. same_Some c2 c (sym at2 ∙ run_changes g.calls calls come place c at closed)) was
 
 -- but for its calls it is the same
-pub run_start : (g r : NamedInstance) → RunsAlone g r → (HasStart r → HasStart g) × (r.last_printed ≡ g.last_printed)
-run_start g _ (is_gone gone) = (λ has. has, refl)
-run_start g _ (has_run live come replay rest) = (λ has. has, refl)
+pub run_start : (faults : List ℕ) (g r : NamedInstance) → RunsAmid faults g r → (HasStart r → HasStart g) × (r.last_printed ≡ g.last_printed)
+run_start faults g _ (gone_still gone) = (λ has. has, refl)
+run_start faults g _ (stands_still live stands) = (λ has. has, refl)
+run_start faults g _ (runs_on live come replay rest) = (λ has. has, refl)
 
-pub run_starts_first : (g r : NamedInstance) → RunsAlone g r → StartsFirst g.calls → StartsFirst r.calls
-run_starts_first g _ (is_gone gone) first = first
-run_starts_first g _ (has_run {calls = calls} {z = z} live come replay rest) first = starts_first_replayed g.m _ calls z replay
+pub run_starts_first : (faults : List ℕ) (g r : NamedInstance) → RunsAmid faults g r → StartsFirst g.calls → StartsFirst r.calls
+run_starts_first faults g _ (gone_still gone) first = first
+run_starts_first faults g _ (stands_still live stands) first = first
+run_starts_first faults g _ (runs_on {calls = calls} {z = z} live come replay rest) first = starts_first_replayed g.m _ calls z replay
 
 -- ---- it is said how a start is
 

@@ -20,3 +20,5 @@ pub mod DeterminedParts
 pub mod DeterminedCommands
 pub mod DeterminedOrder
 pub mod Determined
+pub mod Faultless
+pub mod WorkedFaults

@@ -6,18 +6,18 @@ use Rattle.wh_host_model.specs.Host.Journals.{InOrder}
 use Rattle.wh_host_model.specs.Host.Laws.{HasJournal}
 use Rattle.wh_host_model.specs.Host.Worlds.{Tenant, World, journal, journal_calls}
 use Rattle.wh_host_model.specs.Owners.{Entry, first_open}
-use Rattle.wh_script_model.specs.ScriptState.{NamedInstance, SomeCallIsOpen}
+use Rattle.wh_script_model.specs.ScriptState.{NamedInstance}
 use Rattle.wh_host_model.proofs.Host.Holding.{journals_are_in_order}
-use Rattle.wh_script_laws.specs.Following.{AreSame, IsFollowed, is_there}
+use Rattle.wh_script_laws.specs.Following.{AreSame, IsFollowed, is_there, IsAtSameFault}
 use Rattle.wh_script_laws.specs.Laws.{OpenIsKnown}
 use Rattle.wh_script_laws.proofs.Journals.{first_is, ordered}
 
-there_at : (w : World) (gs : List NamedInstance) (ts : List (Option Tenant)) (i : ℕ) (t : Tenant) → AllZip (IsFollowed AreSame w) gs ts → get_or ts i None ≡ Some t
-    → (g : NamedInstance) × (slice_get gs i ≡ Some g) × IsFollowed AreSame w g (Some t)
+there_at : (w : World) (gs : List NamedInstance) (ts : List (Option Tenant)) (i : ℕ) (t : Tenant) → AllZip (IsFollowed AreSame IsAtSameFault w) gs ts → get_or ts i None ≡ Some t
+    → (g : NamedInstance) × (slice_get gs i ≡ Some g) × IsFollowed AreSame IsAtSameFault w g (Some t)
 there_at w [] [] i t h e = absurd (cc e)
 there_at w [] (o ∷ ts) i t h e = absurd h
 there_at w (g ∷ gs) [] i t h e = absurd h
-there_at w (g ∷ gs) (o ∷ ts) zero t h e = (g, refl, subst (λ x. IsFollowed AreSame w g x) e h.0)
+there_at w (g ∷ gs) (o ∷ ts) zero t h e = (g, refl, subst (λ x. IsFollowed AreSame IsAtSameFault w g x) e h.0)
 there_at w (g ∷ gs) (o ∷ ts) (suc i) t h e = there_at w gs ts i t h.1 e
 
 opened : (w : World) (t : Tenant) (os : List Entry) → HasJournal w t → t.open_calls ≡ os → os ≢ [] → (c : Call) × (first_open (journal_calls (journal t)) ≡ Some c)
@@ -27,7 +27,7 @@ opened w t (e ∷ os) j is some =
     let order2 = subst (λ xs. InOrder order.0 t.inst t.dead t.ended xs) is order.1 in
     (e.call, ap (λ xs. first_open (journal_calls (t.ended ++ xs))) is ∙ first_is order2)
 
-known_so : (w : World) (g : NamedInstance) (t : Tenant) → HasJournal w t → t.open_calls ≢ [] → IsFollowed AreSame w g (Some t)
+known_so : (w : World) (g : NamedInstance) (t : Tenant) → HasJournal w t → t.open_calls ≢ [] → IsFollowed AreSame IsAtSameFault w g (Some t)
     → (c : Call) × (g.is_released ≡ false) × (first_open g.calls ≡ Some c)
 known_so w g t j some (is_there of_one same faultless) =
     let first = opened w t t.open_calls j refl some in

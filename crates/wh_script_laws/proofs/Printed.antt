@@ -1,5 +1,5 @@
 -- What has been said of calls stays true of what the lines of a script make.
-use Rattle.std.proofs.Common.{◌≡◌, ℕ, zero, suc, ◌+◌, ◌⊎◌, ⊎_elim, inl, inr, Bool, true, false, if◌then◌else◌, List, [], ◌∷◌, ◌++◌, map, length, take, slice_get, slice_set, Option, Some, is_some, refl, sym, ap, subst, ◌∙◌}
+use Rattle.std.proofs.Common.{◌≡◌, ℕ, zero, suc, ◌+◌, ◌⊎◌, ⊎_elim, inl, inr, Bool, true, false, if◌then◌else◌, List, [], ◌∷◌, ◌++◌, map, length, take, slice_get, slice_set, Option, Some, is_some, refl, sym, ap, subst, ◌∙◌, None}
 use Rattle.std.specs.List.{AllZip, AllByRecursion}
 use Rattle.std.proofs.lemmas.Option.{none-some, same_Some}
 use Rattle.wh_model.specs.Execution.Store.{Instance, Store}
@@ -10,9 +10,10 @@ use Rattle.wh_script_model.specs.Texts as texts
 use Rattle.wh_script_model.specs.Texts.{CallStatus, Reply}
 use Rattle.wh_script_model.specs.ScriptState.{NamedInstance, Invoked, ScriptState, call_rejected, call_accepted, InvokeOutcome, with_first_open, cancel_first, ended_so}
 use Rattle.wh_host_model.specs.Owners.{is_open, first_open}
-use Rattle.wh_script_model.specs.Drains.{ComesTo, RunsAlone, is_gone, has_run, status_by, call_status, PrintsStart, has_none, has_one, PrintStarts, PrintsCall, is_refused, is_taken, PrintCalls, Drains}
+use Rattle.wh_script_model.specs.Drains.{ComesTo, status_by, call_status, PrintsStart, has_none, has_one, PrintStarts, PrintsCall, is_refused, is_taken, PrintCalls}
 use Rattle.wh_script_model.proofs.Once.{end_closed}
 use Rattle.wh_script_laws.proofs.Ended.{ended_as_said, run_ended, run_start, run_starts_first, start_still_ended}
+use Rattle.wh_script_model.specs.Failing.{DrainsAmid, RunsAmid, gone_still, stands_still, runs_on}
 use Rattle.wh_script_laws.specs.Printed.{HasEndedSo, StartsFirst, when_released, HasStart, IsPrinted, WasPrinted, IsReleased, AllArePrinted, IsWellMade}
 
 -- ---- places of lists
@@ -125,97 +126,100 @@ waiting_has_none m p (d ∷ calls) z place c r e w = unbegun (d ∷ calls) place
 -- ---- how it is said
 
 -- of a released instance it is said so for ever
-gone_stays : (o : Outcome) (waits : Bool) (charges : ℕ) → status_by o true waits charges ≡ when_released (status_by o true waits charges)
-gone_stays (returned results) waits charges = refl
-gone_stays (stopped trap) waits charges = refl
-gone_stays cancelled waits charges = refl
-gone_stays dead waits charges = refl
-gone_stays pending waits charges = refl
+gone_stays : (o : Outcome) (waits : Bool) (stands : Option ℕ) (charges : ℕ) → status_by o true waits stands charges ≡ when_released (status_by o true waits stands charges)
+gone_stays (returned results) waits stands charges = refl
+gone_stays (stopped trap) waits stands charges = refl
+gone_stays cancelled waits stands charges = refl
+gone_stays dead waits stands charges = refl
+gone_stays pending waits stands charges = refl
 
 -- and where it is released now
-pub goes_so : (o : Outcome) (waits : Bool) (charges : ℕ) → (waits ≡ true → charges ≡ 0)
-    → status_by o true waits charges ≡ when_released (status_by o false waits charges)
-goes_so (returned results) waits charges none = refl
-goes_so (stopped trap) waits charges none = refl
-goes_so cancelled waits charges none = refl
-goes_so dead waits charges none = refl
-goes_so pending true charges none = ap (λ n. texts.released n) (none refl)
-goes_so pending false charges none = refl
+pub goes_so : (o : Outcome) (waits : Bool) (stands : Option ℕ) (charges : ℕ) → (waits ≡ true → charges ≡ 0)
+    → status_by o true waits stands charges ≡ when_released (status_by o false waits stands charges)
+goes_so (returned results) waits stands charges none = refl
+goes_so (stopped trap) waits stands charges none = refl
+goes_so cancelled waits stands charges none = refl
+goes_so dead waits stands charges none = refl
+goes_so pending true stands charges none = ap (λ n. texts.released n) (none refl)
+goes_so pending false None charges none = refl
+goes_so pending false (Some fault) charges none = refl
 
 said_gone : (g : NamedInstance) (place : ℕ) (c : Call) (last_printed : Option CallStatus) → IsReleased g → IsPrinted g place c last_printed → WasPrinted g place c last_printed
 said_gone g place c last_printed gone is =
     let waits = is_some (first_open (take place g.calls)) in
     let stays : call_status g place c ≡ when_released (call_status g place c) =
-    subst (λ b. status_by c.outcome b waits c.charges ≡ when_released (status_by c.outcome b waits c.charges)) (sym gone) (gone_stays c.outcome waits c.charges) in
+    subst (λ b. status_by c.outcome b waits g.at_fault c.charges ≡ when_released (status_by c.outcome b waits g.at_fault c.charges)) (sym gone) (gone_stays c.outcome waits g.at_fault c.charges) in
     (call_status g place c, is, stays)
 
 -- ---- calls run
 
-run_at : (gs run : List NamedInstance) (j : ℕ) (r : NamedInstance) → AllZip RunsAlone gs run → slice_get run j ≡ Some r
-    → (g : NamedInstance) × (slice_get gs j ≡ Some g) × RunsAlone g r
-run_at [] [] j r all e = absurd (none-some r e)
-run_at [] (x ∷ run) j r all e = absurd all
-run_at (g ∷ gs) [] j r all e = absurd all
-run_at (g ∷ gs) (x ∷ run) zero r all e = (g, refl, subst (RunsAlone g) (same_Some x r e) all.0)
-run_at (g ∷ gs) (x ∷ run) (suc j) r all e = run_at gs run j r all.1 e
+run_at : (faults : List ℕ) (gs run : List NamedInstance) (j : ℕ) (r : NamedInstance) → AllZip (RunsAmid faults) gs run → slice_get run j ≡ Some r
+    → (g : NamedInstance) × (slice_get gs j ≡ Some g) × RunsAmid faults g r
+run_at faults [] [] j r all e = absurd (none-some r e)
+run_at faults [] (x ∷ run) j r all e = absurd all
+run_at faults (g ∷ gs) [] j r all e = absurd all
+run_at faults (g ∷ gs) (x ∷ run) zero r all e = (g, refl, subst (RunsAmid faults g) (same_Some x r e) all.0)
+run_at faults (g ∷ gs) (x ∷ run) (suc j) r all e = run_at faults gs run j r all.1 e
 
-ran_at : (gs run : List NamedInstance) (j : ℕ) (g : NamedInstance) → AllZip RunsAlone gs run → slice_get gs j ≡ Some g
-    → (r : NamedInstance) × (slice_get run j ≡ Some r) × RunsAlone g r
-ran_at [] [] j g all e = absurd (none-some g e)
-ran_at [] (x ∷ run) j g all e = absurd all
-ran_at (y ∷ gs) [] j g all e = absurd all
-ran_at (y ∷ gs) (x ∷ run) zero g all e = (x, refl, subst (λ k. RunsAlone k x) (same_Some y g e) all.0)
-ran_at (y ∷ gs) (x ∷ run) (suc j) g all e = ran_at gs run j g all.1 e
+ran_at : (faults : List ℕ) (gs run : List NamedInstance) (j : ℕ) (g : NamedInstance) → AllZip (RunsAmid faults) gs run → slice_get gs j ≡ Some g
+    → (r : NamedInstance) × (slice_get run j ≡ Some r) × RunsAmid faults g r
+ran_at faults [] [] j g all e = absurd (none-some g e)
+ran_at faults [] (x ∷ run) j g all e = absurd all
+ran_at faults (y ∷ gs) [] j g all e = absurd all
+ran_at faults (y ∷ gs) (x ∷ run) zero g all e = (x, refl, subst (λ k. RunsAmid faults k x) (same_Some y g e) all.0)
+ran_at faults (y ∷ gs) (x ∷ run) (suc j) g all e = ran_at faults gs run j g all.1 e
 
-run_places : (g r : NamedInstance) → RunsAlone g r → KeepsPlaces g.calls r.calls
-run_places g _ (is_gone gone) = places_stay g.calls
-run_places g _ (has_run {calls = calls} live come replay rest) = zip_places g.calls calls come
+run_places : (faults : List ℕ) (g r : NamedInstance) → RunsAmid faults g r → KeepsPlaces g.calls r.calls
+run_places faults g _ (gone_still gone) = places_stay g.calls
+run_places faults g _ (stands_still live stands) = places_stay g.calls
+run_places faults g _ (runs_on {calls = calls} live come replay rest) = zip_places g.calls calls come
 
 -- who is released then was so, and has the same calls
-gone_before : (g r : NamedInstance) → RunsAlone g r → IsReleased r → r ≡ g
-gone_before g _ (is_gone gone) released = refl
-gone_before g _ (has_run live come replay rest) released = absurd (cc (live, released))
+gone_before : (faults : List ℕ) (g r : NamedInstance) → RunsAmid faults g r → IsReleased r → r ≡ g
+gone_before faults g _ (gone_still gone) released = refl
+gone_before faults g _ (stands_still live stands) released = refl
+gone_before faults g _ (runs_on live come replay rest) released = absurd (cc (live, released))
 
-pub runs_well : (m : ScriptState) (run : List NamedInstance) → IsWellMade m → AllZip RunsAlone m.instances run → IsWellMade (record m { instances = run })
-runs_well m run h all = record {
+pub runs_well : (faults : List ℕ) (m : ScriptState) (run : List NamedInstance) → IsWellMade m → AllZip (RunsAmid faults) m.instances run → IsWellMade (record m { instances = run })
+runs_well faults m run h all = record {
   there = record {
     starts = λ j r e.
-        let d = run_at m.instances run j r all e in
+        let d = run_at faults m.instances run j r all e in
         let c = h.there.starts j d.0 d.1 in
-        run_places d.0 r d.2 0 c.0 c.1;
+        run_places faults d.0 r d.2 0 c.0 c.1;
     calls = λ n i place v at outcome.
         let d = h.there.calls n i place v at outcome in
-        let r = ran_at m.instances run i d.0 all d.2 in
-        let c = run_places d.0 r.0 r.2 place d.1 d.3 in
+        let r = ran_at faults m.instances run i d.0 all d.2 in
+        let c = run_places faults d.0 r.0 r.2 place d.1 d.3 in
         (r.0, c.0, r.1, c.1);
   };
   gone = record {
     starts = λ j r c e released has first.
-        let d = run_at m.instances run j r all e in
-        let same = gone_before d.0 r d.2 released in
+        let d = run_at faults m.instances run j r all e in
+        let same = gone_before faults d.0 r d.2 released in
         h.gone.starts j r c (d.1 ∙ ap Some (sym same)) released has first;
     calls = λ n i place v r c at outcome e released first.
-        let d = run_at m.instances run i r all e in
-        let same = gone_before d.0 r d.2 released in
+        let d = run_at faults m.instances run i r all e in
+        let same = gone_before faults d.0 r d.2 released in
         h.gone.calls n i place v r c at outcome (d.1 ∙ ap Some (sym same)) released first;
   };
   ended = record {
     taken = record {
       starts = λ j r c e anyone has first.
-          let d = run_at m.instances run j r all e in
+          let d = run_at faults m.instances run j r all e in
           let before = h.there.starts j d.0 d.1 in
-          let kept = run_start d.0 r d.2 in
+          let kept = run_start faults d.0 r d.2 in
           subst (HasEndedSo r 0 c) (sym kept.1)
-          (run_ended d.0 r 0 before.0 c d.0.last_printed d.2 before.1 first (h.ended.taken.starts j d.0 before.0 d.1 tt (kept.0 has) before.1));
+          (run_ended faults d.0 r 0 before.0 c d.0.last_printed d.2 before.1 first (h.ended.taken.starts j d.0 before.0 d.1 tt (kept.0 has) before.1));
       calls = λ n i place v r c at outcome e anyone first.
-          let d = run_at m.instances run i r all e in
+          let d = run_at faults m.instances run i r all e in
           let before = h.there.calls n i place v at outcome in
           let same : before.0 ≡ d.0 = same_Some before.0 d.0 (sym before.2 ∙ d.1) in
           let here : slice_get d.0.calls place ≡ Some before.1 = subst (λ (x : NamedInstance). slice_get x.calls place ≡ Some before.1) same before.3 in
-          run_ended d.0 r place before.1 c v.last_printed d.2 here first (h.ended.taken.calls n i place v d.0 before.1 at outcome d.1 tt here);
+          run_ended faults d.0 r place before.1 c v.last_printed d.2 here first (h.ended.taken.calls n i place v d.0 before.1 at outcome d.1 tt here);
     };
     refused = h.ended.refused;
-    starts_first = λ j r e. let d = run_at m.instances run j r all e in run_starts_first d.0 r d.2 (h.ended.starts_first j d.0 d.1);
+    starts_first = λ j r e. let d = run_at faults m.instances run j r all e in run_starts_first faults d.0 r d.2 (h.ended.starts_first j d.0 d.1);
   };
 }
 
@@ -386,18 +390,19 @@ says_well m starts calls instances invoked h print_starts print_calls =
 
 -- ---- who is there behind a drain was there before, under the same name
 
-run_name : (g r : NamedInstance) → RunsAlone g r → r.name ≡ g.name
-run_name g _ (is_gone gone) = refl
-run_name g _ (has_run live come replay rest) = refl
+run_name : (faults : List ℕ) (g r : NamedInstance) → RunsAmid faults g r → r.name ≡ g.name
+run_name faults g _ (gone_still gone) = refl
+run_name faults g _ (stands_still live stands) = refl
+run_name faults g _ (runs_on live come replay rest) = refl
 
 said_name : (g g2 : NamedInstance) (here : List Reply) → PrintsStart g here g2 → g2.name ≡ g.name
 said_name g _ here (has_none p q) = refl
 said_name g _ here (has_one n e x) = refl
 
-pub drained_guest : (m m2 : ScriptState) (lines : List Reply) (i : ℕ) (g2 : NamedInstance) → Drains m lines m2 → slice_get m2.instances i ≡ Some g2
+pub drained_guest : (faults : List ℕ) (m m2 : ScriptState) (lines : List Reply) (i : ℕ) (g2 : NamedInstance) → DrainsAmid faults m lines m2 → slice_get m2.instances i ≡ Some g2
     → (g : NamedInstance) × (slice_get m.instances i ≡ Some g) × (g2.name ≡ g.name)
-drained_guest m m2 lines i g2 drains at =
+drained_guest faults m m2 lines i g2 drains at =
     let there : slice_get drains.instances i ≡ Some g2 = ap (λ (x : ScriptState). slice_get x.instances i) (sym drains.after) ∙ at in
     let last_printed = said_at drains.run drains.instances drains.starts i g2 drains.print_starts there in
-    let ran = run_at m.instances drains.run i last_printed.0 drains.each_runs last_printed.2 in
-    (ran.0, ran.1, said_name last_printed.0 g2 last_printed.1 last_printed.3 ∙ run_name ran.0 last_printed.0 ran.2)
+    let ran = run_at faults m.instances drains.run i last_printed.0 drains.each_runs last_printed.2 in
+    (ran.0, ran.1, said_name last_printed.0 g2 last_printed.1 last_printed.3 ∙ run_name faults ran.0 last_printed.0 ran.2)

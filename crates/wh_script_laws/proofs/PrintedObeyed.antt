@@ -10,7 +10,7 @@ use Rattle.wh_script_model.specs.Texts.{CallStatus, Reply}
 use Rattle.wh_script_model.specs.ScriptState.{NamedInstance, Invoked, ScriptState, call_rejected, call_accepted, InvokeOutcome, with_instance, with_invoked, empty_script}
 use Rattle.wh_script_model.specs.Drains.{status_by, call_status}
 use Rattle.wh_script_model.specs.Receiving.{ReceivesModule, module_is_kept, module_isnt_kept, module_out_of_memory, ReceivesInstance, is_admitted, isnt_admitted, admission_out_of_memory, ReceivesCall, instance_is_gone, isnt_invoked, is_invoked, call_out_of_memory}
-use Rattle.wh_script_model.specs.Answers.{Files, IsObeyed, module_name_is_taken, no_file, module_comes, no_such_module, instance_name_is_taken, instance_comes, no_such_instance, is_drained, is_scanned, is_reported, is_refueled, no_one_to_refuel, no_call_to_refuel, is_cancelled, no_one_to_cancel, no_call_to_cancel, no_one_to_retry, no_fault_to_retry, is_released, no_one_to_release}
+use Rattle.wh_script_model.specs.Answers.{Files, IsObeyed, module_name_is_taken, no_file, module_comes, no_such_module, instance_name_is_taken, instance_comes, no_such_instance, is_drained, is_scanned, is_reported, is_refueled, no_one_to_refuel, no_call_to_refuel, is_cancelled, no_one_to_cancel, no_call_to_cancel, is_retried, no_one_to_retry, no_fault_to_retry, is_released, no_one_to_release}
 use Rattle.wh_script_laws.specs.Printed.{StartsFirst, HasStart, IsPrinted, WasPrinted, ArePrinted, IsReleased, AllArePrinted, CallsAreThere, IsWellMade}
 use Rattle.wh_script_laws.proofs.Ended.{KeepsEnded, none_changes, first_open_changes, cancel_changes, starts_first_pushed, starts_first_changed, starts_first_cancelled}
 use Rattle.wh_script_laws.proofs.EndedObeyed.{none_ended, push_changes, ended_with, ended_guest, ended_call}
@@ -73,10 +73,10 @@ gone_with instances invoked i h live gone = record {
       (set_cases instances i j h k e);
 }
 
-with_well : (m : ScriptState) (i : ℕ) (g : NamedInstance) (calls : List Call) → slice_get m.instances i ≡ Some g → g.is_released ≡ false → KeepsPlaces g.calls calls
-    → KeepsEnded g.calls calls → (StartsFirst g.calls → StartsFirst calls) → IsWellMade m → IsWellMade (with_instance m i (record g { calls = calls }))
-with_well m i g calls at live places keeps first well =
-    let h : NamedInstance = record g { calls = calls } in
+with_well : (m : ScriptState) (i : ℕ) (g : NamedInstance) (calls : List Call) (stands : Option ℕ) → slice_get m.instances i ≡ Some g → g.is_released ≡ false → KeepsPlaces g.calls calls
+    → KeepsEnded g.calls calls → (StartsFirst g.calls → StartsFirst calls) → IsWellMade m → IsWellMade (with_instance m i (record g { calls = calls; at_fault = stands }))
+with_well m i g calls stands at live places keeps first well =
+    let h : NamedInstance = record g { calls = calls; at_fault = stands } in
     record {
       there = there_with m.instances m.invoked i g h at places well.there;
       gone = gone_with m.instances m.invoked i h live well.gone;
@@ -89,8 +89,8 @@ was_said : (g : NamedInstance) (z : Standing) (place : ℕ) (c : Call) (last_pri
 was_said g z place c last_printed live replay at is =
     let waits = is_some (first_open (take place g.calls)) in
     let none = λ (w : waits ≡ true). waiting_has_none g.m (given_of g.params) g.calls z place c replay at w in
-    let now : call_status g place c ≡ status_by c.outcome false waits c.charges = ap (λ b. status_by c.outcome b waits c.charges) live in
-    (status_by c.outcome false waits c.charges, is ∙ ap Some now, goes_so c.outcome waits c.charges none)
+    let now : call_status g place c ≡ status_by c.outcome false waits g.at_fault c.charges = ap (λ b. status_by c.outcome b waits g.at_fault c.charges) live in
+    (status_by c.outcome false waits g.at_fault c.charges, is ∙ ap Some now, goes_so c.outcome waits g.at_fault c.charges none)
 
 released_well : (m : ScriptState) (i : ℕ) (g : NamedInstance) (z : Standing) → slice_get m.instances i ≡ Some g → g.is_released ≡ false → Replay g.m (given_of g.params) g.calls z
     → IsWellMade m → AllArePrinted m → IsWellMade (with_instance m i (record g { is_released = true }))
@@ -208,7 +208,7 @@ call_well may_run_out m _ i g name fuel given at (instance_is_gone r) h = turned
 call_well may_run_out m _ i g name fuel given at (isnt_invoked fault l f) h = turned_well m _ h
 call_well may_run_out m _ i g name fuel given at (is_invoked vs live n x a) h =
     let k : NamedInstance = record g { calls = g.calls ++ _ ∷ [] } in
-    let between = with_well m i g k.calls at live (push_places g.calls _) (push_changes g.calls _) (starts_first_pushed g.calls _ refl) h in
+    let between = with_well m i g k.calls g.at_fault at live (push_places g.calls _) (push_changes g.calls _) (starts_first_pushed g.calls _ refl) h in
     one_more_call (with_instance m i k) (call_accepted i (length g.calls))
     (λ j place e.
     let same_i : i ≡ j = ap guest_taken e in
@@ -234,15 +234,17 @@ obeys_well may_run_out settings files m m2 number command replies is_drained h a
 obeys_well may_run_out settings files m m2 number command replies is_scanned h all = h
 obeys_well may_run_out settings files m m2 number command replies is_reported h all = h
 obeys_well may_run_out settings files m _ number command replies (is_refueled i {g = g} n live f) h all =
-    with_well m i g _ n.0 live (first_open_places _ g.calls) (first_open_changes _ g.calls) (starts_first_changed _ (λ c. refl) g.calls) h
+    with_well m i g _ g.at_fault n.0 live (first_open_places _ g.calls) (first_open_changes _ g.calls) (starts_first_changed _ (λ c. refl) g.calls) h
 obeys_well may_run_out settings files m m2 number command replies (no_one_to_refuel i n l) h all = h
 obeys_well may_run_out settings files m m2 number command replies (no_call_to_refuel i n l f) h all = h
 obeys_well may_run_out settings files m _ number command replies (is_cancelled i {g = g} n live f) h all =
-    with_well m i g _ n.0 live (cancel_places g.calls) (cancel_changes g.calls (h.ended.starts_first i g n.0)) (λ first. starts_first_cancelled g.calls) h
+    with_well m i g _ None n.0 live (cancel_places g.calls) (cancel_changes g.calls (h.ended.starts_first i g n.0)) (λ first. starts_first_cancelled g.calls) h
 obeys_well may_run_out settings files m m2 number command replies (no_one_to_cancel i n l) h all = h
 obeys_well may_run_out settings files m m2 number command replies (no_call_to_cancel i n l f) h all = h
 obeys_well may_run_out settings files m m2 number command replies (no_one_to_retry i n l) h all = h
-obeys_well may_run_out settings files m m2 number command replies (no_fault_to_retry i n l) h all = h
+obeys_well may_run_out settings files m _ number command replies (is_retried i {g = g} n live f) h all =
+    with_well m i g g.calls None n.0 live (places_stay g.calls) (none_changes g.calls) (λ first. first) h
+obeys_well may_run_out settings files m m2 number command replies (no_fault_to_retry i n l f) h all = h
 obeys_well may_run_out settings files m _ number command replies (is_released i {g = g} z n live r) h all =
     released_well m i g z n.0 live r h all
 obeys_well may_run_out settings files m m2 number command replies (no_one_to_release i n l) h all = h

@@ -1,15 +1,12 @@
 -- Where no reply names out of memory, no memory ran out.
-use Rattle.std.proofs.Common.{◌≡◌, ℕ, ◌+◌, true, false, List, [], ◌∷◌, ◌++◌, slice_get, Option, Some, None, zero, suc, refl, sym, ap, subst}
-use Rattle.std.specs.List.{AllByRecursion}
+use Rattle.std.proofs.Common.{◌≡◌, ℕ, ◌+◌, true, false, List, [], ◌∷◌, ◌++◌, slice_get, Some, None, zero, suc, refl, sym, subst}
 use Rattle.wh_script_model.specs.Settings.{Settings}
 use Rattle.wh_script_model.specs.Commands.{Command}
 use Rattle.wh_script_model.specs.Texts.{Reply}
-use Rattle.wh_script_model.specs.ScriptState.{NamedInstance, Invoked, ScriptState, empty_script, call_rejected, call_accepted}
-use Rattle.wh_script_model.specs.Drains.{PrintsLine, as_before, anew, PrintsCall, is_refused, is_taken, PrintCalls, Drains}
-use Rattle.wh_script_model.specs.Receiving as receiving
-use Rattle.wh_script_model.specs.Receiving.{ReceivesModule, module_is_kept, module_isnt_kept, module_out_of_memory, OutOfMemoryForModule, decoder_out_of_memory, validator_out_of_memory, linker_out_of_memory, host_out_of_memory, ReceivesInstance, is_admitted, isnt_admitted, admission_out_of_memory, ReceivesCall, instance_is_gone, isnt_invoked, is_invoked, call_out_of_memory}
-use Rattle.wh_script_model.specs.Answers as answers
-use Rattle.wh_script_model.specs.Answers.{Files, IsObeyed, module_name_is_taken, no_file, module_comes, no_such_module, instance_name_is_taken, instance_comes, no_such_instance, is_drained, is_scanned, is_reported, is_refueled, no_one_to_refuel, no_call_to_refuel, is_cancelled, no_one_to_cancel, no_call_to_cancel, no_one_to_retry, no_fault_to_retry, is_released, no_one_to_release, AnswersLine, skipped, invoked, obeyed, too_long, no_command, line_out_of_memory, AnswersLines, AnswersScript}
+use Rattle.wh_script_model.specs.ScriptState.{NamedInstance, Invoked, ScriptState, empty_script, call_rejected}
+use Rattle.wh_script_model.specs.Drains.{as_before, anew, PrintsCall, is_refused, is_taken, PrintCalls, Drains}
+use Rattle.wh_script_model.specs.Receiving.{ReceivesModule, module_is_kept, module_isnt_kept, module_out_of_memory, decoder_out_of_memory, validator_out_of_memory, linker_out_of_memory, host_out_of_memory, ReceivesInstance, is_admitted, isnt_admitted, admission_out_of_memory, ReceivesCall, instance_is_gone, isnt_invoked, is_invoked, call_out_of_memory}
+use Rattle.wh_script_model.specs.Answers.{Files, IsObeyed, module_name_is_taken, no_file, module_comes, no_such_module, instance_name_is_taken, instance_comes, no_such_instance, is_drained, is_scanned, is_reported, is_refueled, no_one_to_refuel, no_call_to_refuel, is_cancelled, no_one_to_cancel, no_call_to_cancel, is_retried, no_one_to_retry, no_fault_to_retry, is_released, no_one_to_release, AnswersLine, skipped, invoked, obeyed, too_long, no_command, line_out_of_memory, AnswersLines, AnswersScript}
 use Rattle.wh_script_laws.specs.OutOfMemory.{IsOutOfMemory, NoneIsOutOfMemory}
 use Rattle.wh_script_laws.proofs.CommandsKnown.{last_there}
 
@@ -121,7 +118,8 @@ module _ (settings : Settings) (files : Files) where
   obeyed_plain w w2 number command replies (no_one_to_cancel i has gone) plenty = no_one_to_cancel i has gone
   obeyed_plain w w2 number command replies (no_call_to_cancel i has live none) plenty = no_call_to_cancel i has live none
   obeyed_plain w w2 number command replies (no_one_to_retry i has gone) plenty = no_one_to_retry i has gone
-  obeyed_plain w w2 number command replies (no_fault_to_retry i has live) plenty = no_fault_to_retry i has live
+  obeyed_plain w w2 number command replies (is_retried i has live stands) plenty = is_retried i has live stands
+  obeyed_plain w w2 number command replies (no_fault_to_retry i has live none) plenty = no_fault_to_retry i has live none
   obeyed_plain w w2 number command replies (is_released i z has live replay) plenty = is_released i z has live replay
   obeyed_plain w w2 number command replies (no_one_to_release i has gone) plenty = no_one_to_release i has gone
 

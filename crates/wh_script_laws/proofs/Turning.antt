@@ -1,13 +1,13 @@
 -- Turns bring the calls of an instance further.
 use Rattle.std.proofs.Common.{◌≡◌, ◌≢◌, ℕ, zero, suc, ◌+◌, ◌⊎◌, ⊎_elim, inl, inr, Bool, true, List, [], ◌∷◌, ◌++◌, map, Option, Some, None, get_or, slice_set, refl, sym, ap, subst, ◌∙◌, arith, append_assoc}
-use Rattle.std.specs.List.{AllZip, AllByRecursion}
+use Rattle.std.proofs.lemmas.Option.{none-some}
+use Rattle.std.specs.List.{AllZip, AllByRecursion, Contains}
 use Rattle.wh_model.specs.declared.memory.Need.{Need}
 use Rattle.wh_model.specs.Format.Syntax.{Module}
 use Rattle.wh_model.specs.Execution.Store.{Instance}
 use Rattle.wh_model.specs.Execution.Replay.{Outcome, cancelled, dead, Call}
 use Rattle.wh_host_model.specs.declared.Tax.{Tax}
 use Rattle.wh_host_model.specs.declared.plain.InstId.{InstId}
-use Rattle.wh_host_model.specs.declared.plain.SwapError.{SwapError}
 use Rattle.wh_host_model.specs.declared.plain.TurnEnd.{TurnEnd}
 use Rattle.wh_host_model.specs.Space.Parts.{Space, claim}
 use Rattle.wh_host_model.specs.Space.Sound.{IsSound}
@@ -23,7 +23,7 @@ use Rattle.wh_script_model.specs.Drains.{ComesTo, had_ended, goes_on}
 use Rattle.wh_script_model.specs.Served.{IsTenantOf}
 use Rattle.wh_host_model.proofs.Host.Holding.{memory_is_sound, journals_are_in_order}
 use Rattle.wh_host_model.proofs.Host.Opening.{Apart, apart_none, apart_then, apart_steps, proceeds_apart}
-use Rattle.wh_script_laws.specs.Following.{ComeFurther, IsFollowed, is_there, IsPlaced}
+use Rattle.wh_script_laws.specs.Following.{ComeFurther, IsFollowed, is_there, IsPlaced, StandsAmid, device_fault}
 use Rattle.wh_script_laws.specs.Laws.{TurnsFollow}
 use Rattle.wh_script_laws.proofs.Sums.{claims_decide}
 use Rattle.wh_script_laws.proofs.Drains.{comes_nowhere, come_nowhere, moved_followed, not_cancelled, zip_so}
@@ -79,24 +79,42 @@ never_cancelled (returns x y) e = absurd (cc e)
 never_cancelled (traps x) e = absurd (cc e)
 never_cancelled (writes_all x y z) e = absurd (cc e)
 
-abbrev HasNoFault : Option Suspension → Type 0
-HasNoFault o = (fault : SwapError) → o ≢ Some (for_device fault)
+-- where the call stands for a fault of a device then, it stood for it before, and came no further
+abbrev StandsStill : Tenant → Tenant → Type 0
+StandsStill t t2 =
+    (fault : ℕ) → device_fault t2.waiting_for ≡ Some fault
+    → (device_fault t.waiting_for ≡ Some fault) × (journal_calls (journal t) ≡ journal_calls (journal t2))
 
-no_fault_at_frame : (n : ℕ) (o : Option Suspension) → HasNoFault o → HasNoFault (at_frame n o)
-no_fault_at_frame zero None none fault e = absurd (cc e)
-no_fault_at_frame zero (Some for_fuel) none fault e = absurd (cc e)
-no_fault_at_frame zero (Some for_frame) none fault e = absurd (cc e)
-no_fault_at_frame zero (Some (for_device f)) none fault e = absurd (none f refl)
-no_fault_at_frame (suc n) o none fault e = absurd (cc e)
+still_at_frame : (steps : ℕ) (o : Option Suspension) (fault : ℕ) → device_fault (at_frame steps o) ≡ Some fault
+    → (device_fault o ≡ Some fault) × (steps ≡ 0)
+still_at_frame zero None fault e = absurd (none-some fault e)
+still_at_frame zero (Some for_fuel) fault e = absurd (none-some fault e)
+still_at_frame zero (Some for_frame) fault e = absurd (none-some fault e)
+still_at_frame zero (Some (for_device f)) fault e = (e, refl)
+still_at_frame (suc steps) o fault e = absurd (none-some fault e)
 
--- the same instance, of which calls have come further, and no device has failed for it
+comes_none : (e : Entry) (k n : ℕ) → k ≡ 0 → n ≡ 0 → (gone_further e k n).call ≡ e.call
+comes_none e k n p q =
+    let pieces : e.call.fragments + k ≡ e.call.fragments = omega (arith, p) in
+    let charges : e.call.charges + n ≡ e.call.charges = omega (arith, q) in
+    rw (pieces, charges) refl
+
+still_so : (t : Tenant) (e : Entry) (es : List Entry) (k n : ℕ) → t.open_calls ≡ e ∷ es → k ≡ 0 → n ≡ 0
+    → journal_calls (journal t) ≡ journal_calls (t.ended ++ gone_further e k n ∷ es)
+still_so t e es k n are p q =
+    ap (λ os. journal_calls (t.ended ++ os)) are ∙ behind_same t.ended e (gone_further e k n) es (sym (comes_none e k n p q)) where
+      behind_same : (before : List Entry) (a b : Entry) (rest : List Entry) → a.call ≡ b.call → journal_calls (before ++ a ∷ rest) ≡ journal_calls (before ++ b ∷ rest)
+      behind_same [] a b rest same = ap (λ c. c ∷ journal_calls rest) same
+      behind_same (x ∷ before) a b rest same = ap (λ cs. x.call ∷ cs) (behind_same before a b rest same)
+
+-- the same instance, of which calls have come further, and no device has failed for it meanwhile
 record TurnLeaves (s s2 : Space) (t t2 : Tenant) : Type 0 where
   place : t2.place ≡ t.place
   of : t2.of ≡ t.of
   params : t2.params ≡ t.params
   inst : t2.inst ≡ t.inst
   further : AllZip ComesTo (journal_calls (journal t)) (journal_calls (journal t2))
-  no_fault : HasNoFault t.waiting_for → HasNoFault t2.waiting_for
+  still : StandsStill t t2
   apart : Apart t.place s s2
   sound : IsSound s2
 
@@ -107,7 +125,7 @@ left_as_it_was s t sound = record {
   params = refl;
   inst = refl;
   further = come_nowhere (journal_calls (journal t));
-  no_fault = λ h. h;
+  still = λ fault e. (e, refl);
   apart = apart_none t.place s;
   sound = sound;
 }
@@ -129,7 +147,7 @@ closed_leaves s0 s t t2 e e2 es r are open_ones first apart sound (faces_next li
   params = refl;
   inst = refl;
   further = rw append_assoc (further_behind t e e2 es are first);
-  no_fault = λ h fault e. absurd (cc e);
+  still = λ fault is. absurd (none-some fault is);
   apart = apart;
   sound = sound;
 }
@@ -139,7 +157,7 @@ closed_leaves s0 s t t2 e e2 es r are open_ones first apart sound (is_dead died)
   params = refl;
   inst = refl;
   further = rw append_assoc (behind t.ended t.open_calls e e2 es (map (λ w. ended_by w dead) es ++ []) are first (all_dead es (subst (AllByRecursion IsOpenYet) are open_ones).1));
-  no_fault = λ h fault e. absurd (cc e);
+  still = λ fault is. absurd (none-some fault is);
   apart = apart;
   sound = sound;
 }
@@ -160,7 +178,7 @@ turn_leaves q s s2 t t2 answer sound open_ones (has_no_fuel {e = e} {es = es} {k
       params = refl;
       inst = refl;
       further = further_behind t e (gone_further e k n) es are (goes_further e k n is.0);
-      no_fault = λ h fault e. absurd (cc e);
+      still = λ fault is. absurd (none-some fault is);
       apart = apart_then (proceeds_apart t e goes) (apart_steps steps);
       sound = steps.sound;
     }
@@ -173,7 +191,10 @@ turn_leaves q s s2 t t2 answer sound open_ones (has_no_frame {e = e} {es = es} {
       params = refl;
       inst = refl;
       further = further_behind t e (gone_further e k n) es are (goes_further e k n is.0);
-      no_fault = no_fault_at_frame (k + n) t.waiting_for;
+      still = λ fault is.
+          let so = still_at_frame (k + n) t.waiting_for fault is in
+          let steps = so.1 in
+          (so.0, still_so t e es k n are (omega (arith, steps)) (omega (arith, steps)));
       apart = apart_then (proceeds_apart t e goes) (apart_steps steps);
       sound = steps.sound;
     }
@@ -186,7 +207,7 @@ turn_leaves q s s2 t t2 answer sound open_ones (can_go_on {e = e} {es = es} {k =
       params = refl;
       inst = refl;
       further = further_behind t e (gone_further e k n) es are (goes_further e k n is.0);
-      no_fault = λ h fault e. absurd (cc e);
+      still = λ fault is. absurd (none-some fault is);
       apart = apart_then (proceeds_apart t e goes) (apart_steps steps);
       sound = steps.sound;
     }
@@ -210,9 +231,16 @@ zip_set R S t t2 so changed (x ∷ xs) [] i there h = absurd h
 zip_set R S t t2 so changed (x ∷ xs) (y ∷ ys) zero there h = (changed x (subst (R x) there h.0), zip_so R S so xs ys h.1)
 zip_set R S t t2 so changed (x ∷ xs) (y ∷ ys) (suc i) there h = (so x y h.0, zip_set R S t t2 so changed xs ys i there h.1)
 
-turned_followed : (w w2 : World) (s s2 : Space) (t t2 : Tenant) (g : NamedInstance) → w2.modules ≡ w.modules → TurnLeaves s s2 t t2
-    → IsFollowed ComeFurther w g (Some t) → IsFollowed ComeFurther w2 g (Some t2)
-turned_followed w w2 s s2 t t2 g same leaves (is_there same_one further sound) =
+stands_yet : (faults : List ℕ) (g : NamedInstance) (t t2 : Tenant) → StandsStill t t2 → StandsAmid faults g t → StandsAmid faults g t2
+stands_yet faults g t t2 still stands fault e =
+    let so = still fault e in
+    ⊎_elim (λ (met : Contains faults fault). inl met)
+    (λ (yet : (g.at_fault ≡ Some fault) × (g.calls ≡ journal_calls (journal t))). inr (yet.0, yet.1 ∙ so.1))
+    (stands fault so.0)
+
+turned_followed : (faults : List ℕ) (w w2 : World) (s s2 : Space) (t t2 : Tenant) (g : NamedInstance) → w2.modules ≡ w.modules → TurnLeaves s s2 t t2
+    → IsFollowed ComeFurther (StandsAmid faults) w g (Some t) → IsFollowed ComeFurther (StandsAmid faults) w2 g (Some t2)
+turned_followed faults w w2 s s2 t t2 g same leaves (is_there same_one further stands) =
     let on = come_then g.calls (journal_calls (journal t)) (journal_calls (journal t2)) further leaves.further in
     let of_one2 : IsTenantOf w2 t2 g = record {
       loaded = same_one.loaded;
@@ -223,25 +251,25 @@ turned_followed w w2 s s2 t t2 g same leaves (is_there same_one further sound) =
       is_live = same_one.is_live;
       calls = on;
     } in
-    is_there of_one2 on (leaves.no_fault sound)
+    is_there of_one2 on (stands_yet faults g t t2 leaves.still stands)
 
 -- each instance of a script is that of the host, and lies at its place
-pub record AreFollowed (w : World) (m : ScriptState) (places : List ℕ) : Type 0 where
+pub record AreFollowed (faults : List ℕ) (w : World) (m : ScriptState) (places : List ℕ) : Type 0 where
   pub modules : AllZip (λ (named : NamedModule) (loaded : Loaded). named.m ≡ loaded.m) m.modules w.modules
-  pub instances : AllZip (IsFollowed ComeFurther w) m.instances w.tenants
+  pub instances : AllZip (IsFollowed ComeFurther (StandsAmid faults) w) m.instances w.tenants
   pub placed : AllZip IsPlaced places w.tenants
 
 -- they are so on another host, on which the same is promised at each place
-pub record AreFollowedOn (w w2 : World) (m : ScriptState) (places : List ℕ) : Type 0 where
-  pub are : AreFollowed w2 m places
+pub record AreFollowedOn (faults : List ℕ) (w w2 : World) (m : ScriptState) (places : List ℕ) : Type 0 where
+  pub are : AreFollowed faults w2 m places
   pub claims : (j : ℕ) → claim w2.space j ≡ claim w.space j
   pub sound : IsSound w2.space
 
-pub turn_followed : AfterEvents (λ w. (m : ScriptState) (places : List ℕ) (id : InstId) (q : ℕ) (answer : TurnEnd) (w2 : World) → AreFollowed w m places
-    → IsTurn w id q answer w2 → AreFollowedOn w w2 m places)
-turn_followed frames slots tax events w happens m places id q answer w2 h (of_none none) =
+pub turn_followed : AfterEvents (λ w. (faults : List ℕ) (m : ScriptState) (places : List ℕ) (id : InstId) (q : ℕ) (answer : TurnEnd) (w2 : World) → AreFollowed faults w m places
+    → IsTurn w id q answer w2 → AreFollowedOn faults w w2 m places)
+turn_followed frames slots tax events w happens faults m places id q answer w2 h (of_none none) =
     record { are = h; claims = λ j. refl; sound = memory_is_sound frames slots tax events w happens }
-turn_followed frames slots tax events w happens m places id q answer w2 h (of_one {t = t} {t2 = t2} {s2 = s2} there turned) =
+turn_followed frames slots tax events w happens faults m places id q answer w2 h (of_one {t = t} {t2 = t2} {s2 = s2} there turned) =
     let order = journals_are_in_order frames slots tax events w happens id.number t there.0 in
     let sound = memory_is_sound frames slots tax events w happens in
     let leaves = turn_leaves q w.space s2 t t2 answer sound (open_ones order.calls) turned in
@@ -250,7 +278,7 @@ turn_followed frames slots tax events w happens m places id q answer w2 h (of_on
     record {
       are = record {
         modules = h.modules;
-        instances = zip_set (IsFollowed ComeFurther w) (IsFollowed ComeFurther after) t t2 (moved_followed ComeFurther w after refl) (λ g. turned_followed w after w.space s2 t t2 g refl leaves) m.instances w.tenants id.number there.0 h.instances;
+        instances = zip_set (IsFollowed ComeFurther (StandsAmid faults) w) (IsFollowed ComeFurther (StandsAmid faults) after) t t2 (moved_followed ComeFurther (StandsAmid faults) w after refl) (λ g. turned_followed faults w after w.space s2 t t2 g refl leaves) m.instances w.tenants id.number there.0 h.instances;
         placed = zip_set IsPlaced IsPlaced t t2 (λ place o at. at) (λ place at. leaves.place ∙ at) places w.tenants id.number there.0 h.placed;
       };
       claims = λ j.
@@ -262,9 +290,9 @@ turn_followed frames slots tax events w happens m places id q answer w2 h (of_on
     }
 
 pub turns_follow : TurnsFollow
-turns_follow frames slots tax events w happens settings m places id q answer w2 h turned whole =
+turns_follow frames slots tax events w happens faults settings m places id q answer w2 h turned whole =
     let sound = memory_is_sound frames slots tax events w happens in
-    let after = turn_followed frames slots tax events w happens m places id q answer w2 (record { modules = h.modules; instances = h.instances; placed = h.placed }) turned in
+    let after = turn_followed frames slots tax events w happens faults m places id q answer w2 (record { modules = h.modules; instances = h.instances; placed = h.placed }) turned in
     let sums = claims_decide w.space w2.space sound after.sound h.none_out (whole.none_out ∙ h.none_out) after.claims in
     record {
       frames = whole.frames ∙ h.frames;

@@ -1,11 +1,11 @@
 -- What a script knows of the host that runs its calls.
-use Rattle.std.specs.Prelude.{◌≡◌, ◌≢◌, ℕ, ◌+◌, ◌-◌, true, List, length, Option, Some, None}
-use Rattle.std.specs.List.{AllZip}
+use Rattle.std.specs.Prelude.{◌≡◌, ◌⊎◌, ℕ, ◌+◌, ◌-◌, true, List, length, Option, Some, None}
+use Rattle.std.specs.List.{AllZip, Contains}
 use Rattle.wh_model.specs.Execution.Replay.{Call}
-use Rattle.wh_host_model.specs.declared.plain.SwapError.{SwapError}
+use Rattle.wh_host_model.specs.SwapFaults.{swap_number}
 use Rattle.wh_host_model.specs.Space.Errands.{tickets}
 use Rattle.wh_host_model.specs.Space.Parts.{Space, minima, spreads}
-use Rattle.wh_host_model.specs.Host.Worlds.{for_device, Tenant, Loaded, World, journal, journal_calls}
+use Rattle.wh_host_model.specs.Host.Worlds.{Suspension, for_device, Tenant, Loaded, World, journal, journal_calls}
 use Rattle.wh_script_model.specs.Settings.{Settings}
 use Rattle.wh_script_model.specs.ScriptState.{NamedModule, NamedInstance, ScriptState, live_sum}
 use Rattle.wh_script_model.specs.Drains.{ComesTo}
@@ -19,11 +19,28 @@ AreSame known calls = known ≡ calls
 abbrev pub ComeFurther : List Call → List Call → Type 0
 ComeFurther = AllZip ComesTo
 
--- An instance of a script is that of the host, whose present call has met no fault of a device; or it was released.
-pub data IsFollowed (come : List Call → List Call → Type 0) (w : World) (g : NamedInstance) : Option Tenant → Type 0 where
-  is_there : {t : Tenant} → IsTenantOf w t g → come g.calls (journal_calls (journal t))
-      → ((fault : SwapError) → t.waiting_for ≢ Some (for_device fault)) → IsFollowed come w g (Some t)
-  is_gone : g.is_released ≡ true → IsFollowed come w g None
+-- the number of the fault of a device for which a call stands, if it does
+abbrev pub device_fault : Option Suspension → Option ℕ
+device_fault (Some (for_device fault)) = Some (swap_number fault)
+device_fault other = None
+
+-- it stands for the same fault as the script knows, or for none
+abbrev pub IsAtSameFault : NamedInstance → Tenant → Type 0
+IsAtSameFault g t = g.at_fault ≡ device_fault t.waiting_for
+
+-- while calls of the device had these faults: it stands for one of them, or for the same as before, where it was, or for
+-- none
+abbrev pub StandsAmid : (faults : List ℕ) → NamedInstance → Tenant → Type 0
+StandsAmid faults g t =
+    (fault : ℕ) → device_fault t.waiting_for ≡ Some fault
+    → Contains faults fault ⊎ ((g.at_fault ≡ Some fault) × (g.calls ≡ journal_calls (journal t)))
+
+-- An instance of a script is that of the host, whose present call stands as the script knows; or it was released.
+pub data IsFollowed (come : List Call → List Call → Type 0) (stands : NamedInstance → Tenant → Type 0) (w : World)
+    (g : NamedInstance) : Option Tenant → Type 0 where
+  is_there : {t : Tenant} → IsTenantOf w t g → come g.calls (journal_calls (journal t)) → stands g t
+      → IsFollowed come stands w g (Some t)
+  is_gone : g.is_released ≡ true → IsFollowed come stands w g None
 
 -- an instance that is there has this place
 abbrev pub IsPlaced : ℕ → Option Tenant → Type 0
@@ -33,8 +50,8 @@ IsPlaced place (Some t) = t.place ≡ place
 -- The host has the modules of the script and its instances, each by its number, at these places; it has as many frames
 -- and slots as the settings say, and their tax on idle pages, and promised what the instances were given; and no page is
 -- on its way.
-pub record FollowsScript (come : List Call → List Call → Type 0) (settings : Settings) (w : World) (m : ScriptState)
-    (places : List ℕ) : Type 0 where
+pub record FollowsScript (come : List Call → List Call → Type 0) (stands : NamedInstance → Tenant → Type 0)
+    (settings : Settings) (w : World) (m : ScriptState) (places : List ℕ) : Type 0 where
   pub frames : length w.space.pool.frames ≡ settings.frames
   pub slots : length w.space.slots.uses ≡ settings.slots
   pub tax_num : w.space.tax.num ≡ settings.num
@@ -43,16 +60,16 @@ pub record FollowsScript (come : List Call → List Call → Type 0) (settings :
   pub minima : minima w.space ≡ live_sum (λ p. p.min) m.instances
   pub spreads : spreads w.space ≡ live_sum (λ p. (p.max - p.min) + 1) m.instances
   pub modules : AllZip (λ (named : NamedModule) (loaded : Loaded). named.m ≡ loaded.m) m.modules w.modules
-  pub instances : AllZip (IsFollowed come w) m.instances w.tenants
+  pub instances : AllZip (IsFollowed come stands w) m.instances w.tenants
   pub placed : AllZip IsPlaced places w.tenants
 
 -- and each instance's calls are as the script knows them
 abbrev pub Knows : Settings → World → ScriptState → List ℕ → Type 0
-Knows = FollowsScript AreSame
+Knows = FollowsScript AreSame IsAtSameFault
 
--- or have come further
-abbrev pub RunsKnown : Settings → World → ScriptState → List ℕ → Type 0
-RunsKnown = FollowsScript ComeFurther
+-- or have come further, while calls of the device had these faults
+abbrev pub RunsKnown : (faults : List ℕ) → Settings → World → ScriptState → List ℕ → Type 0
+RunsKnown faults = FollowsScript ComeFurther (StandsAmid faults)
 
 -- no page begins or ends its way, there are as many frames and slots as before, and the tax is what it was
 pub record StaysWhole (s s2 : Space) : Type 0 where

@@ -1,9 +1,10 @@
 -- How what a script has made follows what happens on the host.
-use Rattle.std.specs.Prelude.{◌≡◌, ◌≢◌, ℕ, Bool, true, false, List, [], ◌∷◌, ◌++◌, slice_get, Option, Some, None, ℤ}
+use Rattle.std.specs.Prelude.{◌≡◌, ◌≢◌, ◌⊎◌, ℕ, Bool, true, false, List, [], ◌∷◌, ◌++◌, slice_get, Option, Some, None, ℤ}
 use Rattle.std.specs.List.{AllZip}
 use Rattle.wh_host_model.specs.declared.plain.InstId.{InstId}
+use Rattle.wh_host_model.specs.declared.plain.SwapError.{SwapError}
 use Rattle.wh_host_model.specs.declared.plain.TurnEnd.{TurnEnd}
-use Rattle.wh_host_model.specs.Host.Worlds.{Tenant, World, tenant}
+use Rattle.wh_host_model.specs.Host.Worlds.{for_device, Tenant, World, tenant}
 use Rattle.wh_host_model.specs.Owners.{Params}
 use Rattle.wh_host_model.specs.Host.Laws.{AfterEvents}
 use Rattle.wh_host_model.specs.Host.Happens.{IsTurn, LoadAnswer, IsLoad, AdmitAnswer, admit_ok, admit_refused, admit_out_of_memory, IsAdmit, InvokeAnswer, IsInvoke, CallAnswer, IsRefuel, IsCancel, IsRetry, IsRelease, OnlyMoves}
@@ -11,10 +12,11 @@ use Rattle.wh_script_model.specs.Settings.{Settings}
 use Rattle.wh_script_model.specs.Commands.{Command, refuel, cancel, retry, release}
 use Rattle.wh_script_model.specs.Texts.{CallStatus, Reply}
 use Rattle.wh_script_model.specs.ScriptState.{NamedModule, NamedInstance, Invoked, ScriptState, empty_script, HasInstance, SomeCallIsOpen}
-use Rattle.wh_script_model.specs.Drains.{RunsAlone, PrintsStart, PrintStarts, PrintsCall, PrintCalls}
+use Rattle.wh_script_model.specs.Drains.{PrintsStart, PrintStarts, PrintsCall, PrintCalls}
 use Rattle.wh_script_model.specs.Served.{GoesNoFurther}
 use Rattle.wh_script_model.specs.Receiving.{ReceivesModule, ReceivesInstance, ReceivesCall}
 use Rattle.wh_script_model.specs.Answers.{Files, IsObeyed, AnswersScript}
+use Rattle.wh_script_model.specs.Failing.{RunsAmid}
 use Rattle.wh_script_laws.specs.Following.{Knows, RunsKnown, StaysWhole}
 use Rattle.wh_script_laws.specs.Printed.{AllArePrinted, IsWellMade, is_final}
 use Rattle.wh_script_laws.specs.OutOfMemory.{NoneIsOutOfMemory}
@@ -98,32 +100,37 @@ ReleasesFollow =
 abbrev pub DrainsBegin : Type 0
 DrainsBegin =
     (settings : Settings) (w : World) (m : ScriptState) (places : List ℕ) → Knows settings w m places
-    → RunsKnown settings w m places
+    → RunsKnown [] settings w m places
 
 -- turns bring calls further
 abbrev pub TurnsFollow : Type 0
 TurnsFollow =
-    AfterEvents (λ w. (settings : Settings) (m : ScriptState) (places : List ℕ) (id : InstId) (q : ℕ) (answer : TurnEnd)
-    (w2 : World) → RunsKnown settings w m places → IsTurn w id q answer w2 → StaysWhole w.space w2.space
-    → RunsKnown settings w2 m places)
+    AfterEvents (λ w. (faults : List ℕ) (settings : Settings) (m : ScriptState) (places : List ℕ) (id : InstId) (q : ℕ)
+    (answer : TurnEnd) (w2 : World) → RunsKnown faults settings w m places → IsTurn w id q answer w2
+    → StaysWhole w.space w2.space → RunsKnown faults settings w2 m places)
 
 -- moves of pages don't, and what is known stays so
 abbrev pub MovesFollow : Type 0
 MovesFollow =
-    AfterEvents (λ w. (settings : Settings) (m : ScriptState) (places : List ℕ) (w2 : World) → OnlyMoves w w2
-    → StaysWhole w.space w2.space
+    AfterEvents (λ w. (faults : List ℕ) (settings : Settings) (m : ScriptState) (places : List ℕ) (w2 : World)
+    → OnlyMoves w w2 → StaysWhole w.space w2.space
     → (Knows settings w m places → Knows settings w2 m places)
-    × (RunsKnown settings w m places → RunsKnown settings w2 m places))
+    × (RunsKnown faults settings w m places → RunsKnown faults settings w2 m places))
+
+-- its present call stands for a fault of a device
+abbrev pub StandsForDevice : Tenant → Type 0
+StandsForDevice t = (fault : SwapError) × (t.waiting_for ≡ Some (for_device fault))
 
 -- nobody has a call that can go on
 abbrev pub AllServed : World → Type 0
-AllServed w = (i : ℕ) (t : Tenant) → tenant w i ≡ Some t → GoesNoFurther t
+AllServed w = (i : ℕ) (t : Tenant) → tenant w i ≡ Some t → GoesNoFurther t ⊎ StandsForDevice t
 
--- where nobody has, each instance's calls have run as they do alone
+-- where nobody has, each instance's calls have run as they do alone, or until a fault was met
 abbrev pub DrainsEnd : Type 0
 DrainsEnd =
-    AfterEvents (λ w. (settings : Settings) (m : ScriptState) (places : List ℕ) → RunsKnown settings w m places → AllServed w
-    → (run : List NamedInstance) × AllZip RunsAlone m.instances run
+    AfterEvents (λ w. (faults : List ℕ) (settings : Settings) (m : ScriptState) (places : List ℕ)
+    → RunsKnown faults settings w m places → AllServed w
+    → (run : List NamedInstance) × AllZip (RunsAmid faults) m.instances run
     × Knows settings w (record m { instances = run }) places)
 
 -- and where somebody has an open call, the script knows one
@@ -148,8 +155,8 @@ BeginsWell = IsWellMade empty_script
 -- while calls run
 abbrev pub RunsWell : Type 0
 RunsWell =
-    (m : ScriptState) (run : List NamedInstance) → IsWellMade m → AllZip RunsAlone m.instances run
-    → IsWellMade (record m { instances = run })
+    (faults : List ℕ) (m : ScriptState) (run : List NamedInstance) → IsWellMade m
+    → AllZip (RunsAmid faults) m.instances run → IsWellMade (record m { instances = run })
 
 -- where it is said how they are: then it was said of all of them
 abbrev pub SaysWell : Type 0

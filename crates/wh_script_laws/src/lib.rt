@@ -3,6 +3,8 @@
 #![tactic(auto)]
 
 ghost use Rattle.wh_script_laws.specs.Determined.{AnswersAreDetermined, LinesAreDetermined, AnswersOutOfMemoryAreDetermined};
+ghost use Rattle.wh_script_laws.specs.Faultless.{LinesLeaveNobody, FaultlessLines, FaultlessScripts};
+ghost use Rattle.wh_script_laws.specs.WorkedFaults.{StoreIsCancelled, StoreIsRetried};
 ghost use Rattle.wh_script_laws.specs.Laws.{AsksWell, BeginsWell, CallsFollow, CancelsFollow, DrainsBegin, DrainsEnd, EndedStays, InstancesFollow, ModulesFollow, MovesFollow, ObeysWell, OpenIsKnown, RefuelsFollow, ReleasesFollow, RetriesFollow, RunsWell, PrintingFollows, SaysWell, TurnsFollow, OutOfMemoryIsNamed};
 
 /// A script and the host that runs its calls, after every list of events. The function does nothing; what it ensures are the
@@ -41,4 +43,15 @@ pub fn answers_are_determined()
     ensures lines { LinesAreDetermined }
     ensures script { AnswersAreDetermined }
     ensures may_run_out { AnswersOutOfMemoryAreDetermined }
+{}
+
+/// Where no call of a swap device fails, lines and scripts get what they get by the definitions that know of no fault, and
+/// nothing else; and nobody stands for a fault then. What two scripts get while one fails. The function does nothing; what it
+/// ensures are the laws and the examples.
+pub fn faults_alone_change_answers()
+    ensures nobody { LinesLeaveNobody }
+    ensures lines { FaultlessLines }
+    ensures scripts { FaultlessScripts }
+    ensures store_is_retried { StoreIsRetried }
+    ensures store_is_cancelled { StoreIsCancelled }
 {}

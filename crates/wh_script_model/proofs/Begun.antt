@@ -1,5 +1,5 @@
 -- Whatever lines have made, each instance began as its module says.
-use Rattle.std.proofs.Common.{◌≡◌, ℕ, zero, suc, ◌+◌, Bool, List, [], ◌∷◌, slice_get, slice_set, Some, ℤ, sym, subst}
+use Rattle.std.proofs.Common.{◌≡◌, ℕ, zero, suc, ◌+◌, Bool, List, [], ◌∷◌, slice_get, slice_set, Some, None, ℤ, sym, subst}
 use Rattle.std.proofs.lemmas.Option.{none-some, same_Some}
 use Rattle.std.specs.List.{AllZip, AllByRecursion}
 use Rattle.wh_model.specs.Execution.Replay.{Call}
@@ -11,7 +11,7 @@ use Rattle.wh_script_model.specs.Texts.{Reply}
 use Rattle.wh_script_model.specs.ScriptState.{NamedInstance, ScriptState, with_instance}
 use Rattle.wh_script_model.specs.Drains.{RunsAlone, is_gone, has_run, PrintsStart, has_none, has_one, PrintStarts, Drains}
 use Rattle.wh_script_model.specs.Receiving.{ReceivesModule, module_is_kept, module_isnt_kept, module_out_of_memory, ReceivesInstance, is_admitted, isnt_admitted, admission_out_of_memory, ReceivesCall, instance_is_gone, isnt_invoked, is_invoked, call_out_of_memory}
-use Rattle.wh_script_model.specs.Answers.{Files, IsObeyed, module_name_is_taken, no_file, module_comes, no_such_module, instance_name_is_taken, instance_comes, no_such_instance, is_drained, is_scanned, is_reported, is_refueled, no_one_to_refuel, no_call_to_refuel, is_cancelled, no_one_to_cancel, no_call_to_cancel, no_one_to_retry, no_fault_to_retry, is_released, no_one_to_release, AnswersLine, skipped, invoked, obeyed, too_long, no_command, line_out_of_memory, AnswersLines}
+use Rattle.wh_script_model.specs.Answers.{Files, IsObeyed, module_name_is_taken, no_file, module_comes, no_such_module, instance_name_is_taken, instance_comes, no_such_instance, is_drained, is_scanned, is_reported, is_refueled, no_one_to_refuel, no_call_to_refuel, is_cancelled, no_one_to_cancel, no_call_to_cancel, is_retried, no_one_to_retry, no_fault_to_retry, is_released, no_one_to_release, AnswersLine, skipped, invoked, obeyed, too_long, no_command, line_out_of_memory, AnswersLines}
 use Rattle.wh_script_model.specs.AnswerLaws.{HasBegun, LinesBegin}
 use Rattle.wh_host_model.proofs.Host.Entries.{all_join}
 
@@ -101,11 +101,14 @@ obeyed_begun may_run_out settings files w w2 number command replies is_reported 
 obeyed_begun may_run_out settings files w w2 number command replies (is_refueled i {g = g} n l f) h = calls_changed w i g _ h n.0
 obeyed_begun may_run_out settings files w w2 number command replies (no_one_to_refuel i n l) h = h
 obeyed_begun may_run_out settings files w w2 number command replies (no_call_to_refuel i n l f) h = h
-obeyed_begun may_run_out settings files w w2 number command replies (is_cancelled i {g = g} n l f) h = calls_changed w i g _ h n.0
+obeyed_begun may_run_out settings files w w2 number command replies (is_cancelled i {g = g} n l f) h =
+    with_one HasBegun w.instances i _ h (is_one HasBegun w.instances i g h n.0)
 obeyed_begun may_run_out settings files w w2 number command replies (no_one_to_cancel i n l) h = h
 obeyed_begun may_run_out settings files w w2 number command replies (no_call_to_cancel i n l f) h = h
 obeyed_begun may_run_out settings files w w2 number command replies (no_one_to_retry i n l) h = h
-obeyed_begun may_run_out settings files w w2 number command replies (no_fault_to_retry i n l) h = h
+obeyed_begun may_run_out settings files w w2 number command replies (is_retried i {g = g} n l f) h =
+    with_one HasBegun w.instances i (record g { at_fault = None }) h (is_one HasBegun w.instances i g h n.0)
+obeyed_begun may_run_out settings files w w2 number command replies (no_fault_to_retry i n l f) h = h
 obeyed_begun may_run_out settings files w w2 number command replies (is_released i {g = g} z n l r) h =
     with_one HasBegun w.instances i _ h (is_one HasBegun w.instances i g h n.0)
 obeyed_begun may_run_out settings files w w2 number command replies (no_one_to_release i n l) h = h

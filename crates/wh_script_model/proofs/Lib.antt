@@ -5,3 +5,4 @@ pub mod Loops
 pub mod Once
 pub mod Draining
 pub mod Serving
+pub mod Standing

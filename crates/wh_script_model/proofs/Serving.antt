@@ -38,18 +38,18 @@ each_dead : (inst : Instance) (es : List Entry) → AllByRecursion (IsDeadCall i
 each_dead inst [] h = tt
 each_dead inst (e ∷ es) h = (ap is_open h.0.is_dead, each_dead inst es h.1)
 
-ended_closed : {m : Module} {inst : Instance} {died : Bool} {es os : List Entry} → InOrder m inst died es os
+pub ended_closed : {m : Module} {inst : Instance} {died : Bool} {es os : List Entry} → InOrder m inst died es os
     → AllByRecursion IsClosed es
 ended_closed (is_starting a b c) = tt
 ended_closed {inst = inst} (has_started {e = e} {es = es} a b c d f g) = (closed_so e.call.outcome b, each_closed inst es f)
 ended_closed {inst = inst} (has_died {e = e} {es = es} a b c d) = (closed_so e.call.outcome b, each_dead inst es d)
 
-first_opened : {m : Module} {inst : Instance} {died : Bool} {es os : List Entry} {e : Entry}
+pub first_opened : {m : Module} {inst : Instance} {died : Bool} {es os : List Entry} {e : Entry}
     → InOrder m inst died es (e ∷ os) → is_open e.call.outcome ≡ true
 first_opened (is_starting a b c) = ap is_open b
 first_opened (has_started a b c d f g) = ap is_open g.0.open_yet
 
-open_behind_ended : (es os : List Entry) → AllByRecursion IsClosed es
+pub open_behind_ended : (es os : List Entry) → AllByRecursion IsClosed es
     → first_open (journal_calls (es ++ os)) ≡ first_open (journal_calls os)
 open_behind_ended [] os h = refl
 open_behind_ended (e ∷ es) os h = passes e.call (journal_calls (es ++ os)) h.0 ∙ open_behind_ended es os h.1

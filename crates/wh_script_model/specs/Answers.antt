@@ -6,7 +6,7 @@ use Rattle.wh_script_model.specs.Lines.{is_skipped, longest_line}
 use Rattle.wh_host_model.specs.Owners.{Params, given_of, most_fuel, first_open}
 use Rattle.wh_script_model.specs.Settings.{Settings}
 use Rattle.wh_script_model.specs.Commands.{Command, keep, load, admit, invoke, drain, refuel, cancel, retry, scan, report, release, AsksCommand}
-use Rattle.wh_script_model.specs.Texts.{Reply, error, refuel_ok, refuel_refused, cancel_ok, cancel_refused, retry_refused, scan_ok, release_ok, release_refused, reply_text}
+use Rattle.wh_script_model.specs.Texts.{Reply, error, refuel_ok, refuel_refused, cancel_ok, cancel_refused, retry_ok, retry_refused, scan_ok, release_ok, release_refused, reply_text}
 use Rattle.wh_script_model.specs.ScriptState.{NamedInstance, ScriptState, empty_script, HasModule, NoModule, HasInstance, LacksInstance, with_instance, with_first_open, cancel_first}
 use Rattle.wh_script_model.specs.Drains.{Drains}
 use Rattle.wh_script_model.specs.Receiving.{ReceivesModule, ReceivesInstance, ReceivesCall}
@@ -49,7 +49,7 @@ with_fuel n call = record call { fuel = min (call.fuel + n) most_fuel }
 
 -- What a command on the line of this number gets, behind a drain. Causes of errors are looked at in the order of their
 -- numbers: C2, no such name; C3, the name is taken; C4, no such file. Faults: H1, the instance is released; H8, it has
--- no open call. No device has failed, so there is nothing to try again.
+-- no open call, or none to try again: that is one which stands for a fault of the device.
 pub data IsObeyed (may_run_out : Bool) (settings : Settings) (files : Files) (w : ScriptState) (number : ℕ)
     : Command → List Reply → ScriptState → Type 0 where
   module_name_is_taken : {command : Command} {name : List ℕ} {m : Module}
@@ -86,15 +86,20 @@ pub data IsObeyed (may_run_out : Bool) (settings : Settings) (files : Files) (w 
   is_cancelled : {name : List ℕ} (i : ℕ) {g : NamedInstance} {call : Call}
       → HasInstance w name i g → g.is_released ≡ false → first_open g.calls ≡ Some call
       → IsObeyed may_run_out settings files w number (cancel name) (cancel_ok name ∷ [])
-      (with_instance w i (record g { calls = cancel_first g.calls }))
+      (with_instance w i (record g { calls = cancel_first g.calls; at_fault = None }))
   no_one_to_cancel : {name : List ℕ} (i : ℕ) {g : NamedInstance} → HasInstance w name i g → g.is_released ≡ true
       → IsObeyed may_run_out settings files w number (cancel name) (cancel_refused name 1 ∷ []) w
   no_call_to_cancel : {name : List ℕ} (i : ℕ) {g : NamedInstance}
       → HasInstance w name i g → g.is_released ≡ false → first_open g.calls ≡ None
       → IsObeyed may_run_out settings files w number (cancel name) (cancel_refused name 8 ∷ []) w
+  is_retried : {name : List ℕ} {fault : ℕ} (i : ℕ) {g : NamedInstance}
+      → HasInstance w name i g → g.is_released ≡ false → g.at_fault ≡ Some fault
+      → IsObeyed may_run_out settings files w number (retry name) (retry_ok name ∷ [])
+      (with_instance w i (record g { at_fault = None }))
   no_one_to_retry : {name : List ℕ} (i : ℕ) {g : NamedInstance} → HasInstance w name i g → g.is_released ≡ true
       → IsObeyed may_run_out settings files w number (retry name) (retry_refused name 1 ∷ []) w
-  no_fault_to_retry : {name : List ℕ} (i : ℕ) {g : NamedInstance} → HasInstance w name i g → g.is_released ≡ false
+  no_fault_to_retry : {name : List ℕ} (i : ℕ) {g : NamedInstance}
+      → HasInstance w name i g → g.is_released ≡ false → g.at_fault ≡ None
       → IsObeyed may_run_out settings files w number (retry name) (retry_refused name 8 ∷ []) w
   is_released : {name : List ℕ} (i : ℕ) {g : NamedInstance} (z : Standing)
       → HasInstance w name i g → g.is_released ≡ false → Replay g.m (given_of g.params) g.calls z

@@ -10,7 +10,7 @@ use Rattle.wh_model.specs.Execution.Reduction.{IsNext}
 use Rattle.wh_model.specs.Execution.Replay.{Outcome, returned, stopped, cancelled, dead, pending, Call, Standing, idle, running, Replay}
 use Rattle.wh_host_model.specs.Owners.{given_of, is_open, first_open}
 use Rattle.wh_script_model.specs.Texts as texts
-use Rattle.wh_script_model.specs.Texts.{Caller, call, start, CallStatus, done, trapped, wants_fuel, queued, released, refused, Reply, call_is}
+use Rattle.wh_script_model.specs.Texts.{Caller, call, start, CallStatus, done, trapped, wants_fuel, wants_frame, queued, released, refused, Reply, call_is}
 use Rattle.wh_script_model.specs.ScriptState.{NamedInstance, call_rejected, call_accepted, Invoked, ScriptState}
 
 -- ---- calls run alone
@@ -44,22 +44,25 @@ abbrev pub returned_value : List Value → Option ℤ
 returned_value [] = None
 returned_value (v ∷ vs) = Some (signed_result v)
 
--- an open call of an instance that is released, or not; behind an open one, or not
-abbrev pub open_status : (is_released waits : Bool) (charges : ℕ) → CallStatus
-open_status true waits charges = released charges
-open_status false true charges = queued
-open_status false false charges = wants_fuel charges
+-- an open call of an instance that is released, or not; behind an open one, or not; the first one standing for a fault of
+-- the device, or not
+abbrev pub open_status : (is_released waits : Bool) (at_fault : Option ℕ) (charges : ℕ) → CallStatus
+open_status true waits at_fault charges = released charges
+open_status false true at_fault charges = queued
+open_status false false None charges = wants_fuel charges
+open_status false false (Some fault) charges = wants_frame fault charges
 
-abbrev pub status_by : Outcome → (is_released waits : Bool) (charges : ℕ) → CallStatus
-status_by (returned results) gone waits charges = done (returned_value results) charges
-status_by (stopped trap) gone waits charges = trapped (trap_number trap) charges
-status_by cancelled gone waits charges = texts.cancelled charges
-status_by dead gone waits charges = texts.dead
-status_by pending gone waits charges = open_status gone waits charges
+abbrev pub status_by : Outcome → (is_released waits : Bool) (at_fault : Option ℕ) (charges : ℕ) → CallStatus
+status_by (returned results) gone waits at_fault charges = done (returned_value results) charges
+status_by (stopped trap) gone waits at_fault charges = trapped (trap_number trap) charges
+status_by cancelled gone waits at_fault charges = texts.cancelled charges
+status_by dead gone waits at_fault charges = texts.dead
+status_by pending gone waits at_fault charges = open_status gone waits at_fault charges
 
 -- the call at a place of the journal
 abbrev pub call_status : NamedInstance → (place : ℕ) → Call → CallStatus
-call_status g place c = status_by c.outcome g.is_released (is_some (first_open (take place g.calls))) c.charges
+call_status g place c =
+    status_by c.outcome g.is_released (is_some (first_open (take place g.calls))) g.at_fault c.charges
 
 -- ---- what is printed
 

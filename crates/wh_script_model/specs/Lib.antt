@@ -9,6 +9,7 @@ pub mod ScriptState
 pub mod Drains
 pub mod Receiving
 pub mod Answers
+pub mod Failing
 pub mod WorkedScripts
 pub mod AnswerLaws
 pub mod Served

@@ -89,6 +89,7 @@ new_instance name m p inst pieces = record {
   is_released = false;
   calls = (start_entry m.start p.fuel (first_outcome pieces m.start)).call ∷ [];
   last_printed = None;
+  at_fault = None;
 }
 
 -- the reply to an instance of this module, whose name is free; instances are numbered in order

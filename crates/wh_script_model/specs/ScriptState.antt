@@ -14,7 +14,8 @@ pub record NamedModule : Type 0 where
   pub m : Module
 
 -- An instance that was admitted: its name, its module, what it was given, what it began with (4.5.4), whether it is
--- released, the calls of its journal, its start being the first, and how its start was last said to be.
+-- released, the calls of its journal, its start being the first, how its start was last said to be, and for which fault
+-- of a swap device its first open call stands, if a call of the device has failed for it.
 pub record NamedInstance : Type 0 where
   pub name : List ℕ
   pub m : Module
@@ -24,6 +25,7 @@ pub record NamedInstance : Type 0 where
   pub is_released : Bool
   pub calls : List Call
   pub last_printed : Option CallStatus
+  pub at_fault : Option ℕ
 
 -- what came of an `invoke`: it was refused with the fault H of this number; or it is the call at a place of the journal
 -- of the instance of this number

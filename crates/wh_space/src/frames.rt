@@ -6,7 +6,7 @@ ghost use Rattle.wh_host_model.specs.Pages.{zero_page};
 ghost use Rattle.wh_host_model.specs.Space.Moves.{frame_of};
 ghost use Rattle.wh_model.specs.Execution.Store.{bytes_at, written};
 
-use crate::copying::copy_bytes;
+use wh_bytes::copy_bytes;
 use wh_frames::FramePool;
 use wh_host_model::Page;
 

@@ -4,7 +4,6 @@
 mod arrivals;
 mod breaks;
 mod claims;
-mod copying;
 mod counts;
 mod departing;
 mod ending;

@@ -22,7 +22,6 @@ pub struct Memory {
     pub(crate) tax: Tax,
 }
 
-// Written out, so that letting one go is one call, and not one for each part of its parts.
 impl Drop for Memory {
     fn drop(self) {
         let Memory {

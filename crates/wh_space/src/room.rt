@@ -100,22 +100,4 @@ impl Memory {
         let _ = &self.tax;
         u64::from(self.slots.len()) - spreads_of(&self.occupant_entries)
     }
-
-    /// Whether the frames suffice for the least numbers of pages of all instances and this one beside. It looks at each
-    /// instance.
-    pub fn has_frames_for(&self, min: u32) -> bool
-        ensures { IsTrue result ↔ (minima self.now + min ≤ length self.now.pool.frames) }
-    {
-        u64::from(min) <= self.frames_left()
-    }
-
-    /// Whether the slots suffice for all pages by which instances may go beyond their least numbers, one more for each,
-    /// and this one beside. It looks at each instance.
-    pub fn has_slots_for(&self, min: u32, max: u32) -> bool
-        requires { min ≤ max }
-        ensures { IsTrue result
-            ↔ (spreads self.now + ((max - min) + 1) ≤ length self.now.slots.uses) }
-    {
-        u64::from(max - min) + 1 <= self.slots_left()
-    }
 }

@@ -1,3 +1,4 @@
+pub mod DeviceCalls
 pub mod MemorySwaps
 pub mod SlotParts
 pub mod Written

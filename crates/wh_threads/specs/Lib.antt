@@ -1,4 +1,5 @@
 pub mod Agreement
+pub mod Blanks
 pub mod Counting
 pub mod Handover
 pub mod Lending

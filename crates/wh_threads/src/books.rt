@@ -1,6 +1,7 @@
 // How much was counted of each kind.
 
 ghost use Rattle.std.specs.Prelude.{◌≡◌, ◌+◌, ◌-◌, ◌^◌, ◌<◌, IfOk};
+ghost use Rattle.wh_threads.specs.Blanks.{IsBlankOf};
 ghost use Rattle.wh_threads.specs.Counting.{RanTurn, IsZero, turns_of, charges_of};
 
 use crate::count::Count;
@@ -26,7 +27,6 @@ pub struct Books<T: Ledger, C: Ledger, O: Ledger, E: Ledger> {
     pub evictions: Count<E>,
 }
 
-// Written out, so that letting one go is one call, and not one for each part of its parts.
 impl<T: Ledger, C: Ledger, O: Ledger, E: Ledger> Drop for Books<T, C, O, E> {
     fn drop(self) {
         let Books {
@@ -50,11 +50,10 @@ impl<T: Ledger, C: Ledger, O: Ledger, E: Ledger> Books<T, C, O, E> {
         offers: Blank,
         evictions: Blank,
     ) -> Result<(Books<T, C, O, E>, Shares<T, C, O, E>), AllocError>
-        requires turns { (turns.name ≡ T.name) × (turns.parts ≡ T.parts) × (64 < T.parts) }
-        requires charges { (charges.name ≡ C.name) × (charges.parts ≡ C.parts) × (64 < C.parts) }
-        requires offers { (offers.name ≡ O.name) × (offers.parts ≡ O.parts) × (1 < O.parts) }
-        requires evictions { (evictions.name ≡ E.name) × (evictions.parts ≡ E.parts)
-            × (1 < E.parts) }
+        requires turns { IsBlankOf T.Ledger 64 turns }
+        requires charges { IsBlankOf C.Ledger 64 charges }
+        requires offers { IsBlankOf O.Ledger 1 offers }
+        requires evictions { IsBlankOf E.Ledger 1 evictions }
         ensures books { IfOk result (λ r. r.0
             ≡ record { turns = 0; charges = 0; offers = 0; evictions = 0 }) }
         ensures shares { IfOk result (λ r. IsZero r.1) }

@@ -1,6 +1,7 @@
 // The counts of all threads, and the parts of the ledgers that are lent to them.
 
 ghost use Rattle.std.specs.Prelude.{◌≡◌, ◌+◌, ◌-◌, ◌<◌, ◌≤◌, length, slice_get, slice_set, Some};
+ghost use Rattle.wh_threads.specs.Blanks.{IsWholeOf};
 ghost use Rattle.wh_threads.specs.Counting.{LenderState, HasAllParts, turns_of, charges_of};
 
 use crate::count::Count;
@@ -22,7 +23,6 @@ pub struct Lender<T: Ledger, C: Ledger, O: Ledger, E: Ledger> {
     eviction_share: Share<E>,
 }
 
-// Written out, so that letting one go is one call, and not one for each part of its parts.
 impl<T: Ledger, C: Ledger, O: Ledger, E: Ledger> Drop for Lender<T, C, O, E> {
     fn drop(self) {
         let Lender {
@@ -60,12 +60,10 @@ impl<T: Ledger, C: Ledger, O: Ledger, E: Ledger> Lender<T, C, O, E> {
     ) -> Lender<T, C, O, E>
         requires seats { length tallies.items ≡ 64 }
         requires zero { (turns_of tallies.items ≡ 0) × (charges_of tallies.items ≡ 0) }
-        requires turns { (turn_share.parts ≡ T.parts) × (64 < T.parts) × (turn_share.amount ≡ 0) }
-        requires charges { (charge_share.parts ≡ C.parts) × (64 < C.parts)
-            × (charge_share.amount ≡ 0) }
-        requires offers { (offer_share.parts ≡ O.parts) × (1 < O.parts) × (offer_share.amount ≡ 0) }
-        requires evictions { (eviction_share.parts ≡ E.parts) × (1 < E.parts)
-            × (eviction_share.amount ≡ 0) }
+        requires turns { IsWholeOf T.Ledger 64 turn_share }
+        requires charges { IsWholeOf C.Ledger 64 charge_share }
+        requires offers { IsWholeOf O.Ledger 1 offer_share }
+        requires evictions { IsWholeOf E.Ledger 1 eviction_share }
         ensures { result ≡ record {
           tallies = tallies.items;
           offers = 0;

@@ -2,7 +2,7 @@
 use Rattle.std.specs.Prelude.{◌≡◌, Option, Some, None}
 use Rattle.std.specs.List.{AllZip}
 use Rattle.wh_journal.specs.Calls.{JournalCallState}
-use Rattle.wh_admit.specs.View.{view_params}
+use Rattle.wh_params.specs.View.{view_params}
 use Rattle.wh_transcript.specs.declared.requests.Ending.{Ending}
 use Rattle.wh_transcript.specs.declared.requests.RequestedCall.{RequestedCall}
 use Rattle.wh_transcript.specs.declared.requests.Requests.{Requests}

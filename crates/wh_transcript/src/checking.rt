@@ -3,7 +3,7 @@
 ghost use Rattle.std.specs.Bool.{MatchBool};
 ghost use Rattle.std.specs.List.{AllZip};
 ghost use Rattle.std.specs.Prelude.{◌≡◌, OnErr, OnOk, MatchOption, length};
-ghost use Rattle.wh_admit.specs.View.{view_params};
+ghost use Rattle.wh_params.specs.View.{view_params};
 ghost use Rattle.wh_transcript.specs.RequestedCalls.{EndsAsSaid, IsCallAsked, IsOfRequests};
 
 use crate::requests::{Ending, RequestedCall, Requests};

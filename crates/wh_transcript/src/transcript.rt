@@ -1,7 +1,7 @@
 //! Transcripts.
 
 ghost use Rattle.std.specs.Prelude.{◌≡◌};
-ghost use Rattle.wh_admit.specs.View.{view_params};
+ghost use Rattle.wh_params.specs.View.{view_params};
 
 use std::marker::Model;
 use std::sync::Arc;
@@ -20,7 +20,7 @@ pub struct Transcript {
 }
 
 impl Model for Transcript {
-    ghost use Rattle.wh_admit.specs.View.{view_params as params_of};
+    ghost use Rattle.wh_params.specs.View.{view_params as params_of};
     ghost use Rattle.wh_transcript.specs.Transcripts.{TranscriptState};
 
     ghost Value = { TranscriptState };

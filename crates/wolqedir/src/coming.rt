@@ -1,7 +1,7 @@
 //! How modules and instances come to a host.
 
 ghost use Rattle.std.specs.Prelude.{◌≡◌, IfOk, OnErr, Result};
-ghost use Rattle.wh_admit.specs.View.{view_params};
+ghost use Rattle.wh_params.specs.View.{view_params};
 ghost use Rattle.wolqedir.specs.Codes.{code_by, admit_error_code, module_error_code};
 ghost use Rattle.wolqedir.specs.ExportContracts.{ExportAdmits, ExportLoads, ServesHandle, ServesWithRoom, TellsCaller};
 ghost use Rattle.wolqedir.specs.Shapes.{given_by, instance_of};

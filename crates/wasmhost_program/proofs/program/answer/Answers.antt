@@ -1,11 +1,11 @@
 use Rattle.std.proofs.Common.{◌∙◌, map, refl, string_bytes, subst, sym}
-use Rattle.wasmhost_program.specs.ProgramOutput.{EndsSo, HasServedSo, is_unread}
-use Rattle.wasmhost_program.proofs.Runs.{asked_ends, ends_stopped, ends_well}
+use Rattle.wasmhost_program.specs.ProgramOutput.{EndsSo, EndsWith, HoldsOver, is_unread, runs_amid}
+use Rattle.wasmhost_program.proofs.Runs.{asked_ends, ends_faultless, ends_stopped, ends_well, holds_over, served_over}
 use Rattle.wasmhost_program.proofs.program.answer.Goals.{in-Ok, in-Err-Memory, in-Ok-outcome, in-Err}
 use Rattle.wasmhost_program.proofs.program.answer.Goals as goal
 
-pub returns-clause-ends : goal.returns-clause-ends
-returns-clause-ends g c served =
+pub returns-clause-amid : goal.returns-clause-amid
+returns-clause-amid g c =
     let known = g.S.Folder.known c.args.folder.now in
     let files = g.S.Source.files c.args.folder.now in
     let words = map string_bytes c.args.words.now in
@@ -16,19 +16,31 @@ returns-clause-ends g c served =
     let ran = c.match-read_args in
     let left = remaining ran.input in
     let after = contents ran.output in
-    let ends : EndsSo known files words input left before after ran.outcome.0 = elim ran.branch [
+    let ends : HoldsOver ran.outcome.1 (λ met. EndsSo (runs_amid met) known files words input left before after ran.outcome.0) = elim ran.branch [
       | in-Ok w ↦
-          subst (λ i. EndsSo known files words input (remaining i) before after ran.outcome.0) (sym w.input-is)
-          (subst (λ o. EndsSo known files words input (remaining w.run_given.new.input) before (contents o) ran.outcome.0) (sym w.output-is)
-          (subst (λ r. EndsSo known files words input (remaining w.run_given.new.input) before (contents w.run_given.new.output) r.0) (sym w.outcome-is)
-          (asked_ends known files words input (remaining w.run_given.new.input) before (contents w.run_given.new.output) w.in-Ok.given w.run_given.result.0 w.in-Ok.ensures.accepts w.in-Ok.ensures.asks
-          (w.run_given.ensures (subst (λ r. HasServedSo r.1) w.outcome-is served)))))
+          subst (λ i. HoldsOver ran.outcome.1 (λ met. EndsSo (runs_amid met) known files words input (remaining i) before after ran.outcome.0)) (sym w.input-is)
+          (subst (λ o. HoldsOver ran.outcome.1 (λ met. EndsSo (runs_amid met) known files words input (remaining w.run_given.new.input) before (contents o) ran.outcome.0)) (sym w.output-is)
+          (subst (λ r. HoldsOver r.1 (λ met. EndsSo (runs_amid met) known files words input (remaining w.run_given.new.input) before (contents w.run_given.new.output) r.0)) (sym w.outcome-is)
+          (holds_over w.run_given.result.1 _ _ (λ met. asked_ends (runs_amid met) known files words input (remaining w.run_given.new.input) before (contents w.run_given.new.output) w.in-Ok.given w.run_given.result.0 w.in-Ok.ensures.accepts w.in-Ok.ensures.asks)
+          w.run_given.ensures)))
       | in-Err-Memory w ↦
-          subst (λ i. EndsSo known files words input (remaining i) before after ran.outcome.0) (sym w.input-is)
-          (subst (λ o. EndsSo known files words input input before (contents o) ran.outcome.0) (sym w.output-is)
-          (subst (λ r. EndsSo known files words input input before before r.0) (sym w.outcome-is) (is_unread refl refl)))
+          subst (λ i. HoldsOver ran.outcome.1 (λ met. EndsSo (runs_amid met) known files words input (remaining i) before after ran.outcome.0)) (sym w.input-is)
+          (subst (λ o. HoldsOver ran.outcome.1 (λ met. EndsSo (runs_amid met) known files words input input before (contents o) ran.outcome.0)) (sym w.output-is)
+          (subst (λ r. HoldsOver r.1 (λ met. EndsSo (runs_amid met) known files words input input before before r.0)) (sym w.outcome-is) (is_unread refl refl)))
     ] in
     elim c.match-outcome.branch [
-      | in-Ok-outcome w ↦ ends_well known files words input left before after ran.outcome.0 _ c.match-outcome.status w.in-Ok-outcome.is w.status-is ends
-      | in-Err w ↦ ends_stopped known files words input left before after ran.outcome.0 w.in-Err.fault c.match-outcome.status w.in-Err.is (w.status-is ∙ w.stop-status.ensures) ends
+      | in-Ok-outcome w ↦ holds_over ran.outcome.1 _ _ (λ met. ends_well (runs_amid met) known files words input left before after ran.outcome.0 _ c.match-outcome.status w.in-Ok-outcome.is w.status-is) ends
+      | in-Err w ↦ holds_over ran.outcome.1 _ _ (λ met. ends_stopped (runs_amid met) known files words input left before after ran.outcome.0 w.in-Err.fault c.match-outcome.status w.in-Err.is (w.status-is ∙ w.stop-status.ensures)) ends
     ]
+
+pub returns-clause-ends : goal.returns-clause-ends
+returns-clause-ends g c served =
+    let known = g.S.Folder.known c.args.folder.now in
+    let files = g.S.Source.files c.args.folder.now in
+    let words = map string_bytes c.args.words.now in
+    let remaining = g.R.Read.remaining in
+    let contents = g.W.Write.contents in
+    let ran = c.match-read_args in
+    ends_faultless known files words (remaining c.args.input.now) (remaining ran.input) (contents c.args.output.now) (contents ran.output) c.match-outcome.status
+    (served_over ran.outcome.1 (λ met. EndsWith (runs_amid met) known files words (remaining c.args.input.now) (remaining ran.input) (contents c.args.output.now) (contents ran.output) c.match-outcome.status)
+    (returns-clause-amid g c) served)

@@ -1,15 +1,25 @@
-use Rattle.std.proofs.Common.{option_map, refl, subst, sym}
+use Rattle.std.proofs.Common.{option_map, subst, sym, ℕ, List, MatchOption, []}
 use Rattle.wh_settings.specs.View.{settings_of}
-use Rattle.wasmhost_program.specs.ProgramOutput.{RunsScript}
+use Rattle.wh_engine.specs.Draining.{HoldsAmid}
+use Rattle.wasmhost_program.specs.ProgramOutput.{RunsScript, runs_amid}
+use Rattle.wasmhost_program.proofs.Runs.{matched_file}
 use Rattle.wasmhost_program.proofs.program.run_over.Goals as goal
 
 pub returns : goal.returns
-returns g c served =
+returns g c =
     let known = g.S.Folder.known c.args.folder.now in
     let files = g.S.Source.files c.args.folder.now in
+    let settings = settings_of c.args.settings.now in
     let input = g.R.Read.remaining c.args.input.now in
-    let contents = g.W.Write.contents in
-    let runs = c.run_script-2.ensures.runs served in
-    subst
-    (λ script. RunsScript known files (settings_of c.args.settings.now) (option_map (λ p. p.now) script) input input (contents c.args.output.now) (contents c.run_script-2.new.writer) c.run_script-2.result.0)
-    (sym c.in-Some.is) (refl, _, runs)
+    let before = g.W.Write.contents c.args.output.now in
+    let after = g.W.Write.contents c.run_script-2.new.writer in
+    let ended = c.run_script-2.result.0 in
+    subst (λ script.
+    MatchOption c.run_script-2.result.1
+    (RunsScript (runs_amid []) known files settings (option_map (λ p. p.now) script) input input before after ended)
+    (λ back. HoldsAmid (g.D.SwapDev.honest back) (g.D.SwapDev.faults c.args.device) (g.D.SwapDev.faults back)
+    (λ (met : List ℕ). RunsScript (runs_amid met) known files settings (option_map (λ p. p.now) script) input input before after
+    ended)))
+    (sym c.in-Some.is)
+    (matched_file g.D.SwapDev.honest g.D.SwapDev.faults c.args.device c.run_script-2.result.1 known files settings _ input _ before
+    after ended c.run_script-2.ensures.amid)

@@ -1,7 +1,8 @@
 use Rattle.std.proofs.Common.{OnOk, IfErr, Some, sym, subst}
 use Rattle.std.specs.Option.{option_copied}
 use Rattle.wh_syntax.specs.View.{view_module}
-use Rattle.wh_admit.specs.View.{view_params, linked_module}
+use Rattle.wh_params.specs.View.{view_params}
+use Rattle.wh_admit.specs.View.{linked_module}
 use Rattle.wh_admit.specs.AdmissionFaults.{MeetsNone, RefusesAdmission}
 use Rattle.wh_admit.proofs.HostLemmas.{handed_on, numbers_refused, beginning_refused, beginning_met}
 use Rattle.wh_admit.proofs.admission.admit.Goals as goal

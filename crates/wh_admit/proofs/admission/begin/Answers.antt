@@ -2,7 +2,7 @@ use Rattle.std.proofs.Common.{rules, arith, ◌^◌, ◌<◌, ap, refl, subst}
 use Rattle.std.specs.List.{AllByRecursion}
 use Rattle.wh_model.specs.Execution.Instance.{AreGiven}
 use Rattle.wh_host_model.specs.Owners.{given_of}
-use Rattle.wh_admit.specs.View.{view_params}
+use Rattle.wh_params.specs.View.{view_params}
 use Rattle.wh_admit.proofs.admission.begin.Goals as goal
 
 pub returns-clause-ok : goal.returns-clause-ok

@@ -1,7 +1,7 @@
 use Rattle.std.proofs.Common.{rules}
 use Rattle.wh_explain.proofs.Asking.{asks_none}
 use Rattle.wh_explain.proofs.script.command_answer.Goals as goal
-use Rattle.wh_explain.proofs.script.command_answer.Goals.{in-Ok, in-Err-Syntax, in-Err}
+use Rattle.wh_explain.proofs.script.command_answer.Goals.{in-Ok, in-Err-Syntax, in-Err-Memory}
 
 pub returns : goal.returns
 returns c =
@@ -11,5 +11,5 @@ returns c =
           rw w.result-is (found.0, found.1)
       | in-Err-Syntax w ↦
           rw w.result-is (asks_none c.args.line.now _ w.in-Err-Syntax.field-0-is w.in-Err-Syntax.ensures.only)
-      | in-Err w ↦ search rules
+      | in-Err-Memory w ↦ search rules
     ]

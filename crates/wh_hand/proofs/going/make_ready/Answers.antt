@@ -1,4 +1,3 @@
-use Rattle.std.proofs.Common.{[], refl}
 use Rattle.wh_host_model.specs.Host.Happens.{AwaitsFrame}
 use Rattle.wh_host.specs.Paging.{MovesWith}
 use Rattle.std.specs.Prelude.{None}
@@ -8,7 +7,7 @@ use Rattle.wh_hand.proofs.Steps.{moved_keeps, provided_moves, provided_well}
 use Rattle.wh_hand.proofs.going.make_ready.Goals as goal
 
 well : (c : goal.After-provide) → MovesWith c.args.host.now c.args.id AwaitsFrame None c.provide.new.self
-well c = provided_well c.args.host.now c.provide.new.self c.args.id c.provide.result [] refl c.provide.ensures.err (c.provide.ensures.moves tt)
+well c = provided_well c.args.host.now c.provide.new.self c.args.id c.provide.result c.provide.ensures.serves.added (c.provide.ensures.moves tt)
 
 pub returns-clause-runs : goal.returns-clause-runs
 returns-clause-runs c = on_provided c.args.host.now c.provide.new.self c.args.id (well c)
@@ -23,5 +22,5 @@ returns-clause-live c =
 
 pub returns-clause-ready : goal.returns-clause-ready
 returns-clause-ready c =
-    made_ready c.args.host.now c.provide.new.self c.args.id c.provide.result [] refl c.invariant.ensures
-    (provided_moves c.args.host.now c.provide.new.self c.args.id (well c)) c.provide.ensures.err c.provide.ensures.right
+    made_ready c.args.host.now c.provide.new.self c.args.id c.provide.result c.invariant.ensures
+    (provided_moves c.args.host.now c.provide.new.self c.args.id (well c)) c.provide.ensures.serves.added c.provide.ensures.right

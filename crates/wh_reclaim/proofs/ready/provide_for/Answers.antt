@@ -3,6 +3,7 @@ use Rattle.wh_host_model.specs.Space.Parts.{Space, kept}
 use Rattle.wh_host_model.specs.Space.Provide.{comes, goes}
 use Rattle.wh_host_model.proofs.Space.Provided.{moves_nearer, serves_way}
 use Rattle.wh_reclaim.specs.Providing.{left_by}
+use Rattle.wh_reclaim.proofs.DeviceCalls.{serves_still, serves_then}
 use Rattle.wh_reclaim.proofs.Going.{came_nearer, came_once, earmarked, gives_up, goes_came, goes_done, goes_left, left_nearer, left_once, none_kept, pinned_once, stands_still}
 use Rattle.wh_reclaim.proofs.ready.provide_for.Goals as goal
 
@@ -15,10 +16,7 @@ loop-memory-init g c = record {
   once = λ q. rw c.pin.ensures (pinned_once c.args.memory.now c.args.place c.args.need q);
   agrees = rw c.pin.ensures c.requires.agrees;
   writes = omega arith;
-  failed = refl;
-  honest = λ honest. honest;
-  keeps = λ keeps. keeps;
-  kept = λ keeps honest. honest;
+  calls = serves_still g.D.SwapDev.keeps g.D.SwapDev.honest g.D.SwapDev.faults c.args.device.now;
 }
 
 pub go_on-requires-clause-stands : goal.go_on-requires-clause-stands
@@ -61,7 +59,7 @@ pub returns-in-Ok-Done-clause-truly : goal.returns-in-Ok-Done-clause-truly
 returns-in-Ok-Done-clause-truly g c = λ honest.
     (let done = goes_done (g.D.SwapDev.honest c.go_on.new.device) c.loop-memory.memory c.args.place c.args.need c.in-Ok-Done.field-0 c.go_on.new.memory c.in-Ok-Done.field-0-is c.in-Ok-Done.ensures.goes_on in
     let earmarks = earmarked c.go_on.new.memory c.loop-memory.memory c.args.place c.args.need c.frames_to_write-wanted.result c.earmark.new.self done.1 c.frames_to_write-wanted.ensures.count c.earmark.ensures in
-    (c.loop-memory.invariant.moves, c.loop-memory.memory, c.loop-memory.invariant.truly (c.in-Ok-Done.ensures.honest honest), c.loop-memory.invariant.many, done.0, earmarks))
+    (c.loop-memory.invariant.moves, c.loop-memory.memory, c.loop-memory.invariant.truly (c.in-Ok-Done.ensures.serves.was_honest honest), c.loop-memory.invariant.many, done.0, earmarks))
 
 pub loop-memory-smaller-in-Ok-Came : goal.loop-memory-smaller-in-Ok-Came
 loop-memory-smaller-in-Ok-Came g c =
@@ -79,15 +77,12 @@ loop-memory-preserved-in-Ok-Came g c =
     record {
       moves = comes came.0 ∷ inv.moves;
       serves = (c.loop-memory.memory, inv.serves, came.1);
-      truly = λ honest. (c.loop-memory.memory, inv.truly (e.honest honest), came.1, came.2 honest);
+      truly = λ honest. (c.loop-memory.memory, inv.truly (e.serves.was_honest honest), came.1, came.2 honest);
       many = (let many = inv.many in omega arith);
       once = came_once c.loop-memory.memory c.args.place c.args.need came.0 c.go_on.new.memory way.0 inv.once came.1;
       agrees = e.agrees;
       writes = (let a = e.writes in let b = inv.writes in omega arith);
-      failed = e.ok ∙ inv.failed;
-      honest = λ honest. inv.honest (e.honest honest);
-      keeps = λ keeps. e.keeps (inv.keeps keeps);
-      kept = λ keeps honest. e.kept (inv.keeps keeps) (inv.kept keeps honest);
+      calls = serves_then g.D.SwapDev.keeps g.D.SwapDev.honest g.D.SwapDev.faults c.args.device.now c.loop-memory.device c.go_on.new.device [] [] inv.calls e.serves;
     }
 
 pub overflow_add-left : goal.overflow_add-left
@@ -112,15 +107,12 @@ loop-memory-preserved g c =
     record {
       moves = goes ∷ inv.moves;
       serves = (c.loop-memory.memory, inv.serves, left);
-      truly = λ honest. (c.loop-memory.memory, inv.truly (e.honest honest), left, tt);
+      truly = λ honest. (c.loop-memory.memory, inv.truly (e.serves.was_honest honest), left, tt);
       many = (let many = inv.many in omega arith);
       once = left_once c.loop-memory.memory c.args.place c.args.need c.go_on.new.memory inv.once left;
       agrees = e.agrees;
       writes = (let a = e.writes in let b = inv.writes in omega arith);
-      failed = e.ok ∙ inv.failed;
-      honest = λ honest. inv.honest (e.honest honest);
-      keeps = λ keeps. e.keeps (inv.keeps keeps);
-      kept = λ keeps honest. e.kept (inv.keeps keeps) (inv.kept keeps honest);
+      calls = serves_then g.D.SwapDev.keeps g.D.SwapDev.honest g.D.SwapDev.faults c.args.device.now c.loop-memory.device c.go_on.new.device [] [] inv.calls e.serves;
     }
 
 pub returns-in-Err-clause-fails : goal.returns-in-Err-clause-fails
@@ -129,4 +121,4 @@ returns-in-Err-clause-fails g c =
 
 pub returns-in-Err-clause-fails_truly : goal.returns-in-Err-clause-fails_truly
 returns-in-Err-clause-fails_truly g c = λ honest.
-    (c.loop-memory.invariant.moves, c.loop-memory.memory, c.loop-memory.invariant.truly (c.in-Err.ensures.honest honest), gives_up c.loop-memory.memory c.go_on.new.memory c.unpin.new.self c.in-Err.ensures.loses c.unpin.ensures)
+    (c.loop-memory.invariant.moves, c.loop-memory.memory, c.loop-memory.invariant.truly (c.in-Err.ensures.serves.was_honest honest), gives_up c.loop-memory.memory c.go_on.new.memory c.unpin.new.self c.in-Err.ensures.loses c.unpin.ensures)

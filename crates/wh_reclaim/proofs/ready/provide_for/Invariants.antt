@@ -1,7 +1,8 @@
-use Rattle.std.proofs.Common.{◌≡◌, ◌+◌, ◌≤◌, ℕ, List}
+use Rattle.std.proofs.Common.{◌≡◌, ◌+◌, ◌≤◌, ℕ, List, []}
 use Rattle.wh_host_model.specs.Frames.{one_if, tally}
 use Rattle.wh_host_model.specs.Space.Parts.{pinned_by}
 use Rattle.wh_host_model.specs.Space.Provide.{Move, Serves, ServesTruly, far, leaves}
+use Rattle.wh_swap.specs.DeviceCalls.{ServesOn}
 use Rattle.wh_reclaim.proofs.ready.provide_for.Given as goal
 
 -- these moves led here, and no call of the device has failed
@@ -14,10 +15,7 @@ invariant-loop-memory g l = record {
   once : (q : ℕ) → tally (one_if q) (pinned_by l.memory.pins l.place) ≤ 1;
   agrees : l.memory.slots.held ≡ g.D.SwapDev.held l.device;
   writes : g.D.SwapDev.writes l.device ≡ g.D.SwapDev.writes l.fn.device + l.left;
-  failed : g.D.SwapDev.faults l.device ≡ g.D.SwapDev.faults l.fn.device;
-  honest : g.D.SwapDev.honest l.device → g.D.SwapDev.honest l.fn.device;
-  keeps : g.D.SwapDev.keeps l.fn.device → g.D.SwapDev.keeps l.device;
-  kept : g.D.SwapDev.keeps l.fn.device → g.D.SwapDev.honest l.fn.device → g.D.SwapDev.honest l.device;
+  calls : ServesOn g.D.SwapDev.keeps g.D.SwapDev.honest g.D.SwapDev.faults l.fn.device [] l.device;
 }
 
 abbrev pub decreases-loop-memory : goal.decreases-loop-memory

@@ -20,7 +20,7 @@ invariant_of-self g c =
     let none = subst NoneOut (sym (ap (λ k. k.out) agreed)) kept.none in
     provided_in_step g.D.SwapDev.held g.D.SwapDev.keeps g.D.SwapDev.honest g.D.SwapDev.faults _ p.new.self c.backing.inside.device p.new.device c.settle.new.known _ c.args.id p.result c.self.invariant has none
     (c.settle.ensures.known ∙ c.settle.ensures.keeper ∙ ap (λ (k : KnownState g.row.D.Denot). (let z : KnownState g.row.D.Denot = record k { device = Some p.new.device } in z)) (c.agree.ensures.same.0 ∙ sym agreed))
-    p.ensures.honest p.ensures.keeps p.ensures.kept p.ensures.ok p.ensures.err p.ensures.moves p.ensures.anyhow p.ensures.whole p.ensures.none_out p.ensures.agrees (ap (λ b. b.charges) c.count_evictions.ensures.books)
+    p.ensures.serves p.ensures.moves p.ensures.anyhow p.ensures.whole p.ensures.none_out p.ensures.agrees (ap (λ b. b.charges) c.count_evictions.ensures.books)
 
 pub returns-clause-moves : goal.returns-clause-moves
 returns-clause-moves g c =

@@ -24,19 +24,19 @@ returns-in_default-clause-obeys g c settings files line m s named =
 pub returns-clause-obeys : goal.returns-clause-obeys
 returns-clause-obeys g c =
     rw (← c.self.view_is) (λ settings files line m s named.
-    let h2 = c.cancel.new.self.host in
+    let h2 = c.ask.new.self.host in
     let all = whole_in s in
     let there = read_opened settings m c.args.number c.in-Some.at c.index.result.now s c.self.view_is c.in-Some.ensures.found c.in-Some.ensures.within c.index.ensures in
-    let whole = keeps_whole c.self.inside.host.host.space h2.space c.cancel.ensures.backing in
+    let whole = keeps_whole c.self.inside.host.host.space h2.space c.ask.ensures.backing in
     let did = asked (λ w id answer w2. IsCancel w id answer w2) (cancel c.args.name.now) (cancel_reply c.args.name.now) c.args.name.now (cancels_follow c.args.name.now)
     (λ settings files m m2 line replies o. cancel_touches o) (λ id. events.cancel id) (λ w w2 id answer h. (answer, h)) settings files line m all h2 c.index.result.now c.args.number in
-    elim c.match-cancel.branch [
+    elim c.match-ask.branch [
       | in-Ok w ↦
-          rw w.result-is (obeyed_again settings files m line (cancel c.args.name.now) (cancel_reply c.args.name.now call_ok) _ c.cancel.new.self s
-          (answered_ok (cancel c.args.name.now) (cancel_reply c.args.name.now) settings files line m all h2 (did (Ok tt) s.stands named there w.in-Ok.ensures.asks whole)))
+          rw w.result-is (obeyed_again settings files m line (cancel c.args.name.now) (cancel_reply c.args.name.now call_ok) _ c.ask.new.self s
+          (answered_ok (cancel c.args.name.now) (cancel_reply c.args.name.now) settings files line m all h2 (did (Ok tt) s.stands named there w.in-Ok.ensures.asks.0 whole)))
       | in-Err w ↦
-          let got = obeyed_again settings files m line (cancel c.args.name.now) (cancel_refused c.args.name.now _) _ c.cancel.new.self s
+          let got = obeyed_again settings files m line (cancel c.args.name.now) (cancel_refused c.args.name.now _) _ c.ask.new.self s
           (answered_err (cancel c.args.name.now) (cancel_reply c.args.name.now) (λ fault. cancel_refused c.args.name.now fault) settings files line m all h2 w.in-Err.error refl refl
-          (did (Err w.in-Err.error) s.stands named there w.in-Err.ensures.asks whole)) in
+          (did (Err w.in-Err.error) s.stands named there w.in-Err.ensures.asks.0 whole)) in
           rw (w.result-is, w.number-in-Err.ensures) got
     ])

@@ -25,14 +25,14 @@ returns-in_default-kept_at-clause-ok g c =
 pub returns-clause-ok : goal.returns-clause-ok
 returns-clause-ok g c =
     rw (← c.self.view_is) (λ settings m s.
-    let h2 = c.invoke.new.self.host in
-    let outcome = c.match-invoke.outcome in
+    let h2 = c.ask.new.self.host in
+    let outcome = c.match-ask.outcome in
     let there = read_there settings _ m c.args.number c.in-Some-kept_at.at c.index.result.now s c.in-Some-kept_at.ensures.found c.in-Some-kept_at.ensures.within c.index.ensures in
     let items = c.note-2.ensures ∙ ap (λ xs. xs ++ record { number = c.in-Some.asked; outcome = outcome; last_printed = None } ∷ []) c.in_ok-reserve.ensures.items in
-    call_again settings _ m c.args.number c.args.export.now c.args.fuel c.args.args.now c.invoke.new.self outcome c.note-2.new.invoked.items c.in-Some.asked s items (omega (arith, c.in-Some.ensures))
-    (called settings (whole_in s) m c.args.number c.index.result.now c.args.export.now c.args.fuel c.args.args.now h2 c.invoke.result outcome
-    _ s.stands there c.invoke.ensures.asks (keeps_whole c.self.inside.host.host.space h2.space c.invoke.ensures.backing)
-    (elim c.match-invoke.branch [
+    call_again settings _ m c.args.number c.args.export.now c.args.fuel c.args.args.now c.ask.new.self outcome c.note-2.new.invoked.items c.in-Some.asked s items (omega (arith, c.in-Some.ensures))
+    (called settings (whole_in s) m c.args.number c.index.result.now c.args.export.now c.args.fuel c.args.args.now h2 c.ask.result outcome
+    _ s.stands there c.ask.ensures.asks (keeps_whole c.self.inside.host.host.space h2.space c.ask.ensures.backing)
+    (elim c.match-ask.branch [
       | in-Ok w ↦ λ answer is. ap invoke_outcome_of w.outcome-is ∙ taken_so c.args.number w.in-Ok.place answer (subst (λ r. IsInvokeAnswer r answer) w.in-Ok.is is)
       | in-Err w ↦ λ answer is. ap invoke_outcome_of (w.outcome-is ∙ ap (λ n. Rejected n) w.number.ensures) ∙ turned_so c.args.number w.in-Err.error answer (subst (λ r. IsInvokeAnswer r answer) w.in-Err.is is)
     ]) refl))

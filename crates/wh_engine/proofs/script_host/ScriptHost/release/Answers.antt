@@ -25,10 +25,10 @@ returns-in-Err-clause-obeys g c =
     rw (← c.self.view_is) (λ settings files line m name s named.
     let all = whole_in s in
     let there = read_opened settings m c.args.number c.in-Some.at c.index.result.now s c.self.view_is c.in-Some.ensures.found c.in-Some.ensures.within c.index.ensures in
-    obeyed_again settings files m line (release name) _ _ c.release.new.self s
-    (refuses settings files line m all name c.release.new.self.host c.index.result.now c.args.number c.in-Err.error s.stands named
-    there c.in-Err.ensures.goes
-    (keeps_whole c.self.inside.host.host.space c.release.new.self.host.space c.in-Err.ensures.backing)))
+    obeyed_again settings files m line (release name) _ _ c.ask.new.self s
+    (refuses settings files line m all name c.ask.new.self.host c.index.result.now c.args.number c.in-Err.error s.stands named
+    there c.in-Err.ensures.asks.0
+    (keeps_whole c.self.inside.host.host.space c.ask.new.self.host.space c.in-Err.ensures.backing)))
 
 pub returns-clause-obeys : goal.returns-clause-obeys
 returns-clause-obeys g c =
@@ -41,7 +41,7 @@ returns-clause-obeys g c =
     let written = guest_there xs c.in-Some.at c.index_mut.result.now within c.index_mut.ensures.value in
     let same = same_Some c.index.result.now c.index_mut.result.now (sym read ∙ written) in
     let there = read_there settings _ m c.args.number c.in-Some.at c.index_mut.result.now s found within c.index_mut.ensures.value in
-    gone_again settings files line m _ name c.release.new.self c.index_mut.result.now c.args.number c.in-Some.at _ s found written
-    (goes settings files line m all name c.release.new.self.host c.index_mut.result.now c.args.number c.in-Ok.output s.stands named there
-    (subst (λ (x : NamedInstance). AnswersRelease c.self.inside.host.host x.id (Ok c.in-Ok.output) c.release.new.self.host) same c.in-Ok.ensures.goes)
-    (keeps_whole c.self.inside.host.host.space c.release.new.self.host.space c.in-Ok.ensures.backing)))
+    gone_again settings files line m _ name c.ask.new.self c.index_mut.result.now c.args.number c.in-Some.at _ s found written
+    (goes settings files line m all name c.ask.new.self.host c.index_mut.result.now c.args.number c.in-Ok.output s.stands named there
+    (subst (λ (x : NamedInstance). AnswersRelease c.self.inside.host.host x.id (Ok c.in-Ok.output) c.ask.new.self.host) same c.in-Ok.ensures.asks.0)
+    (keeps_whole c.self.inside.host.host.space c.ask.new.self.host.space c.in-Ok.ensures.backing)))

@@ -24,19 +24,19 @@ returns-in_default-clause-obeys g c settings files line m s named =
 pub returns-clause-obeys : goal.returns-clause-obeys
 returns-clause-obeys g c =
     rw (← c.self.view_is) (λ settings files line m s named.
-    let h2 = c.retry.new.self.host in
+    let h2 = c.ask.new.self.host in
     let all = whole_in s in
     let there = read_opened settings m c.args.number c.in-Some.at c.index.result.now s c.self.view_is c.in-Some.ensures.found c.in-Some.ensures.within c.index.ensures in
-    let whole = keeps_whole c.self.inside.host.host.space h2.space c.retry.ensures.backing in
+    let whole = keeps_whole c.self.inside.host.host.space h2.space c.ask.ensures.backing in
     let did = asked (λ w id answer w2. IsRetry w id answer w2) (retry c.args.name.now) (retry_reply c.args.name.now) c.args.name.now (retries_follow c.args.name.now)
     (λ settings files m m2 line replies o. retry_touches o) (λ id. events.retry id) (λ w w2 id answer h. (answer, h)) settings files line m all h2 c.index.result.now c.args.number in
-    elim c.match-retry.branch [
+    elim c.match-ask.branch [
       | in-Ok w ↦
-          rw w.result-is (obeyed_again settings files m line (retry c.args.name.now) (retry_reply c.args.name.now call_ok) _ c.retry.new.self s
-          (answered_ok (retry c.args.name.now) (retry_reply c.args.name.now) settings files line m all h2 (did (Ok tt) s.stands named there w.in-Ok.ensures.asks whole)))
+          rw w.result-is (obeyed_again settings files m line (retry c.args.name.now) (retry_reply c.args.name.now call_ok) _ c.ask.new.self s
+          (answered_ok (retry c.args.name.now) (retry_reply c.args.name.now) settings files line m all h2 (did (Ok tt) s.stands named there w.in-Ok.ensures.asks.0 whole)))
       | in-Err w ↦
-          let got = obeyed_again settings files m line (retry c.args.name.now) (retry_refused c.args.name.now _) _ c.retry.new.self s
+          let got = obeyed_again settings files m line (retry c.args.name.now) (retry_refused c.args.name.now _) _ c.ask.new.self s
           (answered_err (retry c.args.name.now) (retry_reply c.args.name.now) (λ fault. retry_refused c.args.name.now fault) settings files line m all h2 w.in-Err.error refl refl
-          (did (Err w.in-Err.error) s.stands named there w.in-Err.ensures.asks whole)) in
+          (did (Err w.in-Err.error) s.stands named there w.in-Err.ensures.asks.0 whole)) in
           rw (w.result-is, w.number-in-Err.ensures) got
     ])

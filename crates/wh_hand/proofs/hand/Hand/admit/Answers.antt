@@ -3,7 +3,7 @@ use Rattle.wh_host.specs.Admitting.{AnswersAdmit}
 use Rattle.std.specs.Prelude.{Ok, Err}
 use Rattle.std.proofs.Common.{◌≤◌, sym, subst}
 use Rattle.std.specs.VecDeque.{deque_capacity}
-use Rattle.wh_admit.specs.View.{view_params}
+use Rattle.wh_params.specs.View.{view_params}
 use Rattle.wh_swap.specs.MemorySwaps.{memory_held}
 use Rattle.wh_hand.proofs.Asked.{admit_leads, comer_few, comer_in_hand, comer_settles}
 use Rattle.wh_hand.proofs.hand.Hand.admit.Goals as goal

@@ -7,7 +7,7 @@ use Rattle.wh_host_model.specs.Space.Places.{Enters}
 use Rattle.wh_load.specs.Refusing.{view_linked}
 use Rattle.wh_admit.specs.declared.room.Room.{Room}
 use Rattle.wh_admit.specs.AdmitErrors.{fault_of}
-use Rattle.wh_admit.specs.View.{view_params}
+use Rattle.wh_params.specs.View.{view_params}
 use Rattle.wh_host.specs.declared.parts.InstanceEntry.{InstanceEntry}
 use Rattle.wh_host.specs.Admitting.{fault_answer}
 use Rattle.wh_host.specs.Hosting.{HostState, IsHost}

@@ -1,4 +1,4 @@
-use Rattle.std.proofs.Common.{◌+◌, ◌*◌, ◌<◌, ◌≤◌, ◌^◌, length, sym, subst, arith}
+use Rattle.std.proofs.Common.{◌+◌, ◌*◌, ◌<◌, ◌≤◌, ◌^◌, length, refl, sym, subst, arith}
 use Rattle.wh_host_model.specs.Space.Parts.{view}
 use Rattle.wh_space.specs.Steps.{page_limit}
 use Rattle.wh_overlay.specs.LaidPages.{UpperState}
@@ -24,3 +24,6 @@ pub returns-clause-grown : goal.returns-clause-grown
 returns-clause-grown c =
     let o = c.self.inside in
     rw (← c.self.view_is) (grow_page o.lower.now o.place o.upper c.grow.new.self c.args.pages c.invariant-2.ensures.sound c.self.invariant.alone c.invariant.ensures.whole c.grow.ensures)
+
+pub returns-clause-lower : goal.returns-clause-lower
+returns-clause-lower c = rw (← c.self.view_is) (record { lower = refl; place = refl; page_limit = refl; stays = λ h. (invariant_of-self c, c.invariant-3.ensures.whole) })

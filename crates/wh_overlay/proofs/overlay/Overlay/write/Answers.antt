@@ -2,7 +2,7 @@ use Rattle.std.proofs.Common.{◌≡◌, ◌∙◌, ◌+◌, ◌*◌, ◌<◌, �
 use Rattle.wh_model.specs.Execution.Store.{written}
 use Rattle.wh_host_model.specs.Space.Parts.{view}
 use Rattle.wh_overlay.specs.LaidPages.{IsWrittenAt, UpperState, with_upper}
-use Rattle.wh_overlay.specs.Over.{AreAlone, HasGrown, OverlayState, sees}
+use Rattle.wh_overlay.specs.Over.{AreAlone, HasGrown, IsOverSame, OverlayState, sees}
 use Rattle.wh_overlay.proofs.OverPages.{page_with}
 use Rattle.wh_overlay.proofs.Seen.{still_alone, write_page}
 use Rattle.wh_overlay.proofs.overlay.Overlay.write.Goals as goal
@@ -28,3 +28,8 @@ returns-clause-wrote c =
     λ yes.
     write_page o.lower.now o.place o.upper c.write.new.self c.args.number c.in-Some.at c.args.offset c.args.given.now c.invariant-2.ensures.sound c.self.invariant.alone c.invariant.ensures.whole c.invariant.ensures.once at c.write.ensures c.requires.inside
     ∙ ap (λ z. written z (4096 * c.args.number + c.args.offset) c.args.given.now) (before ∙ seen)
+
+pub returns-clause-lower : goal.returns-clause-lower
+returns-clause-lower c =
+    let first = subst (λ (z : OverlayState). IsOverSame c.args.self.now z) (sym c.self.view_is) c.own.ensures.lower in
+    record { lower = first.lower; place = first.place; page_limit = first.page_limit; stays = λ h. (invariant_of-self c, c.invariant-3.ensures.whole) }

@@ -3,7 +3,7 @@ use Rattle.wh_engine.proofs.Printings.{on_ok_then}
 use Rattle.wh_engine.proofs.Runs.{stays_same}
 use Rattle.wh_script_model.specs.Commands as asked_of
 use Rattle.wh_script.specs.Answering.{Obeys}
-use Rattle.wh_commands.specs.ParsedCommands.{params_of}
+use Rattle.wh_params.specs.View.{view_params}
 use Rattle.wh_replies.specs.View.{reply_of}
 use Rattle.wh_script.proofs.Within.{some_number, no_number}
 use Rattle.wh_script.proofs.Obeyed.{module_isnt_there, guest_is_taken, guest_came, is_wanted, some_guest, none_guest}
@@ -14,7 +14,7 @@ returns-in_default-clause-obeys g c =
     let e = c.args.self.now.script_host in
     let text = string_bytes c.args.self.now.text in
     let text2 = string_bytes c.complain.new.self.text in
-    let p = params_of c.args.given in
+    let p = view_params c.args.given in
     on_ok_then c.complain.result c.complain.ensures.printed (λ printed files.
     subst (λ x. Obeys files c.args.number (asked_of.admit c.args.inst.now c.args.name.now p) e text x text2) (sym c.complain.ensures.script_host)
     (module_isnt_there files c.args.number c.args.inst.now c.args.name.now p e text text2 c.in_default.ensures.named printed))
@@ -24,7 +24,7 @@ returns-then-is_some-clause-obeys g c =
     let e = c.args.self.now.script_host in
     let text = string_bytes c.args.self.now.text in
     let text2 = string_bytes c.complain-then-is_some.new.self.text in
-    let p = params_of c.args.given in
+    let p = view_params c.args.given in
     let found = some_number c.instance_number.result c.if-is_some.ensures in
     on_ok_then c.complain-then-is_some.result c.complain-then-is_some.ensures.printed (λ printed files.
     subst (λ x. Obeys files c.args.number (asked_of.admit c.args.inst.now c.args.name.now p) e text x text2) (sym c.complain-then-is_some.ensures.script_host)
@@ -36,7 +36,7 @@ returns-in-Ok-clause-obeys g c =
     let e = c.args.self.now.script_host in
     let text = string_bytes c.args.self.now.text in
     let text2 = string_bytes c.reply.new.self.text in
-    let p = params_of c.args.given in
+    let p = view_params c.args.given in
     let none = no_number c.instance_number.result c.if-is_some.ensures in
     on_ok_then c.reply.result c.reply.ensures.printed (λ printed files.
     subst (λ x. Obeys files c.args.number (asked_of.admit c.args.inst.now c.args.name.now p) e text x text2) (sym c.reply.ensures.script_host)
@@ -48,7 +48,7 @@ returns-in-Err-clause-obeys g c =
     let e = c.args.self.now.script_host in
     let text = string_bytes c.args.self.now.text in
     let text2 = string_bytes c.complain-in-Err.new.self.text in
-    let command = asked_of.admit c.args.inst.now c.args.name.now (params_of c.args.given) in
+    let command = asked_of.admit c.args.inst.now c.args.name.now (view_params c.args.given) in
     on_ok_then c.complain-in-Err.result c.complain-in-Err.ensures.printed (λ printed files.
     subst (λ x. Obeys files c.args.number command e text x text2) (sym c.complain-in-Err.ensures.script_host)
     (is_wanted files c.args.number command e c.admit.new.self text text2 (stays_same e c.admit.new.self c.in-Err.ensures.err) printed))

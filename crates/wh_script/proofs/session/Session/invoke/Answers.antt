@@ -1,31 +1,37 @@
-use Rattle.std.proofs.Common.{subst, sym, string_bytes}
+use Rattle.std.proofs.Common.{ℕ, List, subst, sym, string_bytes}
+use Rattle.wh_script_model.specs.Answers.{Files}
 use Rattle.wh_script_model.specs.Commands as asked_of
 use Rattle.wh_engine.proofs.Printings.{on_ok_then}
-use Rattle.wh_engine.specs.Draining.{DeviceMayFail, DeviceServesWell, DeviceStaysTrue}
+use Rattle.wh_engine.specs.Draining.{DeviceHoldsAmid, DeviceMayFail, DeviceStaysTrue}
 use Rattle.wh_engine.proofs.Opened.{err_before}
-use Rattle.wh_engine.proofs.Runs.{stays_same}
+use Rattle.wh_engine.proofs.Runs.{holds_same, stays_same}
+use Rattle.wh_script.specs.Answering.{AnswersCommand}
 use Rattle.wh_script.proofs.Answered.{is_received, has_no_guest, invoke_wants, where_ok, where_err}
-use Rattle.wh_script.proofs.Devices.{true_same, fails_same}
+use Rattle.wh_script.proofs.Devices.{true_same, fails_same, holds_map}
 use Rattle.wh_script.proofs.session.Session.invoke.Goals as goal
 
 pub returns-in_default-clause-answers : goal.returns-in_default-clause-answers
 returns-in_default-clause-answers g c =
     let before = c.args.self.now in
     let after = c.complain_drained.new.self in
-    on_ok_then c.complain_drained.result c.complain_drained.ensures.complains (λ complains same files.
+    on_ok_then c.complain_drained.result c.complain_drained.ensures.complains
+    (holds_map g.D.SwapDev.keeps g.D.SwapDev.honest g.D.SwapDev.faults before.script_host.host.device after.script_host.host.device _ _ (λ met complains files.
     has_no_guest files c.args.number c.args.inst.now c.args.export.now c.args.fuel c.args.args.now before.script_host after.script_host
-    (string_bytes before.text) (string_bytes after.text) c.in_default.ensures.named (complains same))
+    (string_bytes before.text) (string_bytes after.text) met c.in_default.ensures.named complains))
 
 pub returns-then-is_err-clause-answers : goal.returns-then-is_err-clause-answers
 returns-then-is_err-clause-answers g c =
     let before = c.args.self.now in
     let mid = c.invoke-asked.new in
     let after = c.complain_drained-then-is_err.new.self in
-    on_ok_then c.complain_drained-then-is_err.result c.complain_drained-then-is_err.ensures.complains (λ complains same files.
+    let answers : List ℕ → Type 0 = λ met. (files : Files) → AnswersCommand files c.args.number (asked_of.invoke c.args.inst.now c.args.export.now c.args.fuel c.args.args.now) before.script_host (string_bytes before.text)
+    after.script_host (string_bytes after.text) met in
+    on_ok_then c.complain_drained-then-is_err.result c.complain_drained-then-is_err.ensures.complains (λ complained.
+    subst (λ o. DeviceHoldsAmid g.D.SwapDev.honest g.D.SwapDev.faults o after.script_host.host.device answers) c.invoke-asked.ensures.device
+    (holds_map g.D.SwapDev.keeps g.D.SwapDev.honest g.D.SwapDev.faults mid.self.host.device after.script_host.host.device _ answers (λ met complains files.
     invoke_wants files c.args.number (asked_of.invoke c.args.inst.now c.args.export.now c.args.fuel c.args.args.now) before.script_host mid.self
-    after.script_host (string_bytes before.text) (string_bytes after.text)
-    (stays_same before.script_host mid.self (where_err c.invoke-asked.result c.if-is_err.ensures.value c.invoke-asked.ensures.err))
-    (complains (subst (λ o. DeviceServesWell g.D.SwapDev.honest g.D.SwapDev.faults o after.script_host.host.device) (sym c.invoke-asked.ensures.device) same)))
+    after.script_host (string_bytes before.text) (string_bytes after.text) met
+    (stays_same before.script_host mid.self (where_err c.invoke-asked.result c.if-is_err.ensures.value c.invoke-asked.ensures.err)) complains) complained))
 
 pub returns-then-is_err-clause-open : goal.returns-then-is_err-clause-open
 returns-then-is_err-clause-open g c =
@@ -35,11 +41,16 @@ returns-then-is_err-clause-open g c =
     (stays_same before.script_host mid.self (where_err c.invoke-asked.result c.if-is_err.ensures.value c.invoke-asked.ensures.err)) c.complain_drained-then-is_err.ensures.open
 
 pub returns-clause-answers : goal.returns-clause-answers
-returns-clause-answers g c same files =
+returns-clause-answers g c =
     let before = c.args.self.now in
     let mid = c.invoke-asked.new in
+    let device = before.script_host.host.device in
+    let answers : List ℕ → Type 0 = λ met. (files : Files) → AnswersCommand files c.args.number (asked_of.invoke c.args.inst.now c.args.export.now c.args.fuel c.args.args.now) before.script_host (string_bytes before.text)
+    mid.self (string_bytes before.text) met in
+    subst (λ o. DeviceHoldsAmid g.D.SwapDev.honest g.D.SwapDev.faults device o answers) (sym c.invoke-asked.ensures.device)
+    (holds_same g.D.SwapDev.honest g.D.SwapDev.faults device answers (λ files.
     is_received files c.args.number c.in-Some.instance c.args.inst.now c.args.export.now c.args.fuel c.args.args.now before.script_host mid.self
-    (string_bytes before.text) c.in-Some.ensures.named (where_ok c.invoke-asked.result c.if-is_err.ensures.value c.invoke-asked.ensures.ok)
+    (string_bytes before.text) c.in-Some.ensures.named (where_ok c.invoke-asked.result c.if-is_err.ensures.value c.invoke-asked.ensures.ok)))
 
 pub returns-clause-device : goal.returns-clause-device
 returns-clause-device g c =

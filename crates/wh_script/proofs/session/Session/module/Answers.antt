@@ -1,4 +1,4 @@
-use Rattle.std.proofs.Common.{◌∙◌, refl, subst, sym, string_bytes}
+use Rattle.std.proofs.Common.{refl, subst, sym, string_bytes}
 use Rattle.wh_engine.proofs.Printings.{on_ok_then}
 use Rattle.wh_script_model.specs.Commands as asked_of
 use Rattle.wh_script.specs.Answering.{Obeys}

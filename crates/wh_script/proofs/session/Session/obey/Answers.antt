@@ -1,12 +1,12 @@
 use Rattle.std.proofs.Common.{◌≡◌, subst, sym, string_bytes}
 use Rattle.wh_engine.proofs.Opened.{err_scans, memory_scans, memory_threads}
 use Rattle.wh_engine.proofs.Printings.{on_ok_then}
-use Rattle.wh_script.specs.Answering.{Obeys}
-use Rattle.wh_commands.specs.declared.command.Command.TheVariants.{Module, Load, Admit, Refuel, Cancel, Retry, Scan, Report, Release}
+use Rattle.wh_script.specs.Answering.{IsNoInvoke, Obeys}
+use Rattle.wh_commands.specs.declared.command.Command.TheVariants.{Module, Load, Admit, Invoke, Drain, Refuel, Cancel, Retry, Scan, Report, Release}
 use Rattle.wh_commands.specs.ParsedCommands.{Says}
 use Rattle.wh_script_model.specs.Commands as asked_of
-use Rattle.wh_script.proofs.Asked.{asked_as, is_drain}
-use Rattle.wh_script.proofs.Obeyed.{only_drained}
+use Rattle.wh_script.proofs.Asked.{asked_as}
+use Rattle.wh_script.proofs.Obeyed.{on_ok_own, only_drained}
 use Rattle.wh_script.proofs.session.Session.obey.Goals as goal
 
 pub returns-in-Module-clause-obeys : goal.returns-in-Module-clause-obeys
@@ -98,8 +98,8 @@ returns-in-Report-clause-obeys g c =
     let is = asked_as Report asked (subst (λ k. Says k asked) c.in-Report.is says) in
     subst (λ a. Obeys files c.args.number a e text e2 text2) (sym is) (obeys files c.args.number))
 
-pub returns-clause-obeys : goal.returns-clause-obeys
-returns-clause-obeys g c =
+pub returns-in-Release-clause-obeys : goal.returns-in-Release-clause-obeys
+returns-in-Release-clause-obeys g c =
     let files = g.S.Source.files c.args.source.now in
     let e = c.args.self.now.script_host in
     let text = string_bytes c.args.self.now.text in
@@ -114,8 +114,22 @@ returns-in-Drain-clause-obeys g c asked says free =
     let e = c.args.self.now.script_host in
     let text = string_bytes c.args.self.now.text in
     let files = g.S.Source.files c.args.source.now in
-    subst (λ a. Obeys files c.args.number a e text e text) (sym (is_drain c.args.command asked c.in-Drain.is says free))
+    subst (λ a. Obeys files c.args.number a e text e text) (sym (asked_as Drain asked (subst (λ k. Says k asked) c.in-Drain.is says)))
     (only_drained files c.args.number e text)
+
+-- no such command comes here
+pub returns-in-Invoke-clause-obeys : goal.returns-in-Invoke-clause-obeys
+returns-in-Invoke-clause-obeys g c =
+    let found = c.in-Invoke in
+    on_ok_own c.request.result (λ asked says free.
+    let is = asked_as (Invoke found.inst found.export found.fuel found.args) asked (subst (λ k. Says k asked) found.is says) in
+    elim (subst IsNoInvoke is free) [ ])
+
+pub returns-in-Invoke-clause-err : goal.returns-in-Invoke-clause-err
+returns-in-Invoke-clause-err g c = memory_scans c.request.result c.request.ensures.err
+
+pub returns-in-Invoke-clause-threads : goal.returns-in-Invoke-clause-threads
+returns-in-Invoke-clause-threads g c = memory_threads (c.args.command ≡ Scan) c.request.result c.request.ensures.err
 
 pub returns-in-Module-clause-err : goal.returns-in-Module-clause-err
 returns-in-Module-clause-err g c = memory_scans c.module.result c.module.ensures.err
@@ -159,11 +173,11 @@ returns-in-Report-clause-err g c = memory_scans c.report.result c.report.ensures
 pub returns-in-Report-clause-threads : goal.returns-in-Report-clause-threads
 returns-in-Report-clause-threads g c = memory_threads (c.args.command ≡ Scan) c.report.result c.report.ensures.err
 
-pub returns-clause-err : goal.returns-clause-err
-returns-clause-err g c = memory_scans c.release.result c.release.ensures.err
+pub returns-in-Release-clause-err : goal.returns-in-Release-clause-err
+returns-in-Release-clause-err g c = memory_scans c.release.result c.release.ensures.err
 
-pub returns-clause-threads : goal.returns-clause-threads
-returns-clause-threads g c = memory_threads (c.args.command ≡ Scan) c.release.result c.release.ensures.err
+pub returns-in-Release-clause-threads : goal.returns-in-Release-clause-threads
+returns-in-Release-clause-threads g c = memory_threads (c.args.command ≡ Scan) c.release.result c.release.ensures.err
 
 pub returns-in-Scan-clause-threads : goal.returns-in-Scan-clause-threads
 returns-in-Scan-clause-threads g c = err_scans (c.args.command ≡ Scan) c.scan.result c.in-Scan.is

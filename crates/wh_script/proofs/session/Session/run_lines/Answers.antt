@@ -1,22 +1,26 @@
-use Rattle.std.proofs.Common.{rules, Err, refl, sym, ap, subst, ◌∙◌, string_bytes}
+use Rattle.std.proofs.Common.{rules, [], ◌++◌, Err, refl, sym, ap, subst, ◌∙◌, string_bytes}
 use Rattle.std.proofs.lemmas.Result.{err_from_is_err_and}
 use Rattle.std.specs.Io.KnownBytes.{Appends}
-use Rattle.wh_engine.specs.declared.fault.ScriptFault.TheVariants.{Memory}
+use Rattle.wh_engine.specs.declared.fault.RunFault.TheVariants.{Memory}
 use Rattle.wh_script.specs.Coming.{unread, coming, ReadsLine}
 use Rattle.wh_script.specs.Answering.{HasDrained}
-use Rattle.wh_script.specs.Runs.{Sent, Runs}
-use Rattle.wh_script.proofs.Devices.{true_same, true_then, fails_same, fails_then, served_first, served_rest}
+use Rattle.wh_script.specs.Runs.{Sent}
+use Rattle.wh_script.specs.FailingRuns.{ScriptRunsAmid}
+use Rattle.wh_engine.specs.Draining.{DeviceHoldsAmid}
+use Rattle.wh_engine.proofs.Runs.{holds_same}
+use Rattle.wh_script.proofs.Devices.{true_same, true_then, fails_same, fails_then, holds_any, holds_map, holds_then}
 use Rattle.wh_script.proofs.Runs.{begins_nothing, starts, stops, stops_at_line, read_fails, ends, goes_on, write_fails}
 use Rattle.wh_script.proofs.session.Session.run_lines.Goals as goal
 
-pub returns-in_err-lines-clause-runs : goal.returns-in_err-lines-clause-runs
-returns-in_err-lines-clause-runs g c settings stands served =
+pub returns-in_err-lines-clause-amid : goal.returns-in_err-lines-clause-amid
+returns-in_err-lines-clause-amid g c settings stands =
     let left = g.R.Read.remaining in
     let contents = g.W.Write.contents in
     let files = g.S.Source.files c.args.source.now in
     let p = err_from_is_err_and c.from_residual.result c.from_residual.ensures.1 in
-    subst (Runs settings files (left c.args.reader.now) (left c.args.reader.now) (contents c.args.writer.now) (contents c.args.writer.now)) (sym (p.1 ∙ ap Err (p.2 ∙ c.in_err-lines.ensures.err)))
-    (begins_nothing settings files (left c.args.reader.now) (left c.args.reader.now) (contents c.args.writer.now))
+    holds_same g.D.SwapDev.honest g.D.SwapDev.faults c.args.self.now.script_host.host.device _
+    (subst (ScriptRunsAmid settings files [] (left c.args.reader.now) (left c.args.reader.now) (contents c.args.writer.now) (contents c.args.writer.now)) (sym (p.1 ∙ ap Err (p.2 ∙ c.in_err-lines.ensures.err)))
+    (begins_nothing settings files (left c.args.reader.now) (left c.args.reader.now) (contents c.args.writer.now)))
 
 pub returns-in_err-lines-clause-faults : goal.returns-in_err-lines-clause-faults
 returns-in_err-lines-clause-faults g c = fails_same g.D.SwapDev.keeps g.D.SwapDev.honest g.D.SwapDev.faults c.args.self.now.script_host.host.device
@@ -35,13 +39,14 @@ loop-number-init g c =
       device = true_same keeps honest faults self.script_host.host.device;
       faults = fails_same keeps honest faults self.script_host.host.device;
       config = refl;
-      so_far = λ settings stands served.
-          starts settings (g.S.Source.files c.args.source.now) (g.R.Read.remaining c.args.reader.now) (g.W.Write.contents c.args.writer.now) (unread c.in_ok-lines.lines)
-          self.script_host c.in_ok-lines.ensures.empty stands;
+      so_far = λ settings stands.
+          holds_same honest faults self.script_host.host.device _
+          (starts settings (g.S.Source.files c.args.source.now) (g.R.Read.remaining c.args.reader.now) (g.W.Write.contents c.args.writer.now) (unread c.in_ok-lines.lines)
+          self.script_host c.in_ok-lines.ensures.empty stands);
     }
 
-pub returns-in_err-kind-clause-runs : goal.returns-in_err-kind-clause-runs
-returns-in_err-kind-clause-runs g c settings stands served =
+pub returns-in_err-kind-clause-amid : goal.returns-in_err-kind-clause-amid
+returns-in_err-kind-clause-amid g c settings stands =
     let left = g.R.Read.remaining in
     let contents = g.W.Write.contents in
     let files = g.S.Source.files c.args.source.now in
@@ -50,8 +55,11 @@ returns-in_err-kind-clause-runs g c settings stands served =
     let old = coming l.lines (left l.reader) in
     let e = c.in_err-kind.field-0.0 in
     let p = err_from_is_err_and c.from_residual-in_err-kind.result c.from_residual-in_err-kind.ensures.1 in
-    subst (Runs settings files script (left c.read.new.reader) (contents c.args.writer.now) (contents l.writer)) (sym (p.1 ∙ ap Err p.2))
-    (read_fails settings files script old (contents c.args.writer.now) (contents l.writer) l.number l.self.script_host (l.invariant.so_far settings stands served) (left c.read.new.reader) e c.in_err-kind.ensures.err c.in_err-kind.ensures.failed)
+    holds_map g.D.SwapDev.keeps g.D.SwapDev.honest g.D.SwapDev.faults c.args.self.now.script_host.host.device l.self.script_host.host.device _ _
+    (λ met so_far.
+    subst (ScriptRunsAmid settings files met script (left c.read.new.reader) (contents c.args.writer.now) (contents l.writer)) (sym (p.1 ∙ ap Err p.2))
+    (read_fails settings files script old (contents c.args.writer.now) (contents l.writer) l.number l.self.script_host met [] so_far (left c.read.new.reader) e c.in_err-kind.ensures.err c.in_err-kind.ensures.failed))
+    (l.invariant.so_far settings stands)
 
 pub returns-in_err-drain-in-End : goal.returns-in_err-drain-in-End
 returns-in_err-drain-in-End g c =
@@ -70,10 +78,12 @@ returns-in_err-drain-in-End g c =
     let p = err_from_is_err_and c.from_residual-in_err-drain-in-End.result c.from_residual-in_err-drain-in-End.ensures.1 in
     let fault = c.in_err-drain-in-End.field-0.0 in
     record {
-      runs = λ settings stands served.
-          let well = served_first keeps honest faults first before after c.drain.ensures.device l.invariant.faults c.drain.ensures.faults served in
-          subst (Runs settings files script (left c.read.new.reader) (contents c.args.writer.now) (contents l.writer)) (sym (p.1 ∙ ap Err p.2))
-          (stops settings files script old (contents c.args.writer.now) (contents l.writer) l.number l.self.script_host (l.invariant.so_far settings stands well) (left c.read.new.reader) fault c.in_err-drain-in-End.ensures.err c.in_err-drain-in-End.ensures.open);
+      amid = λ settings stands.
+          holds_then keeps honest faults first before after _ _ _ l.invariant.faults c.drain.ensures.device
+          (λ met since so_far any.
+          subst (ScriptRunsAmid settings files (since ++ met) script (left c.read.new.reader) (contents c.args.writer.now) (contents l.writer)) (sym (p.1 ∙ ap Err p.2))
+          (stops settings files script old (contents c.args.writer.now) (contents l.writer) l.number l.self.script_host met since so_far (left c.read.new.reader) fault c.in_err-drain-in-End.ensures.open))
+          (l.invariant.so_far settings stands) (holds_any keeps honest faults before after c.drain.ensures.faults);
       faults = fails_then keeps honest faults first before after l.invariant.faults c.drain.ensures.faults;
       device = true_then keeps honest faults first before after l.invariant.device c.drain.ensures.device;
       config = c.drain.ensures.config ∙ l.invariant.config;
@@ -99,14 +109,15 @@ returns-in-End g c =
     let e2 = drained.script_host in
     let text = string_bytes drained.text in
     record {
-      runs = λ settings stands served.
-          let well = served_first keeps honest faults first before after c.drain.ensures.device l.invariant.faults c.drain.ensures.faults served in
-          let here = served_rest keeps honest faults first before after l.invariant.faults c.drain.ensures.faults served in
-          let drains = subst (λ t. HasDrained e t e2 text) c.clear.ensures.bytes (c.in_ok-drain-in-End.ensures.drains here) in
+      amid = λ settings stands.
+          let drains = subst (λ t. DeviceHoldsAmid honest faults before after (HasDrained e t e2 text)) c.clear.ensures.bytes c.in_ok-drain-in-End.ensures.drains in
           let end = subst (λ k. ReadsLine old new k c.read.new.self.line.items) c.in-End.is c.in_ok-kind.ensures.line in
           let sent = subst (Sent (contents l.writer) (contents c.send.new.writer) c.send.result) c.as_bytes.ensures.value c.send.ensures.sent in
-          ends settings files script old (contents c.args.writer.now) (contents l.writer) l.number e (l.invariant.so_far settings stands well) e2 text (contents c.send.new.writer) (left c.read.new.reader)
-          drains end c.send.result sent;
+          holds_then keeps honest faults first before after _ _ _ l.invariant.faults c.drain.ensures.device
+          (λ met since so_far drained.
+          ends settings files script old (contents c.args.writer.now) (contents l.writer) l.number e met since so_far e2 text (contents c.send.new.writer) (left c.read.new.reader)
+          drained end c.send.result sent)
+          (l.invariant.so_far settings stands) drains;
       faults = fails_then keeps honest faults first before after l.invariant.faults c.drain.ensures.faults;
       device = true_then keeps honest faults first before after l.invariant.device c.drain.ensures.device;
       config = c.drain.ensures.config ∙ l.invariant.config;
@@ -131,11 +142,13 @@ returns-in_err-answer-in_default g c =
     let reads = subst (λ held. ReadsLine old new c.in_ok-kind.kind held) (sym c.line.ensures) c.in_ok-kind.ensures.line in
     let fault = c.in_err-answer-in_default.field-0.0 in
     record {
-      runs = λ settings stands served.
-          let well = served_first keeps honest faults first before after c.answer.ensures.device l.invariant.faults c.answer.ensures.faults served in
-          subst (Runs settings files script (left c.read.new.reader) (contents c.args.writer.now) (contents l.writer)) (sym (p.1 ∙ ap Err p.2))
-          (stops_at_line settings files script old (contents c.args.writer.now) (contents l.writer) l.number l.self.script_host (l.invariant.so_far settings stands well)
-          new c.in_ok-kind.kind c.line.result.now c.in_default.not-End reads (left c.read.new.reader) fault c.in_err-answer-in_default.ensures.err c.in_err-answer-in_default.ensures.open);
+      amid = λ settings stands.
+          holds_then keeps honest faults first before after _ _ _ l.invariant.faults c.answer.ensures.device
+          (λ met since so_far any.
+          subst (ScriptRunsAmid settings files (since ++ met) script (left c.read.new.reader) (contents c.args.writer.now) (contents l.writer)) (sym (p.1 ∙ ap Err p.2))
+          (stops_at_line settings files script old (contents c.args.writer.now) (contents l.writer) l.number l.self.script_host met since so_far
+          new c.in_ok-kind.kind c.line.result.now c.in_default.not-End reads (left c.read.new.reader) fault c.in_err-answer-in_default.ensures.open))
+          (l.invariant.so_far settings stands) (holds_any keeps honest faults before after c.answer.ensures.faults);
       faults = fails_then keeps honest faults first before after l.invariant.faults c.answer.ensures.faults;
       device = true_then keeps honest faults first before after l.invariant.device c.answer.ensures.device;
       config = c.answer.ensures.config ∙ l.invariant.config;
@@ -164,13 +177,14 @@ returns-in_err-send-in_default g c =
     let fault = c.in_err-send-in_default.field-0.0 in
     let p = err_from_is_err_and c.from_residual-in_err-send-in_default.result c.from_residual-in_err-send-in_default.ensures.1 in
     record {
-      runs = λ settings stands served.
-          let well = served_first keeps honest faults first before after c.answer.ensures.device l.invariant.faults c.answer.ensures.faults served in
-          let here = served_rest keeps honest faults first before after l.invariant.faults c.answer.ensures.faults served in
+      amid = λ settings stands.
           let sent = subst (Sent (contents l.writer) (contents c.send-in_default.new.writer) (Err fault)) c.as_bytes-in_default.ensures.value c.in_err-send-in_default.ensures.sent in
-          subst (Runs settings files script (left c.read.new.reader) (contents c.args.writer.now) (contents c.send-in_default.new.writer)) (sym (p.1 ∙ ap Err p.2))
-          (write_fails settings files script old (contents c.args.writer.now) (contents l.writer) l.number e (l.invariant.so_far settings stands well) e2 text (contents c.send-in_default.new.writer) (left c.read.new.reader)
-          new c.in_ok-kind.kind c.line.result.now c.in_default.not-End reads (c.in_ok-answer-in_default.ensures.answers here) fault sent);
+          holds_then keeps honest faults first before after _ _ _ l.invariant.faults c.answer.ensures.device
+          (λ met since so_far answers.
+          subst (ScriptRunsAmid settings files (since ++ met) script (left c.read.new.reader) (contents c.args.writer.now) (contents c.send-in_default.new.writer)) (sym (p.1 ∙ ap Err p.2))
+          (write_fails settings files script old (contents c.args.writer.now) (contents l.writer) l.number e met since so_far e2 text (contents c.send-in_default.new.writer) (left c.read.new.reader)
+          new c.in_ok-kind.kind c.line.result.now c.in_default.not-End reads answers fault sent))
+          (l.invariant.so_far settings stands) c.in_ok-answer-in_default.ensures.answers;
       faults = fails_then keeps honest faults first before after l.invariant.faults c.answer.ensures.faults;
       device = true_then keeps honest faults first before after l.invariant.device c.answer.ensures.device;
       config = c.answer.ensures.config ∙ l.invariant.config;
@@ -201,20 +215,23 @@ loop-number-preserved g c =
       device = true_then keeps honest faults first before after l.invariant.device c.answer.ensures.device;
       config = c.answer.ensures.config ∙ l.invariant.config;
       faults = fails_then keeps honest faults first before after l.invariant.faults c.answer.ensures.faults;
-      so_far = λ settings stands served.
-          let well = served_first keeps honest faults first before after c.answer.ensures.device l.invariant.faults c.answer.ensures.faults served in
-          let here = served_rest keeps honest faults first before after l.invariant.faults c.answer.ensures.faults served in
+      so_far = λ settings stands.
           let sent = subst (λ t. Appends (contents l.writer) (contents c.send-in_default.new.writer) t) c.as_bytes-in_default.ensures.value c.in_ok-send-in_default.ensures.sent in
-          goes_on settings files script old (contents c.args.writer.now) (contents l.writer) l.number e (l.invariant.so_far settings stands well) e2 text (contents c.send-in_default.new.writer) (left c.read.new.reader)
-          new c.in_ok-kind.kind c.line.result.now c.in_default.not-End reads (c.in_ok-answer-in_default.ensures.answers here) sent;
+          holds_then keeps honest faults first before after _ _ _ l.invariant.faults c.answer.ensures.device
+          (λ met since so_far answers.
+          goes_on settings files script old (contents c.args.writer.now) (contents l.writer) l.number e met since so_far e2 text (contents c.send-in_default.new.writer) (left c.read.new.reader)
+          new c.in_ok-kind.kind c.line.result.now c.in_default.not-End reads answers sent)
+          (l.invariant.so_far settings stands) c.in_ok-answer-in_default.ensures.answers;
     }
 
-pub returns-clause-runs : goal.returns-clause-runs
-returns-clause-runs g c settings stands served =
+pub returns-clause-amid : goal.returns-clause-amid
+returns-clause-amid g c settings stands =
     let left = g.R.Read.remaining in
     let contents = g.W.Write.contents in
     let files = g.S.Source.files c.args.source.now in
     let l = c.loop-number in
     let script = left c.args.reader.now in
     let old = coming l.lines (left l.reader) in
-    stops settings files script old (contents c.args.writer.now) (contents l.writer) l.number l.self.script_host (l.invariant.so_far settings stands served) (left l.reader) Memory tt tt
+    holds_map g.D.SwapDev.keeps g.D.SwapDev.honest g.D.SwapDev.faults c.args.self.now.script_host.host.device l.self.script_host.host.device _ _
+    (λ met so_far. stops settings files script old (contents c.args.writer.now) (contents l.writer) l.number l.self.script_host met [] so_far (left l.reader) Memory tt)
+    (l.invariant.so_far settings stands)

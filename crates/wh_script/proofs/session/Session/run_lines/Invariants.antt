@@ -1,7 +1,7 @@
 use Rattle.std.specs.Prelude.{◌≡◌}
 use Rattle.wh_script_model.specs.ScriptState.{empty_script}
 use Rattle.wh_script_model.specs.Settings.{Settings}
-use Rattle.wh_engine.specs.Draining.{DeviceMayFail, DeviceServesWell, DeviceStaysTrue}
+use Rattle.wh_engine.specs.Draining.{DeviceHoldsAmid, DeviceMayFail, DeviceStaysTrue}
 use Rattle.wh_engine.specs.RepresentedScript.{RepresentsScript}
 use Rattle.wh_script.specs.Coming.{coming, IsInChunk}
 use Rattle.wh_script.proofs.Runs.{SoFar}
@@ -14,7 +14,7 @@ invariant-loop-number g l = record {
   faults : DeviceMayFail g.D.SwapDev.faults l.fn.self.script_host.host.device l.self.script_host.host.device;
   config : l.self.config ≡ l.fn.self.config;
   so_far : (settings : Settings) → RepresentsScript settings l.fn.self.script_host empty_script
-      → DeviceServesWell g.D.SwapDev.honest g.D.SwapDev.faults l.fn.self.script_host.host.device l.self.script_host.host.device
-      → SoFar settings (g.S.Source.files l.fn.source) (g.R.Read.remaining l.fn.reader) (coming l.lines (g.R.Read.remaining l.reader)) (g.W.Write.contents l.fn.writer) (g.W.Write.contents l.writer) l.number
-      l.self.script_host;
+      → DeviceHoldsAmid g.D.SwapDev.honest g.D.SwapDev.faults l.fn.self.script_host.host.device l.self.script_host.host.device
+      (SoFar settings (g.S.Source.files l.fn.source) (g.R.Read.remaining l.fn.reader) (coming l.lines (g.R.Read.remaining l.reader)) (g.W.Write.contents l.fn.writer) (g.W.Write.contents l.writer) l.number
+      l.self.script_host);
 }

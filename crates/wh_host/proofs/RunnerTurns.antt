@@ -1,0 +1,362 @@
+-- The turns of those at the runners of a round, finished one after the other.
+use Rattle.std.proofs.Common.{◌≡◌, ◌≢◌, ◌∙◌, inl, inr, ℕ, ◌+◌, ◌<◌, ◌≤◌, true, false, List, [], ◌∷◌, ◌++◌, Option, Some, None, length, take, slice_get, slice_index_or, slice_set, zero, suc, refl, sym, ap, subst, arith}
+use Rattle.std.proofs.lemmas.Bool.{cases_eq, cases_lt}
+use Rattle.wh_host_model.specs.declared.plain.InstId.{InstId}
+use Rattle.wh_host_model.specs.Host.Happens.{IsTurn}
+use Rattle.wh_host_model.specs.Host.Worlds.{Tenant, World}
+use Rattle.wh_host_model.specs.Space.Parts.{Claimed, Space, view}
+use Rattle.wh_instance.specs.Seen.{IsAtTerm}
+use Rattle.wh_instance.specs.Tenancy.{HostInstanceState, IsTenant}
+use Rattle.wh_overlay.specs.LaidBack.{LooksSame}
+use Rattle.wh_overlay.proofs.Marks.{set_there, set_elsewhere}
+use Rattle.wh_imports.specs.LinkedState.{LinkedState}
+use Rattle.wh_space.specs.Steps.{limit_by}
+use Rattle.wh_host.specs.declared.parts.LoadedModule.{LoadedModule}
+use Rattle.wh_host.specs.declared.parts.InstanceEntry.{InstanceEntry}
+use Rattle.wh_host.specs.declared.rounds.Runner.{Runner}
+use Rattle.wh_host.specs.Backing.{KeepsBacking}
+use Rattle.wh_host.specs.Beside.{HasRun, RunsBeside}
+use Rattle.wh_host.specs.Hosting.{HostState, IsHost, entry_at}
+use Rattle.wh_host.specs.Left.{LeavesTurned}
+use Rattle.wh_host.specs.Lying.{LiesAt}
+use Rattle.wh_host.specs.Rounds.{AllAreFree, AllMayRun, AllRun, AllTurn, AreTakenOut, RunnersStay, IsFree, IsOut, RanThere, RunsAt, SitsThere, TakesTurn}
+use Rattle.wh_host.specs.Joining.{CanFinish, HaveRun, LaysAt, Returns, host_with}
+use Rattle.wh_host.proofs.BesideTurns.{looks_itself}
+use Rattle.wh_host.proofs.Backed.{then_backing, same_backing}
+use Rattle.wh_host.proofs.Hosts.{found, lies_here, seat_set, turned_here}
+use Rattle.wh_host.proofs.RunnerLists.{at_index, free_out, index_there, not_both, one_runner}
+
+-- ---- memories that are as good
+
+looks_then : (i : ℕ) (a b c : Space) → LooksSame i a b → LooksSame i b c → LooksSame i a c
+looks_then i a b c first second = record { table = second.table ∙ first.table; sees = second.sees ∙ first.sees; claim = second.claim ∙ first.claim }
+
+lies_back : (l : LinkedState) (limit : ℕ) (x : HostInstanceState) (s m : Space) (place : ℕ) (t : Tenant) → LooksSame place s m → LiesAt l limit x m place t → LiesAt l limit x s place t
+lies_back l limit x s m place t looks lies = record {
+  place_is = lies.place_is;
+  is = subst (λ b. IsTenant l limit x b t) looks.sees lies.is;
+  within = subst (λ (c : Option Claimed). limit ≤ limit_by c) looks.claim lies.within;
+  claimed = lies.claimed;
+  claim_is = sym looks.claim ∙ lies.claim_is;
+}
+
+-- ---- who is out
+
+-- the host with these entries, of whom some are out, and the turns so far
+pub record Stands (h : HostState) (s : Space) (q : ℕ) (w : World) (F : List (Option InstanceEntry)) (m : Space) (ys : List Runner) (i : ℕ) : Type 0 where
+  pub before : List (Option InstanceEntry)
+  pub world : World
+  pub out : AreTakenOut before F ys (RanThere h.modules s q)
+  pub looks : (k : ℕ) (y : Runner) → slice_get ys k ≡ Some y → y.taken ≡ true → LooksSame y.id.place s m
+  pub host : IsHost (host_with h before m) world
+  pub turned : AllTurn q w (take i ys) world
+
+-- who sits there, and has run
+record Sitting (h : HostState) (s : Space) (q : ℕ) (m : Space) (before F : List (Option InstanceEntry)) (y : Runner) : Type 0 where
+  out : IsOut before F y (RanThere h.modules s q)
+  loaded : LoadedModule
+  is_loaded : slice_get h.modules out.entry.of ≡ Some loaded
+  tenant : Tenant
+  lies : LiesAt loaded.linked out.entry.page_limit out.entry.tenant m y.id.place tenant
+  run : (t : Tenant) → LiesAt loaded.linked out.entry.page_limit out.entry.tenant m y.id.place t
+      → HasRun loaded.linked out.entry.page_limit q s m y.id.place out.entry.tenant t y.ran.came y.ran.pieces y.ran.charges y.tenant out.so.0
+
+sitting : (h : HostState) (s : Space) (q : ℕ) (w : World) (F : List (Option InstanceEntry)) (m : Space) (ys : List Runner) (i k : ℕ) (y : Runner) → (st : Stands h s q w F m ys i) → slice_get ys k ≡ Some y → y.taken ≡ true → Sitting h s q m st.before F y
+sitting h s q w F m ys i k y st there sits =
+    let o = st.out.each k y there sits in
+    let x = o.entry in
+    let f = found (host_with h st.before m) st.world y.id.place y.id.number x st.host o.was o.number in
+    let loaded = f.is.loaded in
+    let l = lies_here (host_with h st.before m) st.world y.id.place y.id.number x loaded st.host o.was o.number f.is.is_loaded in
+    let looks = st.looks k y there sits in
+    let so = o.so in
+    record {
+      out = o;
+      loaded = loaded;
+      is_loaded = f.is.is_loaded;
+      tenant = l.0;
+      lies = l.2;
+      run = λ t lies. record { runs = so.2 loaded f.is.is_loaded t (lies_back loaded.linked x.page_limit x.tenant s m y.id.place t looks lies); looks = looks; lies = lies };
+    }
+
+-- its turn can be finished
+pub can_finish_at : (h : HostState) (s : Space) (q : ℕ) (w : World) (F : List (Option InstanceEntry)) (m : Space) (ys : List Runner) (i k : ℕ) (y : Runner) → Stands h s q w F m ys i → slice_get ys k ≡ Some y → y.taken ≡ true → CanFinish q m y
+can_finish_at h s q w F m ys i k y st there sits =
+    let z = sitting h s q w F m ys i k y st there sits in
+    let o = z.out in
+    let x = o.entry in
+    let so = o.so in
+    let loaded = z.loaded in
+    (so.0, so.1, loaded.linked, x.page_limit, s, x.tenant, z.tenant, z.run z.tenant z.lies)
+
+-- ---- lists of turns
+
+turn_behind : (q : ℕ) (w mid w2 : World) (ys : List Runner) (y : Runner) → AllTurn q w ys mid → TakesTurn q mid y.id y.answer w2 → AllTurn q w (ys ++ y ∷ []) w2
+turn_behind q w mid w2 [] y turned takes = (w2, subst (λ z. TakesTurn q z y.id y.answer w2) turned takes, refl)
+turn_behind q w mid w2 (x ∷ ys) y (z, first, rest) takes = (z, first, turn_behind q z mid w2 ys y rest takes)
+
+take_one : (ys : List Runner) (i : ℕ) (y z : Runner) → slice_get ys i ≡ Some z → take (i + 1) (slice_set ys i y) ≡ take i ys ++ y ∷ []
+take_one [] i y z there = absurd (cc there)
+take_one (x ∷ ys) zero y z there = refl
+take_one (x ∷ ys) (suc i) y z there =
+    let e : suc i + 1 ≡ suc (i + 1) = omega arith in
+    ap (λ n. take n (x ∷ slice_set ys i y)) e ∙ ap (λ zs. x ∷ zs) (take_one ys i y z there)
+
+-- ---- a runner that nobody has
+
+stands_free : (h : HostState) (s : Space) (q : ℕ) (w : World) (F : List (Option InstanceEntry)) (m : Space) (ys : List Runner) (i : ℕ) (y : Runner) → Stands h s q w F m ys i → slice_get ys i ≡ Some y → y.taken ≡ false → y.answer ≡ None → Stands h s q w F m (slice_set ys i y) (i + 1)
+stands_free h s q w F m ys i y st there free none = record {
+  before = st.before;
+  world = st.world;
+  out = free_out st.before F ys (RanThere h.modules s q) i y y st.out there free free;
+  looks = λ k a at sits. st.looks k a (back k a at sits) sits;
+  host = st.host;
+  turned = subst (λ zs. AllTurn q w zs st.world) (sym (take_one ys i y y there)) (turn_behind q w st.world st.world (take i ys) y st.turned (subst (λ a. TakesTurn q st.world y.id a st.world) (sym none) refl));
+}
+  where
+    back : (k : ℕ) (a : Runner) → slice_get (slice_set ys i y) k ≡ Some a → a.taken ≡ true → slice_get ys k ≡ Some a
+    back k a at sits = elim (cases_eq k i) [
+      | inl same ↦ absurd (not_both a sits (subst (λ (z : Runner). z.taken ≡ false) (one_runner y a (sym (set_there ys i y y there) ∙ ap (slice_get (slice_set ys i y)) (sym same) ∙ at)) free))
+      | inr other ↦ sym (set_elsewhere ys i k y other) ∙ at
+    ]
+
+-- ---- one whose instance returns
+
+module _ (h : HostState) (s : Space) (q : ℕ) (w : World) (F : List (Option InstanceEntry)) (m : Space) (ys : List Runner) (i : ℕ) (y : Runner) (F2 : List (Option InstanceEntry)) (m2 : Space) (y2 : Runner) (st : Stands h s q w F m ys i) (there : slice_get ys i ≡ Some y) (sits : y.taken ≡ true) (r : Returns q F m y F2 m2 y2) where
+  abbrev it : Sitting h s q m st.before F y
+  it = sitting h s q w F m ys i i y st there sits
+
+  abbrev entry : InstanceEntry
+  entry = it.out.entry
+
+  abbrev entry2 : InstanceEntry
+  entry2 = record entry { tenant = r.tenant }
+
+  turn_of : (w2 : World) × IsTurn st.world y.id r.made.1 r.made.0 w2 × IsHost (host_with h (slice_set st.before y.id.place (Some entry2)) m2) w2
+  turn_of =
+      let o = it.out in
+      let so = o.so in
+      let loaded = it.loaded in
+      turned_here (host_with h st.before m) st.world y.id r.made.1 entry r.tenant loaded r.made.0 m2 st.host o.was o.number it.is_loaded
+      (λ t lies. r.finishes.turns so.0 so.1 loaded.linked entry.page_limit s entry.tenant t (it.run t lies))
+
+  entries_are : F2 ≡ slice_set F y.id.place (Some entry2)
+  entries_are =
+      let o = it.out in
+      r.entries (record entry { number = None; tenant = o.spare }) o.is ∙ ap (λ n. slice_set F y.id.place (Some (record entry { number = n; tenant = r.tenant }))) (sym o.number)
+
+  put_before : (entry_at (slice_set st.before y.id.place (Some entry2)) y.id.place ≡ Some entry2) × ((p : ℕ) → p ≢ y.id.place → entry_at (slice_set st.before y.id.place (Some entry2)) p ≡ entry_at st.before p)
+  put_before = let o = it.out in let z = seat_set st.before y.id.place entry (Some entry2) o.was in (z.0, z.1)
+
+  put_now : (entry_at F2 y.id.place ≡ Some entry2) × ((p : ℕ) → p ≢ y.id.place → entry_at F2 p ≡ entry_at F p)
+  put_now =
+      let o = it.out in
+      let z = seat_set F y.id.place (record entry { number = None; tenant = o.spare }) (Some entry2) o.is in
+      subst (λ rs. (entry_at rs y.id.place ≡ Some entry2) × ((p : ℕ) → p ≢ y.id.place → entry_at rs p ≡ entry_at F p)) (sym entries_are) (z.0, z.1)
+
+  left : (k : ℕ) (a : Runner) → slice_get (slice_set ys i y2) k ≡ Some a → a.taken ≡ true → (slice_get ys k ≡ Some a) × (a.id.place ≢ y.id.place)
+  left k a at yet = elim (cases_eq k i) [
+    | inl same ↦ absurd (not_both a yet (subst (λ (z : Runner). z.taken ≡ false) (one_runner y2 a (sym (set_there ys i y2 y there) ∙ ap (slice_get (slice_set ys i y2)) (sym same) ∙ at)) r.free.0))
+    | inr other ↦ (
+        let was = sym (set_elsewhere ys i k y2 other) ∙ at in
+        (was, λ e. other (st.out.apart k i a y was there yet sits e)))
+  ]
+
+  out_then : AreTakenOut (slice_set st.before y.id.place (Some entry2)) F2 (slice_set ys i y2) (RanThere h.modules s q)
+  out_then = record {
+    elsewhere = λ p none. elim (cases_eq p y.id.place) [
+      | inl same ↦ ap (entry_at F2) same ∙ put_now.0 ∙ sym (ap (entry_at (slice_set st.before y.id.place (Some entry2))) same ∙ put_before.0)
+      | inr other ↦ put_now.1 p other ∙ st.out.elsewhere p (λ k a at yet. elim (cases_eq k i) [
+        | inl same ↦ (λ e. other (sym e ∙ ap (λ (z : Runner). z.id.place) (one_runner a y (sym at ∙ ap (slice_get ys) same ∙ there))))
+        | inr far ↦ none k a (set_elsewhere ys i k y2 far ∙ at) yet
+      ]) ∙ sym (put_before.1 p other)
+    ];
+    each = λ k a at yet.
+        (let l = left k a at yet in
+        let o = st.out.each k a l.0 yet in
+        record { entry = o.entry; was = put_before.1 a.id.place l.1 ∙ o.was; number = o.number; of = o.of; page_limit = o.page_limit; spare = o.spare; is = put_now.1 a.id.place l.1 ∙ o.is; so = o.so });
+    apart = λ j k a b at at2 yet yet2 same. (let l = left j a at yet in let l2 = left k b at2 yet2 in st.out.apart j k a b l.0 l2.0 yet yet2 same);
+  }
+
+  stands_taken : Stands h s q w F2 m2 (slice_set ys i y2) (i + 1)
+  stands_taken =
+      let t = turn_of in
+      let host = t.2 in
+      let f = r.finishes in
+      let left_so = subst (λ z. LeavesTurned y.id.place r.made.0 st.world.space z) host.space (subst (λ z. LeavesTurned y.id.place r.made.0 z m2) st.host.space f.memory) in
+      let backs = subst (λ z. KeepsBacking st.world.space z) host.space (subst (λ z. KeepsBacking z m2) st.host.space f.backing) in
+      let takes : TakesTurn q st.world y.id (Some r.made) t.0 = (f.few, t.1, left_so, backs) in
+      let takes2 = subst (λ a. TakesTurn q st.world y2.id a t.0) (sym r.answer) (subst (λ (n : InstId). TakesTurn q st.world n (Some r.made) t.0) (sym r.id) takes) in
+      record {
+        before = slice_set st.before y.id.place (Some entry2);
+        world = t.0;
+        out = out_then;
+        looks = λ k a at yet. (let l = left k a at yet in looks_then a.id.place s m m2 (st.looks k a l.0 yet) (f.others a.id.place l.1));
+        host = host;
+        turned = subst (λ zs. AllTurn q w zs t.0) (sym (take_one ys i y2 y there)) (turn_behind q w st.world t.0 (take i ys) y2 st.turned takes2);
+      }
+
+-- ---- all of them
+
+pub record LaidSoFar (q : ℕ) (F0 : List (Option InstanceEntry)) (m0 : Space) (xs : List Runner) (F : List (Option InstanceEntry)) (m : Space) (ys : List Runner) (i : ℕ) : Type 0 where
+  pub rest : (k : ℕ) (y : Runner) → i ≤ k → slice_get ys k ≡ Some y → slice_get xs k ≡ Some y
+  pub same : RunnersStay xs ys
+  pub done : (k : ℕ) (y : Runner) → k < i → slice_get ys k ≡ Some y → ((z : Runner) → slice_get xs k ≡ Some z → z.taken ≡ false → IsFree z) → IsFree y
+  pub backing : KeepsBacking m0 m
+  pub stands : (h : HostState) (before : List (Option InstanceEntry)) (s : Space) (w : World) → HaveRun h.modules q before s F0 m0 xs → IsHost (host_with h before m0) w → Stands h s q w F m ys i
+
+pub laid_none : (q : ℕ) (F0 : List (Option InstanceEntry)) (m0 : Space) (xs : List Runner) → LaidSoFar q F0 m0 xs F0 m0 xs 0
+laid_none q F0 m0 xs = record {
+  rest = λ k y least there. there;
+  same = λ k y there. (y, there, refl);
+  done = λ k y less there free. absurd (omega (arith, less));
+  backing = same_backing m0 m0 refl;
+  stands = λ h before s w run host. record { before = before; world = w; out = run.out; looks = run.looks; host = host; turned = refl };
+}
+
+pub laid_next : (q : ℕ) (F0 : List (Option InstanceEntry)) (m0 : Space) (xs : List Runner) (F : List (Option InstanceEntry)) (m : Space) (ys : List Runner) (i : ℕ) (y : Runner) (F2 : List (Option InstanceEntry)) (m2 : Space) (y2 : Runner) → LaidSoFar q F0 m0 xs F m ys i → slice_get ys i ≡ Some y → LaysAt q F m y F2 m2 y2
+    → LaidSoFar q F0 m0 xs F2 m2 (slice_set ys i y2) (i + 1)
+laid_next q F0 m0 xs F m ys i y F2 m2 y2 h there lays = record {
+  rest = λ k a least at. h.rest k a (omega (arith, least)) (sym (set_elsewhere ys i k y2 (λ e. absurd (omega (arith, e, least)))) ∙ at);
+  same = λ k a at. elim (cases_eq k i) [
+    | inl same ↦ (
+        let had = h.same i y there in
+        (had.0, ap (slice_get xs) same ∙ had.1, ap (λ (z : Runner). z.id) (sym (is k a same at)) ∙ same_id lays ∙ had.2))
+    | inr other ↦ h.same k a (sym (set_elsewhere ys i k y2 other) ∙ at)
+  ];
+  done = λ k a less at free. elim (cases_eq k i) [
+    | inl same ↦ subst IsFree (is k a same at) (free_then lays (λ gone. free y (ap (slice_get xs) same ∙ h.rest i y (omega arith) there) gone))
+    | inr other ↦ h.done k a (earlier k less other) (sym (set_elsewhere ys i k y2 other) ∙ at) free
+  ];
+  backing = then_backing m0 m m2 h.backing (backs lays);
+  stands = λ host before s w run is_host. stands_then lays host before s w run (h.stands host before s w run is_host);
+}
+  where
+    is : (k : ℕ) (a : Runner) → k ≡ i → slice_get (slice_set ys i y2) k ≡ Some a → y2 ≡ a
+    is k a same at = one_runner y2 a (sym (set_there ys i y2 y there) ∙ ap (slice_get (slice_set ys i y2)) (sym same) ∙ at)
+
+    earlier : (k : ℕ) → k < i + 1 → k ≢ i → k < i
+    earlier k less other = elim (cases_lt k i) [
+      | inl less2 ↦ less2
+      | inr behind ↦ absurd (other (omega (arith, less, behind)))
+    ]
+
+    same_id : LaysAt q F m y F2 m2 y2 → y2.id ≡ y.id
+    same_id (inl f) = ap (λ (z : Runner). z.id) f.3
+    same_id (inr f) = let r = f.1 in r.id
+
+    free_then : LaysAt q F m y F2 m2 y2 → (y.taken ≡ false → IsFree y) → IsFree y2
+    free_then (inl f) free = subst IsFree (sym f.3) (free f.0)
+    free_then (inr f) free = let r = f.1 in r.free
+
+    backs : LaysAt q F m y F2 m2 y2 → KeepsBacking m m2
+    backs (inl f) = same_backing m m2 f.2
+    backs (inr f) = let r = f.1 in let z = r.finishes in z.backing
+
+    stands_then : LaysAt q F m y F2 m2 y2 → (host : HostState) (before : List (Option InstanceEntry)) (s : Space) (w : World) → HaveRun host.modules q before s F0 m0 xs → Stands host s q w F m ys i → Stands host s q w F2 m2 (slice_set ys i y2) (i + 1)
+    stands_then (inl f) host before s w run st =
+        let none = run.rest i y (h.rest i y (omega arith) there) f.0 in
+        let free = stands_free host s q w F m ys i y st there f.0 none.1 in
+        subst (λ rs. Stands host s q w rs m2 (slice_set ys i y2) (i + 1)) (sym f.1) (subst (λ z. Stands host s q w F z (slice_set ys i y2) (i + 1)) (sym f.2) (subst (λ z. Stands host s q w F m (slice_set ys i z) (i + 1)) (sym f.3) free))
+    stands_then (inr f) host before s w run st = stands_taken host s q w F m ys i y F2 m2 y2 st there f.0 f.1
+
+take_whole : (ys : List Runner) (i : ℕ) → length ys ≤ i → take i ys ≡ ys
+take_whole [] zero most = refl
+take_whole [] (suc i) most = refl
+take_whole (y ∷ ys) zero most = absurd (omega (arith, most))
+take_whole (y ∷ ys) (suc i) most = ap (λ zs. y ∷ zs) (take_whole ys i (omega (arith, most)))
+
+-- entries that are the same at each place
+host_same : (h : HostState) (E F : List (Option InstanceEntry)) (m : Space) (w : World) → ((p : ℕ) → entry_at F p ≡ entry_at E p) → IsHost (host_with h E m) w → IsHost (host_with h F m) w
+host_same h E F m w same st = record {
+  comes = st.comes;
+  modules = st.modules;
+  space = st.space;
+  live = st.live;
+  next = st.next;
+  there = λ i t live. (let f = st.there i t live in (f.0, same t.place ∙ f.1, f.2));
+  all = λ place i x at number. st.all place i x (sym (same place) ∙ at) number;
+}
+
+pub all_laid : (h : HostState) (s : Space) (q : ℕ) (w : World) (F : List (Option InstanceEntry)) (m : Space) (ys : List Runner) (i : ℕ) → Stands h s q w F m ys i → length ys ≤ i → AllAreFree ys → (w2 : World) × AllTurn q w ys w2 × IsHost (host_with h F m) w2
+all_laid h s q w F m ys i st most free = (
+  st.world,
+  subst (λ zs. AllTurn q w zs st.world) (take_whole ys i most) st.turned,
+  host_same h st.before F m st.world (λ p. st.out.elsewhere p (λ k y there sits. absurd (let f = free k y there in not_both y sits f.0))) st.host,
+)
+
+-- ---- before all are laid back
+
+-- all who are out can run
+pub may_run_all : (h : HostState) (w : World) (F : List (Option InstanceEntry)) (ys : List Runner) → IsHost h w → AreTakenOut h.entries F ys SitsThere → AllMayRun h.modules h.space ys
+may_run_all h w F ys st out k y there sits =
+    let o = out.each k y there sits in
+    let x = o.entry in
+    let so = o.so in
+    let f = found h w y.id.place y.id.number x st o.was o.number in
+    let loaded = f.is.loaded in
+    let l = lies_here h w y.id.place y.id.number x loaded st o.was o.number f.is.is_loaded in
+    let lies = l.2 in
+    record {
+      loaded = loaded;
+      is_loaded = ap (slice_get h.modules) o.of ∙ f.is.is_loaded;
+      tenant = l.0;
+      computes = so.1 loaded.linked x.page_limit (view h.space y.id.place) l.0 lies.is;
+      lies = subst (λ n. LiesAt loaded.linked n y.tenant h.space y.id.place l.0) (sym o.page_limit) (subst (λ z. LiesAt loaded.linked x.page_limit z h.space y.id.place l.0) (sym so.0) lies);
+      room = so.2;
+    }
+
+-- and have then
+ran_there : (modules : List LoadedModule) (s : Space) (q : ℕ) (x : InstanceEntry) (y y2 : Runner) → SitsThere x y → y.of ≡ x.of → y.page_limit ≡ x.page_limit → y.taken ≡ true → RunsAt modules s q y y2 → RanThere modules s q x y2
+ran_there modules s q x y y2 sits of limit taken r =
+    let ran = r.ran taken in
+    let u = ran.0 in
+    let P : ℕ → ℕ → HostInstanceState → InstId → Type 0 = λ n most z id. (m : LoadedModule) → slice_get modules n ≡ Some m → (t : Tenant) → IsAtTerm t → LiesAt m.linked most z s id.place t
+    → RunsBeside m.linked most q s id.place z t y2.ran.came y2.ran.pieces y2.ran.charges y2.tenant u in
+    let all = subst (λ id. P x.of x.page_limit x.tenant id) (sym r.id) (subst (λ z. P x.of x.page_limit z y.id) sits.0 (subst (λ most. P x.of most y.tenant y.id) limit (subst (λ n. P n y.page_limit y.tenant y.id) of ran.2))) in
+    (u, ran.1, λ m is_loaded t lies. all m is_loaded t (sits.1 m.linked x.page_limit (view s y2.id.place) t lies.is) lies)
+
+pub have_run : (h : HostState) (q : ℕ) (F : List (Option InstanceEntry)) (ys ys2 : List Runner) → length ys2 ≡ length ys → AreTakenOut h.entries F ys SitsThere → ((k : ℕ) (y : Runner) → slice_get ys k ≡ Some y → y.taken ≡ false → IsFree y × (y.answer ≡ None)) → AllRun h.modules h.space q ys ys2
+    → HaveRun h.modules q h.entries h.space F h.space ys2
+have_run h q F ys ys2 long out rest all = record {
+  out = record {
+    elsewhere = λ p none. out.elsewhere p (λ k y there sits.
+        (let less = index_there ys k y there in
+        let there2 = at_index ys2 k y (omega (arith, less, long)) in
+        let y2 = slice_index_or ys2 k y in
+        let r = all k y2 there2 in
+        let e = one_runner r.0 y (sym r.1 ∙ there) in
+        let runs = r.2 in
+        λ same. none k y2 there2 (runs.taken ∙ ap (λ (z : Runner). z.taken) e ∙ sits) (ap (λ (z : InstId). z.place) runs.id ∙ ap (λ (z : Runner). z.id.place) e ∙ same)));
+    each = λ k y2 there sits.
+        (let r = all k y2 there in
+        let y = r.0 in
+        let runs = r.2 in
+        let taken = sym runs.taken ∙ sits in
+        let o = out.each k y r.1 taken in
+        let place = ap (λ (z : InstId). z.place) runs.id in
+        record {
+          entry = o.entry;
+          was = ap (entry_at h.entries) place ∙ o.was;
+          number = o.number ∙ ap (λ (z : InstId). Some z.number) (sym runs.id);
+          of = runs.of ∙ o.of;
+          page_limit = runs.page_limit ∙ o.page_limit;
+          spare = o.spare;
+          is = ap (entry_at F) place ∙ o.is;
+          so = ran_there h.modules h.space q o.entry y y2 o.so o.of o.page_limit taken runs;
+        });
+    apart = λ j k y2 z2 there there2 sits sits2 same.
+        (let r = all j y2 there in
+        let r2 = all k z2 there2 in
+        let runs = r.2 in
+        let runs2 = r2.2 in
+        out.apart j k r.0 r2.0 r.1 r2.1 (sym runs.taken ∙ sits) (sym runs2.taken ∙ sits2) (ap (λ (z : InstId). z.place) (sym runs.id) ∙ same ∙ ap (λ (z : InstId). z.place) runs2.id));
+  };
+  looks = λ k y there sits. looks_itself y.id.place h.space;
+  rest = λ k y2 there gone.
+      (let r = all k y2 there in
+      let runs = r.2 in
+      let was = sym runs.taken ∙ gone in
+      let free = rest k r.0 r.1 was in
+      ((gone, runs.free was free.0.1), runs.answer ∙ free.1));
+}

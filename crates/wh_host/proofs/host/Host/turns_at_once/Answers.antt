@@ -1,0 +1,44 @@
+use Rattle.std.proofs.Common.{sym, subst, ◌∙◌}
+use Rattle.wh_host.specs.Hosting.{HostState, IsHost}
+use Rattle.wh_host.proofs.RunnerTurns.{have_run, may_run_all}
+use Rattle.wh_host.proofs.host.Host.turns_at_once.Goals as goal
+
+pub run_all-requires : goal.run_all-requires
+run_all-requires g c =
+    let i = c.self.inside in
+    let h : HostState = record { modules = i.modules.items; entries = i.entries.slots; live = i.live; space = i.memory; next = i.next } in
+    let inv = c.self.invariant in
+    may_run_all h inv.0 c.take_all.new.entries.slots c.take_all.new.runners inv.1 c.take_all.ensures.out
+
+pub lay_all-requires : goal.lay_all-requires
+lay_all-requires g c =
+    let i = c.self.inside in
+    let h : HostState = record { modules = i.modules.items; entries = i.entries.slots; live = i.live; space = i.memory; next = i.next } in
+    let inv = c.self.invariant in
+    let out = c.take_all.ensures in
+    (h, h.entries, h.space, inv.0, have_run h c.args.q c.take_all.new.entries.slots c.take_all.new.runners c.run_all.new.runners c.run_all.auto.runners out.out out.rest c.run_all.ensures, inv.1)
+
+pub invariant_of-self : goal.invariant_of-self
+invariant_of-self g c =
+    let i = c.self.inside in
+    let h : HostState = record { modules = i.modules.items; entries = i.entries.slots; live = i.live; space = i.memory; next = i.next } in
+    let inv = c.self.invariant in
+    let out = c.take_all.ensures in
+    let t = c.lay_all.ensures.turns h h.entries h.space inv.0 (have_run h c.args.q c.take_all.new.entries.slots c.take_all.new.runners c.run_all.new.runners c.run_all.auto.runners out.out out.rest c.run_all.ensures) inv.1 in
+    (t.0, t.2)
+
+pub returns-clause-turns : goal.returns-clause-turns
+returns-clause-turns g c w st =
+    let i = c.self.inside in
+    let h : HostState = record { modules = i.modules.items; entries = i.entries.slots; live = i.live; space = i.memory; next = i.next } in
+    let out = c.take_all.ensures in
+    c.lay_all.ensures.turns h h.entries h.space w (have_run h c.args.q c.take_all.new.entries.slots c.take_all.new.runners c.run_all.new.runners c.run_all.auto.runners out.out out.rest c.run_all.ensures)
+    (subst (λ z. IsHost z w) (sym c.self.view_is) st)
+
+pub returns-clause-same : goal.returns-clause-same
+returns-clause-same g c = λ k y there.
+    (let last = c.lay_all.ensures.same k y there in
+    let ran = c.run_all.ensures k last.0 last.1 in
+    let runs = ran.2 in
+    let first = c.take_all.ensures.same k ran.0 ran.1 in
+    (first.0, first.1, last.2 ∙ runs.id ∙ first.2))

@@ -1,0 +1,34 @@
+use Rattle.std.proofs.Common.{◌≡◌, Some, refl, sym, subst, ◌∙◌}
+use Rattle.wh_overlay.specs.LaidPages.{UpperState}
+use Rattle.wh_host.specs.Beside.{HasRun}
+use Rattle.wh_host.proofs.joining.finish_at.Goals as goal
+
+one_upper : (u v : UpperState) → Some u ≡ Some v → u ≡ v
+one_upper u v e = cc e
+
+pub finish_beside-answer-requires : goal.finish_beside-answer-requires
+finish_beside-answer-requires c =
+    let r = c.requires in
+    let y = c.args.runner.now in
+    let same = one_upper r.0 c.in-Some.upper (sym r.1 ∙ c.in-Some.is) in
+    (r.2, r.3, r.4, r.5, r.6, subst (λ u. HasRun r.2 r.3 c.args.q r.4 c.args.memory.now y.id.place r.5 r.6 y.ran.came y.ran.pieces y.ran.charges y.tenant u) same r.7)
+
+pub returns : goal.returns
+returns c =
+    let y = c.args.runner.now in
+    let f = c.finish_beside-answer in
+    let e = f.ensures in
+    record {
+      made = f.result;
+      finishes = record {
+        few = e.few;
+        turns = λ u is l limit s0 x t run.
+            e.turns l limit s0 x t (subst (λ z. HasRun l limit c.args.q s0 c.args.memory.now y.id.place x t y.ran.came y.ran.pieces y.ran.charges y.tenant z) (one_upper u c.in-Some.upper (sym is ∙ c.in-Some.is)) run);
+        others = e.others;
+        backing = e.backing;
+        memory = e.memory;
+      };
+      answer = refl;
+      id = refl;
+      free = (refl, (f.new.upper, refl, e.pages, e.grown));
+    }

@@ -1,0 +1,5 @@
+use Rattle.wh_host.proofs.RunnerLists.{TakenSoFar}
+use Rattle.wh_host.proofs.joining.take_all.Given as goal
+
+abbrev pub invariant-loop-at : goal.invariant-loop-at
+invariant-loop-at l = TakenSoFar l.fn.entries.slots l.fn.runners l.entries.slots l.runners l.at

@@ -1,0 +1,101 @@
+-- How instances join a round, and leave it.
+use Rattle.std.specs.Prelude.{◌≡◌, ◌≢◌, ◌⊎◌, ℕ, ◌≤◌, true, false, List, Option, Some, None, slice_get, slice_set}
+use Rattle.wh_host_model.specs.declared.plain.TurnEnd.{TurnEnd}
+use Rattle.wh_host_model.specs.Host.Worlds.{Tenant}
+use Rattle.wh_host_model.specs.Space.Parts.{Space}
+use Rattle.wh_imports.specs.LinkedState.{LinkedState}
+use Rattle.wh_instance.specs.OwnerRequests.{OfAnyTenant}
+use Rattle.wh_instance.specs.Seen.{IsAtTerm}
+use Rattle.wh_instance.specs.Tenancy.{HostInstanceState}
+use Rattle.wh_overlay.specs.LaidBack.{LooksSame}
+use Rattle.wh_overlay.specs.LaidPages.{UpperState}
+use Rattle.wh_host.specs.declared.parts.LoadedModule.{LoadedModule}
+use Rattle.wh_host.specs.declared.parts.InstanceEntry.{InstanceEntry}
+use Rattle.wh_host.specs.declared.rounds.Runner.{Runner}
+use Rattle.wh_host.specs.Backing.{KeepsBacking}
+use Rattle.wh_host.specs.Beside.{HasRun}
+use Rattle.wh_host.specs.Hosting.{HostState, entry_at}
+use Rattle.wh_host.specs.Left.{LeavesTurned}
+use Rattle.wh_host.specs.Lent.{TurnsTo}
+use Rattle.wh_host.specs.Rounds.{AreTakenOut, IsFree, RanThere}
+
+-- ---- out
+
+-- the runner has none: its instance isn't there, or doesn't compute
+pub record StaysFree (rs : List (Option InstanceEntry)) (y : Runner) (rs2 : List (Option InstanceEntry)) (y2 : Runner) : Type 0 where
+  pub entries : rs2 ≡ rs
+  pub runner : y2 ≡ record y { taken = false; answer = None }
+  pub why : (x : InstanceEntry) → entry_at rs y.id.place ≡ Some x → x.number ≡ Some y.id.number
+      → OfAnyTenant x.tenant (λ l limit bytes t. ¬ (IsAtTerm t))
+
+-- or it has its instance, which computes; the spare one of the runner stands in its place
+pub record IsTakenOut (rs : List (Option InstanceEntry)) (y : Runner) (rs2 : List (Option InstanceEntry)) (y2 : Runner) : Type 0 where
+  pub entry : InstanceEntry
+  pub was : entry_at rs y.id.place ≡ Some entry
+  pub number : entry.number ≡ Some y.id.number
+  pub computes : OfAnyTenant entry.tenant (λ l limit bytes t. IsAtTerm t)
+  pub entries : rs2 ≡ slice_set rs y.id.place (Some (record entry { number = None; tenant = y.tenant }))
+  pub runner : y2 ≡ record y {
+    taken = true;
+    of = entry.of;
+    page_limit = entry.page_limit;
+    tenant = entry.tenant;
+    answer = None;
+  }
+
+abbrev pub TakesOut : List (Option InstanceEntry) → Runner → List (Option InstanceEntry) → Runner → Type 0
+TakesOut rs y rs2 y2 = StaysFree rs y rs2 y2 ⊎ IsTakenOut rs y rs2 y2
+
+-- ---- and back
+
+-- The instance of the runner has finished its turn: in this memory, which is as good as before for all others, and it has this instance then.
+pub record Finishes (q : ℕ) (s : Space) (y : Runner) (s2 : Space) (made : TurnEnd × ℕ) (x3 : HostInstanceState) : Type 0 where
+  pub few : made.1 ≤ q
+  pub turns : (u : UpperState) → y.upper ≡ Some u → (l : LinkedState) (limit : ℕ) (s0 : Space) (x : HostInstanceState) (t : Tenant)
+      → HasRun l limit q s0 s y.id.place x t y.ran.came y.ran.pieces y.ran.charges y.tenant u
+      → TurnsTo l limit made.1 s t made.0 y.id.place x3 s2
+  pub others : (other : ℕ) → other ≢ y.id.place → LooksSame other s s2
+  pub backing : KeepsBacking s s2
+  pub memory : LeavesTurned y.id.place made.0 s s2
+
+-- and the runner is free
+pub record FinishesAt (q : ℕ) (s : Space) (y : Runner) (s2 : Space) (y2 : Runner) : Type 0 where
+  pub made : TurnEnd × ℕ
+  pub finishes : Finishes q s y s2 made y2.tenant
+  pub answer : y2.answer ≡ Some made
+  pub id : y2.id ≡ y.id
+  pub free : IsFree y2
+
+-- some instance has run there over a memory that was as good
+abbrev pub CanFinish : ℕ → Space → Runner → Type 0
+CanFinish q s y =
+    (u : UpperState) × (y.upper ≡ Some u) × (l : LinkedState) × (limit : ℕ) × (s0 : Space) × (x : HostInstanceState) × (t : Tenant)
+    × HasRun l limit q s0 s y.id.place x t y.ran.came y.ran.pieces y.ran.charges y.tenant u
+
+-- it has its place again
+pub record Returns (q : ℕ) (rs : List (Option InstanceEntry)) (s : Space) (y : Runner) (rs2 : List (Option InstanceEntry)) (s2 : Space) (y2 : Runner) : Type 0 where
+  pub made : TurnEnd × ℕ
+  pub tenant : HostInstanceState
+  pub finishes : Finishes q s y s2 made tenant
+  pub answer : y2.answer ≡ Some made
+  pub id : y2.id ≡ y.id
+  pub free : IsFree y2
+  pub entries : (x : InstanceEntry) → entry_at rs y.id.place ≡ Some x
+      → rs2 ≡ slice_set rs y.id.place (Some (record x { number = Some y.id.number; tenant = tenant }))
+
+-- it has none and nothing is done; or its instance returns
+abbrev pub LaysAt : ℕ → List (Option InstanceEntry) → Space → Runner → List (Option InstanceEntry) → Space → Runner → Type 0
+LaysAt q rs s y rs2 s2 y2 =
+    ((y.taken ≡ false) × (rs2 ≡ rs) × (s2 ≡ s) × (y2 ≡ y)) ⊎ ((y.taken ≡ true) × Returns q rs s y rs2 s2 y2)
+
+-- The instances of all runners have run over one memory, and this one is as good for each. The other runners are free, and
+-- have no answer.
+pub record HaveRun (modules : List LoadedModule) (q : ℕ) (before : List (Option InstanceEntry)) (s0 : Space)
+    (now : List (Option InstanceEntry)) (s : Space) (ys : List Runner) : Type 0 where
+  pub out : AreTakenOut before now ys (RanThere modules s0 q)
+  pub looks : (k : ℕ) (y : Runner) → slice_get ys k ≡ Some y → y.taken ≡ true → LooksSame y.id.place s0 s
+  pub rest : (k : ℕ) (y : Runner) → slice_get ys k ≡ Some y → y.taken ≡ false → IsFree y × (y.answer ≡ None)
+
+-- a host with these entries and this memory
+abbrev pub host_with : HostState → List (Option InstanceEntry) → Space → HostState
+host_with h entries s = record h { entries = entries; space = s }

@@ -1,0 +1,117 @@
+-- Rounds: turns of several instances, brought on at once and finished one after the other.
+use Rattle.std.specs.Prelude.{◌≡◌, ◌≢◌, ℕ, ◌≤◌, true, false, List, [], ◌∷◌, Option, Some, None, slice_get}
+use Rattle.wh_host_model.specs.declared.plain.InstId.{InstId}
+use Rattle.wh_host_model.specs.declared.plain.TurnEnd.{TurnEnd}
+use Rattle.wh_host_model.specs.Host.Happens.{IsTurn}
+use Rattle.wh_host_model.specs.Host.Worlds.{Tenant, World}
+use Rattle.wh_host_model.specs.Space.Parts.{Space}
+use Rattle.wh_instance.specs.OwnerRequests.{OfAnyTenant}
+use Rattle.wh_instance.specs.Seen.{IsAtTerm}
+use Rattle.wh_instance.specs.Tenancy.{HostInstanceState}
+use Rattle.wh_overlay.specs.LaidPages.{UpperState}
+use Rattle.wh_host.specs.declared.parts.LoadedModule.{LoadedModule}
+use Rattle.wh_host.specs.declared.parts.InstanceEntry.{InstanceEntry}
+use Rattle.wh_host.specs.declared.rounds.Runner.{Runner}
+use Rattle.wh_host.specs.Backing.{KeepsBacking}
+use Rattle.wh_host.specs.Beside.{RunsBeside}
+use Rattle.wh_host.specs.Hosting.{entry_at}
+use Rattle.wh_host.specs.Left.{LeavesTurned}
+use Rattle.wh_host.specs.Lying.{LiesAt}
+
+-- ---- turns one after the other
+
+-- A turn of this instance with these charges at most, that was answered so and took so many; or none was taken.
+abbrev pub TakesTurn : ℕ → World → InstId → Option (TurnEnd × ℕ) → World → Type 0
+TakesTurn q w id None w2 = w2 ≡ w
+TakesTurn q w id (Some made) w2 =
+    (made.1 ≤ q) × IsTurn w id made.1 made.0 w2 × LeavesTurned id.place made.0 w.space w2.space
+    × KeepsBacking w.space w2.space
+
+-- those of the runners, in their order
+abbrev pub AllTurn : ℕ → World → List Runner → World → Type 0
+AllTurn q w [] w2 = w2 ≡ w
+AllTurn q w (y ∷ ys) w2 = (mid : World) × TakesTurn q w y.id y.answer mid × AllTurn q mid ys w2
+
+-- ---- runners
+
+-- it has room, in which nothing is written
+abbrev pub HasRoomBeside : Runner → Type 0
+HasRoomBeside y = (u : UpperState) × (y.upper ≡ Some u) × (u.pages ≡ []) × (u.grown ≡ 0)
+
+-- and no instance
+abbrev pub IsFree : Runner → Type 0
+IsFree y = (y.taken ≡ false) × HasRoomBeside y
+
+abbrev pub AllAreFree : List Runner → Type 0
+AllAreFree ys = (k : ℕ) (y : Runner) → slice_get ys k ≡ Some y → IsFree y
+
+-- its instance is out, and these are the entries meanwhile: a spare instance stands there, which has no number
+pub record IsOut (before now : List (Option InstanceEntry)) (y : Runner) (P : InstanceEntry → Runner → Type 0) : Type 0 where
+  pub entry : InstanceEntry
+  pub was : entry_at before y.id.place ≡ Some entry
+  pub number : entry.number ≡ Some y.id.number
+  pub of : y.of ≡ entry.of
+  pub page_limit : y.page_limit ≡ entry.page_limit
+  pub spare : HostInstanceState
+  pub is : entry_at now y.id.place ≡ Some (record entry { number = None; tenant = spare })
+  pub so : P entry y
+
+-- The instances of all runners are out, and no two are of one place. All other places are as they were.
+pub record AreTakenOut (before now : List (Option InstanceEntry)) (ys : List Runner) (P : InstanceEntry → Runner → Type 0) : Type 0 where
+  pub elsewhere : (p : ℕ)
+      → ((k : ℕ) (y : Runner) → slice_get ys k ≡ Some y → y.taken ≡ true → y.id.place ≢ p)
+      → entry_at now p ≡ entry_at before p
+  pub each : (k : ℕ) (y : Runner) → slice_get ys k ≡ Some y → y.taken ≡ true → IsOut before now y P
+  pub apart : (j k : ℕ) (y z : Runner) → slice_get ys j ≡ Some y → slice_get ys k ≡ Some z → y.taken ≡ true
+      → z.taken ≡ true → y.id.place ≡ z.id.place → j ≡ k
+
+-- the instance of the entry is the runner's, computes, and has room
+abbrev pub SitsThere : InstanceEntry → Runner → Type 0
+SitsThere x y = (y.tenant ≡ x.tenant) × OfAnyTenant x.tenant (λ l limit bytes t. IsAtTerm t) × HasRoomBeside y
+
+-- it has run there, over this memory
+abbrev pub RanThere : List LoadedModule → Space → ℕ → InstanceEntry → Runner → Type 0
+RanThere modules s q x y =
+    (u : UpperState) × (y.upper ≡ Some u)
+    × ((m : LoadedModule) → slice_get modules x.of ≡ Some m → (t : Tenant)
+    → LiesAt m.linked x.page_limit x.tenant s y.id.place t
+    → RunsBeside m.linked x.page_limit q s y.id.place x.tenant t y.ran.came y.ran.pieces y.ran.charges y.tenant u)
+
+-- ---- what runners run
+
+-- it can run over this memory
+pub record MayRun (modules : List LoadedModule) (s : Space) (y : Runner) : Type 0 where
+  pub loaded : LoadedModule
+  pub is_loaded : slice_get modules y.of ≡ Some loaded
+  pub tenant : Tenant
+  pub computes : IsAtTerm tenant
+  pub lies : LiesAt loaded.linked y.page_limit y.tenant s y.id.place tenant
+  pub room : HasRoomBeside y
+
+-- all can
+abbrev pub AllMayRun : List LoadedModule → Space → List Runner → Type 0
+AllMayRun modules s ys =
+    (k : ℕ) (y : Runner) → slice_get ys k ≡ Some y → y.taken ≡ true → MayRun modules s y
+
+-- So its instance has run in a turn of q charges, if it has one; else there is room as before.
+pub record RunsAt (modules : List LoadedModule) (s : Space) (q : ℕ) (y y2 : Runner) : Type 0 where
+  pub id : y2.id ≡ y.id
+  pub taken : y2.taken ≡ y.taken
+  pub of : y2.of ≡ y.of
+  pub page_limit : y2.page_limit ≡ y.page_limit
+  pub answer : y2.answer ≡ y.answer
+  pub free : y.taken ≡ false → HasRoomBeside y → HasRoomBeside y2
+  pub ran : y.taken ≡ true → (u : UpperState) × (y2.upper ≡ Some u)
+      × ((m : LoadedModule) → slice_get modules y.of ≡ Some m → (t : Tenant) → IsAtTerm t
+      → LiesAt m.linked y.page_limit y.tenant s y.id.place t
+      → RunsBeside m.linked y.page_limit q s y.id.place y.tenant t y2.ran.came y2.ran.pieces y2.ran.charges y2.tenant u)
+
+-- all have
+abbrev pub AllRun : List LoadedModule → Space → ℕ → List Runner → List Runner → Type 0
+AllRun modules s q ys ys2 =
+    (k : ℕ) (y2 : Runner) → slice_get ys2 k ≡ Some y2 → (y : Runner) × (slice_get ys k ≡ Some y) × RunsAt modules s q y y2
+
+-- the runners are those of the same instances
+abbrev pub RunnersStay : List Runner → List Runner → Type 0
+RunnersStay ys ys2 =
+    (k : ℕ) (y2 : Runner) → slice_get ys2 k ≡ Some y2 → (y : Runner) × (slice_get ys k ≡ Some y) × (y2.id ≡ y.id)

@@ -1,0 +1,128 @@
+//! An instance that is brought on beside others, and the end of its turn.
+
+ghost use Rattle.std.specs.Prelude.{◌≡◌, ◌≢◌, ◌≤◌, ℕ, [], get_or};
+ghost use Rattle.wh_host_model.specs.Host.Worlds.{Tenant as OneTenant};
+ghost use Rattle.wh_host_model.specs.Space.Parts.{Space};
+ghost use Rattle.wh_imports.specs.LinkedState.{LinkedState};
+ghost use Rattle.wh_instance.specs.Seen.{IsAtTerm};
+ghost use Rattle.wh_instance.specs.Tenancy.{HostInstanceState};
+ghost use Rattle.wh_overlay.specs.LaidBack.{IsLaid, LooksSame};
+ghost use Rattle.wh_overlay.specs.Over.{AreAlone, HasGrown};
+ghost use Rattle.wh_space.specs.StepViews.{KeepsRest};
+ghost use Rattle.wh_host.specs.Backing.{KeepsBacking};
+ghost use Rattle.wh_host.specs.Beside.{CameThere, HasRun, RunsBeside};
+ghost use Rattle.wh_host.specs.Left.{LeavesTurned};
+ghost use Rattle.wh_host.specs.Lent.{TurnsTo};
+ghost use Rattle.wh_host.specs.Lying.{LiesAt};
+
+use crate::turning::settle_at;
+use wh_host_model::TurnEnd;
+use wh_imports::Linked;
+use wh_instance::{HostInstance, TurnOutcome};
+use wh_overlay::{Overlay, Upper};
+use wh_space::Memory;
+
+/// What came of a turn of an instance beside others, before it is finished.
+#[derive(Clone, Copy)]
+pub struct RanBeside {
+    /// To what it came.
+    pub came: TurnOutcome,
+    /// How many pieces it has written.
+    pub pieces: u64,
+    /// How many charges it took.
+    pub charges: u64,
+}
+
+/// Brings the instance at this place on by a turn of `q` charges over the memory, which others read at the same time: what came of
+/// it, and what was written beside the memory.
+pub fn run_beside(
+    tenant: &mut HostInstance,
+    linked: &Linked,
+    memory: &Memory,
+    place: usize,
+    page_limit: u32,
+    q: u64,
+    upper: Upper,
+) -> (RanBeside, Upper)
+    requires pages { upper.pages ≡ [] }
+    requires grown { upper.grown ≡ 0 }
+    requires lies { (t : OneTenant) × IsAtTerm t
+        × LiesAt linked.now page_limit tenant.old memory.now place t }
+    ensures { (t : OneTenant) → IsAtTerm t
+        → LiesAt linked.now page_limit tenant.old memory.now place t
+        → RunsBeside linked.now page_limit q memory.now place tenant.old t
+        result.0.came result.0.pieces result.0.charges tenant.new result.1 }
+{
+    let mut overlay = Overlay::new(memory, place, page_limit, upper);
+    let (came, pieces, charges) = tenant.advance(linked, &mut overlay, q);
+    let ran = RanBeside {
+        came,
+        pieces,
+        charges,
+    };
+    (ran, overlay.into_upper())
+}
+
+// Lays back what was written beside the memory in so many charges. Where there were none nothing is done.
+fn lay_beside(memory: &mut Memory, place: usize, charges: u64, upper: &mut Upper)
+    requires alone { AreAlone memory.old place upper.old.pages }
+    requires limited { HasGrown memory.old place upper.old }
+    ensures laid { 1 ≤ charges → IsLaid memory.old place upper.old memory.new }
+    ensures left { charges ≡ 0 → memory.new ≡ memory.old }
+    ensures others { (other : ℕ) → other ≢ place
+        → get_or memory.new.tables other [] ≡ get_or memory.old.tables other [] }
+    ensures keeps { KeepsRest place memory.old memory.new }
+    ensures pages { upper.new.pages ≡ [] }
+    ensures grown { upper.new.grown ≡ 0 }
+{
+    if charges == 0 {
+        upper.clear();
+        return;
+    }
+    upper.lay(memory, place);
+}
+
+// To what the turn came in the memory in which all is laid back, and of how many charges it was.
+fn came_there(memory: &Memory, place: usize, ran: RanBeside, q: u64) -> (TurnOutcome, u64)
+    ensures { CameThere memory.now place ran.came ran.charges q result.0 result.1 }
+{
+    match ran.came {
+        TurnOutcome::Frame(need) => {
+            if memory.is_ready(place, need) {
+                (TurnOutcome::Again, ran.charges)
+            } else {
+                (ran.came, q)
+            }
+        }
+        _ => (ran.came, q),
+    }
+}
+
+/// Finishes a turn of `q` charges of the instance at this place that was brought on beside others: what was written is laid back.
+/// What it is answered, and of how many charges it was: of fewer where it stopped before bytes that it may read or write now.
+pub fn finish_beside(
+    tenant: &mut HostInstance,
+    memory: &mut Memory,
+    place: usize,
+    q: u64,
+    ran: RanBeside,
+    upper: &mut Upper,
+) -> (TurnEnd, u64)
+    requires { (l : LinkedState) × (limit : ℕ) × (s : Space) × (x : HostInstanceState) × (t : OneTenant)
+        × HasRun l limit q s memory.old place x t ran.came ran.pieces ran.charges tenant.old upper.old }
+    ensures turns { (l : LinkedState) (limit : ℕ) (s : Space) (x : HostInstanceState) (t : OneTenant)
+        → HasRun l limit q s memory.old place x t ran.came ran.pieces ran.charges tenant.old upper.old
+        → TurnsTo l limit result.1 memory.old t result.0 place tenant.new memory.new }
+    ensures few { result.1 ≤ q }
+    ensures others { (other : ℕ) → other ≢ place → LooksSame other memory.old memory.new }
+    ensures backing { KeepsBacking memory.old memory.new }
+    ensures memory { LeavesTurned place result.0 memory.old memory.new }
+    ensures pages { upper.new.pages ≡ [] }
+    ensures grown { upper.new.grown ≡ 0 }
+{
+    memory.invariant();
+    lay_beside(memory, place, ran.charges, upper);
+    let (came, of_charges) = came_there(memory, place, ran, q);
+    let turned = tenant.finish(came, ran.pieces, ran.charges);
+    (settle_at(memory, place, turned), of_charges)
+}

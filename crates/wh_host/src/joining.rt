@@ -1,0 +1,140 @@
+// How instances join a round, and leave it.
+
+ghost use Rattle.std.specs.Prelude.{◌≡◌, ℕ, List, Option, Some, None, true, false, slice_get, slice_set};
+ghost use Rattle.wh_host_model.specs.Host.Worlds.{World};
+ghost use Rattle.wh_host_model.specs.Space.Parts.{Space};
+ghost use Rattle.wh_instance.specs.Tenancy.{HostInstanceState};
+ghost use Rattle.wh_host.specs.declared.parts.InstanceEntry.{InstanceEntry as OneEntry};
+ghost use Rattle.wh_host.specs.declared.rounds.Runner.{Runner as OneRunner};
+ghost use Rattle.wh_host.specs.Backing.{KeepsBacking};
+ghost use Rattle.wh_host.specs.Hosting.{HostState, IsHost, entry_at};
+ghost use Rattle.wh_host.specs.Rounds.{AllAreFree, AllTurn, AreTakenOut, RunnersStay, IsFree, SitsThere};
+ghost use Rattle.wh_host.specs.Joining.{CanFinish, FinishesAt, HaveRun, LaysAt, TakesOut, host_with};
+
+use crate::beside::finish_beside;
+use crate::host::Host;
+use crate::parts::InstanceEntry;
+use crate::rounds::{Fork, Round, Runner};
+use slab::Slab;
+use std::mem;
+use wh_space::Memory;
+
+// Hands a runner its instance, if that computes.
+fn take_out(entries: &mut Slab<InstanceEntry>, runner: &mut Runner)
+    ensures { TakesOut entries.old.slots runner.old entries.new.slots runner.new }
+{
+    runner.taken = false;
+    runner.answer = None;
+    let Some(entry) = entries.get_mut(runner.id.place) else {
+        return;
+    };
+    if !entry.has_number(runner.id.number) {
+        return;
+    }
+    if !entry.tenant.computes() {
+        return;
+    }
+    entry.number = None;
+    runner.taken = true;
+    runner.of = entry.of;
+    runner.page_limit = entry.page_limit;
+    mem::swap(&mut entry.tenant, &mut runner.tenant);
+}
+
+// Hands all runners theirs.
+fn take_all(entries: &mut Slab<InstanceEntry>, runners: &mut [Runner])
+    requires { AllAreFree runners.old }
+    ensures out { AreTakenOut entries.old.slots entries.new.slots runners.new SitsThere }
+    ensures rest { (k : ℕ) (y : OneRunner) → slice_get runners.new k ≡ Some y → y.taken ≡ false → IsFree y × (y.answer ≡ None) }
+    ensures same { RunnersStay runners.old runners.new }
+{
+    for at in 0..runners.len() {
+        take_out(entries, &mut runners[at]);
+    }
+}
+
+// Finishes the turn of the instance of a runner, which is free then.
+fn finish_at(memory: &mut Memory, runner: &mut Runner, q: u64)
+    requires { CanFinish q memory.old runner.old }
+    ensures { FinishesAt q memory.old runner.old memory.new runner.new }
+{
+    let Some(upper) = &mut runner.upper else {
+        unreachable!()
+    };
+    let answer = finish_beside(
+        &mut runner.tenant,
+        memory,
+        runner.id.place,
+        q,
+        runner.ran,
+        upper,
+    );
+    runner.taken = false;
+    runner.answer = Some(answer);
+}
+
+// Gives the instance of a runner its place again.
+fn give_back(entries: &mut Slab<InstanceEntry>, runner: &mut Runner)
+    ensures entries { (x : OneEntry) → entry_at entries.old.slots runner.old.id.place ≡ Some x → entries.new.slots
+        ≡ slice_set entries.old.slots runner.old.id.place (Some (record x { number = Some runner.old.id.number; tenant = runner.old.tenant })) }
+    ensures runner { (x : HostInstanceState) × (runner.new ≡ record runner.old { tenant = x }) }
+{
+    let Some(entry) = entries.get_mut(runner.id.place) else {
+        return;
+    };
+    entry.number = Some(runner.id.number);
+    mem::swap(&mut entry.tenant, &mut runner.tenant);
+}
+
+// Lays back what the instance of a runner has written, if it has one, and gives it its place again.
+fn lay_at(entries: &mut Slab<InstanceEntry>, memory: &mut Memory, runner: &mut Runner, q: u64)
+    requires { runner.old.taken ≡ true → CanFinish q memory.old runner.old }
+    ensures { LaysAt q entries.old.slots memory.old runner.old entries.new.slots memory.new runner.new }
+{
+    if !runner.taken {
+        return;
+    }
+    finish_at(memory, runner, q);
+    give_back(entries, runner);
+}
+
+// Lays back what all have written, one after the other.
+fn lay_all(entries: &mut Slab<InstanceEntry>, memory: &mut Memory, runners: &mut [Runner], q: u64)
+    requires { (h : HostState) × (before : List (Option OneEntry)) × (s : Space) × (w : World)
+        × HaveRun h.modules q before s entries.old.slots memory.old runners.old
+        × IsHost (host_with h before memory.old) w }
+    ensures turns { (h : HostState) (before : List (Option OneEntry)) (s : Space) (w : World)
+        → HaveRun h.modules q before s entries.old.slots memory.old runners.old
+        → IsHost (host_with h before memory.old) w
+        → (w2 : World) × AllTurn q w runners.new w2
+        × IsHost (host_with h entries.new.slots memory.new) w2 }
+    ensures free { AllAreFree runners.new }
+    ensures same { RunnersStay runners.old runners.new }
+    ensures backing { KeepsBacking memory.old memory.new }
+{
+    for at in 0..runners.len() {
+        lay_at(entries, memory, &mut runners[at], q);
+    }
+}
+
+impl Host {
+    /// Gives a turn to each instance that has a runner and computes, of at most `q` charges, all at once. It comes to their turns one
+    /// after the other, in the order of the runners.
+    pub fn turns_at_once<F: Fork>(&mut self, fork: &F, runners: &mut [Runner], q: u64)
+        requires { AllAreFree runners.old }
+        ensures turns { (w : World) → IsHost self.old w
+            → (w2 : World) × AllTurn q w runners.new w2 × IsHost self.new w2 }
+        ensures free { AllAreFree runners.new }
+        ensures same { RunnersStay runners.old runners.new }
+        ensures backing { KeepsBacking self.old.space self.new.space }
+    {
+        take_all(&mut self.entries, runners);
+        let round = Round {
+            modules: &self.modules,
+            memory: &self.memory,
+            q,
+        };
+        fork.run_all(&round, runners);
+        lay_all(&mut self.entries, &mut self.memory, runners, q);
+    }
+}

@@ -1,0 +1,135 @@
+//! Rounds: turns of several instances at once, each beside the others.
+
+ghost use Rattle.std.specs.Prelude.{◌≡◌, None, true, IfOk};
+ghost use Rattle.wh_host.specs.Rounds.{AllMayRun, AllRun, IsFree, MayRun, RunsAt};
+
+use crate::beside::{RanBeside, run_beside};
+use crate::host::module_at;
+use crate::parts::LoadedModule;
+use std::alloc::{AllocError, Global};
+use wh_host_model::{InstId, TurnEnd};
+use wh_instance::{HostInstance, TurnOutcome};
+use wh_overlay::Upper;
+use wh_space::Memory;
+
+/// A runner of a round: for which instance it is, what its turn was answered, and room for what that writes beside the memory.
+#[derive(Drop)]
+pub struct Runner {
+    // For which instance it is.
+    pub(crate) id: InstId,
+    // Whether it has that instance. Else the one that it has is a spare one.
+    pub(crate) taken: bool,
+    // The number of its module, and to how many pages its memory may grow at most.
+    pub(crate) of: usize,
+    pub(crate) page_limit: u32,
+    pub(crate) tenant: HostInstance,
+    pub(crate) upper: Option<Upper>,
+    pub(crate) ran: RanBeside,
+    // What the turn was answered, and of how many charges it was; none where there was none.
+    pub(crate) answer: Option<(TurnEnd, u64)>,
+}
+
+/// All that runners read, at the same time: the modules and the memory of all. Each takes so many charges at most.
+#[derive(Drop)]
+pub struct Round<'a> {
+    pub(crate) modules: &'a Vec<LoadedModule>,
+    pub(crate) memory: &'a Memory,
+    pub(crate) q: u64,
+}
+
+/// Runs the runners of a round, in whatever order or at once.
+pub trait Fork {
+    /// Brings the instance of each runner on, as `Round::run` does.
+    fn run_all(&self, round: &Round, runners: &mut [Runner])
+        requires { AllMayRun round.now.modules.now.items round.now.memory.now runners.old }
+        ensures { AllRun round.now.modules.now.items round.now.memory.now round.now.q runners.old runners.new };
+}
+
+/// Runs them one after the other.
+#[derive(Clone, Copy)]
+pub struct InOrder;
+
+impl Fork for InOrder {
+    fn run_all(&self, round: &Round, runners: &mut [Runner]) {
+        for at in 0..runners.len() {
+            round.run(&mut runners[at]);
+        }
+    }
+}
+
+impl<'a> Round<'a> {
+    /// Brings the instance of a runner on, if it has one, beside the others.
+    pub fn run(&self, runner: &mut Runner)
+        requires { runner.old.taken ≡ true → MayRun self.now.modules.now.items self.now.memory.now runner.old }
+        ensures { RunsAt self.now.modules.now.items self.now.memory.now self.now.q runner.old runner.new }
+    {
+        if !runner.taken {
+            return;
+        }
+        let Some(module) = module_at(self.modules, runner.of) else {
+            unreachable!()
+        };
+        let Some(upper) = runner.upper.take() else {
+            unreachable!()
+        };
+        let (ran, upper) = run_beside(
+            &mut runner.tenant,
+            &module.linked,
+            self.memory,
+            runner.id.place,
+            runner.page_limit,
+            self.q,
+            upper,
+        );
+        runner.ran = ran;
+        runner.upper = Some(upper);
+    }
+}
+
+impl Runner {
+    /// Makes a runner for this instance, with room for so many pages that it writes, of a memory with so many pages of 4096 bytes at
+    /// most.
+    ///
+    /// # Errors
+    /// Where room is refused.
+    pub fn new(alloc: Global, id: InstId, written: u16, pages: usize) -> Result<Runner, AllocError>
+        ensures { IfOk result (λ y. IsFree y × (y.id ≡ id) × (y.answer ≡ None)) }
+    {
+        let upper = Upper::new(alloc, written, pages)?;
+        Ok(Runner {
+            id,
+            taken: false,
+            of: 0,
+            page_limit: 0,
+            tenant: HostInstance::spare(alloc)?,
+            upper: Some(upper),
+            ran: RanBeside {
+                came: TurnOutcome::Again,
+                pieces: 0,
+                charges: 0,
+            },
+            answer: None,
+        })
+    }
+
+    /// Returns for which instance it is.
+    pub fn id(&self) -> InstId
+        ensures { result ≡ self.now.id }
+    {
+        self.id
+    }
+
+    /// Gives it to another instance.
+    pub fn give(&mut self, id: InstId)
+        ensures { self.new ≡ record self.old { id = id } }
+    {
+        self.id = id;
+    }
+
+    /// Returns what its turn was answered, and of how many charges it was; none where it had none.
+    pub fn answer(&self) -> Option<(TurnEnd, u64)>
+        ensures { result ≡ self.now.answer }
+    {
+        self.answer
+    }
+}

@@ -1,0 +1,57 @@
+-- The memory of all once what an instance has written beside it is laid back, and what its turn comes to there.
+use Rattle.std.specs.Prelude.{◌≡◌, ℕ, ◌*◌, ◌+◌, ◌<◌, ◌≤◌, List, [], Some, length, get_or}
+use Rattle.wh_model.specs.Execution.Store.{Instance}
+use Rattle.wh_model.specs.Execution.Replay.{Call}
+use Rattle.wh_host_model.specs.declared.states.Page.TheVariants.{Private}
+use Rattle.wh_host_model.specs.Host.Spaces.{StepsAlone}
+use Rattle.wh_host_model.specs.Host.Turns.{Upshot, to_end, out_of_fuel, to_wait, to_go_on, Proceeds}
+use Rattle.wh_host_model.specs.Host.Worlds.{Rest, Doing}
+use Rattle.wh_host_model.specs.Space.Parts.{Space, claim, view}
+use Rattle.wh_host_model.specs.Space.Ready.{IsAtHand, Ready}
+use Rattle.wh_host_model.specs.Space.States.{page_at}
+use Rattle.wh_space.specs.StepViews.{KeepsRest}
+use Rattle.wh_overlay.specs.LaidPages.{UpperState, with_upper}
+use Rattle.wh_overlay.specs.Over.{IsWholeOver, OverlayState}
+
+-- For the instance at this place one memory is as good as another: it has the same pages there, sees the same, and was promised the
+-- same.
+pub record LooksSame (i : ℕ) (s s2 : Space) : Type 0 where
+  pub table : get_or s2.tables i [] ≡ get_or s.tables i []
+  pub sees : view s2 i ≡ view s i
+  pub claim : claim s2 i ≡ claim s i
+
+-- By steps of its own alone the instance at this place has come to see these bytes, and has grown by so many pages of 65536
+-- bytes, which are at hand. What was at hand is, and pages that were alone on their frames are.
+pub record HasLaid (s : Space) (i grown : ℕ) (bytes : List ℕ) (s2 : Space) : Type 0 where
+  pub sees : view s2 i ≡ bytes
+  pub keeps : KeepsRest i s s2
+  pub at_hand : (p : ℕ) → IsAtHand (page_at s.tables i p) → IsAtHand (page_at s2.tables i p)
+  pub alone : (p frame : ℕ) → page_at s.tables i p ≡ Some (Private frame)
+      → (other : ℕ) × (page_at s2.tables i p ≡ Some (Private other))
+  pub come : (p : ℕ) → length (get_or s.tables i []) ≤ p → p < length (get_or s.tables i []) + 16 * grown
+      → IsAtHand (page_at s2.tables i p)
+
+-- what was written beside it is laid back
+abbrev pub IsLaid : Space → ℕ → UpperState → Space → Type 0
+IsLaid s i u s2 = HasLaid s i u.grown (with_upper (view s i) u) s2
+
+-- the memory of an instance is that of this place of this memory, and what is written beside it can be laid back
+pub record LiesOver (s : Space) (i : ℕ) (o : OverlayState) : Type 0 where
+  pub lower : o.lower ≡ s
+  pub place : o.place ≡ i
+  pub whole : IsWholeOver s i o.upper
+
+-- in a turn of q charges the present call comes so far, over the memory of all
+abbrev pub ProceedsThere : ℕ → Instance → ℕ → Call → Space → Rest → Doing → Upshot → ℕ → ℕ → Space → Rest → Doing → Type 0
+ProceedsThere i inst q call s r d to k n s2 r2 d2 =
+    Proceeds (λ x. view x i) (λ x. Ready x i) (StepsAlone i) inst q call s r d to k n s2 r2 d2
+
+-- To what a turn of q charges comes there that came to this over it. Bytes that weren't ready over the memory may be once all is
+-- laid back: then it was a turn of as many charges as it took.
+abbrev pub ComesThere : ℕ → Instance → ℕ → Call → Space → Rest → Doing → Upshot → ℕ → ℕ → Space → Rest → Doing → Type 0
+ComesThere i inst q call s r d (to_wait need) k n s2 r2 d2 =
+    (Ready s2 i need → ProceedsThere i inst n call s r d to_go_on k n s2 r2 d2)
+    × (¬ (Ready s2 i need) → ProceedsThere i inst q call s r d (to_wait need) k n s2 r2 d2)
+ComesThere i inst q call s r d (to_end o) k n s2 r2 d2 = ProceedsThere i inst q call s r d (to_end o) k n s2 r2 d2
+ComesThere i inst q call s r d out_of_fuel k n s2 r2 d2 = ProceedsThere i inst q call s r d out_of_fuel k n s2 r2 d2
+ComesThere i inst q call s r d to_go_on k n s2 r2 d2 = ProceedsThere i inst q call s r d to_go_on k n s2 r2 d2

@@ -1,0 +1,18 @@
+use Rattle.wh_script_laws.proofs.Faultless.{faultless_lines, faultless_scripts, lines_leave_nobody}
+use Rattle.wh_script_laws.proofs.WorkedFaults.{store_is_cancelled, store_is_retried}
+use Rattle.wh_script_laws.proofs.faults_alone_change_answers.Goals as goal
+
+pub returns-clause-nobody : goal.returns-clause-nobody
+returns-clause-nobody c = lines_leave_nobody
+
+pub returns-clause-lines : goal.returns-clause-lines
+returns-clause-lines c = faultless_lines
+
+pub returns-clause-scripts : goal.returns-clause-scripts
+returns-clause-scripts c = faultless_scripts
+
+pub returns-clause-store_is_retried : goal.returns-clause-store_is_retried
+returns-clause-store_is_retried c = store_is_retried
+
+pub returns-clause-store_is_cancelled : goal.returns-clause-store_is_cancelled
+returns-clause-store_is_cancelled c = store_is_cancelled
