@@ -2,7 +2,7 @@
 """Runs wasmhost over random scripts whose pages are swapped to a file, while reads, writes and seeks of that file fail: one, or some in
 a row, so that a call that is tried again stands again. `python3 .ci/hostile/retries.py [PROGRAM [COUNT [FIRST]]]`, after `rt run` or
 `rt ci` made crates/wasmhost/out/wasmhost, tries COUNT scripts, 300 unless it is said, twelve times each; where FIRST is given, those from
-that one on, and there each call of the file fails, by itself and as the first of some. It needs a C compiler.
+that one on, and there each call of the file fails, by itself and as the first of some, as always in two scripts. It needs a C compiler.
 
 Every reply but `frame`, `queued` and those to `retry` has to be that of the second model of scripts (crates/test_sessions/model), which
 knows of no failed call; and behind the last `retry` every call has ended as it does there."""
@@ -14,6 +14,26 @@ WORKERS = (1, 2, 8)
 # How many runs each script has, and how many calls of the file may fail behind the first.
 RUNS, MOST_MORE = 4, 5
 CALL = re.compile(r"(call \d+) (.*)")
+ADMIT = "admit {} m 100 2 16 0 0 0\n"
+# A store over two pages, both shared, for which another's page has to leave; and pages that leave and come back.
+ALWAYS = [
+    Case(
+        "shared pages",
+        {"frames": 4, "slots": 64, "tax_num": 0, "tax_den": 1},
+        1,
+        False,
+        f"module m {MODULES['wide'][0]}\n" + ADMIT.format("a") + ADMIT.format("b") + "".join(f"invoke {name} s 9 {place}\n" for name in "ab" for place in ("0 1", "4096 2"))
+        + "scan\ninvoke b s 9 8192 3\ninvoke a w 9 4092 578437695752307201\n" + "retry a\nretry b\n" * (MOST_MORE + 2),
+    ),
+    Case(
+        "pages that leave",
+        {"frames": 2, "slots": 15},
+        1,
+        False,
+        f"module m {MODULES['bytes'][0]}\n" + ADMIT.format("a") + "".join(f"invoke a s 9 {4096 * page} {page + 1}\n" for page in range(3))
+        + "invoke a l 9 0\n" + "retry a\n" * (MOST_MORE + 2),
+    ),
+]
 
 
 def made(seed):
@@ -47,8 +67,8 @@ def others(lines):
 class Runs:
     """The runs of one script."""
 
-    def __init__(self, program, library, folder, seed):
-        self.program, self.library, self.seed, self.case = program, library, seed, made(seed)
+    def __init__(self, program, library, folder, case):
+        self.program, self.library, self.case = program, library, case
         self.failed, self.pages, self.settings = folder + "/failed", folder + "/pages", folder + "/host.toml"
         with open(self.settings, "w") as file:
             file.write("".join(f"{key} = {value}\n" for key, value in self.case.settings.items()) + f'swap = "{self.pages}"\n')
@@ -91,7 +111,7 @@ class Runs:
 
     def some(self):
         """Tries the script where no call fails, and where some do."""
-        found, chance = collections.Counter(), random.Random(self.seed)
+        found, chance = collections.Counter(), random.Random(self.case.name)
         for workers in WORKERS:
             found += self.tried(workers, 0, 0)
             for _ in range(RUNS - 1):
@@ -117,10 +137,12 @@ def main():
     with tempfile.TemporaryDirectory() as folder:
         library = folder + "/fail_calls.so"
         subprocess.run(["cc", "-shared", "-fPIC", "-O1", "-o", library, os.path.join(ROOT, ".ci", "hostile", "fail_calls.c")], check=True)
+        for case in ALWAYS:
+            found += Runs(program, library, folder, case).each()
         for seed in range(first or 0, (first or 0) + count):
-            runs = Runs(program, library, folder, seed)
+            runs = Runs(program, library, folder, made(seed))
             found += runs.some() if first is None else runs.each()
-    print(f"{count} random scripts, {found['runs']} runs: {found['failed']} calls of the swap file failed, {found['stood']} lines `frame`, "
+    print(f"{len(ALWAYS)} scripts and {count} random ones, {found['runs']} runs: {found['failed']} calls of the swap file failed, {found['stood']} lines `frame`, "
           f"{found['retried']} calls tried again; every reply was right, and every call has ended as it does alone")
     if min(found["failed"], found["stood"], found["retried"]) < count // 3:
         sys.exit("too few failed")

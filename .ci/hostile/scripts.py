@@ -8,13 +8,17 @@ from model import Call, Refused, Session
 
 HEAD = "0061736d01000000"
 # What the host says of each module, worked out by hand: `f` gives 7; `f` stores a byte at 0; `s` stores a byte and `l` loads one;
-# `f` puts out the word 5; all that a host offers is imported; and four that are refused.
+# `s` stores a byte and `w` eight; `f` puts out the word 5; all that a host offers is imported; and four that are refused.
 MODULES = {
     "empty": (HEAD, "ok"),
     "seven": (HEAD + "0105016000017f03020100070501016600000a0601040041070b", "ok"),
     "byte": (HEAD + "01050160017f0003020100050301000107050101660000" + "0a0b010900410020003a00000b", "ok"),
     "bytes": (
         HEAD + "010b0260027f7f0060017f017f0303020001050301000107090201730000016c0001" + "0a13020900200020013a00000b070020002d00000b",
+        "ok",
+    ),
+    "wide": (
+        HEAD + "010b0260027f7f0060027f7e00030302000105030100010709020173000001770001" + "0a15020900200020013a00000b0900200020013703000b",
         "ok",
     ),
     "put": (HEAD + "01080260017e00600000020c0104686f73740370757400000302010107050101660001" + "0a08010600420510000b", "ok"),
