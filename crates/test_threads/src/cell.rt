@@ -1,6 +1,6 @@
 //! A cell with a swap device in memory: what is asked of it, what is counted, and calls that threads run.
 
-ghost use Rattle.std.specs.Prelude.{◌≡◌, ◌-◌, ◌^◌, ◌<◌, [], replicate};
+ghost use Rattle.std.specs.Prelude.{◌≡◌, ◌+◌, ◌-◌, ◌^◌, ◌<◌, [], replicate};
 ghost use Rattle.wh_swap.specs.MemorySwaps.{memory_held};
 ghost use Rattle.wh_cell.specs.Ledgers.{HasLedgers};
 
@@ -20,7 +20,7 @@ use wh_model::ValType;
 use wh_scheduler::{OwnedHost, RunConfig, run_calls};
 use wh_swap::MemSwap;
 use wh_threads::{
-    Message, ReceivedTurn, Shares, Worker, dispatch, open_channel, pass_for, receive_turn,
+    Message, ReceivedTurns, Shares, Worker, dispatch, open_channel, pass_for, receive_turns,
 };
 
 /// `s` stores a byte, and `l` loads one.
@@ -102,14 +102,17 @@ fn status<T: Ledger, C: Ledger, O: Ledger, E: Ledger, B: CellAgreements, R: Wait
 // How a turn ended, what the worker and the books have then, and how far the first call is.
 type Turned = (TurnEnd, u128, u64, Option<CallStatus>);
 
-// One turn of this worker, which can count one more.
+// The next one of these turns by this worker, which can count one more.
 fn turn_locked<T: Ledger, C: Ledger, O: Ledger, E: Ledger, B: CellAgreements>(
     locked: &mut Locked<MemSwap, T, C, O, E, B>,
     owner: &mut Owner<MemSwap, B>,
     worker: &mut Worker<T, C>,
-    order: ReceivedTurn,
+    order: &mut ReceivedTurns,
 ) -> Turned
     requires room { worker.old.tally.turns < 2 ^ 64 - 1 }
+    requires due { 0 < order.old.count }
+    ensures turns { worker.new.tally.turns ≡ worker.old.tally.turns + 1 }
+    ensures order { order.new.count + 1 ≡ order.old.count }
 {
     let id = order.instance();
     let end = locked.turn(order, worker);
@@ -125,12 +128,34 @@ fn turn_by<T: Ledger, C: Ledger, O: Ledger, E: Ledger, B: CellAgreements, R: Wai
     cell: &HostCell<MemSwap, T, C, O, E, B>,
     owner: &mut Owner<MemSwap, B>,
     worker: &mut Worker<T, C>,
-    order: ReceivedTurn,
+    order: &mut ReceivedTurns,
 ) -> Turned
     requires room { worker.old.tally.turns < 2 ^ 64 - 1 }
+    requires due { 0 < order.old.count }
+    ensures turns { worker.new.tally.turns ≡ worker.old.tally.turns + 1 }
+    ensures order { order.new.count + 1 ≡ order.old.count }
 {
     let mut locked = cell.lock(rt);
     turn_locked(&mut locked, owner, worker, order)
+}
+
+// All of these turns, each under the lock of the cell: what came of the last one.
+fn turns_by<T: Ledger, C: Ledger, O: Ledger, E: Ledger, B: CellAgreements, R: Wait>(
+    rt: &R,
+    cell: &HostCell<MemSwap, T, C, O, E, B>,
+    owner: &mut Owner<MemSwap, B>,
+    worker: &mut Worker<T, C>,
+    order: ReceivedTurns,
+) -> Turned
+    requires room { worker.old.tally.turns + order.count < 2 ^ 64 }
+{
+    let mut order = order;
+    let mut turned = (TurnEnd::Idle, 0, 0, None);
+    while order.count() > 0 {
+        turned = turn_by(rt, cell, owner, worker, &mut order);
+    }
+    order.finish();
+    turned
 }
 
 // One turn of 1000 charges of the first worker, to which its share is lent: it is handed out, received and run.
@@ -151,16 +176,17 @@ fn turn_of<T: Ledger, C: Ledger, O: Ledger, E: Ledger, B: CellAgreements, R: Wai
     let (sender, receiver, first) = open_channel(alloc, 1)?;
     let mut slip = first;
     let mut theirs = pass_for(&sender, &mut slip);
-    let message = Message::Turn {
-        number: 0,
+    let message = Message::Turns {
+        first: 0,
+        count: 1,
         instance: id,
         quantum: 1000,
     };
     if worker.is_full() || !dispatch(rt, &sender, &mut slip, message) {
         return Ok((TurnEnd::Idle, 0, 0, None));
     }
-    match receive_turn(rt, &receiver, &mut theirs) {
-        Some(order) => Ok(turn_by(rt, &cell, &mut owner, &mut worker, order)),
+    match receive_turns(rt, &receiver, &mut theirs) {
+        Some(order) => Ok(turns_by(rt, &cell, &mut owner, &mut worker, order)),
         None => Ok((TurnEnd::Idle, 0, 0, None)),
     }
 }

@@ -1,6 +1,6 @@
 // Each part once, at concrete types; and threads that run to their end.
 
-ghost use Rattle.std.specs.Prelude.{◌≡◌, [], IfOk};
+ghost use Rattle.std.specs.Prelude.{◌≡◌, ◌+◌, ◌^◌, ◌<◌, [], IfOk};
 ghost use Rattle.crossbeam_channel.specs.Claims.{view, IsSeatAt};
 ghost use Rattle.crossbeam_channel.specs.Ends.{receives_on};
 ghost use Rattle.wh_threads.specs.Blanks.{IsBlankOf};
@@ -16,8 +16,8 @@ use std::thread::Threads;
 use wh_host_model::InstId;
 use wh_threads::{
     AgreedValue, AgreementHalf, AgreementId, BlankAgreement, Books, Change, Help, HelpOutcome,
-    Helper, Message, ReceivedTurn, Shares, Slip, Tally, TurnReceiver, Turns, Worker, dispatch,
-    left_over, open_channel, pass_for, put_back, receive, receive_turn,
+    Helper, Message, ReceivedTurns, Shares, Slip, Tally, TurnReceiver, Turns, Worker, dispatch,
+    left_over, open_channel, pass_for, put_back, receive, receive_turns,
 };
 use wh_workers::{Crew, Jobs, Next, Supply, serve};
 
@@ -26,7 +26,25 @@ fn instance(number: u64) -> InstId {
     InstId { place: 0, number }
 }
 
-// The turn that comes next is counted, which took so many charges.
+// These turns are counted, each of which took so many charges.
+pub fn count_all<T: Ledger, C: Ledger, O: Ledger, E: Ledger>(
+    books: &mut Books<T, C, O, E>,
+    worker: &mut Worker<T, C>,
+    order: ReceivedTurns,
+    taken: u32,
+)
+    requires room { worker.old.tally.turns + order.count < 2 ^ 64 }
+    ensures from { worker.new.from ≡ worker.old.from }
+    ensures turns { worker.new.tally.turns ≡ worker.old.tally.turns + order.count }
+{
+    let mut order = order;
+    while order.count() > 0 {
+        books.turn(worker, &mut order, taken);
+    }
+    order.finish();
+}
+
+// The turns that come next are counted, each of which took so many charges.
 fn count_next<T: Ledger, C: Ledger, O: Ledger, E: Ledger, R: Wait>(
     rt: &R,
     receiver: &TurnReceiver,
@@ -43,13 +61,13 @@ fn count_next<T: Ledger, C: Ledger, O: Ledger, E: Ledger, R: Wait>(
     if worker.is_full() {
         return;
     }
-    match receive_turn(rt, receiver, slip) {
-        Some(order) => books.turn(worker, order, taken),
+    match receive_turns(rt, receiver, slip) {
+        Some(order) => count_all(books, worker, order, taken),
         None => {}
     }
 }
 
-// Two turns are handed out, and counted.
+// One turn and then three of another instance are handed out, and counted.
 fn count_two<T: Ledger, C: Ledger, O: Ledger, E: Ledger, R: Wait>(
     rt: &R,
     alloc: Global,
@@ -59,8 +77,8 @@ fn count_two<T: Ledger, C: Ledger, O: Ledger, E: Ledger, R: Wait>(
     let (sender, receiver, first) = open_channel(alloc, 4)?;
     let mut slip = first;
     let mut theirs = pass_for(&sender, &mut slip);
-    let is_first_out = dispatch(rt, &sender, &mut slip, turn(0));
-    let is_second_out = dispatch(rt, &sender, &mut slip, turn(1));
+    let is_first_out = dispatch(rt, &sender, &mut slip, series(0, 1));
+    let is_second_out = dispatch(rt, &sender, &mut slip, series(1, 3));
     if is_first_out && is_second_out {
         count_next(rt, &receiver, &mut theirs, books, worker, 7);
         count_next(rt, &receiver, &mut theirs, books, worker, 4_000_000_000);
@@ -68,7 +86,7 @@ fn count_two<T: Ledger, C: Ledger, O: Ledger, E: Ledger, R: Wait>(
     Ok(is_first_out && is_second_out)
 }
 
-// Two turns of a worker, an offer and five evictions are counted; what is shown is seat 3, and what the books have.
+// Four turns of a worker, an offer and five evictions are counted; what is shown is seat 3, and what the books have.
 fn counts<T: Ledger, C: Ledger, O: Ledger, E: Ledger, R: Wait>(
     rt: &R,
     alloc: Global,
@@ -117,17 +135,18 @@ fn counts_are_kept(rt: HostRuntime) -> Result<(), Fail> {
         offers,
         evictions,
     )?;
-    assert_eq!(rt; (tally.turns, tally.charges), (2, 4_000_000_007));
+    assert_eq!(rt; (tally.turns, tally.charges), (4, 12_000_000_007));
     assert_eq!(rt; (offered, evicted), (1, 5));
-    assert_eq!(rt; low, [2, 4_000_000_007, 1, 5]);
+    assert_eq!(rt; low, [4, 12_000_000_007, 1, 5]);
     Ok(())
 }
 
-// The turn of this number.
-fn turn(number: u64) -> Message {
-    Message::Turn {
-        number,
-        instance: instance(number),
+// So many turns from this number on, of the instance of this number.
+pub fn series(first: u64, count: u32) -> Message {
+    Message::Turns {
+        first,
+        count,
+        instance: instance(first),
         quantum: 9,
     }
 }
@@ -137,11 +156,14 @@ fn messages_are_handed_over(rt: HostRuntime) -> Result<(), Fail> {
     let (sender, receiver, first) = open_channel(rt.alloc(), 4)?;
     let mut slip = first;
     let mut theirs = pass_for(&sender, &mut slip);
-    assert!(rt; dispatch(&rt, &sender, &mut slip, turn(0)));
-    assert!(rt; dispatch(&rt, &sender, &mut slip, turn(1)));
+    assert!(rt; dispatch(&rt, &sender, &mut slip, series(0, 1)));
+
+    // The last of these has the number 2^64 - 1.
+    let last = series(u64::MAX - 255, 256);
+    assert!(rt; dispatch(&rt, &sender, &mut slip, last));
     assert!(rt; dispatch(&rt, &sender, &mut slip, Message::Last));
-    assert_eq!(rt; receive(&rt, &receiver, &mut theirs), Some(turn(0)));
-    assert_eq!(rt; receive(&rt, &receiver, &mut theirs), Some(turn(1)));
+    assert_eq!(rt; receive(&rt, &receiver, &mut theirs), Some(series(0, 1)));
+    assert_eq!(rt; receive(&rt, &receiver, &mut theirs), Some(last));
     put_back(&sender, &mut slip, theirs);
     assert_eq!(rt; left_over(&rt, &receiver, &mut slip), Some(Message::Last));
     assert_eq!(rt; left_over(&rt, &receiver, &mut slip), None);
@@ -241,13 +263,19 @@ impl<T: Ledger, C: Ledger, O: Ledger, E: Ledger> Turns<T, C> for Desk<T, C, O, E
 
     fn release_turn_lock(&self) {}
 
-    fn run<R: Wait>(&self, rt: &R, order: ReceivedTurn, worker: &mut Worker<T, C>) {
-        if order.instance().number < self.met {
-            self.both.wait(rt);
+    fn most_at_once(&self) -> usize {
+        1
+    }
+
+    fn run_all<R: Wait>(&self, rt: &R, orders: &mut Vec<ReceivedTurns>, worker: &mut Worker<T, C>) {
+        while let Some(order) = orders.pop() {
+            if order.instance().number < self.met {
+                self.both.wait(rt);
+            }
+            let mut books = self.books.lock(rt);
+            let taken = order.quantum();
+            count_all(&mut books, worker, order, taken);
         }
-        let mut books = self.books.lock(rt);
-        let taken = order.quantum();
-        books.turn(worker, order, taken);
     }
 
     fn share(&self) -> Result<Self, AllocError> {
@@ -291,10 +319,13 @@ fn evicted<T: Ledger, C: Ledger, O: Ledger, E: Ledger, R: Wait>(
     books.evictions.low()
 }
 
-// So many turns. Where so many are left it goes on once a page was evicted, for which it wants a reclaimer.
+// So many series: the next one has so many turns, and each so many times as many as the one before. Where so many series are left
+// it goes on once a page was evicted, for which it wants a reclaimer.
 struct Several<T: Ledger, C: Ledger, O: Ledger, E: Ledger> {
     left: u64,
     pause: u64,
+    count: u32,
+    factor: u32,
     books: Arc<Mutex<Books<T, C, O, E>>, Global>,
 }
 
@@ -303,6 +334,8 @@ impl<T: Ledger, C: Ledger, O: Ledger, E: Ledger> Drop for Several<T, C, O, E> {
         let Several {
             left: _,
             pause: _,
+            count: _,
+            factor: _,
             books: _,
         } = self;
     }
@@ -325,7 +358,9 @@ impl<T: Ledger, C: Ledger, O: Ledger, E: Ledger> Supply for Several<T, C, O, E> 
             }
         }
         self.left -= 1;
-        Next::Turn(instance(self.left))
+        let count = self.count;
+        self.count = count.wrapping_mul(self.factor);
+        Next::Turns(instance(self.left), count)
     }
 }
 
@@ -418,8 +453,9 @@ fn settle<T: Ledger, C: Ledger, O: Ledger, E: Ledger, R: Wait>(
 // How many turns there were, what the two workers counted, and how many offers and evictions there were.
 type Ran = (u64, Tally, Tally, (u64, u64));
 
-// So many turns, the first of them by this thread and the others by two workers, who meet in each; beside these a scanner that
-// offers three pages at most, and a reclaimer that evicts one, for which it is waited where so many turns are left.
+// So many series, the first of one turn, and each of so many times as many turns as the one before. Those of the first turns are
+// run by this thread and the others by two workers, who meet in each; beside these a scanner that offers three pages at most, and
+// a reclaimer that evicts one, for which it is waited where so many series are left.
 fn serve_at<
     T: Ledger + Send + 'static,
     C: Ledger + Send + 'static,
@@ -433,11 +469,14 @@ fn serve_at<
     shares: &mut Shares<T, C, O, E>,
     left: u64,
     pause: u64,
+    factor: u32,
 ) -> Result<Option<Ran>, AllocError> {
     let jobs = jobs_at(desk)?;
     let mut supply = Several {
         left,
         pause,
+        count: 1,
+        factor,
         books: Arc::try_clone(&desk.books)?,
     };
     let crew = Crew {
@@ -471,9 +510,10 @@ fn serve_books<
     left: u64,
     pause: u64,
     met: u64,
+    factor: u32,
 ) -> Result<Option<Ran>, AllocError> {
     let desk = make_desk(alloc, books, met)?;
-    serve_at(rt, alloc, &desk, shares, left, pause)
+    serve_at(rt, alloc, &desk, shares, left, pause, factor)
 }
 
 // The same with new books.
@@ -493,6 +533,7 @@ fn serve_many<
     left: u64,
     pause: u64,
     met: u64,
+    factor: u32,
 ) -> Result<Option<Ran>, AllocError>
     requires turns { IsBlankOf T.Ledger 64 turns }
     requires charges { IsBlankOf C.Ledger 64 charges }
@@ -500,7 +541,7 @@ fn serve_many<
     requires evictions { IsBlankOf E.Ledger 1 evictions }
 {
     let (books, mut shares) = Books::<T, C, O, E>::open(alloc, turns, charges, offers, evictions)?;
-    serve_books(rt, alloc, books, &mut shares, left, pause, met)
+    serve_books(rt, alloc, books, &mut shares, left, pause, met, factor)
 }
 
 #[test]
@@ -517,6 +558,7 @@ fn two_workers_run_turns(rt: HostRuntime) -> Result<(), Fail> {
         129,
         1000,
         98,
+        1,
     )?;
     let Some((turns, first, second, helped)) = served else {
         assert!(rt; false, "threads were started");
@@ -529,6 +571,38 @@ fn two_workers_run_turns(rt: HostRuntime) -> Result<(), Fail> {
 
     // Two offers are owed. The scanner stops at the third, or earlier where it is told to. No reclaimer was wanted.
     assert!(rt; helped.0 == 2 || helped.0 == 3);
+    assert_eq!(rt; helped.1, 0);
+    Ok(())
+}
+
+#[test]
+fn each_series_is_run_whole(rt: HostRuntime) -> Result<(), Fail> {
+    let (turns, charges) = (Blank::new(65), Blank::new(65));
+    let (offers, evictions) = (Blank::new(2), Blank::new(2));
+    let served = serve_many::<Brand, Brand, Brand, Brand, HostRuntime>(
+        rt,
+        rt.alloc(),
+        turns,
+        charges,
+        offers,
+        evictions,
+        7,
+        1000,
+        0,
+        2,
+    )?;
+    let Some((turns, first, second, helped)) = served else {
+        assert!(rt; false, "threads were started");
+        return Ok(());
+    };
+    // This thread runs 1, 2, 4, 8 and 16 turns as the first worker, and the two run 32 and 64, whoever gets them.
+    assert_eq!(rt; turns, 127);
+    assert_eq!(rt; first.turns.wrapping_add(second.turns), 127);
+    assert_eq!(rt; (first.turns % 32, second.turns % 32), (31, 0));
+    assert_eq!(rt; first.charges.wrapping_add(second.charges), 635);
+
+    // One offer is owed.
+    assert!(rt; helped.0 > 0 && helped.0 < 4);
     assert_eq!(rt; helped.1, 0);
     Ok(())
 }
@@ -547,6 +621,7 @@ fn few_turns_start_no_thread(rt: HostRuntime) -> Result<(), Fail> {
         31,
         1000,
         0,
+        1,
     )?;
     let Some((turns, first, second, helped)) = served else {
         assert!(rt; false, "no thread was wanted");
@@ -572,6 +647,7 @@ fn helpers_are_started_where_they_are_wanted(rt: HostRuntime) -> Result<(), Fail
         16,
         8,
         8,
+        1,
     )?;
     let Some((turns, first, second, helped)) = served else {
         assert!(rt; false, "threads were started");

@@ -11,3 +11,4 @@ pub mod Requested
 pub mod Shown
 pub mod Steps
 pub mod Turned
+pub mod RoundTurns

@@ -62,19 +62,25 @@ on_ok_always H P (Ok done) p h = p h
 on_ok_always H P (Err fault) p h = tt
 
 module _ {D : Type 0} (held : D → List (List ℕ)) (keeps honest : D → Type 0) (faults : D → List SwapError) where
+  -- work without a call of the device leads on, and takes so many charges
+  pub worked_in_step : (l : LockedState D) (h2 : HostState) (books2 : BooksState) (taken : ℕ) → IsInStep held keeps honest faults l → (w : World) × IsHost h2 w
+      → WorksOn l.host [] h2 → HasTakenOn l.host taken h2 → KeepsBacking l.host.space h2.space
+      → books2.charges ≡ l.books.charges + taken → IsInStep held keeps honest faults (record l { host = h2; books = books2 })
+  worked_in_step l h2 books2 taken s some2 works took backing counted = record {
+    some = some2;
+    fits = subst (FitsHost h2) (sym counted) (fits_turned l.host h2 l.books.charges taken s.some some2 s.fits took);
+    device = s.device;
+    agrees = agrees_still held l.host.space h2.space l.known s.device backing.pass s.agrees;
+    led = λ is. led_by_work l.host h2 [] works (s.led is);
+    came = comes_on_still keeps honest faults l.left s.device l.host h2 s.came works backing;
+  }
+
   pub turned_in_step : (l : LockedState D) (h2 : HostState) (books2 : BooksState) (id : InstId) (q taken : ℕ) (answer : TurnEnd) → IsInStep held keeps honest faults l
       → ((w : World) → IsHost l.host w → (w2 : World) × IsTurn w id q answer w2 × IsHost h2 w2) → HasTakenOn l.host taken h2 → KeepsBacking l.host.space h2.space
       → books2.charges ≡ l.books.charges + taken → IsInStep held keeps honest faults (record l { host = h2; books = books2 })
   turned_in_step l h2 books2 id q taken answer s turns took backing counted =
       let x = turns s.some.0 s.some.1 in
-      record {
-        some = (x.0, x.2);
-        fits = subst (FitsHost h2) (sym counted) (fits_turned l.host h2 l.books.charges taken s.some (x.0, x.2) s.fits took);
-        device = s.device;
-        agrees = agrees_still held l.host.space h2.space l.known s.device backing.pass s.agrees;
-        led = λ is. led_by_work l.host h2 [] (works_by_turn l.host h2 id q answer turns) (s.led is);
-        came = comes_on_still keeps honest faults l.left s.device l.host h2 s.came (works_by_turn l.host h2 id q answer turns) backing;
-      }
+      worked_in_step l h2 books2 taken s (x.0, x.2) (works_by_turn l.host h2 id q answer turns) took backing counted
 
   pub moved_in_step : (l : LockedState D) (h2 : HostState) (books2 : BooksState) → IsInStep held keeps honest faults l → MovesOnly l.host h2 → KeepsBacking l.host.space h2.space
       → books2.charges ≡ l.books.charges → IsInStep held keeps honest faults (record l { host = h2; books = books2 })

@@ -8,4 +8,5 @@ pub mod LeftByOwner
 pub mod Locking
 pub mod Owning
 pub mod Scanned
+pub mod RoundCounts
 pub mod Stored

@@ -9,6 +9,7 @@ mod locked;
 mod moving;
 mod owner;
 mod requests;
+mod rounding;
 mod showing;
 mod taken;
 

@@ -39,7 +39,7 @@ use wh_host::Host;
 use wh_host_model::{InstId, Offer, SwapError, TurnEnd};
 use wh_kernels::PageHash;
 use wh_swap::SwapDev;
-use wh_threads::{AgreementHalf, Books, Helper, ReceivedTurn, Shares, Worker};
+use wh_threads::{AgreementHalf, Books, Helper, ReceivedTurns, Shares, Worker};
 
 // So many pages left, by what a provision has answered.
 pub fn count_evictions<T: Ledger, C: Ledger, O: Ledger, E: Ledger>(
@@ -256,12 +256,14 @@ impl<D: SwapDev, T: Ledger, C: Ledger, O: Ledger, E: Ledger, B: CellAgreements> 
         &self.books
     }
 
-    /// Runs a dispatched turn: of its instance, and of as many charges at most as it says. The worker counts it, and so do the
-    /// books: one turn, and the charges by which the journal grew.
-    pub fn turn(&mut self, order: ReceivedTurn, worker: &mut Worker<T, C>) -> TurnEnd
+    /// Runs the next one of dispatched turns: of their instance, and of as many charges at most as they say. The worker counts it,
+    /// and so do the books: one turn, and the charges by which the journal grew. One less is to be run then.
+    pub fn turn(&mut self, order: &mut ReceivedTurns, worker: &mut Worker<T, C>) -> TurnEnd
         requires room { worker.old.tally.turns < 2 ^ 64 - 1 }
+        requires due { 0 < order.old.count }
+        ensures order { order.new ≡ record order.old { count = order.old.count - 1 } }
         ensures turns { (w : World) → IsHost self.old.host w
-            → (w2 : World) × IsTurn w order.instance order.quantum result w2
+            → (w2 : World) × IsTurn w order.old.instance order.old.quantum result w2
             × IsHost self.new.host w2 }
         ensures counted { (taken : ℕ) × HasTakenOn self.old.host taken self.new.host
             × RanTurn worker.old taken worker.new
@@ -270,7 +272,7 @@ impl<D: SwapDev, T: Ledger, C: Ledger, O: Ledger, E: Ledger, B: CellAgreements> 
               charges = self.old.books.charges + taken;
             }) }
         ensures backing { KeepsBacking self.old.host.space self.new.host.space }
-        ensures memory { LeavesTurned order.instance.place result self.old.host.space
+        ensures memory { LeavesTurned order.old.instance.place result self.old.host.space
             self.new.host.space }
         ensures known { self.new.known ≡ self.old.known }
         ensures left { self.new.left ≡ self.old.left }

@@ -1,5 +1,5 @@
 -- A turn of an instance that was brought on beside others is a turn of the host's definitions, once all is laid back.
-use Rattle.std.proofs.Common.{◌≡◌, ◌≢◌, ◌∙◌, inl, inr, ℕ, ◌≤◌, min, Option, List, [], ◌∷◌, refl, sym, ap, subst, arith}
+use Rattle.std.proofs.Common.{◌≡◌, ◌≢◌, ◌∙◌, inl, inr, ℕ, ◌≤◌, ◌&&◌, Bool, true, false, cond, min, Option, List, [], ◌∷◌, refl, sym, ap, subst, arith}
 use Rattle.std.proofs.Math.Nat.{min-eq_left}
 use Rattle.std.proofs.lemmas.Bool.{cases_lt}
 use Rattle.wh_model.specs.declared.memory.Need.{Need}
@@ -19,12 +19,16 @@ use Rattle.wh_machine.specs.MachineRuns.{linked_parts}
 use Rattle.wh_machine.specs.CallStates.{Setting, setting_of}
 use Rattle.wh_instance.specs.Advancing.{AdvancesAny, AdvancesTenant, HasOpenCall, StaysBut, TurnsTenant}
 use Rattle.wh_instance.specs.Seen.{IsAtTerm}
-use Rattle.wh_instance.specs.Settling.{IsFinished}
+use Rattle.wh_instance.specs.Settling.{IsFinished, answered, brought_on, is_fault}
 use Rattle.wh_instance.specs.Tenancy.{HostInstanceState, IsTenant, RepresentsTenant}
 use Rattle.wh_instance.specs.Turned.{IsCame}
 use Rattle.wh_instance.specs.declared.computing.TurnOutcome.{TurnOutcome}
 use Rattle.wh_instance.specs.declared.computing.TurnOutcome.TheVariants as came
 use Rattle.wh_instance.specs.declared.stages.TurnResult.{TurnResult}
+use Rattle.wh_instance.specs.declared.stages.TurnResult.TheVariants as turned
+use Rattle.wh_host_model.specs.declared.plain.TurnEnd.{TurnEnd}
+use Rattle.wh_host_model.specs.declared.plain.TurnEnd.TheVariants as turn_answer
+use Rattle.wh_host.specs.Series.{IsWholeOrCut}
 use Rattle.wh_instance.proofs.Finished.{finishes, may_finish}
 use Rattle.wh_overlay.specs.LaidPages.{AreWhole, UpperState, with_upper}
 use Rattle.wh_overlay.specs.LaidBack.{ComesThere, IsLaid, LooksSame, ProceedsThere}
@@ -34,7 +38,7 @@ use Rattle.wh_overlay.proofs.SomeLaid.{none_laid}
 use Rattle.wh_space.specs.Steps.{limit_by, page_limit}
 use Rattle.wh_space.specs.StepViews.{KeepsRest}
 use Rattle.wh_host.specs.Beside.{CameThere, HasRun, RunsBeside, beside_setting, memory_with}
-use Rattle.wh_host.specs.Lent.{TurnsLent}
+use Rattle.wh_host.specs.Lent.{TurnsLent, turn_end_of}
 use Rattle.wh_host.specs.Lying.{LiesAt}
 use Rattle.wh_host.proofs.Turns.{Shown, shown_turn}
 use Rattle.wh_host.proofs.Viewing.{represents_over, steps_alone, store_over, where_over}
@@ -100,13 +104,45 @@ within_turn call (waits x next some asks never) = x.in_turn
 within_turn call (waits_to_write d w never) = omega arith
 within_turn call (has_had_its_turn x next all some at_hand) = x.in_turn
 
-pub few_charges : (s : Space) (i : ℕ) (answer : TurnOutcome) (n q : ℕ) (answer2 : TurnOutcome) (q2 : ℕ) → n ≤ q → CameThere s i answer n q answer2 q2 → q2 ≤ q
-few_charges s i (came.Frame need) n q answer2 q2 few (inl (ready, same, many)) = omega (arith, many, few)
-few_charges s i (came.Frame need) n q answer2 q2 few (inr (unready, same, many)) = omega (arith, many)
-few_charges s i (came.Returned result) n q answer2 q2 few (same, many) = omega (arith, many)
-few_charges s i (came.Trapped trap) n q answer2 q2 few (same, many) = omega (arith, many)
-few_charges s i came.Fuel n q answer2 q2 few (same, many) = omega (arith, many)
-few_charges s i came.Again n q answer2 q2 few (same, many) = omega (arith, many)
+pub came_same : (s : Space) (i : ℕ) (answer : TurnOutcome) (n q : ℕ) → ((need : Need) → answer ≢ came.Frame need) → CameThere s i answer n q answer q
+came_same s i (came.Frame need) n q never = absurd (never need refl)
+came_same s i (came.Returned result) n q never = (refl, refl)
+came_same s i (came.Trapped trap) n q never = (refl, refl)
+came_same s i came.Fuel n q never = (refl, refl)
+came_same s i came.Again n q never = (refl, refl)
+
+pub came_ready : (s : Space) (i : ℕ) (answer : TurnOutcome) (n q : ℕ) (need : Need) → answer ≡ came.Frame need → Ready s i need → CameThere s i answer n q came.Again n
+came_ready s i answer n q need is ready = subst (λ a. CameThere s i a n q came.Again n) (sym is) (inl (ready, refl, refl))
+
+pub came_unready : (s : Space) (i : ℕ) (answer : TurnOutcome) (n q : ℕ) (need : Need) → answer ≡ came.Frame need → ¬ (Ready s i need) → CameThere s i answer n q answer q
+came_unready s i answer n q need is unready = subst (λ a. CameThere s i a n q a q) (sym is) (inr (unready, refl, refl))
+
+pub least_charges : (s : Space) (i : ℕ) (answer : TurnOutcome) (n q : ℕ) (answer2 : TurnOutcome) (q2 : ℕ) → n ≤ q → CameThere s i answer n q answer2 q2 → n ≤ q2
+least_charges s i (came.Frame need) n q answer2 q2 few (inl (ready, same, many)) = omega (arith, many)
+least_charges s i (came.Frame need) n q answer2 q2 few (inr (unready, same, many)) = omega (arith, many, few)
+least_charges s i (came.Returned result) n q answer2 q2 few (same, many) = omega (arith, many, few)
+least_charges s i (came.Trapped trap) n q answer2 q2 few (same, many) = omega (arith, many, few)
+least_charges s i came.Fuel n q answer2 q2 few (same, many) = omega (arith, many, few)
+least_charges s i came.Again n q answer2 q2 few (same, many) = omega (arith, many, few)
+
+-- it was a whole turn, or one that was cut short
+pub whole_or_cut : (s : Space) (i : ℕ) (answer : TurnOutcome) (n q : ℕ) (answer2 : TurnOutcome) (q2 : ℕ) (end : TurnEnd) → n ≤ q → CameThere s i answer n q answer2 q2 → (answer2 ≡ came.Again → end ≡ turn_answer.Again) → IsWholeOrCut q q2 n end
+whole_or_cut s i (came.Frame need) n q answer2 q2 end few (inl (ready, same, many)) again = inr (omega (arith, many, few), sym many, again same)
+whole_or_cut s i (came.Frame need) n q answer2 q2 end few (inr (unready, same, many)) again = inl many
+whole_or_cut s i (came.Returned result) n q answer2 q2 end few (same, many) again = inl many
+whole_or_cut s i (came.Trapped trap) n q answer2 q2 end few (same, many) again = inl many
+whole_or_cut s i came.Fuel n q answer2 q2 end few (same, many) again = inl many
+whole_or_cut s i came.Again n q answer2 q2 end few (same, many) again = inl many
+
+again_or_kept : (b still : Bool) → turn_end_of (cond b turned.Kept (turned.Again still)) ≡ turn_answer.Again
+again_or_kept true still = refl
+again_or_kept false still = refl
+
+-- a call that can go on is answered so
+pub again_end : (x : HostInstanceState) (k n : ℕ) (c : JournalCallState) (cs : List JournalCallState) (made : TurnResult) (x2 : HostInstanceState) (answer : TurnOutcome) → answer ≡ came.Again → IsFinished x answer k n c cs made x2 → turn_end_of made ≡ turn_answer.Again
+again_end x k n c cs made x2 answer again done =
+    let is = done.is_answer ∙ ap (λ a. answered (brought_on x c cs k n) a done.still) again in
+    ap turn_end_of is ∙ again_or_kept (done.still && is_fault x.waiting_for) done.still
 
 -- ---- one that has run
 

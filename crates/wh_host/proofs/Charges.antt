@@ -17,7 +17,7 @@ pub no_charges : (w : World) (id : InstId) (at : ℕ) → NoInstance w id → Ar
 no_charges w id at none t live = absurd (none t live)
 
 -- the calls of a journal have the charges that the code has of them
-charges_there : (cs : List JournalCallState) (es : List Entry) (at : ℕ) → RepresentsEach cs es
+pub charges_there : (cs : List JournalCallState) (es : List Entry) (at : ℕ) → RepresentsEach cs es
     → option_map (λ (c : JournalCallState). c.charges) (slice_get cs at) ≡ option_map (λ (e : Entry). e.call.charges) (slice_get es at)
 charges_there [] [] at h = refl
 charges_there [] (e ∷ es) at h = absurd h

@@ -1,5 +1,5 @@
 -- What each call leaves of the host for which the code's host stands.
-use Rattle.std.proofs.Common.{◌≡◌, ◌≢◌, ℕ, zero, suc, ◌+◌, ◌/◌, ◌<◌, ◌≤◌, ◌⊎◌, ⊎_elim, inl, inr, Option, Some, None, List, [], ◌∷◌, ◌++◌, length, get_or, slice_get, slice_set, refl, sym, ap, subst, ◌∙◌, arith}
+use Rattle.std.proofs.Common.{◌≡◌, ◌≢◌, ℕ, zero, suc, ◌+◌, ◌*◌, ◌/◌, ◌<◌, ◌≤◌, ◌⊎◌, ⊎_elim, inl, inr, Option, Some, None, List, [], ◌∷◌, ◌++◌, length, get_or, slice_get, slice_set, refl, sym, ap, subst, ◌∙◌, arith}
 use Rattle.std.proofs.lemmas.List.{get_or-set_same, get_or-set_other, set-get_or}
 use Rattle.wh_host_model.specs.declared.plain.InstId.{InstId}
 use Rattle.wh_host_model.specs.declared.plain.TurnEnd.{TurnEnd}
@@ -24,7 +24,11 @@ use Rattle.wh_space.specs.Arrivals.{IsNew}
 use Rattle.wh_space.specs.Steps.{limit_by}
 use Rattle.wh_host.specs.declared.parts.LoadedModule.{LoadedModule}
 use Rattle.wh_host.specs.declared.parts.InstanceEntry.{InstanceEntry}
+use Rattle.wh_instance.specs.Bursts.{AreUsed}
+use Rattle.wh_host.specs.Beside.{EndsTurn}
 use Rattle.wh_host.specs.Lying.{LiesAt}
+use Rattle.wh_host.specs.Series.{SeriesOf}
+use Rattle.wh_host.proofs.Splitting.{series_of_turns}
 use Rattle.wh_host.specs.Lent.{TurnsTo}
 use Rattle.wh_host_model.specs.Host.Admission.{live_count}
 use Rattle.wh_host.specs.Entries.{OthersStay}
@@ -300,6 +304,30 @@ turned_here h w id q x z m answer s2 st at number is turns =
     let to = turns f.t (subst (λ s. LiesAt m.linked x.page_limit x.tenant s id.place f.t) (sym st.space) by_module) in
     let in_world = subst (λ s. TurnsTo m.linked x.page_limit q s f.t answer id.place z s2) st.space to in
     turned_host h w id q x z answer s2 st at number f (subst (λ (l : LoadedModule). TurnsTo l.linked x.page_limit q w.space f.t answer id.place z s2) (sym one) in_world)
+
+-- The turns of who is there, which came to that as one, are a series of turns.
+pub series_here : (h : HostState) (w : World) (id : InstId) (q turns n : ℕ) (x : InstanceEntry) (z : HostInstanceState) (m : LoadedModule) (end : TurnEnd) (s2 : Space) → IsHost h w → entry_at h.entries id.place ≡ Some x → x.number ≡ Some id.number → slice_get h.modules x.of ≡ Some m → AreUsed q turns n
+    → ((t : Tenant) → LiesAt m.linked x.page_limit x.tenant h.space id.place t → (t.open_calls ≢ []) × EndsTurn m.linked x.page_limit (turns * q) n h.space t end id.place z s2)
+    → (w2 : World) × SeriesOf q id w turns n end w2 × IsHost (record h { entries = slice_set h.entries id.place (Some (record x { tenant = z })); space = s2 }) w2
+series_here h w id q turns n x z m end s2 st at number is used ends =
+    let f = found h w id.place id.number x st at number in
+    let lies = lies_there h w id.place id.number x st f in
+    let one = module_is h w id.place id.number x m f is in
+    let by_module = subst (λ (l : LoadedModule). LiesAt l.linked x.page_limit x.tenant w.space id.place f.t) one lies in
+    let to = ends f.t (subst (λ s. LiesAt m.linked x.page_limit x.tenant s id.place f.t) (sym st.space) by_module) in
+    let in_world = subst (λ s. EndsTurn m.linked x.page_limit (turns * q) n s f.t end id.place z s2) st.space to.1 in
+    let (few, least, most, t2, its_turn, spends, lies2) = subst (λ (l : LoadedModule). EndsTurn l.linked x.page_limit (turns * q) n w.space f.t end id.place z s2) (sym one) in_world in
+    let stays = turn_stays few w.space s2 f.t t2 end its_turn in
+    let w2 = with_tenant w id.number (Some t2) s2 in
+    let over : IsTenant f.is.loaded.linked x.page_limit z (view s2 t2.place) t2 = subst (λ i. IsTenant f.is.loaded.linked x.page_limit z (view s2 i) t2) (sym lies2.place_is) lies2.is in
+    let represents = same_owner h.modules x w.space s2 id.number f.t t2 z f.is stays.of stays.params over in
+    let sees : (j : ℕ) → j ≢ id.place → view s2 j ≡ view w.space j = λ j other. (stays.others j (λ e. other (e ∙ f.at))).view in
+    let happens : IsTurn w id few end w2 = of_one (f.live, f.at) its_turn in
+    let claimed : claim w.space f.t.place ≡ Some lies.claimed = ap (claim w.space) f.at ∙ lies.claim_is in (
+      w2,
+      series_of_turns q turns id w few n f.t t2 end s2 lies.claimed (f.live, f.at) claimed to.0 least most used spends its_turn,
+      changed h w id.place id.number x (record x { tenant = z }) t2 s2 st at number lies2.place_is represents sees (comes_on w w2 (turn id few) st.comes (end, happens)),
+    )
 
 -- its module is there
 pub no_module_less : (h : HostState) (w : World) (place i : ℕ) (x : InstanceEntry) → IsHost h w → entry_at h.entries place ≡ Some x → x.number ≡ Some i → slice_get h.modules x.of ≡ None → ⊥

@@ -3,6 +3,8 @@ pub mod Leavings
 mod Lending
 mod Viewing
 mod Turns
+mod Splitting
+mod Spending
 mod BesideTurns
 mod Unmoved
 mod RunnerLists

@@ -3,11 +3,14 @@ use Rattle.std.proofs.Common.{◌≡◌, ◌≢◌, ◌∙◌, ◌⊎◌, inl, i
 use Rattle.std.proofs.lemmas.Bool.{cases_eq, cases_lt}
 use Rattle.wh_overlay.proofs.Marks.{set_there, set_elsewhere}
 use Rattle.wh_host_model.proofs.Space.Putting.{there_of}
+use Rattle.wh_instance.specs.OwnerRequests.{OfAnyTenant}
+use Rattle.wh_instance.specs.Seen.{IsAtTerm}
+use Rattle.wh_host_model.specs.declared.plain.InstId.{InstId}
 use Rattle.wh_host.specs.declared.parts.InstanceEntry.{InstanceEntry}
 use Rattle.wh_host.specs.declared.rounds.Runner.{Runner}
 use Rattle.wh_host.specs.Hosting.{entry_at}
 use Rattle.wh_host.specs.Rounds.{AllAreFree, AreTakenOut, RunnersStay, IsFree, IsOut, SitsThere}
-use Rattle.wh_host.specs.Joining.{IsTakenOut, TakesOut}
+use Rattle.wh_host.specs.Joining.{IsLeftOut, IsTakenOut, TakesOut}
 use Rattle.wh_host.proofs.Hosts.{one_value, seat_set}
 
 -- ---- a list of which one after the other changes
@@ -150,6 +153,27 @@ more_out E F ys i y F2 y2 out there free t = record {
       so = (refl, t.computes, free.1);
     })
 
+-- ---- who is left out
+
+same_parts : (a b : InstId) → a.place ≡ b.place → a.number ≡ b.number → a ≡ b
+same_parts a b place number = rw (place, number) refl
+
+-- some runner has an instance of this place, or none has
+find_runner : (ys : List Runner) (p : ℕ) → ((j : ℕ) × (z : Runner) × (slice_get ys j ≡ Some z) × (z.taken ≡ true) × (z.id.place ≡ p)) ⊎ ((k : ℕ) (a : Runner) → slice_get ys k ≡ Some a → a.taken ≡ true → a.id.place ≢ p)
+find_runner [] p = inr (λ k a at. absurd (cc at))
+find_runner (x ∷ xs) p = go (find_runner xs p) (taken_or x) (cases_eq x.id.place p)
+  where
+    nobody : ((k : ℕ) (a : Runner) → slice_get xs k ≡ Some a → a.taken ≡ true → a.id.place ≢ p) → (x.taken ≡ true → x.id.place ≢ p) → (k : ℕ) (a : Runner) → slice_get (x ∷ xs) k ≡ Some a → a.taken ≡ true → a.id.place ≢ p
+    nobody none first zero a at = subst (λ (z : Runner). z.taken ≡ true → z.id.place ≢ p) (one_runner x a at) first
+    nobody none first (suc k) a at = none k a at
+
+    go : ((j : ℕ) × (z : Runner) × (slice_get xs j ≡ Some z) × (z.taken ≡ true) × (z.id.place ≡ p)) ⊎ ((k : ℕ) (a : Runner) → slice_get xs k ≡ Some a → a.taken ≡ true → a.id.place ≢ p) → (x.taken ≡ true) ⊎ (x.taken ≡ false) → (x.id.place ≡ p) ⊎ (x.id.place ≢ p)
+        → ((j : ℕ) × (z : Runner) × (slice_get (x ∷ xs) j ≡ Some z) × (z.taken ≡ true) × (z.id.place ≡ p)) ⊎ ((k : ℕ) (a : Runner) → slice_get (x ∷ xs) k ≡ Some a → a.taken ≡ true → a.id.place ≢ p)
+    go (inl (j, z, at, sits, same)) taken place = inl (suc j, z, at, sits, same)
+    go (inr none) (inl sits) (inl same) = inl (0, x, refl, sits, same)
+    go (inr none) (inl sits) (inr other) = inr (nobody none (λ z. other))
+    go (inr none) (inr gone) place = inr (nobody none (λ sits. absurd (not_both x sits gone)))
+
 -- ---- all are taken out
 
 pub record TakenSoFar (E : List (Option InstanceEntry)) (xs : List Runner) (F : List (Option InstanceEntry)) (ys : List Runner) (i : ℕ) : Type 0 where
@@ -157,6 +181,7 @@ pub record TakenSoFar (E : List (Option InstanceEntry)) (xs : List Runner) (F : 
   pub free : (k : ℕ) (y : Runner) → slice_get ys k ≡ Some y → y.taken ≡ false → IsFree y
   pub later : (k : ℕ) (y : Runner) → i ≤ k → slice_get ys k ≡ Some y → y.taken ≡ false
   pub none : (k : ℕ) (y : Runner) → k < i → slice_get ys k ≡ Some y → y.taken ≡ false → y.answer ≡ None
+  pub left : (k : ℕ) (y : Runner) → k < i → slice_get ys k ≡ Some y → y.taken ≡ false → IsLeftOut E ys y
   pub same : RunnersStay xs ys
 
 pub taken_none : (E : List (Option InstanceEntry)) (xs : List Runner) → AllAreFree xs → TakenSoFar E xs E xs 0
@@ -169,6 +194,7 @@ taken_none E xs free = record {
   free = λ k y there gone. free k y there;
   later = λ k y least there. (let f = free k y there in f.0);
   none = λ k y less there gone. absurd (omega (arith, less));
+  left = λ k y less there gone. absurd (omega (arith, less));
   same = λ k y there. (y, there, refl);
 }
 
@@ -183,6 +209,10 @@ taken_next E xs F ys i y F2 y2 h there takes = record {
   none = λ k a less at gone. elim (cases_eq k i) [
     | inl same ↦ (let e = is k a same at in subst (λ (z : Runner). z.answer ≡ None) e (no_answer takes))
     | inr other ↦ h.none k a (before k less other) (sym (set_elsewhere ys i k y2 other) ∙ at) gone
+  ];
+  left = λ k a less at gone. elim (cases_eq k i) [
+    | inl same ↦ (let e = is k a same at in subst (IsLeftOut E (slice_set ys i y2)) e (left_now takes (subst (λ (z : Runner). z.taken ≡ false) (sym e) gone)))
+    | inr other ↦ still a (h.left k a (before k less other) (sym (set_elsewhere ys i k y2 other) ∙ at) gone)
   ];
   same = λ k a at. elim (cases_eq k i) [
     | inl same ↦ (
@@ -211,6 +241,39 @@ taken_next E xs F ys i y F2 y2 h there takes = record {
     room : TakesOut F y F2 y2 → y2.taken ≡ false → IsFree y2
     room (inl s) gone = subst IsFree (sym s.runner) (refl, free.1)
     room (inr t) gone = absurd (not_both y2 (ap (λ (z : Runner). z.taken) t.runner) gone)
+
+    away : (k : ℕ) (a : Runner) → slice_get ys k ≡ Some a → a.taken ≡ true → k ≢ i
+    away k a at sits same = not_both a sits (subst (λ (z : Runner). z.taken ≡ false) (one_runner y a (sym there ∙ ap (slice_get ys) (sym same) ∙ at)) free.0)
+
+    -- who was left out is
+    still : (a : Runner) → IsLeftOut E ys a → IsLeftOut E (slice_set ys i y2) a
+    still a was x at number = still_so (was x at number)
+      where
+        still_so : OfAnyTenant x.tenant (λ l limit bytes t. ¬ (IsAtTerm t)) ⊎ ((j : ℕ) × (z : Runner) × (slice_get ys j ≡ Some z) × (z.taken ≡ true) × (z.id ≡ a.id))
+            → OfAnyTenant x.tenant (λ l limit bytes t. ¬ (IsAtTerm t)) ⊎ ((j : ℕ) × (z : Runner) × (slice_get (slice_set ys i y2) j ≡ Some z) × (z.taken ≡ true) × (z.id ≡ a.id))
+        still_so (inl never) = inl never
+        still_so (inr (j, z, at2, sits, same)) = inr (j, z, set_elsewhere ys i j y2 (away j z at2 sits) ∙ at2, sits, same)
+
+    left_now : TakesOut F y F2 y2 → y2.taken ≡ false → IsLeftOut E (slice_set ys i y2) y2
+    left_now (inr t) gone x at number = absurd (not_both y2 (ap (λ (z : Runner). z.taken) t.runner) gone)
+    left_now (inl s) gone x at number = elim (find_runner ys y.id.place) [
+      | inl (j, z, at2, sits, place) ↦ (
+          let o = h.out.each j z at2 sits in
+          let one = one_value o.entry x (sym o.was ∙ ap (entry_at E) place ∙ here) in
+          let both : Some z.id.number ≡ Some y.id.number = sym o.number ∙ ap (λ (e : InstanceEntry). e.number) one ∙ number2 in
+          let of_one : z.id.number ≡ y.id.number = cc both in
+          inr (j, z, set_elsewhere ys i j y2 (away j z at2 sits) ∙ at2, sits, same_parts z.id y.id place of_one ∙ sym same_runner))
+      | inr none ↦ inl (s.why x (h.out.elsewhere y.id.place none ∙ here) number2)
+    ]
+      where
+        same_runner : y2.id ≡ y.id
+        same_runner = ap (λ (z : Runner). z.id) s.runner
+
+        here : entry_at E y.id.place ≡ Some x
+        here = ap (λ (n : InstId). entry_at E n.place) (sym same_runner) ∙ at
+
+        number2 : x.number ≡ Some y.id.number
+        number2 = number ∙ ap (λ (n : InstId). Some n.number) same_runner
 
     no_answer : TakesOut F y F2 y2 → y2.answer ≡ None
     no_answer (inl s) = ap (λ (z : Runner). z.answer) s.runner

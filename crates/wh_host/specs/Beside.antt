@@ -1,5 +1,7 @@
--- How an instance is brought on beside others, and what its turn is answered once all is laid back.
-use Rattle.std.specs.Prelude.{◌≡◌, ◌⊎◌, ℕ, min, List, [], ◌∷◌}
+-- How an instance is brought on beside others, and what its turns are answered once all is laid back.
+use Rattle.std.specs.Prelude.{◌≡◌, ◌⊎◌, ℕ, ◌≤◌, min, List, [], ◌∷◌}
+use Rattle.wh_host_model.specs.declared.plain.TurnEnd.{TurnEnd}
+use Rattle.wh_host_model.specs.Host.CallAnswers.{Turn}
 use Rattle.wh_host_model.specs.Host.Worlds.{Tenant}
 use Rattle.wh_host_model.specs.Owners.{Entry}
 use Rattle.wh_host_model.specs.Space.Parts.{Space}
@@ -16,6 +18,7 @@ use Rattle.wh_overlay.specs.LaidBack.{LooksSame}
 use Rattle.wh_overlay.specs.Over.{IsOverSame, IsReadyOver, IsWholeOver, OverlayState, sees}
 use Rattle.wh_space.specs.Steps.{page_limit}
 use Rattle.wh_host.specs.Lying.{LiesAt}
+use Rattle.wh_host.specs.Series.{IsWholeOrCut, Spends}
 
 -- the memory of the instance at a place, with this written beside it
 abbrev pub memory_with : Space → ℕ → ℕ → UpperState → OverlayState
@@ -56,3 +59,9 @@ pub record HasRun (l : LinkedState) (limit q : ℕ) (s0 s : Space) (place : ℕ)
   pub runs : RunsBeside l limit q s0 place x t answer pieces charges x1 u
   pub looks : LooksSame place s0 s
   pub lies : LiesAt l limit x s place t
+
+-- A turn of q charges, or one that was cut short, which took so many, is answered so, and leaves this memory, in which the instance lies.
+abbrev pub EndsTurn : LinkedState → ℕ → ℕ → ℕ → Space → Tenant → TurnEnd → ℕ → HostInstanceState → Space → Type 0
+EndsTurn l limit q n s t end place x2 s2 =
+    (few : ℕ) × IsWholeOrCut q few n end × (n ≤ few) × (t2 : Tenant) × Turn few s t end s2 t2 × Spends n t t2
+    × LiesAt l limit x2 s2 place t2

@@ -1,5 +1,5 @@
 -- How instances join a round, and leave it.
-use Rattle.std.specs.Prelude.{◌≡◌, ◌≢◌, ◌⊎◌, ℕ, ◌≤◌, true, false, List, Option, Some, None, slice_get, slice_set}
+use Rattle.std.specs.Prelude.{◌≡◌, ◌≢◌, ◌⊎◌, ℕ, ◌*◌, true, false, List, Option, Some, None, slice_get, slice_set}
 use Rattle.wh_host_model.specs.declared.plain.TurnEnd.{TurnEnd}
 use Rattle.wh_host_model.specs.Host.Worlds.{Tenant}
 use Rattle.wh_host_model.specs.Space.Parts.{Space}
@@ -13,10 +13,11 @@ use Rattle.wh_host.specs.declared.parts.LoadedModule.{LoadedModule}
 use Rattle.wh_host.specs.declared.parts.InstanceEntry.{InstanceEntry}
 use Rattle.wh_host.specs.declared.rounds.Runner.{Runner}
 use Rattle.wh_host.specs.Backing.{KeepsBacking}
-use Rattle.wh_host.specs.Beside.{HasRun}
+use Rattle.wh_host.specs.declared.rounds.SeriesEnd.{SeriesEnd}
+use Rattle.wh_host.specs.declared.beside.RanBeside.{RanBeside}
+use Rattle.wh_host.specs.Beside.{EndsTurn, HasRun}
 use Rattle.wh_host.specs.Hosting.{HostState, entry_at}
 use Rattle.wh_host.specs.Left.{LeavesTurned}
-use Rattle.wh_host.specs.Lent.{TurnsTo}
 use Rattle.wh_host.specs.Rounds.{AreTakenOut, IsFree, RanThere}
 
 -- ---- out
@@ -46,23 +47,33 @@ pub record IsTakenOut (rs : List (Option InstanceEntry)) (y : Runner) (rs2 : Lis
 abbrev pub TakesOut : List (Option InstanceEntry) → Runner → List (Option InstanceEntry) → Runner → Type 0
 TakesOut rs y rs2 y2 = StaysFree rs y rs2 y2 ⊎ IsTakenOut rs y rs2 y2
 
+-- The runner has none: its instance isn't there, or doesn't compute, or another runner has it.
+abbrev pub IsLeftOut : List (Option InstanceEntry) → List Runner → Runner → Type 0
+IsLeftOut rs ys y =
+    (x : InstanceEntry) → entry_at rs y.id.place ≡ Some x → x.number ≡ Some y.id.number
+    → OfAnyTenant x.tenant (λ l limit bytes t. ¬ (IsAtTerm t))
+    ⊎ ((j : ℕ) × (z : Runner) × (slice_get ys j ≡ Some z) × (z.taken ≡ true) × (z.id ≡ y.id))
+
 -- ---- and back
 
--- The instance of the runner has finished its turn: in this memory, which is as good as before for all others, and it has this instance then.
-pub record Finishes (q : ℕ) (s : Space) (y : Runner) (s2 : Space) (made : TurnEnd × ℕ) (x3 : HostInstanceState) : Type 0 where
-  pub few : made.1 ≤ q
+-- to what so many turns came, of which the last was answered so
+abbrev pub series_end : RanBeside → TurnEnd → SeriesEnd
+series_end ran end = record { turns = ran.turns; charges = ran.charges; end = end }
+
+-- The instance of the runner has finished its turns, as one: in this memory, which is as good as before for all others, and it has this instance then.
+pub record Finishes (q : ℕ) (s : Space) (y : Runner) (s2 : Space) (end : TurnEnd) (x3 : HostInstanceState) : Type 0 where
   pub turns : (u : UpperState) → y.upper ≡ Some u → (l : LinkedState) (limit : ℕ) (s0 : Space) (x : HostInstanceState) (t : Tenant)
-      → HasRun l limit q s0 s y.id.place x t y.ran.came y.ran.pieces y.ran.charges y.tenant u
-      → TurnsTo l limit made.1 s t made.0 y.id.place x3 s2
+      → HasRun l limit (y.ran.turns * q) s0 s y.id.place x t y.ran.came y.ran.pieces y.ran.charges y.tenant u
+      → EndsTurn l limit (y.ran.turns * q) y.ran.charges s t end y.id.place x3 s2
   pub others : (other : ℕ) → other ≢ y.id.place → LooksSame other s s2
   pub backing : KeepsBacking s s2
-  pub memory : LeavesTurned y.id.place made.0 s s2
+  pub memory : LeavesTurned y.id.place end s s2
 
 -- and the runner is free
 pub record FinishesAt (q : ℕ) (s : Space) (y : Runner) (s2 : Space) (y2 : Runner) : Type 0 where
-  pub made : TurnEnd × ℕ
-  pub finishes : Finishes q s y s2 made y2.tenant
-  pub answer : y2.answer ≡ Some made
+  pub end : TurnEnd
+  pub finishes : Finishes q s y s2 end y2.tenant
+  pub answer : y2.answer ≡ Some (series_end y.ran end)
   pub id : y2.id ≡ y.id
   pub free : IsFree y2
 
@@ -70,14 +81,14 @@ pub record FinishesAt (q : ℕ) (s : Space) (y : Runner) (s2 : Space) (y2 : Runn
 abbrev pub CanFinish : ℕ → Space → Runner → Type 0
 CanFinish q s y =
     (u : UpperState) × (y.upper ≡ Some u) × (l : LinkedState) × (limit : ℕ) × (s0 : Space) × (x : HostInstanceState) × (t : Tenant)
-    × HasRun l limit q s0 s y.id.place x t y.ran.came y.ran.pieces y.ran.charges y.tenant u
+    × HasRun l limit (y.ran.turns * q) s0 s y.id.place x t y.ran.came y.ran.pieces y.ran.charges y.tenant u
 
 -- it has its place again
 pub record Returns (q : ℕ) (rs : List (Option InstanceEntry)) (s : Space) (y : Runner) (rs2 : List (Option InstanceEntry)) (s2 : Space) (y2 : Runner) : Type 0 where
-  pub made : TurnEnd × ℕ
+  pub end : TurnEnd
   pub tenant : HostInstanceState
-  pub finishes : Finishes q s y s2 made tenant
-  pub answer : y2.answer ≡ Some made
+  pub finishes : Finishes q s y s2 end tenant
+  pub answer : y2.answer ≡ Some (series_end y.ran end)
   pub id : y2.id ≡ y.id
   pub free : IsFree y2
   pub entries : (x : InstanceEntry) → entry_at rs y.id.place ≡ Some x
@@ -88,11 +99,15 @@ abbrev pub LaysAt : ℕ → List (Option InstanceEntry) → Space → Runner →
 LaysAt q rs s y rs2 s2 y2 =
     ((y.taken ≡ false) × (rs2 ≡ rs) × (s2 ≡ s) × (y2 ≡ y)) ⊎ ((y.taken ≡ true) × Returns q rs s y rs2 s2 y2)
 
+-- a runner that had an instance has an answer
+abbrev pub HasAnswer : Runner → Runner → Type 0
+HasAnswer y y2 = (y2.id ≡ y.id) × (y.taken ≡ true → (made : SeriesEnd) × (y2.answer ≡ Some made))
+
 -- The instances of all runners have run over one memory, and this one is as good for each. The other runners are free, and
 -- have no answer.
-pub record HaveRun (modules : List LoadedModule) (q : ℕ) (before : List (Option InstanceEntry)) (s0 : Space)
+pub record HaveRun (modules : List LoadedModule) (q most : ℕ) (before : List (Option InstanceEntry)) (s0 : Space)
     (now : List (Option InstanceEntry)) (s : Space) (ys : List Runner) : Type 0 where
-  pub out : AreTakenOut before now ys (RanThere modules s0 q)
+  pub out : AreTakenOut before now ys (RanThere modules s0 q most)
   pub looks : (k : ℕ) (y : Runner) → slice_get ys k ≡ Some y → y.taken ≡ true → LooksSame y.id.place s0 s
   pub rest : (k : ℕ) (y : Runner) → slice_get ys k ≡ Some y → y.taken ≡ false → IsFree y × (y.answer ≡ None)
 

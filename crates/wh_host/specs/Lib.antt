@@ -3,6 +3,7 @@ pub mod TicketsOut
 pub mod Lying
 pub mod Left
 pub mod Lent
+pub mod Series
 pub mod Beside
 pub mod Rounds
 pub mod Joining

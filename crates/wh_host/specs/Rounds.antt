@@ -1,36 +1,39 @@
--- Rounds: turns of several instances, brought on at once and finished one after the other.
-use Rattle.std.specs.Prelude.{◌≡◌, ◌≢◌, ℕ, ◌≤◌, true, false, List, [], ◌∷◌, Option, Some, None, slice_get}
+-- Rounds: turns of several instances, that are brought on at once and finished one after the other.
+use Rattle.std.specs.Prelude.{◌≡◌, ◌≢◌, ℕ, ◌*◌, ◌≤◌, true, false, List, [], ◌∷◌, Option, Some, None, slice_get}
 use Rattle.wh_host_model.specs.declared.plain.InstId.{InstId}
-use Rattle.wh_host_model.specs.declared.plain.TurnEnd.{TurnEnd}
-use Rattle.wh_host_model.specs.Host.Happens.{IsTurn}
+use Rattle.wh_host_model.specs.Host.Happens.{IsLive}
 use Rattle.wh_host_model.specs.Host.Worlds.{Tenant, World}
 use Rattle.wh_host_model.specs.Space.Parts.{Space}
 use Rattle.wh_instance.specs.OwnerRequests.{OfAnyTenant}
 use Rattle.wh_instance.specs.Seen.{IsAtTerm}
+use Rattle.wh_instance.specs.Bursts.{AreUsed}
 use Rattle.wh_instance.specs.Tenancy.{HostInstanceState}
 use Rattle.wh_overlay.specs.LaidPages.{UpperState}
 use Rattle.wh_host.specs.declared.parts.LoadedModule.{LoadedModule}
 use Rattle.wh_host.specs.declared.parts.InstanceEntry.{InstanceEntry}
 use Rattle.wh_host.specs.declared.rounds.Runner.{Runner}
+use Rattle.wh_host.specs.declared.rounds.SeriesEnd.{SeriesEnd}
+use Rattle.wh_host.specs.declared.beside.RanBeside.{RanBeside}
 use Rattle.wh_host.specs.Backing.{KeepsBacking}
 use Rattle.wh_host.specs.Beside.{RunsBeside}
 use Rattle.wh_host.specs.Hosting.{entry_at}
 use Rattle.wh_host.specs.Left.{LeavesTurned}
 use Rattle.wh_host.specs.Lying.{LiesAt}
+use Rattle.wh_host.specs.Series.{SeriesOf}
 
 -- ---- turns one after the other
 
--- A turn of this instance with these charges at most, that was answered so and took so many; or none was taken.
-abbrev pub TakesTurn : ℕ → World → InstId → Option (TurnEnd × ℕ) → World → Type 0
-TakesTurn q w id None w2 = w2 ≡ w
-TakesTurn q w id (Some made) w2 =
-    (made.1 ≤ q) × IsTurn w id made.1 made.0 w2 × LeavesTurned id.place made.0 w.space w2.space
-    × KeepsBacking w.space w2.space
+-- so many turns of this instance, at most, each with q charges at most, came to that; or none was taken
+abbrev pub TakesTurns : ℕ → ℕ → World → InstId → Option SeriesEnd → World → Type 0
+TakesTurns q most w id None w2 = w2 ≡ w
+TakesTurns q most w id (Some made) w2 =
+    (made.turns ≤ most) × SeriesOf q id w made.turns made.charges made.end w2
+    × LeavesTurned id.place made.end w.space w2.space × KeepsBacking w.space w2.space
 
 -- those of the runners, in their order
-abbrev pub AllTurn : ℕ → World → List Runner → World → Type 0
-AllTurn q w [] w2 = w2 ≡ w
-AllTurn q w (y ∷ ys) w2 = (mid : World) × TakesTurn q w y.id y.answer mid × AllTurn q mid ys w2
+abbrev pub AllTurn : ℕ → ℕ → World → List Runner → World → Type 0
+AllTurn q most w [] w2 = w2 ≡ w
+AllTurn q most w (y ∷ ys) w2 = (mid : World) × TakesTurns q most w y.id y.answer mid × AllTurn q most mid ys w2
 
 -- ---- runners
 
@@ -69,13 +72,18 @@ pub record AreTakenOut (before now : List (Option InstanceEntry)) (ys : List Run
 abbrev pub SitsThere : InstanceEntry → Runner → Type 0
 SitsThere x y = (y.tenant ≡ x.tenant) × OfAnyTenant x.tenant (λ l limit bytes t. IsAtTerm t) × HasRoomBeside y
 
+-- it was brought on by so many turns of q charges at most, and each but the last was used up
+abbrev pub IsBurst : ℕ → ℕ → RanBeside → Type 0
+IsBurst q most ran = (ran.turns ≤ most) × AreUsed q ran.turns ran.charges
+
 -- it has run there, over this memory
-abbrev pub RanThere : List LoadedModule → Space → ℕ → InstanceEntry → Runner → Type 0
-RanThere modules s q x y =
-    (u : UpperState) × (y.upper ≡ Some u)
+abbrev pub RanThere : List LoadedModule → Space → ℕ → ℕ → InstanceEntry → Runner → Type 0
+RanThere modules s q most x y =
+    (u : UpperState) × (y.upper ≡ Some u) × IsBurst q most y.ran
     × ((m : LoadedModule) → slice_get modules x.of ≡ Some m → (t : Tenant)
     → LiesAt m.linked x.page_limit x.tenant s y.id.place t
-    → RunsBeside m.linked x.page_limit q s y.id.place x.tenant t y.ran.came y.ran.pieces y.ran.charges y.tenant u)
+    → RunsBeside m.linked x.page_limit (y.ran.turns * q) s y.id.place x.tenant t y.ran.came y.ran.pieces y.ran.charges
+    y.tenant u)
 
 -- ---- what runners run
 
@@ -93,25 +101,33 @@ abbrev pub AllMayRun : List LoadedModule → Space → List Runner → Type 0
 AllMayRun modules s ys =
     (k : ℕ) (y : Runner) → slice_get ys k ≡ Some y → y.taken ≡ true → MayRun modules s y
 
--- So its instance has run in a turn of q charges, if it has one; else there is room as before.
-pub record RunsAt (modules : List LoadedModule) (s : Space) (q : ℕ) (y y2 : Runner) : Type 0 where
+-- So its instance has run by turns of q charges, so many at most, if it has one; else there is room as before.
+pub record RunsAt (modules : List LoadedModule) (s : Space) (q most : ℕ) (y y2 : Runner) : Type 0 where
   pub id : y2.id ≡ y.id
   pub taken : y2.taken ≡ y.taken
   pub of : y2.of ≡ y.of
   pub page_limit : y2.page_limit ≡ y.page_limit
   pub answer : y2.answer ≡ y.answer
   pub free : y.taken ≡ false → HasRoomBeside y → HasRoomBeside y2
-  pub ran : y.taken ≡ true → (u : UpperState) × (y2.upper ≡ Some u)
+  pub ran : y.taken ≡ true → (u : UpperState) × (y2.upper ≡ Some u) × IsBurst q most y2.ran
       × ((m : LoadedModule) → slice_get modules y.of ≡ Some m → (t : Tenant) → IsAtTerm t
       → LiesAt m.linked y.page_limit y.tenant s y.id.place t
-      → RunsBeside m.linked y.page_limit q s y.id.place y.tenant t y2.ran.came y2.ran.pieces y2.ran.charges y2.tenant u)
+      → RunsBeside m.linked y.page_limit (y2.ran.turns * q) s y.id.place y.tenant t y2.ran.came y2.ran.pieces y2.ran.charges
+      y2.tenant u)
 
 -- all have
-abbrev pub AllRun : List LoadedModule → Space → ℕ → List Runner → List Runner → Type 0
-AllRun modules s q ys ys2 =
-    (k : ℕ) (y2 : Runner) → slice_get ys2 k ≡ Some y2 → (y : Runner) × (slice_get ys k ≡ Some y) × RunsAt modules s q y y2
+abbrev pub AllRun : List LoadedModule → Space → ℕ → ℕ → List Runner → List Runner → Type 0
+AllRun modules s q most ys ys2 =
+    (k : ℕ) (y2 : Runner) → slice_get ys2 k ≡ Some y2
+    → (y : Runner) × (slice_get ys k ≡ Some y) × RunsAt modules s q most y y2
 
 -- the runners are those of the same instances
 abbrev pub RunnersStay : List Runner → List Runner → Type 0
 RunnersStay ys ys2 =
     (k : ℕ) (y2 : Runner) → slice_get ys2 k ≡ Some y2 → (y : Runner) × (slice_get ys k ≡ Some y) × (y2.id ≡ y.id)
+
+-- an instance that computes and has a runner has turns, by this runner or by another one
+abbrev pub NoneIsLeftOut : World → List Runner → Type 0
+NoneIsLeftOut w ys =
+    (k : ℕ) (y : Runner) → slice_get ys k ≡ Some y → y.answer ≡ None → (t : Tenant) → IsLive w y.id t → IsAtTerm t
+    → (j : ℕ) × (z : Runner) × (slice_get ys j ≡ Some z) × (z.id ≡ y.id) × (made : SeriesEnd) × (z.answer ≡ Some made)

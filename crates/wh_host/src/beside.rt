@@ -1,6 +1,6 @@
-//! An instance that is brought on beside others, and the end of its turn.
+//! An instance that is brought on beside others, and the end of its turns.
 
-ghost use Rattle.std.specs.Prelude.{◌≡◌, ◌≢◌, ◌≤◌, ℕ, [], get_or};
+ghost use Rattle.std.specs.Prelude.{◌≡◌, ◌≢◌, ◌+◌, ◌*◌, ◌≤◌, ℕ, [], get_or};
 ghost use Rattle.wh_host_model.specs.Host.Worlds.{Tenant as OneTenant};
 ghost use Rattle.wh_host_model.specs.Space.Parts.{Space};
 ghost use Rattle.wh_imports.specs.LinkedState.{LinkedState};
@@ -10,55 +10,59 @@ ghost use Rattle.wh_overlay.specs.LaidBack.{IsLaid, LooksSame};
 ghost use Rattle.wh_overlay.specs.Over.{AreAlone, HasGrown};
 ghost use Rattle.wh_space.specs.StepViews.{KeepsRest};
 ghost use Rattle.wh_host.specs.Backing.{KeepsBacking};
-ghost use Rattle.wh_host.specs.Beside.{CameThere, HasRun, RunsBeside};
+ghost use Rattle.wh_host.specs.Beside.{CameThere, EndsTurn, HasRun, RunsBeside};
 ghost use Rattle.wh_host.specs.Left.{LeavesTurned};
-ghost use Rattle.wh_host.specs.Lent.{TurnsTo};
 ghost use Rattle.wh_host.specs.Lying.{LiesAt};
+ghost use Rattle.wh_host.specs.Rounds.{IsBurst};
 
 use crate::turning::settle_at;
 use wh_host_model::TurnEnd;
 use wh_imports::Linked;
-use wh_instance::{HostInstance, TurnOutcome};
+use wh_instance::{Burst, HostInstance, TurnOutcome};
 use wh_overlay::{Overlay, Upper};
 use wh_space::Memory;
 
-/// What came of a turn of an instance beside others, before it is finished.
+/// What came of the turns of an instance beside others, before they are finished.
 #[derive(Clone, Copy)]
 pub struct RanBeside {
-    /// To what it came.
+    /// To what it came in the last.
     pub came: TurnOutcome,
     /// How many pieces it has written.
     pub pieces: u64,
     /// How many charges it took.
     pub charges: u64,
+    /// In how many turns.
+    pub turns: u64,
 }
 
-/// Brings the instance at this place on by a turn of `q` charges over the memory, which others read at the same time: what came of
-/// it, and what was written beside the memory.
+/// Brings the instance at this place on by a burst over the memory, which others read at the same time: what came of it, and what
+/// was written beside the memory.
 pub fn run_beside(
     tenant: &mut HostInstance,
     linked: &Linked,
     memory: &Memory,
     place: usize,
     page_limit: u32,
-    q: u64,
+    burst: Burst,
     upper: Upper,
 ) -> (RanBeside, Upper)
     requires pages { upper.pages ≡ [] }
     requires grown { upper.grown ≡ 0 }
     requires lies { (t : OneTenant) × IsAtTerm t
         × LiesAt linked.now page_limit tenant.old memory.now place t }
-    ensures { (t : OneTenant) → IsAtTerm t
+    ensures runs { (t : OneTenant) → IsAtTerm t
         → LiesAt linked.now page_limit tenant.old memory.now place t
-        → RunsBeside linked.now page_limit q memory.now place tenant.old t
-        result.0.came result.0.pieces result.0.charges tenant.new result.1 }
+        → RunsBeside linked.now page_limit (result.0.turns * burst.entry.quantum) memory.now place
+        tenant.old t result.0.came result.0.pieces result.0.charges tenant.new result.1 }
+    ensures burst { IsBurst burst.entry.quantum (burst.entry.further + 1) result.0 }
 {
     let mut overlay = Overlay::new(memory, place, page_limit, upper);
-    let (came, pieces, charges) = tenant.advance(linked, &mut overlay, q);
+    let (ended, pieces) = tenant.advance_burst(linked, &mut overlay, burst);
     let ran = RanBeside {
-        came,
+        came: ended.came,
         pieces,
-        charges,
+        charges: ended.charges,
+        turns: ended.turns,
     };
     (ran, overlay.into_upper())
 }
@@ -82,47 +86,45 @@ fn lay_beside(memory: &mut Memory, place: usize, charges: u64, upper: &mut Upper
     upper.lay(memory, place);
 }
 
-// To what the turn came in the memory in which all is laid back, and of how many charges it was.
-fn came_there(memory: &Memory, place: usize, ran: RanBeside, q: u64) -> (TurnOutcome, u64)
-    ensures { CameThere memory.now place ran.came ran.charges q result.0 result.1 }
+// To what the turns came in the memory in which all is laid back.
+fn came_there(memory: &Memory, place: usize, ran: RanBeside) -> TurnOutcome
+    ensures { (q : ℕ) → (q2 : ℕ) × CameThere memory.now place ran.came ran.charges q result q2 }
 {
     match ran.came {
         TurnOutcome::Frame(need) => {
             if memory.is_ready(place, need) {
-                (TurnOutcome::Again, ran.charges)
+                TurnOutcome::Again
             } else {
-                (ran.came, q)
+                ran.came
             }
         }
-        _ => (ran.came, q),
+        _ => ran.came,
     }
 }
 
-/// Finishes a turn of `q` charges of the instance at this place that was brought on beside others: what was written is laid back.
-/// What it is answered, and of how many charges it was: of fewer where it stopped before bytes that it may read or write now.
+/// Finishes the turns of the instance at this place that was brought on beside others: what was written is laid back. What the last is
+/// answered: that its call can go on where it stopped before bytes that it may read or write now.
 pub fn finish_beside(
     tenant: &mut HostInstance,
     memory: &mut Memory,
     place: usize,
-    q: u64,
     ran: RanBeside,
     upper: &mut Upper,
-) -> (TurnEnd, u64)
-    requires { (l : LinkedState) × (limit : ℕ) × (s : Space) × (x : HostInstanceState) × (t : OneTenant)
+) -> TurnEnd
+    requires { (l : LinkedState) × (limit q : ℕ) × (s : Space) × (x : HostInstanceState) × (t : OneTenant)
         × HasRun l limit q s memory.old place x t ran.came ran.pieces ran.charges tenant.old upper.old }
-    ensures turns { (l : LinkedState) (limit : ℕ) (s : Space) (x : HostInstanceState) (t : OneTenant)
+    ensures turns { (l : LinkedState) (limit q : ℕ) (s : Space) (x : HostInstanceState) (t : OneTenant)
         → HasRun l limit q s memory.old place x t ran.came ran.pieces ran.charges tenant.old upper.old
-        → TurnsTo l limit result.1 memory.old t result.0 place tenant.new memory.new }
-    ensures few { result.1 ≤ q }
+        → EndsTurn l limit q ran.charges memory.old t result place tenant.new memory.new }
     ensures others { (other : ℕ) → other ≢ place → LooksSame other memory.old memory.new }
     ensures backing { KeepsBacking memory.old memory.new }
-    ensures memory { LeavesTurned place result.0 memory.old memory.new }
+    ensures memory { LeavesTurned place result memory.old memory.new }
     ensures pages { upper.new.pages ≡ [] }
     ensures grown { upper.new.grown ≡ 0 }
 {
     memory.invariant();
     lay_beside(memory, place, ran.charges, upper);
-    let (came, of_charges) = came_there(memory, place, ran, q);
+    let came = came_there(memory, place, ran);
     let turned = tenant.finish(came, ran.pieces, ran.charges);
-    (settle_at(memory, place, turned), of_charges)
+    settle_at(memory, place, turned)
 }

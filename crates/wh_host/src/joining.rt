@@ -1,6 +1,6 @@
 // How instances join a round, and leave it.
 
-ghost use Rattle.std.specs.Prelude.{◌≡◌, ℕ, List, Option, Some, None, true, false, slice_get, slice_set};
+ghost use Rattle.std.specs.Prelude.{◌≡◌, ◌+◌, ℕ, List, Option, Some, None, true, false, slice_get, slice_set};
 ghost use Rattle.wh_host_model.specs.Host.Worlds.{World};
 ghost use Rattle.wh_host_model.specs.Space.Parts.{Space};
 ghost use Rattle.wh_instance.specs.Tenancy.{HostInstanceState};
@@ -8,15 +8,16 @@ ghost use Rattle.wh_host.specs.declared.parts.InstanceEntry.{InstanceEntry as On
 ghost use Rattle.wh_host.specs.declared.rounds.Runner.{Runner as OneRunner};
 ghost use Rattle.wh_host.specs.Backing.{KeepsBacking};
 ghost use Rattle.wh_host.specs.Hosting.{HostState, IsHost, entry_at};
-ghost use Rattle.wh_host.specs.Rounds.{AllAreFree, AllTurn, AreTakenOut, RunnersStay, IsFree, SitsThere};
-ghost use Rattle.wh_host.specs.Joining.{CanFinish, FinishesAt, HaveRun, LaysAt, TakesOut, host_with};
+ghost use Rattle.wh_host.specs.Rounds.{AllAreFree, AllTurn, AreTakenOut, RunnersStay, IsFree, NoneIsLeftOut, SitsThere};
+ghost use Rattle.wh_host.specs.Joining.{CanFinish, FinishesAt, HasAnswer, HaveRun, IsLeftOut, LaysAt, TakesOut, host_with};
 
 use crate::beside::finish_beside;
 use crate::host::Host;
 use crate::parts::InstanceEntry;
-use crate::rounds::{Fork, Round, Runner};
+use crate::rounds::{Fork, Round, Runner, SeriesEnd};
 use slab::Slab;
 use std::mem;
+use wh_instance::Burst;
 use wh_space::Memory;
 
 // Hands a runner its instance, if that computes.
@@ -46,6 +47,7 @@ fn take_all(entries: &mut Slab<InstanceEntry>, runners: &mut [Runner])
     requires { AllAreFree runners.old }
     ensures out { AreTakenOut entries.old.slots entries.new.slots runners.new SitsThere }
     ensures rest { (k : ℕ) (y : OneRunner) → slice_get runners.new k ≡ Some y → y.taken ≡ false → IsFree y × (y.answer ≡ None) }
+    ensures left { (k : ℕ) (y : OneRunner) → slice_get runners.new k ≡ Some y → y.taken ≡ false → IsLeftOut entries.old.slots runners.new y }
     ensures same { RunnersStay runners.old runners.new }
 {
     for at in 0..runners.len() {
@@ -53,24 +55,27 @@ fn take_all(entries: &mut Slab<InstanceEntry>, runners: &mut [Runner])
     }
 }
 
-// Finishes the turn of the instance of a runner, which is free then.
-fn finish_at(memory: &mut Memory, runner: &mut Runner, q: u64)
-    requires { CanFinish q memory.old runner.old }
-    ensures { FinishesAt q memory.old runner.old memory.new runner.new }
+// Finishes the turns of the instance of a runner, which is free then.
+fn finish_at(memory: &mut Memory, runner: &mut Runner)
+    requires { (q : ℕ) × CanFinish q memory.old runner.old }
+    ensures { (q : ℕ) → FinishesAt q memory.old runner.old memory.new runner.new }
 {
     let Some(upper) = &mut runner.upper else {
         unreachable!()
     };
-    let answer = finish_beside(
+    let end = finish_beside(
         &mut runner.tenant,
         memory,
         runner.id.place,
-        q,
         runner.ran,
         upper,
     );
     runner.taken = false;
-    runner.answer = Some(answer);
+    runner.answer = Some(SeriesEnd {
+        turns: runner.ran.turns,
+        charges: runner.ran.charges,
+        end,
+    });
 }
 
 // Gives the instance of a runner its place again.
@@ -87,43 +92,48 @@ fn give_back(entries: &mut Slab<InstanceEntry>, runner: &mut Runner)
 }
 
 // Lays back what the instance of a runner has written, if it has one, and gives it its place again.
-fn lay_at(entries: &mut Slab<InstanceEntry>, memory: &mut Memory, runner: &mut Runner, q: u64)
-    requires { runner.old.taken ≡ true → CanFinish q memory.old runner.old }
-    ensures { LaysAt q entries.old.slots memory.old runner.old entries.new.slots memory.new runner.new }
+fn lay_at(entries: &mut Slab<InstanceEntry>, memory: &mut Memory, runner: &mut Runner)
+    requires { runner.old.taken ≡ true → (q : ℕ) × CanFinish q memory.old runner.old }
+    ensures { (q : ℕ) → LaysAt q entries.old.slots memory.old runner.old entries.new.slots memory.new runner.new }
 {
     if !runner.taken {
         return;
     }
-    finish_at(memory, runner, q);
+    finish_at(memory, runner);
     give_back(entries, runner);
 }
 
 // Lays back what all have written, one after the other.
-fn lay_all(entries: &mut Slab<InstanceEntry>, memory: &mut Memory, runners: &mut [Runner], q: u64)
-    requires { (h : HostState) × (before : List (Option OneEntry)) × (s : Space) × (w : World)
-        × HaveRun h.modules q before s entries.old.slots memory.old runners.old
+fn lay_all(entries: &mut Slab<InstanceEntry>, memory: &mut Memory, runners: &mut [Runner])
+    requires { (h : HostState) × (q most : ℕ) × (before : List (Option OneEntry)) × (s : Space) × (w : World)
+        × HaveRun h.modules q most before s entries.old.slots memory.old runners.old
         × IsHost (host_with h before memory.old) w }
-    ensures turns { (h : HostState) (before : List (Option OneEntry)) (s : Space) (w : World)
-        → HaveRun h.modules q before s entries.old.slots memory.old runners.old
+    ensures turns { (h : HostState) (q most : ℕ) (before : List (Option OneEntry)) (s : Space) (w : World)
+        → HaveRun h.modules q most before s entries.old.slots memory.old runners.old
         → IsHost (host_with h before memory.old) w
-        → (w2 : World) × AllTurn q w runners.new w2
+        → (w2 : World) × AllTurn q most w runners.new w2
         × IsHost (host_with h entries.new.slots memory.new) w2 }
     ensures free { AllAreFree runners.new }
     ensures same { RunnersStay runners.old runners.new }
+    ensures answers { (k : ℕ) (y2 : OneRunner) → slice_get runners.new k ≡ Some y2
+        → (y : OneRunner) × (slice_get runners.old k ≡ Some y) × HasAnswer y y2 }
     ensures backing { KeepsBacking memory.old memory.new }
 {
     for at in 0..runners.len() {
-        lay_at(entries, memory, &mut runners[at], q);
+        lay_at(entries, memory, &mut runners[at]);
     }
 }
 
 impl Host {
-    /// Gives a turn to each instance that has a runner and computes, of at most `q` charges, all at once. It comes to their turns one
-    /// after the other, in the order of the runners.
-    pub fn turns_at_once<F: Fork>(&mut self, fork: &F, runners: &mut [Runner], q: u64)
-        requires { AllAreFree runners.old }
+    /// Gives a burst to each instance that has a runner and computes, all at once. It comes to their turns one after the other, in the
+    /// order of the runners: as many of each as its runner says, and of as many charges at most as the burst says.
+    pub fn turns_at_once<F: Fork>(&mut self, fork: &F, runners: &mut [Runner], burst: Burst)
+        requires can { F.can fork.now }
+        requires free { AllAreFree runners.old }
         ensures turns { (w : World) → IsHost self.old w
-            → (w2 : World) × AllTurn q w runners.new w2 × IsHost self.new w2 }
+            → (w2 : World) × AllTurn burst.entry.quantum (burst.entry.further + 1) w runners.new w2
+            × IsHost self.new w2 }
+        ensures all { (w : World) → IsHost self.old w → NoneIsLeftOut w runners.new }
         ensures free { AllAreFree runners.new }
         ensures same { RunnersStay runners.old runners.new }
         ensures backing { KeepsBacking self.old.space self.new.space }
@@ -132,9 +142,9 @@ impl Host {
         let round = Round {
             modules: &self.modules,
             memory: &self.memory,
-            q,
+            burst,
         };
         fork.run_all(&round, runners);
-        lay_all(&mut self.entries, &mut self.memory, runners, q);
+        lay_all(&mut self.entries, &mut self.memory, runners);
     }
 }

@@ -1,6 +1,6 @@
 //! Rounds: turns of several instances at once, each beside the others.
 
-ghost use Rattle.std.specs.Prelude.{◌≡◌, None, true, IfOk};
+ghost use Rattle.std.specs.Prelude.{◌≡◌, ◌+◌, None, true, IfOk};
 ghost use Rattle.wh_host.specs.Rounds.{AllMayRun, AllRun, IsFree, MayRun, RunsAt};
 
 use crate::beside::{RanBeside, run_beside};
@@ -8,11 +8,22 @@ use crate::host::module_at;
 use crate::parts::LoadedModule;
 use std::alloc::{AllocError, Global};
 use wh_host_model::{InstId, TurnEnd};
-use wh_instance::{HostInstance, TurnOutcome};
+use wh_instance::{Burst, HostInstance, TurnOutcome};
 use wh_overlay::Upper;
 use wh_space::Memory;
 
-/// A runner of a round: for which instance it is, what its turn was answered, and room for what that writes beside the memory.
+/// To what turns of an instance came, one after the other.
+#[derive(Clone, Copy, Debug, PartialEq, Eq)]
+pub struct SeriesEnd {
+    /// How many there were, 1 or more.
+    pub turns: u64,
+    /// How many charges they took in all.
+    pub charges: u64,
+    /// What the last was answered. Behind each other one the call could go on.
+    pub end: TurnEnd,
+}
+
+/// A runner of a round: for which instance it is, to what its turns came, and room for what they write beside the memory.
 #[derive(Drop)]
 pub struct Runner {
     // For which instance it is.
@@ -25,24 +36,28 @@ pub struct Runner {
     pub(crate) tenant: HostInstance,
     pub(crate) upper: Option<Upper>,
     pub(crate) ran: RanBeside,
-    // What the turn was answered, and of how many charges it was; none where there was none.
-    pub(crate) answer: Option<(TurnEnd, u64)>,
+    // To what its turns came; none where it had none.
+    pub(crate) answer: Option<SeriesEnd>,
 }
 
-/// All that runners read, at the same time: the modules and the memory of all. Each takes so many charges at most.
+/// All that runners read, at the same time: the modules and the memory of all; and for how long each runs.
 #[derive(Drop)]
 pub struct Round<'a> {
     pub(crate) modules: &'a Vec<LoadedModule>,
     pub(crate) memory: &'a Memory,
-    pub(crate) q: u64,
+    pub(crate) burst: Burst<'a>,
 }
 
 /// Runs the runners of a round, in whatever order or at once.
 pub trait Fork {
+    ghost can: { Self → Type 0 };
+
     /// Brings the instance of each runner on, as `Round::run` does.
     fn run_all(&self, round: &Round, runners: &mut [Runner])
-        requires { AllMayRun round.now.modules.now.items round.now.memory.now runners.old }
-        ensures { AllRun round.now.modules.now.items round.now.memory.now round.now.q runners.old runners.new };
+        requires can { Self.can self.now }
+        requires may { AllMayRun round.now.modules.now.items round.now.memory.now runners.old }
+        ensures { AllRun round.now.modules.now.items round.now.memory.now round.now.burst.quantum
+            (round.now.burst.further + 1) runners.old runners.new };
 }
 
 /// Runs them one after the other.
@@ -50,6 +65,10 @@ pub trait Fork {
 pub struct InOrder;
 
 impl Fork for InOrder {
+    ghost use Rattle.std.specs.Prelude.{⊤};
+
+    ghost can = { λ _. ⊤ };
+
     fn run_all(&self, round: &Round, runners: &mut [Runner]) {
         for at in 0..runners.len() {
             round.run(&mut runners[at]);
@@ -61,7 +80,8 @@ impl<'a> Round<'a> {
     /// Brings the instance of a runner on, if it has one, beside the others.
     pub fn run(&self, runner: &mut Runner)
         requires { runner.old.taken ≡ true → MayRun self.now.modules.now.items self.now.memory.now runner.old }
-        ensures { RunsAt self.now.modules.now.items self.now.memory.now self.now.q runner.old runner.new }
+        ensures { RunsAt self.now.modules.now.items self.now.memory.now self.now.burst.quantum
+            (self.now.burst.further + 1) runner.old runner.new }
     {
         if !runner.taken {
             return;
@@ -78,7 +98,7 @@ impl<'a> Round<'a> {
             self.memory,
             runner.id.place,
             runner.page_limit,
-            self.q,
+            self.burst,
             upper,
         );
         runner.ran = ran;
@@ -107,6 +127,7 @@ impl Runner {
                 came: TurnOutcome::Again,
                 pieces: 0,
                 charges: 0,
+                turns: 0,
             },
             answer: None,
         })
@@ -126,8 +147,8 @@ impl Runner {
         self.id = id;
     }
 
-    /// Returns what its turn was answered, and of how many charges it was; none where it had none.
-    pub fn answer(&self) -> Option<(TurnEnd, u64)>
+    /// Returns to what its turns came; none where it had none.
+    pub fn answer(&self) -> Option<SeriesEnd>
         ensures { result ≡ self.now.answer }
     {
         self.answer

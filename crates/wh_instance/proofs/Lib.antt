@@ -3,6 +3,7 @@ pub mod Named
 pub mod Cutting
 mod Written
 mod Coming
+mod BurstTurns
 mod Opened
 mod Beginnings
 mod Closing

@@ -1,6 +1,7 @@
 pub mod CallsByName
 pub mod Pieces
 pub mod Computed
+pub mod Bursts
 pub mod Turned
 pub mod Tenancy
 pub mod Advancing

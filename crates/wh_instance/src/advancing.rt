@@ -1,17 +1,20 @@
 //! A turn of the present call of an instance.
 
-ghost use Rattle.std.specs.Prelude.{◌≡◌, ◌≢◌, ◌∷◌, [], List, None, Some};
+ghost use Rattle.std.specs.Prelude.{◌≡◌, ◌≢◌, ◌+◌, ◌*◌, ◌≤◌, ◌∷◌, [], List, None, Some};
 ghost use Rattle.wh_journal.specs.Calls.{JournalCallState, HasPresent};
 ghost use Rattle.wh_machine.specs.CallStates.{setting_of};
 ghost use Rattle.wh_instance.specs.Pieces.{pieces_left};
 ghost use Rattle.wh_instance.specs.Advancing.{HasOpenCall, StaysBut, AdvancesAny, TurnsAny};
+ghost use Rattle.wh_instance.specs.Bursts.{AreUsed};
 ghost use Rattle.wh_instance.specs.declared.stages.CallStage.TheVariants as at;
 
+use crate::burst::{Burst, BurstEnd};
 use crate::computing::TurnOutcome;
 use crate::host_instance::HostInstance;
 use crate::stages::{CallStage, TurnResult};
 use crate::starting::turn_start;
 use crate::turning::{turn_first, turn_on};
+use std::sync::atomic::AtomicU64;
 use wh_imports::Linked;
 use wh_journal::JournalCall;
 use wh_linmem::LinearMem;
@@ -124,20 +127,22 @@ impl HostInstance {
         (came, charges)
     }
 
-    // A turn of q charges of a call that is under way: what came of it, and how many charges it took.
+    // A burst of a call that is under way.
     fn advance_on<M: LinearMem>(
         &mut self,
         linked: &Linked,
         memory: &mut M,
-        q: u64,
-    ) -> (TurnOutcome, u64)
+        burst: Burst,
+    ) -> BurstEnd
         requires call { HasOpenCall
             (setting_of linked.now M.bytes M.ready M.keeps (M.limit memory.old))
             self.old memory.old }
         requires under_way { self.old.progress ≡ at.UnderWay }
         ensures advances { AdvancesAny
             (setting_of linked.now M.bytes M.ready M.keeps (M.limit memory.old))
-            q self.old memory.old result.0 0 result.1 self.new memory.new }
+            (result.turns * burst.entry.quantum) self.old memory.old result.came 0 result.charges self.new memory.new }
+        ensures used { AreUsed burst.entry.quantum result.turns result.charges }
+        ensures few { result.turns ≤ burst.entry.further + 1 }
         ensures stays { StaysBut self.old self.new }
         ensures keeps { M.keeps memory.old memory.new }
     {
@@ -148,7 +153,7 @@ impl HostInstance {
             &mut self.store,
             &mut self.machine,
             memory,
-            q,
+            burst,
             charges,
             fuel,
         )
@@ -178,10 +183,49 @@ impl HostInstance {
                 (came, 0, charges)
             }
             CallStage::UnderWay => {
-                let (came, charges) = self.advance_on(linked, memory, q);
-                (came, 0, charges)
+                let nobody = AtomicU64::new(0);
+                let turn = Burst {
+                    quantum: q,
+                    further: 0,
+                    wanted: &nobody,
+                };
+                let ended = self.advance_on(linked, memory, turn);
+                (ended.came, 0, ended.charges)
             }
         }
+    }
+
+    /// Brings the present call on by a burst over its memory, or by its first turn alone where the call isn't under way yet: it comes so
+    /// far, with so many pieces written, as in one turn of as many charges as all its turns had. Its journal stays until that is
+    /// finished.
+    pub fn advance_burst<M: LinearMem>(
+        &mut self,
+        linked: &Linked,
+        memory: &mut M,
+        burst: Burst,
+    ) -> (BurstEnd, u64)
+        requires { HasOpenCall
+            (setting_of linked.now M.bytes M.ready M.keeps (M.limit memory.old))
+            self.old memory.old }
+        ensures advances { AdvancesAny
+            (setting_of linked.now M.bytes M.ready M.keeps (M.limit memory.old))
+            (result.0.turns * burst.entry.quantum) self.old memory.old result.0.came result.1 result.0.charges self.new
+            memory.new }
+        ensures used { AreUsed burst.entry.quantum result.0.turns result.0.charges }
+        ensures few { result.0.turns ≤ burst.entry.further + 1 }
+        ensures stays { StaysBut self.old self.new }
+        ensures keeps { M.keeps memory.old memory.new }
+    {
+        if let CallStage::UnderWay = self.progress {
+            return (self.advance_on(linked, memory, burst), 0);
+        }
+        let (came, pieces, charges) = self.advance(linked, memory, burst.quantum);
+        let ended = BurstEnd {
+            came,
+            charges,
+            turns: 1,
+        };
+        (ended, pieces)
     }
 
     /// Gives the instance a turn of q charges over its memory: its present call goes on, and no other is begun. Its journal

@@ -8,6 +8,7 @@
 mod advancing;
 mod asking;
 mod beginning;
+mod burst;
 mod computing;
 mod error;
 mod exports;
@@ -23,6 +24,7 @@ mod telling;
 mod turning;
 mod writing;
 
+pub use burst::{Burst, BurstEnd, compute_burst};
 pub use computing::{TurnOutcome, compute};
 pub use error::InvokeError;
 pub use exports::own_export;

@@ -1,29 +1,31 @@
 //! Turns of the present call of an instance.
 
-ghost use Rattle.std.specs.Prelude.{◌≡◌, ◌≤◌, []};
+ghost use Rattle.std.specs.Prelude.{◌≡◌, ◌+◌, ◌*◌, ◌≤◌, []};
 ghost use Rattle.wh_model.specs.Execution.Configuration.{Term};
 ghost use Rattle.wh_model.specs.Execution.Replay.{Call};
 ghost use Rattle.wh_model.specs.Execution.Store.{Instance};
 ghost use Rattle.wh_host_model.specs.Host.Worlds.{Rest, computing};
 ghost use Rattle.wh_machine.specs.CallStates.{setting_of, call_state};
+ghost use Rattle.wh_instance.specs.Bursts.{AreUsed};
 ghost use Rattle.wh_instance.specs.Turned.{IsFaced, IsComputing, Turns};
 
+use crate::burst::{Burst, BurstEnd, compute_burst};
 use crate::computing::{TurnOutcome, compute};
 use wh_imports::Linked;
 use wh_linmem::LinearMem;
 use wh_machine::{Machine, Store, begin};
 
-/// Gives a call that is under way a turn of q charges, of which it has taken so many and was given so much fuel: what came
-/// of it, and how many more were taken.
+/// Gives a call that is under way a burst, of which it has taken so many charges and was given so much fuel: it comes to what it comes
+/// to in a turn of as many charges as the parts had that were begun.
 pub fn turn_on<M: LinearMem>(
     linked: &Linked,
     store: &mut Store,
     machine: &mut Machine,
     memory: &mut M,
-    q: u64,
+    burst: Burst,
     charges: u64,
     fuel: u64,
-) -> (TurnOutcome, u64)
+) -> BurstEnd
     requires computing { (inst : Instance) × (call : Call) × (r : Rest) × (t : Term) × IsComputing
         (setting_of linked.now M.bytes M.ready M.keeps (M.limit memory.old))
         (call_state machine.old store.old memory.old)
@@ -35,11 +37,13 @@ pub fn turn_on<M: LinearMem>(
         (call_state machine.old store.old memory.old)
         inst call r t → Turns
         (setting_of linked.now M.bytes M.ready M.keeps (M.limit memory.old))
-        inst q call memory.old r (computing t) result.0 0 result.1
+        inst (result.turns * burst.entry.quantum) call memory.old r (computing t) result.came 0 result.charges
         (call_state machine.new store.new memory.new) [] }
+    ensures used { AreUsed burst.entry.quantum result.turns result.charges }
+    ensures few { result.turns ≤ burst.entry.further + 1 }
     ensures keeps { M.keeps memory.old memory.new }
 {
-    compute(linked, store, machine, memory, q, fuel - charges)
+    compute_burst(linked, store, machine, memory, burst, fuel - charges)
 }
 
 /// Begins a call of the function of this index with these words as arguments, and gives it a turn of q charges, where it

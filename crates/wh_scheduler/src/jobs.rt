@@ -1,8 +1,8 @@
 //! What the threads of a cell do: turns, offers, provisions; and who dispatches the turns.
 
-ghost use Rattle.std.specs.Prelude.{◌≡◌, ◌+◌, ◌-◌, ◌^◌, ◌<◌};
+ghost use Rattle.std.specs.Prelude.{◌≡◌, ◌+◌, ◌^◌, ◌<◌};
 
-use crate::run_queue::{Choice, RunQueue, Waiter};
+use crate::run_queue::{Choice, RunQueue, Series, Waiter};
 use crate::spin_backoff::SpinBackoff;
 use crate::turn_lock::TurnLock;
 use std::alloc::{AllocError, Global};
@@ -16,7 +16,7 @@ use wh_host::Sample;
 use wh_host_model::{InstId, TurnEnd};
 use wh_kernels::PageHash;
 use wh_swap::SwapDev;
-use wh_threads::{Help, HelpOutcome, Helper, ReceivedTurn, Turns, Worker};
+use wh_threads::{Help, HelpOutcome, Helper, ReceivedTurns, Turns, Worker};
 use wh_workers::{Next, Supply};
 
 // For how many turns that are dispatched the scanner offers a page: more often than it has to. It is started behind as many.
@@ -24,6 +24,12 @@ const TURNS_FOR_AN_OFFER: u64 = 32;
 
 // For how many turns a worker receives turns while another one waits to do so.
 const MOST_TURNS_HELD: u64 = 1024;
+
+// So many turns a series has at most.
+const MOST_TURNS_IN_A_SERIES: u32 = 256;
+
+// So often a worker in the midst of a series, which has released the host's lock, looks whether who wants it has it now.
+const LOOKS_WHILE_WANTED: u32 = 16;
 
 // So long who dispatches turns sleeps at most, in seconds, though nobody rings.
 const LONGEST_SLEEP_SECONDS: u64 = 1;
@@ -41,6 +47,9 @@ pub struct Schedule {
     pub offer_owed: Condvar,
     /// Which worker receives turns.
     pub turn_lock: TurnLock,
+    /// How many want the host's lock, or call its device, beside the workers. While there are some, a worker releases the lock
+    /// after each turn of a series.
+    pub wanted: AtomicU64,
 }
 
 impl Drop for Schedule {
@@ -51,8 +60,41 @@ impl Drop for Schedule {
             frame_wanted: _,
             offer_owed: _,
             turn_lock: _,
+            wanted: _,
         } = self;
     }
+}
+
+// How a series ended.
+#[derive(Clone, Copy)]
+struct SeriesEnd {
+    // How its last turn ended.
+    last: TurnEnd,
+    // Whether each of its turns found something to do.
+    is_of_use: bool,
+}
+
+// Whether a turn that ended so found something to do.
+fn has_done(end: TurnEnd) -> bool {
+    end == TurnEnd::Again || end == TurnEnd::Ended
+}
+
+// How many turns the next series of an instance has, of which the last one had so many and ended so: twice as many where its call
+// goes on and none was in vain. So a call is never followed by more turns in vain than it had turns.
+fn next_count(count: u32, end: SeriesEnd) -> u32 {
+    if end.last == TurnEnd::Again && end.is_of_use {
+        return count.saturating_mul(2).min(MOST_TURNS_IN_A_SERIES);
+    }
+    1
+}
+
+// How many turns these are.
+fn turns_in_all(list: &[Series]) -> u64 {
+    let mut turns: u64 = 0;
+    for series in list {
+        turns = turns.wrapping_add(u64::from(series.count));
+    }
+    turns
 }
 
 impl Schedule {
@@ -67,13 +109,39 @@ impl Schedule {
             frame_wanted: Condvar::new(),
             offer_owed: Condvar::new(),
             turn_lock: TurnLock::new(alloc, workers)?,
+            wanted: AtomicU64::new(0),
         })
     }
 
-    // A turn has come back, which ended so. Who dispatches turns isn't woken for each: it may sleep until half of those that
-    // are out are due again.
-    fn complete_turn<R: Wait>(&self, rt: &R, instance: InstId, end: TurnEnd) {
-        let (was_ready, has_to_rescan) = self.note_end(rt, instance, end);
+    // The host's lock, or its device, is wanted.
+    fn begin_wanting(&self) {
+        let _ = self.wanted.fetch_add(1, Ordering::SeqCst);
+    }
+
+    // It is wanted no more by who wanted it.
+    fn end_wanting(&self) {
+        let _ = self.wanted.fetch_sub(1, Ordering::SeqCst);
+    }
+
+    // Whether somebody wants it.
+    fn is_wanted(&self) -> bool {
+        self.wanted.load(Ordering::SeqCst) > 0
+    }
+
+    // Who wants the host's lock, which is free, has some time to get it.
+    fn pause_while_wanted(&self) {
+        for _ in 0..LOOKS_WHILE_WANTED {
+            if !self.is_wanted() {
+                return;
+            }
+            hint::spin_loop();
+        }
+    }
+
+    // A series has come back, whose last turn ended so; the next one of its instance would be this. Who dispatches turns isn't
+    // woken for each: it may sleep until half of those that are out are due again.
+    fn complete_series<R: Wait>(&self, rt: &R, next: Series, end: TurnEnd) {
+        let (was_ready, has_to_rescan) = self.note_end(rt, next, end);
         if has_to_rescan {
             self.turn_completed.notify_all();
         }
@@ -82,17 +150,17 @@ impl Schedule {
         }
     }
 
-    // The next turn of the instance is due where its call goes on, and else none is out any more. Whether its step was the one
+    // The next series of the instance is due where its call goes on, and else none is out any more. Whether its step was the one
     // that was made ready, and whether who dispatches turns has to look.
-    fn note_end<R: Wait>(&self, rt: &R, instance: InstId, end: TurnEnd) -> (bool, bool) {
+    fn note_end<R: Wait>(&self, rt: &R, next: Series, end: TurnEnd) -> (bool, bool) {
         let mut run_queue = self.run_queue.lock(rt);
-        let was_ready = run_queue.ready == Some(instance);
+        let was_ready = run_queue.ready == Some(next.id);
         if end == TurnEnd::Again {
-            if let Ok(has_to_rescan) = run_queue.requeue(instance) {
+            if let Ok(has_to_rescan) = run_queue.requeue(next) {
                 return (was_ready, has_to_rescan);
             }
         }
-        run_queue.complete(instance);
+        run_queue.complete(next.id);
         (was_ready, true)
     }
 
@@ -103,13 +171,14 @@ impl Schedule {
     }
 }
 
-/// Runs a worker's turns: takes the lock for each, and then completes it.
+/// Runs a worker's turns: those of a series under one hold of the lock, unless somebody wants that, and then completes it.
 pub struct TurnJob<D: SwapDev, T: Ledger, C: Ledger, O: Ledger, E: Ledger, B: CellAgreements> {
     /// The cell.
     pub cell: HostCell<D, T, C, O, E, B>,
     /// Whose turns are dispatched.
     pub schedule: Arc<Schedule, Global>,
-    /// How many turns it has awaited while it holds the turn lock; 0 where it doesn't.
+    /// How many turns it has received while it holds the turn lock, and one more where it awaits a series; 0 where it doesn't hold
+    /// it.
     pub turns_held: AtomicU64,
 }
 
@@ -132,14 +201,78 @@ impl<D: SwapDev + Drop, T: Ledger, C: Ledger, O: Ledger, E: Ledger, B: CellAgree
     E,
     B,
 > {
-    // The turn, under the lock.
-    fn take_turn<R: Wait>(&self, rt: &R, order: ReceivedTurn, worker: &mut Worker<T, C>) -> TurnEnd
-        requires room { worker.old.tally.turns < 2 ^ 64 - 1 }
+    // Runs these turns under one hold of the lock, one at least, until all are run or somebody wants the lock.
+    fn hold<R: Wait>(
+        &self,
+        rt: &R,
+        order: &mut ReceivedTurns,
+        worker: &mut Worker<T, C>,
+    ) -> SeriesEnd
+        requires room { worker.old.tally.turns + order.old.count < 2 ^ 64 }
+        requires due { 0 < order.old.count }
         ensures from { worker.new.from ≡ worker.old.from }
-        ensures turns { worker.new.tally.turns ≡ worker.old.tally.turns + 1 }
+        ensures turns { worker.new.tally.turns + order.new.count
+            ≡ worker.old.tally.turns + order.old.count }
+        ensures fewer { order.new.count < order.old.count }
     {
         let mut locked = self.cell.lock(rt);
-        locked.turn(order, worker)
+        let mut last = locked.turn(order, worker);
+        let mut is_of_use = has_done(last);
+        while order.count() > 0 && !self.schedule.is_wanted() {
+            last = locked.turn(order, worker);
+            is_of_use = is_of_use && has_done(last);
+        }
+        SeriesEnd { last, is_of_use }
+    }
+
+    // Runs all of these turns. While somebody wants the lock, it is released after each.
+    fn run_series<R: Wait>(
+        &self,
+        rt: &R,
+        order: ReceivedTurns,
+        worker: &mut Worker<T, C>,
+    ) -> SeriesEnd
+        requires room { worker.old.tally.turns + order.count < 2 ^ 64 }
+        ensures from { worker.new.from ≡ worker.old.from }
+        ensures turns { worker.new.tally.turns ≡ worker.old.tally.turns + order.count }
+    {
+        let mut order = order;
+        let mut end = SeriesEnd {
+            last: TurnEnd::Idle,
+            is_of_use: true,
+        };
+        while order.count() > 0 {
+            let held = self.hold(rt, &mut order, worker);
+            end = SeriesEnd {
+                last: held.last,
+                is_of_use: end.is_of_use && held.is_of_use,
+            };
+            if order.count() > 0 {
+                self.schedule.pause_while_wanted();
+            }
+        }
+        order.finish();
+        end
+    }
+
+    // Runs a series that was received, and notes that it has come back.
+    fn run<R: Wait>(&self, rt: &R, order: ReceivedTurns, worker: &mut Worker<T, C>)
+        requires room { worker.old.tally.turns + order.count < 2 ^ 64 }
+        ensures from { worker.new.from ≡ worker.old.from }
+        ensures turns { worker.new.tally.turns ≡ worker.old.tally.turns + order.count }
+    {
+        self.schedule.turn_lock.receive();
+        let (id, count) = (order.instance(), order.count());
+        if count > 1 {
+            let further = u64::from(count - 1);
+            let _ = self.turns_held.fetch_add(further, Ordering::SeqCst);
+        }
+        let end = self.run_series(rt, order, worker);
+        let next = Series {
+            id,
+            count: next_count(count, end),
+        };
+        self.schedule.complete_series(rt, next, end.last);
     }
 }
 
@@ -150,7 +283,7 @@ impl<D: SwapDev + Drop, T: Ledger, C: Ledger, O: Ledger, E: Ledger, B: CellAgree
         let turn_lock = &self.schedule.turn_lock;
         if turns > 0 {
             if turns < MOST_TURNS_HELD || !turn_lock.is_wanted() {
-                turn_lock.look_for_turn();
+                turn_lock.look_for_message();
                 return;
             }
             turn_lock.leave();
@@ -166,11 +299,14 @@ impl<D: SwapDev + Drop, T: Ledger, C: Ledger, O: Ledger, E: Ledger, B: CellAgree
         }
     }
 
-    fn run<R: Wait>(&self, rt: &R, order: ReceivedTurn, worker: &mut Worker<T, C>) {
-        self.schedule.turn_lock.receive();
-        let instance = order.instance();
-        let end = self.take_turn(rt, order, worker);
-        self.schedule.complete_turn(rt, instance, end);
+    fn most_at_once(&self) -> usize {
+        1
+    }
+
+    fn run_all<R: Wait>(&self, rt: &R, orders: &mut Vec<ReceivedTurns>, worker: &mut Worker<T, C>) {
+        while let Some(order) = orders.pop() {
+            self.run(rt, order, worker);
+        }
     }
 
     fn share(&self) -> Result<Self, AllocError> {
@@ -228,7 +364,9 @@ impl<
 > ScanJob<D, T, C, O, E, B, H> {
     // A page of an instance, as it is now.
     fn look_at<R: Wait>(&self, rt: &R, id: InstId, round: u64) -> (u32, Option<Sample>) {
+        self.schedule.begin_wanting();
         let locked = self.cell.lock(rt);
+        self.schedule.end_wanting();
         let page = page_in_round(round, locked.host().size_at(id.place));
         (page, locked.host().sample(id, page))
     }
@@ -271,7 +409,9 @@ impl<
         let Some((id, page, hash)) = self.next_page(rt, helper.count()) else {
             return HelpOutcome::Ended;
         };
+        self.schedule.begin_wanting();
         let mut locked = self.cell.lock(rt);
+        self.schedule.end_wanting();
         match locked.offer(&self.hasher, id, page, hash, helper) {
             Some(_) => HelpOutcome::Did,
             None => HelpOutcome::Ended,
@@ -324,7 +464,9 @@ impl<D: SwapDev + Drop, T: Ledger, C: Ledger, O: Ledger, E: Ledger, B: CellAgree
 > {
     // Whose step is made ready now, if one waits.
     fn next_waiter<R: Wait>(&self, rt: &R) -> Option<Waiter> {
+        self.schedule.begin_wanting();
         let locked = self.cell.lock(rt);
+        self.schedule.end_wanting();
         let mut run_queue = self.schedule.run_queue.lock(rt);
         run_queue.next_waiter(locked.host())
     }
@@ -342,9 +484,11 @@ impl<D: SwapDev + Drop, T: Ledger, C: Ledger, O: Ledger, E: Ledger, B: CellAgree
         let Some(waiter) = self.next_waiter(rt) else {
             return HelpOutcome::Waits;
         };
+        self.schedule.begin_wanting();
         let moved = self
             .cell
             .bring_nearer(rt, waiter.id, waiter.at_once, helper);
+        self.schedule.end_wanting();
         if self.note(rt, waiter.id, moved) {
             self.schedule.turn_completed.notify_all();
         }
@@ -368,8 +512,8 @@ pub struct TurnSupply<D: SwapDev, T: Ledger, C: Ledger, O: Ledger, E: Ledger, B:
     pub cell: HostCell<D, T, C, O, E, B>,
     /// Whose turns are dispatched.
     pub schedule: Arc<Schedule, Global>,
-    /// Whose turns come next.
-    pub queued: Vec<InstId>,
+    /// Which series come next.
+    pub queued: Vec<Series>,
     /// How many of these were dispatched.
     pub dispatched: usize,
     /// How long it spins for a completed turn before it sleeps.
@@ -397,17 +541,17 @@ impl<D: SwapDev + Drop, T: Ledger, C: Ledger, O: Ledger, E: Ledger, B: CellAgree
     E,
     B,
 > {
-    // The next one of those whose turns it has.
-    fn next_queued(&mut self) -> Option<InstId> {
+    // The next one of the series that it has.
+    fn next_queued(&mut self) -> Option<Series> {
         if self.dispatched >= self.queued.len() {
             return None;
         }
-        let id = self.queued[self.dispatched];
+        let series = self.queued[self.dispatched];
         self.dispatched += 1;
-        Some(id)
+        Some(series)
     }
 
-    // Takes the turns that are due. Whether the host has to be looked at beside.
+    // Takes the series that are due. Whether the host has to be looked at beside.
     fn take_queued<R: Wait>(&mut self, rt: &R) -> bool {
         self.queued.clear();
         self.dispatched = 0;
@@ -416,17 +560,19 @@ impl<D: SwapDev + Drop, T: Ledger, C: Ledger, O: Ledger, E: Ledger, B: CellAgree
         run_queue.needs_rescan
     }
 
-    // Chooses the turns of all that can go on and have none out. What comes then: `Rest` where none can go on any more, and no
+    // Chooses a turn of each that can go on and has none out. What comes then: `Rest` where none can go on any more, and no
     // turn is out.
     fn choose_all<R: Wait>(&mut self, rt: &R) -> Choice {
+        self.schedule.begin_wanting();
         let locked = self.cell.lock(rt);
+        self.schedule.end_wanting();
         let mut run_queue = self.schedule.run_queue.lock(rt);
         for _ in rt.forever() {
             let choice = run_queue.choose(locked.host());
             let Choice::Turn(id) = choice else {
                 return choice;
             };
-            if self.queued.push(id).is_err() {
+            if self.queued.push(Series { id, count: 1 }).is_err() {
                 run_queue.complete(id);
                 return Choice::Wait;
             }
@@ -444,7 +590,7 @@ impl<D: SwapDev + Drop, T: Ledger, C: Ledger, O: Ledger, E: Ledger, B: CellAgree
         }
     }
 
-    // Takes whatever turns there are now. What comes behind them, as far as the host was looked at: else `Wait`.
+    // Takes whatever series there are now. What comes behind them, as far as the host was looked at: else `Wait`.
     fn refill<R: Wait>(&mut self, rt: &R) -> Choice {
         let needs_rescan = self.take_queued(rt);
         let then = if needs_rescan {
@@ -452,7 +598,7 @@ impl<D: SwapDev + Drop, T: Ledger, C: Ledger, O: Ledger, E: Ledger, B: CellAgree
         } else {
             Choice::Wait
         };
-        self.count_turns(rt, self.queued.len() as u64);
+        self.count_turns(rt, turns_in_all(&self.queued));
         then
     }
 
@@ -475,9 +621,9 @@ impl<D: SwapDev + Drop, T: Ledger, C: Ledger, O: Ledger, E: Ledger, B: CellAgree
     for TurnSupply<D, T, C, O, E, B> {
     fn next<R: Wait>(&mut self, rt: &R, has_reclaimer: bool) -> Next {
         for _ in rt.forever() {
-            if let Some(id) = self.next_queued() {
+            if let Some(Series { id, count }) = self.next_queued() {
                 self.schedule.turn_lock.dispatch();
-                return Next::Turn(id);
+                return Next::Turns(id, count);
             }
             // While the calling thread runs the turns none is out here: one is due, a step waits for a frame, or none can go on.
             // So nobody is waited for.

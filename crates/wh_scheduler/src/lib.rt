@@ -12,7 +12,7 @@ mod turn_lock;
 
 pub use jobs::{ReclaimJob, ScanJob, Schedule, TurnJob, TurnSupply};
 pub use owned::OwnedHost;
-pub use run_queue::{Choice, QueueEntry, RunQueue};
+pub use run_queue::{Choice, QueueEntry, RunQueue, Series};
 pub use serving::{RunConfig, run_calls};
 pub use spin_backoff::SpinBackoff;
 pub use turn_lock::TurnLock;

@@ -23,6 +23,15 @@ pub struct QueueEntry {
     pub is_dispatched: bool,
 }
 
+/// The next turns of an instance, which it has one after the other.
+#[derive(Clone, Copy, Debug, PartialEq, Eq)]
+pub struct Series {
+    /// Whose they are.
+    pub id: InstId,
+    /// How many.
+    pub count: u32,
+}
+
 /// What comes next.
 #[derive(Clone, Copy, Debug, PartialEq, Eq)]
 pub enum Choice {
@@ -64,7 +73,7 @@ pub struct Waiter {
 /// Queues the instances whose calls are run: which of them have a dispatched turn, and whose step is ready and waits for its
 /// turn.
 ///
-/// A completed turn of a call that goes on counts as dispatched: the next one of that instance is queued, and dispatched
+/// An instance whose series came back, and whose call goes on, still has its turn out: its next series is queued, and dispatched
 /// without a look at the host.
 pub struct RunQueue {
     /// The instances, in the order in which they are looked at.
@@ -73,11 +82,11 @@ pub struct RunQueue {
     pub ready: Option<InstId>,
     /// How many turns were dispatched.
     pub turns: u64,
-    /// Whose next turn is queued, in the order in which their last ones completed.
-    pub queued: Vec<InstId>,
+    /// The next series that are queued, in the order in which their instances' last ones completed.
+    pub queued: Vec<Series>,
     /// Whether the host has to be looked at: one that has no turn may go on, or none may any more.
     pub needs_rescan: bool,
-    // How many turns are out, those that are due among them.
+    // How many instances have their turn out, those that are queued among them.
     dispatched: usize,
     // Whose step is made ready, page by page.
     served: Option<InstId>,
@@ -244,24 +253,25 @@ impl RunQueue {
         }
     }
 
-    /// Completes the turn of `id`, whose call goes on, and queues its next. Returns whether at least half of the turns that are
-    /// dispatched are queued.
+    /// Completes the turns of an instance whose call goes on, and queues its next series. Returns whether at least half of those
+    /// instances that have their turn out are queued.
     ///
     /// # Errors
     /// Where there was no room: nothing has changed. There is room for all instances.
-    pub fn requeue(&mut self, id: InstId) -> Result<bool, AllocError>
+    pub fn requeue(&mut self, series: Series) -> Result<bool, AllocError>
         ensures entries { self.new.entries ≡ self.old.entries }
-        ensures queued { IfOk result (λ _. self.new.queued.items ≡ self.old.queued.items ++ id ∷ []) }
+        ensures queued { IfOk result (λ _.
+            self.new.queued.items ≡ self.old.queued.items ++ series ∷ []) }
     {
-        self.queued.push(id)?;
-        if self.ready == Some(id) {
+        self.queued.push(series)?;
+        if self.ready == Some(series.id) {
             self.ready = None;
         }
         Ok(self.queued.len() >= self.dispatched.saturating_sub(self.queued.len()))
     }
 
-    /// Swaps the queued turns with `list`.
-    pub fn take_queued(&mut self, list: &mut Vec<InstId>)
+    /// Swaps the queued series with `list`.
+    pub fn take_queued(&mut self, list: &mut Vec<Series>)
         ensures queued { (self.new.queued ≡ list.old) × (list.new ≡ self.old.queued) }
         ensures entries { self.new.entries ≡ self.old.entries }
     {

@@ -18,11 +18,11 @@ pub struct TurnLock {
     asked: AtomicU64,
     // How many have left it, modulo 2^64: the number of who has it.
     left: AtomicU64,
-    // How many turns were dispatched, modulo 2^64.
+    // How many messages were dispatched, each of which is a series of turns, modulo 2^64.
     dispatched: AtomicU64,
     // How many of these were received, modulo 2^64.
     received: AtomicU64,
-    // How long the worker that holds the turn lock looks for a turn before it sleeps.
+    // How long the worker that holds the turn lock looks for a message before it sleeps.
     spin_backoff: SpinBackoff,
     // As many as there are workers: who waits sleeps on the one at its number modulo their count, where no other one waits.
     bells: Vec<Condvar>,
@@ -86,19 +86,19 @@ impl TurnLock {
         }
     }
 
-    /// Counts a turn to be dispatched.
+    /// Counts a message to be dispatched.
     pub fn dispatch(&self) {
         let _ = self.dispatched.fetch_add(1, Ordering::SeqCst);
     }
 
-    /// Counts a turn received by its holder.
+    /// Counts a message received by its holder.
     pub fn receive(&self) {
         let _ = self.received.fetch_add(1, Ordering::SeqCst);
     }
 
-    /// Spins for some microseconds for a turn that was dispatched and not received. Whoever then receives finds it without
+    /// Spins for some microseconds for a message that was dispatched and not received. Whoever then receives finds it without
     /// having to sleep.
-    pub fn look_for_turn(&self) {
+    pub fn look_for_message(&self) {
         let received = self.received.load(Ordering::SeqCst);
         for _ in 0..self.spin_backoff.looks() {
             if self.dispatched.load(Ordering::SeqCst) != received {

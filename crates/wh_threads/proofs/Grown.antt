@@ -4,7 +4,7 @@ use Rattle.std.proofs.lemmas.List.{set-get_or}
 use Rattle.std.proofs.lemmas.List.Sums.{sum_by-append}
 use Rattle.std.proofs.lemmas.Option.{get_or_from_slice_get}
 use Rattle.wh_threads.specs.Counting.{LenderState, turns_of}
-use Rattle.wh_threads.specs.Handover.{is_turn, turns_in}
+use Rattle.wh_threads.specs.Handover.{message_turns, turns_in}
 use Rattle.wh_threads.specs.declared.channel.Message.{Message}
 use Rattle.wh_threads.specs.declared.tally.Tally.{Tally}
 use Rattle.wh_threads.proofs.Tallies.{turns_seat}
@@ -19,7 +19,7 @@ worker_grew was now seat from tally had got all at set ran is = omega (
   ap turns_in is,
   ran,
   turns_seat was seat from tally at,
-  sum_by-append is_turn had got,
+  sum_by-append message_turns had got,
 )
 
 -- the same for a worker that went on from messages which it had received already

@@ -7,11 +7,15 @@ pub record WorkerState : Type 0 where
   pub from : Tally
   pub tally : Tally
 
--- it has run one turn more, which took so many charges
-pub record RanTurn (old : WorkerState) (taken : ℕ) (new : WorkerState) : Type 0 where
+-- it has run so many turns more, which took so many charges
+pub record RanTurns (old : WorkerState) (turns taken : ℕ) (new : WorkerState) : Type 0 where
   pub from : new.from ≡ old.from
-  pub turns : new.tally.turns ≡ old.tally.turns + 1
+  pub turns_are : new.tally.turns ≡ old.tally.turns + turns
   pub charges : new.tally.charges ≡ old.tally.charges + taken
+
+-- one turn more
+abbrev pub RanTurn : WorkerState → ℕ → WorkerState → Type 0
+RanTurn old taken new = RanTurns old 1 taken new
 
 -- the count of a scanner or of a reclaimer: with which it began, and which it has now
 pub record HelperState : Type 0 where

@@ -1,11 +1,10 @@
 -- What was dispatched is what was received and what the channel holds.
 use Rattle.std.specs.Prelude.{◌≡◌, ℕ, ◌+◌, List, [], sum_by, ⊤}
-use Rattle.std.specs.List.{AllByRecursion, filter_map, range_with_len}
-use Rattle.std.specs.Prelude.{Option, Some, None}
+use Rattle.std.specs.List.{AllByRecursion, flat_map, range_with_len}
 use mathlib.Core.Option.{some}
 use lib.ListN.{get_elem?}
 use Rattle.wh_threads.specs.declared.channel.Message.{Message}
-use Rattle.wh_threads.specs.declared.channel.Message.TheVariants.{Turn, Last}
+use Rattle.wh_threads.specs.declared.channel.Message.TheVariants.{Turns, Last}
 use Rattle.wh_threads.specs.declared.channel.Traffic.{Traffic}
 
 abbrev pub traffic : ℕ → List Message → List Message → Traffic
@@ -33,30 +32,30 @@ Balanced held views =
 abbrev pub SameMessages : List Message → List Message → Type 0
 SameMessages sent received = (weight : Message → ℕ) → sum_by weight sent ≡ sum_by weight received
 
--- the number of a turn
-abbrev pub turn_number : Message → Option ℕ
-turn_number (Turn number instance quantum) = Some number
-turn_number Last = None
+-- the numbers of the turns of a message, in order
+abbrev pub turn_numbers : Message → List ℕ
+turn_numbers (Turns first count instance quantum) = range_with_len first count
+turn_numbers Last = []
 
--- 1 for a turn
-abbrev pub is_turn : Message → ℕ
-is_turn (Turn number instance quantum) = 1
-is_turn Last = 0
+-- how many turns a message is
+abbrev pub message_turns : Message → ℕ
+message_turns (Turns first count instance quantum) = count
+message_turns Last = 0
 
--- how many of the messages are turns
+-- how many turns the messages are
 abbrev pub turns_in : List Message → ℕ
-turns_in messages = sum_by is_turn messages
+turns_in messages = sum_by message_turns messages
 
 -- the turns are numbered from 0 on, in order
 abbrev pub AreNumbered : List Message → Type 0
-AreNumbered messages = filter_map turn_number messages ≡ range_with_len 0 (turns_in messages)
+AreNumbered messages = flat_map turn_numbers messages ≡ range_with_len 0 (turns_in messages)
 
--- a turn has so many charges at most
+-- each turn of a message has so many charges at most
 abbrev pub HasQuantum : ℕ → Message → Type 0
-HasQuantum q (Turn number instance quantum) = quantum ≡ q
+HasQuantum q (Turns first count instance quantum) = quantum ≡ q
 HasQuantum q Last = ⊤
 
--- each turn among them has
+-- each turn of each message has
 abbrev pub HaveQuantum : ℕ → List Message → Type 0
 HaveQuantum q messages = AllByRecursion (HasQuantum q) messages
 
@@ -65,7 +64,7 @@ pub record DispatchesLast (old new : Traffic) : Type 0 where
   pub parts : new.parts ≡ old.parts
   pub received : new.received ≡ old.received
   pub turns : turns_in new.sent ≡ turns_in old.sent
-  pub numbers : filter_map turn_number new.sent ≡ filter_map turn_number old.sent
+  pub numbers : flat_map turn_numbers new.sent ≡ flat_map turn_numbers old.sent
   pub quanta : (q : ℕ) → HaveQuantum q old.sent → HaveQuantum q new.sent
 
 -- through a slip that had dispatched nothing, turns of q charges were dispatched, so many and numbered, and nothing was

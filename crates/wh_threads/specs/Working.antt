@@ -1,5 +1,5 @@
 -- What a worker's thread has done.
-use Rattle.std.specs.Prelude.{◌≡◌, ◌+◌, ℕ, []}
+use Rattle.std.specs.Prelude.{◌≡◌, ◌+◌, ℕ, List, [], sum_by}
 use Rattle.atomic_table.specs.declared.badge.Badge.{Badge}
 use Rattle.crossbeam_channel.specs.declared.flavors.array.Key.{Key}
 use Rattle.crossbeam_channel.specs.declared.flavors.array.Doing.{Doing}
@@ -12,10 +12,15 @@ use Rattle.wh_threads.specs.declared.tally.Tally.{Tally}
 use Rattle.wh_threads.specs.Counting.{WorkerState}
 use Rattle.wh_threads.specs.Handover.{traffic, turns_in}
 
--- a turn that was received: whose it is, and how many charges it has at most
-pub record ReceivedTurnState : Type 0 where
+-- turns that were received: whose they are, how many are still to be run, and how many charges each has at most
+pub record ReceivedTurnsState : Type 0 where
   pub instance : InstId
+  pub count : ℕ
   pub quantum : ℕ
+
+-- how many turns are still to be run of these
+abbrev pub turns_due : List ReceivedTurnsState → ℕ
+turns_due orders = sum_by (λ o. o.count) orders
 
 -- what a worker's thread returns
 pub record WorkerResultState : Type 0 where
@@ -23,7 +28,7 @@ pub record WorkerResultState : Type 0 where
   pub slip : Pass Message Traffic
 
 module _ {Q M L A : Type 0} (ring : Rows (Badge (Key Message)) (Doing Message Traffic) Q M (Key Message) L A) where
-  -- through its slip of the channel it received messages alone, and it ran a turn for each that is one
+  -- through its slip of the channel it received messages alone, and it ran as many turns as these are
   pub record HasWorked (begun : Tally) (worker : WorkerState) (slip : Pass Message Traffic) : Type 0 where
     pub channel : IsSeatAt ring slip
     pub received : view slip ≡ traffic 1 [] (view slip).received

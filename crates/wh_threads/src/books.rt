@@ -1,13 +1,13 @@
 // How much was counted of each kind.
 
-ghost use Rattle.std.specs.Prelude.{◌≡◌, ◌+◌, ◌-◌, ◌^◌, ◌<◌, IfOk};
+ghost use Rattle.std.specs.Prelude.{◌≡◌, ◌+◌, ◌-◌, ◌*◌, ◌≤◌, ◌^◌, ◌<◌, IfOk};
 ghost use Rattle.wh_threads.specs.Blanks.{IsBlankOf};
-ghost use Rattle.wh_threads.specs.Counting.{RanTurn, IsZero, turns_of, charges_of};
+ghost use Rattle.wh_threads.specs.Counting.{RanTurn, RanTurns, IsZero, turns_of, charges_of};
 
 use crate::count::Count;
 use crate::helper::Helper;
 use crate::lender::Lender;
-use crate::received_turn::ReceivedTurn;
+use crate::received_turns::ReceivedTurns;
 use crate::shares::Shares;
 use crate::tally::Tally;
 use crate::worker::Worker;
@@ -79,17 +79,40 @@ impl<T: Ledger, C: Ledger, O: Ledger, E: Ledger> Books<T, C, O, E> {
         Ok((books, Shares { all }))
     }
 
-    /// The turn of this order is counted, which took so many charges: the order is spent.
-    pub fn turn(&mut self, worker: &mut Worker<T, C>, order: ReceivedTurn, taken: u32)
+    /// Counts one turn of these, which took so many charges: one less is to be run.
+    pub fn turn(&mut self, worker: &mut Worker<T, C>, order: &mut ReceivedTurns, taken: u32)
         requires room { worker.old.tally.turns < 2 ^ 64 - 1 }
+        requires due { 0 < order.old.count }
+        ensures order { order.new ≡ record order.old { count = order.old.count - 1 } }
         ensures books { self.new ≡ record self.old {
           turns = self.old.turns + 1;
           charges = self.old.charges + taken;
         } }
         ensures worker { RanTurn worker.old taken worker.new }
     {
-        order.spend();
-        worker.count(&mut self.turns, &mut self.charges, taken);
+        self.turns(worker, order, 1, u64::from(taken));
+    }
+
+    /// Counts so many turns of these, which took so many charges, fewer than 2^32 each: so many less are to be run.
+    pub fn turns(
+        &mut self,
+        worker: &mut Worker<T, C>,
+        order: &mut ReceivedTurns,
+        many: u32,
+        taken: u64,
+    )
+        requires room { worker.old.tally.turns + many < 2 ^ 64 }
+        requires due { many ≤ order.old.count }
+        requires few { taken ≤ many * 2 ^ 32 }
+        ensures order { order.new ≡ record order.old { count = order.old.count - many } }
+        ensures books { self.new ≡ record self.old {
+          turns = self.old.turns + many;
+          charges = self.old.charges + taken;
+        } }
+        ensures worker { RanTurns worker.old many taken worker.new }
+    {
+        order.spend(many);
+        worker.count(&mut self.turns, &mut self.charges, u64::from(many), taken);
     }
 
     /// One offer of the scanner is counted.

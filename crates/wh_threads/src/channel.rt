@@ -16,9 +16,11 @@ use wh_host_model::InstId;
 /// What is dispatched to a worker.
 #[derive(Clone, Copy, Debug, PartialEq, Eq)]
 pub enum Message {
-    /// A turn of this instance, of so many charges at most. Turns are numbered in the order in which they are dispatched.
-    Turn {
-        number: u64,
+    /// A series: so many turns of this instance, one after the other, of so many charges at most each. Turns are numbered in the
+    /// order in which they are dispatched: those of a series from `first` on.
+    Turns {
+        first: u64,
+        count: u32,
         instance: InstId,
         quantum: u32,
     },
@@ -158,6 +160,18 @@ pub fn receive<R: Wait>(rt: &R, receiver: &TurnReceiver, slip: &mut Slip) -> Opt
     ensures none { IfNone result (view slip.new ≡ view slip.old) }
 {
     receiver.recv_as::<Receives, R>(rt, slip).ok()
+}
+
+/// Receives a message, if one is there already, and waits for none. None says nothing of the channel.
+pub fn receive_at_once<R: Wait>(rt: &R, receiver: &TurnReceiver, slip: &mut Slip) -> Option<Message>
+    requires channel { IsSeatAt (receives_on receiver.now) slip.old }
+    requires part { 0 < (view slip.old).parts }
+    ensures channel { IsSeatAt (receives_on receiver.now) slip.new }
+    ensures some { IfSome result (λ message. view slip.new
+        ≡ record (view slip.old) { received = (view slip.old).received ++ message ∷ [] }) }
+    ensures none { IfNone result (view slip.new ≡ view slip.old) }
+{
+    receiver.try_recv_as::<Receives, R>(rt, slip).ok()
 }
 
 /// A slip with one part, for a thread that receives. It begins with nothing received.

@@ -8,18 +8,20 @@ ghost use Rattle.wh_threads.specs.Handover.{turns_in};
 
 use crate::channel::{Slip, TurnReceiver};
 use crate::lender::Lender;
-use crate::work::{Turns, receive_turn};
+use crate::series_room::SeriesRoom;
+use crate::work::{Turns, receive_turns};
 use crate::worker::Worker;
 use std::sync::Wait;
 use std::sync::ledger::Ledger;
 
-// Receives one turn and runs it. False where none was received, or the worker can count none.
+// Receives one message and runs the turns that it is. False where none was received, or the worker has no room for a series.
 fn receive_and_run<T: Ledger, C: Ledger, J: Turns<T, C>, R: Wait>(
     rt: &R,
     job: &J,
     receiver: &TurnReceiver,
     slip: &mut Slip,
     worker: &mut Worker<T, C>,
+    room: &mut SeriesRoom,
 ) -> bool
     requires channel { IsSeatAt (receives_on receiver.now) slip.old }
     requires part { 0 < (view slip.old).parts }
@@ -33,17 +35,18 @@ fn receive_and_run<T: Ledger, C: Ledger, J: Turns<T, C>, R: Wait>(
     if worker.is_full() {
         return false;
     }
-    match receive_turn(rt, receiver, slip) {
+    match receive_turns(rt, receiver, slip) {
         Some(order) => {
-            job.run(rt, order, worker);
+            room.run_one(rt, job, order, worker);
             true
         }
         None => false,
     }
 }
 
-/// Receives one turn in the calling thread and runs it there, as the worker of this seat, whom nobody else has meanwhile. Its
-/// count grows by one where a turn was received. False where none was run: no turn was there, or the worker has run 2^64 - 1.
+/// Receives one message in the calling thread and runs the turns that it is there, as the worker of this seat, whom nobody else
+/// has meanwhile. Its count grows by the turns that were received. False where none was run: no message was there, or the worker
+/// has run more than 2^64 - 2^38.
 pub fn run_here<T: Ledger, C: Ledger, O: Ledger, E: Ledger, J: Turns<T, C>, R: Wait>(
     rt: &R,
     job: &J,
@@ -51,6 +54,7 @@ pub fn run_here<T: Ledger, C: Ledger, O: Ledger, E: Ledger, J: Turns<T, C>, R: W
     slip: &mut Slip,
     lender: &mut Lender<T, C, O, E>,
     seat: usize,
+    room: &mut SeriesRoom,
 ) -> bool
     requires channel { IsSeatAt (receives_on receiver.now) slip.old }
     requires part { 0 < (view slip.old).parts }
@@ -64,7 +68,7 @@ pub fn run_here<T: Ledger, C: Ledger, O: Ledger, E: Ledger, J: Turns<T, C>, R: W
 {
     job.acquire_turn_lock(rt);
     let mut worker = lender.lend_worker(seat);
-    let ran = receive_and_run(rt, job, receiver, slip, &mut worker);
+    let ran = receive_and_run(rt, job, receiver, slip, &mut worker, room);
     lender.take_worker(seat, worker);
     job.release_turn_lock();
     ran

@@ -1,4 +1,4 @@
-//! Threads that count what they do: books and shares, a channel of turns, what starts a worker, a scanner or a reclaimer and
+//! Threads that count what they do: books and shares, a channel of series of turns, what starts a worker, a scanner or a reclaimer and
 //! joins it, and a value on which two locks agree. What a thread has counted comes back by its join alone.
 #![tactic(auto)]
 
@@ -13,7 +13,8 @@ mod here;
 mod joins;
 mod known;
 mod lender;
-mod received_turn;
+mod received_turns;
+mod series_room;
 mod shares;
 mod start;
 mod sweep;
@@ -26,7 +27,7 @@ pub use books::Books;
 pub use changes::Change;
 pub use channel::{
     Balance, Message, Slip, Traffic, TurnReceiver, TurnSender, dispatch, left_over, open_channel,
-    pass_for, put_back, receive,
+    pass_for, put_back, receive, receive_at_once,
 };
 pub use count::Count;
 pub use help::{Help, HelpOutcome, Helped, Helps, start_helper};
@@ -34,10 +35,11 @@ pub use helper::Helper;
 pub use here::run_here;
 pub use known::AgreedValue;
 pub use lender::Lender;
-pub use received_turn::ReceivedTurn;
+pub use received_turns::ReceivedTurns;
+pub use series_room::SeriesRoom;
 pub use shares::Shares;
 pub use start::{Equipment, start_worker, stop};
 pub use sweep::{Sweep, Sweeps, Swept, start_sweep};
 pub use tally::Tally;
-pub use work::{Turns, WorkerResult, Works, receive_turn};
+pub use work::{Turns, WorkerResult, Works, receive_turns};
 pub use worker::Worker;

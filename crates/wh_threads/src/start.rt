@@ -7,6 +7,7 @@ ghost use Rattle.wh_threads.specs.Handover.{traffic, DispatchesLast};
 ghost use Rattle.wh_threads.specs.Working.{HasWorked};
 
 use crate::channel::{Message, Slip, TurnReceiver, TurnSender, dispatch};
+use crate::series_room::SeriesRoom;
 use crate::work::{Turns, WorkerResult, Works, work_with};
 use crate::worker::Worker;
 use std::snapshot::Snapshot;
@@ -17,7 +18,7 @@ use std::thread::{PromisedHandle, Threads};
 
 /// What a worker's thread owns.
 pub struct Equipment<T: Ledger, C: Ledger, J: Turns<T, C>> {
-    /// What it does with a turn.
+    /// What it does with turns.
     pub job: J,
     /// Where it receives.
     pub receiver: TurnReceiver,
@@ -25,6 +26,8 @@ pub struct Equipment<T: Ledger, C: Ledger, J: Turns<T, C>> {
     pub worker: Worker<T, C>,
     /// What it has received: nothing yet.
     pub slip: Slip,
+    /// Where the series are that it runs at once.
+    pub room: SeriesRoom,
 }
 
 /// Dispatches last signs, one for each of so many workers.
@@ -72,6 +75,7 @@ pub fn start_worker<
         receiver,
         worker,
         slip: mine,
+        room,
     } = with;
     let promise = Works {
         from: worker.from(),
@@ -81,7 +85,7 @@ pub fn start_worker<
         requires { IsSeatAt (receives_on receiver) mine × (view mine ≡ traffic 1 [] [])
             × (worker.tally ≡ worker.from) }
         ensures { HasWorked (receives_on receiver) worker.from result.worker result.slip }
-    { work_with(rt, job, receiver, worker, mine) };
+    { work_with(rt, job, receiver, worker, mine, room) };
     match thread::spawn_with(&rt, promise, run) {
         Ok(handle) => Ok(handle),
         Err(refused) => {

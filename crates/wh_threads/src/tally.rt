@@ -1,6 +1,9 @@
 // What a worker has counted.
 
-ghost use Rattle.std.specs.Prelude.{◌≡◌, ◌+◌, ◌-◌, ◌*◌, ◌^◌, ◌<◌, ◌≤◌};
+ghost use Rattle.std.specs.Prelude.{◌≡◌, ◌+◌, ◌-◌, ◌*◌, ◌^◌, ◌<◌, ◌≤◌, ◌↔◌, IsTrue};
+
+// Behind more turns there is no room for 64 series of any length.
+const MOST_TURNS_BEFORE_SERIES: u64 = 0xffff_ffc0_0000_0000;
 
 /// How many turns a worker has run, and how many charges these took, since the books were opened.
 #[derive(Clone, Copy, Debug, PartialEq, Eq)]
@@ -23,13 +26,21 @@ impl Tally {
         }
     }
 
-    // One turn more, which took so many charges.
-    pub(crate) fn with_turn(self, taken: u32) -> Tally
-        requires { self.turns < 2 ^ 64 - 1 }
-        ensures { (result.turns ≡ self.turns + 1) × (result.charges ≡ self.charges + taken) }
+    /// Whether there is no room for 64 series of any length: it has more than 2^64 - 2^38 turns.
+    pub fn is_full(&self) -> bool
+        ensures { IsTrue result ↔ (2 ^ 64 - 2 ^ 38 < self.now.turns) }
+    {
+        self.turns > MOST_TURNS_BEFORE_SERIES
+    }
+
+    // So many turns more, which took so many charges.
+    pub(crate) fn with_turns(self, turns: u64, taken: u64) -> Tally
+        requires room { self.turns + turns < 2 ^ 64 }
+        requires few { taken ≤ turns * 2 ^ 32 }
+        ensures { (result.turns ≡ self.turns + turns) × (result.charges ≡ self.charges + taken) }
     {
         Tally {
-            turns: self.turns + 1,
+            turns: self.turns + turns,
             charges: self.charges + u128::from(taken),
         }
     }

@@ -1,14 +1,15 @@
 // A worker's thread.
 
-ghost use Rattle.std.specs.Prelude.{◌≡◌, ◌+◌, ◌-◌, ◌^◌, ◌<◌, ◌∷◌, ◌++◌, [], ℕ, IfSome, IfNone, IsTrue, ◌↔◌};
+ghost use Rattle.std.specs.Prelude.{◌≡◌, ◌+◌, ◌^◌, ◌<◌, ◌≤◌, ◌∷◌, ◌++◌, [], ℕ, IfSome, IfNone, IsTrue, ◌↔◌, vec_capacity};
 ghost use Rattle.crossbeam_channel.specs.Claims.{view, IsSeatAt};
 ghost use Rattle.crossbeam_channel.specs.Ends.{receives_on};
 ghost use Rattle.wh_threads.specs.Handover.{traffic, turns_in};
-ghost use Rattle.wh_threads.specs.Working.{HasWorked};
-ghost use Rattle.wh_threads.specs.declared.channel.Message.TheVariants.{Turn};
+ghost use Rattle.wh_threads.specs.Working.{HasWorked, turns_due};
+ghost use Rattle.wh_threads.specs.declared.channel.Message.TheVariants.{Turns, Last};
 
 use crate::channel::{Message, Slip, TurnReceiver, receive};
-use crate::received_turn::ReceivedTurn;
+use crate::received_turns::ReceivedTurns;
+use crate::series_room::SeriesRoom;
 use crate::tally::Tally;
 use crate::worker::Worker;
 use std::alloc::AllocError;
@@ -18,19 +19,26 @@ use std::sync::Wait;
 use std::sync::ledger::Ledger;
 use std::thread::Promise;
 
-/// What a worker does with a turn. Each worker has a value of its own.
+/// What a worker does with turns. Each worker has a value of its own.
 pub trait Turns<T: Ledger, C: Ledger> {
-    /// Waits until this worker may receive a turn. Where turns are run under one lock, whoever waits here doesn't wait there.
+    /// Waits until this worker may receive turns. Where turns are run under one lock, whoever waits here doesn't wait there.
     fn acquire_turn_lock<R: Wait>(&self, rt: &R);
 
     /// This worker receives no further turn, so another one may.
     fn release_turn_lock(&self);
 
-    /// Runs the turn that was received, which the worker counts: there the order is spent.
-    fn run<R: Wait>(&self, rt: &R, order: ReceivedTurn, worker: &mut Worker<T, C>)
-        requires room { worker.old.tally.turns < 2 ^ 64 - 1 }
+    /// How many series it can run at once: a worker receives at most as many before it runs them, and at most 64. 0 counts as 1.
+    fn most_at_once(&self) -> usize;
+
+    /// Runs all turns of the series that were received, each of which the worker counts. None of these is left, and the list has
+    /// as much room as before.
+    fn run_all<R: Wait>(&self, rt: &R, orders: &mut Vec<ReceivedTurns>, worker: &mut Worker<T, C>)
+        requires room { worker.old.tally.turns + turns_due orders.old.items < 2 ^ 64 }
         ensures from { worker.new.from ≡ worker.old.from }
-        ensures turns { worker.new.tally.turns ≡ worker.old.tally.turns + 1 };
+        ensures turns { worker.new.tally.turns
+            ≡ worker.old.tally.turns + turns_due orders.old.items }
+        ensures done { orders.new.items ≡ [] }
+        ensures capacity { vec_capacity orders.old ≤ vec_capacity orders.new };
 
     /// The same for another worker.
     ///
@@ -88,43 +96,56 @@ impl<T: Ledger, C: Ledger> Promise<WorkerResult<T, C>> for Works {
     ghost kept_by = { λ p r. HasWorked (receives_on p.receiver.value) p.from r.worker r.slip };
 }
 
-/// Waits for a message, and receives it: the turn that it is. None at the last sign, and where the channel was empty and no
+// The series that a message is. None for the last sign.
+pub fn series_of(message: Message) -> Option<ReceivedTurns>
+    ensures some { IfSome result (λ order. (first : ℕ)
+        × (message ≡ Turns first order.count order.instance order.quantum)) }
+    ensures few { IfSome result (λ order. order.count < 2 ^ 32) }
+    ensures none { IfNone result (message ≡ Last) }
+{
+    match message {
+        Message::Turns {
+            count,
+            instance,
+            quantum,
+            ..
+        } => Some(ReceivedTurns::of(instance, count, quantum)),
+        Message::Last => None,
+    }
+}
+
+/// Waits for a message, and receives it: the turns that it is. None at the last sign, and where the channel was empty and no
 /// sender was left.
-#[tactic(auto, using(crate::proofs::Runs::turns_in_turn, crate::proofs::Runs::turns_in_last))]
-pub fn receive_turn<R: Wait>(
+#[tactic(auto, using(crate::proofs::Runs::turns_in_turns, crate::proofs::Runs::turns_in_last))]
+pub fn receive_turns<R: Wait>(
     rt: &R,
     receiver: &TurnReceiver,
     slip: &mut Slip,
-) -> Option<ReceivedTurn>
+) -> Option<ReceivedTurns>
     requires channel { IsSeatAt (receives_on receiver.now) slip.old }
     requires part { 0 < (view slip.old).parts }
     ensures channel { IsSeatAt (receives_on receiver.now) slip.new }
     ensures only { view slip.new
         ≡ record (view slip.old) { received = (view slip.new).received } }
-    ensures order { IfSome result (λ order. (number : ℕ) × ((view slip.new).received
-        ≡ (view slip.old).received ++ Turn number order.instance order.quantum ∷ [])) }
-    ensures some { IfSome result (λ _. turns_in (view slip.new).received
-        ≡ turns_in (view slip.old).received + 1) }
+    ensures order { IfSome result (λ order. (first : ℕ) × ((view slip.new).received
+        ≡ (view slip.old).received ++ Turns first order.count order.instance order.quantum ∷ [])) }
+    ensures few { IfSome result (λ order. order.count < 2 ^ 32) }
+    ensures some { IfSome result (λ order. turns_in (view slip.new).received
+        ≡ turns_in (view slip.old).received + order.count) }
     ensures none { IfNone result (turns_in (view slip.new).received
         ≡ turns_in (view slip.old).received) }
 {
-    match receive(rt, receiver, slip)? {
-        Message::Turn {
-            instance,
-            quantum,
-            ..
-        } => Some(ReceivedTurn::of(instance, quantum)),
-        Message::Last => None,
-    }
+    series_of(receive(rt, receiver, slip)?)
 }
 
-// Receives turns and runs them, until the last sign.
+// Receives series and runs as many at once as its job can, until the last sign.
 fn work<T: Ledger, C: Ledger, J: Turns<T, C>, R: Wait>(
     rt: &R,
     job: &J,
     receiver: &TurnReceiver,
     worker: Worker<T, C>,
     slip: Slip,
+    room: SeriesRoom,
 ) -> WorkerResult<T, C>
     requires channel { IsSeatAt (receives_on receiver.now) slip }
     requires new { view slip ≡ traffic 1 [] [] }
@@ -133,14 +154,17 @@ fn work<T: Ledger, C: Ledger, J: Turns<T, C>, R: Wait>(
 {
     let mut worker = worker;
     let mut slip = slip;
+    let mut room = room;
     for _ in rt.forever() {
         if worker.is_full() {
             break;
         }
         job.acquire_turn_lock(rt);
-        match receive_turn(rt, receiver, &mut slip) {
-            Some(order) => job.run(rt, order, &mut worker),
-            None => break,
+        let Some(order) = receive_turns(rt, receiver, &mut slip) else {
+            break;
+        };
+        if room.run_with_more(rt, job, receiver, &mut slip, order, &mut worker) {
+            break;
         }
     }
     job.release_turn_lock();
@@ -154,11 +178,12 @@ pub fn work_with<T: Ledger, C: Ledger, J: Turns<T, C> + Drop, R: Wait + Drop>(
     receiver: TurnReceiver,
     worker: Worker<T, C>,
     slip: Slip,
+    room: SeriesRoom,
 ) -> WorkerResult<T, C>
     requires channel { IsSeatAt (receives_on receiver) slip }
     requires new { view slip ≡ traffic 1 [] [] }
     requires begun { worker.tally ≡ worker.from }
     ensures { HasWorked (receives_on receiver) worker.from result.worker result.slip }
 {
-    work(&rt, &job, &receiver, worker, slip)
+    work(&rt, &job, &receiver, worker, slip, room)
 }

@@ -1,6 +1,6 @@
 // What a worker counts while it works.
 
-ghost use Rattle.std.specs.Prelude.{◌≡◌, ℕ, ◌+◌, ◌-◌, ◌^◌, ◌<◌, ◌≤◌, ◌↔◌, IsTrue};
+ghost use Rattle.std.specs.Prelude.{◌≡◌, ℕ, ◌+◌, ◌-◌, ◌*◌, ◌^◌, ◌<◌, ◌≤◌, ◌↔◌, IsTrue};
 
 use crate::count::Count;
 use crate::tally::Tally;
@@ -75,11 +75,11 @@ impl<T: Ledger, C: Ledger> Worker<T, C> {
         self.tally
     }
 
-    /// Whether no turn more can be counted: it has run 2^64 - 1.
+    /// Whether there is no room for 64 series of any length: it has run more than 2^64 - 2^38 turns.
     pub fn is_full(&self) -> bool
-        ensures { IsTrue result ↔ (2 ^ 64 - 1 ≤ self.now.tally.turns) }
+        ensures { IsTrue result ↔ (2 ^ 64 - 2 ^ 38 < self.now.tally.turns) }
     {
-        self.tally.turns >= u64::MAX
+        self.tally.is_full()
     }
 
     /// Whether it has run no turn since it began.
@@ -89,17 +89,24 @@ impl<T: Ledger, C: Ledger> Worker<T, C> {
         self.tally == self.from
     }
 
-    // One turn more, which took so many charges, in the books too.
-    pub(crate) fn count(&mut self, turns: &mut Count<T>, charges: &mut Count<C>, taken: u32)
-        requires room { self.old.tally.turns < 2 ^ 64 - 1 }
+    // So many turns more, which took so many charges, in the books too.
+    pub(crate) fn count(
+        &mut self,
+        turns: &mut Count<T>,
+        charges: &mut Count<C>,
+        many: u64,
+        taken: u64,
+    )
+        requires room { self.old.tally.turns + many < 2 ^ 64 }
+        requires few { taken ≤ many * 2 ^ 32 }
         ensures from { self.new.from ≡ self.old.from }
-        ensures turns { (self.new.tally.turns ≡ self.old.tally.turns + 1)
-            × (turns.new ≡ turns.old + 1) }
+        ensures turns { (self.new.tally.turns ≡ self.old.tally.turns + many)
+            × (turns.new ≡ turns.old + many) }
         ensures charges { (self.new.tally.charges ≡ self.old.tally.charges + taken)
             × (charges.new ≡ charges.old + taken) }
     {
-        turns.add(&mut self.turns, 1);
-        charges.add(&mut self.charges, u64::from(taken));
-        self.tally = self.tally.with_turn(taken);
+        turns.add(&mut self.turns, many);
+        charges.add(&mut self.charges, taken);
+        self.tally = self.tally.with_turns(many, taken);
     }
 }

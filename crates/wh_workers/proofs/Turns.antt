@@ -1,46 +1,53 @@
 -- Turns that are dispatched, and their numbers.
-use Rattle.std.proofs.Common.{◌≡◌, ℕ, zero, suc, ◌+◌, ◌-◌, ◌<◌, List, [], ◌∷◌, ◌++◌, refl, sym, ap, ◌∙◌, arith}
-use Rattle.std.specs.List.{filter_map, range_with_len}
-use Rattle.std.proofs.lemmas.List.Elements.{filter_map-append}
+use Rattle.std.proofs.Common.{◌≡◌, ℕ, zero, suc, ◌+◌, ◌-◌, ◌<◌, List, [], ◌∷◌, ◌++◌, append-nil, refl, sym, ap, ap₂, ◌∙◌, arith}
+use Rattle.std.specs.List.{flat_map, range_with_len}
+use Rattle.std.proofs.lemmas.List.Concat.{flat_map-append}
 use Rattle.wh_threads.specs.declared.channel.Message.{Message}
-use Rattle.wh_threads.specs.declared.channel.Message.TheVariants.{Turn}
+use Rattle.wh_threads.specs.declared.channel.Message.TheVariants.{Turns}
 use Rattle.wh_threads.specs.declared.channel.Traffic.{Traffic}
-use Rattle.wh_threads.specs.Handover.{turns_in, turn_number, AreNumbered, Dispatches, DispatchesLast}
-use Rattle.wh_threads.proofs.Runs.{quanta_more, turns_in_turn}
+use Rattle.wh_threads.specs.Handover.{turns_in, turn_numbers, AreNumbered, Dispatches, DispatchesLast}
+use Rattle.wh_threads.proofs.Runs.{quanta_more, turns_in_turns}
 use Rattle.wh_host_model.specs.declared.plain.InstId.{InstId}
 use Rattle.wh_workers.specs.Serving.{AreTurns}
 
-range-more : (a n b : ℕ) → a + n ≡ b → range_with_len a (suc n) ≡ range_with_len a n ++ b ∷ []
-range-more a zero b is = let same : a ≡ b = omega (arith, is) in ap (λ x. x ∷ []) same
-range-more a (suc n) b is = ap (λ rest. a ∷ rest) (range-more (a + 1) n b (omega (arith, is)))
+-- so many numbers, and then so many that go on from there
+range-then : (a m n b all : ℕ) → a + m ≡ b → m + n ≡ all → range_with_len a all ≡ range_with_len a m ++ range_with_len b n
+range-then a zero n b all begin sum =
+    let begins : a ≡ b = omega (arith, begin) in
+    let same : all ≡ n = omega (arith, sum) in
+    ap₂ range_with_len begins same
+range-then a (suc m) n b zero begin sum = absurd (omega (arith, sum))
+range-then a (suc m) n b (suc all) begin sum =
+    ap (λ rest. a ∷ rest) (range-then (a + 1) m n b all (omega (arith, begin)) (omega (arith, sum)))
 
-pub numbers_turn : (messages : List Message) (number : ℕ) (instance : InstId) (quantum : ℕ)
-    → filter_map turn_number (messages ++ Turn number instance quantum ∷ []) ≡ filter_map turn_number messages ++ number ∷ []
-numbers_turn messages number instance quantum =
-    filter_map-append turn_number messages (Turn number instance quantum ∷ [])
+pub numbers_turns : (messages : List Message) (first count : ℕ) (instance : InstId) (quantum : ℕ)
+    → flat_map turn_numbers (messages ++ Turns first count instance quantum ∷ [])
+    ≡ flat_map turn_numbers messages ++ range_with_len first count
+numbers_turns messages first count instance quantum =
+    flat_map-append turn_numbers messages (Turns first count instance quantum ∷ [])
+    ∙ ap (λ xs. flat_map turn_numbers messages ++ xs) (append-nil (range_with_len first count))
 
--- the next number keeps them in order
-pub numbered_turn : (messages : List Message) (number : ℕ) (instance : InstId) (quantum : ℕ) → AreNumbered messages
-    → turns_in messages ≡ number → AreNumbered (messages ++ Turn number instance quantum ∷ [])
-numbered_turn messages number instance quantum were is =
-    let more : suc number ≡ turns_in (messages ++ Turn number instance quantum ∷ []) =
-    omega (arith, turns_in_turn messages number instance quantum, is) in
-    numbers_turn messages number instance quantum
-    ∙ ap (λ xs. xs ++ number ∷ []) were
-    ∙ ap (λ n. range_with_len 0 n ++ number ∷ []) is
-    ∙ sym (range-more 0 number number (omega arith))
-    ∙ ap (range_with_len 0) more
+-- a series from the next number on keeps them in order
+pub numbered_turns : (messages : List Message) (first count : ℕ) (instance : InstId) (quantum : ℕ) → AreNumbered messages
+    → turns_in messages ≡ first → AreNumbered (messages ++ Turns first count instance quantum ∷ [])
+numbered_turns messages first count instance quantum were is =
+    let all = turns_in (messages ++ Turns first count instance quantum ∷ []) in
+    let more : first + count ≡ all = omega (arith, turns_in_turns messages first count instance quantum, is) in
+    numbers_turns messages first count instance quantum
+    ∙ ap (λ xs. xs ++ range_with_len first count) were
+    ∙ ap (λ n. range_with_len 0 n ++ range_with_len first count) is
+    ∙ sym (range-then 0 first count first all (omega arith) more)
 
 -- ---- turns
 
-pub turn_more : (u v w : Traffic) (count q : ℕ) (instance : InstId) → Dispatches u count q v
-    → w ≡ record v { sent = v.sent ++ Turn count instance q ∷ [] } → Dispatches u (count + 1) q w
-turn_more u v w count q instance were is = record {
+pub turns_dispatched : (u v w : Traffic) (count more q : ℕ) (instance : InstId) → Dispatches u count q v
+    → w ≡ record v { sent = v.sent ++ Turns count more instance q ∷ [] } → Dispatches u (count + more) q w
+turns_dispatched u v w count more q instance were is = record {
   parts = ap (λ (x : Traffic). x.parts) is ∙ were.parts;
   received = ap (λ (x : Traffic). x.received) is ∙ were.received;
-  turns = ap (λ (x : Traffic). turns_in x.sent) is ∙ omega (arith, turns_in_turn v.sent count instance q, were.turns);
-  numbered = rw is (numbered_turn v.sent count instance q were.numbered were.turns);
-  quanta = rw is (quanta_more q v.sent (Turn count instance q) (λ i. q) were.quanta);
+  turns = ap (λ (x : Traffic). turns_in x.sent) is ∙ omega (arith, turns_in_turns v.sent count more instance q, were.turns);
+  numbered = rw is (numbered_turns v.sent count more instance q were.numbered were.turns);
+  quanta = rw is (quanta_more q v.sent (Turns count more instance q) (λ i. q) were.quanta);
 }
 
 -- last signs behind them
@@ -75,13 +82,13 @@ turns_still sent sent2 same count q were = rw same were
 pub turns_none : (sent : List Message) → sent ≡ [] → (q : ℕ) → AreTurns 0 q sent
 turns_none sent none q = rw none (record { many = refl; numbered = refl; quanta = tt })
 
--- one turn more
-pub turns_more : (sent sent2 : List Message) (count q : ℕ) (instance : InstId) → AreTurns count q sent
-    → sent2 ≡ sent ++ Turn count instance q ∷ [] → AreTurns (count + 1) q sent2
-turns_more sent sent2 count q instance were is = rw is (record {
-  many = omega (arith, turns_in_turn sent count instance q, were.many);
-  numbered = numbered_turn sent count instance q were.numbered were.many;
-  quanta = quanta_more q sent (Turn count instance q) (λ i. q) were.quanta;
+-- so many turns more
+pub turns_more : (sent sent2 : List Message) (count more q : ℕ) (instance : InstId) → AreTurns count q sent
+    → sent2 ≡ sent ++ Turns count more instance q ∷ [] → AreTurns (count + more) q sent2
+turns_more sent sent2 count more q instance were is = rw is (record {
+  many = omega (arith, turns_in_turns sent count more instance q, were.many);
+  numbered = numbered_turns sent count more instance q were.numbered were.many;
+  quanta = quanta_more q sent (Turns count more instance q) (λ i. q) were.quanta;
 })
 
 -- so many turns were dispatched already, and nothing since

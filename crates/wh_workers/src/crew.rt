@@ -19,8 +19,8 @@ use std::sync::Wait;
 use std::sync::ledger::Ledger;
 use std::thread::{PromisedHandle, Threads};
 use wh_threads::{
-    Equipment, Help, Lender, Slip, TurnReceiver, TurnSender, Turns, WorkerResult, Works, pass_for,
-    start_worker, stop,
+    Equipment, Help, Lender, SeriesRoom, Slip, TurnReceiver, TurnSender, Turns, WorkerResult,
+    Works, pass_for, start_worker, stop,
 };
 
 /// Why not all turns were run.
@@ -63,6 +63,17 @@ fn share_of<T: Ledger, C: Ledger, J: Turns<T, C> + Drop>(
     Ok((job, receiver))
 }
 
+// Room for the series that each of so many workers runs at once.
+fn rooms_for(alloc: Global, workers: usize) -> Result<Vec<SeriesRoom>, AllocError>
+    ensures { IfOk result (λ rooms. vec_len rooms ≡ workers) }
+{
+    let mut rooms = Vec::with_capacity(alloc, workers)?;
+    while rooms.len() < workers {
+        rooms.push_reserved(SeriesRoom::new(alloc)?);
+    }
+    Ok(rooms)
+}
+
 // A worker that found no thread was told to stop before it began. One that ran a turn all the same is never met, and
 // never taken.
 fn take_refused<T: Ledger, C: Ledger, O: Ledger, E: Ledger, R: Wait>(
@@ -89,7 +100,7 @@ fn take_refused<T: Ledger, C: Ledger, O: Ledger, E: Ledger, R: Wait>(
     lender.take_refused_worker(seat, reply, sender, slip);
 }
 
-// Starts the workers, behind turns that were dispatched. Where one can't be started all others have their last signs.
+// Starts the workers, each with one of these rooms, behind turns that were dispatched. Where one can't be started all others have their last signs.
 #[tactic(auto, using(crate::proofs::Turns::turns_with_last, crate::proofs::Turns::turns_still))]
 fn start_all<
     T: Ledger + Send + 'static,
@@ -105,6 +116,7 @@ fn start_all<
     slip: &mut Slip,
     workers: usize,
     running: Vec<PromisedHandle<WorkerResult<T, C>, Works>>,
+    rooms: Vec<SeriesRoom>,
 ) -> (
     Vec<PromisedHandle<WorkerResult<T, C>, Works>>,
     Result<(), ServeError>,
@@ -114,6 +126,7 @@ fn start_all<
     requires few { workers ≤ 64 }
     requires lender { lender.old.workers_out ≡ 0 }
     requires room { (running.items ≡ []) × (workers ≤ vec_capacity running) }
+    requires rooms { vec_len rooms ≡ workers }
     ensures channel { IsSeatAt (sends_on team.now.sender) slip.new }
     ensures parts { ((view slip.new).parts + vec_len result.0 ≡ all_parts)
         × (vec_len result.0 ≤ 64) }
@@ -126,6 +139,7 @@ fn start_all<
     ensures lender { lender.new ≡ record lender.old { workers_out = vec_len result.0 } }
 {
     let mut running = running;
+    let mut rooms = rooms;
     for seat in 0..workers {
         let Ok((job, receiver)) = share_of::<T, C, J>(team) else {
             stop(&rt, &team.sender, slip, seat);
@@ -136,6 +150,7 @@ fn start_all<
             receiver,
             worker: lender.lend_worker(seat),
             slip: pass_for(&team.sender, slip),
+            room: rooms.take_last(),
         };
         match start_worker(rt, with, &team.sender, slip, seat + 1) {
             Ok(handle) => running.push_reserved(handle),
@@ -262,7 +277,11 @@ pub fn run_crew<
     let Ok(running) = Vec::with_capacity(alloc, run_config.workers) else {
         return (first.turns, Err(ServeError::Memory));
     };
-    let (running, started) = start_all(rt, team, lender, slip, run_config.workers, running);
+    let Ok(rooms) = rooms_for(alloc, run_config.workers) else {
+        return (first.turns, Err(ServeError::Memory));
+    };
+    let workers = run_config.workers;
+    let (running, started) = start_all(rt, team, lender, slip, workers, running, rooms);
     let (turns, end) = match started {
         Ok(()) => {
             let sender = &team.sender;

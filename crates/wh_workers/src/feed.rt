@@ -21,11 +21,14 @@ use wh_threads::{Help, Lender, Message, Slip, TurnSender, dispatch};
 // The scanner is started behind so many turns: half of those for which a page is owed.
 const TURNS_BEFORE_A_SCANNER: u64 = 32;
 
+// Behind more turns there isn't room for a series of any length.
+const MOST_TURNS_BEFORE_A_SERIES: u64 = 0xffff_ffff_0000_0000;
+
 /// What is to be done next.
 #[derive(Clone, Copy, Debug, PartialEq, Eq)]
 pub enum Next {
-    /// A turn of this instance is to be dispatched.
-    Turn(InstId),
+    /// So many turns of this instance are to be dispatched, one after the other.
+    Turns(InstId, u32),
     /// A reclaimer is to be started: a call waits for a frame, and none is at work.
     Reclaimer,
     /// Nothing: no call can go on.
@@ -35,11 +38,11 @@ pub enum Next {
 /// Which turns are dispatched.
 pub trait Supply {
     /// What is to be done next, once it is known. Where no reclaimer is at work it says so rather than wait for one. Of the first
-    /// turns, which the calling thread runs, each has come back before this is asked: there is no other thread to wait for.
+    /// turns, which the calling thread runs, all have come back before this is asked: there is no other thread to wait for.
     fn next<R: Wait>(&mut self, rt: &R, has_reclaimer: bool) -> Next;
 }
 
-// Behind so many turns the scanner is started, if it is to begin there. Where it can't be, it is done without.
+// Behind so many turns the scanner is started, unless it was before. Where it can't be, it is done without.
 fn begin_scanner<
     T: Ledger,
     C: Ledger,
@@ -56,7 +59,7 @@ fn begin_scanner<
       reclaimers_out = lender.new.reclaimers_out;
     } }
 {
-    if count == TURNS_BEFORE_A_SCANNER {
+    if count >= TURNS_BEFORE_A_SCANNER {
         let _ = helpers.scanner.start_scanner(rt, lender);
     }
 }
@@ -74,9 +77,9 @@ fn next_of<S: Supply, R: Wait>(
     }
 }
 
-// Dispatches turns of so many charges as they come, behind the first turns, until no further one comes, no worker is left, or a
-// reclaimer is wanted that can't be started. It gives how many there were in all, and whether the last was the last. A scanner
-// that can't be started is done without.
+// Dispatches series of turns of so many charges as they come, behind the first turns, until no further one comes, no worker is
+// left, or a reclaimer is wanted that can't be started. It gives how many turns there were in all, and whether the last was the
+// last. A scanner that can't be started is done without.
 pub fn feed<
     T: Ledger,
     C: Ledger,
@@ -111,21 +114,22 @@ pub fn feed<
     let mut left = Some(next);
     let mut count = turns;
     for _ in rt.forever() {
-        if count >= u64::MAX {
+        if count > MOST_TURNS_BEFORE_A_SERIES {
             return (count, Ok(()));
         }
         begin_scanner(rt, count, helpers, lender);
         match next_of(&rt, &mut left, supply, helpers.reclaimer.is_started()) {
-            Next::Turn(instance) => {
-                let message = Message::Turn {
-                    number: count,
+            Next::Turns(instance, more) => {
+                let message = Message::Turns {
+                    first: count,
+                    count: more,
                     instance,
                     quantum,
                 };
                 if !dispatch(&rt, sender, slip, message) {
                     return (count, Ok(()));
                 }
-                count += 1;
+                count += u64::from(more);
             }
             Next::Reclaimer => {
                 if let Err(error) = helpers.reclaimer.start_reclaimer(rt, lender) {

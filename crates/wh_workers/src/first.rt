@@ -1,6 +1,6 @@
 // The first turns, which the calling thread runs itself.
 
-ghost use Rattle.std.specs.Prelude.{◌≡◌, ◌+◌, ◌<◌, []};
+ghost use Rattle.std.specs.Prelude.{◌≡◌, ◌+◌, ◌<◌, ◌≤◌, []};
 ghost use Rattle.crossbeam_channel.specs.Claims.{view, IsSeatAt};
 ghost use Rattle.crossbeam_channel.specs.Ends.{sends_on};
 ghost use Rattle.wh_threads.specs.Counting.{LenderState, turns_of};
@@ -11,9 +11,10 @@ use crate::crew::Team;
 use crate::feed::{Next, Supply};
 use std::sync::Wait;
 use std::sync::ledger::Ledger;
-use wh_threads::{Lender, Message, Slip, Turns, dispatch, run_here};
+use wh_threads::{Lender, Message, SeriesRoom, Slip, Turns, dispatch, run_here};
 
-// So many turns the calling thread runs at most: fewer than those behind which the scanner is started.
+// So many turns the calling thread runs at most: fewer than those behind which the scanner is started. So it runs at most as many
+// series.
 const MOST_FIRST_TURNS: u64 = 31;
 
 // The turns that the calling thread has run, and what is left.
@@ -21,12 +22,13 @@ const MOST_FIRST_TURNS: u64 = 31;
 pub struct FirstTurns {
     // How many were dispatched.
     pub turns: u64,
-    // What is to be done next. A turn that it is hasn't been dispatched.
+    // What is to be done next. Turns that it is haven't been dispatched.
     pub next: Next,
 }
 
-// Dispatches the first turns, of so many charges each, and runs each in the calling thread as the worker of seat 0, before the
-// next one is asked for. None is left in the channel, unless it wasn't received: then there is nothing more to be done.
+// Dispatches the first series of turns, of so many charges each, and runs each series in the calling thread as the worker of seat
+// 0, before the next one is asked for. None is left in the channel, unless it wasn't received: then there is nothing more to be
+// done.
 #[tactic(auto, using(crate::proofs::Turns::turns_none, crate::proofs::Turns::turns_still))]
 pub fn run_first_turns<
     T: Ledger,
@@ -42,6 +44,7 @@ pub fn run_first_turns<
     supply: &mut S,
     lender: &mut Lender<T, C, O, E>,
     slip: &mut Slip,
+    room: &mut SeriesRoom,
     quantum: u32,
 ) -> FirstTurns
     requires channel { IsSeatAt (sends_on team.now.sender) slip.old }
@@ -54,16 +57,19 @@ pub fn run_first_turns<
         ≡ turns_of lender.old.tallies + turns_in (view slip.new).received }
     ensures only { lender.new ≡ record lender.old { tallies = lender.new.tallies } }
 {
-    for turns in 0..MOST_FIRST_TURNS {
+    let mut turns: u64 = 0;
+    for _ in 0..MOST_FIRST_TURNS {
         let next = supply.next(rt, false);
-        let Next::Turn(instance) = next else {
+        let Next::Turns(instance, count) = next else {
             return FirstTurns { turns, next };
         };
-        if lender.tally(0).turns == u64::MAX {
+        let after = turns + u64::from(count);
+        if after > MOST_FIRST_TURNS || lender.tally(0).is_full() {
             return FirstTurns { turns, next };
         }
-        let message = Message::Turn {
-            number: turns,
+        let message = Message::Turns {
+            first: turns,
+            count,
             instance,
             quantum,
         };
@@ -73,15 +79,16 @@ pub fn run_first_turns<
                 next: Next::End,
             };
         }
-        if !run_here(rt, &team.job, &team.receiver, slip, lender, 0) {
+        if !run_here(rt, &team.job, &team.receiver, slip, lender, 0, room) {
             return FirstTurns {
-                turns: turns + 1,
+                turns: after,
                 next: Next::End,
             };
         }
+        turns = after;
     }
     FirstTurns {
-        turns: MOST_FIRST_TURNS,
+        turns,
         next: supply.next(rt, false),
     }
 }

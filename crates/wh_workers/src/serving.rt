@@ -15,7 +15,7 @@ use std::alloc::Global;
 use std::sync::Wait;
 use std::sync::ledger::Ledger;
 use std::thread::Threads;
-use wh_threads::{Help, Lender, Shares, Slip, Turns, left_over, open_channel};
+use wh_threads::{Help, Lender, SeriesRoom, Shares, Slip, Turns, left_over, open_channel};
 
 // How many messages the channel holds: room for all last signs.
 const CAPACITY: usize = 128;
@@ -123,6 +123,7 @@ fn run_turns<
     reclaims: &P,
     lender: &mut Lender<T, C, O, E>,
     slip: &mut Slip,
+    room: &mut SeriesRoom,
     run_config: Crew,
 ) -> (u64, Result<(), ServeError>)
     requires channel { IsSeatAt (sends_on team.now.sender) slip.old }
@@ -138,7 +139,7 @@ fn run_turns<
     ensures evictions { lender.old.evictions ≤ lender.new.evictions }
     ensures whole { HasAllParts lender.new }
 {
-    let first = run_first_turns(&rt, team, supply, lender, slip, run_config.quantum);
+    let first = run_first_turns(&rt, team, supply, lender, slip, room, run_config.quantum);
     if first.next == Next::End {
         return (first.turns, Ok(()));
     }
@@ -185,14 +186,18 @@ fn serve_turns<
     let Ok((sender, receiver, slip)) = open_channel(alloc, CAPACITY) else {
         return Err(ServeError::Memory);
     };
+    let Ok(room) = SeriesRoom::new(alloc) else {
+        return Err(ServeError::Memory);
+    };
     let mut slip = slip;
+    let mut room = room;
     let team = Team {
         job,
         receiver,
         sender,
     };
     let (turns, end) = run_turns(
-        rt, alloc, &team, supply, scans, reclaims, lender, &mut slip, run_config,
+        rt, alloc, &team, supply, scans, reclaims, lender, &mut slip, &mut room, run_config,
     );
     let end = match left_over(&rt, &team.receiver, &mut slip) {
         None => end,
@@ -271,10 +276,11 @@ fn pay_offers<
 /// done before it ended otherwise is told too (`Served`), and no count gets smaller.
 ///
 /// # Errors
-/// `Memory` where room for the channel was refused: no turn was run then. `Served::end` says so where room for the crew was
-/// refused or not all workers could be started: the first turns alone were run then. It is `NoThread` too where a reclaimer was
-/// wanted that couldn't be started: no further turn was dispatched then; where a turn was left that no worker received; and, or
-/// `Memory`, where a further scanner couldn't be started for pages that are owed, or came to its end before all were offered.
+/// `Memory` where room for the channel or for the first series was refused: no turn was run then. `Served::end` says so where room
+/// for the crew was refused or not all workers could be started: the first turns alone were run then. It is `NoThread` too where a
+/// reclaimer was wanted that couldn't be started: no further turn was dispatched then; where a turn was left that no worker
+/// received; and, or `Memory`, where a further scanner couldn't be started for pages that are owed, or came to its end before all
+/// were offered.
 pub fn serve<
     T: Ledger + Send + 'static,
     C: Ledger + Send + 'static,

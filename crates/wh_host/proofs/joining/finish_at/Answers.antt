@@ -1,4 +1,4 @@
-use Rattle.std.proofs.Common.{◌≡◌, Some, refl, sym, subst, ◌∙◌}
+use Rattle.std.proofs.Common.{◌≡◌, ◌*◌, Some, refl, sym, subst, ◌∙◌}
 use Rattle.wh_overlay.specs.LaidPages.{UpperState}
 use Rattle.wh_host.specs.Beside.{HasRun}
 use Rattle.wh_host.proofs.joining.finish_at.Goals as goal
@@ -6,24 +6,24 @@ use Rattle.wh_host.proofs.joining.finish_at.Goals as goal
 one_upper : (u v : UpperState) → Some u ≡ Some v → u ≡ v
 one_upper u v e = cc e
 
-pub finish_beside-answer-requires : goal.finish_beside-answer-requires
-finish_beside-answer-requires c =
-    let r = c.requires in
+pub finish_beside-end-requires : goal.finish_beside-end-requires
+finish_beside-end-requires c =
+    let q = c.requires.0 in
+    let r = c.requires.1 in
     let y = c.args.runner.now in
     let same = one_upper r.0 c.in-Some.upper (sym r.1 ∙ c.in-Some.is) in
-    (r.2, r.3, r.4, r.5, r.6, subst (λ u. HasRun r.2 r.3 c.args.q r.4 c.args.memory.now y.id.place r.5 r.6 y.ran.came y.ran.pieces y.ran.charges y.tenant u) same r.7)
+    (r.2, r.3, y.ran.turns * q, r.4, r.5, r.6, subst (λ u. HasRun r.2 r.3 (y.ran.turns * q) r.4 c.args.memory.now y.id.place r.5 r.6 y.ran.came y.ran.pieces y.ran.charges y.tenant u) same r.7)
 
 pub returns : goal.returns
-returns c =
-    let y = c.args.runner.now in
-    let f = c.finish_beside-answer in
+returns c = λ q.
+    (let y = c.args.runner.now in
+    let f = c.finish_beside-end in
     let e = f.ensures in
     record {
-      made = f.result;
+      end = f.result;
       finishes = record {
-        few = e.few;
         turns = λ u is l limit s0 x t run.
-            e.turns l limit s0 x t (subst (λ z. HasRun l limit c.args.q s0 c.args.memory.now y.id.place x t y.ran.came y.ran.pieces y.ran.charges y.tenant z) (one_upper u c.in-Some.upper (sym is ∙ c.in-Some.is)) run);
+            e.turns l limit (y.ran.turns * q) s0 x t (subst (λ z. HasRun l limit (y.ran.turns * q) s0 c.args.memory.now y.id.place x t y.ran.came y.ran.pieces y.ran.charges y.tenant z) (one_upper u c.in-Some.upper (sym is ∙ c.in-Some.is)) run);
         others = e.others;
         backing = e.backing;
         memory = e.memory;
@@ -31,4 +31,4 @@ returns c =
       answer = refl;
       id = refl;
       free = (refl, (f.new.upper, refl, e.pages, e.grown));
-    }
+    })

@@ -1,6 +1,5 @@
-use Rattle.std.proofs.Common.{◌≡◌}
 use Rattle.wh_host.proofs.RunnerTurns.{LaidSoFar}
 use Rattle.wh_host.proofs.joining.lay_all.Given as goal
 
 abbrev pub invariant-loop-at : goal.invariant-loop-at
-invariant-loop-at l = LaidSoFar l.fn.q l.fn.entries.slots l.fn.memory l.fn.runners l.entries.slots l.memory l.runners l.at × (l.q ≡ l.fn.q)
+invariant-loop-at l = LaidSoFar l.fn.entries.slots l.fn.memory l.fn.runners l.entries.slots l.memory l.runners l.at

@@ -7,9 +7,9 @@ use Rattle.wh_host.specs.Rounds.{IsFree}
 use Rattle.wh_host.proofs.joining.lay_at.Goals as goal
 
 pub returns : goal.returns
-returns c =
-    let f = c.finish_at in
-    let is = f.ensures in
+returns c = λ q.
+    (let f = c.finish_at in
+    let is = f.ensures q in
     let z = f.new.runner in
     let g = c.give_back in
     let back = g.ensures.runner in
@@ -17,7 +17,7 @@ returns c =
     inr (
       c.if-not-runner.false,
       record {
-        made = is.made;
+        end = is.end;
         tenant = z.tenant;
         finishes = is.finishes;
         answer = ap (λ (s : Runner). s.answer) back.1 ∙ is.answer;
@@ -25,4 +25,4 @@ returns c =
         free = subst IsFree (sym back.1) is.free;
         entries = subst (λ (i : InstId). (x : InstanceEntry) → entry_at rs i.place ≡ Some x → g.new.entries.slots ≡ slice_set rs i.place (Some (record x { number = Some i.number; tenant = z.tenant }))) is.id g.ensures.entries;
       },
-    )
+    ))

@@ -18,3 +18,10 @@ returns-clause-rest c = λ k y there free.
     let h = now.invariant in
     let within = index_there now.runners k y there in
     (h.free k y there free, h.none k y (omega (arith, within, c.loop-at-test.false, now.auto.runners, now.auto.at-end)) there free))
+
+pub returns-clause-left : goal.returns-clause-left
+returns-clause-left c = λ k y there free.
+    (let now = c.loop-at in
+    let h = now.invariant in
+    let within = index_there now.runners k y there in
+    h.left k y (omega (arith, within, c.loop-at-test.false, now.auto.runners, now.auto.at-end)) there free)

@@ -22,12 +22,13 @@ loop-seat-preserved g c =
       slip.2,
       omega (arith, pushed.len, was.4),
       rw pushed.capacity was.5,
+      omega (arith, c.take_last.ensures.len, was.6),
       Each-new c.loop-seat.running.items _ c.in-Ok-start_worker.handle _ pushed.items
-          (λ i h at. ((λ j. slice_get (lent.out j).tallies i) ∙ (was.6 i h at).0, (was.6 i h at).1)) (
+          (λ i h at. ((λ j. slice_get (lent.out j).tallies i) ∙ (was.7 i h at).0, (was.7 i h at).1)) (
             (λ j. slice_get (lent.out j).tallies (seat j)) ∙ lent.from ∙ ap (λ t. Some t) (sym started.0),
             started.1 ∙ c.in-Ok.ensures,
           ),
-      one_more_out c.args.lender.now c.loop-seat.lender c.lend_worker.new.self c.loop-seat.seat was.7 lent.out,
+      one_more_out c.args.lender.now c.loop-seat.lender c.lend_worker.new.self c.loop-seat.seat was.8 lent.out,
     )
 
 pub returns-in_default-clause-dispatched : goal.returns-in_default-clause-dispatched

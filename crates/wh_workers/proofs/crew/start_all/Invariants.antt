@@ -12,6 +12,7 @@ invariant-loop-seat g l =
     × ((view l.slip).parts + l.seat ≡ 128)
     × (vec_len l.running ≡ l.seat)
     × (l.workers ≤ vec_capacity l.running)
+    × (vec_len l.rooms + l.seat ≡ l.workers)
     × EachAt l.running.items (λ i h.
     (slice_get l.lender.tallies i ≡ Some h.promise.from)
     × (receives_on h.promise.receiver.value ≡ sends_on l.team.sender))

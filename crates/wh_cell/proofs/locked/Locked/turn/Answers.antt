@@ -19,7 +19,7 @@ returns-clause-turns g c =
     let of : HostState → InstId → ℕ → Type 0 = λ h id q. ((w : World) → IsHost h w → (w2 : World) × IsTurn w id q t.result.0 w2 × IsHost t.new.host w2) in
     let here : of c.args.self.now.host c.instance-instance.result c.quantum-quantum.result =
     subst (λ (l : LockedState g.row.D.Denot). of l.host c.instance-instance.result c.quantum-quantum.result) c.self.view_is t.ensures.turns in
-    subst (λ q. of c.args.self.now.host c.args.order.instance q) c.quantum-quantum.ensures
+    subst (λ q. of c.args.self.now.host c.args.order.now.instance q) c.quantum-quantum.ensures
     (subst (λ id. of c.args.self.now.host id c.quantum-quantum.result) c.instance-instance.ensures here)
 
 pub returns-clause-counted : goal.returns-clause-counted

@@ -1,10 +1,10 @@
-use Rattle.std.proofs.Common.{sym, subst, ◌∙◌}
+use Rattle.std.proofs.Common.{◌+◌, sym, subst, ◌∙◌}
 use Rattle.wh_host.specs.Hosting.{HostState, IsHost}
-use Rattle.wh_host.proofs.RunnerTurns.{have_run, may_run_all}
+use Rattle.wh_host.proofs.RunnerTurns.{have_run, heard_all, may_run_all}
 use Rattle.wh_host.proofs.host.Host.turns_at_once.Goals as goal
 
-pub run_all-requires : goal.run_all-requires
-run_all-requires g c =
+pub run_all-requires-clause-may : goal.run_all-requires-clause-may
+run_all-requires-clause-may g c =
     let i = c.self.inside in
     let h : HostState = record { modules = i.modules.items; entries = i.entries.slots; live = i.live; space = i.memory; next = i.next } in
     let inv = c.self.invariant in
@@ -16,7 +16,7 @@ lay_all-requires g c =
     let h : HostState = record { modules = i.modules.items; entries = i.entries.slots; live = i.live; space = i.memory; next = i.next } in
     let inv = c.self.invariant in
     let out = c.take_all.ensures in
-    (h, h.entries, h.space, inv.0, have_run h c.args.q c.take_all.new.entries.slots c.take_all.new.runners c.run_all.new.runners c.run_all.auto.runners out.out out.rest c.run_all.ensures, inv.1)
+    (h, c.args.burst.quantum, c.args.burst.further + 1, h.entries, h.space, inv.0, have_run h c.args.burst.quantum (c.args.burst.further + 1) c.take_all.new.entries.slots c.take_all.new.runners c.run_all.new.runners c.run_all.auto.runners out.out out.rest c.run_all.ensures, inv.1)
 
 pub invariant_of-self : goal.invariant_of-self
 invariant_of-self g c =
@@ -24,7 +24,7 @@ invariant_of-self g c =
     let h : HostState = record { modules = i.modules.items; entries = i.entries.slots; live = i.live; space = i.memory; next = i.next } in
     let inv = c.self.invariant in
     let out = c.take_all.ensures in
-    let t = c.lay_all.ensures.turns h h.entries h.space inv.0 (have_run h c.args.q c.take_all.new.entries.slots c.take_all.new.runners c.run_all.new.runners c.run_all.auto.runners out.out out.rest c.run_all.ensures) inv.1 in
+    let t = c.lay_all.ensures.turns h c.args.burst.quantum (c.args.burst.further + 1) h.entries h.space inv.0 (have_run h c.args.burst.quantum (c.args.burst.further + 1) c.take_all.new.entries.slots c.take_all.new.runners c.run_all.new.runners c.run_all.auto.runners out.out out.rest c.run_all.ensures) inv.1 in
     (t.0, t.2)
 
 pub returns-clause-turns : goal.returns-clause-turns
@@ -32,7 +32,7 @@ returns-clause-turns g c w st =
     let i = c.self.inside in
     let h : HostState = record { modules = i.modules.items; entries = i.entries.slots; live = i.live; space = i.memory; next = i.next } in
     let out = c.take_all.ensures in
-    c.lay_all.ensures.turns h h.entries h.space w (have_run h c.args.q c.take_all.new.entries.slots c.take_all.new.runners c.run_all.new.runners c.run_all.auto.runners out.out out.rest c.run_all.ensures)
+    c.lay_all.ensures.turns h c.args.burst.quantum (c.args.burst.further + 1) h.entries h.space w (have_run h c.args.burst.quantum (c.args.burst.further + 1) c.take_all.new.entries.slots c.take_all.new.runners c.run_all.new.runners c.run_all.auto.runners out.out out.rest c.run_all.ensures)
     (subst (λ z. IsHost z w) (sym c.self.view_is) st)
 
 pub returns-clause-same : goal.returns-clause-same
@@ -42,3 +42,9 @@ returns-clause-same g c = λ k y there.
     let runs = ran.2 in
     let first = c.take_all.ensures.same k ran.0 ran.1 in
     (first.0, first.1, last.2 ∙ runs.id ∙ first.2))
+
+pub returns-clause-all : goal.returns-clause-all
+returns-clause-all g c w st =
+    let i = c.self.inside in
+    let h : HostState = record { modules = i.modules.items; entries = i.entries.slots; live = i.live; space = i.memory; next = i.next } in
+    heard_all h w c.args.burst.quantum (c.args.burst.further + 1) c.take_all.new.runners c.run_all.new.runners c.lay_all.new.runners (subst (λ z. IsHost z w) (sym c.self.view_is) st) c.run_all.auto.runners c.lay_all.auto.runners c.take_all.ensures.left c.run_all.ensures c.lay_all.ensures.answers

@@ -1,4 +1,4 @@
-use Rattle.std.proofs.Common.{◌≡◌, [], refl, sym, ap, subst, ◌∙◌, arith}
+use Rattle.std.proofs.Common.{◌≡◌, [], ◌*◌, refl, sym, ap, subst, ◌∙◌, arith}
 use Rattle.wh_journal.specs.Calls.{JournalCallState}
 use Rattle.wh_machine.specs.CallStates.{setting_of}
 use Rattle.wh_host_model.specs.Host.Worlds.{computing}
@@ -50,7 +50,7 @@ returns-clause-advances g c t e es is_open given =
     let x2 : HostInstanceState = record x1 { store = k.new.store; machine = k.new.machine } in
     let turns = k.ensures.turns t.inst e.call t.rest term (sym charges) (sym fuel) st in
     let counted = o.counted in
-    advanced w c.args.q x2 m k.new.memory t e es k.result.0 0 k.result.1 [] (computing term) doing turns
+    advanced w (k.result.turns * c.args.burst.quantum) x2 m k.new.memory t e es k.result.came 0 k.result.charges [] (computing term) doing turns
     (record {
       started = λ ps is. absurd (isnt_left term ps is);
       counted = counted.pieces;

@@ -1,0 +1,49 @@
+//! Turns of two instances at once, and the same turns one after the other on another host: all comes to the same.
+#![tactic(auto)]
+
+mod guest;
+mod pair;
+mod twins;
+
+use anyhow::{Result, ensure};
+use std::alloc::Global;
+use twins::{Counts, Twins};
+use wh_host::{Fork, InOrder};
+use wh_rounds::AtOnce;
+
+// How many rounds there are, and so many frames: enough for all pages, and too few.
+const ROUNDS: u32 = 1000;
+
+const FRAMES: [u32; 2] = [40, 6];
+
+// Whether each end came, of turns that were taken at once too.
+fn look_at(counts: &Counts) -> Result<()> {
+    ensure!(
+        counts.ended > 50 && counts.again > 50 && counts.cut > 10 && counts.several > 50,
+        "too few turns were taken at once: {counts:?}"
+    );
+    ensure!(
+        counts.both > 50,
+        "all runners had instances, or none: {counts:?}"
+    );
+    Ok(())
+}
+
+// So many rounds of two instances on so many frames.
+fn run<F: Fork>(alloc: Global, fork: &F, frames: u32) -> Result<()>
+    requires { F.can fork.now }
+{
+    let mut twins = Twins::new(alloc, frames, 0x9E37_79B9_7F4A_7C15)?;
+    twins.run(alloc, fork, ROUNDS)?;
+    look_at(&twins.counts)
+}
+
+fn main(rt: HostRuntime) -> Result<()> {
+    let alloc = rt.alloc();
+    for frames in FRAMES {
+        run(alloc, &InOrder, frames)?;
+        run(alloc, &AtOnce::new(rt, 2), frames)?;
+    }
+    println!(rt; "rounds: {ROUNDS}, by one thread and by two, with many frames and with few")?;
+    Ok(())
+}

@@ -1,0 +1,69 @@
+// The runners of two instances.
+
+ghost use Rattle.std.specs.Prelude.{IfOk};
+ghost use Rattle.wh_host.specs.Rounds.{AllAreFree};
+
+use anyhow::Result;
+use std::alloc::Global;
+use std::marker::Model;
+use std::sync::atomic::AtomicU64;
+use wh_host::{Burst, Fork, Host, Runner, SeriesEnd};
+use wh_host_model::InstId;
+
+// How many pages one may write beside the memory in a round, and how many its memory has.
+const WRITTEN: u16 = 2;
+
+const PAGES: usize = 16;
+
+/// Two runners, which have no instance between rounds.
+#[derive(Drop)]
+pub struct Pair {
+    runners: Vec<Runner>,
+}
+
+impl Model for Pair {
+    ghost use Rattle.std.specs.Prelude.{List};
+    ghost use Rattle.wh_host.specs.Rounds.{AllAreFree as AreAllFree};
+    ghost use Rattle.wh_host.specs.declared.rounds.Runner.{Runner as OneRunner};
+
+    ghost Value = { List OneRunner };
+
+    ghost view = { λ t. t.runners.items };
+
+    ghost invariant = { λ t. AreAllFree t.runners.items };
+}
+
+// Runners for these instances.
+fn two_runners(alloc: Global, first: InstId, second: InstId) -> Result<Vec<Runner>>
+    ensures { IfOk result (λ runners. AllAreFree runners.items) }
+{
+    let one = Runner::new(alloc, first, WRITTEN, PAGES)?;
+    let other = Runner::new(alloc, second, WRITTEN, PAGES)?;
+    Ok(Vec::from_array(alloc, [one, other])?)
+}
+
+impl Pair {
+    /// Makes runners for these instances.
+    pub fn new(alloc: Global, first: InstId, second: InstId) -> Result<Pair> {
+        let runners = two_runners(alloc, first, second)?;
+        Ok(Pair { runners })
+    }
+
+    /// A round of bursts of `q` charges a turn, with so many further turns at most.
+    pub fn round<F: Fork>(&mut self, host: &mut Host, fork: &F, q: u64, further: u32)
+        requires { F.can fork.now }
+    {
+        let nobody = AtomicU64::new(0);
+        let burst = Burst {
+            quantum: q,
+            further,
+            wanted: &nobody,
+        };
+        host.turns_at_once(fork, self.runners.as_mut_slice(), burst);
+    }
+
+    /// To what the turns of this runner came.
+    pub fn answer(&self, at: usize) -> Option<SeriesEnd> {
+        self.runners.get(at)?.answer()
+    }
+}

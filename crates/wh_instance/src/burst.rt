@@ -1,0 +1,92 @@
+//! Bursts: a call that is brought on by several turns, one right behind the other.
+
+ghost use Rattle.std.specs.Prelude.{◌≡◌, ◌+◌, ◌*◌, ◌≤◌, true};
+ghost use Rattle.wh_machine.specs.CallStates.{HasConfiguration, setting_of, call_state};
+ghost use Rattle.wh_instance.specs.Computed.{ComputesWithin};
+ghost use Rattle.wh_instance.specs.Bursts.{AreUsed};
+ghost use Rattle.wh_instance.specs.declared.computing.TurnOutcome.TheVariants.{Again as CanGoOn};
+
+use crate::computing::{TurnOutcome, compute};
+use std::sync::atomic::{AtomicU64, Ordering};
+use wh_imports::Linked;
+use wh_linmem::LinearMem;
+use wh_machine::{Machine, Store};
+
+/// For how long a call is brought on: by a turn of so many charges, and by so many further ones at most, of which none is begun once
+/// somebody wants the memory.
+#[derive(Clone, Copy)]
+pub struct Burst<'a> {
+    /// How many charges a turn has at most.
+    pub quantum: u64,
+    /// How many turns come behind the first at most.
+    pub further: u32,
+    /// How many want the memory.
+    pub wanted: &'a AtomicU64,
+}
+
+/// What came of a burst.
+#[derive(Clone, Copy)]
+pub struct BurstEnd {
+    /// To what the call came in the last turn.
+    pub came: TurnOutcome,
+    /// How many charges it took.
+    pub charges: u64,
+    /// In how many turns.
+    pub turns: u64,
+}
+
+impl<'a> Burst<'a> {
+    // Whether a further turn is begun behind what came of the last.
+    fn goes_on(&self, came: TurnOutcome) -> bool
+        ensures { result ≡ true → (came ≡ CanGoOn) × (1 ≤ self.now.quantum) }
+    {
+        match came {
+            TurnOutcome::Again => self.quantum > 0 && self.wanted.load(Ordering::SeqCst) == 0,
+            _ => false,
+        }
+    }
+}
+
+/// Gives the call that a machine represents a burst, where it has so much fuel left: it comes to what it comes to in one turn of as many
+/// charges as all its turns had.
+pub fn compute_burst<M: LinearMem>(
+    linked: &Linked,
+    store: &mut Store,
+    machine: &mut Machine,
+    memory: &mut M,
+    burst: Burst,
+    left: u64,
+) -> BurstEnd
+    requires { HasConfiguration
+        (setting_of linked.now M.bytes M.ready M.keeps (M.limit memory.old))
+        (call_state machine.old store.old memory.old) }
+    ensures computes { ComputesWithin
+        (setting_of linked.now M.bytes M.ready M.keeps (M.limit memory.old))
+        (call_state machine.old store.old memory.old)
+        (result.turns * burst.entry.quantum) left result.came result.charges
+        (call_state machine.new store.new memory.new) }
+    ensures used { AreUsed burst.entry.quantum result.turns result.charges }
+    ensures few { result.turns ≤ burst.entry.further + 1 }
+    ensures keeps { M.keeps memory.old memory.new }
+{
+    let quantum = burst.quantum;
+    let (came, charges) = compute(linked, store, machine, memory, quantum, left);
+    let mut ended = BurstEnd {
+        came,
+        charges,
+        turns: 1,
+    };
+    for behind in 0..burst.further {
+        if !burst.goes_on(ended.came) {
+            return ended;
+        }
+        let rest = left - ended.charges;
+        let (came, charges) = compute(linked, store, machine, memory, quantum, rest);
+        ended = BurstEnd {
+            came,
+            charges: ended.charges + charges,
+            turns: u64::from(behind) + 2,
+        };
+    }
+    ended
+}
