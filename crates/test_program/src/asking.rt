@@ -28,7 +28,7 @@ pub fn words(rt: &impl AllocGlobal, line: &[&str]) -> Result<Vec<String>, Fail> 
 }
 
 /// The status of a command line, for which the input gives these bytes. The device to which pages were swapped is let go.
-pub fn status_of<E: Files + AllocGlobal + Threads + Wait + Copy + Send + 'static>(
+pub fn status_of<E: Files + AllocGlobal + Threads + Wait + Copy + Send + Sync + 'static>(
     rt: &E,
     words: &[String],
     input: &str,
@@ -44,7 +44,7 @@ where
 }
 
 /// What a command line gets, for which the input gives nothing.
-pub fn ask<E: Files + AllocGlobal + Threads + Wait + Copy + Send + 'static>(
+pub fn ask<E: Files + AllocGlobal + Threads + Wait + Copy + Send + Sync + 'static>(
     rt: &E,
     line: &[&str],
 ) -> Result<Got, Fail>
@@ -55,7 +55,7 @@ where
 }
 
 /// What a command line gets, for which the input gives these bytes.
-pub fn ask_with<E: Files + AllocGlobal + Threads + Wait + Copy + Send + 'static>(
+pub fn ask_with<E: Files + AllocGlobal + Threads + Wait + Copy + Send + Sync + 'static>(
     rt: &E,
     line: &[&str],
     input: &str,

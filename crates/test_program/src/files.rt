@@ -22,7 +22,7 @@ type Plain = [&'static str; 2];
 type Settled = [&'static str; 4];
 
 /// What a command line gets whose script is at this path and has one line.
-fn answered<E: Files + AllocGlobal + Threads + Wait + Copy + Send + 'static>(
+fn answered<E: Files + AllocGlobal + Threads + Wait + Copy + Send + Sync + 'static>(
     rt: &E,
     script: &str,
     words: &[&str],
@@ -122,7 +122,7 @@ fn settings_may_have_65536_bytes(rt: HostRuntime) -> Result<(), Fail> {
 }
 
 /// What a script of one line gets where pages are swapped to this file.
-fn answered_over<E: Files + AllocGlobal + Threads + Wait + Copy + Send + 'static>(
+fn answered_over<E: Files + AllocGlobal + Threads + Wait + Copy + Send + Sync + 'static>(
     rt: &E,
     words: &Settled,
     pages: &str,

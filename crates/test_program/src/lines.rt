@@ -84,7 +84,7 @@ fn what_has_no_script_ends_without_a_reply(rt: HostRuntime) -> Result<(), Fail> 
 
 /// The statuses of a script from the input, whose output is kept, then can't be written, and then can't be written while nothing can be said
 /// of that either.
-fn statuses<E: Files + AllocGlobal + Threads + Wait + Copy + Send + 'static>(
+fn statuses<E: Files + AllocGlobal + Threads + Wait + Copy + Send + Sync + 'static>(
     rt: &E,
     words: &[String],
     output: &mut Vec<u8>,

@@ -40,7 +40,7 @@ const SWAPS: [(&str, &str, &str); 4] = [
 ];
 
 /// What a script gets with these settings.
-fn answered<E: Files + AllocGlobal + Threads + Wait + Copy + Send + 'static>(
+fn answered<E: Files + AllocGlobal + Threads + Wait + Copy + Send + Sync + 'static>(
     rt: &E,
     settings: &str,
     script: &str,

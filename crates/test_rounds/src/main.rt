@@ -42,7 +42,7 @@ fn main(rt: HostRuntime) -> Result<()> {
     let alloc = rt.alloc();
     for frames in FRAMES {
         run(alloc, &InOrder, frames)?;
-        run(alloc, &AtOnce::new(rt, 2), frames)?;
+        run(alloc, &AtOnce::new(&rt, 2), frames)?;
     }
     println!(rt; "rounds: {ROUNDS}, by one thread and by two, with many frames and with few")?;
     Ok(())

@@ -37,7 +37,7 @@ const FAILED_WRITES: [(&[u8], &[u8], usize, usize); 8] = [
 
 /// That a script keeps so many bytes of its replies where the writer fails behind so many writes.
 fn expect_tired(
-    rt: &(impl Abort + AllocGlobal + Threads + Wait + Copy + Send + 'static),
+    rt: &(impl Abort + AllocGlobal + Threads + Wait + Copy + Send + Sync + 'static),
     script: &[u8],
     replies: &[u8],
     writes: usize,
@@ -68,7 +68,7 @@ fn a_failed_write_ends_a_script(rt: HostRuntime) -> Result<(), Fail> {
 
 /// That a script gets its replies by so many writes, and not one more.
 fn expect_writes(
-    rt: &(impl Abort + AllocGlobal + Threads + Wait + Copy + Send + 'static),
+    rt: &(impl Abort + AllocGlobal + Threads + Wait + Copy + Send + Sync + 'static),
     script: &[u8],
     replies: &[u8],
     writes: usize,
@@ -114,7 +114,7 @@ const FAILED_READS: [(&[u8], &[u8], usize, usize); 13] = [
 
 /// That a script keeps so many bytes of its replies where the reader fails behind so many bytes.
 fn expect_failed_read(
-    rt: &(impl Abort + AllocGlobal + Threads + Wait + Copy + Send + 'static),
+    rt: &(impl Abort + AllocGlobal + Threads + Wait + Copy + Send + Sync + 'static),
     script: &[u8],
     replies: &[u8],
     fails_after: usize,
@@ -142,7 +142,7 @@ fn a_failed_read_ends_a_script(rt: HostRuntime) -> Result<(), Fail> {
 
 /// That a script gets its replies where the reader is interrupted so often, behind so many bytes.
 fn expect_disturbed(
-    rt: &(impl Abort + AllocGlobal + Threads + Wait + Copy + Send + 'static),
+    rt: &(impl Abort + AllocGlobal + Threads + Wait + Copy + Send + Sync + 'static),
     settings: &Settings,
     script: &[u8],
     replies: &[u8],
@@ -162,7 +162,7 @@ fn expect_disturbed(
 
 /// The same at each place in turn, where it is interrupted less often than so.
 fn expect_disturbed_anywhere(
-    rt: &(impl Abort + AllocGlobal + Threads + Wait + Copy + Send + 'static),
+    rt: &(impl Abort + AllocGlobal + Threads + Wait + Copy + Send + Sync + 'static),
     settings: &Settings,
     script: &[u8],
     replies: &[u8],
@@ -187,7 +187,7 @@ fn an_interrupted_read_is_made_again(rt: HostRuntime) -> Result<(), Fail> {
 
 /// That a script gets its replies where the writer is interrupted behind so many writes, of which there are so many.
 fn expect_halting(
-    rt: &(impl Abort + AllocGlobal + Threads + Wait + Copy + Send + 'static),
+    rt: &(impl Abort + AllocGlobal + Threads + Wait + Copy + Send + Sync + 'static),
     settings: &Settings,
     script: &[u8],
     replies: &[u8],
@@ -209,7 +209,7 @@ fn expect_halting(
 
 /// The same at each write in turn.
 fn expect_halting_anywhere(
-    rt: &(impl Abort + AllocGlobal + Threads + Wait + Copy + Send + 'static),
+    rt: &(impl Abort + AllocGlobal + Threads + Wait + Copy + Send + Sync + 'static),
     settings: &Settings,
     script: &[u8],
     replies: &[u8],

@@ -124,7 +124,7 @@ const SCRIPTS: [(&[u8], &str); 44] = [
 
 /// That a script gets these replies, with each number of workers, and a byte at a time too.
 fn expect_both(
-    rt: &(impl Abort + AllocGlobal + Threads + Wait + Copy + Send + 'static),
+    rt: &(impl Abort + AllocGlobal + Threads + Wait + Copy + Send + Sync + 'static),
     settings: &Settings,
     script: &[u8],
     replies: &str,
@@ -151,7 +151,7 @@ fn scripts_get_their_replies(rt: HostRuntime) -> Result<(), Fail> {
 
 /// What a script gets with settings as they are by default and four workers, where it has to be answered whole.
 fn answered(
-    rt: &(impl Abort + AllocGlobal + Threads + Wait + Copy + Send + 'static),
+    rt: &(impl Abort + AllocGlobal + Threads + Wait + Copy + Send + Sync + 'static),
     script: &[u8],
 ) -> Result<Vec<u8>, Fail> {
     let settings = Settings::default();
@@ -162,7 +162,7 @@ fn answered(
 
 /// That a module whose name has so many bytes gets a reply that begins so.
 fn expect_named(
-    rt: &(impl Abort + AllocGlobal + Threads + Wait + Copy + Send + 'static),
+    rt: &(impl Abort + AllocGlobal + Threads + Wait + Copy + Send + Sync + 'static),
     length: usize,
     reply: &str,
 ) -> Result<(), Fail> {
@@ -189,7 +189,7 @@ fn names_have_32_bytes_at_most(rt: HostRuntime) -> Result<(), Fail> {
 
 /// That a line of so many bytes that begins so gets this reply, and the line behind it its own.
 fn expect_long(
-    rt: &(impl Abort + AllocGlobal + Threads + Wait + Copy + Send + 'static),
+    rt: &(impl Abort + AllocGlobal + Threads + Wait + Copy + Send + Sync + 'static),
     length: usize,
     first: &[u8],
     reply: &str,

@@ -16,7 +16,7 @@ pub const NUMBERS: [u8; 3] = [1, 2, 8];
 
 /// Runs a script with these settings and so many workers, on a device of its own and with the modules to load.
 pub fn run<R: Read, W: Write>(
-    rt: &(impl AllocGlobal + Threads + Wait + Copy + Send + 'static),
+    rt: &(impl AllocGlobal + Threads + Wait + Copy + Send + Sync + 'static),
     settings: &Settings,
     number: u8,
     reader: &mut R,
@@ -33,7 +33,7 @@ pub fn run<R: Read, W: Write>(
 
 /// What a script gets: its result, and the text that was written.
 pub fn outcome<R: Read>(
-    rt: &(impl AllocGlobal + Threads + Wait + Copy + Send + 'static),
+    rt: &(impl AllocGlobal + Threads + Wait + Copy + Send + Sync + 'static),
     settings: &Settings,
     number: u8,
     mut reader: R,
@@ -48,7 +48,7 @@ where
 
 /// That a script gets these replies with these settings and so many workers.
 pub fn expect_with(
-    rt: &(impl Abort + AllocGlobal + Threads + Wait + Copy + Send + 'static),
+    rt: &(impl Abort + AllocGlobal + Threads + Wait + Copy + Send + Sync + 'static),
     settings: &Settings,
     number: u8,
     script: &[u8],
@@ -62,7 +62,7 @@ pub fn expect_with(
 
 /// That a script gets these replies with these settings, and with each number of workers.
 pub fn expect_each(
-    rt: &(impl Abort + AllocGlobal + Threads + Wait + Copy + Send + 'static),
+    rt: &(impl Abort + AllocGlobal + Threads + Wait + Copy + Send + Sync + 'static),
     settings: &Settings,
     script: &[u8],
     replies: &str,
@@ -75,7 +75,7 @@ pub fn expect_each(
 
 /// That a script gets these replies, with settings as a document says them, and with each number of workers.
 pub fn expect(
-    rt: &(impl Abort + AllocGlobal + Threads + Wait + Copy + Send + 'static),
+    rt: &(impl Abort + AllocGlobal + Threads + Wait + Copy + Send + Sync + 'static),
     settings: &str,
     script: &str,
     replies: &str,
@@ -116,7 +116,7 @@ impl Table {
 
 /// That a script gets its replies, line by line as `Table::new` takes them. Turns of one charge have to come to the same.
 pub fn expect_lines(
-    rt: &(impl Abort + AllocGlobal + Threads + Wait + Copy + Send + 'static),
+    rt: &(impl Abort + AllocGlobal + Threads + Wait + Copy + Send + Sync + 'static),
     settings: &str,
     lines: &[(&str, &str)],
 ) -> Result<(), Fail> {
@@ -128,7 +128,7 @@ pub fn expect_lines(
 
 /// That each of these scripts gets its replies, with settings as its document says them.
 pub fn expect_all(
-    rt: &(impl Abort + AllocGlobal + Threads + Wait + Copy + Send + 'static),
+    rt: &(impl Abort + AllocGlobal + Threads + Wait + Copy + Send + Sync + 'static),
     scripts: &[(&str, &[(&str, &str)])],
 ) -> Result<(), Fail> {
     for (settings, lines) in scripts {
@@ -169,7 +169,7 @@ fn expect_used(rt: &impl Abort, text: &str, least: u32, most: u32) {
 
 /// The same as `expect_frames` asks, with these settings and so many workers.
 fn expect_frames_with(
-    rt: &(impl Abort + AllocGlobal + Threads + Wait + Copy + Send + 'static),
+    rt: &(impl Abort + AllocGlobal + Threads + Wait + Copy + Send + Sync + 'static),
     settings: &Settings,
     number: u8,
     table: &Table,
@@ -187,7 +187,7 @@ fn expect_frames_with(
 
 /// The same with each number of workers.
 fn expect_frames_each(
-    rt: &(impl Abort + AllocGlobal + Threads + Wait + Copy + Send + 'static),
+    rt: &(impl Abort + AllocGlobal + Threads + Wait + Copy + Send + Sync + 'static),
     settings: &Settings,
     table: &Table,
     least: u32,
@@ -202,7 +202,7 @@ fn expect_frames_each(
 /// That a script gets its replies in turns of one charge, where its reports depend on what a scanner came to see beside the
 /// calls: by each of them so many frames are in use at least and at most.
 pub fn expect_frames(
-    rt: &(impl Abort + AllocGlobal + Threads + Wait + Copy + Send + 'static),
+    rt: &(impl Abort + AllocGlobal + Threads + Wait + Copy + Send + Sync + 'static),
     settings: &str,
     lines: &[(&str, &str)],
     least: u32,

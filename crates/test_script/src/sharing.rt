@@ -327,7 +327,7 @@ const TAXES: [(&str, &str); 3] = [
 
 /// That the report says this of the shares by pages, with these settings.
 fn expect_share(
-    rt: &(impl Abort + AllocGlobal + Threads + Wait + Copy + Send + 'static),
+    rt: &(impl Abort + AllocGlobal + Threads + Wait + Copy + Send + Sync + 'static),
     settings: &str,
     rho: &str,
 ) -> Result<(), Fail> {

@@ -135,7 +135,7 @@ fn make_worn(
 
 /// Runs a script with these settings and so many workers, on such pages.
 fn run_worn(
-    rt: &(impl AllocGlobal + Threads + Wait + Copy + Send + 'static),
+    rt: &(impl AllocGlobal + Threads + Wait + Copy + Send + Sync + 'static),
     settings: &Settings,
     number: u8,
     script: &str,
@@ -162,7 +162,7 @@ fn run_worn(
 
 /// What is written in answer to a script, with these settings and so many workers, on such pages.
 fn answered(
-    rt: &(impl AllocGlobal + Threads + Wait + Copy + Send + 'static),
+    rt: &(impl AllocGlobal + Threads + Wait + Copy + Send + Sync + 'static),
     settings: &str,
     number: u8,
     script: &str,
@@ -207,7 +207,7 @@ const ADMITTED: &str = "module m ok\nadmit a ok 0\n";
 
 /// That `STORES` and these tries get these replies behind `ADMITTED`, where reads and writes have these fates.
 fn expect_worn(
-    rt: &(impl Abort + AllocGlobal + Threads + Wait + Copy + Send + 'static),
+    rt: &(impl Abort + AllocGlobal + Threads + Wait + Copy + Send + Sync + 'static),
     reads: Fates,
     writes: Fates,
     retries: &str,
@@ -269,7 +269,7 @@ fn all_is_loaded(rt: &impl Abort, written: &[u8], faultless: &[u8]) -> Result<bo
 /// The script of two instances, on a device of which these reads and writes fail, by so many workers. Whether it failed on the
 /// way.
 fn fails_so(
-    rt: &(impl Abort + AllocGlobal + Threads + Wait + Copy + Send + 'static),
+    rt: &(impl Abort + AllocGlobal + Threads + Wait + Copy + Send + Sync + 'static),
     number: u8,
     reads: Fates,
     writes: Fates,

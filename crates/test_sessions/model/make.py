@@ -2,12 +2,12 @@
 `../args`. COUNT is how many random scripts there are, 1000 if it isn't said."""
 import os, sys
 
-import generate, programs
+import generate, programs, rounds
 from modules import POOL
 
 HERE = os.path.dirname(os.path.abspath(__file__))
 CRATE = os.path.join(HERE, "..")
-SETTINGS = 40
+SETTINGS, ROUNDS = 40, 200
 
 
 def long_scripts():
@@ -44,6 +44,7 @@ def main(count):
         "random.txt": generate.scripts(1, count, settings),
         "limits.txt": list(long_scripts()),
         "programs.txt": programs.table(),
+        "rounds.txt": rounds.table(1, ROUNDS),
     }
     out, sums = [], [0, 0]
     for name, lines in tables.items():

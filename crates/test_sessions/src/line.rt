@@ -27,6 +27,8 @@ pub enum Line<'a> {
         settings: &'a str,
         /// Whether its last line ends as the others do.
         is_ended: bool,
+        /// Whether it was made for rounds.
+        is_for_rounds: bool,
     },
     /// A line of the script.
     Given(&'a str),
@@ -44,11 +46,19 @@ fn parse_words<'a>(words: &[&'a str]) -> Result<Line<'a>> {
             name,
             settings,
             is_ended: true,
+            is_for_rounds: false,
         }),
         ["script", name, settings, "unended"] => Ok(Line::Script {
             name,
             settings,
             is_ended: false,
+            is_for_rounds: false,
+        }),
+        ["script", name, settings, "rounds"] => Ok(Line::Script {
+            name,
+            settings,
+            is_ended: true,
+            is_for_rounds: true,
         }),
         _ => bail!("the line isn't understood"),
     }

@@ -4,7 +4,8 @@
 //! replies come from. For each table a line says how many scripts agree, how many replies these get, and how many scripts
 //! differ; before it there is a line for each that differs, with its name and its first difference. The status is 1 where
 //! one differs, or a line isn't understood. Lines of replies that begin with `#` aren't compared. Calls are run by 1, 2, 5 and
-//! 64 threads: each script takes the next of these numbers, and the fifth the first again.
+//! 64 threads: each script takes the next of these numbers, and the fifth the first again. Scripts made for rounds are run by 1, 2,
+//! 4 and 8, each by all of these.
 #![tactic(auto)]
 
 mod line;
@@ -21,7 +22,7 @@ use std::{env, fs};
 
 /// Obeys the lines of a table.
 fn run_table(
-    rt: &(impl Files + Print + AllocGlobal + Threads + Wait + Copy + Send + 'static),
+    rt: &(impl Files + Print + AllocGlobal + Threads + Wait + Copy + Send + Sync + 'static),
     session: &mut Session,
     path: &str,
 ) -> Result<()> {
@@ -34,7 +35,7 @@ fn run_table(
 
 /// Obeys the tables that are named, and says how their scripts fared.
 fn run(
-    rt: &(impl Env + Files + Print + AllocGlobal + Threads + Wait + Copy + Send + 'static),
+    rt: &(impl Env + Files + Print + AllocGlobal + Threads + Wait + Copy + Send + Sync + 'static),
     session: &mut Session,
 ) -> Result<()> {
     let mut tables = 0usize;

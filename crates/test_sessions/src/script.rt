@@ -17,6 +17,8 @@ pub struct Script {
     pub settings: String,
     /// Whether its last line ends as the others do.
     pub is_ended: bool,
+    /// Whether it was made for rounds.
+    pub is_for_rounds: bool,
     /// Its lines.
     pub given: String,
     /// The replies that it is to get.
@@ -29,6 +31,7 @@ impl Drop for Script {
             name: _,
             settings: _,
             is_ended: _,
+            is_for_rounds: _,
             given: _,
             wanted: _,
         } = self;
@@ -44,7 +47,7 @@ pub fn add_line(text: &mut String, line: &str) -> Result<()> {
 
 /// What is written where these lines are obeyed, and so many threads run calls.
 fn written(
-    rt: &(impl AllocGlobal + Threads + Wait + Copy + Send + 'static),
+    rt: &(impl AllocGlobal + Threads + Wait + Copy + Send + Sync + 'static),
     shelf: &Shelf,
     settings: &Settings,
     workers: Workers,
@@ -90,7 +93,7 @@ impl Script {
     /// What it gets from so many workers, without reports.
     pub fn replies(
         &self,
-        rt: &(impl AllocGlobal + Threads + Wait + Copy + Send + 'static),
+        rt: &(impl AllocGlobal + Threads + Wait + Copy + Send + Sync + 'static),
         shelf: &Shelf,
         workers: Workers,
     ) -> Result<String> {
@@ -111,8 +114,8 @@ impl Script {
         }
     }
 
-    /// Prints where replies first differ from those wanted.
-    pub fn print_difference(&self, rt: &impl Print, replies: &str) -> Result<()> {
+    /// Prints where the replies from so many workers first differ from those wanted.
+    pub fn print_difference(&self, rt: &impl Print, workers: u8, replies: &str) -> Result<()> {
         let name = self.name.as_str();
         let mut found = replies.split('\n');
         let mut number = 0usize;
@@ -120,11 +123,13 @@ impl Script {
             number = number.saturating_add(1);
             let came = found.next().unwrap_or("nothing");
             if came != wanted {
-                println!(rt; "script {name}, reply {number}: wanted {wanted:?}; came {came:?}")?;
+                println!(rt;
+                    "script {name} by {workers}, reply {number}: wanted {wanted:?}; came {came:?}"
+                )?;
                 return Ok(());
             }
         }
-        println!(rt; "script {name}: more than {number} replies")?;
+        println!(rt; "script {name} by {workers}: more than {number} replies")?;
         Ok(())
     }
 }

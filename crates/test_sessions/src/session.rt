@@ -14,6 +14,9 @@ use wh_settings::Workers;
 /// With how many workers scripts are run, in turn.
 const NUMBERS: [u8; 4] = [1, 2, 5, 64];
 
+/// With how many workers each script is run that was made for rounds.
+const NUMBERS_FOR_ROUNDS: [u8; 4] = [1, 2, 4, 8];
+
 /// How many scripts get the replies that they are to, how many replies these are, and how many scripts get others.
 #[derive(Clone, Copy)]
 pub struct Tally {
@@ -109,33 +112,57 @@ impl Session {
     }
 
     /// With how many workers the next script is run.
-    fn next_workers(&mut self) -> Workers {
+    fn next_workers(&mut self) -> u8 {
         let number = NUMBERS[self.count % NUMBERS.len()];
         self.count = self.count.wrapping_add(1);
-        Workers::new(number).unwrap_or(Workers::default())
+        number
     }
 
-    /// Runs a script, and counts how it fares.
-    fn judge(
-        &mut self,
-        rt: &(impl Print + AllocGlobal + Threads + Wait + Copy + Send + 'static),
+    /// Runs a script with so many workers. Whether it gets what it is to; where it doesn't, the first difference is printed.
+    fn is_right(
+        &self,
+        rt: &(impl Print + AllocGlobal + Threads + Wait + Copy + Send + Sync + 'static),
         script: &Script,
-    ) -> Result<()> {
-        let workers = self.next_workers();
+        number: u8,
+    ) -> Result<bool> {
+        let workers = Workers::new(number).unwrap_or(Workers::default());
         let replies = script.replies(rt, &self.shelf, workers)?;
         if replies.as_str() == script.wanted.as_str() {
-            self.table.agreed = self.table.agreed.saturating_add(1);
-            self.table.replies = self.table.replies.saturating_add(count_lines(&replies));
-            return Ok(());
+            return Ok(true);
         }
-        self.table.wrong = self.table.wrong.saturating_add(1);
-        script.print_difference(rt, &replies)
+        script.print_difference(rt, number, &replies)?;
+        Ok(false)
+    }
+
+    /// Runs a script as often as it is to be, and counts how it fares.
+    fn judge(
+        &mut self,
+        rt: &(impl Print + AllocGlobal + Threads + Wait + Copy + Send + Sync + 'static),
+        script: &Script,
+    ) -> Result<()> {
+        let mut is_right = true;
+        if script.is_for_rounds {
+            for number in NUMBERS_FOR_ROUNDS {
+                is_right = self.is_right(rt, script, number)? && is_right;
+            }
+        } else {
+            let number = self.next_workers();
+            is_right = self.is_right(rt, script, number)?;
+        }
+        if is_right {
+            let replies = count_lines(script.wanted.as_str());
+            self.table.agreed = self.table.agreed.saturating_add(1);
+            self.table.replies = self.table.replies.saturating_add(replies);
+        } else {
+            self.table.wrong = self.table.wrong.saturating_add(1);
+        }
+        Ok(())
     }
 
     /// Runs the script whose lines were read, if there is one.
     pub fn finish(
         &mut self,
-        rt: &(impl Print + AllocGlobal + Threads + Wait + Copy + Send + 'static),
+        rt: &(impl Print + AllocGlobal + Threads + Wait + Copy + Send + Sync + 'static),
     ) -> Result<()> {
         match mem::replace(&mut self.script, None) {
             Some(script) => self
@@ -168,6 +195,7 @@ impl Session {
         name: &str,
         settings: &str,
         is_ended: bool,
+        is_for_rounds: bool,
     ) -> Result<()> {
         let Some(document) = self.settings.get(settings) else {
             bail!("no settings have this name");
@@ -176,6 +204,7 @@ impl Session {
             name: String::from_str(alloc, name)?,
             settings: document.clone()?,
             is_ended,
+            is_for_rounds,
             given: String::new(alloc),
             wanted: String::new(alloc),
         });
@@ -201,7 +230,7 @@ impl Session {
     /// Takes a line in. One that begins with a word ends the script before.
     pub fn take(
         &mut self,
-        rt: &(impl Print + AllocGlobal + Threads + Wait + Copy + Send + 'static),
+        rt: &(impl Print + AllocGlobal + Threads + Wait + Copy + Send + Sync + 'static),
         text: &str,
     ) -> Result<()> {
         match Line::parse(rt.alloc(), text)? {
@@ -219,9 +248,10 @@ impl Session {
                 name,
                 settings,
                 is_ended,
+                is_for_rounds,
             } => {
                 self.finish(rt)?;
-                self.begin_script(rt.alloc(), name, settings, is_ended)
+                self.begin_script(rt.alloc(), name, settings, is_ended, is_for_rounds)
             }
             Line::Given(line) => self.add_given(line),
             Line::Wanted(line) => self.add_wanted(line),

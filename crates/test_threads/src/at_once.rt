@@ -38,6 +38,10 @@ impl<T: Ledger, C: Ledger, O: Ledger, E: Ledger> Drop for Batches<T, C, O, E> {
 }
 
 impl<T: Ledger, C: Ledger, O: Ledger, E: Ledger> Turns<T, C> for Batches<T, C, O, E> {
+    ghost use Rattle.std.specs.Prelude.{⊤ as Anything};
+
+    ghost can = { Anything };
+
     fn acquire_turn_lock<R: Wait>(&self, _rt: &R) {}
 
     fn release_turn_lock(&self) {}

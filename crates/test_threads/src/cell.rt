@@ -233,7 +233,7 @@ fn run_turns<
     O: Ledger + Send + 'static,
     E: Ledger + Send + 'static,
     B: CellAgreements + Send + 'static,
-    R: Threads + Wait + Copy + Send + 'static,
+    R: Threads + Wait + Copy + Send + Sync + 'static,
 >(rt: R, alloc: Global, begun: &mut Begun<T, C, O, E, B>, ids: &[InstId]) -> u64 {
     let manner = RunConfig {
         hasher: FnvHash,
@@ -279,7 +279,7 @@ fn run_begun<
     O: Ledger + Send + 'static,
     E: Ledger + Send + 'static,
     B: CellAgreements + Send + 'static,
-    R: Threads + Wait + Copy + Send + 'static,
+    R: Threads + Wait + Copy + Send + Sync + 'static,
 >(
     rt: R,
     alloc: Global,
@@ -299,7 +299,7 @@ fn all_run<
     O: Ledger + Send + 'static,
     E: Ledger + Send + 'static,
     B: CellAgreements + Send + 'static,
-    R: Threads + Wait + Copy + Send + 'static,
+    R: Threads + Wait + Copy + Send + Sync + 'static,
 >(
     rt: R,
     alloc: Global,
@@ -401,7 +401,7 @@ fn run_rounds<
     O: Ledger + Send + 'static,
     E: Ledger + Send + 'static,
     B: CellAgreements + Send + 'static,
-    R: Threads + Wait + Copy + Send + 'static,
+    R: Threads + Wait + Copy + Send + Sync + 'static,
 >(
     rt: R,
     alloc: Global,
@@ -447,7 +447,7 @@ fn work_on<
     O: Ledger + Send + 'static,
     E: Ledger + Send + 'static,
     B: CellAgreements + Send + 'static,
-    R: Threads + Wait + Copy + Send + 'static,
+    R: Threads + Wait + Copy + Send + Sync + 'static,
 >(
     rt: R,
     alloc: Global,
@@ -467,7 +467,7 @@ fn all_work<
     O: Ledger + Send + 'static,
     E: Ledger + Send + 'static,
     B: CellAgreements + Send + 'static,
-    R: Threads + Wait + Copy + Send + 'static,
+    R: Threads + Wait + Copy + Send + Sync + 'static,
 >(rt: R, alloc: Global, cell_parts: CellParts<MemSwap>) -> Result<Option<CallStatus>, Fail>
     requires empty { memory_held cell_parts.device ≡ replicate 256 [] }
     requires owned { cell_parts.to_owner ≡ B.to_owner }

@@ -197,7 +197,7 @@ fn run_all<
     O: Ledger + Send + 'static,
     E: Ledger + Send + 'static,
     B: CellAgreements + Send + 'static,
-    R: Threads + Wait + Copy + Send + 'static,
+    R: Threads + Wait + Copy + Send + Sync + 'static,
 >(
     rt: R,
     alloc: Global,
@@ -241,7 +241,7 @@ fn look_beside<
     O: Ledger + Send + 'static,
     E: Ledger + Send + 'static,
     B: CellAgreements + Send + 'static,
-    R: Threads + Wait + Copy + Send + 'static,
+    R: Threads + Wait + Copy + Send + Sync + 'static,
 >(
     rt: R,
     alloc: Global,
@@ -270,7 +270,7 @@ fn look_on_new<
     O: Ledger + Send + 'static,
     E: Ledger + Send + 'static,
     B: CellAgreements + Send + 'static,
-    R: Threads + Wait + Copy + Send + 'static,
+    R: Threads + Wait + Copy + Send + Sync + 'static,
 >(rt: R, alloc: Global, gate: &Gate, cell_parts: CellParts<GatedSwap>) -> Result<Seen, Fail>
     requires empty { memory_held cell_parts.device.memory ≡ replicate 64 [] }
     requires owned { cell_parts.to_owner ≡ B.to_owner }
@@ -295,7 +295,7 @@ fn gated(alloc: Global, gate: &Arc<Gate, Global>) -> Result<GatedSwap, AllocErro
 }
 
 // What is seen at this gate of a device.
-fn see<R: AllocGlobal + Threads + Wait + Copy + Send + 'static>(
+fn see<R: AllocGlobal + Threads + Wait + Copy + Send + Sync + 'static>(
     rt: R,
     gate: &Arc<Gate, Global>,
 ) -> Result<Seen, Fail> {
@@ -330,7 +330,7 @@ fn run_loops<
     O: Ledger + Send + 'static,
     E: Ledger + Send + 'static,
     B: CellAgreements + Send + 'static,
-    R: Threads + Wait + Copy + Send + 'static,
+    R: Threads + Wait + Copy + Send + Sync + 'static,
 >(rt: R, alloc: Global, owned: &mut OwnedHost<MemSwap, T, C, O, E, B>) -> Result<(u64, u64), Fail> {
     let loops = owned.ask(loading(alloc, &LOOPS))?;
     let a = owned.ask(admission(alloc, loops))?;
@@ -357,7 +357,7 @@ fn run_evenly<
     O: Ledger + Send + 'static,
     E: Ledger + Send + 'static,
     B: CellAgreements + Send + 'static,
-    R: Threads + Wait + Copy + Send + 'static,
+    R: Threads + Wait + Copy + Send + Sync + 'static,
 >(rt: R, alloc: Global, cell_parts: CellParts<MemSwap>) -> Result<(u64, u64), Fail>
     requires empty { memory_held cell_parts.device ≡ replicate 64 [] }
     requires owned { cell_parts.to_owner ≡ B.to_owner }

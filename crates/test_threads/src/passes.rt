@@ -24,7 +24,7 @@ fn store_apart<
     O: Ledger + Send + 'static,
     E: Ledger + Send + 'static,
     B: CellAgreements + Send + 'static,
-    R: Threads + Wait + Copy + Send + 'static,
+    R: Threads + Wait + Copy + Send + Sync + 'static,
 >(rt: R, alloc: Global, owned: &mut OwnedHost<MemSwap, T, C, O, E, B>) -> Result<(), Fail> {
     let bytes = owned.ask(loading(alloc, &BYTES))?;
     let a = owned.ask(admission(alloc, bytes))?;
@@ -82,7 +82,7 @@ fn passes<
     O: Ledger + Send + 'static,
     E: Ledger + Send + 'static,
     B: CellAgreements + Send + 'static,
-    R: Threads + Wait + Copy + Send + 'static,
+    R: Threads + Wait + Copy + Send + Sync + 'static,
 >(rt: R, alloc: Global, cell_parts: CellParts<MemSwap>) -> Result<(Passed, Passed), Fail>
     requires empty { memory_held cell_parts.device ≡ replicate 256 [] }
     requires owned { cell_parts.to_owner ≡ B.to_owner }

@@ -122,7 +122,7 @@ fn run_two<
     O: Ledger + Send + 'static,
     E: Ledger + Send + 'static,
     B: CellAgreements + Send + 'static,
-    R: Threads + Wait + Copy + Send + 'static,
+    R: Threads + Wait + Copy + Send + Sync + 'static,
 >(rt: R, alloc: Global, owned: &mut OwnedHost<MemSwap, T, C, O, E, B>) -> Result<InstId, Fail> {
     let bytes = owned.ask(loading(alloc, &BYTES))?;
     let id = owned.ask(admission(alloc, bytes))?;
@@ -173,7 +173,7 @@ fn show<
     O: Ledger + Send + 'static,
     E: Ledger + Send + 'static,
     B: CellAgreements + Send + 'static,
-    R: Threads + Wait + Copy + Send + 'static,
+    R: Threads + Wait + Copy + Send + Sync + 'static,
 >(rt: R, alloc: Global, cell_parts: CellParts<MemSwap>) -> Result<Shown, Fail>
     requires empty { memory_held cell_parts.device ≡ replicate 256 [] }
     requires owned { cell_parts.to_owner ≡ B.to_owner }

@@ -116,7 +116,7 @@ fn device_over<F: OpenFile + Read + Write + Seek + Drop>(
 /// Runs a script with these settings and so many workers, from the input where it has no path. Pages are swapped to the
 /// device, which comes back.
 fn run_over<
-    E: AllocGlobal + Threads + Wait + Copy + Send + 'static,
+    E: AllocGlobal + Threads + Wait + Copy + Send + Sync + 'static,
     S: Folder + Source,
     D: SwapDev + Drop + Send + 'static,
     R: Read,
@@ -154,7 +154,7 @@ fn run_over<
 
 /// Runs a script with these settings, in which no file for swap is named. Pages are swapped to memory.
 fn run_in_memory<
-    E: AllocGlobal + Threads + Wait + Copy + Send + 'static,
+    E: AllocGlobal + Threads + Wait + Copy + Send + Sync + 'static,
     S: Folder + Source,
     R: Read,
     W: Write,
@@ -180,7 +180,7 @@ fn run_in_memory<
 /// Runs the script of a command line with these settings and its workers. Pages are swapped to this file, over which the
 /// device comes back.
 fn run_on_file<
-    E: Files + AllocGlobal + Threads + Wait + Copy + Send + 'static,
+    E: Files + AllocGlobal + Threads + Wait + Copy + Send + Sync + 'static,
     S: Folder + Source,
     R: Read,
     W: Write,
@@ -213,7 +213,7 @@ where
 /// Runs the script of a command line with these settings and its workers. The device comes back, where the settings name a
 /// file for it.
 fn run_with<
-    E: Files + AllocGlobal + Threads + Wait + Copy + Send + 'static,
+    E: Files + AllocGlobal + Threads + Wait + Copy + Send + Sync + 'static,
     S: Folder + Source,
     R: Read,
     W: Write,
@@ -248,7 +248,7 @@ where
 /// Runs the script of a command line with its settings and workers. The device comes back, where the settings name a file
 /// for it.
 fn run_given<
-    E: Files + AllocGlobal + Threads + Wait + Copy + Send + 'static,
+    E: Files + AllocGlobal + Threads + Wait + Copy + Send + Sync + 'static,
     S: Folder + Source,
     R: Read,
     W: Write,
@@ -284,7 +284,7 @@ fn stop(errors: &mut impl Write, fault: ProgramFault) -> u8
 /// the input, or from the file of the folder that the words name, where modules come from too. The replies go to `output`,
 /// and why it stops or isn't begun to `errors`.
 pub fn answer<
-    E: Files + AllocGlobal + Threads + Wait + Copy + Send + 'static,
+    E: Files + AllocGlobal + Threads + Wait + Copy + Send + Sync + 'static,
     S: Folder + Source,
     R: Read,
     W: Write,
@@ -329,7 +329,18 @@ where
 
 /// Runs the program, with the words, the streams and the files of this process.
 pub fn run<
-    E: Env + Files + Input + Print + Eprint + AllocGlobal + Threads + Wait + Copy + Send + 'static,
+    E: Env
+        + Files
+        + Input
+        + Print
+        + Eprint
+        + AllocGlobal
+        + Threads
+        + Wait
+        + Copy
+        + Send
+        + Sync
+        + 'static,
 >(rt: E) -> ExitCode
 where
     E::File: Lockable + Send + 'static,

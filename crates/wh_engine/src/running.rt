@@ -47,12 +47,10 @@ impl<
     /// # Errors
     /// `Memory` where room was refused, and `Threads` where a thread couldn't be started; some calls may have run then. Not
     /// `Threads` where no call is open.
-    pub fn run<H: PageHash + Copy + Send + 'static, R: Threads + Wait + Copy + Send + 'static>(
-        &mut self,
-        rt: R,
-        alloc: Global,
-        run_config: RunConfig<H>,
-    ) -> Result<(), RunFault>
+    pub fn run<
+        H: PageHash + Copy + Send + 'static,
+        R: Threads + Wait + Copy + Send + Sync + 'static,
+    >(&mut self, rt: R, alloc: Global, run_config: RunConfig<H>) -> Result<(), RunFault>
         requires { run_config.workers ≤ 64 }
         ensures device { DeviceStaysTrue D.keeps D.honest self.old.host.device
             self.new.host.device }

@@ -14,29 +14,29 @@ use wh_host::{Fork, Round, Runner};
 /// Brings the runners of a round on at once: each run of neighbours in a thread of its own, where one can be started, else in the
 /// calling one.
 #[derive(Drop)]
-pub struct AtOnce<R> {
-    rt: R,
+pub struct AtOnce<'a, R> {
+    rt: &'a R,
     threads: usize,
     ghost some: { 0 < threads },
 }
 
-impl<R> AtOnce<R> {
+impl<'a, R> AtOnce<'a, R> {
     /// Uses at most `threads` threads, 1 or more.
-    pub fn new(rt: R, threads: usize) -> AtOnce<R>
+    pub fn new(rt: &'a R, threads: usize) -> AtOnce<'a, R>
         requires { 0 < threads }
     {
         AtOnce { rt, threads }
     }
 }
 
-impl<R: Threads + Sync> Fork for AtOnce<R> {
+impl<'a, R: Threads + Sync> Fork for AtOnce<'a, R> {
     ghost use Rattle.std.specs.Thread.{IsSync};
 
     ghost can = { λ _. IsSync R.row };
 
     fn run_all(&self, round: &Round, runners: &mut [Runner]) {
         thread::for_each_mut(
-            &self.rt,
+            self.rt,
             runners,
             self.threads,
             &|_: usize, runner: &mut Runner|

@@ -1,3 +1,4 @@
+mod InRounds
 mod InHand
 mod RunQueues
 mod Scans

@@ -4,15 +4,21 @@
 
 mod jobs;
 mod owned;
+mod round_room;
 mod run_queue;
+mod scan_job;
 mod scanning;
 mod serving;
 mod spin_backoff;
+mod turn_job;
 mod turn_lock;
 
-pub use jobs::{ReclaimJob, ScanJob, Schedule, TurnJob, TurnSupply};
+pub use jobs::{ReclaimJob, Schedule, TurnSupply};
 pub use owned::OwnedHost;
+pub use round_room::{Aim, RoundRoom};
 pub use run_queue::{Choice, QueueEntry, RunQueue, Series};
+pub use scan_job::{Look, ScanJob};
 pub use serving::{RunConfig, run_calls};
 pub use spin_backoff::SpinBackoff;
+pub use turn_job::TurnJob;
 pub use turn_lock::TurnLock;

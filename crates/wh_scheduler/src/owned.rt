@@ -294,7 +294,10 @@ impl<
     ///
     /// # Errors
     /// Those of `run_calls`.
-    pub fn run<H: PageHash + Copy + Send + 'static, R: Threads + Wait + Copy + Send + 'static>(
+    pub fn run<
+        H: PageHash + Copy + Send + 'static,
+        R: Threads + Wait + Copy + Send + Sync + 'static,
+    >(
         &mut self,
         rt: R,
         alloc: Global,
@@ -349,7 +352,7 @@ fn run_between<
     E: Ledger + Send + 'static,
     B: CellAgreements + Send + 'static,
     H: PageHash + Copy + Send + 'static,
-    R: Threads + Wait + Copy + Send + 'static,
+    R: Threads + Wait + Copy + Send + Sync + 'static,
 >(
     rt: R,
     alloc: Global,

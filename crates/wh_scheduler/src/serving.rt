@@ -6,13 +6,15 @@ ghost use Rattle.wh_threads.specs.Counting.{turns_of};
 ghost use Rattle.wh_threads.specs.Handover.{SameMessages};
 ghost use Rattle.wh_workers.specs.Serving.{AreRun, AreTurns};
 
-use crate::jobs::{ReclaimJob, ScanJob, Schedule, TurnJob, TurnSupply};
+use crate::jobs::{ReclaimJob, Schedule, TurnSupply};
 use crate::run_queue::RunQueue;
+use crate::scan_job::ScanJob;
 use crate::spin_backoff::SpinBackoff;
+use crate::turn_job::TurnJob;
 use std::alloc::{AllocError, Global};
 use std::sync::atomic::AtomicU64;
 use std::sync::ledger::Ledger;
-use std::sync::{Arc, Wait};
+use std::sync::{Arc, Mutex, Wait};
 use std::thread::Threads;
 use wh_cell::{CellAgreements, HostCell};
 use wh_host_model::InstId;
@@ -33,9 +35,9 @@ pub struct RunConfig<H> {
 }
 
 // What the threads of a run do, and who dispatches the turns.
-struct Staff<D: SwapDev, T: Ledger, C: Ledger, O: Ledger, E: Ledger, B: CellAgreements, H> {
+struct Staff<D: SwapDev, T: Ledger, C: Ledger, O: Ledger, E: Ledger, B: CellAgreements, H, X> {
     jobs: Jobs<
-        TurnJob<D, T, C, O, E, B>,
+        TurnJob<D, T, C, O, E, B, X>,
         ScanJob<D, T, C, O, E, B, H>,
         ReclaimJob<D, T, C, O, E, B>,
     >,
@@ -51,12 +53,14 @@ fn staff_of<
     E: Ledger,
     B: CellAgreements,
     H: PageHash + Copy,
+    X: Threads + Drop + Sync,
 >(
+    rt: X,
     alloc: Global,
     cell: &HostCell<D, T, C, O, E, B>,
     ids: &[InstId],
     run_config: RunConfig<H>,
-) -> Result<Staff<D, T, C, O, E, B, H>, AllocError> {
+) -> Result<Staff<D, T, C, O, E, B, H, X>, AllocError> {
     let run_queue = RunQueue::new(alloc, ids)?;
     let Ok(schedule) = Arc::new(alloc, Schedule::new(alloc, run_queue, run_config.workers)?) else {
         return Err(AllocError);
@@ -65,16 +69,23 @@ fn staff_of<
     let Ok(all) = Arc::new(alloc, copies) else {
         return Err(AllocError);
     };
+    let Ok(threads) = Arc::new(alloc, rt) else {
+        return Err(AllocError);
+    };
     let turns = TurnJob {
         cell: cell.share()?,
         schedule: Arc::try_clone(&schedule)?,
         turns_held: AtomicU64::new(0),
+        threads,
+        workers: run_config.workers,
     };
     let scans = ScanJob {
         cell: cell.share()?,
         schedule: Arc::try_clone(&schedule)?,
         ids: all,
         hasher: run_config.hasher,
+        looks: Mutex::new(Vec::new(alloc)),
+        alloc,
     };
     let reclaims = ReclaimJob {
         cell: cell.share()?,
@@ -96,16 +107,18 @@ fn staff_of<
 }
 
 /// Runs the calls of `ids` until none can go on. The calling thread dispatches the turns, and runs up to 31 itself. Where more
-/// come, or a step waits for a frame, `run_config.workers` run the further ones, each in a thread of its own; beside them a
-/// scanner offers pages, and a reclaimer makes steps ready that wait for frames.
+/// come, or a step waits for a frame, `run_config.workers` run the further ones, each in a thread of its own, and those of several
+/// instances that compute for long at once, by as many threads; beside them a scanner offers pages, and a reclaimer makes steps
+/// ready that wait for frames.
 ///
 /// Returns what was dispatched and run, however it ended. Where it ended well each dispatched turn was received once, the
 /// workers' counts have grown by so many, and for each 64 turns a page was offered. No count gets smaller.
 ///
 /// # Errors
 /// `Memory` where room was refused: no turn was run then. `Served::end` says so where there was no room for the crew or not all
-/// workers could be started, and the first turns alone were run; or pages couldn't be offered that are owed. It is `NoThread` too where a step waited for a frame and the reclaimer couldn't be
-/// started: no further turn was dispatched then, and calls may be left that can go on.
+/// workers could be started, and the first turns alone were run; or pages couldn't be offered that are owed. It is `NoThread` too
+/// where a step waited for a frame and the reclaimer couldn't be started: no further turn was dispatched then, and calls may be left
+/// that can go on.
 pub fn run_calls<
     D: SwapDev + Drop + Send + 'static,
     T: Ledger + Send + 'static,
@@ -114,7 +127,7 @@ pub fn run_calls<
     E: Ledger + Send + 'static,
     B: CellAgreements + Send + 'static,
     H: PageHash + Copy + Send + 'static,
-    R: Threads + Wait + Copy + Send + 'static,
+    R: Threads + Wait + Copy + Send + Sync + 'static,
 >(
     rt: R,
     alloc: Global,
@@ -137,7 +150,7 @@ pub fn run_calls<
     ensures offers { shares.old.offers ≤ shares.new.offers }
     ensures evictions { shares.old.evictions ≤ shares.new.evictions }
 {
-    let Ok(staff) = staff_of(alloc, cell, ids, run_config) else {
+    let Ok(staff) = staff_of(rt, alloc, cell, ids, run_config) else {
         return Err(ServeError::Memory);
     };
     let Staff { jobs, mut supply } = staff;

@@ -10,6 +10,9 @@ use std::time::Duration;
 // So long a worker that waits sleeps at most, in seconds, though nobody rings.
 const LONGEST_SLEEP_SECONDS: u64 = 1;
 
+// So often who has received a series looks whether others are still to be dispatched: who dispatches them may have to be woken.
+const LOOKS_FOR_ALL: u32 = 10_000;
+
 /// Held by the worker that receives turns and runs them. Workers hold it one after another, in the order in which they asked.
 /// The others sleep, so none of them waits for the host's lock, nor for a message.
 #[derive(Drop)]
@@ -22,6 +25,8 @@ pub struct TurnLock {
     dispatched: AtomicU64,
     // How many of these were received, modulo 2^64.
     received: AtomicU64,
+    // How many series are due, and were not dispatched yet, modulo 2^64.
+    due: AtomicU64,
     // How long the worker that holds the turn lock looks for a message before it sleeps.
     spin_backoff: SpinBackoff,
     // As many as there are workers: who waits sleeps on the one at its number modulo their count, where no other one waits.
@@ -43,6 +48,7 @@ impl TurnLock {
             left: AtomicU64::new(0),
             dispatched: AtomicU64::new(0),
             received: AtomicU64::new(0),
+            due: AtomicU64::new(0),
             spin_backoff: SpinBackoff::new(),
             bells,
         })
@@ -86,9 +92,25 @@ impl TurnLock {
         }
     }
 
-    /// Counts a message to be dispatched.
+    /// Counts a series as due: it is to be dispatched.
+    pub fn owe(&self) {
+        let _ = self.due.fetch_add(1, Ordering::SeqCst);
+    }
+
+    /// Counts a message to be dispatched, which was due.
     pub fn dispatch(&self) {
         let _ = self.dispatched.fetch_add(1, Ordering::SeqCst);
+        let _ = self.due.fetch_sub(1, Ordering::SeqCst);
+    }
+
+    /// Spins for some tens of microseconds until no series is due that isn't dispatched. Whoever then receives finds them all.
+    pub fn look_for_all(&self) {
+        for _ in 0..LOOKS_FOR_ALL {
+            if self.due.load(Ordering::SeqCst) == 0 {
+                return;
+            }
+            hint::spin_loop();
+        }
     }
 
     /// Counts a message received by its holder.

@@ -34,7 +34,7 @@ impl<
     /// # Errors
     /// `Memory` where room for it is refused; `Threads` and `Transcript` where calls don't run to their ends, and `Threads` also
     /// where a scanner can't be started.
-    pub fn answer<S: Source, X: Threads + Wait + Copy + Send + 'static>(
+    pub fn answer<S: Source, X: Threads + Wait + Copy + Send + Sync + 'static>(
         &mut self,
         rt: X,
         source: &S,
@@ -70,7 +70,7 @@ impl<
     ///
     /// # Errors
     /// As `answer`.
-    fn command<S: Source, X: Threads + Wait + Copy + Send + 'static>(
+    fn command<S: Source, X: Threads + Wait + Copy + Send + Sync + 'static>(
         &mut self,
         rt: X,
         source: &S,
@@ -108,7 +108,7 @@ impl<
     ///
     /// # Errors
     /// As `answer`.
-    fn invoke<X: Threads + Wait + Copy + Send + 'static>(
+    fn invoke<X: Threads + Wait + Copy + Send + Sync + 'static>(
         &mut self,
         rt: X,
         inst: &str,

@@ -42,7 +42,7 @@ pub fn run_script<
     W: Write,
     S: Source,
     D: SwapDev + Drop + Send + 'static,
-    X: Threads + Wait + Copy + Send + 'static,
+    X: Threads + Wait + Copy + Send + Sync + 'static,
 >(
     rt: X,
     alloc: Global,
@@ -90,7 +90,7 @@ fn run_on_cell_parts<
     W: Write,
     S: Source,
     D: SwapDev + Drop + Send + 'static,
-    X: Threads + Wait + Copy + Send + 'static,
+    X: Threads + Wait + Copy + Send + Sync + 'static,
 >(
     rt: X,
     alloc: Global,
@@ -139,7 +139,7 @@ impl<
     ///
     /// # Errors
     /// Those of `run_script`.
-    fn run_lines<R: Read, W: Write, S: Source, X: Threads + Wait + Copy + Send + 'static>(
+    fn run_lines<R: Read, W: Write, S: Source, X: Threads + Wait + Copy + Send + Sync + 'static>(
         &mut self,
         rt: X,
         source: &S,

@@ -195,7 +195,7 @@ impl<
     /// # Errors
     /// `Memory` where room is refused, `Threads` where a thread can't be started, and `Transcript` where calls can still go
     /// on then.
-    pub fn drain<X: Threads + Wait + Copy + Send + 'static>(
+    pub fn drain<X: Threads + Wait + Copy + Send + Sync + 'static>(
         &mut self,
         rt: X,
     ) -> Result<(), RunFault>
@@ -217,7 +217,10 @@ impl<
     }
 
     // Runs all calls, in the manner of the settings, until none can go on.
-    fn run<X: Threads + Wait + Copy + Send + 'static>(&mut self, rt: X) -> Result<(), RunFault>
+    fn run<X: Threads + Wait + Copy + Send + Sync + 'static>(
+        &mut self,
+        rt: X,
+    ) -> Result<(), RunFault>
         ensures config { self.new.config ≡ self.old.config }
         ensures device { DeviceStaysTrue D.keeps D.honest self.old.script_host.host.device
             self.new.script_host.host.device }
@@ -250,7 +253,7 @@ impl<
     ///
     /// # Errors
     /// Those of `drain`.
-    pub fn complain_drained<X: Threads + Wait + Copy + Send + 'static>(
+    pub fn complain_drained<X: Threads + Wait + Copy + Send + Sync + 'static>(
         &mut self,
         rt: X,
         cause: LineError,

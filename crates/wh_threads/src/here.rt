@@ -23,6 +23,7 @@ fn receive_and_run<T: Ledger, C: Ledger, J: Turns<T, C>, R: Wait>(
     worker: &mut Worker<T, C>,
     room: &mut SeriesRoom,
 ) -> bool
+    requires can { J.can }
     requires channel { IsSeatAt (receives_on receiver.now) slip.old }
     requires part { 0 < (view slip.old).parts }
     ensures channel { IsSeatAt (receives_on receiver.now) slip.new }
@@ -56,6 +57,7 @@ pub fn run_here<T: Ledger, C: Ledger, O: Ledger, E: Ledger, J: Turns<T, C>, R: W
     seat: usize,
     room: &mut SeriesRoom,
 ) -> bool
+    requires can { J.can }
     requires channel { IsSeatAt (receives_on receiver.now) slip.old }
     requires part { 0 < (view slip.old).parts }
     requires seat { (seat < 64) × (lender.old.workers_out < 64) }

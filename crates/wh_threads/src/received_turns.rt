@@ -10,6 +10,8 @@ use wh_host_model::InstId;
 /// what was dispatched.
 pub struct ReceivedTurns {
     instance: InstId,
+    // How many were received.
+    received: u32,
     count: u32,
     quantum: u32,
 }
@@ -29,6 +31,7 @@ impl ReceivedTurns {
     {
         ReceivedTurns {
             instance,
+            received: count,
             count,
             quantum,
         }
@@ -46,6 +49,11 @@ impl ReceivedTurns {
         ensures { result ≡ self.now.count }
     {
         self.count
+    }
+
+    /// How many were received at once: these, and those of them that are run by now.
+    pub fn received(&self) -> u32 {
+        self.received
     }
 
     /// How many charges each has at most.
@@ -69,6 +77,7 @@ impl ReceivedTurns {
     {
         let ReceivedTurns {
             instance: _,
+            received: _,
             count: _,
             quantum: _,
         } = self;

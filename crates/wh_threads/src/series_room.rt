@@ -91,6 +91,7 @@ impl SeriesRoom {
         order: ReceivedTurns,
         worker: &mut Worker<T, C>,
     )
+        requires can { J.can }
         requires room { worker.old.tally.turns + order.count < 2 ^ 64 }
         ensures from { worker.new.from ≡ worker.old.from }
         ensures turns { worker.new.tally.turns ≡ worker.old.tally.turns + order.count }
@@ -110,6 +111,7 @@ impl SeriesRoom {
         order: ReceivedTurns,
         worker: &mut Worker<T, C>,
     ) -> bool
+        requires can { J.can }
         requires channel { IsSeatAt (receives_on receiver.now) slip.old }
         requires part { 0 < (view slip.old).parts }
         requires few { order.count < 2 ^ 32 }

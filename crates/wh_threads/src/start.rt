@@ -58,6 +58,7 @@ pub fn start_worker<
     slip: &mut Slip,
     signs: usize,
 ) -> Result<PromisedHandle<WorkerResult<T, C>, Works>, WorkerResult<T, C>>
+    requires can { J.can }
     requires channel { IsSeatAt (receives_on with.receiver) with.slip }
     requires new { view with.slip ≡ traffic 1 [] [] }
     requires begun { with.worker.tally ≡ with.worker.from }
@@ -82,7 +83,7 @@ pub fn start_worker<
         receiver: Snapshot::of(&receiver),
     };
     let run = move || -> WorkerResult<T, C>
-        requires { IsSeatAt (receives_on receiver) mine × (view mine ≡ traffic 1 [] [])
+        requires { J.can × IsSeatAt (receives_on receiver) mine × (view mine ≡ traffic 1 [] [])
             × (worker.tally ≡ worker.from) }
         ensures { HasWorked (receives_on receiver) worker.from result.worker result.slip }
     { work_with(rt, job, receiver, worker, mine, room) };

@@ -21,6 +21,10 @@ use std::thread::Promise;
 
 /// What a worker does with turns. Each worker has a value of its own.
 pub trait Turns<T: Ledger, C: Ledger> {
+    // What is known of the job's own type wherever it runs turns. A thread knows of a type what it is told (`IsSync`, say), so
+    // who starts threads of its own says here of what.
+    ghost can: { Type 0 };
+
     /// Waits until this worker may receive turns. Where turns are run under one lock, whoever waits here doesn't wait there.
     fn acquire_turn_lock<R: Wait>(&self, rt: &R);
 
@@ -33,6 +37,7 @@ pub trait Turns<T: Ledger, C: Ledger> {
     /// Runs all turns of the series that were received, each of which the worker counts. None of these is left, and the list has
     /// as much room as before.
     fn run_all<R: Wait>(&self, rt: &R, orders: &mut Vec<ReceivedTurns>, worker: &mut Worker<T, C>)
+        requires can { Self.can }
         requires room { worker.old.tally.turns + turns_due orders.old.items < 2 ^ 64 }
         ensures from { worker.new.from ≡ worker.old.from }
         ensures turns { worker.new.tally.turns
@@ -148,6 +153,7 @@ fn work<T: Ledger, C: Ledger, J: Turns<T, C>, R: Wait>(
     room: SeriesRoom,
 ) -> WorkerResult<T, C>
     requires channel { IsSeatAt (receives_on receiver.now) slip }
+    requires can { J.can }
     requires new { view slip ≡ traffic 1 [] [] }
     requires begun { worker.tally ≡ worker.from }
     ensures { HasWorked (receives_on receiver.now) worker.from result.worker result.slip }
@@ -181,6 +187,7 @@ pub fn work_with<T: Ledger, C: Ledger, J: Turns<T, C> + Drop, R: Wait + Drop>(
     room: SeriesRoom,
 ) -> WorkerResult<T, C>
     requires channel { IsSeatAt (receives_on receiver) slip }
+    requires can { J.can }
     requires new { view slip ≡ traffic 1 [] [] }
     requires begun { worker.tally ≡ worker.from }
     ensures { HasWorked (receives_on receiver) worker.from result.worker result.slip }

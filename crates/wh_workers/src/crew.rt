@@ -121,6 +121,7 @@ fn start_all<
     Vec<PromisedHandle<WorkerResult<T, C>, Works>>,
     Result<(), ServeError>,
 )
+    requires can { J.can }
     requires channel { IsSeatAt (sends_on team.now.sender) slip.old }
     requires parts { (view slip.old).parts ≡ all_parts }
     requires few { workers ≤ 64 }
@@ -256,6 +257,7 @@ pub fn run_crew<
     first: FirstTurns,
     run_config: Crew,
 ) -> (u64, Result<(), ServeError>)
+    requires can { J.can }
     requires channel { IsSeatAt (sends_on team.now.sender) slip.old }
     requires parts { (view slip.old).parts ≡ all_parts }
     requires begun { AreTurns first.turns run_config.quantum (view slip.old).sent }

@@ -47,6 +47,7 @@ pub fn run_first_turns<
     room: &mut SeriesRoom,
     quantum: u32,
 ) -> FirstTurns
+    requires can { J.can }
     requires channel { IsSeatAt (sends_on team.now.sender) slip.old }
     requires fresh { view slip.old ≡ traffic all_parts [] [] }
     requires whole { lender.old.workers_out ≡ 0 }

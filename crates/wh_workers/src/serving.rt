@@ -67,6 +67,7 @@ fn crew_with_helpers<
     first: FirstTurns,
     run_config: Crew,
 ) -> (u64, Result<(), ServeError>)
+    requires can { J.can }
     requires channel { IsSeatAt (sends_on team.now.sender) slip.old }
     requires parts { (view slip.old).parts ≡ all_parts }
     requires begun { AreTurns first.turns run_config.quantum (view slip.old).sent }
@@ -126,6 +127,7 @@ fn run_turns<
     room: &mut SeriesRoom,
     run_config: Crew,
 ) -> (u64, Result<(), ServeError>)
+    requires can { J.can }
     requires channel { IsSeatAt (sends_on team.now.sender) slip.old }
     requires fresh { view slip.old ≡ traffic all_parts [] [] }
     requires crew { run_config.workers ≤ 64 }
@@ -169,6 +171,7 @@ fn serve_turns<
     lender: &mut Lender<T, C, O, E>,
     run_config: Crew,
 ) -> Result<Served, ServeError>
+    requires can { J.can }
     requires crew { run_config.workers ≤ 64 }
     requires whole { HasAllParts lender.old }
     ensures dispatched { IfOk result (λ s. AreTurns s.turns run_config.quantum (view s.slip).sent) }
@@ -299,6 +302,7 @@ pub fn serve<
     shares: &mut Shares<T, C, O, E>,
     run_config: Crew,
 ) -> Result<Served, ServeError>
+    requires can { J.can }
     requires crew { (0 < run_config.workers) × (run_config.workers ≤ 64) }
     ensures dispatched { IfOk result (λ s. AreTurns s.turns run_config.quantum (view s.slip).sent) }
     ensures grown { IfOk result (λ s. AreRun (turns_of shares.old.tallies) (view s.slip).received

@@ -8,7 +8,7 @@ use Rattle.wh_cell.specs.Locking.{BooksState}
 use Rattle.wh_cell.specs.Scanned.{IsScanned}
 use Rattle.wh_scheduler.specs.InHand.{AreSums, OwnedState, owned_of}
 use Rattle.wh_scheduler.proofs.InHand.{in_hand_counted}
-use Rattle.wh_scheduler.proofs.Scans.{Came, came_backing, came_books, came_known, came_moves, came_same, came_scans, came_sums, on_both, owned_is, owned_now, owned_then, sums_now}
+use Rattle.wh_scheduler.proofs.Scans.{Came, came_backing, came_books, came_known, came_moves, came_same, came_scans, came_sums, on_both, owned_is, owned_then, sums_now}
 use Rattle.wh_scheduler.proofs.owned.OwnedHost.scan.Goals as goal
 
 pub invariant_of-self : goal.invariant_of-self

@@ -1,5 +1,5 @@
 use Rattle.std.proofs.Common.{◌≡◌, ◌+◌, ◌<◌}
-use Rattle.wh_scheduler.proofs.jobs.TurnJob.hold.Given as goal
+use Rattle.wh_scheduler.proofs.turn_job.TurnJob.hold.Given as goal
 
 abbrev pub decreases-loop-last : goal.decreases-loop-last
 decreases-loop-last g l = l.order.count

@@ -1,5 +1,5 @@
 use Rattle.std.proofs.Common.{◌≡◌, ◌+◌}
-use Rattle.wh_scheduler.proofs.jobs.TurnJob.run_series.Given as goal
+use Rattle.wh_scheduler.proofs.turn_job.TurnJob.run_series.Given as goal
 
 abbrev pub decreases-loop-order : goal.decreases-loop-order
 decreases-loop-order g l = l.order.count

@@ -1,6 +1,6 @@
 use Rattle.std.proofs.Common.{◌≡◌, ◌+◌, ◌≤◌, vec_capacity, vec_len}
 use Rattle.wh_threads.specs.Working.{turns_due}
-use Rattle.wh_scheduler.proofs.jobs.TurnJobTurns.run_all.Given as goal
+use Rattle.wh_scheduler.proofs.turn_job.TurnJobTurns.run_all.Given as goal
 
 abbrev pub decreases-loop-order : goal.decreases-loop-order
 decreases-loop-order g l = vec_len l.orders

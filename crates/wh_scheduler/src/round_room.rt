@@ -1,0 +1,168 @@
+//! Rounds: turns of several instances whose series a worker has received, at once.
+
+ghost use Rattle.std.specs.Prelude.{◌≡◌, ◌+◌, ◌-◌, ◌<◌, ◌≤◌, ◌^◌, true, length};
+ghost use Rattle.wh_host.specs.Rounds.{AllAreFree};
+ghost use Rattle.wh_threads.specs.Working.{turns_due};
+ghost use Rattle.wh_cell.specs.RoundCounts.{AreReceived};
+
+use std::alloc::{AllocError, Global};
+use std::marker::Model;
+use std::sync::atomic::AtomicU64;
+use std::sync::ledger::Ledger;
+use wh_cell::{CellAgreements, Locked};
+use wh_host::{Burst, Fork, Runner};
+use wh_host_model::InstId;
+use wh_swap::SwapDev;
+use wh_threads::{ReceivedTurns, Worker};
+
+// So many instances are in a round at most.
+pub(crate) const MOST_AT_ONCE: usize = 32;
+
+// So many pages an instance writes in a round at most: behind as many its part of the round ends.
+const WRITTEN_PAGES: u16 = 64;
+
+// Of how many pages a memory has at most whose instance is in a round: 64 MB. Behind each round a mark of each is cleared.
+const PAGES: usize = 16384;
+
+// So many turns of each instance a round has at least, where its series have as many.
+const FEWEST_FURTHER: u32 = 63;
+
+/// For how long the series of a round run at most.
+#[derive(Clone, Copy)]
+pub struct Aim<'a> {
+    /// How many charges each turn has.
+    pub quantum: u32,
+    /// How many turns of each instance come behind its first one.
+    pub further: u32,
+    /// How many want the host's lock: the round ends once there is somebody.
+    pub wanted: &'a AtomicU64,
+}
+
+/// Room for the runners of rounds. None has an instance between rounds.
+#[derive(Drop)]
+pub struct RoundRoom {
+    alloc: Global,
+    runners: Vec<Runner>,
+    // How many turns of an instance come in a round behind its first one at most: fewer where one had to stop in the last round.
+    longest: u32,
+}
+
+impl Model for RoundRoom {
+    ghost use Rattle.std.specs.Prelude.{List};
+    ghost use Rattle.wh_host.specs.Rounds.{AllAreFree as AllFree};
+    ghost use Rattle.wh_host.specs.declared.rounds.Runner.{Runner as RunnerState};
+
+    ghost Value = { List RunnerState };
+
+    ghost view = { λ r. r.runners.items };
+
+    ghost invariant = { λ r. AllFree r.runners.items };
+}
+
+impl RoundRoom {
+    /// Makes room for rounds of at most `most` instances; the runners themselves are made when a round first has so many.
+    ///
+    /// # Errors
+    /// Where room was refused.
+    pub fn new(alloc: Global, most: usize) -> Result<RoundRoom, AllocError> {
+        let runners = Vec::with_capacity(alloc, most)?;
+        Ok(RoundRoom {
+            alloc,
+            runners,
+            longest: u32::MAX,
+        })
+    }
+
+    // Makes runners until there are so many. Whether there are; else room was refused, or there is none for so many.
+    fn fit(&mut self, many: usize) -> bool
+        ensures { result ≡ true → many ≤ length self.new }
+    {
+        while self.runners.len() < many {
+            if self.runners.len() == self.runners.capacity() {
+                return false;
+            }
+            let nobody = InstId {
+                place: 0,
+                number: 0,
+            };
+            let Ok(runner) = Runner::new(self.alloc, nobody, WRITTEN_PAGES, PAGES) else {
+                return false;
+            };
+            self.runners.push_reserved(runner);
+        }
+        true
+    }
+}
+
+// Whether each of these instances had all turns of the round.
+fn had_all(runners: &[Runner], turns: u64) -> bool {
+    for runner in runners {
+        let had = match runner.answer() {
+            Some(end) => end.turns,
+            None => 0,
+        };
+        if had < turns {
+            return false;
+        }
+    }
+    true
+}
+
+// Gives each runner to the instance of one of these series. Whether each series has turns of so many charges, and so many of them.
+fn give_all(runners: &mut [Runner], orders: &[ReceivedTurns], aim: Aim) -> bool
+    requires free { AllAreFree runners.old }
+    requires many { length runners.old ≡ length orders.now }
+    ensures free { AllAreFree runners.new }
+    ensures received { result ≡ true → AreReceived aim.entry.quantum (aim.entry.further + 1) runners.new orders.now }
+{
+    for at in 0..runners.len() {
+        let order = &orders[at];
+        if order.quantum() != aim.quantum || order.count() <= aim.further {
+            return false;
+        }
+        runners[at].give(order.instance());
+    }
+    true
+}
+
+impl RoundRoom {
+    /// Runs turns of all these series at once, under the lock, where there are runners for so many, and each series has turns of as
+    /// many charges as the aim says, and as many of them. Whether it did; else nothing has changed.
+    pub fn run<D: SwapDev, T: Ledger, C: Ledger, O: Ledger, E: Ledger, B: CellAgreements, F: Fork>(
+        &mut self,
+        fork: &F,
+        locked: &mut Locked<D, T, C, O, E, B>,
+        orders: &mut [ReceivedTurns],
+        aim: Aim,
+        worker: &mut Worker<T, C>,
+    ) -> bool
+        requires can { F.can fork.now }
+        requires few { (length orders.old ≤ 32) × (aim.further + 1 < 2 ^ 32) }
+        requires room { worker.old.tally.turns ≤ 2 ^ 64 - 2 ^ 38 }
+        ensures from { worker.new.from ≡ worker.old.from }
+        ensures turns { worker.new.tally.turns + turns_due orders.new
+            ≡ worker.old.tally.turns + turns_due orders.old }
+    {
+        if !self.fit(orders.len()) {
+            return false;
+        }
+        let further = aim.further.min(self.longest);
+        let aim = Aim { further, ..aim };
+        let (runners, _) = self.runners.split_at_mut(orders.len());
+        if !give_all(runners, orders, aim) {
+            return false;
+        }
+        let burst = Burst {
+            quantum: u64::from(aim.quantum),
+            further,
+            wanted: aim.wanted,
+        };
+        locked.turns_at_once(fork, runners, orders, burst, worker);
+        self.longest = if had_all(runners, u64::from(further) + 1) {
+            self.longest.saturating_mul(2)
+        } else {
+            (further / 2).max(FEWEST_FURTHER)
+        };
+        true
+    }
+}

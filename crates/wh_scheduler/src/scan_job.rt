@@ -1,0 +1,191 @@
+//! What the scanner does beside the turns.
+
+ghost use Rattle.std.specs.Prelude.{◌≡◌, ◌<◌, ◌^◌};
+
+use crate::jobs::{Schedule, TURNS_FOR_AN_OFFER};
+use std::alloc::{AllocError, Global};
+use std::sync::atomic::Ordering;
+use std::sync::ledger::Ledger;
+use std::sync::{Arc, Condvar, Mutex, MutexGuard, Wait};
+use wh_cell::{CellAgreements, HostCell, Locked};
+use wh_host::Sample;
+use wh_host_model::InstId;
+use wh_kernels::PageHash;
+use wh_swap::SwapDev;
+use wh_threads::{Help, HelpOutcome, Helper};
+
+// So many pages are looked at, and offered, under one hold of the lock at most.
+const MOST_LOOKS: u64 = 64;
+
+/// A page as it was looked at.
+#[derive(Clone, Copy)]
+pub struct Look {
+    // Whose it is.
+    id: InstId,
+    // Which.
+    page: u32,
+    // What it had; none where it wasn't alone on a frame.
+    sample: Option<Sample>,
+    // The hash of that; 0 where there is none, or it isn't known yet.
+    hash: u64,
+}
+
+/// Offers a page for each 64 dispatched turns, many at a time: looks at them under the lock, hashes them without, and offers them
+/// under the lock.
+pub struct ScanJob<D: SwapDev, T: Ledger, C: Ledger, O: Ledger, E: Ledger, B: CellAgreements, H> {
+    /// The cell.
+    pub cell: HostCell<D, T, C, O, E, B>,
+    /// How many turns were dispatched.
+    pub schedule: Arc<Schedule, Global>,
+    /// Whose pages are offered, in turn.
+    pub ids: Arc<Vec<InstId>, Global>,
+    /// How pages are hashed.
+    pub hasher: H,
+    /// The pages that were looked at last. Where it is shared there is room for as many as are looked at.
+    pub looks: Mutex<Vec<Look>>,
+    /// Where room for these is taken.
+    pub alloc: Global,
+}
+
+impl<D: SwapDev + Drop, T: Ledger, C: Ledger, O: Ledger, E: Ledger, B: CellAgreements, H: Drop> Drop
+    for ScanJob<D, T, C, O, E, B, H> {
+    fn drop(self) {
+        let ScanJob {
+            cell: _,
+            schedule: _,
+            ids: _,
+            hasher: _,
+            looks: _,
+            alloc: _,
+        } = self;
+    }
+}
+
+// The page of the round of this number, of an instance with so many pages of 65536 bytes: 0 where it has none.
+fn page_in_round(round: u64, size: u32) -> u32 {
+    let pages = u64::from(size) * 16;
+    if pages == 0 || pages > u64::from(u32::MAX) {
+        return 0;
+    }
+    (round % pages) as u32
+}
+
+impl<
+    D: SwapDev + Drop,
+    T: Ledger,
+    C: Ledger,
+    O: Ledger,
+    E: Ledger,
+    B: CellAgreements,
+    H: PageHash,
+> ScanJob<D, T, C, O, E, B, H> {
+    // So many pages are to be offered for the turns so far, since the scanner was given its counts, that weren't.
+    fn due<R: Wait>(&self, rt: &R, helper: &Helper<O>) -> u64 {
+        let offered = helper.count().saturating_sub(helper.from());
+        let owed = self.schedule.turns(rt) / TURNS_FOR_AN_OFFER;
+        owed.saturating_add(1).saturating_sub(offered)
+    }
+
+    // Waits for the host's lock, and acquires it.
+    fn lock<R: Wait>(&self, rt: &R) -> MutexGuard<'_, Locked<D, T, C, O, E, B>> {
+        self.schedule.scanner_waits.store(1, Ordering::SeqCst);
+        let locked = self.cell.lock(rt);
+        self.schedule.scanner_waits.store(0, Ordering::SeqCst);
+        locked
+    }
+
+    // Looks at the pages that are offered after so many, as they are now, and as many as there is room for.
+    fn look<R: Wait>(&self, rt: &R, count: u64, due: u64, looks: &mut Vec<Look>) {
+        looks.clear();
+        let many = self.ids.len() as u64;
+        if many == 0 {
+            return;
+        }
+        let locked = self.lock(rt);
+        for step in 0..due.min(MOST_LOOKS) {
+            let at = count.wrapping_add(step);
+            let id = self.ids[(at % many) as usize];
+            let page = page_in_round(at / many, locked.host().size_at(id.place));
+            let sample = locked.host().sample(id, page);
+            let look = Look {
+                id,
+                page,
+                sample,
+                hash: 0,
+            };
+            if looks.push(look).is_err() {
+                return;
+            }
+        }
+    }
+
+    // Hashes what these pages had.
+    fn hash(&self, looks: &mut [Look]) {
+        for at in 0..looks.len() {
+            if let Some(sample) = &looks[at].sample {
+                looks[at].hash = self.hasher.hash(&sample.bytes);
+            }
+        }
+    }
+
+    // Offers these pages. Whether all were.
+    fn offer<R: Wait>(&self, rt: &R, looks: &[Look], helper: &mut Helper<O>) -> HelpOutcome
+        ensures from { helper.new.from ≡ helper.old.from }
+    {
+        let mut locked = self.lock(rt);
+        for look in looks {
+            let is_full = helper.count() == u64::MAX;
+            if is_full
+                || locked
+                    .offer(&self.hasher, look.id, look.page, look.hash, helper)
+                    .is_none()
+            {
+                return HelpOutcome::Ended;
+            }
+        }
+        HelpOutcome::Did
+    }
+}
+
+impl<
+    D: SwapDev + Drop,
+    T: Ledger,
+    C: Ledger,
+    O: Ledger,
+    E: Ledger,
+    B: CellAgreements,
+    H: PageHash + Copy,
+> Help<O> for ScanJob<D, T, C, O, E, B, H> {
+    fn help<R: Wait>(&self, rt: &R, helper: &mut Helper<O>) -> HelpOutcome {
+        let due = self.due(rt, helper);
+        if due == 0 {
+            return HelpOutcome::Waits;
+        }
+        let mut looks = self.looks.lock(rt);
+        self.look(rt, helper.count(), due, &mut looks);
+        if looks.is_empty() {
+            return HelpOutcome::Ended;
+        }
+        self.hash(&mut looks);
+        self.offer(rt, &looks, helper)
+    }
+
+    fn bell(&self) -> &Condvar {
+        &self.schedule.offer_owed
+    }
+
+    fn share(&self) -> Result<Self, AllocError> {
+        let cell = self.cell.share()?;
+        let schedule = Arc::try_clone(&self.schedule)?;
+        let ids = Arc::try_clone(&self.ids)?;
+        let looks = Vec::with_capacity(self.alloc, MOST_LOOKS as usize)?;
+        Ok(ScanJob {
+            cell,
+            schedule,
+            ids,
+            hasher: self.hasher,
+            looks: Mutex::new(looks),
+            alloc: self.alloc,
+        })
+    }
+}
