@@ -19,7 +19,7 @@ use wh_swap::SwapDev;
 use wh_threads::{ReceivedTurns, Turns, Worker};
 
 // For how many turns a worker receives turns while another one waits to do so.
-const MOST_TURNS_HELD: u64 = 1 << 16;
+const MOST_TURNS_HELD: u64 = 1024;
 
 // So many turns a series has at most.
 const MOST_TURNS_IN_A_SERIES: u32 = 4096;
