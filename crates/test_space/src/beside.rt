@@ -1,7 +1,7 @@
 // Two memories at once, each read below and written beside the other, and then laid back.
 
-ghost use Rattle.std.specs.Prelude.{◌≡◌, ◌≢◌, [], IfOk};
-ghost use Rattle.wh_overlay.specs.Over.{AreAlone, HasGrown};
+ghost use Rattle.std.specs.Prelude.{◌≡◌, ◌≢◌, ◌+◌, ◌≤◌, [], IfOk, length};
+ghost use Rattle.wh_overlay.specs.Over.{AreAtHand, HasGrown, frames_lacking};
 
 use crate::same;
 use crate::trial::{MAX, PLACES, Trial, some_count, some_place};
@@ -46,10 +46,12 @@ fn run_two(
     uppers: (Upper, Upper),
     places: (usize, usize),
 ) -> Result<(Upper, Upper, u32)>
-    requires first { (uppers.0.pages ≡ []) × (uppers.0.grown ≡ 0) }
-    requires second { (uppers.1.pages ≡ []) × (uppers.1.grown ≡ 0) }
-    ensures alone { IfOk result (λ r. AreAlone memory.now places.0 r.0.pages
-        × AreAlone memory.now places.1 r.1.pages) }
+    requires first { (uppers.0.pages ≡ []) × (uppers.0.grown ≡ 0) × (uppers.0.taken ≡ 0) }
+    requires second { (uppers.1.pages ≡ []) × (uppers.1.grown ≡ 0) × (uppers.1.taken ≡ 0) }
+    ensures hand { IfOk result (λ r. AreAtHand memory.now places.0 r.0.pages
+        × AreAtHand memory.now places.1 r.1.pages) }
+    ensures frames { IfOk result (λ r. (frames_lacking memory.now places.0 r.0.pages ≤ uppers.0.lent)
+        × (frames_lacking memory.now places.1 r.1.pages ≤ uppers.1.lent)) }
     ensures limited { IfOk result (λ r. HasGrown memory.now places.0 r.0
         × HasGrown memory.now places.1 r.1) }
 {
@@ -74,8 +76,10 @@ fn run_two(
 // Lays back what two instances at different places have written beside the memory.
 fn lay_two(memory: &mut Memory, uppers: (Upper, Upper), places: (usize, usize))
     requires apart { places.1 ≢ places.0 }
-    requires first { AreAlone memory.old places.0 uppers.0.pages }
-    requires second { AreAlone memory.old places.1 uppers.1.pages }
+    requires first { AreAtHand memory.old places.0 uppers.0.pages }
+    requires second { AreAtHand memory.old places.1 uppers.1.pages }
+    requires frames { frames_lacking memory.old places.0 uppers.0.pages
+        + frames_lacking memory.old places.1 uppers.1.pages ≤ length memory.old.pool.free }
     requires first_limit { HasGrown memory.old places.0 uppers.0 }
     requires second_limit { HasGrown memory.old places.1 uppers.1 }
 {
@@ -90,8 +94,12 @@ impl Trial {
     pub fn run_beside(&mut self, alloc: Global) -> Result<()> {
         let first = self.random.below(PLACES - 1) as usize;
         let places = (first, PLACES as usize - 1);
-        let here = Upper::new(alloc, ROOM, MAX as usize)?;
-        let there = Upper::new(alloc, ROOM, MAX as usize)?;
+        let mut here = Upper::new(alloc, ROOM, MAX as usize)?;
+        let mut there = Upper::new(alloc, ROOM, MAX as usize)?;
+        let free = self.memory.free();
+        let lent = self.random.below(free.saturating_add(1)).min(free);
+        here.lend(lent);
+        there.lend(free - lent);
         let (here, there, refused) = run_two(
             &mut self.random,
             &self.memory,
@@ -100,6 +108,9 @@ impl Trial {
             places,
         )?;
         lay_two(&mut self.memory, (here, there), places);
+        if self.memory.free() < free {
+            self.counts.took = self.counts.took.saturating_add(1);
+        }
         self.counts.laid = self.counts.laid.saturating_add(1);
         self.counts.not_beside = self.counts.not_beside.saturating_add(refused);
         Ok(())

@@ -79,7 +79,7 @@ fn look(counts: &Counts) -> Result<()> {
         "too few pages were merged, or stores refused: {counts:?}"
     );
     ensure!(
-        counts.laid > 100 && counts.not_beside > 100,
+        counts.laid > 100 && counts.not_beside > 100 && counts.took > 5,
         "too little was done beside the memory: {counts:?}"
     );
     Ok(())

@@ -22,8 +22,8 @@ const FRAMES: u32 = 96;
 
 pub const MAX: u32 = 48;
 
-// How often each answer of an offer came, how often a store found no frame, how often what two have written was laid back, and
-// how often something couldn't be done beside the memory.
+// How often each answer of an offer came, how often a store found no frame, how often what two have written was laid back, how
+// often something couldn't be done beside the memory, and how often frames were taken where it was laid back.
 #[derive(Clone, Copy, Debug, Default)]
 pub struct Counts {
     pub skipped: u32,
@@ -35,6 +35,7 @@ pub struct Counts {
     pub not_ready: u32,
     pub laid: u32,
     pub not_beside: u32,
+    pub took: u32,
 }
 
 // The memories, by place.

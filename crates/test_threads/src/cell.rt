@@ -375,8 +375,7 @@ fn each_has_worked<T: Ledger, C: Ledger, O: Ledger, E: Ledger>(
     true
 }
 
-// Each instance is asked for 200 stores and a load of what they stored: the last load. So there are turns for several stints
-// of workers.
+// Each instance is asked for 200 stores and a load of what they stored: the last load. So several workers have turns.
 fn ask_each<T: Ledger, C: Ledger, O: Ledger, E: Ledger, B: CellAgreements>(
     alloc: Global,
     owned: &mut OwnedHost<MemSwap, T, C, O, E, B>,

@@ -13,6 +13,7 @@ use Rattle.wh_host_model.specs.Host.Events.{turn}
 use Rattle.wh_host_model.specs.Host.Happens.{IsLive, IsTurn, of_none, of_one}
 use Rattle.wh_host_model.specs.Host.Worlds.{Tenant, World, journal, with_tenant}
 use Rattle.wh_host_model.specs.Owners.{Entry}
+use Rattle.wh_host_model.proofs.Space.Putting.{set_other, set_same, there_of}
 use Rattle.wh_host.specs.declared.rounds.Runner.{Runner}
 use Rattle.wh_host.specs.declared.rounds.SeriesEnd.{SeriesEnd}
 use Rattle.wh_host.specs.Backing.{KeepsBacking}
@@ -184,18 +185,6 @@ charges_next ys i y there =
     let one : charges_of_round (y ∷ []) ≡ charges_by_turns y.answer + 0 = sum_by-cons (λ (z : Runner). charges_by_turns z.answer) y [] in
     omega (arith, step, both, one)
 
-set_there : {X : Type 0} (xs : List X) (i : ℕ) (x y : X) → slice_get xs i ≡ Some y → slice_get (slice_set xs i x) i ≡ Some x
-set_there [] i x y there = absurd (cc there)
-set_there (z ∷ xs) zero x y there = refl
-set_there (z ∷ xs) (suc i) x y there = set_there xs i x y there
-
-set_elsewhere : {X : Type 0} (xs : List X) (i j : ℕ) (x : X) → j ≢ i → slice_get (slice_set xs i x) j ≡ slice_get xs j
-set_elsewhere [] i j x other = refl
-set_elsewhere (y ∷ xs) zero zero x other = absurd (other refl)
-set_elsewhere (y ∷ xs) zero (suc j) x other = refl
-set_elsewhere (y ∷ xs) (suc i) zero x other = refl
-set_elsewhere (y ∷ xs) (suc i) (suc j) x other = set_elsewhere xs i j x (λ e. other (ap suc e))
-
 pub counted_next : (ys : List Runner) (orders orders2 : List ReceivedTurnsState) (i : ℕ) (y : Runner) (o : ReceivedTurnsState) → CountedSoFar ys orders orders2 i → slice_get ys i ≡ Some y → slice_get orders2 i ≡ Some o → turns_by y.answer ≤ 2 ^ 32
     → CountedSoFar ys orders (slice_set orders2 i (record o { count = o.count - turns_by y.answer })) (i + 1)
 counted_next ys orders orders2 i y o h there at least =
@@ -205,10 +194,10 @@ counted_next ys orders orders2 i y o h there at least =
         | inl same ↦ (
             let same_y : y ≡ z = cc (sym there ∙ ap (slice_get ys) (sym same) ∙ there2) in
             let same_o : o ≡ p = cc (sym at ∙ h.rest i (omega arith) ∙ ap (slice_get orders) (sym same) ∙ at2) in
-            ap (slice_get (slice_set orders2 i o2)) same ∙ set_there orders2 i o2 o at ∙ ap (λ (x : ReceivedTurnsState). Some (record x { count = x.count - turns_by y.answer })) same_o ∙ ap (λ (x : Runner). Some (record p { count = p.count - turns_by x.answer })) same_y)
-        | inr other ↦ set_elsewhere orders2 i k o2 other ∙ h.done k z p (before k less other) there2 at2
+            ap (slice_get (slice_set orders2 i o2)) same ∙ set_same orders2 i o2 (there_of orders2 i o at) ∙ ap (λ (x : ReceivedTurnsState). Some (record x { count = x.count - turns_by y.answer })) same_o ∙ ap (λ (x : Runner). Some (record p { count = p.count - turns_by x.answer })) same_y)
+        | inr other ↦ set_other orders2 i k o2 other ∙ h.done k z p (before k less other) there2 at2
       ];
-      rest = λ k least2. set_elsewhere orders2 i k o2 (λ same. absurd (omega (arith, same, least2))) ∙ h.rest k (omega (arith, least2));
+      rest = λ k least2. set_other orders2 i k o2 (λ same. absurd (omega (arith, same, least2))) ∙ h.rest k (omega (arith, least2));
       few = (let more = turns_next ys i y there in let f = h.few in omega (arith, more, f, least));
     }
   where

@@ -32,7 +32,7 @@ use Rattle.wh_host.specs.Series.{IsWholeOrCut}
 use Rattle.wh_instance.proofs.Finished.{finishes, may_finish}
 use Rattle.wh_overlay.specs.LaidPages.{AreWhole, UpperState, with_upper}
 use Rattle.wh_overlay.specs.LaidBack.{ComesThere, IsLaid, LooksSame, ProceedsThere}
-use Rattle.wh_overlay.specs.Over.{AreAlone, IsOverSame, IsReadyOver, IsWholeOver, OverlayState, sees}
+use Rattle.wh_overlay.specs.Over.{AreAtHand, IsOverSame, IsReadyOver, IsWholeOver, OverlayState, frames_lacking, sees}
 use Rattle.wh_overlay.proofs.LaidTakes.{Laying, proceeds_laid, proceeds_none, whole_there}
 use Rattle.wh_overlay.proofs.SomeLaid.{none_laid}
 use Rattle.wh_space.specs.Steps.{limit_by, page_limit}
@@ -147,10 +147,12 @@ again_end x k n c cs made x2 answer again done =
 -- ---- one that has run
 
 -- nothing is written yet
-none_whole : (s : Space) (i : ℕ) (first u : UpperState) → first.pages ≡ [] → first.grown ≡ 0 → IsWholeOver s i u → IsWholeOver s i first
-none_whole s i first u none same (over, whole) = (
+none_whole : (s : Space) (i : ℕ) (first u : UpperState) → first.pages ≡ [] → first.grown ≡ 0 → first.taken ≡ 0 → IsWholeOver s i u → IsWholeOver s i first
+none_whole s i first u none same taken (over, whole) = (
   record {
-    alone = subst (AreAlone s i) (sym none) (λ k x there. absurd (cc there));
+    at_hand = subst (AreAtHand s i) (sym none) (λ k x there. absurd (cc there));
+    frames = (let lacking : frames_lacking s i first.pages ≡ 0 = ap (frames_lacking s i) none in omega (arith, lacking));
+    lent = omega (arith, taken);
     counted = (let few = over.counted in omega (arith, few, same));
     limited = λ some. absurd (omega (arith, some, same));
   },
@@ -181,9 +183,9 @@ parts_of : (o : OverlayState) (s : Space) (i l : ℕ) (u : UpperState) → o.low
 parts_of o s i l u a b c d = rw (← a, ← b, ← c, ← d) refl
 
 -- what is known of one that has run over it
-pub ran_beside : (l : LinkedState) (limit q : ℕ) (s : Space) (place : ℕ) (x : HostInstanceState) (t : Tenant) (o o2 : OverlayState) (answer : TurnOutcome) (k n : ℕ) (x1 : HostInstanceState) (first u : UpperState) → IsAtTerm t → LiesAt l limit x s place t → o ≡ memory_with s place limit first → first.pages ≡ [] → first.grown ≡ 0
+pub ran_beside : (l : LinkedState) (limit q : ℕ) (s : Space) (place : ℕ) (x : HostInstanceState) (t : Tenant) (o o2 : OverlayState) (answer : TurnOutcome) (k n : ℕ) (x1 : HostInstanceState) (first u : UpperState) → IsAtTerm t → LiesAt l limit x s place t → o ≡ memory_with s place limit first → first.pages ≡ [] → first.grown ≡ 0 → first.taken ≡ 0
     → IsOverSame o o2 → u ≡ o2.upper → IsWholeOver o2.lower o2.place u → StaysBut x x1 → AdvancesAny (setting_of l sees IsReadyOver IsOverSame (min o.page_limit (page_limit o.lower o.place))) q x o answer k n x1 o2 → RunsBeside l limit q s place x t answer k n x1 u
-ran_beside l limit q s place x t o o2 answer k n x1 first u computes lies is none same keeps upper whole stays advances =
+ran_beside l limit q s place x t o o2 answer k n x1 first u computes lies is none same taken keeps upper whole stays advances =
     let keeps2 = subst (λ (z : OverlayState). IsOverSame z o2) is keeps in
     let advances2 = subst (λ (z : OverlayState). AdvancesAny (setting_of l sees IsReadyOver IsOverSame (min z.page_limit (page_limit z.lower z.place))) q x z answer k n x1 o2) is advances in
     let is2 : o2 ≡ memory_with s place limit u = parts_of o2 s place limit u keeps2.lower keeps2.place keeps2.page_limit (sym upper) in
@@ -192,6 +194,8 @@ ran_beside l limit q s place x t o o2 answer k n x1 first u computes lies is non
       first = first;
       no_pages = none;
       not_grown = same;
+      none_taken = taken;
+      lent = ap (λ (z : UpperState). z.lent) upper ∙ keeps2.lent;
       whole = subst (λ (z : OverlayState). IsWholeOver z.lower z.place u) is2 whole;
       stays = stays;
       advances = λ e es is_open. subst (λ z. AdvancesTenant (beside_setting l limit s place) q (memory_with s place limit first) t e es answer k n x1 z) is2
@@ -278,7 +282,7 @@ module _ (l : LinkedState) (limit q : ℕ) (s0 s : Space) (place : ℕ) (x : Hos
         record {
           looks = h.run.looks;
           sound = h.sound;
-          lies = record { lower = refl; place = refl; whole = none_whole s0 place runs.first u runs.no_pages runs.not_grown runs.whole };
+          lies = record { lower = refl; place = refl; lent = (let few = h.run.frames in let lent = runs.lent in omega (arith, few, lent)); whole = none_whole s0 place runs.first u runs.no_pages runs.not_grown runs.none_taken runs.whole };
           first = none_laid s place runs.first runs.no_pages runs.not_grown;
           last = laid_there e es is_open;
           none = h.left;

@@ -1,5 +1,5 @@
 -- Runners of a round, one after the other.
-use Rattle.std.proofs.Common.{◌≡◌, ◌≢◌, ◌∙◌, ◌⊎◌, inl, inr, ℕ, ◌+◌, ◌<◌, ◌≤◌, Bool, true, false, List, [], ◌∷◌, Option, Some, None, length, slice_get, slice_index_or, slice_set, zero, suc, refl, sym, ap, subst, arith}
+use Rattle.std.proofs.Common.{◌≡◌, ◌≢◌, ◌∙◌, ◌⊎◌, inl, inr, ℕ, ◌+◌, ◌<◌, ◌≤◌, cond, Bool, true, false, List, [], ◌∷◌, Option, Some, None, length, slice_get, slice_index_or, slice_set, zero, suc, refl, sym, ap, subst, arith}
 use Rattle.std.proofs.lemmas.Bool.{cases_eq, cases_lt}
 use Rattle.wh_overlay.proofs.Marks.{set_there, set_elsewhere}
 use Rattle.wh_host_model.proofs.Space.Putting.{there_of}
@@ -9,8 +9,10 @@ use Rattle.wh_host_model.specs.declared.plain.InstId.{InstId}
 use Rattle.wh_host.specs.declared.parts.InstanceEntry.{InstanceEntry}
 use Rattle.wh_host.specs.declared.rounds.Runner.{Runner}
 use Rattle.wh_host.specs.Hosting.{entry_at}
-use Rattle.wh_host.specs.Rounds.{AllAreFree, AreTakenOut, RunnersStay, IsFree, IsOut, SitsThere}
-use Rattle.wh_host.specs.Joining.{IsLeftOut, IsTakenOut, TakesOut}
+use Rattle.wh_overlay.specs.LaidPages.{UpperState}
+use Rattle.wh_host_model.proofs.Space.Sums.{set_tally}
+use Rattle.wh_host.specs.Rounds.{AllAreFree, AreTakenOut, RunnersStay, IsFree, IsOut, SitsThere, lent_in, lent_to, lent_to_all}
+use Rattle.wh_host.specs.Joining.{IsLeftOut, IsTakenOut, TakesOut, with_lent}
 use Rattle.wh_host.proofs.Hosts.{one_value, seat_set}
 
 -- ---- a list of which one after the other changes
@@ -76,8 +78,8 @@ free_out E F ys P i y y2 out there free free2 = record {
     back k a at sits = sym (set_elsewhere ys i k y2 (other k a at sits)) ∙ at
 
 -- one more goes out
-more_out : (E F : List (Option InstanceEntry)) (ys : List Runner) (i : ℕ) (y : Runner) (F2 : List (Option InstanceEntry)) (y2 : Runner) → AreTakenOut E F ys SitsThere → slice_get ys i ≡ Some y → IsFree y → IsTakenOut F y F2 y2 → AreTakenOut E F2 (slice_set ys i y2) SitsThere
-more_out E F ys i y F2 y2 out there free t = record {
+more_out : (E F : List (Option InstanceEntry)) (ys : List Runner) (i : ℕ) (y : Runner) (n : ℕ) (F2 : List (Option InstanceEntry)) (y2 : Runner) → AreTakenOut E F ys SitsThere → slice_get ys i ≡ Some y → IsFree y → IsTakenOut F y n F2 y2 → AreTakenOut E F2 (slice_set ys i y2) SitsThere
+more_out E F ys i y n F2 y2 out there free t = record {
   elsewhere = λ p none.
       (let far : p ≢ y.id.place = λ e. none i y2 here taken (place ∙ sym e) in
       others p far ∙ out.elsewhere p (λ k a at sits. none k a (set_elsewhere ys i k y2 (away k a at sits) ∙ at) sits));
@@ -141,6 +143,9 @@ more_out E F ys i y F2 y2 out there free t = record {
     before : entry_at E y.id.place ≡ Some t.entry
     before = sym (out.elsewhere y.id.place (λ k a at sits. apart_from a (out.each k a at sits))) ∙ t.was
 
+    room_then : (u : UpperState) × (with_lent n y.upper ≡ Some u) × (u.pages ≡ []) × (u.grown ≡ 0) × (u.taken ≡ 0)
+    room_then = let r = free.1 in let u = r.0 in (record u { lent = n; taken = 0 }, ap (with_lent n) r.1, r.2, r.3, refl)
+
     mine : IsOut E F2 y2 SitsThere
     mine = subst (λ z. IsOut E F2 z SitsThere) (sym t.runner) (record {
       entry = t.entry;
@@ -150,7 +155,7 @@ more_out E F ys i y F2 y2 out there free t = record {
       page_limit = refl;
       spare = y.tenant;
       is = put.0;
-      so = (refl, t.computes, free.1);
+      so = (refl, t.computes, room_then);
     })
 
 -- ---- who is left out
@@ -198,8 +203,8 @@ taken_none E xs free = record {
   same = λ k y there. (y, there, refl);
 }
 
-pub taken_next : (E : List (Option InstanceEntry)) (xs : List Runner) (F : List (Option InstanceEntry)) (ys : List Runner) (i : ℕ) (y : Runner) (F2 : List (Option InstanceEntry)) (y2 : Runner) → TakenSoFar E xs F ys i → slice_get ys i ≡ Some y → TakesOut F y F2 y2 → TakenSoFar E xs F2 (slice_set ys i y2) (i + 1)
-taken_next E xs F ys i y F2 y2 h there takes = record {
+pub taken_next : (E : List (Option InstanceEntry)) (xs : List Runner) (F : List (Option InstanceEntry)) (ys : List Runner) (i : ℕ) (y : Runner) (n : ℕ) (F2 : List (Option InstanceEntry)) (y2 : Runner) → TakenSoFar E xs F ys i → slice_get ys i ≡ Some y → TakesOut F y n F2 y2 → TakenSoFar E xs F2 (slice_set ys i y2) (i + 1)
+taken_next E xs F ys i y n F2 y2 h there takes = record {
   out = out takes;
   free = λ k a at gone. elim (cases_eq k i) [
     | inl same ↦ (let e = is k a same at in subst IsFree e (room takes (subst (λ (z : Runner). z.taken ≡ false) (sym e) gone)))
@@ -234,11 +239,11 @@ taken_next E xs F ys i y F2 y2 h there takes = record {
       | inr behind ↦ absurd (other (omega (arith, less, behind)))
     ]
 
-    out : TakesOut F y F2 y2 → AreTakenOut E F2 (slice_set ys i y2) SitsThere
+    out : TakesOut F y n F2 y2 → AreTakenOut E F2 (slice_set ys i y2) SitsThere
     out (inl s) = subst (λ rs. AreTakenOut E rs (slice_set ys i y2) SitsThere) (sym s.entries) (free_out E F ys SitsThere i y y2 h.out there free.0 (ap (λ (z : Runner). z.taken) s.runner))
-    out (inr t) = more_out E F ys i y F2 y2 h.out there free t
+    out (inr t) = more_out E F ys i y n F2 y2 h.out there free t
 
-    room : TakesOut F y F2 y2 → y2.taken ≡ false → IsFree y2
+    room : TakesOut F y n F2 y2 → y2.taken ≡ false → IsFree y2
     room (inl s) gone = subst IsFree (sym s.runner) (refl, free.1)
     room (inr t) gone = absurd (not_both y2 (ap (λ (z : Runner). z.taken) t.runner) gone)
 
@@ -254,7 +259,7 @@ taken_next E xs F ys i y F2 y2 h there takes = record {
         still_so (inl never) = inl never
         still_so (inr (j, z, at2, sits, same)) = inr (j, z, set_elsewhere ys i j y2 (away j z at2 sits) ∙ at2, sits, same)
 
-    left_now : TakesOut F y F2 y2 → y2.taken ≡ false → IsLeftOut E (slice_set ys i y2) y2
+    left_now : TakesOut F y n F2 y2 → y2.taken ≡ false → IsLeftOut E (slice_set ys i y2) y2
     left_now (inr t) gone x at number = absurd (not_both y2 (ap (λ (z : Runner). z.taken) t.runner) gone)
     left_now (inl s) gone x at number = elim (find_runner ys y.id.place) [
       | inl (j, z, at2, sits, place) ↦ (
@@ -275,13 +280,68 @@ taken_next E xs F ys i y F2 y2 h there takes = record {
         number2 : x.number ≡ Some y.id.number
         number2 = number ∙ ap (λ (n : InstId). Some n.number) same_runner
 
-    no_answer : TakesOut F y F2 y2 → y2.answer ≡ None
+    no_answer : TakesOut F y n F2 y2 → y2.answer ≡ None
     no_answer (inl s) = ap (λ (z : Runner). z.answer) s.runner
     no_answer (inr t) = ap (λ (z : Runner). z.answer) t.runner
 
-    same_id : TakesOut F y F2 y2 → y2.id ≡ y.id
+    same_id : TakesOut F y n F2 y2 → y2.id ≡ y.id
     same_id (inl s) = ap (λ (z : Runner). z.id) s.runner
     same_id (inr t) = ap (λ (z : Runner). z.id) t.runner
+
+-- ---- frames that are lent
+
+pub lent_if : (y : Runner) → y.taken ≡ true → cond y.taken (lent_to y) 0 ≡ lent_to y
+lent_if y taken = ap (λ b. cond b (lent_to y) 0) taken
+
+pub lent_none : (y : Runner) → y.taken ≡ false → cond y.taken (lent_to y) 0 ≡ 0
+lent_none y free = ap (λ b. cond b (lent_to y) 0) free
+
+pub none_lent : (ys : List Runner) → AllAreFree ys → lent_to_all ys ≡ 0
+none_lent [] free = refl
+none_lent (y ∷ ys) free =
+    let first = lent_none y (let f = free 0 y refl in f.0) in
+    let rest = none_lent ys (λ k z there. free (suc k) z there) in
+    omega (arith, first, rest)
+
+pub lent_to_one : (ys : List Runner) (k : ℕ) (y : Runner) → slice_get ys k ≡ Some y → y.taken ≡ true → lent_to y ≤ lent_to_all ys
+lent_to_one [] k y there taken = absurd (cc there)
+lent_to_one (x ∷ ys) zero y there taken =
+    let same = one_runner x y there in
+    let now = ap (λ (z : Runner). cond z.taken (lent_to z) 0) same ∙ lent_if y taken in
+    omega (arith, now)
+lent_to_one (x ∷ ys) (suc k) y there taken = let rest = lent_to_one ys k y there taken in omega (arith, rest)
+
+-- one changes
+pub lent_set : (ys : List Runner) (i : ℕ) (y y2 : Runner) → slice_get ys i ≡ Some y → lent_to_all (slice_set ys i y2) + cond y.taken (lent_to y) 0 ≡ lent_to_all ys + cond y2.taken (lent_to y2) 0
+lent_set ys i y y2 there = set_tally (λ (z : Runner). cond z.taken (lent_to z) 0) ys i y y2 there
+
+lent_most : (n : ℕ) (o : Option UpperState) → lent_in (with_lent n o) ≤ n
+lent_most n None = omega arith
+lent_most n (Some u) = omega arith
+
+-- one more has so many at most
+pub lent_next : (rs : List (Option InstanceEntry)) (ys : List Runner) (i : ℕ) (y : Runner) (n : ℕ) (rs2 : List (Option InstanceEntry)) (y2 : Runner) → slice_get ys i ≡ Some y → TakesOut rs y n rs2 y2 → lent_to_all (slice_set ys i y2) ≤ lent_to_all ys + n
+lent_next rs ys i y n rs2 y2 there (inl s) =
+    let sum = lent_set ys i y y2 there in
+    let now = lent_none y2 (ap (λ (z : Runner). z.taken) s.runner) in
+    omega (arith, sum, now)
+lent_next rs ys i y n rs2 y2 there (inr t) =
+    let sum = lent_set ys i y y2 there in
+    let now = lent_if y2 (ap (λ (z : Runner). z.taken) t.runner) in
+    let is = ap lent_to t.runner in
+    let most = lent_most n y.upper in
+    omega (arith, sum, now, is, most)
+
+-- each has no more than before
+pub lent_all : (xs ys : List Runner) → ((k : ℕ) (y : Runner) → slice_get ys k ≡ Some y → (x : Runner) × (slice_get xs k ≡ Some x) × (cond y.taken (lent_to y) 0 ≡ cond x.taken (lent_to x) 0)) → lent_to_all ys ≤ lent_to_all xs
+lent_all xs [] same = omega arith
+lent_all [] (y ∷ ys) same = absurd (let x = same 0 y refl in cc x.1)
+lent_all (x ∷ xs) (y ∷ ys) same =
+    let first = same 0 y refl in
+    let one = ap (λ (z : Runner). cond z.taken (lent_to z) 0) (one_runner x first.0 first.1) in
+    let is = first.2 in
+    let rest = lent_all xs ys (λ k z there. same (suc k) z there) in
+    omega (arith, one, is, rest)
 
 pub at_index : (xs : List Runner) (i : ℕ) (d : Runner) → i < length xs → slice_get xs i ≡ Some (slice_index_or xs i d)
 at_index [] i d less = absurd (omega (arith, less))

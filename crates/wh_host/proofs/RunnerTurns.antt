@@ -1,5 +1,5 @@
 -- The turns of those at the runners of a round, finished one after the other.
-use Rattle.std.proofs.Common.{⊎_elim, ◌≡◌, ◌≢◌, ◌∙◌, inl, inr, ℕ, ◌+◌, ◌*◌, ◌<◌, ◌≤◌, true, false, List, [], ◌∷◌, ◌++◌, Option, Some, None, length, take, slice_get, slice_index_or, slice_set, zero, suc, refl, sym, ap, subst, arith}
+use Rattle.std.proofs.Common.{⊎_elim, ◌≡◌, ◌≢◌, ◌∙◌, inl, inr, ℕ, ◌+◌, ◌*◌, ◌<◌, ◌≤◌, true, false, List, [], ◌∷◌, ◌++◌, Option, Some, None, length, cond, take, slice_get, slice_index_or, slice_set, zero, suc, refl, sym, ap, subst, arith}
 use Rattle.std.proofs.lemmas.Bool.{cases_eq, cases_lt}
 use Rattle.wh_host_model.specs.declared.plain.InstId.{InstId}
 use Rattle.wh_host_model.specs.Host.Worlds.{Tenant, World}
@@ -20,12 +20,12 @@ use Rattle.wh_host.specs.Hosting.{HostState, IsHost, entry_at}
 use Rattle.wh_host.specs.Left.{LeavesTurned}
 use Rattle.wh_host.specs.Lying.{LiesAt}
 use Rattle.wh_host.specs.Series.{SeriesOf}
-use Rattle.wh_host.specs.Rounds.{AllAreFree, AllMayRun, AllRun, AllTurn, AreTakenOut, RunnersStay, IsFree, IsOut, IsBurst, NoneIsLeftOut, RanThere, RunsAt, SitsThere, TakesTurns}
+use Rattle.wh_host.specs.Rounds.{AllAreFree, AllMayRun, AllRun, AllTurn, AreTakenOut, RunnersStay, IsFree, IsOut, NoneIsLeftOut, RanThere, RunsAt, SitsThere, TakesTurns, lent_in, lent_to, lent_to_all}
 use Rattle.wh_host.specs.Joining.{CanFinish, HasAnswer, HaveRun, IsLeftOut, LaysAt, Returns, host_with, series_end}
 use Rattle.wh_host.proofs.BesideTurns.{looks_itself}
 use Rattle.wh_host.proofs.Backed.{then_backing, same_backing}
 use Rattle.wh_host.proofs.Hosts.{found, lies_here, seat_set, series_here}
-use Rattle.wh_host.proofs.RunnerLists.{at_index, free_out, index_there, not_both, one_runner, taken_or}
+use Rattle.wh_host.proofs.RunnerLists.{at_index, free_out, index_there, lent_all, lent_if, lent_none, lent_set, lent_to_one, not_both, one_runner, taken_or}
 
 -- ---- memories that are as good
 
@@ -49,6 +49,7 @@ pub record Stands (h : HostState) (s : Space) (q most : ℕ) (w : World) (F : Li
   pub world : World
   pub out : AreTakenOut before F ys (RanThere h.modules s q most)
   pub looks : (k : ℕ) (y : Runner) → slice_get ys k ≡ Some y → y.taken ≡ true → LooksSame y.id.place s m
+  pub frames : lent_to_all ys ≤ length m.pool.free
   pub host : IsHost (host_with h before m) world
   pub turned : AllTurn q most w (take i ys) world
 
@@ -71,13 +72,16 @@ sitting h s q most w F m ys i k y st there sits =
     let l = lies_here (host_with h st.before m) st.world y.id.place y.id.number x loaded st.host o.was o.number f.is.is_loaded in
     let looks = st.looks k y there sits in
     let so = o.so in
+    let all = st.frames in
+    let one = lent_to_one ys k y there sits in
+    let is = ap lent_in so.1 in
     record {
       out = o;
       loaded = loaded;
       is_loaded = f.is.is_loaded;
       tenant = l.0;
       lies = l.2;
-      run = λ t lies. record { runs = so.3 loaded f.is.is_loaded t (lies_back loaded.linked x.page_limit x.tenant s m y.id.place t looks lies); looks = looks; lies = lies };
+      run = λ t lies. record { runs = so.3 loaded f.is.is_loaded t (lies_back loaded.linked x.page_limit x.tenant s m y.id.place t looks lies); looks = looks; frames = omega (arith, all, one, is); lies = lies };
     }
 
 -- its turn can be finished
@@ -111,6 +115,7 @@ stands_free h s q most w F m ys i y st there free none = record {
   world = st.world;
   out = free_out st.before F ys (RanThere h.modules s q most) i y y st.out there free free;
   looks = λ k a at sits. st.looks k a (back k a at sits) sits;
+  frames = (let sum = lent_set ys i y y there in let all = st.frames in omega (arith, sum, all));
   host = st.host;
   turned = subst (λ zs. AllTurn q most w zs st.world) (sym (take_one ys i y y there)) (turn_behind q most w st.world st.world (take i ys) y st.turned (subst (λ a. TakesTurns q most st.world y.id a st.world) (sym none) refl));
 }
@@ -201,6 +206,13 @@ module _ (h : HostState) (s : Space) (q most : ℕ) (w : World) (F : List (Optio
         world = t.0;
         out = out_then;
         looks = λ k a at yet. (let l = left k a at yet in looks_then a.id.place s m m2 (st.looks k a l.0 yet) (f.others a.id.place l.1));
+        frames =
+            (let sum = lent_set ys i y y2 there in
+            let had = lent_if y sits in
+            let has = lent_none y2 r.free.0 in
+            let all = st.frames in
+            let few = f.frames in
+            omega (arith, sum, had, has, all, few));
         host = host;
         turned = subst (λ zs. AllTurn q most w zs t.0) (sym (take_one ys i y2 y there)) (turn_behind q most w st.world t.0 (take i ys) y2 st.turned takes2);
       }
@@ -222,7 +234,7 @@ laid_none F0 m0 xs = record {
   answers = λ k y less there. absurd (omega (arith, less));
   done = λ k y less there free. absurd (omega (arith, less));
   backing = same_backing m0 m0 refl;
-  stands = λ h q most before s w run host. record { before = before; world = w; out = run.out; looks = run.looks; host = host; turned = refl };
+  stands = λ h q most before s w run host. record { before = before; world = w; out = run.out; looks = run.looks; frames = run.frames; host = host; turned = refl };
 }
 
 pub laid_next : (F0 : List (Option InstanceEntry)) (m0 : Space) (xs : List Runner) (F : List (Option InstanceEntry)) (m : Space) (ys : List Runner) (i : ℕ) (y : Runner) (F2 : List (Option InstanceEntry)) (m2 : Space) (y2 : Runner) → LaidSoFar F0 m0 xs F m ys i → slice_get ys i ≡ Some y → ((q : ℕ) → LaysAt q F m y F2 m2 y2)
@@ -335,9 +347,9 @@ ran_there modules s q most x y y2 sits of limit taken r =
     let all = subst (λ id. P x.of x.page_limit x.tenant id) (sym r.id) (subst (λ z. P x.of x.page_limit z y.id) sits.0 (subst (λ pages. P x.of pages y.tenant y.id) limit (subst (λ n. P n y.page_limit y.tenant y.id) of ran.3))) in
     (u, ran.1, ran.2, λ m is_loaded t lies. all m is_loaded t (sits.1 m.linked x.page_limit (view s y2.id.place) t lies.is) lies)
 
-pub have_run : (h : HostState) (q most : ℕ) (F : List (Option InstanceEntry)) (ys ys2 : List Runner) → length ys2 ≡ length ys → AreTakenOut h.entries F ys SitsThere → ((k : ℕ) (y : Runner) → slice_get ys k ≡ Some y → y.taken ≡ false → IsFree y × (y.answer ≡ None)) → AllRun h.modules h.space q most ys ys2
+pub have_run : (h : HostState) (q most : ℕ) (F : List (Option InstanceEntry)) (ys ys2 : List Runner) → length ys2 ≡ length ys → lent_to_all ys ≤ length h.space.pool.free → AreTakenOut h.entries F ys SitsThere → ((k : ℕ) (y : Runner) → slice_get ys k ≡ Some y → y.taken ≡ false → IsFree y × (y.answer ≡ None)) → AllRun h.modules h.space q most ys ys2
     → HaveRun h.modules q most h.entries h.space F h.space ys2
-have_run h q most F ys ys2 long out rest all = record {
+have_run h q most F ys ys2 long frames out rest all = record {
   out = record {
     elsewhere = λ p none. out.elsewhere p (λ k y there sits.
         (let less = index_there ys k y there in
@@ -372,6 +384,13 @@ have_run h q most F ys ys2 long out rest all = record {
         out.apart j k r.0 r2.0 r.1 r2.1 (sym runs.taken ∙ sits) (sym runs2.taken ∙ sits2) (ap (λ (z : InstId). z.place) (sym runs.id) ∙ same ∙ ap (λ (z : InstId). z.place) runs2.id));
   };
   looks = λ k y there sits. looks_itself y.id.place h.space;
+  frames =
+      (let most = lent_all ys ys2 (λ k y2 there.
+      (let r = all k y2 there in
+      let runs = r.2 in
+      let x = r.0 in
+      (x, r.1, ap (λ b. cond b (lent_to y2) 0) runs.taken ∙ ap (λ n. cond x.taken n 0) runs.lent))) in
+      omega (arith, frames, most));
   rest = λ k y2 there gone.
       (let r = all k y2 there in
       let runs = r.2 in

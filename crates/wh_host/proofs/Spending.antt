@@ -1,12 +1,12 @@
 -- What an instance that is finished has taken, as its journal says.
-use Rattle.std.proofs.Common.{◌≡◌, ◌≢◌, ◌∙◌, ℕ, zero, suc, ◌+◌, ◌&&◌, Bool, true, false, cond, List, [], ◌∷◌, ◌++◌, Option, Some, None, length, map, option_map, slice_get, refl, sym, ap, subst, arith, append_assoc}
+use Rattle.std.proofs.Common.{◌≡◌, ◌≢◌, ◌∙◌, ℕ, suc, ◌+◌, ◌&&◌, Bool, true, false, cond, List, [], ◌∷◌, ◌++◌, Option, Some, None, length, map, option_map, slice_get, refl, sym, ap, subst, arith, append_assoc}
 use Rattle.wh_host_model.specs.Host.Worlds.{Tenant, journal}
 use Rattle.wh_host_model.specs.Owners.{Entry}
 use Rattle.wh_imports.specs.LinkedState.{LinkedState}
 use Rattle.wh_journal.specs.Calls.{JournalCallState, JournalState, with_end, with_progress}
 use Rattle.wh_journal.specs.declared.calls.CallEnd.{CallEnd}
 use Rattle.wh_journal.specs.declared.calls.CallEnd.TheVariants as end
-use Rattle.wh_instance.specs.Settling.{IsFinished, brought_on, closed, has_failed, is_fatal, is_fault, settled_to}
+use Rattle.wh_instance.specs.Settling.{IsFinished, brought_on, is_fatal, is_fault, settled_to}
 use Rattle.wh_instance.specs.Tenancy.{HostInstanceState, IsTenant, RepresentsEach}
 use Rattle.wh_instance.specs.declared.computing.TurnOutcome.{TurnOutcome}
 use Rattle.wh_instance.specs.declared.computing.TurnOutcome.TheVariants.{Returned, Trapped, Fuel, Frame, Again}

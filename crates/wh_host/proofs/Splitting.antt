@@ -1,5 +1,5 @@
 -- A turn of more charges than some is a turn of so many, and one of the rest.
-use Rattle.std.proofs.Common.{◌≡◌, ◌≢◌, ◌∙◌, ◌⊎◌, inl, inr, ⊎_elim, ℕ, zero, suc, ◌+◌, ◌*◌, ◌-◌, ◌<◌, ◌≤◌, List, [], ◌∷◌, ◌++◌, Option, Some, None, length, map, reverse, slice_get, slice_set, get_or, Bool, true, false, refl, sym, ap, subst, arith, append_assoc}
+use Rattle.std.proofs.Common.{◌≡◌, ◌≢◌, ◌∙◌, ◌⊎◌, inl, inr, ℕ, zero, suc, ◌+◌, ◌*◌, ◌-◌, ◌<◌, ◌≤◌, List, [], ◌∷◌, ◌++◌, Option, Some, None, length, map, reverse, slice_get, slice_set, get_or, refl, sym, ap, subst, arith, append_assoc}
 use Rattle.std.proofs.Math.Nat.{one-mul, suc-mul, zero-mul}
 use Rattle.wh_model.specs.declared.memory.Need.{Need}
 use Rattle.wh_model.specs.declared.Trap.{Trap}
@@ -9,27 +9,24 @@ use Rattle.wh_model.specs.Execution.Configuration.{Term, code, Config, config, t
 use Rattle.wh_model.specs.Execution.Rules.{Base, pure, traps as stops, get_local, set_local, tee_local, get_global, set_global, load_bytes, store_bytes, size_pages, grow_pages, grow_too_far, invoke, Invokes, enter, too_deep, input, put, put_full, emit, emit_long, emit_beyond, emit_full}
 use Rattle.wh_model.specs.Execution.Reduction.{Reduces, base, in_label, in_frame, trap_label, trap_frame, leave_label, leave_frame, branch, returns as reduces_return, Leads, stays, goes_on, IsSettled, After, IsNext}
 use Rattle.wh_model.specs.Execution.Asking.{Asks}
-use Rattle.wh_model.specs.Execution.Instance.{Piece}
-use Rattle.wh_model.specs.Execution.Replay.{returned, stopped, Call, Invocation, dead}
-use Rattle.wh_model.specs.Execution.Taking.{Takes, took_all, took, Writes}
-use Rattle.wh_model.proofs.Chains.{one_after}
+use Rattle.wh_model.specs.Execution.Replay.{returned, stopped, Call, dead}
+use Rattle.wh_model.specs.Execution.Taking.{Takes, took_all, took}
 use Rattle.wh_model.proofs.Opened.{opened_store}
 use Rattle.wh_host_model.specs.declared.plain.TurnEnd.{TurnEnd}
 use Rattle.wh_host_model.specs.declared.plain.TurnEnd.TheVariants.{Again}
-use Rattle.wh_host_model.specs.Space.Parts.{Space, Claimed, Occupant, claim, claim_of, occupant_at, promise_at, view}
+use Rattle.wh_host_model.specs.Space.Parts.{Space, Claimed, claim, promise_at}
 use Rattle.wh_host_model.specs.Space.Sound.{IsSound}
 use Rattle.wh_host_model.specs.Space.Stores.{ended}
 use Rattle.wh_host_model.proofs.Host.Bridges.{ends_well}
 use Rattle.wh_host_model.proofs.Space.Sent.{set_set}
 use Rattle.wh_host_model.proofs.Host.Opening.{proceeds_apart}
-use Rattle.wh_host_model.specs.Space.Ready.{Ready}
-use Rattle.wh_host_model.specs.Host.Spaces.{StepsAlone, WaitsAlone, PinsEndAfter, LeftAlone, KeepsPromise}
-use Rattle.wh_host_model.specs.Host.Worlds.{Rest, Doing, resting, has_left, computing, Tenant, journal, store_with, Suspension, for_device, for_frame, for_fuel, World, tenant, with_tenant}
+use Rattle.wh_host_model.specs.Host.Spaces.{StepsAlone, WaitsAlone, KeepsPromise}
+use Rattle.wh_host_model.specs.Host.Worlds.{Rest, Doing, resting, computing, Tenant, journal, store_with, Suspension, for_frame, for_fuel, World, with_tenant}
 use Rattle.wh_host_model.specs.Host.Turns.{Opens, by_invocation, as_it_was, Computes, HaveTypes, Upshot, to_end, out_of_fuel, to_wait, to_go_on, Proceeds, returns, traps, writes_all, uses_fuel, waits, waits_to_write, has_had_its_turn}
 use Rattle.wh_host_model.specs.Host.CallAnswers.{gone_further, gone_on, ended_by, Closes, faces_next, is_dead, at_frame, ProceedsIn, Turn, is_idle, has_ended, has_no_fuel, has_no_frame, can_go_on, keeps_its_fault}
 use Rattle.wh_host_model.specs.Owners.{Entry}
 use Rattle.wh_host_model.specs.declared.plain.InstId.{InstId}
-use Rattle.wh_host_model.specs.Host.Happens.{IsLive, IsTurn, of_one}
+use Rattle.wh_host_model.specs.Host.Happens.{IsLive, of_one}
 use Rattle.wh_host.proofs.Turns.{claimed_there}
 use Rattle.wh_instance.specs.Bursts.{AreUsed}
 use Rattle.wh_host.specs.Series.{HasSpent, IsWholeOrCut, SeriesOf, Spends, last_turn, turn_before}

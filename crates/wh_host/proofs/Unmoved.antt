@@ -1,10 +1,10 @@
 -- What is written down of an instance in memory moves nothing there.
-use Rattle.std.proofs.Common.{◌≡◌, ◌≢◌, ◌∙◌, ℕ, Bool, true, false, cond, List, [], Option, Some, None, get_or, refl, ap, subst, sym}
+use Rattle.std.proofs.Common.{◌≡◌, ◌≢◌, ◌∙◌, ℕ, ◌+◌, ◌≤◌, Bool, true, false, cond, List, [], Option, Some, None, length, length-append, get_or, refl, ap, subst, sym, arith}
 use Rattle.std.proofs.lemmas.List.{get_or-set_other}
 use Rattle.wh_model.specs.declared.memory.Need.{Need}
 use Rattle.wh_host_model.specs.declared.states.Page.{Page}
 use Rattle.wh_host_model.specs.Space.Moves.{has_pins, unpinned}
-use Rattle.wh_host_model.specs.Space.Parts.{Occupant, Space, claim, claim_of, view}
+use Rattle.wh_host_model.specs.Space.Parts.{Occupant, Space, claim, claim_of, kept, view}
 use Rattle.wh_host_model.specs.Space.Stores.{awaiting, ended, stood}
 use Rattle.wh_instance.specs.declared.stages.TurnResult.{TurnResult}
 use Rattle.wh_instance.specs.declared.stages.TurnResult.TheVariants as turned
@@ -17,15 +17,17 @@ record Unmoved (i : ℕ) (s s2 : Space) : Type 0 where
   tables : s2.tables ≡ s.tables
   views : (j : ℕ) → view s2 j ≡ view s j
   claims : (j : ℕ) → j ≢ i → claim s2 j ≡ claim s j
+  free : length s.pool.free ≤ length s2.pool.free
 
 same_unmoved : (i : ℕ) (s : Space) → Unmoved i s s
-same_unmoved i s = record { tables = refl; views = λ j. refl; claims = λ j other. refl }
+same_unmoved i s = record { tables = refl; views = λ j. refl; claims = λ j other. refl; free = omega arith }
 
 then_unmoved : (i : ℕ) (a b c : Space) → Unmoved i a b → Unmoved i b c → Unmoved i a c
 then_unmoved i a b c first second = record {
   tables = second.tables ∙ first.tables;
   views = λ j. second.views j ∙ first.views j;
   claims = λ j other. second.claims j other ∙ first.claims j other;
+  free = (let one = first.free in let two = second.free in omega (arith, one, two));
 }
 
 stood_unmoved : (s : Space) (i : ℕ) (need : Option Need) → Unmoved i s (stood s i need)
@@ -33,10 +35,11 @@ stood_unmoved s i need = record {
   tables = refl;
   views = λ j. refl;
   claims = λ j other. ap claim_of (get_or-set_other s.occupants i j (awaiting (get_or s.occupants i None) need) None other);
+  free = omega arith;
 }
 
 unpinned_unmoved : (s : Space) (i : ℕ) (b : Bool) → Unmoved i s (cond b (unpinned s) s)
-unpinned_unmoved s i true = record { tables = refl; views = λ j. refl; claims = λ j other. refl }
+unpinned_unmoved s i true = record { tables = refl; views = λ j. refl; claims = λ j other. refl; free = (let sum = length-append s.pool.free (kept s.pins) in omega (arith, sum)) }
 unpinned_unmoved s i false = same_unmoved i s
 
 ended_unmoved : (s : Space) (i : ℕ) → Unmoved i s (ended s i)
@@ -60,3 +63,10 @@ looks_on i j s mid s2 made other table keeps is =
       sees = u.views j ∙ keeps.views j other;
       claim = u.claims j other ∙ ap (λ (xs : List (Option Occupant)). claim_of (get_or xs j None)) keeps.occupants;
     }
+
+-- and frames that were free are, but for those that were taken where that was laid back
+pub free_on : (i : ℕ) (s mid s2 : Space) (made : TurnResult) (lent : ℕ) → length s.pool.free ≤ length mid.pool.free + lent → s2 ≡ settled_in mid i made → length s.pool.free ≤ length s2.pool.free + lent
+free_on i s mid s2 made lent few is =
+    let u = subst (Unmoved i mid) (sym is) (settled_unmoved mid i made) in
+    let more = u.free in
+    omega (arith, few, more)

@@ -1,5 +1,5 @@
 -- How an instance is brought on beside others, and what its turns are answered once all is laid back.
-use Rattle.std.specs.Prelude.{◌≡◌, ◌⊎◌, ℕ, ◌≤◌, min, List, [], ◌∷◌}
+use Rattle.std.specs.Prelude.{◌≡◌, ◌⊎◌, ℕ, ◌≤◌, min, List, [], ◌∷◌, length}
 use Rattle.wh_host_model.specs.declared.plain.TurnEnd.{TurnEnd}
 use Rattle.wh_host_model.specs.Host.CallAnswers.{Turn}
 use Rattle.wh_host_model.specs.Host.Worlds.{Tenant}
@@ -36,6 +36,8 @@ pub record RunsBeside (l : LinkedState) (limit q : ℕ) (s : Space) (place : ℕ
   pub first : UpperState
   pub no_pages : first.pages ≡ []
   pub not_grown : first.grown ≡ 0
+  pub none_taken : first.taken ≡ 0
+  pub lent : u.lent ≡ first.lent
   pub whole : IsWholeOver s place u
   pub stays : StaysBut x x1
   pub advances : (e : Entry) (es : List Entry) → t.open_calls ≡ e ∷ es
@@ -53,11 +55,12 @@ CameThere s place (came.Trapped trap) n q answer q2 = (answer ≡ came.Trapped t
 CameThere s place came.Fuel n q answer q2 = (answer ≡ came.Fuel) × (q2 ≡ q)
 CameThere s place came.Again n q answer q2 = (answer ≡ came.Again) × (q2 ≡ q)
 
--- An instance that lies in this memory so has run beside one that is as good for it.
+-- An instance that lies in this memory so has run beside one that is as good for it, and the frames that are lent to it are free.
 pub record HasRun (l : LinkedState) (limit q : ℕ) (s0 s : Space) (place : ℕ) (x : HostInstanceState) (t : Tenant)
     (answer : TurnOutcome) (pieces charges : ℕ) (x1 : HostInstanceState) (u : UpperState) : Type 0 where
   pub runs : RunsBeside l limit q s0 place x t answer pieces charges x1 u
   pub looks : LooksSame place s0 s
+  pub frames : u.lent ≤ length s.pool.free
   pub lies : LiesAt l limit x s place t
 
 -- A turn of q charges, or one that was cut short, which took so many, is answered so, and leaves this memory, in which the instance lies.

@@ -1,5 +1,5 @@
 -- How instances join a round, and leave it.
-use Rattle.std.specs.Prelude.{◌≡◌, ◌≢◌, ◌⊎◌, ℕ, ◌*◌, true, false, List, Option, Some, None, slice_get, slice_set}
+use Rattle.std.specs.Prelude.{◌≡◌, ◌≢◌, ◌⊎◌, ℕ, ◌*◌, ◌+◌, ◌≤◌, true, false, List, Option, Some, None, length, slice_get, slice_set}
 use Rattle.wh_host_model.specs.declared.plain.TurnEnd.{TurnEnd}
 use Rattle.wh_host_model.specs.Host.Worlds.{Tenant}
 use Rattle.wh_host_model.specs.Space.Parts.{Space}
@@ -18,7 +18,7 @@ use Rattle.wh_host.specs.declared.beside.RanBeside.{RanBeside}
 use Rattle.wh_host.specs.Beside.{EndsTurn, HasRun}
 use Rattle.wh_host.specs.Hosting.{HostState, entry_at}
 use Rattle.wh_host.specs.Left.{LeavesTurned}
-use Rattle.wh_host.specs.Rounds.{AreTakenOut, IsFree, RanThere}
+use Rattle.wh_host.specs.Rounds.{AreTakenOut, IsFree, RanThere, lent_to, lent_to_all}
 
 -- ---- out
 
@@ -29,8 +29,13 @@ pub record StaysFree (rs : List (Option InstanceEntry)) (y : Runner) (rs2 : List
   pub why : (x : InstanceEntry) → entry_at rs y.id.place ≡ Some x → x.number ≡ Some y.id.number
       → OfAnyTenant x.tenant (λ l limit bytes t. ¬ (IsAtTerm t))
 
--- or it has its instance, which computes; the spare one of the runner stands in its place
-pub record IsTakenOut (rs : List (Option InstanceEntry)) (y : Runner) (rs2 : List (Option InstanceEntry)) (y2 : Runner) : Type 0 where
+-- so many frames are lent for what is written there
+abbrev pub with_lent : ℕ → Option UpperState → Option UpperState
+with_lent n None = None
+with_lent n (Some u) = Some (record u { lent = n; taken = 0 })
+
+-- or it has its instance, which computes, and so many frames; the spare one of the runner stands in its place
+pub record IsTakenOut (rs : List (Option InstanceEntry)) (y : Runner) (n : ℕ) (rs2 : List (Option InstanceEntry)) (y2 : Runner) : Type 0 where
   pub entry : InstanceEntry
   pub was : entry_at rs y.id.place ≡ Some entry
   pub number : entry.number ≡ Some y.id.number
@@ -41,11 +46,12 @@ pub record IsTakenOut (rs : List (Option InstanceEntry)) (y : Runner) (rs2 : Lis
     of = entry.of;
     page_limit = entry.page_limit;
     tenant = entry.tenant;
+    upper = with_lent n y.upper;
     answer = None;
   }
 
-abbrev pub TakesOut : List (Option InstanceEntry) → Runner → List (Option InstanceEntry) → Runner → Type 0
-TakesOut rs y rs2 y2 = StaysFree rs y rs2 y2 ⊎ IsTakenOut rs y rs2 y2
+abbrev pub TakesOut : List (Option InstanceEntry) → Runner → ℕ → List (Option InstanceEntry) → Runner → Type 0
+TakesOut rs y n rs2 y2 = StaysFree rs y rs2 y2 ⊎ IsTakenOut rs y n rs2 y2
 
 -- The runner has none: its instance isn't there, or doesn't compute, or another runner has it.
 abbrev pub IsLeftOut : List (Option InstanceEntry) → List Runner → Runner → Type 0
@@ -66,6 +72,7 @@ pub record Finishes (q : ℕ) (s : Space) (y : Runner) (s2 : Space) (end : TurnE
       → HasRun l limit (y.ran.turns * q) s0 s y.id.place x t y.ran.came y.ran.pieces y.ran.charges y.tenant u
       → EndsTurn l limit (y.ran.turns * q) y.ran.charges s t end y.id.place x3 s2
   pub others : (other : ℕ) → other ≢ y.id.place → LooksSame other s s2
+  pub frames : length s.pool.free ≤ length s2.pool.free + lent_to y
   pub backing : KeepsBacking s s2
   pub memory : LeavesTurned y.id.place end s s2
 
@@ -103,12 +110,13 @@ LaysAt q rs s y rs2 s2 y2 =
 abbrev pub HasAnswer : Runner → Runner → Type 0
 HasAnswer y y2 = (y2.id ≡ y.id) × (y.taken ≡ true → (made : SeriesEnd) × (y2.answer ≡ Some made))
 
--- The instances of all runners have run over one memory, and this one is as good for each. The other runners are free, and
--- have no answer.
+-- The instances of all runners have run over one memory, and this one is as good for each; the frames that are lent to them are free.
+-- The other runners are free, and have no answer.
 pub record HaveRun (modules : List LoadedModule) (q most : ℕ) (before : List (Option InstanceEntry)) (s0 : Space)
     (now : List (Option InstanceEntry)) (s : Space) (ys : List Runner) : Type 0 where
   pub out : AreTakenOut before now ys (RanThere modules s0 q most)
   pub looks : (k : ℕ) (y : Runner) → slice_get ys k ≡ Some y → y.taken ≡ true → LooksSame y.id.place s0 s
+  pub frames : lent_to_all ys ≤ length s.pool.free
   pub rest : (k : ℕ) (y : Runner) → slice_get ys k ≡ Some y → y.taken ≡ false → IsFree y × (y.answer ≡ None)
 
 -- a host with these entries and this memory

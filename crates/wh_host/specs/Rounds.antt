@@ -1,5 +1,6 @@
 -- Rounds: turns of several instances, that are brought on at once and finished one after the other.
-use Rattle.std.specs.Prelude.{◌≡◌, ◌≢◌, ℕ, ◌*◌, ◌≤◌, true, false, List, [], ◌∷◌, Option, Some, None, slice_get}
+use Rattle.std.specs.Prelude.{◌≡◌, ◌≢◌, ℕ, ◌*◌, ◌≤◌, cond, true, false, List, [], ◌∷◌, Option, Some, None, slice_get}
+use Rattle.wh_host_model.specs.Frames.{tally}
 use Rattle.wh_host_model.specs.declared.plain.InstId.{InstId}
 use Rattle.wh_host_model.specs.Host.Happens.{IsLive}
 use Rattle.wh_host_model.specs.Host.Worlds.{Tenant, World}
@@ -39,7 +40,19 @@ AllTurn q most w (y ∷ ys) w2 = (mid : World) × TakesTurns q most w y.id y.ans
 
 -- it has room, in which nothing is written
 abbrev pub HasRoomBeside : Runner → Type 0
-HasRoomBeside y = (u : UpperState) × (y.upper ≡ Some u) × (u.pages ≡ []) × (u.grown ≡ 0)
+HasRoomBeside y = (u : UpperState) × (y.upper ≡ Some u) × (u.pages ≡ []) × (u.grown ≡ 0) × (u.taken ≡ 0)
+
+-- how many frames are lent for what is written there
+abbrev pub lent_in : Option UpperState → ℕ
+lent_in None = 0
+lent_in (Some u) = u.lent
+
+abbrev pub lent_to : Runner → ℕ
+lent_to y = lent_in y.upper
+
+-- how many are lent to all that have an instance
+abbrev pub lent_to_all : List Runner → ℕ
+lent_to_all ys = tally (λ y. cond y.taken (lent_to y) 0) ys
 
 -- and no instance
 abbrev pub IsFree : Runner → Type 0
@@ -108,6 +121,7 @@ pub record RunsAt (modules : List LoadedModule) (s : Space) (q most : ℕ) (y y2
   pub of : y2.of ≡ y.of
   pub page_limit : y2.page_limit ≡ y.page_limit
   pub answer : y2.answer ≡ y.answer
+  pub lent : lent_to y2 ≡ lent_to y
   pub free : y.taken ≡ false → HasRoomBeside y → HasRoomBeside y2
   pub ran : y.taken ≡ true → (u : UpperState) × (y2.upper ≡ Some u) × IsBurst q most y2.ran
       × ((m : LoadedModule) → slice_get modules y.of ≡ Some m → (t : Tenant) → IsAtTerm t

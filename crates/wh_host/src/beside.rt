@@ -1,13 +1,13 @@
 //! An instance that is brought on beside others, and the end of its turns.
 
-ghost use Rattle.std.specs.Prelude.{◌≡◌, ◌≢◌, ◌+◌, ◌*◌, ◌≤◌, ℕ, [], get_or};
+ghost use Rattle.std.specs.Prelude.{◌≡◌, ◌≢◌, ◌+◌, ◌*◌, ◌≤◌, ℕ, [], get_or, length};
 ghost use Rattle.wh_host_model.specs.Host.Worlds.{Tenant as OneTenant};
 ghost use Rattle.wh_host_model.specs.Space.Parts.{Space};
 ghost use Rattle.wh_imports.specs.LinkedState.{LinkedState};
 ghost use Rattle.wh_instance.specs.Seen.{IsAtTerm};
 ghost use Rattle.wh_instance.specs.Tenancy.{HostInstanceState};
 ghost use Rattle.wh_overlay.specs.LaidBack.{IsLaid, LooksSame};
-ghost use Rattle.wh_overlay.specs.Over.{AreAlone, HasGrown};
+ghost use Rattle.wh_overlay.specs.Over.{AreAtHand, HasGrown, frames_lacking};
 ghost use Rattle.wh_space.specs.StepViews.{KeepsRest};
 ghost use Rattle.wh_host.specs.Backing.{KeepsBacking};
 ghost use Rattle.wh_host.specs.Beside.{CameThere, EndsTurn, HasRun, RunsBeside};
@@ -48,6 +48,7 @@ pub fn run_beside(
 ) -> (RanBeside, Upper)
     requires pages { upper.pages ≡ [] }
     requires grown { upper.grown ≡ 0 }
+    requires taken { upper.taken ≡ 0 }
     requires lies { (t : OneTenant) × IsAtTerm t
         × LiesAt linked.now page_limit tenant.old memory.now place t }
     ensures runs { (t : OneTenant) → IsAtTerm t
@@ -55,6 +56,7 @@ pub fn run_beside(
         → RunsBeside linked.now page_limit (result.0.turns * burst.entry.quantum) memory.now place
         tenant.old t result.0.came result.0.pieces result.0.charges tenant.new result.1 }
     ensures burst { IsBurst burst.entry.quantum (burst.entry.further + 1) result.0 }
+    ensures lent { result.1.lent ≡ upper.lent }
 {
     let mut overlay = Overlay::new(memory, place, page_limit, upper);
     let (ended, pieces) = tenant.advance_burst(linked, &mut overlay, burst);
@@ -69,15 +71,19 @@ pub fn run_beside(
 
 // Lays back what was written beside the memory in so many charges. Where there were none nothing is done.
 fn lay_beside(memory: &mut Memory, place: usize, charges: u64, upper: &mut Upper)
-    requires alone { AreAlone memory.old place upper.old.pages }
+    requires hand { AreAtHand memory.old place upper.old.pages }
+    requires lacking { frames_lacking memory.old place upper.old.pages ≤ upper.old.lent }
+    requires free { upper.old.lent ≤ length memory.old.pool.free }
     requires limited { HasGrown memory.old place upper.old }
     ensures laid { 1 ≤ charges → IsLaid memory.old place upper.old memory.new }
     ensures left { charges ≡ 0 → memory.new ≡ memory.old }
     ensures others { (other : ℕ) → other ≢ place
         → get_or memory.new.tables other [] ≡ get_or memory.old.tables other [] }
     ensures keeps { KeepsRest place memory.old memory.new }
+    ensures frames { length memory.old.pool.free ≤ length memory.new.pool.free + upper.old.lent }
     ensures pages { upper.new.pages ≡ [] }
     ensures grown { upper.new.grown ≡ 0 }
+    ensures taken { upper.new.taken ≡ 0 }
 {
     if charges == 0 {
         upper.clear();
@@ -117,10 +123,12 @@ pub fn finish_beside(
         → HasRun l limit q s memory.old place x t ran.came ran.pieces ran.charges tenant.old upper.old
         → EndsTurn l limit q ran.charges memory.old t result place tenant.new memory.new }
     ensures others { (other : ℕ) → other ≢ place → LooksSame other memory.old memory.new }
+    ensures frames { length memory.old.pool.free ≤ length memory.new.pool.free + upper.old.lent }
     ensures backing { KeepsBacking memory.old memory.new }
     ensures memory { LeavesTurned place result memory.old memory.new }
     ensures pages { upper.new.pages ≡ [] }
     ensures grown { upper.new.grown ≡ 0 }
+    ensures taken { upper.new.taken ≡ 0 }
 {
     memory.invariant();
     lay_beside(memory, place, ran.charges, upper);

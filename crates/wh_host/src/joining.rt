@@ -1,6 +1,6 @@
 // How instances join a round, and leave it.
 
-ghost use Rattle.std.specs.Prelude.{◌≡◌, ◌+◌, ℕ, List, Option, Some, None, true, false, slice_get, slice_set};
+ghost use Rattle.std.specs.Prelude.{◌≡◌, ◌+◌, ◌≤◌, ℕ, List, Option, Some, None, true, false, slice_get, slice_set};
 ghost use Rattle.wh_host_model.specs.Host.Worlds.{World};
 ghost use Rattle.wh_host_model.specs.Space.Parts.{Space};
 ghost use Rattle.wh_instance.specs.Tenancy.{HostInstanceState};
@@ -8,7 +8,7 @@ ghost use Rattle.wh_host.specs.declared.parts.InstanceEntry.{InstanceEntry as On
 ghost use Rattle.wh_host.specs.declared.rounds.Runner.{Runner as OneRunner};
 ghost use Rattle.wh_host.specs.Backing.{KeepsBacking};
 ghost use Rattle.wh_host.specs.Hosting.{HostState, IsHost, entry_at};
-ghost use Rattle.wh_host.specs.Rounds.{AllAreFree, AllTurn, AreTakenOut, RunnersStay, IsFree, NoneIsLeftOut, SitsThere};
+ghost use Rattle.wh_host.specs.Rounds.{AllAreFree, AllTurn, AreTakenOut, RunnersStay, IsFree, NoneIsLeftOut, SitsThere, lent_to_all};
 ghost use Rattle.wh_host.specs.Joining.{CanFinish, FinishesAt, HasAnswer, HaveRun, IsLeftOut, LaysAt, TakesOut, host_with};
 
 use crate::beside::finish_beside;
@@ -20,9 +20,9 @@ use std::mem;
 use wh_instance::Burst;
 use wh_space::Memory;
 
-// Hands a runner its instance, if that computes.
-fn take_out(entries: &mut Slab<InstanceEntry>, runner: &mut Runner)
-    ensures { TakesOut entries.old.slots runner.old entries.new.slots runner.new }
+// Hands a runner its instance, if that computes, and lends it so many frames.
+fn take_out(entries: &mut Slab<InstanceEntry>, runner: &mut Runner, frames: u32)
+    ensures { TakesOut entries.old.slots runner.old frames entries.new.slots runner.new }
 {
     runner.taken = false;
     runner.answer = None;
@@ -40,18 +40,26 @@ fn take_out(entries: &mut Slab<InstanceEntry>, runner: &mut Runner)
     runner.of = entry.of;
     runner.page_limit = entry.page_limit;
     mem::swap(&mut entry.tenant, &mut runner.tenant);
+    if let Some(upper) = &mut runner.upper {
+        upper.lend(frames);
+    }
 }
 
-// Hands all runners theirs.
-fn take_all(entries: &mut Slab<InstanceEntry>, runners: &mut [Runner])
+// Hands all runners theirs, and lends each an equal part of so many frames, but no more than it can use.
+fn take_all(entries: &mut Slab<InstanceEntry>, runners: &mut [Runner], frames: u32)
     requires { AllAreFree runners.old }
+    ensures frames { lent_to_all runners.new ≤ frames }
     ensures out { AreTakenOut entries.old.slots entries.new.slots runners.new SitsThere }
     ensures rest { (k : ℕ) (y : OneRunner) → slice_get runners.new k ≡ Some y → y.taken ≡ false → IsFree y × (y.answer ≡ None) }
     ensures left { (k : ℕ) (y : OneRunner) → slice_get runners.new k ≡ Some y → y.taken ≡ false → IsLeftOut entries.old.slots runners.new y }
     ensures same { RunnersStay runners.old runners.new }
 {
+    let most = (frames as usize / runners.len().max(1)) as u32;
+    let mut left = frames;
     for at in 0..runners.len() {
-        take_out(entries, &mut runners[at]);
+        let lent = most.min(left);
+        take_out(entries, &mut runners[at], lent);
+        left -= lent;
     }
 }
 
@@ -138,7 +146,7 @@ impl Host {
         ensures same { RunnersStay runners.old runners.new }
         ensures backing { KeepsBacking self.old.space self.new.space }
     {
-        take_all(&mut self.entries, runners);
+        take_all(&mut self.entries, runners, self.memory.free());
         let round = Round {
             modules: &self.modules,
             memory: &self.memory,

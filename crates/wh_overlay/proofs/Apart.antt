@@ -1,16 +1,21 @@
 -- What is laid back for one instance changes nothing that another one's pages rest on.
-use Rattle.std.proofs.Common.{◌≡◌, ◌≢◌, ◌∙◌, ℕ, List, [], length, get_or, slice_get, Option, None, ap}
+use Rattle.std.proofs.Common.{◌≡◌, ◌≢◌, ℕ, List, [], length, get_or, slice_get, Option, None, ap, sym, subst}
+use Rattle.wh_host_model.specs.Frames.{tally}
 use Rattle.wh_host_model.specs.Space.Parts.{Occupant, Space, claim_of, view}
+use Rattle.wh_host_model.specs.Space.Ready.{IsAtHand}
+use Rattle.wh_host_model.specs.Space.States.{at}
+use Rattle.wh_host_model.specs.declared.states.Page.{Page}
 use Rattle.wh_space.specs.Steps.{limit_by, page_limit}
 use Rattle.wh_space.specs.StepViews.{KeepsRest}
 use Rattle.wh_overlay.specs.declared.upper.WrittenPage.{WrittenPage}
 use Rattle.wh_overlay.specs.LaidPages.{UpperState}
-use Rattle.wh_overlay.specs.Over.{AreAlone, HasGrown}
+use Rattle.wh_overlay.specs.Over.{AreAtHand, HasGrown, frames_lacking, lacks_frame}
 
-pub alone_beside : (s s2 : Space) (j : ℕ) (pages : List WrittenPage) → get_or s2.tables j [] ≡ get_or s.tables j [] → AreAlone s j pages → AreAlone s2 j pages
-alone_beside s s2 j pages same alone k x there =
-    let on = alone k x there in
-    (on.0, ap (λ t. slice_get t x.number) same ∙ on.1)
+pub hand_beside : (s s2 : Space) (j : ℕ) (pages : List WrittenPage) → get_or s2.tables j [] ≡ get_or s.tables j [] → AreAtHand s j pages → AreAtHand s2 j pages
+hand_beside s s2 j pages same hand k x there = subst IsAtHand (ap (λ t. slice_get t x.number) (sym same)) (hand k x there)
+
+pub lacking_beside : (s s2 : Space) (j : ℕ) (pages : List WrittenPage) → get_or s2.tables j [] ≡ get_or s.tables j [] → frames_lacking s2 j pages ≡ frames_lacking s j pages
+lacking_beside s s2 j pages same = ap (λ (t : List Page). tally (λ (x : WrittenPage). at lacks_frame (slice_get t x.number)) pages) same
 
 pub limited_beside : (s s2 : Space) (i j : ℕ) (u : UpperState) → KeepsRest i s s2 → j ≢ i → HasGrown s j u → HasGrown s2 j u
 limited_beside s s2 i j u keeps other limited some =

@@ -13,7 +13,7 @@ use Rattle.wh_space.specs.Steps.{LeavesGrowth, limit_by, page_limit}
 use Rattle.wh_overlay.specs.LaidPages.{grown_by}
 use Rattle.wh_overlay.proofs.Marks.{got_there, got_elsewhere}
 
-in_front : {X : Type 0} (xs ys : List X) (i : ℕ) (x : X) → slice_get xs i ≡ Some x → slice_get (xs ++ ys) i ≡ Some x
+pub in_front : {X : Type 0} (xs ys : List X) (i : ℕ) (x : X) → slice_get xs i ≡ Some x → slice_get (xs ++ ys) i ≡ Some x
 in_front [] ys i x e = absurd (cc e)
 in_front (z ∷ xs) ys zero x e = e
 in_front (z ∷ xs) ys (suc i) x e = in_front xs ys i x e

@@ -20,7 +20,7 @@ use Rattle.wh_space.specs.Steps.{limit_by, page_limit}
 use Rattle.wh_overlay.specs.LaidPages.{UpperState, with_upper}
 use Rattle.wh_overlay.specs.LaidBack.{ComesThere, IsLaid, LiesOver, LooksSame}
 use Rattle.wh_overlay.specs.Over.{CanRead, CanStepOver, CanWrite, IsOverSame, IsReadyOver, IsWholeOver, OverlayState, sees}
-use Rattle.wh_overlay.proofs.Apart.{alone_beside}
+use Rattle.wh_overlay.proofs.Apart.{hand_beside, lacking_beside}
 use Rattle.wh_overlay.proofs.SomeLaid.{laid_ready, some_laid}
 
 -- ---- another memory that is as good
@@ -34,7 +34,9 @@ whole_there s s2 i u looks (over, whole) =
     let limit : page_limit s2 i ≡ page_limit s i = ap limit_by looks.claim in
     let counted = over.counted in (
       record {
-        alone = alone_beside s s2 i u.pages looks.table over.alone;
+        at_hand = hand_beside s s2 i u.pages looks.table over.at_hand;
+        frames = rw (lacking_beside s s2 i u.pages looks.table) over.frames;
+        lent = over.lent;
         counted = rw seen counted;
         limited = λ some. rw (seen, limit) (over.limited some);
       },
@@ -53,7 +55,8 @@ step_there s s2 i u need looks (inr (within, can)) = inr (within, by need.writes
     by : (writes : Bool) → cond writes (CanWrite s i u (need.at / 4096)) (CanRead s i u (need.at / 4096)) → cond writes (CanWrite s2 i u (need.at / 4096)) (CanRead s2 i u (need.at / 4096))
     by false it = read_there s s2 i u (need.at / 4096) looks it
     by true (inl among) = inl among
-    by true (inr (frame, is, less, room)) = inr (frame, page_same s s2 i (need.at / 4096) looks ∙ is, less, room)
+    by true (inr (inl own, less, room)) = inr (inl (own.0, page_same s s2 i (need.at / 4096) looks ∙ own.1), less, room)
+    by true (inr (inr (hand, left), less, room)) = inr (inr (subst IsAtHand (sym (page_same s s2 i (need.at / 4096) looks)) hand, left), less, room)
 
 -- ---- between two memories in which it is laid back
 
@@ -76,27 +79,29 @@ steps_between s a b i u v sound first second =
 
 -- ---- over the memory
 
-over_next : (s : Space) (i : ℕ) (o p : OverlayState) → LiesOver s i o → IsOverSame o p → LiesOver s i p
+over_next : (s : Space) (i : ℕ) {frames : ℕ} (o p : OverlayState) → LiesOver s i frames o → IsOverSame o p → LiesOver s i frames p
 over_next s i o p lies same =
     let lower : p.lower ≡ s = same.lower ∙ lies.lower in
     let place : p.place ≡ i = same.place ∙ lies.place in
     let was = subst (λ z. IsWholeOver z o.place o.upper) (sym lies.lower) (subst (λ z. IsWholeOver s z o.upper) (sym lies.place) lies.whole) in
+    let lent = same.lent in
+    let few = lies.lent in
     record {
       lower = lower;
       place = place;
+      lent = omega (arith, lent, few);
       whole = subst (λ z. IsWholeOver s z p.upper) place (subst (λ z. IsWholeOver z p.place p.upper) lower (same.stays was));
     }
 
-over_sees : (s base : Space) (i : ℕ) (o : OverlayState) → LooksSame i s base → LiesOver s i o → sees o ≡ with_upper (view base i) o.upper
+over_sees : (s base : Space) (i : ℕ) {frames : ℕ} (o : OverlayState) → LooksSame i s base → LiesOver s i frames o → sees o ≡ with_upper (view base i) o.upper
 over_sees s base i o looks lies =
     ap (λ z. with_upper (view z o.place) o.upper) lies.lower ∙ ap (λ z. with_upper (view s z) o.upper) lies.place ∙ ap (λ z. with_upper z o.upper) (sym looks.sees)
 
-over_ready : (s base : Space) (i : ℕ) (o : OverlayState) (s2 : Space) (need : Need) → LooksSame i s base → IsSound base → LiesOver s i o → IsLaid base i o.upper s2 → IsReadyOver o need → Ready s2 i need
+over_ready : (s base : Space) (i : ℕ) (o : OverlayState) (s2 : Space) (need : Need) → LooksSame i s base → IsSound base → LiesOver s i (length base.pool.free) o → IsLaid base i o.upper s2 → IsReadyOver o need → Ready s2 i need
 over_ready s base i o s2 need looks sound lies laid ready =
     let here = subst (λ z. CanStepOver s z o.upper need) lies.place (subst (λ z. CanStepOver z o.place o.upper need) lies.lower ready) in
     let whole = whole_there s base i o.upper looks lies.whole in
-    let over = whole.0 in
-    laid_ready base i o.upper s2 need sound over.alone laid (step_there s base i o.upper need looks here)
+    laid_ready base i o.upper s2 need sound whole.0 lies.lent laid (step_there s base i o.upper need looks here)
 
 -- ---- charges
 
@@ -104,19 +109,19 @@ no_takes : {inst : Instance} {m m2 : OverlayState} {c c2 : Config} {n : ℕ} →
 no_takes took_all none = refl
 no_takes (took now one new steps rest) none = absurd (cc none)
 
-takes_over : (s : Space) (i : ℕ) {inst : Instance} {m m2 : OverlayState} {c c2 : Config} {n : ℕ} → LiesOver s i m → Takes sees IsReadyOver IsOverSame inst m c n m2 c2 → LiesOver s i m2
+takes_over : (s : Space) (i : ℕ) {frames : ℕ} {inst : Instance} {m m2 : OverlayState} {c c2 : Config} {n : ℕ} → LiesOver s i frames m → Takes sees IsReadyOver IsOverSame inst m c n m2 c2 → LiesOver s i frames m2
 takes_over s i lies took_all = lies
 takes_over s i {m = m} lies (took {mid = mid} now one new steps rest) = takes_over s i (over_next s i m mid lies steps) rest
 
 -- a memory for what is written meanwhile: the last one, where no charge is left
-middle : (s base : Space) (i : ℕ) (end : Space) {inst : Instance} {m m2 : OverlayState} {c c2 : Config} (n : ℕ) → LooksSame i s base → IsSound base → LiesOver s i m → IsLaid base i m2.upper end → Takes sees IsReadyOver IsOverSame inst m c n m2 c2
+middle : (s base : Space) (i : ℕ) (end : Space) {inst : Instance} {m m2 : OverlayState} {c c2 : Config} (n : ℕ) → LooksSame i s base → IsSound base → LiesOver s i (length base.pool.free) m → IsLaid base i m2.upper end → Takes sees IsReadyOver IsOverSame inst m c n m2 c2
     → (z : Space) × IsLaid base i m.upper z × (n ≡ 0 → end ≡ z)
 middle s base i end zero looks sound lies last rest = (end, subst (λ (o : OverlayState). IsLaid base i o.upper end) (no_takes rest refl) last, λ none. refl)
 middle s base i end {m = m} (suc n) looks sound lies last rest =
-    let some = some_laid base i m.upper sound (whole_there s base i m.upper looks lies.whole) in
+    let some = some_laid base i m.upper sound (whole_there s base i m.upper looks lies.whole) lies.lent in
     (some.0, some.1, λ none. absurd (cc none))
 
-takes_laid : (s base : Space) (i : ℕ) → LooksSame i s base → IsSound base → {inst : Instance} {m m2 : OverlayState} {c c2 : Config} {n : ℕ} → LiesOver s i m → Takes sees IsReadyOver IsOverSame inst m c n m2 c2
+takes_laid : (s base : Space) (i : ℕ) → LooksSame i s base → IsSound base → {inst : Instance} {m m2 : OverlayState} {c c2 : Config} {n : ℕ} → LiesOver s i (length base.pool.free) m → Takes sees IsReadyOver IsOverSame inst m c n m2 c2
     → (start end : Space) → IsLaid base i m.upper start → IsLaid base i m2.upper end → (n ≡ 0 → end ≡ start) → Takes (λ x. view x i) (λ x. Ready x i) (StepsAlone i) inst start c n end c2
 takes_laid s base i looks sound {inst = inst} {c = c} lies took_all start end first last none =
     subst (λ z. Takes (λ x. view x i) (λ x. Ready x i) (StepsAlone i) inst start c 0 z c) (sym (none refl)) took_all
@@ -136,17 +141,17 @@ opens_same {inst = inst} {r = r} i start same (as_it_was {term = term} {c1 = c1}
 pub record Laying (s base : Space) (i : ℕ) (m m2 : OverlayState) (n : ℕ) (start end : Space) : Type 0 where
   pub looks : LooksSame i s base
   pub sound : IsSound base
-  pub lies : LiesOver s i m
+  pub lies : LiesOver s i (length base.pool.free) m
   pub first : IsLaid base i m.upper start
   pub last : IsLaid base i m2.upper end
   pub none : n ≡ 0 → end ≡ start
 
 computes_laid : (s base : Space) (i : ℕ) (start end : Space) {inst : Instance} {q k n : ℕ} {call : Call} {m m2 : OverlayState} {r : Rest} {term : Term} {c : Config} → Laying s base i m m2 n start end → Computes sees IsReadyOver IsOverSame inst q call m r (computing term) k n m2 c
-    → LiesOver s i m2 × ((q2 : ℕ) → n ≤ q2 → Computes (λ x. view x i) (λ x. Ready x i) (StepsAlone i) inst q2 call start r (computing term) k n end c)
+    → LiesOver s i (length base.pool.free) m2 × ((q2 : ℕ) → n ≤ q2 → Computes (λ x. view x i) (λ x. Ready x i) (StepsAlone i) inst q2 call start r (computing term) k n end c)
 computes_laid s base i start end {inst = inst} {m = m} h x =
     let seen : sees m ≡ view start i = over_sees s base i m h.looks h.lies ∙ sym h.first.sees in
     let o = opens_same i start seen x.opens in
-    let lies = subst (LiesOver s i) (sym o.0) h.lies in
+    let lies = subst (LiesOver s i (length base.pool.free)) (sym o.0) h.lies in
     let first = subst (λ (z : OverlayState). IsLaid base i z.upper start) (sym o.0) h.first in (
       takes_over s i lies x.takes,
       λ q2 few. record {

@@ -4,5 +4,6 @@ pub mod OverPages
 pub mod Marks
 pub mod Seen
 pub mod Grown
+pub mod LaidSteps
 pub mod SomeLaid
 pub mod LaidTakes

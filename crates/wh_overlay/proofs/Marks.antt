@@ -1,8 +1,9 @@
 -- The marks of pages that were read and written.
-use Rattle.std.proofs.Common.{◌≡◌, ◌≢◌, ◌∙◌, ◌⊎◌, inl, inr, ℕ, ◌+◌, ◌<◌, List, [], ◌∷◌, ◌++◌, Some, length, get_or, slice_get, slice_set, zero, suc, refl, sym, ap, arith}
-use Rattle.std.proofs.lemmas.Bool.{cases_eq}
+use Rattle.std.proofs.Common.{◌≡◌, ◌≢◌, ◌∙◌, ◌⊎◌, inl, inr, ℕ, ◌+◌, ◌<◌, ◌≤◌, List, [], ◌∷◌, ◌++◌, Some, length, get_or, slice_get, slice_set, zero, suc, refl, sym, ap, arith}
+use Rattle.std.proofs.lemmas.Bool.{cases_eq, cases_lt}
+use Rattle.wh_host_model.proofs.Space.Putting.{there_of}
 use Rattle.wh_overlay.specs.declared.upper.WrittenPage.{WrittenPage}
-use Rattle.wh_overlay.specs.LaidPages.{IsMarked, IsAmong}
+use Rattle.wh_overlay.specs.LaidPages.{IsMarked, IsAmong, IsWrittenAt}
 
 -- ---- lists
 
@@ -116,3 +117,69 @@ marked_again pages marks at x y is there same long = record {
     | inr other ↦ is.whole k z (sym (set_elsewhere pages at k y other) ∙ now)
   ];
 }
+
+-- ---- marks are taken away
+
+pub zero_there : (xs : List ℕ) (i : ℕ) → get_or (slice_set xs i 0) i 0 ≡ 0
+zero_there [] i = refl
+zero_there (x ∷ xs) zero = refl
+zero_there (x ∷ xs) (suc i) = zero_there xs i
+
+zero_or_same : (xs : List ℕ) (i n : ℕ) → (get_or (slice_set xs i 0) n 0 ≡ 0) ⊎ (get_or (slice_set xs i 0) n 0 ≡ get_or xs n 0)
+zero_or_same [] i n = inr refl
+zero_or_same (x ∷ xs) zero zero = inl refl
+zero_or_same (x ∷ xs) zero (suc n) = inr refl
+zero_or_same (x ∷ xs) (suc i) zero = inr refl
+zero_or_same (x ∷ xs) (suc i) (suc n) = zero_or_same xs i n
+
+pub unmarked_read : (marks : List ℕ) (number : ℕ) → IsMarked [] marks → IsMarked [] (slice_set marks number 0)
+unmarked_read marks number is = record {
+  each = λ k x there. absurd (cc there);
+  only = λ n k mark. elim (zero_or_same marks number n) [
+    | inl none ↦ absurd (omega (arith, none, mark))
+    | inr same ↦ is.only n k (sym same ∙ mark)
+  ];
+  whole = λ k x there. absurd (cc there);
+}
+
+-- only pages from this one on are marked as written
+abbrev pub AreLeft : List WrittenPage → List ℕ → ℕ → Type 0
+AreLeft pages marks i = (n k : ℕ) → get_or marks n 0 ≡ k + 2 → (i ≤ k) × IsWrittenAt pages n k
+
+pub next_unmarked : (pages : List WrittenPage) (marks marks2 : List ℕ) (i : ℕ) (x : WrittenPage) → AreLeft pages marks i → slice_get pages i ≡ Some x → get_or marks2 x.number 0 ≡ 0
+    → ((n k : ℕ) → get_or marks2 n 0 ≡ k + 2 → get_or marks n 0 ≡ k + 2) → AreLeft pages marks2 (i + 1)
+next_unmarked pages marks marks2 i x left there none was n k mark =
+    let had = left n k (was n k mark) in
+    let at = had.1 in
+    elim (cases_lt i k) [
+      | inl less ↦ (omega (arith, less), at)
+      | inr most ↦ absurd (
+          let same : k ≡ i = omega (arith, most, had.0) in
+          let both : Some at.0 ≡ Some x = sym at.1 ∙ ap (slice_get pages) same ∙ there in
+          let one : at.0 ≡ x = cc both in
+          let here : n ≡ x.number = sym at.2 ∙ ap (λ (z : WrittenPage). z.number) one in
+          let zero : get_or marks2 n 0 ≡ 0 = ap (λ z. get_or marks2 z 0) here ∙ none in
+          omega (arith, zero, mark))
+    ]
+
+pub was_marked : (marks : List ℕ) (number n k : ℕ) → get_or (slice_set marks number 0) n 0 ≡ k + 2 → get_or marks n 0 ≡ k + 2
+was_marked marks number n k mark = elim (zero_or_same marks number n) [
+  | inl none ↦ absurd (omega (arith, none, mark))
+  | inr same ↦ sym same ∙ mark
+]
+
+pub none_left : (pages : List WrittenPage) (marks : List ℕ) (i : ℕ) → length pages ≤ i → AreLeft pages marks i → IsMarked [] marks
+none_left pages marks i all left = record {
+  each = λ k x there. absurd (cc there);
+  only = λ n k mark. absurd (
+      let had = left n k mark in
+      let at = had.1 in
+      let less = there_of pages k at.0 at.1 in
+      omega (arith, less, all, had.0));
+  whole = λ k x there. absurd (cc there);
+}
+
+pub past_the_end : (xs : List ℕ) (i : ℕ) → length xs ≤ i → get_or xs i 0 ≡ 0
+past_the_end [] i past = refl
+past_the_end (x ∷ xs) zero past = absurd (omega (arith, past))
+past_the_end (x ∷ xs) (suc i) past = past_the_end xs i (omega (arith, past))

@@ -4,14 +4,18 @@ use Rattle.std.proofs.lemmas.List.{length-replicate}
 use Rattle.wh_model.specs.Execution.Store.{bytes_at, written}
 use Rattle.wh_host_model.specs.declared.states.Page.TheVariants.{Private}
 use Rattle.wh_host_model.specs.Space.Parts.{Space, view}
+use Rattle.wh_host_model.specs.Space.Ready.{IsAtHand}
 use Rattle.wh_host_model.specs.Space.Sound.{IsSound}
-use Rattle.wh_host_model.specs.Space.States.{page_at}
+use Rattle.wh_host_model.specs.Space.States.{at, page_at}
+use Rattle.wh_host_model.proofs.Tally.{tally-append}
 use Rattle.wh_host_model.proofs.Space.Blocks.{written_before}
+use Rattle.wh_host_model.proofs.Space.Filling.{at_hand}
 use Rattle.wh_host_model.proofs.Space.Putting.{is_page}
 use Rattle.wh_host_model.proofs.Space.Reading.{view_length}
+use Rattle.wh_host_model.proofs.Space.Sums.{set_tally}
 use Rattle.wh_overlay.specs.declared.upper.WrittenPage.{WrittenPage}
 use Rattle.wh_overlay.specs.LaidPages.{AreWrittenOnce, AreWhole, FitIn, IsAmong, IsWrittenAt, UpperState, grown_by, laid_over, with_upper}
-use Rattle.wh_overlay.specs.Over.{AreAlone, IsOver}
+use Rattle.wh_overlay.specs.Over.{AreAtHand, CanWrite, IsOver, frames_lacking, lacks_frame}
 use Rattle.std.proofs.lemmas.Bool.{cases_eq}
 use Rattle.wh_overlay.proofs.Marks.{set_there, set_elsewhere, was_there}
 use Rattle.wh_overlay.proofs.Bytes.{read_first, read_past, read_zeros}
@@ -21,92 +25,119 @@ pub grown_length : (bytes : List ℕ) (n : ℕ) → length (grown_by bytes n) �
 grown_length bytes n = length-append bytes (replicate (n * 65536) 0) ∙ ap (λ z. length bytes + z) (length-replicate (n * 65536) 0)
 
 -- the pages that were written lie in the memory
-pub all_fit : (s : Space) (i : ℕ) (u : UpperState) → IsSound s → AreAlone s i u.pages → AreWhole u.pages → FitIn (length (grown_by (view s i) u.grown)) u.pages
-all_fit s i u sound alone whole k x there =
-    let on = alone k x there in
-    let less = (is_page s.tables i x.number (Private on.0) on.1).1 in
+pub all_fit : (s : Space) (i : ℕ) (u : UpperState) → IsSound s → AreAtHand s i u.pages → AreWhole u.pages → FitIn (length (grown_by (view s i) u.grown)) u.pages
+all_fit s i u sound hand whole k x there =
+    let on = at_hand (page_at s.tables i x.number) (hand k x there) in
+    let less = (is_page s.tables i x.number on.0 on.1).1 in
     let long = view_length s i sound in
     let grown = grown_length (view s i) u.grown in
     (whole k x there, omega (arith, less, long, grown))
 
-pub seen_length : (s : Space) (i : ℕ) (u : UpperState) → IsSound s → AreAlone s i u.pages → AreWhole u.pages → length (with_upper (view s i) u) ≡ length (view s i) + u.grown * 65536
-seen_length s i u sound alone whole = laid_length (grown_by (view s i) u.grown) u.pages (all_fit s i u sound alone whole) ∙ grown_length (view s i) u.grown
+pub seen_length : (s : Space) (i : ℕ) (u : UpperState) → IsSound s → AreAtHand s i u.pages → AreWhole u.pages → length (with_upper (view s i) u) ≡ length (view s i) + u.grown * 65536
+seen_length s i u sound hand whole = laid_length (grown_by (view s i) u.grown) u.pages (all_fit s i u sound hand whole) ∙ grown_length (view s i) u.grown
 
 -- ---- what is read
 
 -- a page that was written
-pub read_written_page : (s : Space) (i : ℕ) (u : UpperState) (p at k n : ℕ) (bytes : List ℕ) → IsSound s → AreAlone s i u.pages → AreWhole u.pages → AreWrittenOnce u.pages → IsWrittenAt u.pages p at
+pub read_written_page : (s : Space) (i : ℕ) (u : UpperState) (p at k n : ℕ) (bytes : List ℕ) → IsSound s → AreAtHand s i u.pages → AreWhole u.pages → AreWrittenOnce u.pages → IsWrittenAt u.pages p at
     → ((x : WrittenPage) × (slice_get u.pages at ≡ Some x) × (bytes ≡ x.bytes)) → k + n ≤ 4096 → bytes_at (with_upper (view s i) u) (4096 * p + k) n ≡ bytes_at bytes k n
-read_written_page s i u p at k n bytes sound alone whole once (x, there, same) (y, also, is) inside =
+read_written_page s i u p at k n bytes sound hand whole once (x, there, same) (y, also, is) inside =
     let both : Some y ≡ Some x = sym also ∙ there in
     let one : y ≡ x = cc both in
     subst (λ q. bytes_at (with_upper (view s i) u) (4096 * q + k) n ≡ bytes_at bytes k n) same
-    (read_own (grown_by (view s i) u.grown) u.pages at x k n (all_fit s i u sound alone whole) once there inside ∙ ap (λ (z : WrittenPage). bytes_at z.bytes k n) (sym one) ∙ ap (λ z. bytes_at z k n) (sym is))
+    (read_own (grown_by (view s i) u.grown) u.pages at x k n (all_fit s i u sound hand whole) once there inside ∙ ap (λ (z : WrittenPage). bytes_at z.bytes k n) (sym one) ∙ ap (λ z. bytes_at z k n) (sym is))
 
 -- another one of the memory below
-pub read_lower_page : (s : Space) (i : ℕ) (u : UpperState) (p k n : ℕ) → IsSound s → AreAlone s i u.pages → AreWhole u.pages → ¬ (IsAmong u.pages p) → p < length (get_or s.tables i []) → k + n ≤ 4096
+pub read_lower_page : (s : Space) (i : ℕ) (u : UpperState) (p k n : ℕ) → IsSound s → AreAtHand s i u.pages → AreWhole u.pages → ¬ (IsAmong u.pages p) → p < length (get_or s.tables i []) → k + n ≤ 4096
     → bytes_at (with_upper (view s i) u) (4096 * p + k) n ≡ bytes_at (view s i) (4096 * p + k) n
-read_lower_page s i u p k n sound alone whole never less inside =
+read_lower_page s i u p k n sound hand whole never less inside =
     let long = view_length s i sound in
-    read_other (grown_by (view s i) u.grown) u.pages p k n (all_fit s i u sound alone whole) never inside
+    read_other (grown_by (view s i) u.grown) u.pages p k n (all_fit s i u sound hand whole) never inside
     ∙ read_first (view s i) (replicate (u.grown * 65536) 0) (4096 * p + k) n (omega (arith, long, less, inside))
 
 -- one by which the memory has grown
-pub read_grown_page : (s : Space) (i : ℕ) (u : UpperState) (p k n : ℕ) → IsSound s → AreAlone s i u.pages → AreWhole u.pages → ¬ (IsAmong u.pages p) → length (get_or s.tables i []) ≤ p → k + n ≤ 4096
+pub read_grown_page : (s : Space) (i : ℕ) (u : UpperState) (p k n : ℕ) → IsSound s → AreAtHand s i u.pages → AreWhole u.pages → ¬ (IsAmong u.pages p) → length (get_or s.tables i []) ≤ p → k + n ≤ 4096
     → 4096 * p + k + n ≤ length (with_upper (view s i) u) → bytes_at (with_upper (view s i) u) (4096 * p + k) n ≡ replicate n 0
-read_grown_page s i u p k n sound alone whole never more inside within =
+read_grown_page s i u p k n sound hand whole never more inside within =
     let long = view_length s i sound in
-    let all = seen_length s i u sound alone whole in
+    let all = seen_length s i u sound hand whole in
     let m = u.grown * 65536 in
     let j = (4096 * p + k) - length (view s i) in
     let at : 4096 * p + k ≡ length (view s i) + j = omega (arith, long, more) in
-    read_other (grown_by (view s i) u.grown) u.pages p k n (all_fit s i u sound alone whole) never inside
+    read_other (grown_by (view s i) u.grown) u.pages p k n (all_fit s i u sound hand whole) never inside
     ∙ ap (λ z. bytes_at (grown_by (view s i) u.grown) z n) at ∙ read_past (view s i) (replicate m 0) j n ∙ read_zeros m j n (omega (arith, at, all, within))
 
 -- ---- what is written
 
 -- a page comes among those that were written, as it is
-pub add_page : (s : Space) (i : ℕ) (u v : UpperState) (p frame : ℕ) (bytes : List ℕ) → IsSound s → AreAlone s i u.pages → AreWhole u.pages → ¬ (IsAmong u.pages p) → page_at s.tables i p ≡ Some (Private frame)
+pub add_page : (s : Space) (i : ℕ) (u v : UpperState) (p : ℕ) (bytes : List ℕ) → IsSound s → AreAtHand s i u.pages → AreWhole u.pages → ¬ (IsAmong u.pages p) → IsAtHand (page_at s.tables i p)
     → bytes ≡ bytes_at (view s i) (4096 * p) 4096 → v.grown ≡ u.grown → v.pages ≡ u.pages ++ record { number = p; bytes = bytes } ∷ [] → with_upper (view s i) v ≡ with_upper (view s i) u
-add_page s i u v p frame bytes sound alone whole never there same grown pages =
-    let less = (is_page s.tables i p (Private frame) there).1 in
+add_page s i u v p bytes sound hand whole never there same grown pages =
+    let on = at_hand (page_at s.tables i p) there in
+    let less = (is_page s.tables i p on.0 on.1).1 in
     let long = view_length s i sound in
     let w = grown_by (view s i) u.grown in
     let more = grown_length (view s i) u.grown in
     let below : bytes_at w (4096 * p) 4096 ≡ bytes_at (view s i) (4096 * p) 4096 = read_first (view s i) (replicate (u.grown * 65536) 0) (4096 * p) 4096 (omega (arith, long, less)) in
     ap (λ z. laid_over (grown_by (view s i) z) v.pages) grown ∙ ap (laid_over w) pages
-    ∙ add_same w u.pages (record { number = p; bytes = bytes }) (all_fit s i u sound alone whole) never (omega (arith, long, less, more)) (same ∙ sym below)
+    ∙ add_same w u.pages (record { number = p; bytes = bytes }) (all_fit s i u sound hand whole) never (omega (arith, long, less, more)) (same ∙ sym below)
 
--- and it is alone below
-pub added_over : (s : Space) (i : ℕ) (u v : UpperState) (p frame : ℕ) (bytes : List ℕ) → IsOver s i u → page_at s.tables i p ≡ Some (Private frame) → v.grown ≡ u.grown → v.pages ≡ u.pages ++ record { number = p; bytes = bytes } ∷ [] → IsOver s i v
-added_over s i u v p frame bytes over there grown pages = record {
-  alone = subst (AreAlone s i) (sym pages) (λ k x at. elim (was_there u.pages (record { number = p; bytes = bytes }) x k at) [
-    | inl before ↦ over.alone k x before
-    | inr last ↦ (frame, subst (λ (z : WrittenPage). page_at s.tables i z.number ≡ Some (Private frame)) last.0 there)
-  ]);
-  counted = rw grown over.counted;
-  limited = rw grown over.limited;
-}
+-- and takes a frame where it may have to get one
+pub added_over : (s : Space) (i : ℕ) (u v : UpperState) (p n : ℕ) (bytes : List ℕ) → IsOver s i u → IsAtHand (page_at s.tables i p) → at lacks_frame (page_at s.tables i p) ≤ n → u.taken + n ≤ u.lent
+    → v.pages ≡ u.pages ++ record { number = p; bytes = bytes } ∷ [] → v.grown ≡ u.grown → v.taken ≡ u.taken + n → v.lent ≡ u.lent → IsOver s i v
+added_over s i u v p n bytes over there some left pages grown taken lent =
+    let frames = over.frames in
+    let sum = tally-append (λ (x : WrittenPage). at lacks_frame (page_at s.tables i x.number)) u.pages (record { number = p; bytes = bytes } ∷ []) in
+    let all : frames_lacking s i v.pages ≡ frames_lacking s i (u.pages ++ record { number = p; bytes = bytes } ∷ []) = ap (frames_lacking s i) pages in
+    record {
+      at_hand = subst (AreAtHand s i) (sym pages) (λ k x is. elim (was_there u.pages (record { number = p; bytes = bytes }) x k is) [
+        | inl before ↦ over.at_hand k x before
+        | inr last ↦ subst (λ (z : WrittenPage). IsAtHand (page_at s.tables i z.number)) last.0 there
+      ]);
+      frames = omega (arith, frames, sum, all, some, taken);
+      lent = omega (arith, left, taken, lent);
+      counted = rw grown over.counted;
+      limited = rw grown over.limited;
+    }
 
 -- bytes of a page that was written
-pub write_page : (s : Space) (i : ℕ) (u v : UpperState) (p at k : ℕ) (given : List ℕ) → IsSound s → AreAlone s i u.pages → AreWhole u.pages → AreWrittenOnce u.pages → IsWrittenAt u.pages p at
+pub write_page : (s : Space) (i : ℕ) (u v : UpperState) (p at k : ℕ) (given : List ℕ) → IsSound s → AreAtHand s i u.pages → AreWhole u.pages → AreWrittenOnce u.pages → IsWrittenAt u.pages p at
     → ((x : WrittenPage) × (slice_get u.pages at ≡ Some x) × (v ≡ record u { pages = slice_set u.pages at (page_with x k given) })) → k + length given ≤ 4096
     → with_upper (view s i) v ≡ written (with_upper (view s i) u) (4096 * p + k) given
-write_page s i u v p at k given sound alone whole once (x, there, same) (y, also, is) inside =
+write_page s i u v p at k given sound hand whole once (x, there, same) (y, also, is) inside =
     let both : Some y ≡ Some x = sym also ∙ there in
     let one : y ≡ x = cc both in
     let w = grown_by (view s i) u.grown in
     ap (with_upper (view s i)) is ∙ ap (λ (z : WrittenPage). laid_over w (slice_set u.pages at (page_with z k given))) one
-    ∙ write_own w given u.pages at x k (all_fit s i u sound alone whole) once there inside ∙ ap (λ q. written (laid_over w u.pages) (4096 * q + k) given) same
+    ∙ write_own w given u.pages at x k (all_fit s i u sound hand whole) once there inside ∙ ap (λ q. written (laid_over w u.pages) (4096 * q + k) given) same
 
-pub still_alone : (s : Space) (i at : ℕ) (pages : List WrittenPage) (x y : WrittenPage) → AreAlone s i pages → slice_get pages at ≡ Some x → y.number ≡ x.number → AreAlone s i (slice_set pages at y)
-still_alone s i at pages x y alone there same k z now = elim (cases_eq k at) [
+pub still_at_hand : (s : Space) (i at : ℕ) (pages : List WrittenPage) (x y : WrittenPage) → AreAtHand s i pages → slice_get pages at ≡ Some x → y.number ≡ x.number → AreAtHand s i (slice_set pages at y)
+still_at_hand s i at pages x y hand there same k z now = elim (cases_eq k at) [
   | inl here ↦ (
       let both : Some y ≡ Some z = sym (set_there pages at y x there) ∙ ap (slice_get (slice_set pages at y)) (sym here) ∙ now in
       let is : y ≡ z = cc both in
-      subst (λ n. (frame : ℕ) × (page_at s.tables i n ≡ Some (Private frame))) (sym same ∙ ap (λ (w : WrittenPage). w.number) is) (alone at x there))
-  | inr other ↦ alone k z (sym (set_elsewhere pages at k y other) ∙ now)
+      subst (λ n. IsAtHand (page_at s.tables i n)) (sym same ∙ ap (λ (w : WrittenPage). w.number) is) (hand at x there))
+  | inr other ↦ hand k z (sym (set_elsewhere pages at k y other) ∙ now)
 ]
+
+pub still_lacking : (s : Space) (i k : ℕ) (pages : List WrittenPage) (x y : WrittenPage) → slice_get pages k ≡ Some x → y.number ≡ x.number → frames_lacking s i (slice_set pages k y) ≡ frames_lacking s i pages
+still_lacking s i k pages x y there same =
+    let w : WrittenPage → ℕ = λ (z : WrittenPage). at lacks_frame (page_at s.tables i z.number) in
+    let sum = set_tally w pages k x y there in
+    let one : w y ≡ w x = ap (λ n. at lacks_frame (page_at s.tables i n)) same in
+    omega (arith, sum, one)
+
+-- what can be written is a page of the memory below
+pub written_within : (s : Space) (i : ℕ) (u : UpperState) (p : ℕ) → AreAtHand s i u.pages → CanWrite s i u p → p < length (get_or s.tables i [])
+written_within s i u p hand can = by can
+  where
+    within : (q : ℕ) → IsAtHand (page_at s.tables i q) → q < length (get_or s.tables i [])
+    within q there = let on = at_hand (page_at s.tables i q) there in (is_page s.tables i q on.0 on.1).1
+
+    by : CanWrite s i u p → p < length (get_or s.tables i [])
+    by (inl (k, (x, there, same))) = subst (λ q. q < length (get_or s.tables i [])) same (within x.number (hand k x there))
+    by (inr (inl own, less, room)) = (is_page s.tables i p (Private own.0) own.1).1
+    by (inr (inr (there, left), less, room)) = within p there
 
 -- ---- a memory that grows
 
@@ -128,7 +159,7 @@ laid_longer v more (x ∷ xs) fit =
     ap (λ z. laid_over z xs) (written_before v more (4096 * x.number) x.bytes (omega (arith, one, first.1)))
     ∙ laid_longer (written v (4096 * x.number) x.bytes) more xs (rest_fits v x xs fit)
 
-pub grow_page : (s : Space) (i : ℕ) (u v : UpperState) (n : ℕ) → IsSound s → AreAlone s i u.pages → AreWhole u.pages → v ≡ record u { grown = u.grown + n } → with_upper (view s i) v ≡ grown_by (with_upper (view s i) u) n
-grow_page s i u v n sound alone whole is =
+pub grow_page : (s : Space) (i : ℕ) (u v : UpperState) (n : ℕ) → IsSound s → AreAtHand s i u.pages → AreWhole u.pages → v ≡ record u { grown = u.grown + n } → with_upper (view s i) v ≡ grown_by (with_upper (view s i) u) n
+grow_page s i u v n sound hand whole is =
     ap (with_upper (view s i)) is ∙ ap (λ z. laid_over z u.pages) (grown_twice (view s i) u.grown n)
-    ∙ laid_longer (grown_by (view s i) u.grown) (replicate (n * 65536) 0) u.pages (all_fit s i u sound alone whole)
+    ∙ laid_longer (grown_by (view s i) u.grown) (replicate (n * 65536) 0) u.pages (all_fit s i u sound hand whole)

@@ -1,44 +1,38 @@
 -- Where what is written beside a memory can be laid back, there is a memory in which it is, and there is ready what was over it.
-use Rattle.std.proofs.Common.{◌≡◌, ◌≢◌, ◌∙◌, inl, inr, ℕ, ◌+◌, ◌*◌, ◌/◌, ◌%◌, ◌≤◌, Bool, true, false, cond, List, [], ◌∷◌, ◌++◌, Some, length, get_or, replicate, slice_set, zero, suc, refl, sym, ap, subst, arith}
-use Rattle.std.proofs.lemmas.Bool.{cases_eq, cases_lt}
+use Rattle.std.proofs.Common.{◌≡◌, ◌∙◌, inl, inr, ℕ, ◌+◌, ◌*◌, ◌/◌, ◌%◌, ◌≤◌, Bool, true, false, cond, List, [], ◌∷◌, ◌++◌, length, get_or, replicate, slice_set, zero, suc, refl, sym, ap, subst, arith}
+use Rattle.std.proofs.lemmas.Bool.{cases_lt}
 use Rattle.wh_model.specs.declared.memory.Need.{Need}
-use Rattle.wh_model.specs.declared.memory.Got.TheVariants.{Value}
 use Rattle.wh_model.specs.declared.memory.Grown.TheVariants.{Done}
-use Rattle.wh_model.specs.Execution.Memory.{writing}
 use Rattle.wh_model.specs.Execution.Store.{written}
-use Rattle.wh_host_model.specs.declared.states.Page.TheVariants.{Private, Untouched}
+use Rattle.wh_host_model.specs.declared.states.Page.TheVariants.{Untouched}
 use Rattle.wh_host_model.specs.Space.Parts.{Space, view}
-use Rattle.wh_host_model.specs.Space.Ready.{IsAtHand, Ready, pages_of_need}
+use Rattle.wh_host_model.specs.Space.Ready.{IsAtHand, Ready}
 use Rattle.wh_host_model.specs.Space.Sound.{IsSound}
-use Rattle.wh_host_model.specs.Space.States.{page_at}
-use Rattle.wh_host_model.proofs.Tally.{one_same, one_other}
+use Rattle.wh_host_model.specs.Space.States.{at, page_at}
 use Rattle.wh_host_model.proofs.Space.Deciding.{no_bytes_are_ready}
 use Rattle.wh_host_model.proofs.Space.Enlarged.{grows_by_zeros, grows_soundly}
-use Rattle.wh_host_model.proofs.Space.Filled.{stores_are_right}
-use Rattle.wh_host_model.proofs.Space.Filling.{at_hand, some_store}
-use Rattle.wh_host_model.proofs.Space.Putting.{is_page}
+use Rattle.wh_host_model.proofs.Space.Filling.{some_store}
 use Rattle.wh_host_model.proofs.Space.Reading.{on_one_page, view_length}
-use Rattle.wh_space.specs.Steps.{CanStep, page_limit}
-use Rattle.wh_space.specs.StepViews.{keeps_all, keeps_on}
+use Rattle.wh_space.specs.Steps.{CanBreak, CanStep, page_limit}
 use Rattle.wh_space.proofs.Blocks.{can_break}
-use Rattle.wh_space.proofs.Keeping.{keeps_growth, keeps_store}
 use Rattle.wh_space.proofs.Loading.{one_hand}
 use Rattle.wh_space.proofs.Storing.{can_step_one}
 use Rattle.wh_overlay.specs.declared.upper.WrittenPage.{WrittenPage}
 use Rattle.wh_overlay.specs.LaidPages.{AreWhole, IsAmong, UpperState, grown_by, laid_over}
 use Rattle.wh_overlay.specs.LaidBack.{HasLaid, IsLaid}
-use Rattle.wh_overlay.specs.Over.{AreAlone, CanRead, CanStepOver, CanWrite, IsWholeOver}
-use Rattle.wh_overlay.proofs.Grown.{come_behind, lives, same_before}
+use Rattle.wh_overlay.specs.Over.{AreAtHand, CanRead, CanStepOver, CanWrite, IsOnItsOwn, IsOver, IsWholeOver, frames_lacking, lacks_frame}
+use Rattle.wh_overlay.proofs.Grown.{come_behind, lives}
+use Rattle.wh_overlay.proofs.LaidSteps.{can_be_written, growth_step, lacking_less, lacks_most, laid_on, no_growth, no_step, page_ready, page_step}
 
 -- ---- a step on one page
 
 step_ready : (s : Space) (i : ℕ) (need : Need) → 1 ≤ need.length → need.at % 4096 + need.length ≤ 4096 → CanStep s i need.writes ((need.at / 4096) ∷ []) → Ready s i need
 step_ready s i need some within can = subst (CanStep s i need.writes) (sym (on_one_page need.at need.length some within)) can
 
--- what is ready over a memory is ready once it is laid back
-pub laid_ready : (s : Space) (i : ℕ) (u : UpperState) (s2 : Space) (need : Need) → IsSound s → AreAlone s i u.pages → IsLaid s i u s2 → CanStepOver s i u need → Ready s2 i need
-laid_ready s i u s2 need sound alone laid (inl none) = no_bytes_are_ready s2 i need none
-laid_ready s i u s2 need sound alone laid (inr (within, can)) = elim (cases_lt 0 need.length) [
+-- what is ready over a memory is ready once it is laid back, where the frames that are lent are free
+pub laid_ready : (s : Space) (i : ℕ) (u : UpperState) (s2 : Space) (need : Need) → IsSound s → IsOver s i u → u.lent ≤ length s.pool.free → IsLaid s i u s2 → CanStepOver s i u need → Ready s2 i need
+laid_ready s i u s2 need sound over room laid (inl none) = no_bytes_are_ready s2 i need none
+laid_ready s i u s2 need sound over room laid (inr (within, can)) = elim (cases_lt 0 need.length) [
   | inl some ↦ step_ready s2 i need (omega (arith, some)) within (by need.writes can)
   | inr none ↦ no_bytes_are_ready s2 i need (omega (arith, none))
 ]
@@ -46,42 +40,34 @@ laid_ready s i u s2 need sound alone laid (inr (within, can)) = elim (cases_lt 0
     p : ℕ
     p = need.at / 4096
 
-    among : IsAmong u.pages p → (g : ℕ) × (page_at s2.tables i p ≡ Some (Private g))
-    among (k, (x, there, same)) =
-        let on = alone k x there in
-        let g = laid.alone x.number on.0 on.1 in
-        (g.0, subst (λ n. page_at s2.tables i n ≡ Some (Private g.0)) same g.1)
+    among : IsAmong u.pages p → IsOnItsOwn s2 i p
+    among (k, (x, there, same)) = subst (IsOnItsOwn s2 i) same (laid.own k x there).0
 
-    there_alone : CanWrite s i u p → (g : ℕ) × (page_at s2.tables i p ≡ Some (Private g))
-    there_alone (inl here) = among here
-    there_alone (inr (frame, is, less, room)) = laid.alone p frame is
+    breaks : IsOnItsOwn s2 i p → CanBreak s2 i p
+    breaks own = can_break s2 i p own.0 (laid.keeps.sound sound) own.1
+
+    can_be : CanWrite s i u p → CanBreak s2 i p
+    can_be (inl here) = breaks (among here)
+    can_be (inr (inl own, less, room)) = breaks (laid.alone p own)
+    can_be (inr (inr (hand, left), less, some)) =
+        let free = laid.free in
+        let frames = over.frames in
+        let most = lacks_most (page_at s2.tables i p) in
+        can_be_written s2 i p (laid.keeps.sound sound) (laid.at_hand p hand) (omega (arith, free, frames, left, room, most))
 
     there_at_hand : CanRead s i u p → IsAtHand (page_at s2.tables i p)
-    there_at_hand (inl here) = let g = among here in subst IsAtHand (sym g.1) refl
+    there_at_hand (inl here) = let own = among here in subst IsAtHand (sym own.1) refl
     there_at_hand (inr (inl hand)) = laid.at_hand p hand
     there_at_hand (inr (inr come)) = laid.come p come.0 come.1
 
     by : (writes : Bool) → cond writes (CanWrite s i u p) (CanRead s i u p) → CanStep s2 i writes (p ∷ [])
-    by true it = let g = there_alone it in can_step_one s2 i p (can_break s2 i p g.0 (laid.keeps.sound sound) g.1)
+    by true it = can_step_one s2 i p (can_be it)
     by false it = (one_hand s2 i p (there_at_hand it), omega arith)
 
 -- ---- growth
 
-grown_laid : (s : Space) (i n : ℕ) → IsSound s → (1 ≤ n → length (view s i) + n * 65536 ≤ page_limit s i * 65536) → (m : Space) × HasLaid s i n (grown_by (view s i) n) m
-grown_laid s i zero sound limited = (
-  s,
-  record {
-    sees = no_more (view s i);
-    keeps = keeps_all i s;
-    at_hand = λ p h. h;
-    alone = λ p frame is. (frame, is);
-    come = λ p least less. absurd (omega (arith, least, less));
-  },
-)
-  where
-    no_more : (xs : List ℕ) → xs ≡ grown_by xs 0
-    no_more [] = refl
-    no_more (x ∷ xs) = ap (λ z. x ∷ z) (no_more xs)
+grown_laid : (s : Space) (i n : ℕ) → IsSound s → (1 ≤ n → length (view s i) + n * 65536 ≤ page_limit s i * 65536) → (m : Space) × HasLaid s i n (grown_by (view s i) n) [] m
+grown_laid s i zero sound limited = (s, no_growth s i)
 grown_laid s i (suc k) sound limited =
     let n = suc k in
     let within = limited (omega arith) in
@@ -94,83 +80,51 @@ grown_laid s i (suc k) sound limited =
     let limit = it.limit in
     let fits : length (get_or s.tables i []) + 16 * n ≤ it.occupant.max = omega (arith, within, long, limit) in
     let sound2 : IsSound m = grows_soundly s i n it.occupant m sound it.there it.live fits refl in
-    let many : 65536 * n ≡ n * 65536 = omega arith in (
-      m,
-      record {
-        sees = grows_by_zeros s i n it.occupant m sound it.there refl ∙ ap (λ z. view s i ++ replicate z 0) many;
-        keeps = keeps_growth s i n (Done 0) m sound2 refl;
-        at_hand = λ p h.
-            (let x = at_hand (page_at s.tables i p) h in
-            let now = same_before s m i n (Done 0) p x.0 refl x.1 in
-            subst IsAtHand (x.1 ∙ sym now) h);
-        alone = λ p frame is. (frame, same_before s m i n (Done 0) p (Private frame) refl is);
-        come = λ p least less. subst IsAtHand (sym (come_behind s m i n 0 p refl sound it.there least less)) refl;
-      },
-    )
+    let many : 65536 * n ≡ n * 65536 = omega arith in
+    let sees : view m i ≡ grown_by (view s i) n = grows_by_zeros s i n it.occupant m sound it.there refl ∙ ap (λ z. view s i ++ replicate z 0) many in
+    (m, growth_step s m i n (Done 0) sound2 refl sees (λ p least less. come_behind s m i n 0 p refl sound it.there least less))
 
 -- ---- pages
 
-page_laid : (s : Space) (i g : ℕ) (x : WrittenPage) (bytes : List ℕ) (m : Space) (frame : ℕ) → IsSound s → page_at s.tables i x.number ≡ Some (Private frame) → length x.bytes ≡ 4096 → HasLaid s i g bytes m
-    → (m2 : Space) × HasLaid s i g (written bytes (4096 * x.number) x.bytes) m2
-page_laid s i g x bytes m frame sound there long h =
-    let p = x.number in
-    let k = 4096 * p in
-    let sound2 = h.keeps.sound sound in
-    let on = h.alone p frame there in
-    let number : k / 4096 ≡ p = omega arith in
-    let start : k % 4096 ≡ 0 = omega arith in
-    let some : 1 ≤ length x.bytes = omega (arith, long) in
-    let within : k % 4096 + length x.bytes ≤ 4096 = omega (arith, long, start) in
-    let pages : pages_of_need (writing k (length x.bytes)) ≡ p ∷ [] = on_one_page k (length x.bytes) some within ∙ ap (λ z. z ∷ []) number in
-    let can = can_step_one m i p (can_break m i p on.0 sound2 on.1) in
-    let ready : Ready m i (writing k (length x.bytes)) = subst (CanStep m i true) (sym pages) can in
-    let less = (is_page m.tables i p (Private on.0) on.1).1 in
-    let fits : k + length x.bytes ≤ 4096 * length (get_or m.tables i []) = omega (arith, long, less) in
+page_laid : (s : Space) (i : ℕ) (x : WrittenPage) → IsSound s → length x.bytes ≡ 4096 → IsAtHand (page_at s.tables i x.number) → at lacks_frame (page_at s.tables i x.number) ≤ length s.pool.free
+    → (m : Space) × HasLaid s i 0 (written (view s i) (4096 * x.number) x.bytes) (x ∷ []) m
+page_laid s i x sound long hand some =
+    let ready = page_ready s i x sound long hand some in
     let few : length x.bytes ≤ 4096 = omega (arith, long) in
-    let st = some_store m i k x.bytes sound2 ready fits few in
-    let right = stores_are_right m i k x.bytes st.0 sound2 st.1 in
-    let own : (f : ℕ) × (page_at st.0.tables i p ≡ Some (Private f)) = right.own p (rw pages (let e = one_same p p refl in omega (arith, e))) in
-    let rest : (q : ℕ) → q ≢ p → page_at st.0.tables i q ≡ page_at m.tables i q = λ q other. right.rest q (rw pages (let e = one_other q p other in omega (arith, e))) in
-    let hand_then : (q : ℕ) → IsAtHand (page_at m.tables i q) → IsAtHand (page_at st.0.tables i q) = λ q hand. elim (cases_eq q p) [
-      | inl same ↦ subst IsAtHand (sym (ap (λ z. page_at st.0.tables i z) same ∙ own.1)) refl
-      | inr other ↦ subst IsAtHand (sym (rest q other)) hand
-    ] in (
-      st.0,
-      record {
-        sees = right.sees ∙ ap (λ b. written b k x.bytes) h.sees;
-        keeps = keeps_on i i s m st.0 refl h.keeps (keeps_store m i k x.bytes Value st.0 sound2 st.1);
-        at_hand = λ q hand. hand_then q (h.at_hand q hand);
-        alone = λ q f is. elim (cases_eq q p) [
-          | inl same ↦ (own.0, ap (λ z. page_at st.0.tables i z) same ∙ own.1)
-          | inr other ↦ (let was = h.alone q f is in (was.0, rest q other ∙ was.1))
-        ];
-        come = λ q least more. hand_then q (h.come q least more);
-      },
-    )
+    let st = some_store s i (4096 * x.number) x.bytes sound ready.0 ready.1 few in
+    (st.0, page_step s i x st.0 sound long st.1)
 
-each_laid : (s : Space) (i g : ℕ) (xs : List WrittenPage) (bytes : List ℕ) (m : Space) → IsSound s → AreAlone s i xs → AreWhole xs → HasLaid s i g bytes m → (m2 : Space) × HasLaid s i g (laid_over bytes xs) m2
-each_laid s i g [] bytes m sound alone whole h = (m, h)
-each_laid s i g (x ∷ xs) bytes m sound alone whole h =
-    let on = alone 0 x refl in
-    let one = page_laid s i g x bytes m on.0 sound on.1 (whole 0 x refl) h in
-    each_laid s i g xs (written bytes (4096 * x.number) x.bytes) one.0 sound (λ k y there. alone (suc k) y there) (λ k y there. whole (suc k) y there) one.1
+each_laid : (s : Space) (i : ℕ) (xs : List WrittenPage) → IsSound s → AreAtHand s i xs → AreWhole xs → frames_lacking s i xs ≤ length s.pool.free → (m : Space) × HasLaid s i 0 (laid_over (view s i) xs) xs m
+each_laid s i [] sound hand whole some = (s, no_step s i)
+each_laid s i (x ∷ xs) sound hand whole some =
+    let one = page_laid s i x sound (whole 0 x refl) (hand 0 x refl) (omega (arith, some)) in
+    let m = one.0 in
+    let h = one.1 in
+    let others : AreAtHand s i xs = λ k y there. hand (suc k) y there in
+    let then : AreAtHand m i xs = λ k y there. h.at_hand y.number (others k y there) in
+    let less = lacking_less s m i xs h.alone others in
+    let free = h.free in
+    let rest = each_laid m i xs (h.keeps.sound sound) then (λ k y there. whole (suc k) y there) (omega (arith, some, less, free)) in
+    let all = laid_on s i 0 (written (view s i) (4096 * x.number) x.bytes) (laid_over (view m i) xs) (x ∷ []) xs m rest.0 h rest.1 others in
+    (rest.0, subst (λ b. HasLaid s i 0 b (x ∷ xs) rest.0) (ap (λ b. laid_over b xs) h.sees) all)
 
 -- there is such a memory
-pub some_laid : (s : Space) (i : ℕ) (u : UpperState) → IsSound s → IsWholeOver s i u → (m : Space) × IsLaid s i u m
-some_laid s i u sound (over, whole) =
+pub some_laid : (s : Space) (i : ℕ) (u : UpperState) → IsSound s → IsWholeOver s i u → u.lent ≤ length s.pool.free → (m : Space) × IsLaid s i u m
+some_laid s i u sound (over, whole) room =
     let first = grown_laid s i u.grown sound over.limited in
-    each_laid s i u.grown u.pages (grown_by (view s i) u.grown) first.0 sound over.alone whole first.1
+    let m = first.0 in
+    let h = first.1 in
+    let hand = over.at_hand in
+    let then : AreAtHand m i u.pages = λ k y there. h.at_hand y.number (hand k y there) in
+    let less = lacking_less s m i u.pages h.alone hand in
+    let free = h.free in
+    let frames = over.frames in
+    let lent = over.lent in
+    let rest = each_laid m i u.pages (h.keeps.sound sound) then whole (omega (arith, frames, lent, room, less, free)) in
+    let all = laid_on s i u.grown (grown_by (view s i) u.grown) (laid_over (view m i) u.pages) [] u.pages m rest.0 h rest.1 hand in
+    (rest.0, subst (λ b. HasLaid s i u.grown b u.pages rest.0) (ap (λ b. laid_over b u.pages) h.sees) all)
 
 -- where nothing was written it is the one that there was
 pub none_laid : (s : Space) (i : ℕ) (u : UpperState) → u.pages ≡ [] → u.grown ≡ 0 → IsLaid s i u s
-none_laid s i u none same = record {
-  sees = no_more (view s i) ∙ sym (ap (λ xs. laid_over (grown_by (view s i) u.grown) xs) none ∙ ap (grown_by (view s i)) same);
-  keeps = keeps_all i s;
-  at_hand = λ p h. h;
-  alone = λ p frame is. (frame, is);
-  come = λ p least less. absurd (omega (arith, least, less, same));
-}
-  where
-    no_more : (xs : List ℕ) → xs ≡ grown_by xs 0
-    no_more [] = refl
-    no_more (x ∷ xs) = ap (λ z. x ∷ z) (no_more xs)
+none_laid s i u none same =
+    subst (λ xs. HasLaid s i u.grown (laid_over (grown_by (view s i) u.grown) xs) xs s) (sym none) (subst (λ n. HasLaid s i n (grown_by (view s i) n) [] s) (sym same) (no_growth s i))

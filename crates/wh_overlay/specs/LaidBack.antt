@@ -1,17 +1,18 @@
 -- The memory of all once what an instance has written beside it is laid back, and what its turn comes to there.
-use Rattle.std.specs.Prelude.{◌≡◌, ℕ, ◌*◌, ◌+◌, ◌<◌, ◌≤◌, List, [], Some, length, get_or}
+use Rattle.std.specs.Prelude.{◌≡◌, ◌≢◌, ℕ, ◌*◌, ◌+◌, ◌<◌, ◌≤◌, List, [], Some, length, get_or, slice_get}
 use Rattle.wh_model.specs.Execution.Store.{Instance}
 use Rattle.wh_model.specs.Execution.Replay.{Call}
-use Rattle.wh_host_model.specs.declared.states.Page.TheVariants.{Private}
 use Rattle.wh_host_model.specs.Host.Spaces.{StepsAlone}
 use Rattle.wh_host_model.specs.Host.Turns.{Upshot, to_end, out_of_fuel, to_wait, to_go_on, Proceeds}
 use Rattle.wh_host_model.specs.Host.Worlds.{Rest, Doing}
+use Rattle.wh_host_model.specs.Space.Charges.{IsTouched}
 use Rattle.wh_host_model.specs.Space.Parts.{Space, claim, view}
 use Rattle.wh_host_model.specs.Space.Ready.{IsAtHand, Ready}
 use Rattle.wh_host_model.specs.Space.States.{page_at}
 use Rattle.wh_space.specs.StepViews.{KeepsRest}
+use Rattle.wh_overlay.specs.declared.upper.WrittenPage.{WrittenPage}
 use Rattle.wh_overlay.specs.LaidPages.{UpperState, with_upper}
-use Rattle.wh_overlay.specs.Over.{IsWholeOver, OverlayState}
+use Rattle.wh_overlay.specs.Over.{IsOnItsOwn, IsWholeOver, OverlayState, frames_lacking}
 
 -- For the instance at this place one memory is as good as another: it has the same pages there, sees the same, and was promised the
 -- same.
@@ -20,25 +21,31 @@ pub record LooksSame (i : ℕ) (s s2 : Space) : Type 0 where
   pub sees : view s2 i ≡ view s i
   pub claim : claim s2 i ≡ claim s i
 
--- By steps of its own alone the instance at this place has come to see these bytes, and has grown by so many pages of 65536
--- bytes, which are at hand. What was at hand is, and pages that were alone on their frames are.
-pub record HasLaid (s : Space) (i grown : ℕ) (bytes : List ℕ) (s2 : Space) : Type 0 where
+-- By steps of its own alone the instance at this place has come to see these bytes, has grown by so many pages of 65536 bytes, and
+-- has written these pages: each is alone on its frame and marked as touched. No more free frames were taken than pages wanted one.
+-- What was at hand is, and so are the pages by which it has grown; pages that were alone are, and marks stay. So do others' pages.
+pub record HasLaid (s : Space) (i grown : ℕ) (bytes : List ℕ) (pages : List WrittenPage) (s2 : Space) : Type 0 where
   pub sees : view s2 i ≡ bytes
   pub keeps : KeepsRest i s s2
+  pub own : (k : ℕ) (x : WrittenPage) → slice_get pages k ≡ Some x → IsOnItsOwn s2 i x.number × IsTouched s2 i x.number
+  pub free : length s.pool.free ≤ length s2.pool.free + frames_lacking s i pages
   pub at_hand : (p : ℕ) → IsAtHand (page_at s.tables i p) → IsAtHand (page_at s2.tables i p)
-  pub alone : (p frame : ℕ) → page_at s.tables i p ≡ Some (Private frame)
-      → (other : ℕ) × (page_at s2.tables i p ≡ Some (Private other))
   pub come : (p : ℕ) → length (get_or s.tables i []) ≤ p → p < length (get_or s.tables i []) + 16 * grown
       → IsAtHand (page_at s2.tables i p)
+  pub alone : (p : ℕ) → IsOnItsOwn s i p → IsOnItsOwn s2 i p
+  pub touched : (p : ℕ) → IsTouched s i p → IsTouched s2 i p
+  pub others : (j : ℕ) → j ≢ i → get_or s2.tables j [] ≡ get_or s.tables j []
 
 -- what was written beside it is laid back
 abbrev pub IsLaid : Space → ℕ → UpperState → Space → Type 0
-IsLaid s i u s2 = HasLaid s i u.grown (with_upper (view s i) u) s2
+IsLaid s i u s2 = HasLaid s i u.grown (with_upper (view s i) u) u.pages s2
 
--- the memory of an instance is that of this place of this memory, and what is written beside it can be laid back
-pub record LiesOver (s : Space) (i : ℕ) (o : OverlayState) : Type 0 where
+-- the memory of an instance is that of this place of this memory, at most so many frames are lent, and what is written beside it can be
+-- laid back
+pub record LiesOver (s : Space) (i frames : ℕ) (o : OverlayState) : Type 0 where
   pub lower : o.lower ≡ s
   pub place : o.place ≡ i
+  pub lent : o.upper.lent ≤ frames
   pub whole : IsWholeOver s i o.upper
 
 -- in a turn of q charges the present call comes so far, over the memory of all

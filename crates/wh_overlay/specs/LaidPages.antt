@@ -4,12 +4,15 @@ use Rattle.wh_model.specs.Execution.Store.{written}
 use Rattle.wh_overlay.specs.declared.upper.WrittenPage.{WrittenPage}
 
 -- What is written beside a memory: pages of 4096 bytes; by how many pages of 65536 bytes it has grown; for how many more written
--- pages there is room; and below which number all pages are that may be written.
+-- pages there is room; below which number all pages are that may be written; how many frames are lent for pages that have none of
+-- their own, and how many such pages were written.
 pub record UpperState : Type 0 where
   pub pages : List WrittenPage
   pub grown : ℕ
   pub room : ℕ
   pub most : ℕ
+  pub lent : ℕ
+  pub taken : ℕ
 
 -- a memory with these pages over it, one after the other
 abbrev pub laid_over : List ℕ → List WrittenPage → List ℕ

@@ -1,10 +1,12 @@
 -- What an instance can read and write while nobody changes the memory of all.
 use Rattle.std.specs.Prelude.{◌≡◌, ℕ, ◌*◌, ◌+◌, ◌/◌, ◌%◌, ◌^◌, ◌<◌, ◌≤◌, ◌⊎◌, cond, List, [], Some, length, get_or, slice_get}
 use Rattle.wh_model.specs.declared.memory.Need.{Need}
-use Rattle.wh_host_model.specs.declared.states.Page.TheVariants.{Private}
+use Rattle.wh_host_model.specs.Frames.{tally}
+use Rattle.wh_host_model.specs.declared.states.Page.{Page}
+use Rattle.wh_host_model.specs.declared.states.Page.TheVariants.{Untouched, Private, Shared, Leaving, LeavingShared, Coming, Swapped}
 use Rattle.wh_host_model.specs.Space.Parts.{Space, view}
 use Rattle.wh_host_model.specs.Space.Ready.{IsAtHand}
-use Rattle.wh_host_model.specs.Space.States.{page_at}
+use Rattle.wh_host_model.specs.Space.States.{at, page_at}
 use Rattle.wh_space.specs.Steps.{page_limit}
 use Rattle.wh_overlay.specs.declared.upper.WrittenPage.{WrittenPage}
 use Rattle.wh_overlay.specs.LaidPages.{AreWhole, IsAmong, UpperState, with_upper}
@@ -18,11 +20,17 @@ HasCome s i u number =
 abbrev pub CanRead : Space → ℕ → UpperState → ℕ → Type 0
 CanRead s i u number = IsAmong u.pages number ⊎ IsAtHand (page_at s.tables i number) ⊎ HasCome s i u number
 
--- a page can be written: it was before, or it is alone on its frame, and there is room for it
+-- the page is alone on its frame
+abbrev pub IsOnItsOwn : Space → ℕ → ℕ → Type 0
+IsOnItsOwn s i number = (frame : ℕ) × (page_at s.tables i number ≡ Some (Private frame))
+
+-- There is a frame for a page that is written: it is alone on its own, or it is at hand, and one of those that are lent is left.
+abbrev pub HasFrameFor : Space → ℕ → UpperState → ℕ → Type 0
+HasFrameFor s i u number = IsOnItsOwn s i number ⊎ (IsAtHand (page_at s.tables i number) × (u.taken < u.lent))
+
+-- a page can be written: it was before, or there is a frame and room for it
 abbrev pub CanWrite : Space → ℕ → UpperState → ℕ → Type 0
-CanWrite s i u number =
-    IsAmong u.pages number
-    ⊎ ((frame : ℕ) × (page_at s.tables i number ≡ Some (Private frame)) × (number < u.most) × (1 ≤ u.room))
+CanWrite s i u number = IsAmong u.pages number ⊎ (HasFrameFor s i u number × (number < u.most) × (1 ≤ u.room))
 
 -- These bytes can be read or written at once: there are none, or they lie on one page with which that can be done.
 abbrev pub CanStepOver : Space → ℕ → UpperState → Need → Type 0
@@ -31,11 +39,24 @@ CanStepOver s i u need =
     ⊎ ((need.at % 4096 + need.length ≤ 4096)
     × cond need.writes (CanWrite s i u (need.at / 4096)) (CanRead s i u (need.at / 4096)))
 
--- each page that was written is alone on its frame below
-abbrev pub AreAlone : Space → ℕ → List WrittenPage → Type 0
-AreAlone s i pages =
-    (k : ℕ) (x : WrittenPage) → slice_get pages k ≡ Some x
-    → (frame : ℕ) × (page_at s.tables i x.number ≡ Some (Private frame))
+-- each page that was written is at hand below
+abbrev pub AreAtHand : Space → ℕ → List WrittenPage → Type 0
+AreAtHand s i pages =
+    (k : ℕ) (x : WrittenPage) → slice_get pages k ≡ Some x → IsAtHand (page_at s.tables i x.number)
+
+-- 1 for a page that may have to get a frame before it is written
+abbrev pub lacks_frame : Page → ℕ
+lacks_frame Untouched = 1
+lacks_frame (Private f) = 0
+lacks_frame (Shared f) = 1
+lacks_frame (Leaving f) = 1
+lacks_frame (LeavingShared f) = 1
+lacks_frame (Coming k) = 1
+lacks_frame (Swapped k) = 1
+
+-- how many of these pages may have to
+abbrev pub frames_lacking : Space → ℕ → List WrittenPage → ℕ
+frames_lacking s i pages = tally (λ x. at lacks_frame (page_at s.tables i x.number)) pages
 
 -- The memory of the instance at a place, with a limit of pages of 65536 bytes, and what is written beside it.
 pub record OverlayState : Type 0 where
@@ -52,9 +73,12 @@ sees o = with_upper (view o.lower o.place) o.upper
 abbrev pub HasGrown : Space → ℕ → UpperState → Type 0
 HasGrown s i u = 1 ≤ u.grown → length (view s i) + u.grown * 65536 ≤ page_limit s i * 65536
 
--- What is written beside a memory are pages that are alone on their frames, and no more bytes than pages can be counted.
+-- What is written beside a memory are pages that are at hand there. Of frames that are lent no more are taken than there are, and
+-- one at least for each page that may have to get one. There are no more bytes than pages can be counted.
 pub record IsOver (s : Space) (i : ℕ) (u : UpperState) : Type 0 where
-  pub alone : AreAlone s i u.pages
+  pub at_hand : AreAtHand s i u.pages
+  pub frames : frames_lacking s i u.pages ≤ u.taken
+  pub lent : u.taken ≤ u.lent
   pub counted : length (view s i) + u.grown * 65536 < 2 ^ 44
   pub limited : HasGrown s i u
 
@@ -67,6 +91,7 @@ pub record IsOverSame (o p : OverlayState) : Type 0 where
   pub lower : p.lower ≡ o.lower
   pub place : p.place ≡ o.place
   pub page_limit : p.page_limit ≡ o.page_limit
+  pub lent : p.upper.lent ≡ o.upper.lent
   pub stays : IsWholeOver o.lower o.place o.upper → IsWholeOver p.lower p.place p.upper
 
 -- these bytes can be read or written at once

@@ -119,6 +119,7 @@ impl<'a> LinearMem for Overlay<'a> {
       lower = refl;
       place = refl;
       page_limit = refl;
+      lent = refl;
       stays = λ h. h;
     } };
 
@@ -126,6 +127,7 @@ impl<'a> LinearMem for Overlay<'a> {
       lower = second.lower ∙ first.lower;
       place = second.place ∙ first.place;
       page_limit = second.page_limit ∙ first.page_limit;
+      lent = second.lent ∙ first.lent;
       stays = λ h. second.stays (first.stays h);
     } };
 

@@ -2,10 +2,12 @@
 
 ghost use Rattle.std.specs.Prelude.{◌≡◌, ◌+◌, ◌*◌, ◌^◌, ◌<◌, ◌≤◌, [], IsTrue, IsFalse, IfSome, IfNone, MatchBool, length, min, replicate};
 ghost use Rattle.wh_host_model.specs.Space.Parts.{view};
+ghost use Rattle.wh_host_model.specs.Space.Ready.{IsAtHand};
+ghost use Rattle.wh_host_model.specs.Space.States.{page_at};
 ghost use Rattle.wh_model.specs.Execution.Store.{bytes_at, written};
 ghost use Rattle.wh_space.specs.Steps.{page_limit};
-ghost use Rattle.wh_overlay.specs.LaidPages.{IsWrittenAt, grown_by};
-ghost use Rattle.wh_overlay.specs.Over.{AreAlone, CanRead, CanWrite, HasGrown, IsOverSame, IsWholeOver, sees};
+ghost use Rattle.wh_overlay.specs.LaidPages.{IsAmong, IsWrittenAt, grown_by};
+ghost use Rattle.wh_overlay.specs.Over.{AreAtHand, CanRead, CanWrite, HasFrameFor, HasGrown, IsOverSame, IsWholeOver, frames_lacking, sees};
 
 use crate::upper::Upper;
 use std::marker::Model;
@@ -14,7 +16,8 @@ use wh_space::Memory;
 /// The memory of the instance at one place, of which others read at the same time: what it writes lies beside it.
 ///
 /// It reads and writes bytes that lie on one page. A page that was written lies beside the memory; it is copied there when it is
-/// written for the first time, if it is alone on its frame, and there is room. All else waits until what was written is laid back.
+/// written for the first time, if there is room and it is alone on its frame, or at hand and a frame is lent for it. All else waits
+/// until what was written is laid back.
 #[derive(Drop)]
 pub struct Overlay<'a> {
     lower: &'a Memory,
@@ -59,6 +62,7 @@ impl<'a> Overlay<'a> {
     pub fn new(lower: &'a Memory, place: usize, page_limit: u32, upper: Upper) -> Overlay<'a>
         requires pages { upper.pages ≡ [] }
         requires grown { upper.grown ≡ 0 }
+        requires taken { upper.taken ≡ 0 }
         ensures { result ≡ record {
           lower = lower.now;
           place = place;
@@ -76,10 +80,11 @@ impl<'a> Overlay<'a> {
         }
     }
 
-    /// What was written beside the memory. Each page of it is alone on its frame there.
+    /// What was written beside the memory. Each page of it is at hand there, and no more frames are taken than are lent.
     pub fn into_upper(self) -> Upper
         ensures upper { result ≡ self.entry.upper }
-        ensures alone { AreAlone self.entry.lower self.entry.place result.pages }
+        ensures hand { AreAtHand self.entry.lower self.entry.place result.pages }
+        ensures frames { frames_lacking self.entry.lower self.entry.place result.pages ≤ result.lent }
         ensures limited { HasGrown self.entry.lower self.entry.place result }
         ensures over { IsWholeOver self.entry.lower self.entry.place result }
     {
@@ -167,10 +172,10 @@ impl<'a> Overlay<'a> {
         if !self.upper.has_room_for(number) {
             return false;
         }
-        let Some(_) = self.lower.private_page(self.place, number) else {
-            return false;
-        };
-        true
+        if let Some(_) = self.lower.private_page(self.place, number) {
+            return true;
+        }
+        self.upper.has_frame() && self.lower.peek(self.place, number, 0, &mut [])
     }
 
     // Whether so many bytes from a place on are in the memory.
@@ -213,6 +218,30 @@ impl<'a> Overlay<'a> {
         true
     }
 
+    // Copies a page that isn't alone on its frame beside the memory, where it is at hand and a frame is lent for it: its place among the
+    // written ones; else none, and nothing is done.
+    #[inline(never)]
+    fn copy(&mut self, number: u32) -> Option<usize>
+        requires new { ¬ (IsAmong self.old.upper.pages number) }
+        requires room { (number < self.old.upper.most) × (1 ≤ self.old.upper.room) }
+        ensures some { IfSome result (λ at. IsWrittenAt self.new.upper.pages number at) }
+        ensures can { IfSome result (λ _. HasFrameFor self.old.lower self.old.place self.old.upper number) }
+        ensures sees { sees self.new ≡ sees self.old }
+        ensures lower { IsOverSame self.old self.new }
+        ensures none { IfNone result ((self.new ≡ self.old)
+            × (¬ (IsAtHand (page_at self.old.lower.tables self.old.place number) × (self.old.upper.taken < self.old.upper.lent)))) }
+    {
+        self.upper.invariant();
+        self.lower.invariant();
+        let mut bytes = [0; 4096];
+        if !self.upper.has_frame() || !self.lower.peek(self.place, number, 0, &mut bytes) {
+            return None;
+        }
+        let at = self.upper.add(number, &bytes, false);
+        self.upper.invariant();
+        Some(at)
+    }
+
     // The place of a page among the written ones, where it can be written; else none, and nothing is done.
     fn own(&mut self, number: u32) -> Option<usize>
         ensures some { IfSome result (λ at. IsWrittenAt self.new.upper.pages number at) }
@@ -231,8 +260,10 @@ impl<'a> Overlay<'a> {
         if !self.upper.has_room_for(number) {
             return None;
         }
-        let bytes = self.lower.private_page(self.place, number)?;
-        let at = self.upper.add(number, bytes);
+        let Some(bytes) = self.lower.private_page(self.place, number) else {
+            return self.copy(number);
+        };
+        let at = self.upper.add(number, bytes, true);
         self.upper.invariant();
         Some(at)
     }

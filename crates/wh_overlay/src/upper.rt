@@ -1,6 +1,6 @@
 // What an instance writes beside the memory of all.
 
-ghost use Rattle.std.specs.Prelude.{◌≡◌, ◌+◌, ◌-◌, ◌^◌, ◌<◌, ◌≤◌, ◌⊎◌, ◌++◌, ◌∷◌, [], Some, IfOk, IfSome, IfNone, MatchBool, length, get_or, slice_get, slice_set, vec_capacity};
+ghost use Rattle.std.specs.Prelude.{◌≡◌, ◌+◌, ◌-◌, ◌^◌, ◌<◌, ◌≤◌, ◌⊎◌, ◌++◌, ◌∷◌, [], cond, false, Some, IfOk, IfSome, IfNone, MatchBool, length, get_or, slice_get, slice_set, vec_capacity};
 ghost use Rattle.wh_model.specs.Execution.Store.{written as overwritten};
 ghost use Rattle.wh_overlay.specs.LaidPages.{AreWrittenOnce, AreWhole, IsMarked, IsAmong, IsWrittenAt, UpperState};
 
@@ -34,6 +34,9 @@ pub struct Upper {
     // By page: 0 where it was neither read nor written.
     pub(crate) marks: Vec<u32>,
     pub(crate) grown: u32,
+    // How many frames are lent for pages that have none of their own, and how many such pages were written.
+    lent: u32,
+    taken: u32,
 }
 
 impl Model for Upper {
@@ -50,6 +53,8 @@ impl Model for Upper {
       grown = u.grown;
       room = u.most_written - length u.pages.items;
       most = length u.marks.items;
+      lent = u.lent;
+      taken = u.taken;
     } };
 
     ghost invariant = { λ u. IsMarked u.pages.items u.marks.items
@@ -90,12 +95,30 @@ fn keep_read(reads: &mut Vec<u32>, marks: &mut Vec<u32>, number: u32)
     }
 }
 
-// Takes all marks away.
-fn clear_marks(marks: &mut Vec<u32>)
+// Takes the marks of these pages away.
+fn clear_written(marks: &mut Vec<u32>, pages: &[WrittenPage])
+    requires { IsMarked pages.now marks.old.items }
     ensures marks { IsMarked [] marks.new.items }
     ensures long { length marks.new.items ≡ length marks.old.items }
 {
-    marks.fill(0);
+    for page in pages {
+        if let Some(mark) = marks.get_mut(page.number as usize) {
+            *mark = 0;
+        }
+    }
+}
+
+// Takes those of pages away that were read, where none was written.
+fn clear_read(marks: &mut Vec<u32>, reads: &[u32])
+    requires { IsMarked [] marks.old.items }
+    ensures marks { IsMarked [] marks.new.items }
+    ensures long { length marks.new.items ≡ length marks.old.items }
+{
+    for number in reads {
+        if let Some(mark) = marks.get_mut(*number as usize) {
+            *mark = 0;
+        }
+    }
 }
 
 impl Upper {
@@ -105,7 +128,7 @@ impl Upper {
     /// Where that room is refused.
     pub fn new(alloc: Global, written: u16, pages: usize) -> Result<Upper, AllocError>
         ensures { IfOk result (λ u.
-            u ≡ record { pages = []; grown = 0; room = written; most = pages }) }
+            u ≡ record { pages = []; grown = 0; room = written; most = pages; lent = 0; taken = 0 }) }
     {
         let most_written = written as usize;
         Ok(Upper {
@@ -114,6 +137,8 @@ impl Upper {
             reads: Vec::with_capacity(alloc, pages)?,
             marks: vec![in alloc; 0u32; pages]?,
             grown: 0,
+            lent: 0,
+            taken: 0,
         })
     }
 
@@ -157,6 +182,21 @@ impl Upper {
         self.grown
     }
 
+    /// Lends so many frames for pages that have none of their own, in place of those that were lent before.
+    pub fn lend(&mut self, frames: u32)
+        ensures { self.new ≡ record self.old { lent = frames; taken = 0 } }
+    {
+        self.lent = frames;
+        self.taken = 0;
+    }
+
+    /// Whether one of the frames is left that are lent.
+    pub fn has_frame(&self) -> bool
+        ensures { MatchBool result (self.now.taken < self.now.lent) (¬ (self.now.taken < self.now.lent)) }
+    {
+        self.taken < self.lent
+    }
+
     /// Whether one more page may be written, of this number.
     pub fn has_room_for(&self, number: u32) -> bool
         ensures { MatchBool result ((number < self.now.most) × (1 ≤ self.now.room))
@@ -176,14 +216,17 @@ impl Upper {
         }
     }
 
-    /// Takes a page with these bytes among the written ones, as the last one: its place.
-    pub fn add(&mut self, number: u32, bytes: &[u8; 4096]) -> usize
+    /// Takes a page with these bytes among the written ones, as the last one: its place. A page that isn't alone on its frame takes
+    /// one of those that are lent.
+    pub fn add(&mut self, number: u32, bytes: &[u8; 4096], is_alone: bool) -> usize
         requires new { ¬ (IsAmong self.old.pages number) }
         requires room { (number < self.old.most) × (1 ≤ self.old.room) }
+        requires frame { is_alone ≡ false → self.old.taken < self.old.lent }
         ensures place { result ≡ length self.old.pages }
         ensures added { self.new ≡ record self.old {
           pages = self.old.pages ++ record { number = number; bytes = bytes.now } ∷ [];
           room = self.old.room - 1;
+          taken = self.old.taken + cond is_alone 0 1;
         } }
     {
         let place = self.pages.len();
@@ -192,6 +235,9 @@ impl Upper {
             bytes: *bytes,
         });
         self.marks[number as usize] = place as u32 + WRITTEN;
+        if !is_alone {
+            self.taken += 1;
+        }
         place
     }
 
@@ -217,17 +263,20 @@ impl Upper {
         self.grown += pages;
     }
 
-    /// Forgets all that was written and read. It goes over the marks of all pages.
+    /// Forgets all that was written and read.
     pub fn clear(&mut self)
         ensures { self.new ≡ record self.old {
           pages = [];
           grown = 0;
           room = self.old.room + length self.old.pages;
+          taken = 0;
         } }
     {
-        clear_marks(&mut self.marks);
+        clear_written(&mut self.marks, &self.pages);
+        clear_read(&mut self.marks, &self.reads);
         self.pages.clear();
         self.reads.clear();
         self.grown = 0;
+        self.taken = 0;
     }
 }

@@ -30,8 +30,8 @@ const FEWEST_TURNS: u32 = 4;
 // Nor is one that is shorter by so many times than the longest.
 const TIMES_SHORTER: u32 = 8;
 
-// A round of fewer charges would take longer to begin than it saves.
-const FEWEST_CHARGES: u64 = 400_000;
+// A round of fewer charges for each of its threads would take longer to begin than it saves.
+const FEWEST_CHARGES: u64 = 100_000;
 
 // So many rounds series are in at most, before they are run one after the other.
 const MOST_ROUNDS: u32 = 1024;
@@ -91,8 +91,9 @@ fn next_count(count: u32, end: SeriesEnd, group: Group) -> u32 {
     1
 }
 
-// For how long a round of these series goes at most: each has a turn left behind it. None where one of them has few left.
-fn aim_of<'a>(orders: &[ReceivedTurns], wanted: &'a AtomicU64) -> Option<Aim<'a>>
+// For how long a round of these series by so many threads goes at most: each has a turn left behind it. None where one of them has few
+// left.
+fn aim_of<'a>(orders: &[ReceivedTurns], threads: usize, wanted: &'a AtomicU64) -> Option<Aim<'a>>
     ensures { IfSome result (λ aim. aim.further + 1 < 2 ^ 32) }
 {
     let first = orders.first()?;
@@ -107,7 +108,8 @@ fn aim_of<'a>(orders: &[ReceivedTurns], wanted: &'a AtomicU64) -> Option<Aim<'a>
     let charges = u64::from(least)
         .saturating_mul(u64::from(quantum))
         .saturating_mul(orders.len() as u64);
-    if least < FEWEST_TURNS || charges < FEWEST_CHARGES {
+    let fewest = FEWEST_CHARGES.saturating_mul(threads.min(orders.len()) as u64);
+    if least < FEWEST_TURNS || charges < fewest {
         return None;
     }
     Some(Aim {
@@ -323,7 +325,7 @@ impl<
         if orders.len() > MOST_AT_ONCE || worker.is_full() {
             return false;
         }
-        let Some(aim) = aim_of(orders, &self.schedule.wanted) else {
+        let Some(aim) = aim_of(orders, self.workers, &self.schedule.wanted) else {
             return false;
         };
         let fork = AtOnce::new(&*self.threads, self.workers.max(1));

@@ -1,13 +1,12 @@
-// Pages that are read beside others, who read them too, and pages that are written as a whole.
+// Pages that are read beside others, who read them too.
 
 ghost use Rattle.std.specs.Prelude.{◌≡◌, ◌+◌, ◌*◌, ◌≤◌, ℕ, [], IsTrue, IsFalse, IfSome, IfNone, MatchBool, Some, get_or, length};
 ghost use Rattle.wh_host_model.specs.Space.Parts.{view};
 ghost use Rattle.wh_host_model.specs.Space.Ready.{IsAtHand};
 ghost use Rattle.wh_host_model.specs.Space.States.{page_at};
 ghost use Rattle.wh_host_model.specs.declared.states.Page.TheVariants.{Private};
-ghost use Rattle.wh_model.specs.Execution.Store.{bytes_at, written};
+ghost use Rattle.wh_model.specs.Execution.Store.{bytes_at};
 ghost use Rattle.wh_space.specs.Merges.{IsNotPrivate};
-ghost use Rattle.wh_space.specs.StepViews.{KeepsRest};
 
 use crate::loads::read_page;
 use crate::memory::Memory;
@@ -56,37 +55,5 @@ impl Memory {
             Page::Private(frame) => Some(self.pool.bytes(frame)),
             _ => None,
         }
-    }
-
-    /// Writes over a page of the instance at this place, if it is alone on its frame and isn't leaving it, and marks it as touched.
-    /// Whether it did; else nothing was done.
-    pub fn write_page(&mut self, place: usize, number: u32, bytes: &[u8; 4096]) -> bool
-        ensures done { MatchBool result
-            ((frame : ℕ) × (page_at self.old.tables place number ≡ Some (Private frame)))
-            (IsNotPrivate self.old place number) }
-        ensures view { IsTrue result → view self.new place
-            ≡ written (view self.old place) (4096 * number) bytes.now }
-        ensures tables { self.new.tables ≡ self.old.tables }
-        ensures keeps { KeepsRest place self.old self.new }
-        ensures left { IsFalse result → self.new ≡ self.old }
-    {
-        self.invariant();
-        let Some(_) = self.private_page(place, number) else {
-            return false;
-        };
-        let Some(frame) = self.own(place, number) else {
-            return false;
-        };
-        self.write_own(place, number, frame, 0, bytes);
-        true
-    }
-
-    /// Marks a page of the instance at this place as touched, if there is one of this number.
-    pub fn touch_page(&mut self, place: usize, number: u32)
-        ensures view { view self.new place ≡ view self.old place }
-        ensures tables { self.new.tables ≡ self.old.tables }
-        ensures keeps { KeepsRest place self.old self.new }
-    {
-        let _ = self.load(place, 4096 * u64::from(number), &mut [0]);
     }
 }

@@ -8,3 +8,5 @@ invariant-loop l =
     × (l.here.place ≡ l.fn.places.0)
     × (l.there.lower ≡ l.fn.memory)
     × (l.there.place ≡ l.fn.places.1)
+    × (l.here.upper.lent ≡ l.fn.uppers.0.lent)
+    × (l.there.upper.lent ≡ l.fn.uppers.1.lent)

@@ -1,6 +1,7 @@
-use Rattle.std.proofs.Common.{◌≡◌, ◌*◌, Some, refl, sym, subst, ◌∙◌}
+use Rattle.std.proofs.Common.{◌≡◌, ◌+◌, ◌*◌, ◌≤◌, Some, length, refl, sym, ap, subst, ◌∙◌}
 use Rattle.wh_overlay.specs.LaidPages.{UpperState}
 use Rattle.wh_host.specs.Beside.{HasRun}
+use Rattle.wh_host.specs.Rounds.{lent_in}
 use Rattle.wh_host.proofs.joining.finish_at.Goals as goal
 
 one_upper : (u v : UpperState) → Some u ≡ Some v → u ≡ v
@@ -25,10 +26,11 @@ returns c = λ q.
         turns = λ u is l limit s0 x t run.
             e.turns l limit (y.ran.turns * q) s0 x t (subst (λ z. HasRun l limit (y.ran.turns * q) s0 c.args.memory.now y.id.place x t y.ran.came y.ran.pieces y.ran.charges y.tenant z) (one_upper u c.in-Some.upper (sym is ∙ c.in-Some.is)) run);
         others = e.others;
+        frames = subst (λ n. length c.args.memory.now.pool.free ≤ length f.new.memory.pool.free + n) (ap lent_in (sym c.in-Some.is)) e.frames;
         backing = e.backing;
         memory = e.memory;
       };
       answer = refl;
       id = refl;
-      free = (refl, (f.new.upper, refl, e.pages, e.grown));
+      free = (refl, (f.new.upper, refl, e.pages, e.grown, e.taken));
     })

@@ -1,4 +1,4 @@
-use Rattle.std.proofs.Common.{◌<◌, length, slice_index_or, refl, arith}
+use Rattle.std.proofs.Common.{◌<◌, length, slice_index_or, arith}
 use Rattle.wh_host.proofs.RunnerLists.{at_index, index_there}
 use Rattle.wh_host.proofs.RunnerTurns.{all_laid, can_finish_at, laid_next, laid_none}
 use Rattle.wh_host.proofs.joining.lay_all.Goals as goal

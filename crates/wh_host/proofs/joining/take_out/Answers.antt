@@ -1,17 +1,51 @@
-use Rattle.std.proofs.Common.{true, Some, None, inr, slice_set, sym, ap}
+use Rattle.std.proofs.Common.{◌≡◌, ◌∙◌, true, Option, Some, None, inr, slice_set, sym, ap}
+use Rattle.wh_instance.specs.Tenancy.{HostInstanceState}
+use Rattle.wh_overlay.specs.LaidPages.{UpperState}
+use Rattle.wh_host.specs.declared.parts.InstanceEntry.{InstanceEntry}
 use Rattle.wh_host.specs.declared.rounds.Runner.{Runner}
+use Rattle.wh_host.specs.Joining.{with_lent}
 use Rattle.wh_host.proofs.joining.take_out.Goals as goal
 
-pub returns : goal.returns
-returns c =
+-- the runner with this instance, and this room
+abbrev out_with : Runner → InstanceEntry → HostInstanceState → Option UpperState → Runner
+out_with y x tenant upper = record y {
+  taken = true;
+  of = x.of;
+  page_limit = x.page_limit;
+  tenant = tenant;
+  upper = upper;
+  answer = None;
+}
+
+pub returns-in-Some-upper : goal.returns-in-Some-upper
+returns-in-Some-upper c =
     let rs = c.args.entries.now.slots in
     let y = c.args.runner.now in
     let x = c.in-Some.entry.now in
+    let n = c.args.frames in
+    let lent : Some c.lend.new.self ≡ with_lent n y.upper = ap Some c.lend.ensures ∙ ap (with_lent n) (sym c.in-Some-upper.is) in
     inr (record {
       entry = x;
       was = sym c.in-Some.ensures.value;
       number = c.if-not-has_number.ensures;
       computes = c.if-not-computes.ensures;
       entries = ap (λ z. slice_set rs y.id.place (Some (record x { number = None; tenant = z }))) c.swap.ensures.x_after;
-      runner = ap (λ z. let s : Runner = record y { taken = true; of = x.of; page_limit = x.page_limit; tenant = z; answer = None } in s) c.swap.ensures.y_after;
+      runner = ap (λ z. out_with y x z (Some c.lend.new.self)) c.swap.ensures.y_after ∙ ap (out_with y x x.tenant) lent;
+    })
+
+pub returns-in_default-upper : goal.returns-in_default-upper
+returns-in_default-upper c =
+    let rs = c.args.entries.now.slots in
+    let y = c.args.runner.now in
+    let x = c.in-Some.entry.now in
+    let n = c.args.frames in
+    let none = c.in_default-upper.is in
+    let lent : y.upper ≡ with_lent n y.upper = none ∙ ap (with_lent n) (sym none) in
+    inr (record {
+      entry = x;
+      was = sym c.in-Some.ensures.value;
+      number = c.if-not-has_number.ensures;
+      computes = c.if-not-computes.ensures;
+      entries = ap (λ z. slice_set rs y.id.place (Some (record x { number = None; tenant = z }))) c.swap.ensures.x_after;
+      runner = ap (λ z. out_with y x z y.upper) c.swap.ensures.y_after ∙ ap (out_with y x x.tenant) lent;
     })

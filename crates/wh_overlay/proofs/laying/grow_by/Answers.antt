@@ -1,20 +1,26 @@
-use Rattle.std.proofs.Common.{◌≤◌, arith}
+use Rattle.std.proofs.Common.{◌≡◌, ◌≤◌, [], subst, sym, arith}
 use Rattle.std.proofs.lemmas.Grind.{common_steps}
-use Rattle.wh_space.proofs.Keeping.{keeps_growth}
-use Rattle.wh_space.specs.StepViews.{keeps_all}
-use Rattle.wh_overlay.proofs.Grown.{come_after, same_before}
+use Rattle.wh_host_model.specs.Space.Parts.{view}
+use Rattle.wh_overlay.specs.LaidBack.{HasLaid}
+use Rattle.wh_overlay.specs.LaidPages.{grown_by}
+use Rattle.wh_overlay.proofs.Grown.{come_after, sees_grown}
+use Rattle.wh_overlay.proofs.LaidSteps.{growth_step, no_growth}
 use Rattle.wh_overlay.proofs.laying.grow_by.Goals as goal
 
-pub returns-clause-pages : goal.returns-clause-pages
-returns-clause-pages c = λ number state. same_before c.args.memory.now c.grow.new.self c.args.place c.args.pages c.grow.result number state c.grow.ensures.leaves
+pub returns-then-pages-eq0 : goal.returns-then-pages-eq0
+returns-then-pages-eq0 c =
+    let s = c.args.memory.now in
+    let i = c.args.place in
+    let none : c.args.pages ≡ 0 = grind (arith, common_steps) in
+    subst (λ n. HasLaid s i n (grown_by (view s i) n) [] s) (sym none) (no_growth s i)
 
-pub returns-clause-keeps : goal.returns-clause-keeps
-returns-clause-keeps c = keeps_growth c.args.memory.now c.args.place c.args.pages c.grow.result c.grow.new.self c.invariant-2.ensures.sound c.grow.ensures.leaves
-
-pub returns-then-pages-eq0-clause-keeps : goal.returns-then-pages-eq0-clause-keeps
-returns-then-pages-eq0-clause-keeps c = keeps_all c.args.place c.args.memory.now
-
-pub returns-clause-come : goal.returns-clause-come
-returns-clause-come c = λ number least less.
-    (let some : 1 ≤ c.args.pages = grind (arith, common_steps) in
-    come_after c.args.memory.now c.grow.new.self c.args.place c.args.pages c.grow.result number c.grow.ensures.leaves c.grow.ensures.grows c.invariant.ensures.sound some (c.requires some) least less)
+pub returns : goal.returns
+returns c =
+    let s = c.args.memory.now in
+    let i = c.args.place in
+    let n = c.args.pages in
+    let some : 1 ≤ n = grind (arith, common_steps) in
+    let leaves = c.grow.ensures.leaves in
+    let grows = c.grow.ensures.grows in
+    growth_step s c.grow.new.self i n c.grow.result c.invariant-2.ensures.sound leaves (sees_grown s c.grow.new.self i n c.grow.result grows (c.requires some))
+    (λ p least less. come_after s c.grow.new.self i n c.grow.result p leaves grows c.invariant.ensures.sound some (c.requires some) least less)

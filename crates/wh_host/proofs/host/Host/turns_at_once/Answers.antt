@@ -1,4 +1,4 @@
-use Rattle.std.proofs.Common.{◌+◌, sym, subst, ◌∙◌}
+use Rattle.std.proofs.Common.{◌+◌, sym, subst, ◌∙◌, arith}
 use Rattle.wh_host.specs.Hosting.{HostState, IsHost}
 use Rattle.wh_host.proofs.RunnerTurns.{have_run, heard_all, may_run_all}
 use Rattle.wh_host.proofs.host.Host.turns_at_once.Goals as goal
@@ -16,7 +16,7 @@ lay_all-requires g c =
     let h : HostState = record { modules = i.modules.items; entries = i.entries.slots; live = i.live; space = i.memory; next = i.next } in
     let inv = c.self.invariant in
     let out = c.take_all.ensures in
-    (h, c.args.burst.quantum, c.args.burst.further + 1, h.entries, h.space, inv.0, have_run h c.args.burst.quantum (c.args.burst.further + 1) c.take_all.new.entries.slots c.take_all.new.runners c.run_all.new.runners c.run_all.auto.runners out.out out.rest c.run_all.ensures, inv.1)
+    (h, c.args.burst.quantum, c.args.burst.further + 1, h.entries, h.space, inv.0, have_run h c.args.burst.quantum (c.args.burst.further + 1) c.take_all.new.entries.slots c.take_all.new.runners c.run_all.new.runners c.run_all.auto.runners (let few = out.frames in let free = c.free.ensures in omega (arith, few, free)) out.out out.rest c.run_all.ensures, inv.1)
 
 pub invariant_of-self : goal.invariant_of-self
 invariant_of-self g c =
@@ -24,7 +24,7 @@ invariant_of-self g c =
     let h : HostState = record { modules = i.modules.items; entries = i.entries.slots; live = i.live; space = i.memory; next = i.next } in
     let inv = c.self.invariant in
     let out = c.take_all.ensures in
-    let t = c.lay_all.ensures.turns h c.args.burst.quantum (c.args.burst.further + 1) h.entries h.space inv.0 (have_run h c.args.burst.quantum (c.args.burst.further + 1) c.take_all.new.entries.slots c.take_all.new.runners c.run_all.new.runners c.run_all.auto.runners out.out out.rest c.run_all.ensures) inv.1 in
+    let t = c.lay_all.ensures.turns h c.args.burst.quantum (c.args.burst.further + 1) h.entries h.space inv.0 (have_run h c.args.burst.quantum (c.args.burst.further + 1) c.take_all.new.entries.slots c.take_all.new.runners c.run_all.new.runners c.run_all.auto.runners (let few = out.frames in let free = c.free.ensures in omega (arith, few, free)) out.out out.rest c.run_all.ensures) inv.1 in
     (t.0, t.2)
 
 pub returns-clause-turns : goal.returns-clause-turns
@@ -32,7 +32,7 @@ returns-clause-turns g c w st =
     let i = c.self.inside in
     let h : HostState = record { modules = i.modules.items; entries = i.entries.slots; live = i.live; space = i.memory; next = i.next } in
     let out = c.take_all.ensures in
-    c.lay_all.ensures.turns h c.args.burst.quantum (c.args.burst.further + 1) h.entries h.space w (have_run h c.args.burst.quantum (c.args.burst.further + 1) c.take_all.new.entries.slots c.take_all.new.runners c.run_all.new.runners c.run_all.auto.runners out.out out.rest c.run_all.ensures)
+    c.lay_all.ensures.turns h c.args.burst.quantum (c.args.burst.further + 1) h.entries h.space w (have_run h c.args.burst.quantum (c.args.burst.further + 1) c.take_all.new.entries.slots c.take_all.new.runners c.run_all.new.runners c.run_all.auto.runners (let few = out.frames in let free = c.free.ensures in omega (arith, few, free)) out.out out.rest c.run_all.ensures)
     (subst (λ z. IsHost z w) (sym c.self.view_is) st)
 
 pub returns-clause-same : goal.returns-clause-same

@@ -1,7 +1,7 @@
-use Rattle.std.proofs.Common.{◌+◌, ◌*◌, ◌<◌, ◌^◌, length, subst, sym, arith}
+use Rattle.std.proofs.Common.{◌≡◌, ◌+◌, ◌*◌, ◌<◌, ◌^◌, length, ap, subst, sym, arith}
 use Rattle.wh_host_model.specs.Space.Parts.{view}
 use Rattle.wh_host_model.proofs.Space.Reading.{view_length}
-use Rattle.wh_overlay.specs.Over.{AreAlone}
+use Rattle.wh_overlay.specs.Over.{AreAtHand, frames_lacking}
 use Rattle.wh_overlay.proofs.overlay.Overlay.new.Goals as goal
 
 pub invariant_of-result : goal.invariant_of-result
@@ -13,7 +13,9 @@ invariant_of-result c =
     let pages = c.pages_at.ensures in
     let none = c.requires.grown in
     record {
-      alone = subst (AreAlone s c.args.place) (sym c.requires.pages) (λ k x there. absurd (cc there));
+      at_hand = subst (AreAtHand s c.args.place) (sym c.requires.pages) (λ k x there. absurd (cc there));
+      frames = (let taken = c.requires.taken in let lacking : frames_lacking s c.args.place u.pages ≡ 0 = ap (frames_lacking s c.args.place) c.requires.pages in omega (arith, taken, lacking));
+      lent = (let taken = c.requires.taken in omega (arith, taken));
       counted = subst (λ n. length (view s c.args.place) + n * 65536 < 2 ^ 44) (sym none) (omega (arith, long, few, pages));
       limited = λ some. absurd (omega (arith, none, some));
     }

@@ -5,6 +5,6 @@ use Rattle.wh_overlay.proofs.overlay.Overlay.pages.Goals as goal
 pub returns : goal.returns
 returns c =
     let o = c.self.inside in
-    let seen = seen_length o.lower.now o.place o.upper c.invariant-2.ensures.sound c.self.invariant.alone c.invariant.ensures.whole in
+    let seen = seen_length o.lower.now o.place o.upper c.invariant-2.ensures.sound c.self.invariant.at_hand c.invariant.ensures.whole in
     let below = c.size.ensures.bytes in
     rw (← c.self.view_is) (omega (arith, seen, below))

@@ -1,10 +1,10 @@
-use Rattle.std.proofs.Common.{◌≡◌, ◌∙◌, ◌+◌, ◌*◌, ◌<◌, ◌^◌, refl, ap, sym, subst, length}
+use Rattle.std.proofs.Common.{◌≡◌, ◌∙◌, ◌+◌, ◌*◌, ◌<◌, ◌≤◌, ◌^◌, refl, ap, sym, subst, length, arith}
 use Rattle.wh_model.specs.Execution.Store.{written}
 use Rattle.wh_host_model.specs.Space.Parts.{view}
 use Rattle.wh_overlay.specs.LaidPages.{IsWrittenAt, UpperState, with_upper}
-use Rattle.wh_overlay.specs.Over.{AreAlone, HasGrown, IsOverSame, OverlayState, sees}
+use Rattle.wh_overlay.specs.Over.{AreAtHand, HasGrown, IsOverSame, OverlayState, frames_lacking, sees}
 use Rattle.wh_overlay.proofs.OverPages.{page_with}
-use Rattle.wh_overlay.proofs.Seen.{still_alone, write_page}
+use Rattle.wh_overlay.proofs.Seen.{still_at_hand, still_lacking, write_page}
 use Rattle.wh_overlay.proofs.overlay.Overlay.write.Goals as goal
 
 pub invariant_of-self : goal.invariant_of-self
@@ -12,9 +12,14 @@ invariant_of-self c =
     let o = c.self.inside in
     let done = c.write.ensures in
     let x = done.0 in
+    let y = page_with x c.args.offset c.args.given.now in
+    let had = c.self.invariant.frames in
+    let lacking = still_lacking o.lower.now o.place c.in-Some.at o.upper.pages x y done.1 refl in
     record {
-      alone = subst (λ (u : UpperState). AreAlone o.lower.now o.place u.pages) (sym done.2)
-          (still_alone o.lower.now o.place c.in-Some.at o.upper.pages x (page_with x c.args.offset c.args.given.now) c.self.invariant.alone done.1 refl);
+      at_hand = subst (λ (u : UpperState). AreAtHand o.lower.now o.place u.pages) (sym done.2)
+          (still_at_hand o.lower.now o.place c.in-Some.at o.upper.pages x y c.self.invariant.at_hand done.1 refl);
+      frames = subst (λ (u : UpperState). frames_lacking o.lower.now o.place u.pages ≤ u.taken) (sym done.2) (omega (arith, had, lacking));
+      lent = subst (λ (u : UpperState). u.taken ≤ u.lent) (sym done.2) c.self.invariant.lent;
       counted = subst (λ (u : UpperState). length (view o.lower.now o.place) + u.grown * 65536 < 2 ^ 44) (sym done.2) c.self.invariant.counted;
       limited = subst (λ (u : UpperState). HasGrown o.lower.now o.place u) (sym done.2) c.self.invariant.limited;
     }
@@ -26,10 +31,10 @@ returns-clause-wrote c =
     let seen : sees c.own.new.self ≡ sees c.args.self.now = c.in-Some.ensures.sees in
     let before : with_upper (view o.lower.now o.place) o.upper ≡ sees c.own.new.self = ap (λ (z : OverlayState). sees z) c.self.view_is in
     λ yes.
-    write_page o.lower.now o.place o.upper c.write.new.self c.args.number c.in-Some.at c.args.offset c.args.given.now c.invariant-2.ensures.sound c.self.invariant.alone c.invariant.ensures.whole c.invariant.ensures.once at c.write.ensures c.requires.inside
+    write_page o.lower.now o.place o.upper c.write.new.self c.args.number c.in-Some.at c.args.offset c.args.given.now c.invariant-2.ensures.sound c.self.invariant.at_hand c.invariant.ensures.whole c.invariant.ensures.once at c.write.ensures c.requires.inside
     ∙ ap (λ z. written z (4096 * c.args.number + c.args.offset) c.args.given.now) (before ∙ seen)
 
 pub returns-clause-lower : goal.returns-clause-lower
 returns-clause-lower c =
     let first = subst (λ (z : OverlayState). IsOverSame c.args.self.now z) (sym c.self.view_is) c.own.ensures.lower in
-    record { lower = first.lower; place = first.place; page_limit = first.page_limit; stays = λ h. (invariant_of-self c, c.invariant-3.ensures.whole) }
+    record { lower = first.lower; place = first.place; page_limit = first.page_limit; lent = ap (λ (u : UpperState). u.lent) c.write.ensures.2 ∙ first.lent; stays = λ h. (invariant_of-self c, c.invariant-3.ensures.whole) }

@@ -1,39 +1,52 @@
-use Rattle.std.proofs.Common.{rules, ◌≡◌, ◌∙◌, Some, slice_get, refl, ap, sym, subst, ℕ, arith}
-use Rattle.wh_host_model.specs.declared.states.Page.TheVariants.{Private}
-use Rattle.wh_host_model.specs.declared.states.Page.{Page}
-use Rattle.wh_host_model.specs.Space.Parts.{view}
-use Rattle.wh_host_model.specs.Space.Ready.{IsAtHand}
-use Rattle.wh_host_model.specs.Space.States.{page_at}
-use Rattle.wh_host_model.proofs.Space.Filling.{at_hand}
-use Rattle.wh_overlay.specs.LaidPages.{UpperState, with_upper}
-use Rattle.wh_space.specs.StepViews.{keeps_on}
+use Rattle.std.proofs.Common.{◌∙◌, ℕ, [], slice_get, subst, ap, sym, arith}
+use Rattle.wh_host_model.specs.Space.Parts.{Space, view}
+use Rattle.wh_overlay.specs.LaidBack.{HasLaid}
+use Rattle.wh_overlay.specs.LaidPages.{UpperState, grown_by, laid_over}
+use Rattle.wh_overlay.specs.Over.{frames_lacking}
+use Rattle.wh_overlay.proofs.LaidSteps.{lacking_less, laid_on}
 use Rattle.wh_overlay.proofs.upper.Upper.lay.Goals as goal
 
-pub write_all-requires : goal.write_all-requires
-write_all-requires c = λ k x there.
-    (let at = ap (λ z. slice_get z k) (sym c.deref-2.ensures.value) ∙ there in
-    let here = subst (λ (u : UpperState). slice_get u.pages k ≡ Some x) c.self.view_is at in
-    let on = c.requires.alone k x here in
-    (on.0, ap (λ t. page_at t c.args.place x.number) c.touch_all.ensures.tables ∙ c.grow_by.ensures.pages x.number (Private on.0) on.1))
+-- it has grown, and pages are marked
+both : (s m1 m2 : Space) (i g : ℕ) → HasLaid s i g (grown_by (view s i) g) [] m1 → HasLaid m1 i 0 (view m1 i) [] m2 → HasLaid s i g (grown_by (view s i) g) [] m2
+both s m1 m2 i g first second =
+    subst (λ b. HasLaid s i g b [] m2) first.sees (laid_on s i g (grown_by (view s i) g) (view m1 i) [] [] m1 m2 first second (λ k x there. absurd (cc there)))
 
-pub returns-clause-keeps : goal.returns-clause-keeps
-returns-clause-keeps c =
-    keeps_on c.args.place c.args.place c.args.memory.now c.touch_all.new.memory c.write_all.new.memory refl
-    (keeps_on c.args.place c.args.place c.args.memory.now c.grow_by.new.memory c.touch_all.new.memory refl c.grow_by.ensures.keeps c.touch_all.ensures.keeps) c.write_all.ensures.keeps
+pub write_all-requires-clause-hand : goal.write_all-requires-clause-hand
+write_all-requires-clause-hand c = λ k x there.
+    (let h = both c.args.memory.now c.grow_by.new.memory c.touch_all.new.memory c.args.place c.self.inside.grown c.grow_by.ensures c.touch_all.ensures in
+    let pages = c.deref-2.ensures.value ∙ ap (λ (u : UpperState). u.pages) c.self.view_is in
+    h.at_hand x.number (c.requires.hand k x (ap (λ xs. slice_get xs k) (sym pages) ∙ there)))
+
+pub write_all-requires-clause-whole : goal.write_all-requires-clause-whole
+write_all-requires-clause-whole c = λ k x there.
+    (let pages = c.deref-2.ensures.value ∙ ap (λ (u : UpperState). u.pages) c.self.view_is in
+    c.invariant.ensures.whole k x (ap (λ xs. slice_get xs k) (sym pages) ∙ there))
+
+pub write_all-requires-clause-frames : goal.write_all-requires-clause-frames
+write_all-requires-clause-frames c =
+    let s = c.args.memory.now in
+    let i = c.args.place in
+    let m2 = c.touch_all.new.memory in
+    let h = both s c.grow_by.new.memory m2 i c.self.inside.grown c.grow_by.ensures c.touch_all.ensures in
+    let pages = c.deref-2.ensures.value ∙ ap (λ (u : UpperState). u.pages) c.self.view_is in
+    let less = lacking_less s m2 i c.args.self.now.pages h.alone c.requires.hand in
+    let free = h.free in
+    let is = ap (frames_lacking m2 i) pages in
+    let few = c.requires.frames in
+    omega (arith, less, free, is, few)
 
 pub returns-clause-laid : goal.returns-clause-laid
 returns-clause-laid c =
     let s = c.args.memory.now in
     let i = c.args.place in
-    let s2 = c.write_all.new.memory in
-    let tables : s2.tables ≡ c.grow_by.new.memory.tables = c.write_all.ensures.tables ∙ c.touch_all.ensures.tables in
-    let stays : (p : ℕ) (x : Page) → page_at s.tables i p ≡ Some x → page_at s2.tables i p ≡ Some x = λ p x was. ap (λ t. page_at t i p) tables ∙ c.grow_by.ensures.pages p x was in
-    let grown : c.self.inside.grown ≡ c.args.self.now.grown = ap (λ (u : UpperState). u.grown) c.self.view_is in
-    let sees : view s2 i ≡ with_upper (view s i) c.args.self.now = search rules in
-    record {
-      sees = sees;
-      keeps = returns-clause-keeps c;
-      at_hand = λ p hand. (let x = at_hand (page_at s.tables i p) hand in subst IsAtHand (x.1 ∙ sym (stays p x.0 x.1)) hand);
-      alone = λ p frame is. (frame, stays p (Private frame) is);
-      come = λ p least less. subst IsAtHand (sym (ap (λ t. page_at t i p) tables ∙ c.grow_by.ensures.come p least (omega (arith, grown, less)))) refl;
-    }
+    let m2 = c.touch_all.new.memory in
+    let m3 = c.write_all.new.memory in
+    let g = c.self.inside.grown in
+    let written = c.deref-2.result.now in
+    let h = both s c.grow_by.new.memory m2 i g c.grow_by.ensures c.touch_all.ensures in
+    let pages = c.deref-2.ensures.value ∙ ap (λ (u : UpperState). u.pages) c.self.view_is in
+    let grown = ap (λ (u : UpperState). u.grown) c.self.view_is in
+    let all = laid_on s i g (grown_by (view s i) g) (laid_over (view m2 i) written) [] written m2 m3 h c.write_all.ensures (λ k x there. c.requires.hand k x (ap (λ xs. slice_get xs k) (sym pages) ∙ there)) in
+    let seen = subst (λ b. HasLaid s i g (laid_over b written) written m3) h.sees all in
+    let by_grown = subst (λ n. HasLaid s i n (laid_over (grown_by (view s i) n) written) written m3) grown seen in
+    subst (λ xs. HasLaid s i c.args.self.now.grown (laid_over (grown_by (view s i) c.args.self.now.grown) xs) xs m3) pages by_grown

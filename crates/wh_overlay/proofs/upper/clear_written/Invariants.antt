@@ -1,0 +1,6 @@
+use Rattle.std.proofs.Common.{◌≡◌, length}
+use Rattle.wh_overlay.proofs.Marks.{AreLeft}
+use Rattle.wh_overlay.proofs.upper.clear_written.Given as goal
+
+abbrev pub invariant-loop-page : goal.invariant-loop-page
+invariant-loop-page l = AreLeft l.fn.pages l.marks.items l.page-index × (length l.marks.items ≡ length l.fn.marks.items) × (l.pages ≡ l.fn.pages)
