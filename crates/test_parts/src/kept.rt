@@ -155,16 +155,16 @@ impl Kept {
         true
     }
 
-    /// The frame of a page, if it has one, or with `alone` if the page is private; it is touched then.
-    pub fn touch_resident(&mut self, id: PageId, alone: bool) -> Option<u32> {
+    /// The frame of a page that was touched, if it has one, or with `alone` if the page is private.
+    pub fn touched_frame(&self, id: PageId, alone: bool) -> Option<u32> {
         let place = id.place as usize;
         if id.page >= self.tables.len_at(place) {
             return None;
         }
         if alone {
-            self.tables.touch_private(place, id.page)
+            self.tables.touched_own_frame(place, id.page)
         } else {
-            self.tables.touch_resident(place, id.page)
+            self.tables.touched_frame(place, id.page)
         }
     }
 

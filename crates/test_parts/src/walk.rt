@@ -150,17 +150,14 @@ impl Walk {
         self.kept.mark(id, touched) == is_there
     }
 
-    fn touch_resident(&mut self, alone: bool) -> bool {
+    fn find_touched(&mut self, alone: bool) -> bool {
         let id = self.some_id();
         let wanted = match self.plain.page(id) {
-            Some((Page::Private(frame), _)) => Some(frame),
-            Some((page, _)) if !alone => frame_of(page),
+            Some((Page::Private(frame), true)) => Some(frame),
+            Some((page, true)) if !alone => frame_of(page),
             _ => None,
         };
-        if wanted != None {
-            self.plain.mark(id, true);
-        }
-        self.kept.touch_resident(id, alone) == wanted
+        self.kept.touched_frame(id, alone) == wanted
     }
 
     fn grow(&mut self) -> bool {
@@ -190,8 +187,8 @@ impl Walk {
         let is_right = match self.random.below(16) {
             0 | 1 => self.mark(true),
             2 => self.mark(false),
-            3 | 4 => self.touch_resident(false),
-            5 => self.touch_resident(true),
+            3 | 4 => self.find_touched(false),
+            5 => self.find_touched(true),
             6 => self.grow(),
             7 => !seldom || self.clear(),
             8 => !seldom || self.clear_marks(),

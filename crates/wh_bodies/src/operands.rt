@@ -16,6 +16,7 @@ pub struct Operands {
 }
 
 /// Whether two types are one.
+#[inline(always)]
 pub fn same_type(found: ValType, wanted: ValType) -> bool
     ensures { result ≡ same_type found wanted }
 {
@@ -27,6 +28,7 @@ pub fn same_type(found: ValType, wanted: ValType) -> bool
 }
 
 /// Takes the topmost operand, whatever its type, and gives the type.
+#[inline(always)]
 pub fn take_any(operands: &mut Operands) -> Result<Option<ValType>, ValidKind>
     ensures { Yields result (known operands.new) (take_any (known operands.old)) }
 {
@@ -44,6 +46,7 @@ pub fn take_any(operands: &mut Operands) -> Result<Option<ValType>, ValidKind>
 }
 
 /// Takes an operand of this type.
+#[inline(always)]
 pub fn take(operands: &mut Operands, wanted: ValType) -> Result<(), ValidKind>
     ensures { Checks result (known operands.new) (take_one (known operands.old) wanted) }
 {
@@ -60,6 +63,7 @@ pub fn take(operands: &mut Operands, wanted: ValType) -> Result<(), ValidKind>
 }
 
 /// Gives an operand of this type, where `None` is a type that isn't known.
+#[inline(always)]
 pub fn give(operands: &mut Operands, of: Option<ValType>) -> Result<(), ValidKind>
     ensures { Checks result (known operands.new) (give_one (known operands.old) of) }
 {
@@ -80,6 +84,7 @@ pub fn fall(operands: &mut Operands)
 }
 
 /// Takes operands of these types, the last one topmost.
+#[inline(always)]
 pub fn take_all(operands: &mut Operands, wanted: &[ValType]) -> Result<(), ValidKind>
     ensures { Checks result (known operands.new)
         (take_all (known operands.old) (reverse wanted.now)) }
@@ -97,6 +102,7 @@ pub fn take_all(operands: &mut Operands, wanted: &[ValType]) -> Result<(), Valid
 }
 
 /// Gives operands of these types, the last one topmost.
+#[inline(always)]
 pub fn give_all(operands: &mut Operands, types: &[ValType]) -> Result<(), ValidKind>
     ensures { Checks result (known operands.new) (give_all (known operands.old) types.now) }
 {
@@ -107,6 +113,7 @@ pub fn give_all(operands: &mut Operands, types: &[ValType]) -> Result<(), ValidK
 }
 
 /// Takes operands of the first types and gives operands of the others, the last ones topmost.
+#[inline(always)]
 pub fn pass(
     operands: &mut Operands,
     params: &[ValType],

@@ -18,6 +18,7 @@ use wh_model::{ConvertOp, LoadOp, Mutability, StoreOp, ValType, ValidKind};
 use wh_syntax::{GlobalType, Instr};
 
 /// The types that a conversion takes and gives.
+#[inline(always)]
 fn conversion_type(op: ConvertOp) -> (ValType, ValType)
     ensures { result ≡ conversion_type op }
 {
@@ -29,6 +30,7 @@ fn conversion_type(op: ConvertOp) -> (ValType, ValType)
 }
 
 /// Numeric instructions (3.3.1), and those of the other classes.
+#[inline(always)]
 pub fn numeric(around: &Around, operands: &mut Operands, instr: Instr) -> Result<(), ValidKind>
     requires { AllByRecursion (λ x. x < length around.now.context.types.now)
         around.now.context.funcs.now }
@@ -52,6 +54,7 @@ pub fn numeric(around: &Around, operands: &mut Operands, instr: Instr) -> Result
 }
 
 /// The type of a local.
+#[inline(always)]
 fn local_type(around: &Around, local: u32) -> Result<ValType, ValidKind>
     ensures { result
         ≡ found (slice_get (around.now.params.now ++ around.now.locals.now) local) (λ t. Ok t) }
@@ -91,6 +94,7 @@ fn set_global(around: &Around, operands: &mut Operands, global: u32) -> Result<(
 }
 
 /// Variable instructions (3.3.3), and those of the classes behind.
+#[inline(always)]
 fn variable(around: &Around, operands: &mut Operands, instr: Instr) -> Result<(), ValidKind>
     requires { AllByRecursion (λ x. x < length around.now.context.types.now)
         around.now.context.funcs.now }
@@ -121,6 +125,7 @@ fn variable(around: &Around, operands: &mut Operands, instr: Instr) -> Result<()
 }
 
 /// The type of what is loaded, and the exponent of the bytes that are read.
+#[inline(always)]
 fn load_access(op: LoadOp) -> (ValType, u32)
     ensures { result ≡ ((load_type op).0, load_exponent op) }
 {
@@ -136,6 +141,7 @@ fn load_access(op: LoadOp) -> (ValType, u32)
 }
 
 /// The type of what is stored, and the exponent of the bytes that are written.
+#[inline(always)]
 fn store_access(op: StoreOp) -> (ValType, u32)
     ensures { result ≡ ((store_type op).0, store_exponent op) }
 {
@@ -151,6 +157,7 @@ fn store_access(op: StoreOp) -> (ValType, u32)
 }
 
 /// `load`
+#[inline(always)]
 fn load(around: &Around, operands: &mut Operands, op: LoadOp, align: u32) -> Result<(), ValidKind>
     ensures { Checks result (known operands.new)
         (straight (view_around around.now) (load op align 0) (known operands.old)) }
@@ -166,6 +173,7 @@ fn load(around: &Around, operands: &mut Operands, op: LoadOp, align: u32) -> Res
 }
 
 /// `store`
+#[inline(always)]
 fn store(around: &Around, operands: &mut Operands, op: StoreOp, align: u32) -> Result<(), ValidKind>
     ensures { Checks result (known operands.new)
         (straight (view_around around.now) (store op align 0) (known operands.old)) }
@@ -193,6 +201,7 @@ fn pages(around: &Around, operands: &mut Operands, params: &[ValType]) -> Result
 }
 
 /// Memory instructions (3.3.4), and those of the classes behind.
+#[inline(always)]
 fn memory(around: &Around, operands: &mut Operands, instr: Instr) -> Result<(), ValidKind>
     requires { AllByRecursion (λ x. x < length around.now.context.types.now)
         around.now.context.funcs.now }

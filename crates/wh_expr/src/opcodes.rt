@@ -69,6 +69,7 @@ const BINARY_OPERATORS: [BinaryOp; 15] = [
     BinaryOp::Rotr,
 ];
 
+#[inline(always)]
 fn control(byte: u8) -> Option<Opcode>
     ensures { result ≡ control_opcode byte }
 {
@@ -92,6 +93,7 @@ fn control(byte: u8) -> Option<Opcode>
     }
 }
 
+#[inline(always)]
 fn variable(byte: u8) -> Option<Opcode>
     ensures { result ≡ variable_opcode byte }
 {
@@ -110,6 +112,7 @@ fn variable(byte: u8) -> Option<Opcode>
 }
 
 /// The operator that an opcode stands for, where `first` is the opcode of the first one.
+#[inline(always)]
 fn operator_from<T: Copy>(first: u8, operators: &[T], byte: u8) -> Option<T>
     ensures { result ≡ operator_from first operators.now byte }
 {
@@ -119,6 +122,7 @@ fn operator_from<T: Copy>(first: u8, operators: &[T], byte: u8) -> Option<T>
     operators.get(usize::from(byte - first)).copied()
 }
 
+#[inline(always)]
 fn memory(byte: u8) -> Option<Opcode>
     ensures { result ≡ memory_opcode byte }
 {
@@ -137,6 +141,7 @@ fn memory(byte: u8) -> Option<Opcode>
     None
 }
 
+#[inline(always)]
 fn single(byte: u8) -> Option<Opcode>
     ensures { result ≡ single_opcode byte }
 {
@@ -150,6 +155,7 @@ fn single(byte: u8) -> Option<Opcode>
     }
 }
 
+#[inline(always)]
 fn numeric(byte: u8) -> Option<Opcode>
     ensures { result ≡ numeric_opcode byte }
 {
@@ -196,6 +202,7 @@ fn is_float(byte: u8) -> bool
 }
 
 /// The opcode, or why there is none.
+#[inline(always)]
 #[tactic(auto, unfolding(wh_model::specs::Format::Opcodes::opcode))]
 pub fn opcode_of(byte: u8) -> Result<Opcode, FaultKind>
     ensures { result ≡ opcode byte }

@@ -11,6 +11,7 @@ use wh_leb::{fault, read_s32, read_s64, read_u32};
 use wh_model::{DecodeError, FaultKind, Opcode, ValType};
 use wh_syntax::Instr;
 
+#[inline(always)]
 fn block_type_of(byte: u8) -> Result<Option<ValType>, FaultKind>
     ensures { result ≡ block_type byte }
 {
@@ -23,6 +24,7 @@ fn block_type_of(byte: u8) -> Result<Option<ValType>, FaultKind>
     }
 }
 
+#[inline(always)]
 fn result_type(bytes: &[u8], at: usize) -> Result<(Option<ValType>, usize), DecodeError>
     requires { at ≤ length bytes.now }
     ensures exact { result ≡ one_at block_type bytes.now at }
@@ -39,6 +41,7 @@ fn result_type(bytes: &[u8], at: usize) -> Result<(Option<ValType>, usize), Deco
 }
 
 /// The place behind a byte that has to be 0.
+#[inline(always)]
 fn reserved(bytes: &[u8], at: usize) -> Result<usize, DecodeError>
     requires { at ≤ length bytes.now }
     ensures exact { Gives (λ next. (tt, next)) result
@@ -57,6 +60,7 @@ fn reserved(bytes: &[u8], at: usize) -> Result<usize, DecodeError>
 }
 
 /// The instruction that an opcode begins, where it is none with a pool, and the place behind it.
+#[inline(always)]
 #[tactic(auto, unfolding(crate::specs::ReadingCode::operands_at))]
 pub fn operands(opcode: Opcode, bytes: &[u8], at: usize) -> Result<(Instr, usize), DecodeError>
     requires inside { at ≤ length bytes.now }

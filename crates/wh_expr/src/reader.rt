@@ -22,6 +22,7 @@ use wh_syntax::{Expr, Instr};
 const MOST_NESTED: usize = 256;
 
 /// What the opcode may begin inside these constructs, the innermost last.
+#[inline(always)]
 fn allowed(stack: &[Open], opcode: Opcode) -> Result<Opcode, FaultKind>
     ensures { result ≡ allowed (reverse stack.now) opcode }
 {
@@ -41,6 +42,7 @@ fn allowed(stack: &[Open], opcode: Opcode) -> Result<Opcode, FaultKind>
     }
 }
 
+#[inline(always)]
 fn opcode_at(bytes: &[u8], at: usize, stack: &[Open]) -> Result<(Opcode, usize), DecodeError>
     requires { at ≤ length bytes.now }
     ensures exact { result ≡ one_at (λ n. may_come (reverse stack.now) (opcode n)) bytes.now at }
@@ -61,6 +63,7 @@ fn opcode_at(bytes: &[u8], at: usize, stack: &[Open]) -> Result<(Opcode, usize),
 }
 
 /// What stands behind an opcode; labels go to the end of the pool.
+#[inline(always)]
 #[tactic(auto, unfolding(crate::specs::ReadingCode::operands_at))]
 fn immediates(
     opcode: Opcode,
@@ -85,6 +88,7 @@ fn immediates(
 }
 
 /// One instruction inside these constructs, the innermost last.
+#[inline(always)]
 #[tactic(auto, unfolding(crate::specs::ReadingCode::instr_at))]
 fn instruction(
     bytes: &[u8],
@@ -107,6 +111,7 @@ fn instruction(
 }
 
 /// The constructs that are open behind an instruction; true where it ends the expression.
+#[inline(always)]
 fn advance(stack: &mut Vec<Open>, instr: Instr) -> Result<bool, AllocError>
     ensures { IfOk result
         (λ ended. (labels : List ℕ)
@@ -128,6 +133,7 @@ fn advance(stack: &mut Vec<Open>, instr: Instr) -> Result<bool, AllocError>
 }
 
 /// The same; the place is that of a fault.
+#[inline(always)]
 fn advance_at(stack: &mut Vec<Open>, instr: Instr, at: usize) -> Result<bool, DecodeError>
     ensures ok { IfOk result
         (λ ended. (labels : List ℕ)
@@ -142,6 +148,7 @@ fn advance_at(stack: &mut Vec<Open>, instr: Instr, at: usize) -> Result<bool, De
 }
 
 /// Keeps an instruction that was read before this place.
+#[inline(always)]
 fn keep(instrs: &mut Vec<Instr>, instr: Instr, at: usize) -> Result<(), DecodeError>
     ensures ok { OnOk result (instrs.new.items ≡ instrs.old.items ++ instr ∷ []) }
     ensures err { IfErr result (λ e. e.kind ≡ FaultKind.Memory) }

@@ -45,7 +45,7 @@ fn take_out(entries: &mut Slab<InstanceEntry>, runner: &mut Runner, frames: u32)
     }
 }
 
-// Hands all runners theirs, and lends each an equal part of so many frames, but no more than it can use.
+// Hands all runners theirs, and lends each an equal part of so many frames, used or not.
 fn take_all(entries: &mut Slab<InstanceEntry>, runners: &mut [Runner], frames: u32)
     requires { AllAreFree runners.old }
     ensures frames { lent_to_all runners.new ≤ frames }

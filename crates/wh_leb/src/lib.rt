@@ -66,6 +66,7 @@ fn signed(bytes: &[u8], at: usize, bits: u32) -> Result<(i64, usize), DecodeErro
     fault(FaultKind::Leb, at)
 }
 
+#[inline(always)]
 #[tactic(auto, unfolding(crate::specs::Reading::u32_at))]
 fn word(bytes: &[u8], at: usize) -> Result<(u32, usize), DecodeError>
     requires { at ≤ length bytes.now }
@@ -73,11 +74,15 @@ fn word(bytes: &[u8], at: usize) -> Result<(u32, usize), DecodeError>
     ensures beyond { IfOk result (λ found. at < found.1) }
     ensures inside { IfOk result (λ found. found.1 ≤ length bytes.now) }
 {
+    if at < bytes.len() && bytes[at] < 128 {
+        return Ok((u32::from(bytes[at]), at + 1));
+    }
     let (value, next) = unsigned(bytes, at, 32)?;
     Ok((value as u32, next))
 }
 
 /// An unsigned number of 32 bits.
+#[inline(always)]
 pub fn read_u32(bytes: &[u8], at: usize) -> Result<(u32, usize), DecodeError>
     requires { at ≤ length bytes.now }
     // The bytes up to the next place spell the number.
@@ -93,6 +98,7 @@ pub fn read_u32(bytes: &[u8], at: usize) -> Result<(u32, usize), DecodeError>
     word(bytes, at)
 }
 
+#[inline(always)]
 #[tactic(auto, unfolding(crate::specs::Reading::s32_at))]
 fn s32(bytes: &[u8], at: usize) -> Result<(i32, usize), DecodeError>
     requires { at ≤ length bytes.now }
@@ -100,11 +106,15 @@ fn s32(bytes: &[u8], at: usize) -> Result<(i32, usize), DecodeError>
     ensures beyond { IfOk result (λ found. at < found.1) }
     ensures inside { IfOk result (λ found. found.1 ≤ length bytes.now) }
 {
+    if at < bytes.len() && bytes[at] < 64 {
+        return Ok((i32::from(bytes[at]), at + 1));
+    }
     let (value, next) = signed(bytes, at, 32)?;
     Ok((value as i32, next))
 }
 
 /// A signed number of 32 bits.
+#[inline(always)]
 pub fn read_s32(bytes: &[u8], at: usize) -> Result<(i32, usize), DecodeError>
     requires { at ≤ length bytes.now }
     // The bytes up to the next place spell the number.
@@ -120,6 +130,7 @@ pub fn read_s32(bytes: &[u8], at: usize) -> Result<(i32, usize), DecodeError>
     s32(bytes, at)
 }
 
+#[inline(always)]
 #[tactic(auto, unfolding(crate::specs::Reading::s64_at))]
 fn s64(bytes: &[u8], at: usize) -> Result<(i64, usize), DecodeError>
     requires { at ≤ length bytes.now }
@@ -127,10 +138,14 @@ fn s64(bytes: &[u8], at: usize) -> Result<(i64, usize), DecodeError>
     ensures beyond { IfOk result (λ found. at < found.1) }
     ensures inside { IfOk result (λ found. found.1 ≤ length bytes.now) }
 {
+    if at < bytes.len() && bytes[at] < 64 {
+        return Ok((i64::from(bytes[at]), at + 1));
+    }
     signed(bytes, at, 64)
 }
 
 /// A signed number of 64 bits.
+#[inline(always)]
 pub fn read_s64(bytes: &[u8], at: usize) -> Result<(i64, usize), DecodeError>
     requires { at ≤ length bytes.now }
     // The bytes up to the next place spell the number.

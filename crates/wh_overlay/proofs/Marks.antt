@@ -1,7 +1,7 @@
 -- The marks of pages that were read and written.
 use Rattle.std.proofs.Common.{◌≡◌, ◌≢◌, ◌∙◌, ◌⊎◌, inl, inr, ℕ, ◌+◌, ◌<◌, ◌≤◌, List, [], ◌∷◌, ◌++◌, Some, length, get_or, slice_get, slice_set, zero, suc, refl, sym, ap, arith}
 use Rattle.std.proofs.lemmas.Bool.{cases_eq, cases_lt}
-use Rattle.wh_host_model.proofs.Space.Putting.{there_of}
+use Rattle.wh_host_model.proofs.Space.Putting.{set_other, there_of}
 use Rattle.wh_overlay.specs.declared.upper.WrittenPage.{WrittenPage}
 use Rattle.wh_overlay.specs.LaidPages.{IsMarked, IsAmong, IsWrittenAt}
 
@@ -23,13 +23,6 @@ pub set_there : {X : Type 0} (xs : List X) (i : ℕ) (x y : X) → slice_get xs 
 set_there [] i x y there = absurd (cc there)
 set_there (z ∷ xs) zero x y there = refl
 set_there (z ∷ xs) (suc i) x y there = set_there xs i x y there
-
-pub set_elsewhere : {X : Type 0} (xs : List X) (i j : ℕ) (x : X) → j ≢ i → slice_get (slice_set xs i x) j ≡ slice_get xs j
-set_elsewhere [] i j x other = refl
-set_elsewhere (y ∷ xs) zero zero x other = absurd (other refl)
-set_elsewhere (y ∷ xs) zero (suc j) x other = refl
-set_elsewhere (y ∷ xs) (suc i) zero x other = refl
-set_elsewhere (y ∷ xs) (suc i) (suc j) x other = set_elsewhere xs i j x (λ e. other (ap suc e))
 
 pub last_there : {X : Type 0} (xs : List X) (y : X) → slice_get (xs ++ y ∷ []) (length xs) ≡ Some y
 last_there [] y = refl
@@ -98,7 +91,7 @@ marked_again pages marks at x y is there same long = record {
         let both : Some y ≡ Some z = sym (set_there pages at y x there) ∙ ap (slice_get (slice_set pages at y)) (sym here) ∙ now in
         let is_y : y ≡ z = cc both in
         ap (λ (w : WrittenPage). get_or marks w.number 0) (sym is_y) ∙ ap (λ n. get_or marks n 0) same ∙ is.each at x there ∙ ap (λ n. n + 2) (sym here))
-    | inr other ↦ is.each k z (sym (set_elsewhere pages at k y other) ∙ now)
+    | inr other ↦ is.each k z (sym (set_other pages at k y other) ∙ now)
   ];
   only = λ n k mark. (
       let had = is.only n k mark in
@@ -107,14 +100,14 @@ marked_again pages marks at x y is there same long = record {
             let both : Some x ≡ Some had.0 = sym there ∙ ap (slice_get pages) (sym here) ∙ had.1 in
             let is_x : x ≡ had.0 = cc both in
             (y, ap (slice_get (slice_set pages at y)) here ∙ set_there pages at y x there, same ∙ ap (λ (w : WrittenPage). w.number) is_x ∙ had.2))
-        | inr other ↦ (had.0, set_elsewhere pages at k y other ∙ had.1, had.2)
+        | inr other ↦ (had.0, set_other pages at k y other ∙ had.1, had.2)
       ]);
   whole = λ k z now. elim (cases_eq k at) [
     | inl here ↦ (
         let both : Some y ≡ Some z = sym (set_there pages at y x there) ∙ ap (slice_get (slice_set pages at y)) (sym here) ∙ now in
         let is_y : y ≡ z = cc both in
         ap (λ (w : WrittenPage). length w.bytes) (sym is_y) ∙ long)
-    | inr other ↦ is.whole k z (sym (set_elsewhere pages at k y other) ∙ now)
+    | inr other ↦ is.whole k z (sym (set_other pages at k y other) ∙ now)
   ];
 }
 

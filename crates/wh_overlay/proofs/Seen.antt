@@ -10,14 +10,14 @@ use Rattle.wh_host_model.specs.Space.States.{at, page_at}
 use Rattle.wh_host_model.proofs.Tally.{tally-append}
 use Rattle.wh_host_model.proofs.Space.Blocks.{written_before}
 use Rattle.wh_host_model.proofs.Space.Filling.{at_hand}
-use Rattle.wh_host_model.proofs.Space.Putting.{is_page}
+use Rattle.wh_host_model.proofs.Space.Putting.{is_page, set_other}
 use Rattle.wh_host_model.proofs.Space.Reading.{view_length}
 use Rattle.wh_host_model.proofs.Space.Sums.{set_tally}
 use Rattle.wh_overlay.specs.declared.upper.WrittenPage.{WrittenPage}
 use Rattle.wh_overlay.specs.LaidPages.{AreWrittenOnce, AreWhole, FitIn, IsAmong, IsWrittenAt, UpperState, grown_by, laid_over, with_upper}
 use Rattle.wh_overlay.specs.Over.{AreAtHand, CanWrite, IsOver, frames_lacking, lacks_frame}
 use Rattle.std.proofs.lemmas.Bool.{cases_eq}
-use Rattle.wh_overlay.proofs.Marks.{set_there, set_elsewhere, was_there}
+use Rattle.wh_overlay.proofs.Marks.{set_there, was_there}
 use Rattle.wh_overlay.proofs.Bytes.{read_first, read_past, read_zeros}
 use Rattle.wh_overlay.proofs.OverPages.{add_same, laid_length, page_with, read_other, read_own, rest_fits, write_own}
 
@@ -117,7 +117,7 @@ still_at_hand s i at pages x y hand there same k z now = elim (cases_eq k at) [
       let both : Some y ≡ Some z = sym (set_there pages at y x there) ∙ ap (slice_get (slice_set pages at y)) (sym here) ∙ now in
       let is : y ≡ z = cc both in
       subst (λ n. IsAtHand (page_at s.tables i n)) (sym same ∙ ap (λ (w : WrittenPage). w.number) is) (hand at x there))
-  | inr other ↦ hand k z (sym (set_elsewhere pages at k y other) ∙ now)
+  | inr other ↦ hand k z (sym (set_other pages at k y other) ∙ now)
 ]
 
 pub still_lacking : (s : Space) (i k : ℕ) (pages : List WrittenPage) (x y : WrittenPage) → slice_get pages k ≡ Some x → y.number ≡ x.number → frames_lacking s i (slice_set pages k y) ≡ frames_lacking s i pages

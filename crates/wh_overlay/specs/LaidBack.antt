@@ -22,7 +22,7 @@ pub record LooksSame (i : ℕ) (s s2 : Space) : Type 0 where
   pub claim : claim s2 i ≡ claim s i
 
 -- By steps of its own alone the instance at this place has come to see these bytes, has grown by so many pages of 65536 bytes, and
--- has written these pages: each is alone on its frame and marked as touched. No more free frames were taken than pages wanted one.
+-- has written these pages: each is alone on its frame and marked as touched. No more free frames were taken than pages lacked one.
 -- What was at hand is, and so are the pages by which it has grown; pages that were alone are, and marks stay. So do others' pages.
 pub record HasLaid (s : Space) (i grown : ℕ) (bytes : List ℕ) (pages : List WrittenPage) (s2 : Space) : Type 0 where
   pub sees : view s2 i ≡ bytes

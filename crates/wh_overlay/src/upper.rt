@@ -235,9 +235,7 @@ impl Upper {
             bytes: *bytes,
         });
         self.marks[number as usize] = place as u32 + WRITTEN;
-        if !is_alone {
-            self.taken += 1;
-        }
+        self.taken += u32::from(!is_alone);
         place
     }
 

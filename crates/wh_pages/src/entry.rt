@@ -1,11 +1,13 @@
 // An entry of the table: a page with its mark, in 8 bytes.
 
 ghost use Rattle.std.specs.Bool.{MatchBool};
-ghost use Rattle.std.specs.Prelude.{◌≡◌, ◌≤◌, false, cond};
+ghost use Rattle.std.specs.Prelude.{◌≡◌, ◌≤◌, None, false, cond};
 ghost use Rattle.wh_host_model.specs.declared.states.Page.TheVariants.{Untouched as UntouchedPage};
+ghost use Rattle.wh_host_model.specs.Space.Moves.{frame_of};
 ghost use Rattle.wh_host_model.specs.Space.States.{resident};
 ghost use Rattle.wh_pages.specs.Leaves.{IsSoughtEntry};
 ghost use Rattle.wh_pages.specs.Parts.{page_of};
+ghost use Rattle.wh_pages.specs.Table.{own_frame_of};
 
 use wh_host_model::Page;
 
@@ -87,6 +89,34 @@ impl PageEntry {
         ensures one { result ≤ 1 }
     {
         if self.touched { self.residents() } else { 0 }
+    }
+
+    // The frame on which the page stands, where it was touched in this epoch.
+    #[inline(always)]
+    pub fn touched_frame(self) -> Option<u32>
+        ensures { result ≡ cond self.touched (frame_of (page_of self)) None }
+    {
+        if !self.touched {
+            return None;
+        }
+        match self.kind {
+            EntryKind::Private
+            | EntryKind::Shared
+            | EntryKind::Leaving
+            | EntryKind::LeavingShared => Some(self.number),
+            EntryKind::Untouched | EntryKind::Coming | EntryKind::Swapped => None,
+        }
+    }
+
+    // The frame on which the page stands alone, where it is `Private` and was touched in this epoch.
+    #[inline(always)]
+    pub fn touched_own_frame(self) -> Option<u32>
+        ensures { result ≡ cond self.touched (own_frame_of (page_of self)) None }
+    {
+        match self.kind {
+            EntryKind::Private if self.touched => Some(self.number),
+            _ => None,
+        }
     }
 
     // Whether the page is looked for: it stands on a frame, and with `idle` wasn't touched in this epoch.

@@ -1,9 +1,11 @@
 // The table as its caller sees it.
 
 ghost use Rattle.std.specs.Prelude.{◌≡◌, ℕ, ◌*◌, ◌↔◌, ◌+◌, ◌<◌, ◌≤◌, ◌++◌, [], ◌∷◌, true, false, IsTrue, IsFalse, Some, IfOk, IfSome, IfNone, length, replicate, slice_get, slice_set};
+ghost use Rattle.wh_host_model.specs.Space.Moves.{frame_of};
 ghost use Rattle.wh_pages.specs.Parts.{page_of};
 ghost use Rattle.wh_host_model.specs.declared.states.Page.TheVariants.{Untouched};
 ghost use Rattle.wh_pages.specs.Seeking.{IsFirstFrom, IsSought};
+ghost use Rattle.wh_pages.specs.Table.{IsFrameIfTouched, own_frame_of};
 
 use crate::entry::PageEntry;
 use crate::leaf::LEAF;
@@ -85,15 +87,24 @@ impl PageTable {
         self.rows.get(at).touched
     }
 
-    /// The page at this place, which is below `len`, and whether it was touched in this epoch, by one look.
+    /// The frame on which the page at this place, which is below `len`, stands, where it was touched in this epoch. It is one
+    /// look, which changes nothing.
     #[inline(always)]
-    pub fn page_and_mark(&self, at: u32) -> (Page, bool)
+    pub fn touched_frame(&self, at: u32) -> Option<u32>
         requires { at < length self.now.pages }
-        ensures page { slice_get self.now.pages at ≡ Some result.0 }
-        ensures mark { slice_get self.now.touched at ≡ Some result.1 }
+        ensures { IsFrameIfTouched frame_of (slice_get self.now.pages at) (slice_get self.now.touched at) result }
     {
-        let entry = self.rows.get(at);
-        (entry.page(), entry.touched)
+        self.rows.get(at).touched_frame()
+    }
+
+    /// The frame on which the page at this place, which is below `len`, stands alone, where it is `Private` and was touched in
+    /// this epoch. It is one look, which changes nothing.
+    #[inline(always)]
+    pub fn touched_own_frame(&self, at: u32) -> Option<u32>
+        requires { at < length self.now.pages }
+        ensures { IsFrameIfTouched own_frame_of (slice_get self.now.pages at) (slice_get self.now.touched at) result }
+    {
+        self.rows.get(at).touched_own_frame()
     }
 
     /// The first page from this place on that stands on a frame; with `idle`, of those alone that weren't touched in this epoch.

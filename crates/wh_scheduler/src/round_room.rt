@@ -21,7 +21,7 @@ pub(crate) const MOST_AT_ONCE: usize = 32;
 // So many pages an instance writes in a round at most: behind as many its part of the round ends.
 const WRITTEN_PAGES: u16 = 64;
 
-// Of how many pages a memory has at most whose instance is in a round: 64 MB. Behind each round a mark of each is cleared.
+// Of how many pages a memory has at most whose instance is in a round: 64 MB. A runner has a mark of four bytes for each.
 const PAGES: usize = 16384;
 
 // So many turns of each instance a round has at least, where its series have as many.

@@ -1,31 +1,44 @@
--- Marks of pages that stand on frames.
-use Rattle.std.proofs.Common.{◌≡◌, ℕ, List, Bool, Option, Some, None, IfSome, IfNone, true, refl, sym, ap, ◌∙◌}
+-- Pages on frames that were touched in this epoch.
+use Rattle.std.proofs.Common.{◌≡◌, ℕ, Bool, Option, Some, None, cond, true, false, refl, sym}
 use Rattle.wh_host_model.specs.declared.states.Page.{Page}
 use Rattle.wh_host_model.specs.Space.Moves.{frame_of}
-use Rattle.wh_host_model.specs.Space.States.{page_at, put}
+use Rattle.wh_host_model.specs.Space.Ready.{IsAtHand}
 use Rattle.wh_host_model.specs.declared.states.Page.TheVariants.{Coming, Leaving, LeavingShared, Private, Shared, Swapped, Untouched}
-use Rattle.wh_tables.specs.Tables.{TablesState, marked_if, own_frame_of}
+use Rattle.wh_pages.specs.Table.{IsFrameIfTouched, own_frame_of}
 
--- where a frame was found the page is marked, and else nothing is
-pub marked_some : (a b : TablesState) (i p : ℕ) (found : Option ℕ) → b ≡ record a { marks = marked_if found a.marks i p } → IfSome found (λ frame. b.marks ≡ put a.marks i p true)
-marked_some a b i p None is = tt
-marked_some a b i p (Some frame) is = ap (λ (z : TablesState). z.marks) is
+-- what was found was found on a page that was touched
+found_touched : (find : Page → Option ℕ) (at : Option Page) (mark_at : Option Bool) (frame : ℕ) → IsFrameIfTouched find at mark_at (Some frame)
+    → (page : Page) × (at ≡ Some page) × (mark_at ≡ Some true) × (find page ≡ Some frame)
+found_touched find at mark_at frame t = go t.mark t.marked t.is where
+  go : (mark : Bool) → mark_at ≡ Some mark → Some frame ≡ cond mark (find t.page) None → (page : Page) × (at ≡ Some page) × (mark_at ≡ Some true) × (find page ≡ Some frame)
+  go true marked is = (t.page, t.there, marked, sym is)
+  go false marked is = absurd (cc is)
 
-pub marked_none : (a b : TablesState) (i p : ℕ) (found : Option ℕ) → b ≡ record a { marks = marked_if found a.marks i p } → IfNone found (b.marks ≡ a.marks)
-marked_none a b i p None is = ap (λ (z : TablesState). z.marks) is
-marked_none a b i p (Some frame) is = tt
+pub frame_touched : (at : Option Page) (mark_at : Option Bool) (frame : ℕ) → IsFrameIfTouched frame_of at mark_at (Some frame)
+    → (page : Page) × (at ≡ Some page) × (mark_at ≡ Some true) × (frame_of page ≡ Some frame)
+frame_touched at mark_at frame t = found_touched frame_of at mark_at frame t
 
-pub frame_found : (pages : List (List Page)) (i p : ℕ) (page : Page) (found : Option ℕ) → page_at pages i p ≡ Some page → found ≡ frame_of page
-    → IfSome found (λ frame. (x : Page) × (page_at pages i p ≡ Some x) × (frame_of x ≡ Some frame))
-frame_found pages i p page None there is = tt
-frame_found pages i p page (Some frame) there is = (page, there, sym is)
+owned : (page : Page) (frame : ℕ) → own_frame_of page ≡ Some frame → page ≡ Private frame
+owned (Private f) frame e = cc e
+owned Untouched frame e = absurd (cc e)
+owned (Shared f) frame e = absurd (cc e)
+owned (Leaving f) frame e = absurd (cc e)
+owned (LeavingShared f) frame e = absurd (cc e)
+owned (Coming k) frame e = absurd (cc e)
+owned (Swapped k) frame e = absurd (cc e)
 
-pub private_found : (pages : List (List Page)) (i p : ℕ) (page : Page) (found : Option ℕ) → page_at pages i p ≡ Some page → found ≡ own_frame_of page
-    → IfSome found (λ frame. page_at pages i p ≡ Some (Private frame))
-private_found pages i p (Private f) found there is = rw is there
-private_found pages i p Untouched found there is = rw is tt
-private_found pages i p (Shared f) found there is = rw is tt
-private_found pages i p (Leaving f) found there is = rw is tt
-private_found pages i p (LeavingShared f) found there is = rw is tt
-private_found pages i p (Coming k) found there is = rw is tt
-private_found pages i p (Swapped k) found there is = rw is tt
+pub own_touched : (at : Option Page) (mark_at : Option Bool) (frame : ℕ) → IsFrameIfTouched own_frame_of at mark_at (Some frame)
+    → (at ≡ Some (Private frame)) × (mark_at ≡ Some true)
+own_touched at mark_at frame t =
+    let found = found_touched own_frame_of at mark_at frame t in
+    (rw (← owned found.0 frame found.3) found.1, found.2)
+
+-- a page on a frame is at hand
+pub on_frame_at_hand : (at : Option Page) (page : Page) (frame : ℕ) → at ≡ Some page → frame_of page ≡ Some frame → IsAtHand at
+on_frame_at_hand at (Private f) frame there on = rw there refl
+on_frame_at_hand at (Shared f) frame there on = rw there refl
+on_frame_at_hand at (Leaving f) frame there on = rw there refl
+on_frame_at_hand at (LeavingShared f) frame there on = rw there refl
+on_frame_at_hand at Untouched frame there on = rw there refl
+on_frame_at_hand at (Coming k) frame there on = absurd (cc on)
+on_frame_at_hand at (Swapped k) frame there on = absurd (cc on)

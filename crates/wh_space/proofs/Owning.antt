@@ -1,6 +1,8 @@
 -- A page that is broken off from all others.
 use Rattle.wh_host_model.specs.Pages.{zero_page}
-use Rattle.std.proofs.Common.{length-set, ◌≡◌, ℕ, ◌+◌, ◌<◌, ◌≤◌, inl, inr, List, [], ◌∷◌, Option, Some, None, IfSome, IfNone, length, get_or, slice_get, slice_set, zero, suc, true, refl, sym, ◌∙◌, ap, subst, arith}
+use Rattle.wh_pages.specs.Table.{IsFrameIfTouched, own_frame_of}
+use Rattle.wh_space.proofs.Marking.{own_touched}
+use Rattle.std.proofs.Common.{length-set, ◌≡◌, ℕ, ◌+◌, ◌<◌, ◌≤◌, inl, inr, List, [], ◌∷◌, Option, Some, None, IfSome, length, get_or, slice_get, slice_set, zero, suc, true, refl, sym, ◌∙◌, ap, subst, arith}
 use Rattle.std.proofs.lemmas.Bool.Decides.{nat_tests}
 use Rattle.wh_host_model.specs.Frames.{IsTaken, Pool, one_if, tally}
 use Rattle.wh_host_model.specs.declared.states.Mark.{Mark}
@@ -25,7 +27,7 @@ use Rattle.wh_space.specs.Pinning.{FrameGoes, pins_of}
 use Rattle.wh_space.specs.Slotting.{leaver_of, voids_leaver}
 use Rattle.wh_space.proofs.Earmarked.{goes_frames, takes_frame}
 use Rattle.wh_space.proofs.Voids.{void_tickets, voided_is}
-use Rattle.wh_space.proofs.Wellness.{well, well_with}
+use Rattle.wh_space.proofs.Wellness.{well_with}
 
 -- ---- what a page is that owns a frame, or shares it
 
@@ -164,7 +166,7 @@ owned_by a b i p g x y was occupant_entries slots tax pages marks limits there a
       page = ap (λ (t : List (List Page)). page_at t i p) pages ∙ put_this a.tables.pages i p x (Private g) there;
     }
 
--- ---- a page that was alone already, or nothing was done
+-- ---- a page that was alone and touched already
 
 pub put_found : {X : Type 0} (xss : List (List X)) (i p : ℕ) (x : X) → page_at xss i p ≡ Some x → put xss i p x ≡ xss
 put_found [] i p x there = refl
@@ -175,30 +177,18 @@ put_found (xs ∷ xss) zero p x there = ap (λ z. z ∷ xss) (same xs p x there)
   same (y ∷ xs) (suc p) x there = ap (λ z. y ∷ z) (same xs p x there)
 put_found (xs ∷ xss) (suc i) p x there = ap (λ z. xs ∷ z) (put_found xss i p x there)
 
-pub record IsQuick (a b : Inside) (i p : ℕ) (found : Option ℕ) : Type 0 where
-  pub well : IsWell b
-  pub owns : IfSome found (λ frame. Owns (space_of a) i p (Some frame) (space_of b))
-  pub same : IfNone found (space_of b ≡ space_of a)
-
 one_own : (g : ℕ) → owns g (Private g) ≡ 1
 one_own g = grind (arith, nat_tests)
 
-pub quickly : (a b : Inside) (i p : ℕ) (found : Option ℕ) → IsWell a → b.occupant_entries ≡ a.occupant_entries → b.pool ≡ a.pool → b.content ≡ a.content → b.slots ≡ a.slots → b.pins ≡ a.pins → b.tax ≡ a.tax
-    → IfSome found (λ frame. page_at a.tables.pages i p ≡ Some (Private frame)) → b.tables.pages ≡ a.tables.pages
-    → IfSome found (λ frame. b.tables.marks ≡ put a.tables.marks i p true) → fixed_in b.tables ≡ fixed_in a.tables
-    → IfNone found (b.tables.marks ≡ a.tables.marks) → IsQuick a b i p found
-quickly a b i p None was occupant_entries pool content slots pins tax there pages marked limits same =
-    let is : space_of b ≡ space_of a = rw (occupant_entries, pages, same, pool, content, slots, pins, tax) refl in
-    record { well = well a b was occupant_entries limits (ap (λ (z : Pool). length z.frames) pool) slots (subst IsSound (sym is) was.sound); owns = tt; same = is }
-quickly a b i p (Some g) was occupant_entries pool content slots pins tax there pages marked limits same =
+pub own_already : (a : Inside) (i p : ℕ) (found : Option ℕ) → IsWell a → IsFrameIfTouched own_frame_of (page_at a.tables.pages i p) (page_at a.tables.marks i p) found
+    → IfSome found (λ frame. Owns (space_of a) i p (Some frame) (space_of a))
+own_already a i p None was is = tt
+own_already a i p (Some g) was is =
     let s : Space = space_of a in
-    let gets : GetsFrame s i (Private g) g (record s { pool = b.pool; marks = b.content; pins = pins_of b.pins }) = (refl, rw (pool, content, pins) refl) in
-    let o = owned_by a b i p g (Private g) (Private g) was occupant_entries slots tax (pages ∙ sym (put_found a.tables.pages i p (Private g) there)) marked limits there there gets in
-    record {
-      well = o.well;
-      owns = (can_keep s i p g (Private g) was.sound there (one_own g), o.breaks, o.page);
-      same = tt;
-    }
+    let t = own_touched (page_at a.tables.pages i p) (page_at a.tables.marks i p) g is in
+    let gets : GetsFrame s i (Private g) g s = (refl, refl) in
+    let o = owned_by a a i p g (Private g) (Private g) was refl refl refl (sym (put_found a.tables.pages i p (Private g) t.0)) (sym (put_found a.tables.marks i p true t.1)) refl t.0 t.0 gets in
+    (can_keep s i p g (Private g) was.sound t.0 (one_own g), o.breaks, o.page)
 
 -- ---- a page that shares a frame
 

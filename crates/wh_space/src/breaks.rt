@@ -8,7 +8,7 @@ ghost use Rattle.wh_space.specs.Steps.{Owns};
 
 use crate::frames::clear_frame;
 use crate::memory::Memory;
-use crate::pages::{stand_alone, touch_private};
+use crate::pages::stand_alone;
 use crate::pins::take_frame;
 use crate::slotting::{leaver_at, void_written};
 use wh_host_model::{Mark, Page};
@@ -123,14 +123,12 @@ impl Memory {
         }
     }
 
-    // The frame on which a page stands alone already, and then the page is marked as touched; or none, and nothing is
-    // done.
+    // The frame on which a page stands alone already, where it was touched in this epoch too.
     #[inline(always)]
-    pub(crate) fn own_quickly(&mut self, place: usize, number: u32) -> Option<u32>
-        requires { number < length (get_or self.old.tables place []) }
-        ensures some { IfSome result (λ frame. Owns self.old place number (Some frame) self.new) }
-        ensures none { IfNone result (self.new ≡ self.old) }
+    pub(crate) fn own_quickly(&self, place: usize, number: u32) -> Option<u32>
+        requires { number < length (get_or self.now.tables place []) }
+        ensures { IfSome result (λ frame. Owns self.now place number (Some frame) self.now) }
     {
-        touch_private(&mut self.tables, place, number)
+        self.tables.touched_own_frame(place, number)
     }
 }

@@ -14,7 +14,7 @@ ghost use Rattle.wh_space.specs.Steps.{LeavesLoad};
 
 use crate::frames::{frame_under, read_frame};
 use crate::memory::Memory;
-use crate::pages::{is_near, touch_resident};
+use crate::pages::is_near;
 use wh_frames::FramePool;
 use wh_host_model::Page;
 use wh_model::{Got, Need};
@@ -173,29 +173,28 @@ impl Memory {
         number < u64::from(self.tables.len_at(place))
     }
 
-    // Reads bytes of a page that stands on a frame, and marks it as touched. Where it stands on none nothing is done, and
-    // the answer is false.
+    // Reads bytes of a page that stands on a frame and was touched in this epoch. Where it doesn't nothing is done, and the
+    // answer is false.
     #[inline(always)]
-    fn load_resident(&mut self, place: usize, number: u32, offset: usize, into: &mut [u8]) -> bool
-        requires page { number < length (get_or self.old.tables place []) }
+    fn load_touched(&self, place: usize, number: u32, offset: usize, into: &mut [u8]) -> bool
+        requires page { number < length (get_or self.now.tables place []) }
         requires inside { offset + length into.old ≤ 4096 }
-        ensures hand { IsTrue result → IsAtHand (page_at self.old.tables place number) }
+        ensures hand { IsTrue result → IsAtHand (page_at self.now.tables place number) }
         ensures read { IsTrue result
-            → into.new ≡ bytes_at (view self.old place) (4096 * number + offset) (length into.old) }
+            → into.new ≡ bytes_at (view self.now place) (4096 * number + offset) (length into.old) }
         ensures touched { IsTrue result
-            → self.new ≡ record self.old { touched = put self.old.touched place number true } }
-        ensures unchanged { IsFalse result → self.new ≡ self.old }
+            → self.now ≡ record self.now { touched = put self.now.touched place number true } }
         ensures left { IsFalse result → into.new ≡ into.old }
     {
-        let Some(frame) = touch_resident(&mut self.tables, place, number) else {
+        let Some(frame) = self.tables.touched_frame(place, number) else {
             return false;
         };
         read_frame(&self.pool, frame, offset, into);
         true
     }
 
-    /// Reads bytes as `load` does, where they lie on one page that stands on a frame. Where they don't nothing is done, and
-    /// the answer is false.
+    /// Reads bytes as `load` does, where they lie on one page that stands on a frame and was touched in this epoch. Where they
+    /// don't nothing is done, and the answer is false.
     #[inline(always)]
     pub fn quick_load(&mut self, place: usize, at: u64, into: &mut [u8]) -> bool
         requires few { length into.old ≤ 4096 }
@@ -212,6 +211,6 @@ impl Memory {
         if !self.has_page(place, at / 4096) {
             return false;
         }
-        self.load_resident(place, (at / 4096) as u32, offset, into)
+        self.load_touched(place, (at / 4096) as u32, offset, into)
     }
 }

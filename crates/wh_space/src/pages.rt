@@ -28,34 +28,6 @@ pub fn put_page(tables: &mut Tables, place: usize, number: u32, page: Page)
     tables.set(place, number, page);
 }
 
-// The frame on which a page stands, which is marked as touched then; or none, and nothing is done.
-#[inline(always)]
-pub fn touch_resident(tables: &mut Tables, place: usize, number: u32) -> Option<u32>
-    requires { number < length (get_or tables.old.pages place []) }
-    ensures some { IfSome result (λ frame. (page : Page)
-        × (page_at tables.old.pages place number ≡ Some page) × (frame_of page ≡ Some frame)) }
-    ensures pages { tables.new.pages ≡ tables.old.pages }
-    ensures marks { IfSome result (λ frame. tables.new.marks ≡ put tables.old.marks place number true) }
-    ensures limits { fixed_in tables.new ≡ fixed_in tables.old }
-    ensures none { IfNone result (tables.new.marks ≡ tables.old.marks) }
-{
-    tables.touch_resident(place, number)
-}
-
-// The frame on which a page stands alone, if it is `Private`; it is marked as touched then. Else nothing is done.
-#[inline(always)]
-pub fn touch_private(tables: &mut Tables, place: usize, number: u32) -> Option<u32>
-    requires { number < length (get_or tables.old.pages place []) }
-    ensures some { IfSome result (λ frame.
-        page_at tables.old.pages place number ≡ Some (Private frame)) }
-    ensures pages { tables.new.pages ≡ tables.old.pages }
-    ensures marks { IfSome result (λ frame. tables.new.marks ≡ put tables.old.marks place number true) }
-    ensures limits { fixed_in tables.new ≡ fixed_in tables.old }
-    ensures none { IfNone result (tables.new.marks ≡ tables.old.marks) }
-{
-    tables.touch_private(place, number)
-}
-
 // Points a page to a frame of its own, and marks it as touched.
 pub fn stand_alone(tables: &mut Tables, place: usize, number: u32, frame: u32)
     requires there { number < length (get_or tables.old.pages place []) }

@@ -118,8 +118,8 @@ impl Memory {
         self.store_slowly(place, at, given)
     }
 
-    /// Writes bytes as `store` does, where they go to one page that has a frame of its own. Where they don't nothing is
-    /// done, and the answer is false.
+    /// Writes bytes as `store` does, where they go to one page that has a frame of its own and was touched in this epoch. Where
+    /// they don't nothing is done, and the answer is false.
     #[inline(always)]
     pub fn quick_store(&mut self, place: usize, at: u64, given: &[u8]) -> bool
         requires few { length given.now ≤ 4096 }

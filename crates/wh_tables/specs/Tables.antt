@@ -1,8 +1,8 @@
 -- The page tables of all instances, by place.
-use Rattle.std.specs.Prelude.{ℕ, ◌≡◌, ◌≢◌, ◌≤◌, Bool, true, false, List, [], Option, Some, None, length, map, replicate, get_or}
-use Rattle.wh_host_model.specs.Space.States.{page_at, put, resident}
+use Rattle.std.specs.Prelude.{ℕ, ◌≡◌, ◌≢◌, ◌≤◌, Bool, true, false, List, [], Some, length, map, replicate, get_or}
+use Rattle.wh_host_model.specs.Space.States.{page_at, resident}
 use Rattle.wh_host_model.specs.declared.states.Page.{Page}
-use Rattle.wh_host_model.specs.declared.states.Page.TheVariants.{Coming, Leaving, LeavingShared, Private, Shared, Swapped, Untouched}
+use Rattle.wh_host_model.specs.declared.states.Page.TheVariants.{Untouched}
 use Rattle.wh_pages.specs.Table.{PageTableState}
 use Rattle.wh_tables.specs.declared.tables.Tables.TheInside.{Inside}
 use Rattle.wh_tables.specs.Index.{Counted, IsIndexOf, Marked}
@@ -39,21 +39,6 @@ tables_with tables x = record {
 
 abbrev pub tables_of : Inside → TablesState
 tables_of a = tables_with a.tables.items a.index
-
--- the frame on which a page stands alone, without leaving it
-abbrev pub own_frame_of : Page → Option ℕ
-own_frame_of (Private f) = Some f
-own_frame_of Untouched = None
-own_frame_of (Shared f) = None
-own_frame_of (Leaving f) = None
-own_frame_of (LeavingShared f) = None
-own_frame_of (Coming k) = None
-own_frame_of (Swapped k) = None
-
--- the marks, with one more where a frame was found
-abbrev pub marked_if : Option ℕ → List (List Bool) → ℕ → ℕ → List (List Bool)
-marked_if None marks i p = marks
-marked_if (Some frame) marks i p = put marks i p true
 
 -- no page is marked
 abbrev pub without_marks : List (List Bool) → List (List Bool)

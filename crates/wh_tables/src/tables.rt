@@ -11,7 +11,8 @@ ghost use Rattle.wh_tables.specs.Index.{number_in};
 ghost use Rattle.wh_tables.specs.Line.{ComesLater, IsNextIn};
 ghost use Rattle.wh_tables.specs.Order.{ComesBefore, StandsOn};
 ghost use Rattle.wh_pages.specs.Seeking.{IsFirstFrom};
-ghost use Rattle.wh_tables.specs.Tables.{IsSoughtAt, marked_if, new_table, own_frame_of, without_marks, without_touched};
+ghost use Rattle.wh_pages.specs.Table.{IsFrameIfTouched, own_frame_of};
+ghost use Rattle.wh_tables.specs.Tables.{IsSoughtAt, new_table, without_marks, without_touched};
 
 use crate::index::Index;
 use crate::line::rank_above;
@@ -52,17 +53,6 @@ fn frame_under(page: Page) -> Option<u32>
         Page::LeavingShared(frame) => Some(frame),
         Page::Coming(_) => None,
         Page::Swapped(_) => None,
-    }
-}
-
-// The frame on which a page stands alone, where it is `Private`.
-#[inline(always)]
-fn own_frame(page: Page) -> Option<u32>
-    ensures { result ≡ own_frame_of page }
-{
-    match page {
-        Page::Private(frame) => Some(frame),
-        _ => None,
     }
 }
 
@@ -136,16 +126,6 @@ impl Tables {
         ensures { page_at self.now.pages place number ≡ Some result }
     {
         self.tables[place].page(number)
-    }
-
-    // The page of this number of the instance at a place, and whether it was touched in this epoch, by one look.
-    #[inline(always)]
-    fn page_and_mark(&self, place: usize, number: u32) -> (Page, bool)
-        requires { number < length (get_or self.now.pages place []) }
-        ensures page { page_at self.now.pages place number ≡ Some result.0 }
-        ensures mark { page_at self.now.marks place number ≡ Some result.1 }
-    {
-        self.tables[place].page_and_mark(number)
     }
 
     /// The first page of the instance at a place, from this one on, that stands on a frame; with `idle`, of those alone that
@@ -359,40 +339,25 @@ impl Tables {
         }
     }
 
-    /// The frame on which a page stands, which is marked as touched then; or none, and nothing is done.
+    /// The frame on which a page stands, where it was touched in this epoch. It is one look, which changes nothing.
     #[inline(always)]
-    pub fn touch_resident(&mut self, place: usize, number: u32) -> Option<u32>
-        requires { number < length (get_or self.old.pages place []) }
-        ensures frame { (page : Page) × (page_at self.old.pages place number ≡ Some page)
-            × (result ≡ frame_of page) }
-        ensures marks { self.new ≡ record self.old {
-          marks = marked_if result self.old.marks place number;
-        } }
+    pub fn touched_frame(&self, place: usize, number: u32) -> Option<u32>
+        requires { number < length (get_or self.now.pages place []) }
+        ensures { IsFrameIfTouched frame_of (page_at self.now.pages place number)
+            (page_at self.now.marks place number) result }
     {
-        let (page, touched) = self.page_and_mark(place, number);
-        let frame = frame_under(page)?;
-        if !touched {
-            self.mark_on(place, number, frame);
-        }
-        Some(frame)
+        self.tables[place].touched_frame(number)
     }
 
-    /// The frame on which a page stands alone, where it is `Private`; it is marked as touched then. Else nothing is done.
+    /// The frame on which a page stands alone, where it is `Private` and was touched in this epoch. It is one look, which
+    /// changes nothing.
     #[inline(always)]
-    pub fn touch_private(&mut self, place: usize, number: u32) -> Option<u32>
-        requires { number < length (get_or self.old.pages place []) }
-        ensures frame { (page : Page) × (page_at self.old.pages place number ≡ Some page)
-            × (result ≡ own_frame_of page) }
-        ensures marks { self.new ≡ record self.old {
-          marks = marked_if result self.old.marks place number;
-        } }
+    pub fn touched_own_frame(&self, place: usize, number: u32) -> Option<u32>
+        requires { number < length (get_or self.now.pages place []) }
+        ensures { IsFrameIfTouched own_frame_of (page_at self.now.pages place number)
+            (page_at self.now.marks place number) result }
     {
-        let (page, touched) = self.page_and_mark(place, number);
-        let frame = own_frame(page)?;
-        if !touched {
-            self.mark_on(place, number, frame);
-        }
-        Some(frame)
+        self.tables[place].touched_own_frame(number)
     }
 
     /// Of the instances with pages, the one with the lowest number; or with the lowest above this one. A line of all places by

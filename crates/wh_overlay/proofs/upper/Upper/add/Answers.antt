@@ -18,18 +18,3 @@ invariant_of-self c =
           let long = length-append c.self.inside.pages.items (record { number = c.args.number; bytes = c.args.bytes.now } ∷ []) in
           omega (arith, room, items, long)),
     )
-
-pub invariant_of-self-else-not-is_alone : goal.invariant_of-self-else-not-is_alone
-invariant_of-self-else-not-is_alone c =
-    let had = c.self.invariant in
-    let new = subst (λ (u : UpperState). ¬ (IsAmong u.pages c.args.number)) (sym c.self.view_is) c.requires.new in
-    let within = subst (λ (u : UpperState). c.args.number < u.most) (sym c.self.view_is) c.requires.room.0 in (
-      rw c.push_reserved.ensures.items (marked_new c.self.inside.pages.items c.self.inside.marks.items (record { number = c.args.number; bytes = c.args.bytes.now }) (c.len-place.result + 2)
-          had.0 within new c.told-bytes (grind (arith, common_steps))),
-      rw c.push_reserved.ensures.capacity had.1,
-      had.2,
-      (let room = subst (λ (u : UpperState). 1 ≤ u.room) (sym c.self.view_is) c.requires.room.1 in
-          let items = ap length c.push_reserved.ensures.items in
-          let long = length-append c.self.inside.pages.items (record { number = c.args.number; bytes = c.args.bytes.now } ∷ []) in
-          omega (arith, room, items, long)),
-    )

@@ -14,9 +14,9 @@ over c =
     let some : 1 ≤ length given = grind (arith, common_steps) in
     let within : k % 4096 + length given ≤ 4096 = omega (arith, c.if-offset-given-gt4096.false) in
     let place : 4096 * (k / 4096) + k % 4096 ≡ k = omega arith in
-    overwrites c.args.self.now c.own_quickly.new.self c.write_own.new.self c.args.place k given ((k / 4096) ∷ []) (on_one_page k (length given) some within)
-    (each_one c.args.self.now c.args.place (k / 4096) c.own_quickly.new.self c.in-Some.ensures.some.1)
-    (subst (λ z. Fills c.own_quickly.new.self c.args.place z given c.write_own.new.self) place c.write_own.ensures.fills)
+    overwrites c.args.self.now c.args.self.now c.write_own.new.self c.args.place k given ((k / 4096) ∷ []) (on_one_page k (length given) some within)
+    (each_one c.args.self.now c.args.place (k / 4096) c.args.self.now c.in-Some.ensures.1)
+    (subst (λ z. Fills c.args.self.now c.args.place z given c.write_own.new.self) place c.write_own.ensures.fills)
 
 pub returns-clause-leaves : goal.returns-clause-leaves
 returns-clause-leaves c = λ yes. over c
@@ -32,4 +32,4 @@ returns-clause-stores c =
     let there = c.has_page.ensures.has.0 c.if-not-has_page.false in
     let fits : k + length given ≤ 4096 * length (get_or s.tables c.args.place []) = omega (arith, within, there) in
     λ yes. stored s c.write_own.new.self c.args.place k given ((k / 4096) ∷ []) sound fits
-    (on_one_page k (length given) some within) (can_step_one s c.args.place (k / 4096) c.in-Some.ensures.some.0) (over c)
+    (on_one_page k (length given) some within) (can_step_one s c.args.place (k / 4096) c.in-Some.ensures.0) (over c)
