@@ -1,8 +1,8 @@
 -- Runners of a round, one after the other.
 use Rattle.std.proofs.Common.{◌≡◌, ◌≢◌, ◌∙◌, ◌⊎◌, inl, inr, ℕ, ◌+◌, ◌<◌, ◌≤◌, cond, Bool, true, false, List, [], ◌∷◌, Option, Some, None, length, slice_get, slice_index_or, slice_set, zero, suc, refl, sym, ap, subst, arith}
 use Rattle.std.proofs.lemmas.Bool.{cases_eq, cases_lt}
-use Rattle.wh_overlay.proofs.Marks.{set_there, set_elsewhere}
-use Rattle.wh_host_model.proofs.Space.Putting.{there_of}
+use Rattle.wh_overlay.proofs.Marks.{set_there}
+use Rattle.wh_host_model.proofs.Space.Putting.{set_other, there_of}
 use Rattle.wh_instance.specs.OwnerRequests.{OfAnyTenant}
 use Rattle.wh_instance.specs.Seen.{IsAtTerm}
 use Rattle.wh_host_model.specs.declared.plain.InstId.{InstId}
@@ -34,9 +34,9 @@ each_next R xs ys i y z h there so = record {
     | inl same ↦ (
         let is : z ≡ a = one_runner z a (sym (set_there ys i z y there) ∙ ap (slice_get (slice_set ys i z)) (sym same) ∙ at) in
         (y, ap (slice_get xs) same ∙ h.rest i y (omega arith) there, subst (R y) is so))
-    | inr other ↦ h.done k a (not_last k i less other) (sym (set_elsewhere ys i k z other) ∙ at)
+    | inr other ↦ h.done k a (not_last k i less other) (sym (set_other ys i k z other) ∙ at)
   ];
-  rest = λ k a least at. h.rest k a (omega (arith, least)) (sym (set_elsewhere ys i k z (λ e. absurd (omega (arith, e, least)))) ∙ at);
+  rest = λ k a least at. h.rest k a (omega (arith, least)) (sym (set_other ys i k z (λ e. absurd (omega (arith, e, least)))) ∙ at);
 }
   where
     not_last : (k i : ℕ) → k < i + 1 → k ≢ i → k < i
@@ -63,7 +63,7 @@ not_both y sits gone = let bad = sym sits ∙ gone in cc bad
 -- a runner that nobody has is another runner that nobody has
 pub free_out : (E F : List (Option InstanceEntry)) (ys : List Runner) (P : InstanceEntry → Runner → Type 0) (i : ℕ) (y y2 : Runner) → AreTakenOut E F ys P → slice_get ys i ≡ Some y → y.taken ≡ false → y2.taken ≡ false → AreTakenOut E F (slice_set ys i y2) P
 free_out E F ys P i y y2 out there free free2 = record {
-  elsewhere = λ p none. out.elsewhere p (λ k a at sits. none k a (set_elsewhere ys i k y2 (away k a at sits) ∙ at) sits);
+  elsewhere = λ p none. out.elsewhere p (λ k a at sits. none k a (set_other ys i k y2 (away k a at sits) ∙ at) sits);
   each = λ k a at sits. out.each k a (back k a at sits) sits;
   apart = λ j k a b at at2 sits sits2 same. out.apart j k a b (back j a at sits) (back k b at2 sits2) sits sits2 same;
 }
@@ -75,18 +75,18 @@ free_out E F ys P i y y2 out there free free2 = record {
     other k a at sits same = not_both a sits (subst (λ (z : Runner). z.taken ≡ false) (one_runner y2 a (sym (set_there ys i y2 y there) ∙ ap (slice_get (slice_set ys i y2)) (sym same) ∙ at)) free2)
 
     back : (k : ℕ) (a : Runner) → slice_get (slice_set ys i y2) k ≡ Some a → a.taken ≡ true → slice_get ys k ≡ Some a
-    back k a at sits = sym (set_elsewhere ys i k y2 (other k a at sits)) ∙ at
+    back k a at sits = sym (set_other ys i k y2 (other k a at sits)) ∙ at
 
 -- one more goes out
 more_out : (E F : List (Option InstanceEntry)) (ys : List Runner) (i : ℕ) (y : Runner) (n : ℕ) (F2 : List (Option InstanceEntry)) (y2 : Runner) → AreTakenOut E F ys SitsThere → slice_get ys i ≡ Some y → IsFree y → IsTakenOut F y n F2 y2 → AreTakenOut E F2 (slice_set ys i y2) SitsThere
 more_out E F ys i y n F2 y2 out there free t = record {
   elsewhere = λ p none.
       (let far : p ≢ y.id.place = λ e. none i y2 here taken (place ∙ sym e) in
-      others p far ∙ out.elsewhere p (λ k a at sits. none k a (set_elsewhere ys i k y2 (away k a at sits) ∙ at) sits));
+      others p far ∙ out.elsewhere p (λ k a at sits. none k a (set_other ys i k y2 (away k a at sits) ∙ at) sits));
   each = λ k a at sits. elim (cases_eq k i) [
     | inl same ↦ subst (λ z. IsOut E F2 z SitsThere) (is k a same at) mine
     | inr other ↦ (
-        let had = out.each k a (sym (set_elsewhere ys i k y2 other) ∙ at) sits in
+        let had = out.each k a (sym (set_other ys i k y2 other) ∙ at) sits in
         let far : a.id.place ≢ y.id.place = λ e. apart_from a had e in
         record { entry = had.entry; was = had.was; number = had.number; of = had.of; page_limit = had.page_limit; spare = had.spare; is = others a.id.place far ∙ had.is; so = had.so })
   ];
@@ -94,14 +94,14 @@ more_out E F ys i y n F2 y2 out there free t = record {
     | inl one ↦ elim (cases_eq k i) [
       | inl two ↦ one ∙ sym two
       | inr two ↦ absurd (
-          let had = out.each k b (sym (set_elsewhere ys i k y2 two) ∙ at2) sits2 in
+          let had = out.each k b (sym (set_other ys i k y2 two) ∙ at2) sits2 in
           apart_from b had (sym same ∙ ap (λ (z : Runner). z.id.place) (sym (is j a one at)) ∙ place))
     ]
     | inr one ↦ elim (cases_eq k i) [
       | inl two ↦ absurd (
-          let had = out.each j a (sym (set_elsewhere ys i j y2 one) ∙ at) sits in
+          let had = out.each j a (sym (set_other ys i j y2 one) ∙ at) sits in
           apart_from a had (same ∙ ap (λ (z : Runner). z.id.place) (sym (is k b two at2)) ∙ place))
-      | inr two ↦ out.apart j k a b (sym (set_elsewhere ys i j y2 one) ∙ at) (sym (set_elsewhere ys i k y2 two) ∙ at2) sits sits2 same
+      | inr two ↦ out.apart j k a b (sym (set_other ys i j y2 one) ∙ at) (sym (set_other ys i k y2 two) ∙ at2) sits sits2 same
     ]
   ];
 }
@@ -208,22 +208,22 @@ taken_next E xs F ys i y n F2 y2 h there takes = record {
   out = out takes;
   free = λ k a at gone. elim (cases_eq k i) [
     | inl same ↦ (let e = is k a same at in subst IsFree e (room takes (subst (λ (z : Runner). z.taken ≡ false) (sym e) gone)))
-    | inr other ↦ h.free k a (sym (set_elsewhere ys i k y2 other) ∙ at) gone
+    | inr other ↦ h.free k a (sym (set_other ys i k y2 other) ∙ at) gone
   ];
-  later = λ k a least at. h.later k a (omega (arith, least)) (sym (set_elsewhere ys i k y2 (λ e. absurd (omega (arith, e, least)))) ∙ at);
+  later = λ k a least at. h.later k a (omega (arith, least)) (sym (set_other ys i k y2 (λ e. absurd (omega (arith, e, least)))) ∙ at);
   none = λ k a less at gone. elim (cases_eq k i) [
     | inl same ↦ (let e = is k a same at in subst (λ (z : Runner). z.answer ≡ None) e (no_answer takes))
-    | inr other ↦ h.none k a (before k less other) (sym (set_elsewhere ys i k y2 other) ∙ at) gone
+    | inr other ↦ h.none k a (before k less other) (sym (set_other ys i k y2 other) ∙ at) gone
   ];
   left = λ k a less at gone. elim (cases_eq k i) [
     | inl same ↦ (let e = is k a same at in subst (IsLeftOut E (slice_set ys i y2)) e (left_now takes (subst (λ (z : Runner). z.taken ≡ false) (sym e) gone)))
-    | inr other ↦ still a (h.left k a (before k less other) (sym (set_elsewhere ys i k y2 other) ∙ at) gone)
+    | inr other ↦ still a (h.left k a (before k less other) (sym (set_other ys i k y2 other) ∙ at) gone)
   ];
   same = λ k a at. elim (cases_eq k i) [
     | inl same ↦ (
         let had = h.same i y there in
         (had.0, ap (slice_get xs) same ∙ had.1, ap (λ (z : Runner). z.id) (sym (is k a same at)) ∙ same_id takes ∙ had.2))
-    | inr other ↦ h.same k a (sym (set_elsewhere ys i k y2 other) ∙ at)
+    | inr other ↦ h.same k a (sym (set_other ys i k y2 other) ∙ at)
   ];
 }
   where
@@ -257,7 +257,7 @@ taken_next E xs F ys i y n F2 y2 h there takes = record {
         still_so : OfAnyTenant x.tenant (λ l limit bytes t. ¬ (IsAtTerm t)) ⊎ ((j : ℕ) × (z : Runner) × (slice_get ys j ≡ Some z) × (z.taken ≡ true) × (z.id ≡ a.id))
             → OfAnyTenant x.tenant (λ l limit bytes t. ¬ (IsAtTerm t)) ⊎ ((j : ℕ) × (z : Runner) × (slice_get (slice_set ys i y2) j ≡ Some z) × (z.taken ≡ true) × (z.id ≡ a.id))
         still_so (inl never) = inl never
-        still_so (inr (j, z, at2, sits, same)) = inr (j, z, set_elsewhere ys i j y2 (away j z at2 sits) ∙ at2, sits, same)
+        still_so (inr (j, z, at2, sits, same)) = inr (j, z, set_other ys i j y2 (away j z at2 sits) ∙ at2, sits, same)
 
     left_now : TakesOut F y n F2 y2 → y2.taken ≡ false → IsLeftOut E (slice_set ys i y2) y2
     left_now (inr t) gone x at number = absurd (not_both y2 (ap (λ (z : Runner). z.taken) t.runner) gone)
@@ -267,7 +267,7 @@ taken_next E xs F ys i y n F2 y2 h there takes = record {
           let one = one_value o.entry x (sym o.was ∙ ap (entry_at E) place ∙ here) in
           let both : Some z.id.number ≡ Some y.id.number = sym o.number ∙ ap (λ (e : InstanceEntry). e.number) one ∙ number2 in
           let of_one : z.id.number ≡ y.id.number = cc both in
-          inr (j, z, set_elsewhere ys i j y2 (away j z at2 sits) ∙ at2, sits, same_parts z.id y.id place of_one ∙ sym same_runner))
+          inr (j, z, set_other ys i j y2 (away j z at2 sits) ∙ at2, sits, same_parts z.id y.id place of_one ∙ sym same_runner))
       | inr none ↦ inl (s.why x (h.out.elsewhere y.id.place none ∙ here) number2)
     ]
       where

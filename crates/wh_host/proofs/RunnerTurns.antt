@@ -7,7 +7,8 @@ use Rattle.wh_host_model.specs.Space.Parts.{Claimed, Space, view}
 use Rattle.wh_instance.specs.Seen.{IsAtTerm}
 use Rattle.wh_instance.specs.Tenancy.{HostInstanceState, IsTenant}
 use Rattle.wh_overlay.specs.LaidBack.{LooksSame}
-use Rattle.wh_overlay.proofs.Marks.{set_there, set_elsewhere}
+use Rattle.wh_host_model.proofs.Space.Putting.{set_other}
+use Rattle.wh_overlay.proofs.Marks.{set_there}
 use Rattle.wh_imports.specs.LinkedState.{LinkedState}
 use Rattle.wh_space.specs.Steps.{limit_by}
 use Rattle.wh_host.specs.declared.parts.LoadedModule.{LoadedModule}
@@ -123,7 +124,7 @@ stands_free h s q most w F m ys i y st there free none = record {
     back : (k : ℕ) (a : Runner) → slice_get (slice_set ys i y) k ≡ Some a → a.taken ≡ true → slice_get ys k ≡ Some a
     back k a at sits = elim (cases_eq k i) [
       | inl same ↦ absurd (not_both a sits (subst (λ (z : Runner). z.taken ≡ false) (one_runner y a (sym (set_there ys i y y there) ∙ ap (slice_get (slice_set ys i y)) (sym same) ∙ at)) free))
-      | inr other ↦ sym (set_elsewhere ys i k y other) ∙ at
+      | inr other ↦ sym (set_other ys i k y other) ∙ at
     ]
 
 -- ---- one whose instance returns
@@ -170,7 +171,7 @@ module _ (h : HostState) (s : Space) (q most : ℕ) (w : World) (F : List (Optio
   left k a at yet = elim (cases_eq k i) [
     | inl same ↦ absurd (not_both a yet (subst (λ (z : Runner). z.taken ≡ false) (one_runner y2 a (sym (set_there ys i y2 y there) ∙ ap (slice_get (slice_set ys i y2)) (sym same) ∙ at)) r.free.0))
     | inr other ↦ (
-        let was = sym (set_elsewhere ys i k y2 other) ∙ at in
+        let was = sym (set_other ys i k y2 other) ∙ at in
         (was, λ e. other (st.out.apart k i a y was there yet sits e)))
   ]
 
@@ -180,7 +181,7 @@ module _ (h : HostState) (s : Space) (q most : ℕ) (w : World) (F : List (Optio
       | inl same ↦ ap (entry_at F2) same ∙ put_now.0 ∙ sym (ap (entry_at (slice_set st.before y.id.place (Some entry2))) same ∙ put_before.0)
       | inr other ↦ put_now.1 p other ∙ st.out.elsewhere p (λ k a at yet. elim (cases_eq k i) [
         | inl same ↦ (λ e. other (sym e ∙ ap (λ (z : Runner). z.id.place) (one_runner a y (sym at ∙ ap (slice_get ys) same ∙ there))))
-        | inr far ↦ none k a (set_elsewhere ys i k y2 far ∙ at) yet
+        | inr far ↦ none k a (set_other ys i k y2 far ∙ at) yet
       ]) ∙ sym (put_before.1 p other)
     ];
     each = λ k a at yet.
@@ -240,20 +241,20 @@ laid_none F0 m0 xs = record {
 pub laid_next : (F0 : List (Option InstanceEntry)) (m0 : Space) (xs : List Runner) (F : List (Option InstanceEntry)) (m : Space) (ys : List Runner) (i : ℕ) (y : Runner) (F2 : List (Option InstanceEntry)) (m2 : Space) (y2 : Runner) → LaidSoFar F0 m0 xs F m ys i → slice_get ys i ≡ Some y → ((q : ℕ) → LaysAt q F m y F2 m2 y2)
     → LaidSoFar F0 m0 xs F2 m2 (slice_set ys i y2) (i + 1)
 laid_next F0 m0 xs F m ys i y F2 m2 y2 h there lays = record {
-  rest = λ k a least at. h.rest k a (omega (arith, least)) (sym (set_elsewhere ys i k y2 (λ e. absurd (omega (arith, e, least)))) ∙ at);
+  rest = λ k a least at. h.rest k a (omega (arith, least)) (sym (set_other ys i k y2 (λ e. absurd (omega (arith, e, least)))) ∙ at);
   same = λ k a at. elim (cases_eq k i) [
     | inl same ↦ (
         let had = h.same i y there in
         (had.0, ap (slice_get xs) same ∙ had.1, ap (λ (z : Runner). z.id) (sym (is k a same at)) ∙ same_id (lays 0) ∙ had.2))
-    | inr other ↦ h.same k a (sym (set_elsewhere ys i k y2 other) ∙ at)
+    | inr other ↦ h.same k a (sym (set_other ys i k y2 other) ∙ at)
   ];
   answers = λ k a less at. elim (cases_eq k i) [
     | inl same ↦ (y, ap (slice_get xs) same ∙ h.rest i y (omega arith) there, subst (HasAnswer y) (is k a same at) (answer_then (lays 0)))
-    | inr other ↦ h.answers k a (earlier k less other) (sym (set_elsewhere ys i k y2 other) ∙ at)
+    | inr other ↦ h.answers k a (earlier k less other) (sym (set_other ys i k y2 other) ∙ at)
   ];
   done = λ k a less at free. elim (cases_eq k i) [
     | inl same ↦ subst IsFree (is k a same at) (free_then (lays 0) (λ gone. free y (ap (slice_get xs) same ∙ h.rest i y (omega arith) there) gone))
-    | inr other ↦ h.done k a (earlier k less other) (sym (set_elsewhere ys i k y2 other) ∙ at) free
+    | inr other ↦ h.done k a (earlier k less other) (sym (set_other ys i k y2 other) ∙ at) free
   ];
   backing = then_backing m0 m m2 h.backing (backs (lays 0));
   stands = λ host q most before s w run is_host. stands_then q most (lays q) host before s w run (h.stands host q most before s w run is_host);
