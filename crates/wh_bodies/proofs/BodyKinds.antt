@@ -18,7 +18,7 @@ use Rattle.wh_bodies.specs.declared.marks.ConstructEnd.{ConstructEnd}
 use Rattle.wh_bodies.specs.BodyFaults.{follow, IsOfBody}
 use Rattle.wh_bodies.specs.SideTables.{leads_to, nowhere}
 use Rattle.wh_bodies.specs.Known.{Known, topmost, take_any, is_wanted, take_one, give_one, fall, take_all, give_all, pass, agreed, selected, same_type}
-use Rattle.wh_bodies.specs.CheckSteps.{State, found, typed, aligned, type_to_write, load_exponent, store_exponent, fixed, straight, numeric, entry_to, branch, branch_if, same_operand, add_run, branch_table, plain_step, next_mark, known_inside, label_over, opened, finished, turned_at, turned, may_end, closed_construct, with_label, act, noted, step, at_instr, run}
+use Rattle.wh_bodies.specs.CheckSteps.{State, found, typed, aligned, type_to_write, load_exponent, store_exponent, fixed, straight, entry_to, branch, branch_if, same_operand, add_run, branch_table, plain_step, next_mark, known_inside, label_over, opened, finished, turned_at, turned, may_end, closed_construct, with_label, act, noted, step, at_instr, run}
 use Rattle.wh_bodies.specs.ConstructEnds.{all_marks}
 use Rattle.wh_bodies.specs.CheckEnds.{started, whole_run}
 use Rattle.wh_bodies.proofs.Constructs.{Act, Marked, Two}
@@ -158,8 +158,8 @@ in_table labels ls last k pool = in_found {B = Step} (slice_get labels last) (λ
     (λ more. in_follow {B = Step} (take_one k I32) (λ a. follow (take_all a (operand to.carries)) (λ b. Ok (leads_to (length pool), fall b, more ++ entry_to to ∷ []))) (in_take_one k I32)
     (λ a. in_follow {B = Step} (take_all a (operand to.carries)) (λ b. Ok (leads_to (length pool), fall b, more ++ entry_to to ∷ [])) (in_take_all a (operand to.carries)) (λ b. tt))))
 
-in_noted : (c : Context) (op : Op) (k : Known) (pool : List BranchEntry) → Listed (numeric c (single op) k) → Listed (follow {B = Step} (numeric c (single op) k) (λ new. Ok (nowhere, new, pool)))
-in_noted c op k pool p = in_follow {B = Step} (numeric c (single op) k) (λ new. Ok (nowhere, new, pool)) p (λ new. tt)
+in_noted : (c : Context) (op : Op) (k : Known) (pool : List BranchEntry) → Listed (straight c op k) → Listed (follow {B = Step} (straight c op k) (λ new. Ok (nowhere, new, pool)))
+in_noted c op k pool p = in_follow {B = Step} (straight c op k) (λ new. Ok (nowhere, new, pool)) p (λ new. tt)
 
 in_plain : (c : Context) (labels : List Label) (op : Op) (k : Known) (pool : List BranchEntry) → Listed (plain_step c labels op k pool)
 in_plain c labels (br l) k pool = in_follow {B = Step} (branch labels l k) (λ r. Ok (r.0, r.1, pool)) (in_branch labels l k) (λ r. tt)

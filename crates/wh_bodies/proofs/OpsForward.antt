@@ -8,7 +8,7 @@ use Rattle.std.proofs.lemmas.Nat.{pow_below}
 use Rattle.std.proofs.lemmas.List.{length-reverse}
 use Rattle.wh_model.specs.declared.ValType.{ValType}
 use Rattle.wh_model.specs.declared.ValType.TheVariants.{I32, I64}
-use Rattle.wh_model.specs.Format.Syntax.{Op, unreachable, nop, br, br_if, br_table, return, call, call_indirect, drop_operand, select, local_get, local_set, local_tee, global_get, global_set, load, store, memory_size, memory_grow, i32_const, i64_const, test, comparison, unary, binary, conversion, single, FuncType, Limits, GlobalType}
+use Rattle.wh_model.specs.Format.Syntax.{Op, unreachable, nop, br, br_if, br_table, return, call, call_indirect, drop_operand, select, local_get, local_set, local_tee, global_get, global_set, load, store, memory_size, memory_grow, i32_const, i64_const, test, comparison, unary, binary, conversion, FuncType, Limits, GlobalType}
 use Rattle.wh_model.specs.Validity.Typing.{Context, OpType, operand, load_type, store_type, conversion_type}
 use Rattle.wh_model.specs.Validity.Heights.{taken, given, lowered, height_behind, operands, carried, no_type}
 use Rattle.wh_model.specs.declared.faults.ValidKind.{ValidKind}
@@ -19,7 +19,7 @@ use Rattle.wh_bodies.specs.BodyFaults.{follow}
 use Rattle.wh_bodies.specs.Known.{Known, Fit, take_one, take_all, give_all, pass, fall}
 use Rattle.wh_bodies.specs.SideTables.{Target, nowhere, leads_to}
 use Rattle.wh_bodies.specs.Opened.{target_of, targets_of, around}
-use Rattle.wh_bodies.specs.CheckSteps.{found, fixed, straight, numeric, typed, aligned, type_to_write, load_exponent, store_exponent, entry_to, same_operand, add_run, plain_step}
+use Rattle.wh_bodies.specs.CheckSteps.{found, fixed, straight, typed, aligned, type_to_write, load_exponent, store_exponent, entry_to, same_operand, add_run, plain_step}
 use Rattle.wh_bodies.proofs.Knowing.{takes_one, takes_all}
 use Rattle.wh_bodies.proofs.Forward.{Goes, can_take, can_take_one, can_take_all, can_give_all, can_pass, can_select, can_fall, same_true}
 use Rattle.wh_bodies.proofs.Ops.{operand_reversed}
@@ -211,7 +211,7 @@ can_table c labels ls last k pool a b below w t fit =
 
 -- ---- every instruction without a body
 
-straight_steps : (c : Context) (op : Op) (k : Known) (pool : List BranchEntry) (after : List ValType) → Goes (numeric c (single op) k) after → Steps (follow {B = Step} (numeric c (single op) k) (λ new. Ok (nowhere, new, pool))) after
+straight_steps : (c : Context) (op : Op) (k : Known) (pool : List BranchEntry) (after : List ValType) → Goes (straight c op k) after → Steps (follow {B = Step} (straight c op k) (λ new. Ok (nowhere, new, pool))) after
 straight_steps c op k pool after g = (nowhere, g.0, pool, ap (λ (r : Result Known ValidKind). follow {B = Step} r (λ new. Ok (nowhere, new, pool))) g.1, g.2)
 
 pub can_step : (c : Context) (labels : List Label) (op : Op) (k : Known) (pool : List BranchEntry) (a b below : List ValType) → k.floor ≤ length k.types → length k.types ≤ 256 → height_behind (around labels c) k.floor (length k.types) op ≤ 256 → OpType (around labels c) op a b → Fit k (a ++ below) → Steps (plain_step c labels op k pool) (b ++ below)

@@ -1,13 +1,13 @@
-//! Instructions that name no label (3.3.1 to 3.3.5), by class.
+//! Instructions that name no label (3.3.1 to 3.3.5).
 
 ghost use Rattle.std.specs.Prelude.{◌≡◌, ◌+◌, ◌<◌, ◌++◌, ℕ, List, length, slice_get, Ok, ◌∷◌, []};
 ghost use Rattle.std.specs.List.{AllByRecursion};
-ghost use Rattle.wh_model.specs.Validity.Typing.{load_type, store_type, conversion_type};
+ghost use Rattle.wh_model.specs.Validity.Typing.{Context, load_type, store_type, conversion_type};
 ghost use Rattle.wh_model.specs.declared.ValType.TheVariants.{I32};
-ghost use Rattle.wh_model.specs.Format.Syntax.{global_set, load, store, call, call_indirect};
+ghost use Rattle.wh_model.specs.Format.Syntax.{return, call, call_indirect, conversion, drop_operand, local_get, local_set, local_tee, global_get, global_set, load, store};
 ghost use Rattle.wh_syntax.specs.Shown.{instr_of};
 ghost use Rattle.wh_bodies.specs.Known.{known, pass};
-ghost use Rattle.wh_bodies.specs.CheckSteps.{found, straight, control, memory, variable, numeric, load_exponent, store_exponent};
+ghost use Rattle.wh_bodies.specs.CheckSteps.{found, straight, straight_instr, load_exponent, store_exponent};
 ghost use Rattle.wh_bodies.specs.View.{view_around};
 ghost use Rattle.wh_bodies.specs.BodyFaults.{Checks};
 
@@ -29,30 +29,6 @@ fn conversion_type(op: ConvertOp) -> (ValType, ValType)
     }
 }
 
-/// Numeric instructions (3.3.1), and those of the other classes.
-#[inline(always)]
-pub fn numeric(around: &Around, operands: &mut Operands, instr: Instr) -> Result<(), ValidKind>
-    requires { AllByRecursion (λ x. x < length around.now.context.types.now)
-        around.now.context.funcs.now }
-    ensures { (labels : List ℕ)
-        → Checks result (known operands.new)
-        (numeric (view_around around.now) (instr_of labels instr) (known operands.old)) }
-{
-    match instr {
-        Instr::I32Const(_) => pass(operands, &[], &[ValType::I32]),
-        Instr::I64Const(_) => pass(operands, &[], &[ValType::I64]),
-        Instr::Test(of, _) => pass(operands, &[of], &[ValType::I32]),
-        Instr::Compare(of, _) => pass(operands, &[of, of], &[ValType::I32]),
-        Instr::Unary(of, _) => pass(operands, &[of], &[of]),
-        Instr::Binary(of, _) => pass(operands, &[of, of], &[of]),
-        Instr::Convert(op) => {
-            let (from, to) = conversion_type(op);
-            pass(operands, &[from], &[to])
-        }
-        _ => variable(around, operands, instr),
-    }
-}
-
 /// The type of a local.
 #[inline(always)]
 fn local_type(around: &Around, local: u32) -> Result<ValType, ValidKind>
@@ -71,6 +47,36 @@ fn local_type(around: &Around, local: u32) -> Result<ValType, ValidKind>
     }
 }
 
+/// `local.get`
+#[inline(always)]
+fn get_local(around: &Around, operands: &mut Operands, local: u32) -> Result<(), ValidKind>
+    ensures { Checks result (known operands.new)
+        (straight (view_around around.now) (local_get local) (known operands.old)) }
+{
+    let of = local_type(around, local)?;
+    pass(operands, &[], &[of])
+}
+
+/// `local.set`
+#[inline(always)]
+fn set_local(around: &Around, operands: &mut Operands, local: u32) -> Result<(), ValidKind>
+    ensures { Checks result (known operands.new)
+        (straight (view_around around.now) (local_set local) (known operands.old)) }
+{
+    let of = local_type(around, local)?;
+    pass(operands, &[of], &[])
+}
+
+/// `local.tee`
+#[inline(always)]
+fn tee_local(around: &Around, operands: &mut Operands, local: u32) -> Result<(), ValidKind>
+    ensures { Checks result (known operands.new)
+        (straight (view_around around.now) (local_tee local) (known operands.old)) }
+{
+    let of = local_type(around, local)?;
+    pass(operands, &[of], &[of])
+}
+
 /// The type of a global.
 fn global_type(around: &Around, global: u32) -> Result<GlobalType, ValidKind>
     ensures { result ≡ found (slice_get around.now.context.globals.now global) (λ g. Ok g) }
@@ -79,6 +85,15 @@ fn global_type(around: &Around, global: u32) -> Result<GlobalType, ValidKind>
         Some(&global) => Ok(global),
         None => Err(ValidKind::Index),
     }
+}
+
+/// `global.get`
+fn get_global(around: &Around, operands: &mut Operands, global: u32) -> Result<(), ValidKind>
+    ensures { Checks result (known operands.new)
+        (straight (view_around around.now) (global_get global) (known operands.old)) }
+{
+    let global = global_type(around, global)?;
+    pass(operands, &[], &[global.value])
 }
 
 /// `global.set`
@@ -90,37 +105,6 @@ fn set_global(around: &Around, operands: &mut Operands, global: u32) -> Result<(
     match global.mutability {
         Mutability::Const => Err(ValidKind::ConstImmutable),
         Mutability::Var => pass(operands, &[global.value], &[]),
-    }
-}
-
-/// Variable instructions (3.3.3), and those of the classes behind.
-#[inline(always)]
-fn variable(around: &Around, operands: &mut Operands, instr: Instr) -> Result<(), ValidKind>
-    requires { AllByRecursion (λ x. x < length around.now.context.types.now)
-        around.now.context.funcs.now }
-    ensures { (labels : List ℕ)
-        → Checks result (known operands.new)
-        (variable (view_around around.now) (instr_of labels instr) (known operands.old)) }
-{
-    match instr {
-        Instr::LocalGet(local) => {
-            let of = local_type(around, local)?;
-            pass(operands, &[], &[of])
-        }
-        Instr::LocalSet(local) => {
-            let of = local_type(around, local)?;
-            pass(operands, &[of], &[])
-        }
-        Instr::LocalTee(local) => {
-            let of = local_type(around, local)?;
-            pass(operands, &[of], &[of])
-        }
-        Instr::GlobalGet(global) => {
-            let of = global_type(around, global)?;
-            pass(operands, &[], &[of.value])
-        }
-        Instr::GlobalSet(global) => set_global(around, operands, global),
-        _ => memory(around, operands, instr),
     }
 }
 
@@ -200,24 +184,6 @@ fn pages(around: &Around, operands: &mut Operands, params: &[ValType]) -> Result
     pass(operands, params, &[ValType::I32])
 }
 
-/// Memory instructions (3.3.4), and those of the classes behind.
-#[inline(always)]
-fn memory(around: &Around, operands: &mut Operands, instr: Instr) -> Result<(), ValidKind>
-    requires { AllByRecursion (λ x. x < length around.now.context.types.now)
-        around.now.context.funcs.now }
-    ensures { (labels : List ℕ)
-        → Checks result (known operands.new)
-        (memory (view_around around.now) (instr_of labels instr) (known operands.old)) }
-{
-    match instr {
-        Instr::Load { op, align, .. } => load(around, operands, op, align),
-        Instr::Store { op, align, .. } => store(around, operands, op, align),
-        Instr::MemorySize => pages(around, operands, &[]),
-        Instr::MemoryGrow => pages(around, operands, &[ValType::I32]),
-        _ => control(around, operands, instr),
-    }
-}
-
 /// `call`
 fn call(around: &Around, operands: &mut Operands, func: u32) -> Result<(), ValidKind>
     requires { AllByRecursion (λ x. x < length around.now.context.types.now)
@@ -247,31 +213,70 @@ fn call_indirect(around: &Around, operands: &mut Operands, index: u32) -> Result
     pass(operands, &callee.params, &callee.results)
 }
 
-/// Parametric and control instructions that name no label (3.3.2, 3.3.5).
-fn control(around: &Around, operands: &mut Operands, instr: Instr) -> Result<(), ValidKind>
+/// `return`
+fn leave(around: &Around, operands: &mut Operands) -> Result<(), ValidKind>
+    ensures { Checks result (known operands.new)
+        (straight (view_around around.now) return (known operands.old)) }
+{
+    take_operand(operands, around.result)?;
+    fall(operands);
+    Ok(())
+}
+
+/// `drop`
+#[inline(always)]
+fn discard(operands: &mut Operands) -> Result<(), ValidKind>
+    ensures { (c : Context)
+        → Checks result (known operands.new) (straight c drop_operand (known operands.old)) }
+{
+    take_any(operands)?;
+    Ok(())
+}
+
+/// A conversion.
+#[inline(always)]
+fn convert(operands: &mut Operands, op: ConvertOp) -> Result<(), ValidKind>
+    ensures { (c : Context)
+        → Checks result (known operands.new) (straight c (conversion op) (known operands.old)) }
+{
+    let (from, to) = conversion_type(op);
+    pass(operands, &[from], &[to])
+}
+
+/// An instruction that names no label.
+#[inline(always)]
+pub fn straight(around: &Around, operands: &mut Operands, instr: Instr) -> Result<(), ValidKind>
     requires { AllByRecursion (λ x. x < length around.now.context.types.now)
         around.now.context.funcs.now }
     ensures { (labels : List ℕ)
         → Checks result (known operands.new)
-        (control (view_around around.now) (instr_of labels instr) (known operands.old)) }
+        (straight_instr (view_around around.now) (instr_of labels instr) (known operands.old)) }
 {
     match instr {
+        Instr::I32Const(_) => pass(operands, &[], &[ValType::I32]),
+        Instr::I64Const(_) => pass(operands, &[], &[ValType::I64]),
+        Instr::Test(of, _) => pass(operands, &[of], &[ValType::I32]),
+        Instr::Compare(of, _) => pass(operands, &[of, of], &[ValType::I32]),
+        Instr::Unary(of, _) => pass(operands, &[of], &[of]),
+        Instr::Binary(of, _) => pass(operands, &[of, of], &[of]),
+        Instr::Convert(op) => convert(operands, op),
+        Instr::LocalGet(local) => get_local(around, operands, local),
+        Instr::LocalSet(local) => set_local(around, operands, local),
+        Instr::LocalTee(local) => tee_local(around, operands, local),
+        Instr::GlobalGet(global) => get_global(around, operands, global),
+        Instr::GlobalSet(global) => set_global(around, operands, global),
+        Instr::Load { op, align, .. } => load(around, operands, op, align),
+        Instr::Store { op, align, .. } => store(around, operands, op, align),
+        Instr::MemorySize => pages(around, operands, &[]),
+        Instr::MemoryGrow => pages(around, operands, &[ValType::I32]),
         Instr::Unreachable => {
             fall(operands);
             Ok(())
         }
-        Instr::Nop => Ok(()),
-        Instr::Return => {
-            take_operand(operands, around.result)?;
-            fall(operands);
-            Ok(())
-        }
+        Instr::Return => leave(around, operands),
         Instr::Call(func) => call(around, operands, func),
         Instr::CallIndirect(index) => call_indirect(around, operands, index),
-        Instr::Drop => {
-            take_any(operands)?;
-            Ok(())
-        }
+        Instr::Drop => discard(operands),
         Instr::Select => select(operands),
         _ => Ok(()),
     }

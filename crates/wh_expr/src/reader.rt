@@ -173,13 +173,31 @@ fn too_many(bytes: &[u8], at: usize) -> DecodeError
     DecodeError { kind, offset: at }
 }
 
-/// The instructions up to the end of the expression, at most so many, and the pool of their labels.
+/// An empty list. Where instructions are limited there is room for as many as there may be, if memory isn't refused, so that
+/// it doesn't grow; what is left of it goes in the end. Without a limit there is room for a constant and an end.
+fn room(alloc: Global, bytes: &[u8], at: usize, most: Option<usize>) -> Vec<Instr>
+    requires { at ≤ length bytes.now }
+    ensures { result.items ≡ [] }
+{
+    let count = match most {
+        Some(most) => most.min(bytes.len() - at),
+        None => 2,
+    };
+    match Vec::with_capacity(alloc, count) {
+        Ok(instrs) => instrs,
+        Err(_) => Vec::new(alloc),
+    }
+}
+
+/// The instructions up to the end of the expression, at most so many, in this list, and the pool of their labels.
 fn instructions(
     alloc: Global,
+    mut instrs: Vec<Instr>,
     bytes: &[u8],
     at: usize,
     most: usize,
 ) -> Result<(Vec<Instr>, Vec<u32>, usize), DecodeError>
+    requires empty { instrs.items ≡ [] }
     requires inside { at ≤ length bytes.now }
     requires short { length bytes.now < 2 ^ 32 }
     ensures exact { Gives (λ found. (map (instr_of found.1.items) found.0.items, found.2)) result
@@ -187,7 +205,6 @@ fn instructions(
     ensures in_pool { IfOk result (λ found. AllByRecursion (InPool found.1.items) found.0.items) }
     ensures inside { IfOk result (λ found. found.2 ≤ length bytes.now) }
 {
-    let mut instrs = Vec::new(alloc);
     let mut labels = Vec::new(alloc);
     let mut stack = Vec::new(alloc);
     let mut place = at;
@@ -223,8 +240,10 @@ fn whole(
     ensures exact { Gives (λ x. x) result (code_at most bytes.now at) }
     ensures inside { IfOk result (λ found. found.1 ≤ length bytes.now) }
 {
+    let empty = room(alloc, bytes, at, most);
     let most = most_instructions(bytes, at, most);
-    let (instrs, labels, next) = instructions(alloc, bytes, at, most)?;
+    let (mut instrs, labels, next) = instructions(alloc, empty, bytes, at, most)?;
+    instrs.shrink_to_fit();
     Ok((Expr::new(instrs, labels), next))
 }
 
