@@ -1,5 +1,8 @@
 // What the memory has of a page, of a frame and of a slot of the swap device, and how offers and device calls end.
 
+ghost use Rattle.std.specs.Prelude.{◌≡◌};
+ghost use Rattle.wh_host_model.specs.Space.Moves.{frame_of};
+
 /// One page of 4096 bytes of a linear memory. A number without a name is a frame's, and of the last two a slot's.
 #[derive(Clone, Copy, Debug, PartialEq, Eq)]
 pub enum Page {
@@ -17,6 +20,22 @@ pub enum Page {
     Coming(u32),
     /// In a slot.
     Swapped(u32),
+}
+
+impl Page {
+    /// Answers the frame on which it stands, or `None` where it stands on none.
+    #[inline(always)]
+    pub fn frame(self) -> Option<u32>
+        ensures { result ≡ frame_of self }
+    {
+        match self {
+            Page::Private(frame)
+            | Page::Shared(frame)
+            | Page::Leaving(frame)
+            | Page::LeavingShared(frame) => Some(frame),
+            Page::Untouched | Page::Coming(_) | Page::Swapped(_) => None,
+        }
+    }
 }
 
 /// What the content table has of a frame.

@@ -1,5 +1,5 @@
 -- Pages that stand alone.
-use Rattle.std.proofs.Common.{◌≡◌, ◌∙◌, ℕ, ◌+◌, ◌≤◌, [], ◌∷◌, Some, refl, arith}
+use Rattle.std.proofs.Common.{◌≡◌, ◌∙◌, ℕ, ◌+◌, [], ◌∷◌, Some, refl, arith}
 use Rattle.wh_host_model.specs.declared.states.Page.TheVariants.{Private}
 use Rattle.wh_host_model.specs.Space.Parts.{Space}
 use Rattle.wh_host_model.specs.Space.Ready.{frames_for}

@@ -7,7 +7,6 @@ ghost use Rattle.wh_host_model.specs.Space.Parts.{Occupant, occupant_at};
 ghost use Rattle.wh_pages.specs.Seeking.{IsFirstFrom};
 ghost use Rattle.wh_space.specs.Claiming.{GivesNone, IsClaimOf, MightBeTaken, MightLeave, TakesNoPage};
 
-use crate::frames::frame_under;
 use crate::memory::Memory;
 use crate::occupant_entry::OccupantEntry;
 use crate::pins::has_page_pinned;
@@ -90,7 +89,7 @@ impl Memory {
             (¬ IsChargedPage self.now place number) }
     {
         let _ = &self.tax;
-        let Some(frame) = frame_under(self.tables.page(place, number)) else {
+        let Some(frame) = self.tables.page(place, number).frame() else {
             return false;
         };
         match self.tables.first_on(frame) {
@@ -106,7 +105,7 @@ impl Memory {
             (¬ IsOnTouched self.now place number) }
     {
         let _ = &self.tax;
-        match frame_under(self.tables.page(place, number)) {
+        match self.tables.page(place, number).frame() {
             Some(frame) => self.tables.has_touched(frame),
             None => false,
         }

@@ -13,7 +13,7 @@ ghost use Rattle.wh_host_model.specs.Space.Tickets.{CommitsEvict, CommitsFetch, 
 ghost use Rattle.wh_space.specs.UnchangedTables.{fixed_in};
 ghost use Rattle.wh_space.specs.Transits.{IsFetching, back_again};
 
-use crate::frames::{frame_under, set_frame};
+use crate::frames::set_frame;
 use crate::memory::Memory;
 use crate::occupant_entries::{end_coming, end_leaving, settle};
 use crate::pages::{put_page, swap_page};
@@ -154,7 +154,7 @@ impl Memory {
             self.stay(slot, place, page);
             return EvictEnd::Failed;
         }
-        let Some(frame) = frame_under(self.tables.page(place as usize, page)) else {
+        let Some(frame) = self.tables.page(place as usize, page).frame() else {
             unreachable!()
         };
         if self.pool.bytes(frame) != bytes {

@@ -1,29 +1,12 @@
 // Bytes in frames.
 
-ghost use Rattle.std.specs.Prelude.{◌≡◌, ◌+◌, ◌≤◌, [], length, get_or, slice_set, Some};
+ghost use Rattle.std.specs.Prelude.{◌≡◌, ◌+◌, ◌≤◌, [], length, get_or, slice_set};
 ghost use Rattle.wh_host_model.specs.Frames.{IsTaken};
 ghost use Rattle.wh_host_model.specs.Pages.{zero_page};
-ghost use Rattle.wh_host_model.specs.Space.Moves.{frame_of};
 ghost use Rattle.wh_model.specs.Execution.Store.{bytes_at, written};
 
 use wh_bytes::copy_bytes;
 use wh_frames::FramePool;
-use wh_host_model::Page;
-
-// The frame on which a page stands, if it stands on one.
-pub fn frame_under(page: Page) -> Option<u32>
-    ensures { result ≡ frame_of page }
-{
-    match page {
-        Page::Untouched => None,
-        Page::Private(frame) => Some(frame),
-        Page::Shared(frame) => Some(frame),
-        Page::Leaving(frame) => Some(frame),
-        Page::LeavingShared(frame) => Some(frame),
-        Page::Coming(_) => None,
-        Page::Swapped(_) => None,
-    }
-}
 
 // Reads bytes of a frame from a place on.
 #[inline(always)]

@@ -12,7 +12,7 @@ ghost use Rattle.wh_host_model.specs.Space.Stores.{Touches};
 ghost use Rattle.wh_model.specs.declared.memory.Got.TheVariants.{Value};
 ghost use Rattle.wh_space.specs.Steps.{LeavesLoad};
 
-use crate::frames::{frame_under, read_frame};
+use crate::frames::read_frame;
 use crate::memory::Memory;
 use crate::pages::is_near;
 use wh_frames::FramePool;
@@ -35,7 +35,7 @@ pub fn read_page(pool: &FramePool, page: Page, offset: usize, into: &mut [u8]) -
         → into.new ≡ bytes_at (page_bytes b page) offset (length into.old) }
     ensures left { IsFalse result → into.new ≡ into.old }
 {
-    if let Some(frame) = frame_under(page) {
+    if let Some(frame) = page.frame() {
         read_frame(pool, frame, offset, into);
         true
     } else if let Page::Untouched = page {

@@ -8,7 +8,6 @@ ghost use Rattle.wh_host_model.specs.Space.States.{at, page_at, resident};
 ghost use Rattle.wh_host_model.specs.Space.Tickets.{WaitsForBytes};
 ghost use Rattle.wh_space.specs.Pinning.{numbers_in};
 
-use crate::frames::frame_under;
 use crate::memory::Memory;
 use crate::pins::{Few, Pinned, chosen, end_all_pins, pages_pinned, take_frames};
 use wh_model::Need;
@@ -38,7 +37,7 @@ impl Memory {
         requires { number < length (get_or self.now.tables place []) }
         ensures { result ≡ nat_eq (at resident (page_at self.now.tables place number)) 1 }
     {
-        frame_under(self.tables.page(place, number)).is_some()
+        self.tables.page(place, number).frame().is_some()
     }
 
     // The pages of a step that stand on frames.

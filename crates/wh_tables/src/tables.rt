@@ -40,22 +40,6 @@ impl Model for Tables {
     ghost invariant = { IsTables };
 }
 
-// The frame on which a page stands, if it stands on one.
-#[inline(always)]
-fn frame_under(page: Page) -> Option<u32>
-    ensures { result ≡ frame_of page }
-{
-    match page {
-        Page::Untouched => None,
-        Page::Private(frame) => Some(frame),
-        Page::Shared(frame) => Some(frame),
-        Page::Leaving(frame) => Some(frame),
-        Page::LeavingShared(frame) => Some(frame),
-        Page::Coming(_) => None,
-        Page::Swapped(_) => None,
-    }
-}
-
 // Takes the marks of all pages of all tables away.
 fn clear_tables(tables: &mut Vec<PageTable>)
     ensures { tables.new.items ≡ map without_touched tables.old.items }
@@ -145,7 +129,7 @@ impl Tables {
         requires frame { IfSome (frame_of page) (λ frame. frame < self.old.frames) }
         ensures { self.new ≡ record self.old { pages = put self.old.pages place number page } }
     {
-        if frame_under(self.page(place, number)) == frame_under(page) {
+        if self.page(place, number).frame() == page.frame() {
             self.replace(place, number, page);
         } else {
             self.lift(place, number);
@@ -158,7 +142,7 @@ impl Tables {
         requires { number < length (get_or self.old.pages place []) }
         ensures { self.new ≡ record self.old { pages = put self.old.pages place number Untouched } }
     {
-        match frame_under(self.page(place, number)) {
+        match self.page(place, number).frame() {
             Some(frame) => self.leave(place, number, frame),
             None => self.replace(place, number, Page::Untouched),
         }
@@ -171,7 +155,7 @@ impl Tables {
         requires frame { IfSome (frame_of page) (λ frame. frame < self.old.frames) }
         ensures { self.new ≡ record self.old { pages = put self.old.pages place number page } }
     {
-        match frame_under(page) {
+        match page.frame() {
             Some(frame) => self.come(place, number, frame, page),
             None => self.replace(place, number, page),
         }
@@ -319,7 +303,7 @@ impl Tables {
         if self.is_touched(place, number) {
             return;
         }
-        match frame_under(self.page(place, number)) {
+        match self.page(place, number).frame() {
             Some(frame) => self.mark_on(place, number, frame),
             None => self.mark_off(place, number),
         }
@@ -333,7 +317,7 @@ impl Tables {
         if !self.is_touched(place, number) {
             return;
         }
-        match frame_under(self.page(place, number)) {
+        match self.page(place, number).frame() {
             Some(frame) => self.unmark_on(place, number, frame),
             None => self.unmark_off(place, number),
         }

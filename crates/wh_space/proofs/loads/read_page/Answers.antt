@@ -7,11 +7,11 @@ use Rattle.wh_host_model.proofs.Space.Reading.{read_zeros}
 use Rattle.wh_space.proofs.loads.read_page.Goals as goal
 
 pub read_frame-requires-clause-taken : goal.read_frame-requires-clause-taken
-read_frame-requires-clause-taken c = c.requires.taken c.in-Some.frame (sym c.frame_under.ensures ∙ c.in-Some.is)
+read_frame-requires-clause-taken c = c.requires.taken c.in-Some.frame (sym c.frame.ensures ∙ c.in-Some.is)
 
 pub returns-in-Some-clause-read : goal.returns-in-Some-clause-read
 returns-in-Some-clause-read c = λ yes b same.
-    (let on = on_frame b c.args.page c.in-Some.frame (sym c.frame_under.ensures ∙ c.in-Some.is) in
+    (let on = on_frame b c.args.page c.in-Some.frame (sym c.frame.ensures ∙ c.in-Some.is) in
     c.read_frame.ensures ∙ ap (λ z. bytes_at z c.args.offset (length c.args.into.now)) (sym (on ∙ ap (λ z. get_or z c.in-Some.frame []) same)))
 
 pub returns-in-Untouched-clause-read : goal.returns-in-Untouched-clause-read

@@ -1,9 +1,6 @@
-use Rattle.std.proofs.Common.{◌≡◌, ◌≢◌, ◌<◌, ◌≤◌, ℕ, [], Some, None, inl, inr, length, get_or, refl, sym, ap, ◌∙◌, subst, arith}
+use Rattle.std.proofs.Common.{ap, ◌∙◌, arith}
 use Rattle.wh_host_model.specs.Space.Parts.{Space}
-use Rattle.wh_host_model.specs.Space.States.{page_at}
 use Rattle.wh_host_model.specs.Space.Charges.{active_of, charged_of}
-use Rattle.wh_space.specs.declared.memory.Memory.TheInside.{Inside}
-use Rattle.wh_space.specs.Parts.{space_of}
 use Rattle.wh_space.proofs.Charged.{active_now, charged_now, row_few}
 use Rattle.wh_space.proofs.memory.Memory.charged_at.Goals as goal
 

@@ -1,9 +1,5 @@
-use Rattle.std.proofs.Common.{◌≡◌, ◌≢◌, ◌<◌, ◌≤◌, ℕ, [], Some, None, inl, inr, length, get_or, refl, sym, ap, ◌∙◌, subst, arith}
-use Rattle.wh_host_model.specs.Space.Parts.{Space}
-use Rattle.wh_host_model.specs.Space.States.{page_at}
-use Rattle.wh_host_model.specs.Space.Charges.{active_of, charged_of}
+use Rattle.std.proofs.Common.{refl, ◌∙◌, arith}
 use Rattle.wh_space.specs.declared.memory.Memory.TheInside.{Inside}
-use Rattle.wh_space.specs.Parts.{space_of}
 use Rattle.wh_space.proofs.Charged.{guest_at, occupant_by, occupant_of_guest, shares_few}
 use Rattle.wh_space.proofs.memory.Memory.claim_at.Goals as goal
 

@@ -20,14 +20,14 @@ page-requires c =
     (is_page (space_of c.self.inside).tables c.args.place c.args.page out.page out.at_it).1
 
 pub bytes-requires : goal.bytes-requires
-bytes-requires c = taken_under (space_of c.self.inside) c.args.place c.args.page c.page.result c.in-Some.frame c.self.invariant.sound.frames c.page.ensures (sym c.frame_under.ensures ∙ c.in-Some.is)
+bytes-requires c = taken_under (space_of c.self.inside) c.args.place c.args.page c.page.result c.in-Some.frame c.self.invariant.sound.frames c.page.ensures (sym c.frame.ensures ∙ c.in-Some.is)
 
 pub returns-then-ne : goal.returns-then-ne
 returns-then-ne c =
     let s : Space = c.args.self.now in
     let yes : c.args.wrote ≡ true = (search rules) in
     let there : page_at s.tables c.args.place c.args.page ≡ Some c.page.result = ap (λ (z : Space). page_at z.tables c.args.place c.args.page) (sym c.self.view_is) ∙ c.page.ensures in
-    let on : frame_of c.page.result ≡ Some c.in-Some.frame = sym c.frame_under.ensures ∙ c.in-Some.is in
+    let on : frame_of c.page.result ≡ Some c.in-Some.frame = sym c.frame.ensures ∙ c.in-Some.is in
     let bytes : c.bytes.result.now ≡ frame_bytes s c.in-Some.frame = sym (get_or_is (space_of c.self.inside).pool.frames c.in-Some.frame c.bytes.result.now [] c.bytes.ensures) ∙ ap (λ (z : Space). frame_bytes z c.in-Some.frame) c.self.view_is in
     let other : c.bytes.result.now ≢ c.args.bytes.now = (search rules) in
     let differ : c.args.bytes.now ≢ frame_bytes s c.in-Some.frame = λ e. other (bytes ∙ sym e) in
@@ -46,7 +46,7 @@ returns c =
     let s : Space = c.args.self.now in
     let yes : c.args.wrote ≡ true = (search rules) in
     let there : page_at s.tables c.args.place c.args.page ≡ Some c.page.result = ap (λ (z : Space). page_at z.tables c.args.place c.args.page) (sym c.self.view_is) ∙ c.page.ensures in
-    let on : frame_of c.page.result ≡ Some c.in-Some.frame = sym c.frame_under.ensures ∙ c.in-Some.is in
+    let on : frame_of c.page.result ≡ Some c.in-Some.frame = sym c.frame.ensures ∙ c.in-Some.is in
     let bytes : c.bytes.result.now ≡ frame_bytes s c.in-Some.frame = sym (get_or_is (space_of c.self.inside).pool.frames c.in-Some.frame c.bytes.result.now [] c.bytes.ensures) ∙ ap (λ (z : Space). frame_bytes z c.in-Some.frame) c.self.view_is in
     let same : c.bytes.result.now ≡ c.args.bytes.now = (search rules) in
     ends_evicted s c.args.slot c.args.place c.args.page c.in-Some.frame c.page.result c.args.wrote c.args.bytes.now c.leave.new.self c.requires.out yes there on (sym same ∙ bytes) c.leave.ensures

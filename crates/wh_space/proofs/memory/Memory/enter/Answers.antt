@@ -1,11 +1,9 @@
-use Rattle.std.proofs.Common.{◌≡◌, ◌≢◌, ◌<◌, ◌≤◌, ◌^◌, ℕ, [], Some, length, get_or, refl, subst, sym, ◌∙◌, arith}
-use Rattle.std.proofs.lemmas.List.{length-map}
+use Rattle.std.proofs.Common.{◌≡◌, ◌≢◌, ◌<◌, ◌^◌, ℕ, Some, refl, subst, sym, ◌∙◌, arith}
 use Rattle.wh_host_model.specs.Space.Parts.{Occupant, Space, occupant_at}
 use Rattle.wh_host_model.specs.Space.Places.{IsFreePlace, with_row}
 use Rattle.wh_host_model.proofs.Space.Entered.{free_within}
-use Rattle.wh_tables.specs.Tables.{TablesState}
 use Rattle.wh_space.specs.declared.memory.Memory.TheInside.{Inside}
-use Rattle.wh_space.specs.Parts.{occupant_of, space_of}
+use Rattle.wh_space.specs.Parts.{space_of}
 use Rattle.wh_space.proofs.Entering.{MayEnter, entered, guest_of, none_at_free, other_number, with_table}
 use Rattle.wh_space.proofs.memory.Memory.enter.Goals as goal
 

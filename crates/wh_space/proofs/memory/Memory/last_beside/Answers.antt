@@ -1,4 +1,4 @@
-use Rattle.std.proofs.Common.{None, Some, sym, subst}
+use Rattle.std.proofs.Common.{sym, subst}
 use Rattle.wh_host_model.specs.Space.Claims.{IsBeside}
 use Rattle.wh_host_model.specs.Space.Parts.{Space}
 use Rattle.wh_space.specs.Parts.{space_of}

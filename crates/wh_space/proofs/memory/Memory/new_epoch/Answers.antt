@@ -1,4 +1,4 @@
-use Rattle.std.proofs.Common.{refl, ap, ◌∙◌}
+use Rattle.std.proofs.Common.{refl, ap}
 use Rattle.wh_host_model.specs.Space.Stores.{Epochs}
 use Rattle.wh_host_model.proofs.Space.Steady.{epochs_soundly}
 use Rattle.wh_space.specs.UnchangedTables.{fixed_in}

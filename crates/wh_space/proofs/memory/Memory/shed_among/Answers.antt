@@ -1,4 +1,4 @@
-use Rattle.std.proofs.Common.{◌≡◌, ◌/◌, ◌+◌, inl, inr, subst, sym, arith}
+use Rattle.std.proofs.Common.{◌/◌, ◌+◌, inl, inr, subst, sym}
 use Rattle.wh_host_model.specs.Space.Parts.{Space}
 use Rattle.wh_space.specs.Shedding.{ShedsNone}
 use Rattle.wh_space.proofs.Besides.{page_of_step, shed_of}

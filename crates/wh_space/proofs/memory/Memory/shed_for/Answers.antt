@@ -1,8 +1,8 @@
-use Rattle.std.proofs.Common.{◌≡◌, ◌<◌, ◌≤◌, None, Some, length, sym, ap, ◌∙◌, subst, arith}
+use Rattle.std.proofs.Common.{◌≡◌, ◌<◌, Some, length, sym, ap, ◌∙◌, subst, arith}
 use Rattle.wh_host_model.specs.Space.Parts.{Space}
 use Rattle.wh_host_model.specs.Space.States.{page_at}
 use Rattle.wh_space.specs.Steps.{frame_shared}
-use Rattle.wh_space.proofs.Besides.{sheds_few, sheds_for, sheds_nowhere, sheds_uncharged, within_pool}
+use Rattle.wh_space.proofs.Besides.{sheds_few, within_pool}
 use Rattle.wh_space.proofs.memory.Memory.shed_for.Goals as goal
 
 pub is_charged_with-requires : goal.is_charged_with-requires
