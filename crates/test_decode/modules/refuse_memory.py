@@ -30,7 +30,7 @@ assert whole.returncode == 0, whole.stderr
 with tempfile.TemporaryDirectory() as folder:
     library, mark = folder + "/refuse_memory.so", folder + "/refused"
     subprocess.run(["cc", "-shared", "-fPIC", "-O1", "-o", library, "refuse_memory.c"], check=True)
-    requests = in_decode = 0
+    requests = in_decode = spared = 0
     while True:
         refused = run(text, LD_PRELOAD=library, REFUSE_AT=str(requests + 1), REFUSED=mark)
         if not os.path.exists(mark):
@@ -38,7 +38,9 @@ with tempfile.TemporaryDirectory() as folder:
         os.remove(mark)
         requests += 1
         in_decode += b"memory was refused" in refused.stderr
-        assert refused.returncode == 1, requests
+        # A list that isn't reserved grows: where only the reservation was refused, nothing differs.
+        assert refused.returncode == 1 or refused.stdout == whole.stdout, requests
         assert whole.stdout.startswith(refused.stdout), requests
+        spared += refused.returncode == 0
     assert requests > 0 and refused.returncode == 0 and refused.stdout == whole.stdout, requests
-print(f"{requests} requests for memory refused in turn, {in_decode} of them in decode; every answer given was right")
+print(f"{requests} requests for memory refused in turn, {in_decode} of them in decode, {spared} without effect; every answer given was right")
