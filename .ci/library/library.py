@@ -170,8 +170,8 @@ def main(archive=None, program=ROOT + "/crates/wasmhost/out/wasmhost"):
         print(f"{SCRIPTS} random scripts, {count} replies: the library and wasmhost agree; {calls} calls of transcripts have their statuses")
         if program:
             print(f"{whole_report(os.path.abspath(program), folder)} lines of reports are those of the library's numbers")
-        refused, wanting = refusals.all_refused()
-        print(f"{refused} requests for memory refused in turn: each time a code, and the host as before")
+        refused, spared, wanting = refusals.all_refused()
+        print(f"{refused} requests for memory refused in turn: each time a code, or in {spared} no difference, and the host as before")
         met = {codes.named(code) for code in seen} | wanting | codes.met()
         lacking = {codes.named(code) for code in codes.codes()} - met - codes.UNMET
         assert not lacking, f"codes that never came: {sorted(lacking)}"
